@@ -1,0 +1,135 @@
+-- A private server, of one user alone: what it answers to a list of requests, and how many units each costs.
+use Rattle.std.specs.Prelude.{ℕ, ◌+◌, ◌-◌, min, max, List, [], ◌∷◌, Option, Some, None, Result, Ok, Err, Bool, true, false, ◌==◌, nat_lt, nat_le, ◌&&◌, ◌||◌, if◌then◌else◌}
+use Rattle.aud_text.specs.declared.raise.Raise.{Raise}
+use Rattle.aud_text.specs.declared.code.Code.TheVariants as code
+use Rattle.aud_text.specs.declared.limits.Limits.{Limits}
+use Rattle.aud_text.specs.declared.limits.TheConstants.{STEPS, REQUESTS, REQUEST_BYTES}
+use Rattle.aud_typed.specs.Tree as tree
+use Rattle.aud_meaning.specs.declared.state.State.{State}
+use Rattle.aud_meaning.specs.declared.state.State.TheVariants as state
+use Rattle.aud_meaning.specs.Configuration.{Configuration}
+use Rattle.aud_meaning.specs.Run.{opening, run, state_of, main_raised}
+use Rattle.aud_bench.specs.declared.request.Report.{Report}
+use Rattle.aud_bench.specs.declared.request.Request.{Request}
+use Rattle.aud_bench.specs.declared.request.Request.TheVariants as request
+use Rattle.aud_bench.specs.declared.request.Answer.{Answer}
+use Rattle.aud_bench.specs.declared.request.Answer.TheVariants as answer
+use Rattle.aud_bench.specs.Size.{size}
+use Rattle.aud_bench.specs.Loading.{program_of}
+
+-- the program that is loaded, and how far it is
+pub record Loaded : Type 0 where
+  pub program : tree.Program
+  pub now : Configuration
+
+-- the requests kept so far and their bytes, and what is loaded
+pub record Server : Type 0 where
+  pub requests : ℕ
+  pub bytes : ℕ
+  pub loaded : Option Loaded
+
+-- an answer, what is loaded then, and the units that the request cost
+pub record Reply : Type 0 where
+  pub answer : Answer
+  pub loaded : Option Loaded
+  pub cost : ℕ
+
+abbrev pub answers_only : Answer → Option Loaded → Reply
+answers_only a loaded = record { answer = a; loaded = loaded; cost = 1 }
+
+-- a refused LOAD leaves what was loaded before
+abbrev pub load_reply : Result tree.Program Answer → Option Loaded → Reply
+load_reply (Ok program) loaded = answers_only (answer.Loaded program.name) (Some (record { program = program; now = opening program }))
+load_reply (Err refusal) loaded = answers_only refusal loaded
+
+-- the exception that ended the program
+abbrev pub ended_by : State → Option Raise → Option Raise
+ended_by state.Ended raised = raised
+ended_by state.OutputFull raised = None
+ended_by state.More raised = None
+ended_by state.Stuck raised = None
+
+abbrev pub report : Configuration → Configuration → Report
+report before after = record { steps = after.steps - before.steps; state = state_of after; raised = ended_by (state_of after) (main_raised after.tasks) }
+
+abbrev pub ran_reply : Loaded → Configuration → Reply
+ran_reply loaded after = record {
+  answer = answer.Ran (report loaded.now after);
+  loaded = Some (record { program = loaded.program; now = after });
+  cost = max 1 (after.steps - loaded.now.steps);
+}
+
+-- what is left of the steps that a LOAD gives
+abbrev pub steps_left : Configuration → ℕ
+steps_left c = STEPS - c.steps
+
+abbrev pub run_reply : Limits → ℕ → Option Loaded → Reply
+run_reply limits n None = answers_only (answer.Refused code.NoProgram) None
+run_reply limits n (Some loaded) =
+    if steps_left loaded.now == 0 then answers_only (answer.Refused code.StepBudget) (Some loaded)
+    else ran_reply loaded (run limits (min n (steps_left loaded.now)) loaded.now)
+
+abbrev pub output_reply : Option Loaded → Reply
+output_reply None = answers_only (answer.Refused code.NoProgram) None
+output_reply (Some loaded) = answers_only (answer.Output loaded.now.shared.output) (Some loaded)
+
+abbrev pub replied : Limits → Option Loaded → Request → Reply
+replied limits loaded (request.Load source) = load_reply (program_of limits source) loaded
+replied limits loaded (request.Run n) = run_reply limits n loaded
+replied limits loaded request.Output = output_reply loaded
+replied limits loaded request.Quit = answers_only answer.Done loaded
+replied limits loaded (request.Bad why) = answers_only (answer.Refused why) loaded
+
+abbrev pub is_quit : Request → Bool
+is_quit request.Quit = true
+is_quit (request.Load source) = false
+is_quit (request.Run n) = false
+is_quit request.Output = false
+is_quit (request.Bad why) = false
+
+-- whether a request fits after those kept
+abbrev pub fits : Server → Request → Bool
+fits s r = is_quit r || (nat_lt s.requests REQUESTS && nat_le (s.bytes + size r) REQUEST_BYTES)
+
+abbrev pub fresh : Server
+fresh = record { requests = 0; bytes = 0; loaded = None }
+
+abbrev pub kept : Server → Request → Option Loaded → Server
+kept s r loaded = record { requests = s.requests + 1; bytes = s.bytes + size r; loaded = loaded }
+
+-- an answer, and those to the requests after it; none follow a QUIT
+abbrev pub answers_after : Bool → Reply → (Option Loaded → List Answer) → List Answer
+answers_after true reply others = reply.answer ∷ []
+answers_after false reply others = reply.answer ∷ others reply.loaded
+
+-- the answers, one a request, up to and with that to the first QUIT; a request that does not fit is answered so and not kept
+abbrev pub answers_from : Limits → Server → List Request → List Answer
+answers_from limits s [] = []
+answers_from limits s (r ∷ rs) =
+    if fits s r then answers_after (is_quit r) (replied limits s.loaded r) (λ loaded. answers_from limits (kept s r loaded) rs)
+    else answer.Refused code.JournalFull ∷ answers_from limits s rs
+
+unfoldable pub alone : Limits → List Request → List Answer
+alone limits requests = answers_from limits fresh requests
+
+abbrev pub cost_after : Reply → (Option Loaded → ℕ) → ℕ
+cost_after reply others = reply.cost + others reply.loaded
+
+-- the units that kept requests cost, from what is loaded before them
+abbrev pub cost_from : Limits → Option Loaded → List Request → ℕ
+cost_from limits loaded [] = 0
+cost_from limits loaded (r ∷ rs) = cost_after (replied limits loaded r) (λ next. cost_from limits next rs)
+
+unfoldable pub cost : Limits → List Request → ℕ
+cost limits requests = cost_from limits None requests
+
+abbrev pub made_after : Reply → ℕ → (Option Loaded → ℕ → List Answer) → List Answer
+made_after reply units others = if nat_le reply.cost units then reply.answer ∷ others reply.loaded (units - reply.cost) else []
+
+-- the longest front of the answers to kept requests that cost at most so many units together
+abbrev pub made_from : Limits → Option Loaded → List Request → ℕ → List Answer
+made_from limits loaded [] units = []
+made_from limits loaded (r ∷ rs) units = made_after (replied limits loaded r) units (λ next left. made_from limits next rs left)
+
+unfoldable pub made : Limits → List Request → ℕ → List Answer
+made limits journal units = made_from limits None journal units

@@ -1,0 +1,6 @@
+pub mod Size
+pub mod Loading
+pub mod Alone
+pub mod Loads
+pub mod Seen
+pub mod Serving

@@ -1,0 +1,43 @@
+// The size of requests, and the room for them.
+
+ghost use Rattle.std.specs.Prelude.{◌≡◌, ◌↔◌, ◌+◌, ◌<◌, ◌≤◌, length, IsTrue};
+ghost use Rattle.std.specs.Fmt.{decimal};
+ghost use Rattle.aud_bench.specs.Size.{size};
+
+use crate::loading::line_count;
+use crate::request::Request;
+use aud_text::limits::{REQUEST_BYTES, REQUESTS};
+
+/// The bytes that a request takes in the journal: those of its text with single spaces, no leading zeros, and line
+/// feeds; a malformed one takes one.
+pub fn size(request: &Request) -> usize
+    ensures { result ≡ size request.now }
+{
+    match request {
+        Request::Load(source) => {
+            let source = source.as_bytes();
+            6 + digit_count(line_count(source) as u64) + source.len()
+        }
+        Request::Run(steps) => 5 + digit_count(u64::from(*steps)),
+        Request::Output => 7,
+        Request::Quit => 5,
+        Request::Bad(_) => 1,
+    }
+}
+
+/// Whether a request of this size fits behind so many requests of so many bytes.
+pub fn has_room(requests: usize, bytes: usize, size: usize) -> bool
+    ensures { IsTrue result ↔ ((requests < REQUESTS) × (bytes + size ≤ REQUEST_BYTES)) }
+{
+    requests < REQUESTS as usize
+        && size <= REQUEST_BYTES as usize
+        && bytes <= REQUEST_BYTES as usize - size
+}
+
+// How many decimal digits a number has.
+fn digit_count(number: u64) -> usize
+    ensures count { result ≡ length (decimal number) }
+    ensures few { result ≤ 20 }
+{
+    itoa::Buffer::new().format(number).len()
+}

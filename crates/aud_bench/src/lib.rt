@@ -1,0 +1,9 @@
+// The private server: requests, their answers, and a bench that works them off in slices.
+#![tactic(auto)]
+
+pub mod bench;
+pub mod journal;
+pub mod loading;
+pub mod request;
+pub mod service;
+pub mod session;

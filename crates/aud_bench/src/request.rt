@@ -1,0 +1,45 @@
+// Requests and answers.
+
+use aud_meaning::state::State;
+use aud_text::code::Code;
+use aud_text::name::Name;
+use aud_text::place::Pos;
+use aud_text::raise::Raise;
+use aud_text::text::Text;
+
+/// What a user asks.
+#[derive(Drop, Debug)]
+pub enum Request {
+    /// Take this source text: its lines, each followed by a line feed.
+    Load(Text),
+    /// Do so many steps, or as many as can be done.
+    Run(u32),
+    /// Tell what the program has put out.
+    Output,
+    /// End the session.
+    Quit,
+    /// A request that is malformed, and why.
+    Bad(Code),
+}
+
+/// What came of a RUN: the steps done, what can happen next, and the exception that ended the program.
+#[derive(Clone, Copy, PartialEq, Eq, Debug)]
+pub struct Report {
+    pub steps: u32,
+    pub state: State,
+    pub raised: Option<Raise>,
+}
+
+/// What a user is answered.
+#[derive(Drop, Debug)]
+pub enum Answer {
+    /// The program of this name is loaded.
+    Loaded(Name),
+    Ran(Report),
+    /// What the program has put out.
+    Output(Text),
+    Done,
+    Refused(Code),
+    /// A fault of the source text, and where it stands.
+    RefusedAt(Code, Pos),
+}

@@ -1,0 +1,19 @@
+-- The fault that is reported is what the faults were noted to.
+use Rattle.std.specs.Prelude.{List, [], ◌∷◌, Some, None, Ok, Err}
+use Rattle.std.proofs.Common.{◌≡◌, refl, sym, ◌∙◌}
+use Rattle.aud_typed.specs.Tree as tree
+use Rattle.aud_check.specs.declared.fault.Fault.{Fault}
+use Rattle.aud_check.specs.Least.{earlier, least, noted}
+use Rattle.aud_check.specs.Checked.{judged}
+
+noted_least : (f : Fault) (fs : List Fault) → noted (Some f) fs ≡ Some (least f fs)
+noted_least f [] = refl
+noted_least f (g ∷ gs) = noted_least (earlier f g) gs
+
+pub judged_fine : (fs : List Fault) (p : tree.Program) → noted None fs ≡ None → judged fs p ≡ Ok p
+judged_fine [] p h = refl
+judged_fine (f ∷ fs) p h = let e : Some (least f fs) ≡ None = sym (noted_least f fs) ∙ h in cc
+
+pub judged_wrong : (fs : List Fault) (p : tree.Program) (f : Fault) → noted None fs ≡ Some f → judged fs p ≡ Err f
+judged_wrong [] p f h = cc
+judged_wrong (g ∷ gs) p f h = let e : Some (least g gs) ≡ Some f = sym (noted_least g gs) ∙ h in cc

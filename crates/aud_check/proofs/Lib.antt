@@ -1,0 +1,7 @@
+mod Rows
+pub mod Notes
+pub mod Opened
+pub mod Elaborated
+pub mod Judged
+pub mod First
+pub mod Scoping

@@ -1,0 +1,43 @@
+-- Faults that are noted one after the other.
+use Rattle.std.specs.Prelude.{List, [], ◌∷◌, ◌++◌, Option, Result, Ok, Err}
+use Rattle.std.specs.declared.alloc.AllocError.{AllocError}
+use Rattle.std.proofs.Common.{◌≡◌, ℕ, suc, ◌+◌, ◌<◌, length, drop, get_or, add-one, refl, sym, ◌∙◌, ap}
+use Rattle.std.proofs.Math.Seq.{drop-cons}
+use Rattle.aud_check.specs.declared.fault.Fault.{Fault}
+use Rattle.aud_check.specs.declared.typed.Typed as memory
+use Rattle.aud_check.specs.Least.{note, noted}
+use Rattle.aud_check.specs.Expressions.{Typed, Checked, with, fine}
+use Rattle.aud_check.specs.Typing.{plain_typed, Shows}
+
+pub noted_append : (o : Option Fault) (fs gs : List Fault) → noted o (fs ++ gs) ≡ noted (noted o fs) gs
+noted_append o [] gs = refl
+noted_append o (f ∷ fs) gs = noted_append (note o f) fs gs
+
+-- a part is checked, and then the rest with the part's type
+pub shows_with : (old mid new : Option Fault) (c : Checked) (f : Typed → Checked) (t : memory.Typed) (r : Result memory.Typed AllocError) → Shows old mid c (Ok t) → Shows mid new (f (plain_typed t)) r → Shows old new (with c f) r
+shows_with old mid new c f t (Ok x) h k =
+    (k.0 ∙ ap (λ o. noted o (f (plain_typed t)).faults) h.0 ∙ ap (λ y. noted (noted old c.faults) (f y).faults) h.1 ∙ sym (noted_append old c.faults (f c.typed).faults), k.1 ∙ ap (λ y. (f y).typed) h.1)
+shows_with old mid new c f t (Err e) h k = tt
+
+-- what is still to be checked, from some faults on, amounts to what was asked
+pub record Ahead (now : Option Fault) (rest : Checked) (old : Option Fault) (all : Checked) : Type 0 where
+  pub faults : noted now rest.faults ≡ noted old all.faults
+  pub typed : rest.typed ≡ all.typed
+
+pub ahead_all : (old : Option Fault) (all : Checked) → Ahead old all old all
+ahead_all old all = record { faults = refl; typed = refl }
+
+-- a part of it is checked
+pub ahead_with : (old mid new : Option Fault) (all c : Checked) (f : Typed → Checked) (t : memory.Typed) → Ahead mid (with c f) old all → Shows mid new c (Ok t) → Ahead new (f (plain_typed t)) old all
+ahead_with old mid new all c f t a h = record {
+  faults = ap (λ o. noted o (f (plain_typed t)).faults) h.0 ∙ ap (λ y. noted (noted mid c.faults) (f y).faults) h.1 ∙ sym (noted_append mid c.faults (f c.typed).faults) ∙ a.faults;
+  typed = ap (λ y. (f y).typed) h.1 ∙ a.typed;
+}
+
+-- all of it is checked
+pub ahead_end : (old new : Option Fault) (all : Checked) (t : memory.Typed) → Ahead new (fine (plain_typed t)) old all → Shows old new all (Ok t)
+ahead_end old new all t a = (a.faults, a.typed)
+
+-- what a loop over a list has before it
+pub dropped : {A : Type 0} (xs : List A) (i : ℕ) (x : A) → i < length xs → x ≡ get_or xs i x → drop i xs ≡ x ∷ drop (i + 1) xs
+dropped xs i x h e = rw (add-one, drop-cons xs i x) (ap (λ z. z ∷ drop (suc i) xs) (sym e))

@@ -1,0 +1,218 @@
+-- Expressions: their faults, their types, and what is left of them once their names are resolved (RM 4).
+use Rattle.std.specs.Prelude.{ℤ, List, [], ◌∷◌, ◌++◌, Option, Some, None, codes, if◌then◌else◌}
+use Rattle.std.specs.Str.{bytes_eq}
+use Rattle.aud_text.specs.declared.place.Pos.{Pos}
+use Rattle.aud_text.specs.declared.code.Code.{Code}
+use Rattle.aud_text.specs.declared.code.Code.TheVariants.{NameNotDeclared, WrongKindOfName, WrongType, WrongNumberOfArguments, NumberTooLarge}
+use Rattle.aud_syntax.specs.declared.tree.Ident.{Ident}
+use Rattle.aud_syntax.specs.declared.tree.Signed.{Signed}
+use Rattle.aud_syntax.specs.declared.tree.Sign.TheVariants as sign
+use Rattle.aud_syntax.specs.declared.tree.Adding.{Adding}
+use Rattle.aud_syntax.specs.declared.tree.Adding.TheVariants as adding
+use Rattle.aud_syntax.specs.declared.tree.Multiplying.{Multiplying}
+use Rattle.aud_syntax.specs.declared.tree.Multiplying.TheVariants.{Times, Divide, Modulo, Remainder}
+use Rattle.aud_syntax.specs.declared.tree.Highest.{Highest}
+use Rattle.aud_syntax.specs.declared.tree.Highest.TheVariants.{Magnitude, Not}
+use Rattle.aud_syntax.specs.Plain.{Simple, simple, Addeds, no_addeds, more_addeds, Added, added, Term, term, Multiplieds, no_multiplieds, more_multiplieds, Multiplied, multiplied, Factor, factor, Primary, integer, text, name, attribute, group, MaybeSimple, no_simple, a_simple}
+use Rattle.aud_typed.specs.declared.program.Unary.{Unary}
+use Rattle.aud_typed.specs.declared.program.Unary.TheVariants as unary
+use Rattle.aud_typed.specs.declared.program.Binary.{Binary}
+use Rattle.aud_typed.specs.declared.program.Binary.TheVariants as binary
+use Rattle.aud_typed.specs.Tree as tree
+use Rattle.aud_check.specs.declared.fault.Fault.{Fault}
+use Rattle.aud_check.specs.declared.names.Meaning.{Meaning}
+use Rattle.aud_check.specs.declared.names.Meaning.TheVariants.{IntegerType, PutLine, MainProcedure, Variable, Faulty}
+use Rattle.aud_check.specs.Visible.{Names, visible}
+
+-- an expression with its type, unknown where the expression is faulty
+pub data Typed : Type 0 where
+  number : tree.IntegerExpr → Typed
+  string : tree.TextExpr → Typed
+  unknown : Typed
+
+pub record Checked : Type 0 where
+  pub faults : List Fault
+  pub typed : Typed
+
+abbrev pub fine : Typed → Checked
+fine t = record { faults = []; typed = t }
+
+abbrev pub faulty : Pos → Code → Checked
+faulty at code = record { faults = record { at = at; code = code } ∷ []; typed = unknown }
+
+-- what is checked further with the type of a part
+abbrev pub after : List Fault → Checked → Checked
+after faults c = record { faults = faults ++ c.faults; typed = c.typed }
+
+abbrev pub with : Checked → (Typed → Checked) → Checked
+with c further = after c.faults (further c.typed)
+
+-- where an expression begins: its first token (RM 4.4)
+abbrev pub primary_at : Primary → Pos
+primary_at (integer n) = n.at
+primary_at (text l) = l.at
+primary_at (name i) = i.at
+primary_at (attribute prefix designator argument) = prefix.at
+primary_at (group at e) = at
+
+abbrev pub factor_at : Factor → Pos
+factor_at (factor None p) = primary_at p
+factor_at (factor (Some op) p) = op.at
+
+abbrev pub term_at : Term → Pos
+term_at (term f rest) = factor_at f
+
+abbrev pub signed_at : Option Signed → Pos → Pos
+signed_at None at = at
+signed_at (Some s) at = s.at
+
+abbrev pub simple_at : Simple → Pos
+simple_at (simple s t rest) = signed_at s (term_at t)
+
+-- an expression that must be of type Integer, and one that must be a text; nothing more is said of one that is faulty (RM 8.6)
+abbrev pub not_integer : Pos → Typed → List Fault
+not_integer at (number e) = []
+not_integer at (string t) = record { at = at; code = WrongType } ∷ []
+not_integer at unknown = []
+
+abbrev pub not_text : Pos → Typed → List Fault
+not_text at (number e) = record { at = at; code = WrongType } ∷ []
+not_text at (string t) = []
+not_text at unknown = []
+
+-- the operators on two Integers (RM 4.5.3, 4.5.5)
+abbrev pub multiplying : Multiplying → Binary
+multiplying Times = binary.Product
+multiplying Divide = binary.Quotient
+multiplying Modulo = binary.Modulus
+multiplying Remainder = binary.Remainder
+
+abbrev pub combined : Binary → Typed → Typed → Typed
+combined op (number x) (number y) = number (tree.binary op x y)
+combined op _ _ = unknown
+
+abbrev pub arithmetic : Binary → Pos → Typed → Pos → Typed → Checked
+arithmetic op at x at' y = record { faults = not_integer at x ++ not_integer at' y; typed = combined op x y }
+
+-- & on two texts (RM 4.5.3(3))
+abbrev pub joined : Typed → Typed → Typed
+joined (string x) (string y) = string (tree.join x y)
+joined _ _ = unknown
+
+abbrev pub joining : Pos → Typed → Pos → Typed → Checked
+joining at x at' y = record { faults = not_text at x ++ not_text at' y; typed = joined x y }
+
+-- RM 4.5.3
+abbrev pub adding_operator : Adding → Pos → Typed → Pos → Typed → Checked
+adding_operator adding.Plus = arithmetic binary.Sum
+adding_operator adding.Minus = arithmetic binary.Difference
+adding_operator adding.Join = joining
+
+-- a unary operator on an Integer
+abbrev pub one : Unary → Typed → Typed
+one op (number e) = number (tree.unary op e)
+one op _ = unknown
+
+abbrev pub integer_only : Typed → Typed
+integer_only (number e) = number e
+integer_only _ = unknown
+
+-- the sign before the first term (RM 4.5.4): plus leaves the value as it is
+abbrev pub signed : Option Signed → Pos → Typed → Checked
+signed None at t = fine t
+signed (Some s) at t = record { faults = not_integer at t; typed = elim s.sign [ sign.Plus ↦ integer_only t | sign.Minus ↦ one unary.Negative t ] }
+
+-- not asks a Boolean, which no operand of this language is (RM 4.5.6)
+abbrev pub not_boolean : Pos → Typed → List Fault
+not_boolean at (number e) = record { at = at; code = WrongType } ∷ []
+not_boolean at (string t) = record { at = at; code = WrongType } ∷ []
+not_boolean at unknown = []
+
+-- RM 4.5.6
+abbrev pub highest : Highest → Pos → Typed → Checked
+highest Magnitude at t = record { faults = not_integer at t; typed = one unary.Magnitude t }
+highest Not at t = record { faults = not_boolean at t; typed = unknown }
+
+-- a whole number (RM 2.4): it must be a value of type Integer (RM 3.5.4)
+abbrev pub check_number : Option ℤ → Pos → Checked
+check_number (Some value) at = fine (number (tree.number value))
+check_number None at = faulty at NumberTooLarge
+
+-- a name as a primary must be a variable's (RM 4.1, 4.4)
+abbrev pub check_name : Option Meaning → Pos → Checked
+check_name None at = faulty at NameNotDeclared
+check_name (Some (Variable v)) at = fine (number (tree.variable v))
+check_name (Some Faulty) at = fine unknown
+check_name (Some IntegerType) at = faulty at WrongKindOfName
+check_name (Some PutLine) at = faulty at WrongKindOfName
+check_name (Some MainProcedure) at = faulty at WrongKindOfName
+
+abbrev pub image_of : Typed → Typed
+image_of (number e) = string (tree.image e)
+image_of _ = unknown
+
+-- X'Image of a variable (RM 4.10(40)) asks no argument, Integer'Image asks one (RM 3.5(35))
+abbrev pub image_alone : Meaning → Ident → Ident → Checked
+image_alone IntegerType prefix designator = faulty designator.at WrongNumberOfArguments
+image_alone (Variable v) prefix designator = fine (string (tree.image (tree.variable v)))
+image_alone Faulty prefix designator = fine unknown
+image_alone PutLine prefix designator = faulty prefix.at WrongKindOfName
+image_alone MainProcedure prefix designator = faulty prefix.at WrongKindOfName
+
+abbrev pub image_with : Meaning → Ident → Ident → Pos → Typed → Checked
+image_with IntegerType prefix designator at t = record { faults = not_integer at t; typed = image_of t }
+image_with (Variable v) prefix designator at t = faulty designator.at WrongNumberOfArguments
+image_with Faulty prefix designator at t = fine unknown
+image_with PutLine prefix designator at t = faulty prefix.at WrongKindOfName
+image_with MainProcedure prefix designator at t = faulty prefix.at WrongKindOfName
+
+-- the argument, if there is one, with the place where it begins
+abbrev pub image : Meaning → Ident → Ident → Option (Pos × Typed) → Checked
+image m prefix designator None = image_alone m prefix designator
+image m prefix designator (Some a) = image_with m prefix designator a.0 a.1
+
+-- an attribute's prefix must be declared, and its designator must be Image (RM 4.1.4)
+abbrev pub check_attribute : Option Meaning → Ident → Ident → Option (Pos × Typed) → Checked
+check_attribute None prefix designator argument = faulty prefix.at NameNotDeclared
+check_attribute (Some m) prefix designator argument = if bytes_eq designator.name (codes "IMAGE") then image m prefix designator argument else faulty designator.at WrongKindOfName
+
+abbrev mutual
+  -- RM 4.4(4): the sign belongs to the first term
+  pub check_simple : Simple → Names → Checked
+  check_simple (simple s t rest) names = with (check_term t names) (λ x. with (signed s (term_at t) x) (λ left. check_addeds rest names (signed_at s (term_at t)) left))
+
+  -- the operators are taken from left to right (RM 4.5(8)); what stands before them begins at a place
+  pub check_addeds : Addeds → Names → Pos → Typed → Checked
+  check_addeds no_addeds names at left = fine left
+  check_addeds (more_addeds x rest) names at left = with (check_added x names at left) (λ t. check_addeds rest names at t)
+
+  pub check_added : Added → Names → Pos → Typed → Checked
+  check_added (added op t) names at left = with (check_term t names) (λ right. adding_operator op at left (term_at t) right)
+
+  -- RM 4.4(5)
+  pub check_term : Term → Names → Checked
+  check_term (term f rest) names = with (check_factor f names) (λ left. check_multiplieds rest names (factor_at f) left)
+
+  pub check_multiplieds : Multiplieds → Names → Pos → Typed → Checked
+  check_multiplieds no_multiplieds names at left = fine left
+  check_multiplieds (more_multiplieds x rest) names at left = with (check_multiplied x names at left) (λ t. check_multiplieds rest names at t)
+
+  pub check_multiplied : Multiplied → Names → Pos → Typed → Checked
+  check_multiplied (multiplied op f) names at left = with (check_factor f names) (λ right. arithmetic (multiplying op) at left (factor_at f) right)
+
+  -- RM 4.4(6)
+  pub check_factor : Factor → Names → Checked
+  check_factor (factor None p) names = check_primary p names
+  check_factor (factor (Some op) p) names = with (check_primary p names) (λ t. highest op.highest (primary_at p) t)
+
+  -- RM 4.4(7)
+  pub check_primary : Primary → Names → Checked
+  check_primary (integer n) names = check_number n.value n.at
+  check_primary (text l) names = fine (string (tree.literal l.text))
+  check_primary (name i) names = check_name (visible i.name names) i.at
+  check_primary (attribute prefix designator argument) names = check_image argument names prefix designator
+  check_primary (group at e) names = check_simple e names
+
+  pub check_image : MaybeSimple → Names → Ident → Ident → Checked
+  check_image no_simple names prefix designator = check_attribute (visible prefix.name names) prefix designator None
+  check_image (a_simple e) names prefix designator = with (check_simple e names) (λ t. check_attribute (visible prefix.name names) prefix designator (Some (simple_at e, t)))

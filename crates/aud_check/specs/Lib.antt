@@ -1,0 +1,9 @@
+pub mod Least
+pub mod Visible
+pub mod Expressions
+pub mod Typing
+pub mod Declarations
+pub mod Part
+pub mod Statements
+pub mod Checked
+pub mod Gives

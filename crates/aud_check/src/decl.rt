@@ -1,0 +1,197 @@
+// Declarations of variables.
+
+ghost use Rattle.std.specs.Prelude.{◌≡◌, ◌++◌, IfOk, OnOk};
+ghost use Rattle.aud_syntax.specs.View.{plain_maybe, plain_decl, plain_decls};
+ghost use Rattle.aud_typed.specs.View.{plain_integer};
+ghost use Rattle.aud_check.specs.Least.{noted};
+ghost use Rattle.aud_check.specs.Declarations.{subtype_faults, is_integer_type, initial_faults, initial_value, integer_or_zero, new_meaning, declared_names, twice_faults, first_at, elaboration, check_decl, check_decls};
+ghost use Rattle.aud_check.specs.Typing.{plain_typed};
+ghost use Rattle.aud_check.specs.Part.{plain_steps, Declares};
+
+use crate::expr::{expr, simple_at};
+use crate::fault::Least;
+use crate::names::{Meaning, Scope, Symbol, is_declared};
+use crate::typed::{Typed, wants_integer};
+use aud_syntax::tree::{Decl, Expr, Ident};
+use aud_text::code::Code;
+use aud_text::int32::Int32;
+use aud_text::name::Name;
+use aud_text::place::Pos;
+use aud_typed::program::{IntegerExpr, Stmt, Variable};
+use std::alloc::{AllocError, Global};
+
+/// What a declarative part declares, and its elaboration (RM 3.11).
+#[derive(Drop, Debug)]
+pub struct Part {
+    pub symbols: Vec<Symbol>,
+    pub steps: Vec<Stmt>,
+}
+
+// Notes where a subtype mark is not that of a type (RM 3.2.2).
+fn check_subtype(meaning: Option<Meaning>, at: Pos, faults: &mut Least)
+    ensures { faults.new ≡ noted faults.old (subtype_faults meaning at) }
+{
+    match meaning {
+        None => faults.note(at, Code::NameNotDeclared),
+        Some(Meaning::IntegerType | Meaning::Faulty) => {}
+        Some(_) => faults.note(at, Code::WrongKindOfName),
+    }
+}
+
+fn is_integer_type(meaning: Option<Meaning>) -> bool
+    ensures { result ≡ is_integer_type meaning }
+{
+    match meaning {
+        Some(Meaning::IntegerType) => true,
+        _ => false,
+    }
+}
+
+fn integer_or_zero(typed: Typed) -> IntegerExpr
+    ensures { plain_integer result ≡ integer_or_zero (plain_typed typed) }
+{
+    match typed {
+        Typed::Number(value) => value,
+        _ => IntegerExpr::Number(Int32::new(0)),
+    }
+}
+
+// The initial value, 0 where there is none.
+#[tactic(auto, using(crate::proofs::Notes::noted_append))]
+fn initial_value(
+    alloc: Global,
+    initial: &Option<Expr>,
+    scope: &Scope<'_>,
+    faults: &mut Least,
+) -> Result<IntegerExpr, AllocError>
+    ensures value { IfOk result (λ value. plain_integer value ≡ initial_value (plain_maybe initial.now) scope.now) }
+    ensures noted { OnOk result (faults.new ≡ noted faults.old (initial_faults (plain_maybe initial.now) scope.now)) }
+{
+    match initial {
+        None => Ok(IntegerExpr::Number(Int32::new(0))),
+        Some(e) => {
+            let typed = expr(alloc, e, scope, faults)?;
+            wants_integer(simple_at(e), &typed, faults);
+            Ok(integer_or_zero(typed))
+        }
+    }
+}
+
+fn copy(alloc: Global, value: &IntegerExpr) -> Result<IntegerExpr, AllocError>
+    ensures { IfOk result (λ other. plain_integer other ≡ plain_integer value.now) }
+{
+    match value {
+        IntegerExpr::Number(number) => Ok(IntegerExpr::Number(*number)),
+        IntegerExpr::Variable(variable) => Ok(IntegerExpr::Variable(*variable)),
+        IntegerExpr::Unary(op, x) => {
+            let x = Box::new(alloc, copy(alloc, x)?)?;
+            Ok(IntegerExpr::Unary(*op, x))
+        }
+        IntegerExpr::Binary(op, x, y) => {
+            let x = Box::new(alloc, copy(alloc, x)?)?;
+            let y = Box::new(alloc, copy(alloc, y)?)?;
+            Ok(IntegerExpr::Binary(*op, x, y))
+        }
+    }
+}
+
+fn new_meaning(good: bool, index: usize) -> Meaning
+    ensures { result ≡ new_meaning good index }
+{
+    if good {
+        Meaning::Variable(Variable { level: 0, index })
+    } else {
+        Meaning::Faulty
+    }
+}
+
+// Declares the names one after the other.
+fn declare(
+    alloc: Global,
+    names: &[Ident],
+    good: bool,
+    symbols: &mut Vec<Symbol>,
+    faults: &mut Least,
+) -> Result<(), AllocError>
+    ensures symbols { OnOk result (symbols.new.items ≡ declared_names names.now good symbols.old.items) }
+    ensures noted { OnOk result (faults.new ≡ noted faults.old (twice_faults names.now good symbols.old.items)) }
+{
+    for ident in names {
+        if is_declared(&ident.name, symbols) {
+            faults.note(ident.at, Code::DeclaredTwice);
+        } else {
+            let name = ident.name.try_clone(alloc)?;
+            let meaning = new_meaning(good, symbols.len());
+            symbols.push(Symbol { name, meaning })?;
+        }
+    }
+    Ok(())
+}
+
+fn first_at(names: &[Ident]) -> Pos
+    ensures { result ≡ first_at names.now }
+{
+    match names {
+        [] => Pos { line: 0, col: 0 },
+        [first, ..] => first.at,
+    }
+}
+
+// The elaboration of the names, each with the same initial value.
+fn elaborate(
+    alloc: Global,
+    names: &[Ident],
+    value: &IntegerExpr,
+    steps: &mut Vec<Stmt>,
+) -> Result<(), AllocError>
+    ensures { OnOk result (plain_steps steps.new.items ≡ plain_steps steps.old.items ++ elaboration names.now (first_at names.now) (plain_integer value.now)) }
+{
+    let at = first_at(names);
+    for _ident in names {
+        let value = copy(alloc, value)?;
+        steps.push(Stmt::Declare(at, value))?;
+    }
+    Ok(())
+}
+
+/// Checks a declaration (RM 3.3.1): notes its faults, and adds to the part what it declares.
+#[tactic(auto, using(crate::proofs::Notes::noted_append))]
+pub fn decl(
+    alloc: Global,
+    decl: &Decl,
+    main: &Name,
+    part: &mut Part,
+    faults: &mut Least,
+) -> Result<(), AllocError>
+    ensures { OnOk result (Declares faults.old faults.new part.old part.new (check_decl (plain_decl decl.now) main.now part.old.symbols.items)) }
+{
+    let Decl::Object(names, subtype, initial) = decl;
+    let scope = Scope::new(main, &part.symbols, names);
+    let meaning = scope.visible(&subtype.name);
+    check_subtype(meaning, subtype.at, faults);
+    let value = initial_value(alloc, initial, &scope, faults)?;
+    declare(
+        alloc,
+        names,
+        is_integer_type(meaning),
+        &mut part.symbols,
+        faults,
+    )?;
+    elaborate(alloc, names, &value, &mut part.steps)
+}
+
+/// Checks a declarative part (RM 3.11).
+pub fn decls(
+    alloc: Global,
+    decls: &[Decl],
+    main: &Name,
+    part: &mut Part,
+    faults: &mut Least,
+) -> Result<(), AllocError>
+    ensures { OnOk result (Declares faults.old faults.new part.old part.new (check_decls (plain_decls decls.now) main.now part.old.symbols.items)) }
+{
+    for next in decls {
+        decl(alloc, next, main, part, faults)?;
+    }
+    Ok(())
+}

@@ -1,0 +1,302 @@
+// Expressions.
+
+ghost use Rattle.std.specs.Prelude.{◌≡◌, option_map};
+ghost use Rattle.aud_syntax.specs.View.{plain_simple, plain_added, plain_term, plain_multiplied, plain_factor, plain_primary, plain_maybe};
+ghost use Rattle.aud_check.specs.Expressions.{simple_at, term_at, factor_at, primary_at, multiplying, check_number, check_name, check_simple, check_added, check_term, check_multiplied, check_factor, check_primary, check_image, check_attribute, image_alone, image_with, unknown};
+ghost use Rattle.aud_check.specs.Least.{note};
+ghost use Rattle.aud_check.specs.Typing.{plain_typed, Shows};
+
+use crate::fault::Least;
+use crate::names::{Meaning, Scope};
+use crate::typed::{Typed, adding_operator, arithmetic, highest, image_of, signed, wants_integer};
+use aud_syntax::tree::{
+    Added, Expr, Factor, Ident, Multiplied, Multiplying, Number, Primary, Simple, Term,
+};
+use aud_text::code::Code;
+use aud_text::place::Pos;
+use aud_typed::program::{Binary, IntegerExpr, TextExpr};
+use std::alloc::{AllocError, Global};
+
+const IMAGE: &[u8] = b"IMAGE";
+
+/// Where a primary begins.
+fn primary_at(primary: &Primary) -> Pos
+    ensures { result ≡ primary_at (plain_primary primary.now) }
+{
+    match primary {
+        Primary::Integer(number) => number.at,
+        Primary::Text(literal) => literal.at,
+        Primary::Name(name) => name.at,
+        Primary::Attribute(prefix, _, _) => prefix.at,
+        Primary::Group(at, _) => *at,
+    }
+}
+
+fn factor_at(factor: &Factor) -> Pos
+    ensures { result ≡ factor_at (plain_factor factor.now) }
+{
+    match &factor.op {
+        Some(op) => op.at,
+        None => primary_at(&factor.primary),
+    }
+}
+
+fn term_at(term: &Term) -> Pos
+    ensures { result ≡ term_at (plain_term term.now) }
+{
+    factor_at(&term.first)
+}
+
+/// Where an expression begins: its first token.
+pub fn simple_at(simple: &Simple) -> Pos
+    ensures { result ≡ simple_at (plain_simple simple.now) }
+{
+    match &simple.sign {
+        Some(sign) => sign.at,
+        None => term_at(&simple.first),
+    }
+}
+
+// The operator of RM 4.5.5.
+fn multiplying(op: Multiplying) -> Binary
+    ensures { result ≡ multiplying op }
+{
+    match op {
+        Multiplying::Times => Binary::Product,
+        Multiplying::Divide => Binary::Quotient,
+        Multiplying::Modulo => Binary::Modulus,
+        Multiplying::Remainder => Binary::Remainder,
+    }
+}
+
+// Notes a fault; nothing is known of the type of what has it.
+fn faulty(at: Pos, code: Code, faults: &mut Least) -> Typed
+    ensures unknown_type { plain_typed result ≡ unknown }
+    ensures noted { faults.new ≡ note faults.old (record { at = at; code = code }) }
+{
+    faults.note(at, code);
+    Typed::Unknown
+}
+
+fn check_number(number: Number, faults: &mut Least) -> Result<Typed, AllocError>
+    ensures { Shows faults.old faults.new (check_number number.value number.at) result }
+{
+    match number.value {
+        Some(value) => Ok(Typed::Number(IntegerExpr::Number(value))),
+        None => Ok(faulty(number.at, Code::NumberTooLarge, faults)),
+    }
+}
+
+fn check_name(meaning: Option<Meaning>, at: Pos, faults: &mut Least) -> Result<Typed, AllocError>
+    ensures { Shows faults.old faults.new (check_name meaning at) result }
+{
+    match meaning {
+        None => Ok(faulty(at, Code::NameNotDeclared, faults)),
+        Some(Meaning::Variable(variable)) => Ok(Typed::Number(IntegerExpr::Variable(variable))),
+        Some(Meaning::Faulty) => Ok(Typed::Unknown),
+        Some(_) => Ok(faulty(at, Code::WrongKindOfName, faults)),
+    }
+}
+
+// Image with no argument.
+fn image_alone(
+    meaning: Meaning,
+    prefix: &Ident,
+    designator: &Ident,
+    faults: &mut Least,
+) -> Result<Typed, AllocError>
+    ensures { Shows faults.old faults.new (image_alone meaning prefix.now designator.now) result }
+{
+    match meaning {
+        Meaning::IntegerType => Ok(faulty(designator.at, Code::WrongNumberOfArguments, faults)),
+        Meaning::Variable(variable) => {
+            Ok(Typed::Text(TextExpr::Image(IntegerExpr::Variable(variable))))
+        }
+        Meaning::Faulty => Ok(Typed::Unknown),
+        Meaning::PutLine | Meaning::MainProcedure => {
+            Ok(faulty(prefix.at, Code::WrongKindOfName, faults))
+        }
+    }
+}
+
+// Image with an argument that begins at a place.
+fn image_with(
+    meaning: Meaning,
+    prefix: &Ident,
+    designator: &Ident,
+    at: Pos,
+    argument: Typed,
+    faults: &mut Least,
+) -> Result<Typed, AllocError>
+    ensures { Shows faults.old faults.new (image_with meaning prefix.now designator.now at (plain_typed argument)) result }
+{
+    match meaning {
+        Meaning::IntegerType => {
+            wants_integer(at, &argument, faults);
+            Ok(image_of(argument))
+        }
+        Meaning::Variable(_) => Ok(faulty(designator.at, Code::WrongNumberOfArguments, faults)),
+        Meaning::Faulty => Ok(Typed::Unknown),
+        Meaning::PutLine | Meaning::MainProcedure => {
+            Ok(faulty(prefix.at, Code::WrongKindOfName, faults))
+        }
+    }
+}
+
+// An attribute: its argument and what it begins with, and the prefix's meaning.
+fn attribute(
+    meaning: Option<Meaning>,
+    prefix: &Ident,
+    designator: &Ident,
+    argument: Option<(Pos, Typed)>,
+    faults: &mut Least,
+) -> Result<Typed, AllocError>
+    ensures { Shows faults.old faults.new (check_attribute meaning prefix.now designator.now (option_map (λ p. (p.0, plain_typed p.1)) argument)) result }
+{
+    let Some(meaning) = meaning else {
+        return Ok(faulty(prefix.at, Code::NameNotDeclared, faults));
+    };
+    if designator.name.as_bytes() != IMAGE {
+        return Ok(faulty(designator.at, Code::WrongKindOfName, faults));
+    }
+    match argument {
+        None => image_alone(meaning, prefix, designator, faults),
+        Some((at, argument)) => image_with(meaning, prefix, designator, at, argument, faults),
+    }
+}
+
+#[cycle(expr)]
+fn primary(
+    alloc: Global,
+    primary: &Primary,
+    scope: &Scope<'_>,
+    faults: &mut Least,
+) -> Result<Typed, AllocError>
+    ensures { Shows faults.old faults.new (check_primary (plain_primary primary.now) scope.now) result }
+{
+    match primary {
+        Primary::Integer(number) => check_number(*number, faults),
+        Primary::Text(literal) => {
+            let text = literal.text.try_clone(alloc)?;
+            Ok(Typed::Text(TextExpr::Literal(text)))
+        }
+        Primary::Name(name) => check_name(scope.visible(&name.name), name.at, faults),
+        Primary::Attribute(prefix, designator, argument) => {
+            let meaning = scope.visible(&prefix.name);
+            match argument {
+                None => attribute(meaning, prefix, designator, None, faults),
+                Some(e) => {
+                    let typed = expr(alloc, e, scope, faults)?;
+                    let argument = Some((simple_at(e), typed));
+                    attribute(meaning, prefix, designator, argument, faults)
+                }
+            }
+        }
+        Primary::Group(_, e) => expr(alloc, e, scope, faults),
+    }
+}
+
+#[cycle(expr)]
+fn factor(
+    alloc: Global,
+    factor: &Factor,
+    scope: &Scope<'_>,
+    faults: &mut Least,
+) -> Result<Typed, AllocError>
+    ensures { Shows faults.old faults.new (check_factor (plain_factor factor.now) scope.now) result }
+{
+    let operand = primary(alloc, &factor.primary, scope, faults)?;
+    match &factor.op {
+        None => Ok(operand),
+        Some(op) => highest(
+            alloc,
+            op.highest,
+            primary_at(&factor.primary),
+            operand,
+            faults,
+        ),
+    }
+}
+
+#[cycle(expr)]
+fn multiplied(
+    alloc: Global,
+    multiplied: &Multiplied,
+    scope: &Scope<'_>,
+    at: Pos,
+    left: Typed,
+    faults: &mut Least,
+) -> Result<Typed, AllocError>
+    ensures { Shows faults.old faults.new (check_multiplied (plain_multiplied multiplied.now) scope.now at (plain_typed left)) result }
+{
+    let right = factor(alloc, &multiplied.factor, scope, faults)?;
+    let op = multiplying(multiplied.op);
+    arithmetic(
+        alloc,
+        op,
+        at,
+        left,
+        factor_at(&multiplied.factor),
+        right,
+        faults,
+    )
+}
+
+#[cycle(expr)]
+fn term(
+    alloc: Global,
+    term: &Term,
+    scope: &Scope<'_>,
+    faults: &mut Least,
+) -> Result<Typed, AllocError>
+    ensures { Shows faults.old faults.new (check_term (plain_term term.now) scope.now) result }
+{
+    let at = term_at(term);
+    let mut left = factor(alloc, &term.first, scope, faults)?;
+    for next in &term.rest {
+        left = multiplied(alloc, next, scope, at, left, faults)?;
+    }
+    Ok(left)
+}
+
+#[cycle(expr)]
+fn added(
+    alloc: Global,
+    added: &Added,
+    scope: &Scope<'_>,
+    at: Pos,
+    left: Typed,
+    faults: &mut Least,
+) -> Result<Typed, AllocError>
+    ensures { Shows faults.old faults.new (check_added (plain_added added.now) scope.now at (plain_typed left)) result }
+{
+    let right = term(alloc, &added.term, scope, faults)?;
+    adding_operator(
+        alloc,
+        added.op,
+        at,
+        left,
+        term_at(&added.term),
+        right,
+        faults,
+    )
+}
+
+/// Checks an expression (RM 4.4): notes its faults, and answers with its type what is left of it.
+#[cycle(expr)]
+pub fn expr(
+    alloc: Global,
+    e: &Expr,
+    scope: &Scope<'_>,
+    faults: &mut Least,
+) -> Result<Typed, AllocError>
+    ensures { Shows faults.old faults.new (check_simple (plain_simple e.now) scope.now) result }
+{
+    let at = simple_at(e);
+    let first = term(alloc, &e.first, scope, faults)?;
+    let mut left = signed(alloc, e.sign, term_at(&e.first), first, faults)?;
+    for next in &e.rest {
+        left = added(alloc, next, scope, at, left, faults)?;
+    }
+    Ok(left)
+}

@@ -1,0 +1,97 @@
+// Faults of a program.
+
+ghost use Rattle.std.specs.Prelude.{◌≡◌, Option, None};
+ghost use Rattle.aud_check.specs.declared.fault.Fault.{Fault};
+ghost use Rattle.aud_check.specs.Least.{before, note};
+
+use aud_text::code::Code;
+use aud_text::place::Pos;
+use std::alloc::{AllocError, AllocFailed};
+use std::marker::Model;
+use thiserror::Error;
+
+/// A breach of a rule of the language: where it stands, and which it is.
+#[derive(Clone, Copy, PartialEq, Eq, Debug)]
+pub struct Fault {
+    pub at: Pos,
+    pub code: Code,
+}
+
+/// Why a program is not accepted.
+#[derive(Debug, Drop, Error)]
+pub enum CheckFault {
+    #[error("out of memory")]
+    Memory,
+    #[error("the program has a fault: {0:?}")]
+    Wrong(Fault),
+}
+
+impl From<AllocError> for CheckFault {
+    ghost use Rattle.aud_check.specs.declared.fault.CheckFault.TheVariants.{Memory};
+
+    ghost from_gives = { λ _ fault. fault ≡ Memory };
+
+    fn from(_error: AllocError) -> CheckFault {
+        CheckFault::Memory
+    }
+}
+
+impl<T: Drop> From<AllocFailed<T>> for CheckFault {
+    ghost use Rattle.aud_check.specs.declared.fault.CheckFault.TheVariants.{Memory};
+
+    ghost from_gives = { λ _ fault. fault ≡ Memory };
+
+    fn from(_error: AllocFailed<T>) -> CheckFault {
+        CheckFault::Memory
+    }
+}
+
+/// The first of the faults that were noted, if there were any.
+#[derive(Clone, Copy, PartialEq, Eq, Debug)]
+pub struct Least {
+    first: Option<Fault>,
+}
+
+impl Model for Least {
+    ghost Value = { Option Fault };
+
+    ghost view = { λ least. least.first };
+
+    ghost inverse = { λ first. record { first = first } };
+}
+
+impl Least {
+    /// No fault yet.
+    pub fn new() -> Self
+        ensures { result ≡ None }
+    {
+        Least { first: None }
+    }
+
+    pub fn get(self) -> Option<Fault>
+        ensures { result ≡ self }
+    {
+        self.first
+    }
+
+    /// Notes one more fault.
+    pub fn note(&mut self, at: Pos, code: Code)
+        ensures { self.new ≡ note self.old (record { at = at; code = code }) }
+    {
+        let fault = Fault { at, code };
+        self.first = match self.first {
+            Some(first) if !before(fault, first) => Some(first),
+            _ => Some(fault),
+        };
+    }
+}
+
+// Whether the one fault is reported rather than the other.
+fn before(fault: Fault, other: Fault) -> bool
+    ensures { result ≡ before fault other }
+{
+    if fault.at == other.at {
+        return fault.code.number() < other.code.number();
+    }
+    fault.at.line < other.at.line || (fault.at.line == other.at.line && fault.at.col < other.at.col)
+}

@@ -1,0 +1,44 @@
+// The checker: the faults of a program, and the typed program of one without faults.
+#![tactic(auto)]
+
+ghost use Rattle.std.specs.Prelude.{IfOk};
+ghost use Rattle.aud_syntax.specs.View.{plain_unit};
+ghost use Rattle.aud_typed.specs.Scoped.{IsScoped};
+ghost use Rattle.aud_typed.specs.View.{plain_program};
+ghost use Rattle.aud_check.specs.Checked.{checked};
+ghost use Rattle.aud_check.specs.Gives.{Gives};
+
+pub mod decl;
+pub mod expr;
+pub mod fault;
+pub mod laws;
+pub mod names;
+pub mod stmt;
+pub mod typed;
+pub mod unit;
+
+use crate::fault::{CheckFault, Least};
+use aud_syntax::tree::Unit;
+use aud_typed::program::Program;
+use std::alloc::Global;
+
+/// The typed program of a program without faults (RM 10.1.1). Each variable in it names an open frame.
+///
+/// # Errors
+///
+/// `Wrong` with the first fault in the text, and of several at one place the one whose code has the
+/// least number; `Memory` where memory is refused.
+pub fn check(alloc: Global, unit: &Unit) -> Result<Program, CheckFault>
+    ensures answer { Gives plain_program (checked (plain_unit unit.now)) result }
+    ensures scoped { IfOk result (λ program. IsScoped (plain_program program)) }
+{
+    let mut faults = Least::new();
+    let program = unit::typed(alloc, unit, &mut faults)?;
+    match faults.get() {
+        None => Ok(program),
+        Some(fault) => Err(CheckFault::Wrong(fault)),
+    }
+}
+
+#[cfg(test)]
+mod tests;

@@ -1,0 +1,209 @@
+// Expressions with their types, and the rules on operands.
+
+ghost use Rattle.std.specs.Prelude.{◌≡◌, IfOk};
+ghost use Rattle.aud_typed.specs.View.{plain_integer};
+ghost use Rattle.aud_check.specs.Least.{noted};
+ghost use Rattle.aud_check.specs.Expressions.{not_integer, not_text, not_boolean, combined, joined, one, integer_only, image_of, arithmetic, joining, adding_operator, signed, highest};
+ghost use Rattle.aud_check.specs.Typing.{plain_typed, Shows};
+
+use crate::fault::Least;
+use aud_syntax::tree::{Adding, Highest, Sign, Signed};
+use aud_text::code::Code;
+use aud_text::place::Pos;
+use aud_typed::program::{Binary, IntegerExpr, TextExpr, Unary};
+use std::alloc::{AllocError, Global};
+
+/// An expression with its type. Nothing is known of the type of a faulty one.
+#[derive(Drop, Debug)]
+pub enum Typed {
+    Number(IntegerExpr),
+    Text(TextExpr),
+    Unknown,
+}
+
+/// Notes where an expression that must be of type Integer has another type.
+pub fn wants_integer(at: Pos, typed: &Typed, faults: &mut Least)
+    ensures { faults.new ≡ noted faults.old (not_integer at (plain_typed typed.now)) }
+{
+    if let Typed::Text(_) = typed {
+        faults.note(at, Code::WrongType);
+    }
+}
+
+/// Notes where an expression that must be a text has another type.
+pub fn wants_text(at: Pos, typed: &Typed, faults: &mut Least)
+    ensures { faults.new ≡ noted faults.old (not_text at (plain_typed typed.now)) }
+{
+    if let Typed::Number(_) = typed {
+        faults.note(at, Code::WrongType);
+    }
+}
+
+fn wants_boolean(at: Pos, typed: &Typed, faults: &mut Least)
+    ensures { faults.new ≡ noted faults.old (not_boolean at (plain_typed typed.now)) }
+{
+    match typed {
+        Typed::Number(_) | Typed::Text(_) => faults.note(at, Code::WrongType),
+        Typed::Unknown => {}
+    }
+}
+
+fn combined(alloc: Global, op: Binary, left: Typed, right: Typed) -> Result<Typed, AllocError>
+    ensures { IfOk result (λ typed. plain_typed typed ≡ combined op (plain_typed left) (plain_typed right)) }
+{
+    match (left, right) {
+        (Typed::Number(x), Typed::Number(y)) => {
+            let x = Box::new(alloc, x)?;
+            let y = Box::new(alloc, y)?;
+            Ok(Typed::Number(IntegerExpr::Binary(op, x, y)))
+        }
+        _ => Ok(Typed::Unknown),
+    }
+}
+
+fn joined(alloc: Global, left: Typed, right: Typed) -> Result<Typed, AllocError>
+    ensures { IfOk result (λ typed. plain_typed typed ≡ joined (plain_typed left) (plain_typed right)) }
+{
+    match (left, right) {
+        (Typed::Text(x), Typed::Text(y)) => {
+            let x = Box::new(alloc, x)?;
+            let y = Box::new(alloc, y)?;
+            Ok(Typed::Text(TextExpr::Join(x, y)))
+        }
+        _ => Ok(Typed::Unknown),
+    }
+}
+
+fn one(alloc: Global, op: Unary, operand: Typed) -> Result<Typed, AllocError>
+    ensures { IfOk result (λ typed. plain_typed typed ≡ one op (plain_typed operand)) }
+{
+    match operand {
+        Typed::Number(x) => {
+            let x = Box::new(alloc, x)?;
+            Ok(Typed::Number(IntegerExpr::Unary(op, x)))
+        }
+        _ => Ok(Typed::Unknown),
+    }
+}
+
+fn integer_only(typed: Typed) -> Typed
+    ensures { plain_typed result ≡ integer_only (plain_typed typed) }
+{
+    match typed {
+        Typed::Number(x) => Typed::Number(x),
+        _ => Typed::Unknown,
+    }
+}
+
+/// The text that Image makes of an Integer.
+pub fn image_of(typed: Typed) -> Typed
+    ensures { plain_typed result ≡ image_of (plain_typed typed) }
+{
+    match typed {
+        Typed::Number(x) => Typed::Text(TextExpr::Image(x)),
+        _ => Typed::Unknown,
+    }
+}
+
+/// An operator on two Integers (RM 4.5.3, 4.5.5), whose operands begin at these places.
+#[tactic(auto, using(crate::proofs::Notes::noted_append))]
+pub fn arithmetic(
+    alloc: Global,
+    op: Binary,
+    left_at: Pos,
+    left: Typed,
+    right_at: Pos,
+    right: Typed,
+    faults: &mut Least,
+) -> Result<Typed, AllocError>
+    ensures { Shows faults.old faults.new (arithmetic op left_at (plain_typed left) right_at (plain_typed right)) result }
+{
+    wants_integer(left_at, &left, faults);
+    wants_integer(right_at, &right, faults);
+    combined(alloc, op, left, right)
+}
+
+#[tactic(auto, using(crate::proofs::Notes::noted_append))]
+fn joining(
+    alloc: Global,
+    left_at: Pos,
+    left: Typed,
+    right_at: Pos,
+    right: Typed,
+    faults: &mut Least,
+) -> Result<Typed, AllocError>
+    ensures { Shows faults.old faults.new (joining left_at (plain_typed left) right_at (plain_typed right)) result }
+{
+    wants_text(left_at, &left, faults);
+    wants_text(right_at, &right, faults);
+    joined(alloc, left, right)
+}
+
+/// A binary adding operator (RM 4.5.3), whose operands begin at these places.
+pub fn adding_operator(
+    alloc: Global,
+    op: Adding,
+    left_at: Pos,
+    left: Typed,
+    right_at: Pos,
+    right: Typed,
+    faults: &mut Least,
+) -> Result<Typed, AllocError>
+    ensures { Shows faults.old faults.new (adding_operator op left_at (plain_typed left) right_at (plain_typed right)) result }
+{
+    match op {
+        Adding::Plus => arithmetic(alloc, Binary::Sum, left_at, left, right_at, right, faults),
+        Adding::Minus => arithmetic(
+            alloc,
+            Binary::Difference,
+            left_at,
+            left,
+            right_at,
+            right,
+            faults,
+        ),
+        Adding::Join => joining(alloc, left_at, left, right_at, right, faults),
+    }
+}
+
+/// The sign before a first term that begins at a place (RM 4.5.4).
+pub fn signed(
+    alloc: Global,
+    sign: Option<Signed>,
+    at: Pos,
+    operand: Typed,
+    faults: &mut Least,
+) -> Result<Typed, AllocError>
+    ensures { Shows faults.old faults.new (signed sign at (plain_typed operand)) result }
+{
+    let Some(signed) = sign else {
+        return Ok(operand);
+    };
+    wants_integer(at, &operand, faults);
+    match signed.sign {
+        Sign::Plus => Ok(integer_only(operand)),
+        Sign::Minus => one(alloc, Unary::Negative, operand),
+    }
+}
+
+/// An operator before a primary that begins at a place (RM 4.5.6).
+pub fn highest(
+    alloc: Global,
+    op: Highest,
+    at: Pos,
+    operand: Typed,
+    faults: &mut Least,
+) -> Result<Typed, AllocError>
+    ensures { Shows faults.old faults.new (highest op at (plain_typed operand)) result }
+{
+    match op {
+        Highest::Magnitude => {
+            wants_integer(at, &operand, faults);
+            one(alloc, Unary::Magnitude, operand)
+        }
+        Highest::Not => {
+            wants_boolean(at, &operand, faults);
+            Ok(Typed::Unknown)
+        }
+    }
+}

@@ -1,0 +1,83 @@
+// Programs.
+
+ghost use Rattle.std.specs.Prelude.{◌≡◌, ◌++◌, map, IfOk, OnOk};
+ghost use Rattle.aud_syntax.specs.View.{plain_stmts, plain_unit};
+ghost use Rattle.aud_typed.specs.View.{plain_program};
+ghost use Rattle.aud_check.specs.Least.{noted};
+ghost use Rattle.aud_check.specs.Statements.{typed_stmts, stmts_faults};
+ghost use Rattle.aud_check.specs.Part.{plain_steps};
+ghost use Rattle.aud_check.specs.Checked.{end_faults, or_null, faults as program_faults, typed as typed_program};
+
+use crate::decl::{Part, decls};
+use crate::fault::Least;
+use crate::names::{Scope, Symbol, same};
+use crate::stmt::{in_sequence, stmts};
+use aud_syntax::tree::{Body, Ident, Unit};
+use aud_text::code::Code;
+use aud_text::name::Name;
+use aud_typed::program::{Program, Stmt as Step};
+use std::alloc::{AllocError, Global};
+
+// Notes where the name after a body's end is not the procedure's (RM 6.3(4)).
+fn check_end(main: &Name, end: &Option<Ident>, faults: &mut Least)
+    ensures { faults.new ≡ noted faults.old (end_faults main.now end.now) }
+{
+    if let Some(ident) = end {
+        if !same(&ident.name, main) {
+            faults.note(ident.at, Code::WrongNameAtEnd);
+        }
+    }
+}
+
+// The statements of a body; none are a null statement where they would begin.
+fn statements(
+    alloc: Global,
+    body: &Body,
+    scope: &Scope<'_>,
+    steps: &mut Vec<Step>,
+    faults: &mut Least,
+) -> Result<(), AllocError>
+    ensures steps { OnOk result (plain_steps steps.new.items ≡ plain_steps steps.old.items ++ or_null body.now.begin (typed_stmts (plain_stmts body.now.stmts.items) scope.now)) }
+    ensures noted { OnOk result (faults.new ≡ noted faults.old (stmts_faults (plain_stmts body.now.stmts.items) scope.now)) }
+{
+    if body.stmts.is_empty() {
+        steps.push(Step::Null(body.begin))?;
+        return Ok(());
+    }
+    stmts(alloc, &body.stmts, scope, steps, faults)?;
+    Ok(())
+}
+
+// The symbols' names.
+fn names_of(alloc: Global, symbols: Vec<Symbol>) -> Result<Vec<Name>, AllocError>
+    ensures { IfOk result (λ names. names.items ≡ map (λ s. s.name) symbols.items) }
+{
+    symbols.into_iter().map(|symbol| symbol.name).collect(alloc)
+}
+
+/// Checks a program (RM 10.1.1): notes its faults, and answers what is left of it.
+#[tactic(auto, using(crate::proofs::Notes::noted_append))]
+pub fn typed(alloc: Global, unit: &Unit, faults: &mut Least) -> Result<Program, AllocError>
+    ensures program { IfOk result (λ program. plain_program program ≡ typed_program (plain_unit unit.now)) }
+    ensures noted { OnOk result (faults.new ≡ noted faults.old (program_faults (plain_unit unit.now))) }
+{
+    let main = &unit.name.name;
+    let mut part = Part {
+        symbols: Vec::new(alloc),
+        steps: Vec::new(alloc),
+    };
+    decls(alloc, &unit.decls, main, &mut part, faults)?;
+    let Part { symbols, mut steps } = part;
+    let scope = Scope::new(main, &symbols, &[]);
+    statements(alloc, &unit.body, &scope, &mut steps, faults)?;
+    check_end(main, &unit.body.name, faults);
+    let body = in_sequence(alloc, unit.body.begin, steps)?;
+    let variables = names_of(alloc, symbols)?;
+    let name = main.try_clone(alloc)?;
+    Ok(Program {
+        name,
+        variables,
+        body,
+        end: unit.body.end,
+    })
+}

@@ -1,0 +1,5 @@
+// Bytecode. Each step of a task is some instructions that evaluate and one that ends the step.
+#![tactic(auto)]
+
+pub mod code;
+pub mod sound;

@@ -1,0 +1,5 @@
+use Rattle.aud_gen.proofs.Putting.{put_law}
+use Rattle.aud_gen.proofs.laws.put_law.Goals as goal
+
+pub returns : goal.returns
+returns c = put_law

@@ -1,0 +1,97 @@
+-- How code that runs shows a configuration: tasks stand at places of the code where the statements follow that they have left to do.
+use Rattle.std.specs.Prelude.{◌≡◌, ℕ, List, [], ◌∷◌, ◌++◌, length, drop, Option, Some, None, false, slice_get}
+use Rattle.aud_text.specs.declared.place.Pos.{Pos}
+use Rattle.aud_text.specs.declared.raise.Raise.{Raise}
+use Rattle.aud_typed.specs.Tree.{Stmt, sequence, declare, null, assign, put}
+use Rattle.aud_meaning.specs.declared.state.Status.{Status}
+use Rattle.aud_meaning.specs.declared.state.Status.TheVariants.{Running, Completed, Terminated}
+use Rattle.aud_meaning.specs.Configuration.{Own, Item, Do, TaskAt, All, Configuration, Acting}
+use Rattle.aud_code.specs.declared.code.Line.{Line}
+use Rattle.aud_gen.specs.declared.around.Around.{Around}
+use Rattle.aud_gen.specs.Code.{stmt_code, in_body, end_line}
+
+-- these lines stand in the code from a place on
+pub record HasAt (code : List Line) (place : ℕ) (lines : List Line) : Type 0 where
+  pub rest : List Line
+  pub is : drop place code ≡ lines ++ rest
+
+-- the code of the items follows at a place, within what surrounds it
+abbrev pub Stands : List Line → Around → ℕ → List Item → Type 0
+Stands code around place [] = (end : Pos) × (around ≡ in_body place) × HasAt code place (end_line place end ∷ [])
+Stands code around place (Do s ∷ rest) = (next : ℕ) × HasAt code place (stmt_code s place next around) × Stands code around next rest
+
+-- the statement is a step
+abbrev pub IsStep : Stmt → Type 0
+IsStep (sequence a b) = ⊥
+IsStep (declare at e) = Unit {0}
+IsStep (null at) = Unit {0}
+IsStep (assign at v e) = Unit {0}
+IsStep (put at t) = Unit {0}
+
+-- what comes next is a step
+abbrev pub IsSettled : List Item → Type 0
+IsSettled [] = Unit {0}
+IsSettled (Do s ∷ rest) = IsStep s
+
+-- the line at a place says where the exceptions go that are pending within what surrounds it
+pub record HasWay (code : List Line) (around : Around) (place : ℕ) : Type 0 where
+  pub here : Line
+  pub is : slice_get code place ≡ Some here
+  pub goes : here.out ≡ around.out
+
+-- the task is where its next step begins, or where the way of its pending exception is told
+abbrev pub IsHere : List Line → Around → ℕ → ℕ → Option Raise → List Item → Type 0
+IsHere code around place at None items = (at ≡ place) × IsSettled items
+IsHere code around place at (Some raise) items = HasWay code around place
+
+-- a task that stands at a place has these items left
+pub record IsPlaced (code : List Line) (place : ℕ) (own : Own) (items : List Item) : Type 0 where
+  pub around : Around
+  pub at : ℕ
+  pub stands : Stands code around at items
+  pub frames : length own.display ≡ around.frames
+  pub here : IsHere code around place at own.pending items
+
+-- a terminated task does nothing any more, wherever it stands
+abbrev pub PlacedBy : Status → List Line → ℕ → Own → List Item → Type 0
+PlacedBy Running code place own items = IsPlaced code place own items
+PlacedBy Completed code place own items = IsPlaced code place own items
+PlacedBy Terminated code place own items = Unit {0}
+
+-- a task, but for what all share
+pub record ShowsTask (code : List Line) (m : TaskAt ℕ) (c : TaskAt (List Item)) : Type 0 where
+  pub own : m.own ≡ c.own
+  pub placed : PlacedBy c.own.status code m.control c.own c.control
+
+abbrev pub task_of : {C : Type 0} → Acting C → TaskAt C
+task_of t = record { control = t.control; own = t.own }
+
+-- a task and what all share
+pub record Shows (code : List Line) (m : Acting ℕ) (c : Acting (List Item)) : Type 0 where
+  pub task : ShowsTask code (task_of m) (task_of c)
+  pub shared : m.shared ≡ c.shared
+
+-- task by task
+abbrev pub ShowsTasks : List Line → List (TaskAt ℕ) → List (TaskAt (List Item)) → Type 0
+ShowsTasks code [] [] = Unit {0}
+ShowsTasks code [] (c ∷ cs) = ⊥
+ShowsTasks code (m ∷ ms) [] = ⊥
+ShowsTasks code (m ∷ ms) (c ∷ cs) = ShowsTask code m c × ShowsTasks code ms cs
+
+pub record ShowsAll (code : List Line) (m : All ℕ) (c : Configuration) : Type 0 where
+  pub tasks : ShowsTasks code m.tasks c.tasks
+  pub shared : m.shared ≡ c.shared
+  pub choices : m.choices ≡ c.choices
+  pub steps : m.steps ≡ c.steps
+
+-- code before its first step (RM 10.2)
+abbrev pub opening_code : All ℕ
+opening_code = record {
+  tasks = record {
+    control = 0;
+    own = record { pending = None; status = Running; display = 0 ∷ []; raised = None };
+  } ∷ [];
+  shared = record { frames = [] ∷ []; output = []; cut = false };
+  choices = [];
+  steps = 0;
+}

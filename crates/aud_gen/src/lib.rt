@@ -1,0 +1,9 @@
+// From typed programs to bytecode, and the laws that tie its steps to the program's.
+#![tactic(auto)]
+
+pub mod around;
+mod emit;
+pub mod laws;
+mod sizes;
+
+pub use emit::generate;

@@ -1,0 +1,52 @@
+// How many instructions each part of a program becomes.
+
+ghost use Rattle.std.specs.Prelude.{◌≡◌, ◌+◌, IfOk};
+ghost use Rattle.aud_typed.specs.View.{plain_integer, plain_text, plain_stmt};
+ghost use Rattle.aud_gen.specs.Code.{integer_size, text_size, stmt_size};
+
+use aud_typed::program::{IntegerExpr, Stmt, TextExpr};
+use std::alloc::AllocError;
+
+/// A sum of sizes, or want of memory where it passes the type: no memory holds such code.
+pub fn sum(a: usize, b: usize) -> Result<usize, AllocError>
+    ensures { IfOk result (λ n. n ≡ a + b) }
+{
+    a.checked_add(b).ok_or(AllocError)
+}
+
+/// Of an expression of type Integer.
+pub fn integer_size(e: &IntegerExpr) -> Result<usize, AllocError>
+    ensures { IfOk result (λ n. n ≡ integer_size (plain_integer e.now)) }
+{
+    match e {
+        IntegerExpr::Number(_) => Ok(1),
+        IntegerExpr::Variable(_) => Ok(1),
+        IntegerExpr::Unary(_, x) => sum(integer_size(x)?, 1),
+        IntegerExpr::Binary(_, x, y) => sum(sum(integer_size(x)?, integer_size(y)?)?, 1),
+    }
+}
+
+/// Of a text.
+pub fn text_size(t: &TextExpr) -> Result<usize, AllocError>
+    ensures { IfOk result (λ n. n ≡ text_size (plain_text t.now)) }
+{
+    match t {
+        TextExpr::Literal(_) => Ok(1),
+        TextExpr::Image(e) => sum(integer_size(e)?, 1),
+        TextExpr::Join(x, y) => sum(text_size(x)?, text_size(y)?),
+        TextExpr::NewLine => Ok(1),
+    }
+}
+
+/// Of a statement.
+pub fn stmt_size(s: &Stmt) -> Result<usize, AllocError>
+    ensures { IfOk result (λ n. n ≡ stmt_size (plain_stmt s.now)) }
+{
+    match s {
+        Stmt::Sequence(a, b) => sum(stmt_size(a)?, stmt_size(b)?),
+        Stmt::Declare(_, e) => sum(integer_size(e)?, 1),
+        Stmt::Null(_) => Ok(1),
+        Stmt::Assign(_, _, e) => sum(integer_size(e)?, 1),
+        Stmt::Put(_, t) => sum(text_size(t)?, 1),
+    }
+}

@@ -1,0 +1,6 @@
+pub mod Writes
+pub mod Instructions
+pub mod Output
+pub mod MoveLists
+pub mod Turns
+pub mod Bridges

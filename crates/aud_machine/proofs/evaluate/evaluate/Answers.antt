@@ -1,0 +1,34 @@
+use Rattle.std.proofs.Common.{[], length, drop, arith}
+use Rattle.aud_code.specs.Eval.{eval}
+use Rattle.aud_machine.specs.Flow.{FlowFits}
+use Rattle.aud_machine.proofs.Instructions.{Turned, turned, fine_here, leads_within}
+use Rattle.aud_machine.proofs.evaluate.evaluate.Goals as goal
+use Rattle.aud_machine.proofs.evaluate.evaluate.Goals.{In-On, In_ok-execute}
+
+-- what the instruction did, in the evaluation as a whole
+turn : (c : In_ok-execute) → Turned c.in_ok-execute.field-0 c.args.display.now c.args.frames.now c.args.code.now c.loop-at.at c.execute.new.operands (eval c.args.display.now c.args.frames.now (drop c.args.place c.args.code.now) [] [])
+turn c =
+    turned c.in_ok-execute.field-0 c.args.display.now c.args.frames.now c.args.code.now c.loop-at.at c.line-line.result.now c.loop-at.operands.ints c.loop-at.operands.text c.execute.new.operands _ c.line-line.ensures.is c.in_ok-execute.ensures.acts c.loop-at.invariant.same
+
+fits : (c : In_ok-execute) → FlowFits c.in_ok-execute.field-0 c.args.code.now c.loop-at.at c.execute.new.operands (length c.args.display.now)
+fits c =
+    c.in_ok-execute.ensures.fits c.args.code.now c.loop-at.at (fine_here c.args.code.now c.loop-at.at _ _ c.line-line.result.now c.loop-at.invariant.leads c.line-line.ensures.is c.line-line.ensures.fine)
+
+pub loop-at-preserved : goal.loop-at-preserved
+loop-at-preserved c = record {
+  leads = rw c.in-On.is at (fits (goal.at.loop-at-preserved c).In_ok-execute);
+  same = rw c.in-On.is at (turn (goal.at.loop-at-preserved c).In_ok-execute);
+  counted = omega (arith, c.execute.ensures.tick);
+}
+
+pub returns-in-Ends-clause-ends : goal.returns-in-Ends-clause-ends
+returns-in-Ends-clause-ends c = rw c.in-Ends.is at (turn (goal.at.returns-in-Ends-clause-ends c).In_ok-execute)
+
+pub returns-in-Ends-clause-ticks : goal.returns-in-Ends-clause-ticks
+returns-in-Ends-clause-ticks c = omega (arith, c.execute.ensures.tick, leads_within _ _ _ _ c.loop-at.invariant.leads)
+
+pub returns-in-Raises-clause-ends : goal.returns-in-Raises-clause-ends
+returns-in-Raises-clause-ends c = rw c.in-Raises.is at (turn (goal.at.returns-in-Raises-clause-ends c).In_ok-execute)
+
+pub returns-in-Raises-clause-ticks : goal.returns-in-Raises-clause-ticks
+returns-in-Raises-clause-ticks c = omega (arith, c.execute.ensures.tick, leads_within _ _ _ _ c.loop-at.invariant.leads)

@@ -1,0 +1,29 @@
+use Rattle.std.proofs.Common.{◌≡◌, ◌+◌, ◌-◌, ap, ◌∙◌, sym, arith}
+use Rattle.aud_meaning.specs.Run.{run_with}
+use Rattle.aud_code.specs.Next.{next}
+use Rattle.aud_machine.proofs.Turns.{turns, ends}
+use Rattle.aud_machine.proofs.run.run.Goals as goal
+
+pub returns-in_default-clause-runs : goal.returns-in_default-clause-runs
+returns-in_default-clause-runs c =
+    let picks = rw c.in_default.is at c.pick.ensures.picks in
+    let left = c.args.n - c.loop-steps.steps in
+    let kept : c.pick.new.self.steps ≡ c.loop-steps.progress.steps = ap (λ p. p.steps) c.pick.ensures.kept in
+    record {
+      run = ends (next c.args.code.now) left c.loop-steps.progress c.pick.new.self picks ∙ sym c.loop-steps.invariant.run;
+      steps = omega (arith, c.loop-steps.invariant.counted, kept);
+      state = c.state-state.ensures;
+      ticks = c.loop-steps.invariant.ticked;
+    }
+
+pub loop-steps-preserved : goal.loop-steps-preserved
+loop-steps-preserved c =
+    let picks = rw c.in-Some.is at c.pick.ensures.picks in
+    let kept : c.pick.new.self.steps ≡ c.loop-steps.progress.steps = ap (λ p. p.steps) c.pick.ensures.kept in
+    record {
+      within = omega arith;
+      fit = c.in_ok-take.ensures.fit;
+      run = c.loop-steps.invariant.run ∙ turns (next c.args.code.now) c.args.n c.loop-steps.steps c.in-Some.task c.loop-steps.progress c.pick.new.self c.loop-steps-test.true picks ∙ ap (run_with (next c.args.code.now) (c.args.n - (c.loop-steps.steps + 1))) (sym c.in_ok-take.ensures.next);
+      counted = omega (arith, kept, c.in_ok-take.ensures.steps);
+      ticked = omega (arith, c.in_ok-take.ensures.ticks);
+    }

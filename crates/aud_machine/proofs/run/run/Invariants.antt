@@ -1,0 +1,17 @@
+use Rattle.std.proofs.Common.{◌≡◌, ◌+◌, ◌-◌, ◌*◌, ◌≤◌, length}
+use Rattle.aud_meaning.specs.Run.{run_with}
+use Rattle.aud_code.specs.Next.{next}
+use Rattle.aud_machine.specs.Moving.{AllFit}
+use Rattle.aud_machine.proofs.run.run.Given as goal
+
+abbrev pub invariant-loop-steps : goal.invariant-loop-steps
+invariant-loop-steps l = record {
+  within : l.steps ≤ l.n;
+  fit : AllFit l.code l.progress;
+  run : run_with (next l.code) l.n l.fn.progress ≡ run_with (next l.code) (l.n - l.steps) l.progress;
+  counted : l.steps + l.fn.progress.steps ≡ l.progress.steps;
+  ticked : l.ticks ≤ l.steps * length l.code;
+}
+
+abbrev pub decreases-loop-steps : goal.decreases-loop-steps
+decreases-loop-steps l = l.n - l.steps

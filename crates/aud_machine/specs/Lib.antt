@@ -1,0 +1,7 @@
+pub mod Held
+pub mod Flow
+pub mod Fits
+pub mod Moving
+pub mod Running
+pub mod Shown
+pub mod Shows

@@ -1,0 +1,71 @@
+// The variables of all executions of bodies.
+
+ghost use Rattle.std.specs.Prelude.{◌≡◌, ℕ, ℤ, pos, ◌<◌, List, [], ◌∷◌, ◌++◌, length, map, OnOk, slice_index_or, slice_set};
+
+use aud_text::int32::Int32;
+use std::alloc::{AllocError, Global};
+use std::marker::Model;
+
+/// All frames that were ever made, by their numbers, which count from 0. A frame has the variables of one execution of
+/// a body, in the order of their declarations.
+#[derive(Drop)]
+pub struct Frames {
+    frames: Vec<Vec<Int32>>,
+}
+
+impl Model for Frames {
+    ghost Value = { List (List ℤ) };
+
+    ghost view = { λ f. map (λ frame. frame.items) f.frames.items };
+}
+
+impl Frames {
+    /// No frames.
+    pub fn new(alloc: Global) -> Self
+        ensures { result ≡ [] }
+    {
+        Frames {
+            frames: Vec::new(alloc),
+        }
+    }
+
+    /// One more frame, which has no variables yet.
+    pub fn enter(&mut self, alloc: Global) -> Result<(), AllocError>
+        ensures { OnOk result (self.new ≡ self.old ++ [] ∷ []) }
+    {
+        self.frames.push(Vec::new(alloc))?;
+        Ok(())
+    }
+
+    /// A variable, or 0 where the frame has none of this number.
+    pub fn load(&self, frame: usize, index: usize) -> Int32
+        requires { frame < length self.now }
+        ensures { result ≡ slice_index_or (slice_index_or self.now frame []) index (pos 0) }
+    {
+        self.frames[frame]
+            .get(index)
+            .copied()
+            .unwrap_or(Int32::new(0))
+    }
+
+    /// One more variable of a frame, with its initial value.
+    pub fn declare(&mut self, frame: usize, value: Int32) -> Result<(), AllocError>
+        requires { frame < length self.old }
+        ensures { OnOk result (self.new ≡ slice_set self.old frame (slice_index_or self.old frame [] ++ value ∷ [])) }
+    {
+        let variables = &mut self.frames[frame];
+        variables.push(value)?;
+        Ok(())
+    }
+
+    /// Another value of a variable; where the frame has none of this number, nothing changes.
+    pub fn assign(&mut self, frame: usize, index: usize, value: Int32)
+        requires { frame < length self.old }
+        ensures { self.new ≡ slice_set self.old frame (slice_set (slice_index_or self.old frame []) index value) }
+    {
+        let variables = &mut self.frames[frame];
+        if index < variables.len() {
+            variables[index] = value;
+        }
+    }
+}

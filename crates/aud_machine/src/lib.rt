@@ -1,0 +1,13 @@
+// Machines: compiled programs under way. They do the bytecode, one step after the other.
+#![tactic(auto)]
+
+pub mod evaluate;
+pub mod frames;
+pub mod machine;
+pub mod operands;
+pub mod progress;
+pub mod run;
+pub mod shared;
+pub mod task;
+#[cfg(test)]
+mod tests;

@@ -1,0 +1,190 @@
+// How far a program is.
+
+ghost use Rattle.std.specs.Prelude.{◌≡◌, ◌<◌, ◌≤◌, ◌+◌, length, OnOk, IfOk, IfSome, slice_get};
+ghost use Rattle.aud_meaning.specs.Run.{has_ended, moves, moves_from, state_of, main_raised, step_with, own_move};
+ghost use Rattle.aud_code.specs.Next.{next};
+ghost use Rattle.aud_gen.specs.Shows.{opening_code};
+ghost use Rattle.aud_machine.specs.Moving.{move_of, Picks, AllFit};
+
+use crate::operands::Operands;
+use crate::shared::Shared;
+use crate::task::Task;
+use aud_code::sound::SoundCode;
+use aud_meaning::state::State;
+use aud_text::raise::Raise;
+use std::alloc::{AllocError, Global};
+use std::collections::VecDeque;
+use std::marker::Model;
+
+/// The tasks of a program, what they share, the choices that wait, and the steps taken.
+#[derive(Drop)]
+pub struct Progress {
+    tasks: Vec<Task>,
+    shared: Shared,
+    choices: VecDeque<u32>,
+    steps: u32,
+}
+
+impl Model for Progress {
+    ghost use Rattle.std.specs.Prelude.{ℕ};
+    ghost use Rattle.aud_meaning.specs.Configuration.{All as Everything};
+
+    ghost Value = { Everything ℕ };
+
+    ghost view = { λ p. record { tasks = p.tasks.items; shared = p.shared; choices = p.choices.items; steps = p.steps } };
+}
+
+impl Progress {
+    /// A program before its first step (RM 10.2).
+    pub fn new(alloc: Global) -> Result<Self, AllocError>
+        ensures { IfOk result (λ p. p ≡ opening_code) }
+    {
+        let main = Task::new(alloc)?;
+        Ok(Progress {
+            tasks: vec![in alloc; main]?,
+            shared: Shared::new(alloc)?,
+            choices: VecDeque::new(alloc),
+            steps: 0,
+        })
+    }
+
+    pub fn output(&self) -> &[u8]
+        ensures { result.now ≡ self.now.shared.output }
+    {
+        self.shared.output()
+    }
+
+    /// Whether a text was cut at the output's limit.
+    pub fn is_cut(&self) -> bool
+        ensures { result ≡ self.now.shared.cut }
+    {
+        self.shared.is_cut()
+    }
+
+    /// How many choices wait.
+    pub fn choices(&self) -> usize
+        ensures { result ≡ length self.now.choices }
+    {
+        self.choices.len()
+    }
+
+    /// The steps taken.
+    pub fn steps(&self) -> u32
+        ensures { result ≡ self.now.steps }
+    {
+        self.steps
+    }
+
+    /// The exception that left the main procedure.
+    pub fn raised(&self) -> Option<Raise>
+        ensures { result ≡ main_raised self.now.tasks }
+    {
+        match self.tasks.first() {
+            None => None,
+            Some(main) => main.raised(),
+        }
+    }
+
+    fn has_ended(&self) -> bool
+        ensures { result ≡ has_ended self.now.tasks }
+    {
+        match self.tasks.first() {
+            None => true,
+            Some(main) => main.is_terminated(),
+        }
+    }
+
+    /// What can happen next.
+    pub fn state(&self) -> State
+        ensures { result ≡ state_of self.now }
+    {
+        if self.has_ended() {
+            return State::Ended;
+        }
+        if self.shared.is_cut() {
+            return State::OutputFull;
+        }
+        if count_moves(&self.tasks) == 0 {
+            State::Stuck
+        } else {
+            State::More
+        }
+    }
+
+    /// The task whose move is the enabled one of this number, if there is one.
+    pub fn move_at(&self, nth: usize) -> Option<usize>
+        ensures of { move_of result ≡ slice_get (moves self.now) nth }
+        ensures known { IfSome result (λ task. task < length self.now.tasks) }
+    {
+        if self.has_ended() || self.shared.is_cut() {
+            return None;
+        }
+        nth_move(&self.tasks, nth)
+    }
+
+    /// The task that moves next: with several enabled moves the next choice picks one, and is used up.
+    pub fn pick(&mut self) -> Option<usize>
+        ensures picks { Picks (moves self.old) self.old result self.new }
+        ensures kept { self.new ≡ record self.old { choices = self.new.choices } }
+        ensures known { IfSome result (λ task. task < length self.new.tasks) }
+    {
+        if self.has_ended() || self.shared.is_cut() {
+            return None;
+        }
+        let count = count_moves(&self.tasks);
+        if count < 2 {
+            return nth_move(&self.tasks, 0);
+        }
+        match self.choices.pop_front() {
+            None => nth_move(&self.tasks, 0),
+            Some(choice) => nth_move(&self.tasks, choice as usize % count),
+        }
+    }
+
+    /// The move of a task.
+    pub fn take(
+        &mut self,
+        code: &SoundCode,
+        operands: &mut Operands,
+        ticks: &mut u64,
+        task: usize,
+    ) -> Result<(), AllocError>
+        requires known { task < length self.old.tasks }
+        requires fit { AllFit code.now self.old }
+        requires steps { self.old.steps < u32.MAX }
+        ensures next { OnOk result (self.new ≡ step_with (next code.now) self.old (own_move task)) }
+        ensures fit { OnOk result (AllFit code.now self.new) }
+        ensures steps { OnOk result (self.new.steps ≡ self.old.steps + 1) }
+        ensures ticks { ticks.new ≤ ticks.old + length code.now }
+    {
+        let acting = &mut self.tasks[task];
+        acting.step(code, &mut self.shared, operands, ticks)?;
+        self.steps += 1;
+        Ok(())
+    }
+}
+
+// How many tasks have a move.
+fn count_moves(tasks: &[Task]) -> usize
+    ensures { result ≡ length (moves_from 0 tasks.now) }
+{
+    tasks.iter().filter(|task| !task.is_terminated()).count()
+}
+
+// The number of the task that has this move.
+fn nth_move(tasks: &[Task], nth: usize) -> Option<usize>
+    ensures of { move_of result ≡ slice_get (moves_from 0 tasks.now) nth }
+    ensures known { IfSome result (λ task. task < length tasks.now) }
+{
+    let mut left = nth;
+    for (number, task) in tasks.iter().enumerate() {
+        if task.is_terminated() {
+            continue;
+        }
+        if left == 0 {
+            return Some(number);
+        }
+        left -= 1;
+    }
+    None
+}

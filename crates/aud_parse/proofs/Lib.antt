@@ -1,0 +1,10 @@
+pub mod Tables
+pub mod Reading
+pub mod Ends
+pub mod Total
+pub mod Spelled
+pub mod Passing
+pub mod Rolls
+pub mod Verdicts
+pub mod Literals
+pub mod Levels

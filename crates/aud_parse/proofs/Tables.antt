@@ -1,0 +1,105 @@
+-- What the laws need to know of each part. Written by tools/grammar_tables.py, and checked in Reading and Ends.
+use Rattle.std.specs.Prelude.{ℕ, List, [], ◌∷◌}
+use Rattle.aud_parse.specs.Grammar.{Part, Unit, Decls, DeclList, Decl, Ids, MoreIds, Initial, Body, Stmts, StmtList, Stmt, NullStmt, NameStmt, NameRest, Assignment, Call, Expr, Simple, Sign, Positive, Negative, Added, AddingOperator, Plus, Minus, Join, Term, Multiplied, MultiplyingOperator, Times, Divide, Modulo, Remainder, Factor, Operator, Magnitude, Not, Primary, Integer, String, Named, Attribute, Group, Parens, InParens, Id, Number, Literal}
+
+-- how many rules may be entered before a token of the part is passed, its own among them
+abbrev pub rank : Part → ℕ
+rank Unit = 1
+rank Decls = 6
+rank DeclList = 4
+rank Decl = 3
+rank Ids = 2
+rank MoreIds = 1
+rank Initial = 1
+rank Body = 1
+rank Stmts = 7
+rank StmtList = 5
+rank Stmt = 4
+rank NullStmt = 1
+rank NameStmt = 2
+rank NameRest = 6
+rank Assignment = 1
+rank Call = 4
+rank Expr = 10
+rank Simple = 9
+rank Sign = 3
+rank Positive = 1
+rank Negative = 1
+rank Added = 4
+rank AddingOperator = 3
+rank Plus = 1
+rank Minus = 1
+rank Join = 1
+rank Term = 8
+rank Multiplied = 4
+rank MultiplyingOperator = 3
+rank Times = 1
+rank Divide = 1
+rank Modulo = 1
+rank Remainder = 1
+rank Factor = 7
+rank Operator = 3
+rank Magnitude = 1
+rank Not = 1
+rank Primary = 6
+rank Integer = 2
+rank String = 2
+rank Named = 2
+rank Attribute = 1
+rank Group = 4
+rank Parens = 3
+rank InParens = 1
+rank Id = 1
+rank Number = 1
+rank Literal = 1
+
+-- the kinds that may come behind the part, as numbers; 999 is the end of the tokens
+abbrev pub follow : Part → List ℕ
+follow Unit = 999 ∷ []
+follow Decls = 10 ∷ []
+follow DeclList = 10 ∷ []
+follow Decl = 10 ∷ 100 ∷ []
+follow Ids = 84 ∷ []
+follow MoreIds = 80 ∷ 84 ∷ []
+follow Initial = 85 ∷ []
+follow Body = 999 ∷ []
+follow Stmts = 21 ∷ []
+follow StmtList = 21 ∷ []
+follow Stmt = 21 ∷ 38 ∷ 100 ∷ []
+follow NullStmt = 21 ∷ 38 ∷ 100 ∷ []
+follow NameStmt = 21 ∷ 38 ∷ 100 ∷ []
+follow NameRest = 21 ∷ 38 ∷ 100 ∷ []
+follow Assignment = 21 ∷ 38 ∷ 100 ∷ []
+follow Call = 21 ∷ 38 ∷ 100 ∷ []
+follow Expr = 77 ∷ 85 ∷ 999 ∷ []
+follow Simple = 77 ∷ 85 ∷ 999 ∷ []
+follow Sign = 1 ∷ 37 ∷ 76 ∷ 100 ∷ 101 ∷ 103 ∷ []
+follow Positive = 1 ∷ 37 ∷ 76 ∷ 100 ∷ 101 ∷ 103 ∷ []
+follow Negative = 1 ∷ 37 ∷ 76 ∷ 100 ∷ 101 ∷ 103 ∷ []
+follow Added = 74 ∷ 77 ∷ 79 ∷ 81 ∷ 85 ∷ 999 ∷ []
+follow AddingOperator = 1 ∷ 37 ∷ 76 ∷ 100 ∷ 101 ∷ 103 ∷ []
+follow Plus = 1 ∷ 37 ∷ 76 ∷ 100 ∷ 101 ∷ 103 ∷ []
+follow Minus = 1 ∷ 37 ∷ 76 ∷ 100 ∷ 101 ∷ 103 ∷ []
+follow Join = 1 ∷ 37 ∷ 76 ∷ 100 ∷ 101 ∷ 103 ∷ []
+follow Term = 74 ∷ 77 ∷ 79 ∷ 81 ∷ 85 ∷ 999 ∷ []
+follow Multiplied = 35 ∷ 53 ∷ 74 ∷ 77 ∷ 78 ∷ 79 ∷ 81 ∷ 83 ∷ 85 ∷ 999 ∷ []
+follow MultiplyingOperator = 1 ∷ 37 ∷ 76 ∷ 100 ∷ 101 ∷ 103 ∷ []
+follow Times = 1 ∷ 37 ∷ 76 ∷ 100 ∷ 101 ∷ 103 ∷ []
+follow Divide = 1 ∷ 37 ∷ 76 ∷ 100 ∷ 101 ∷ 103 ∷ []
+follow Modulo = 1 ∷ 37 ∷ 76 ∷ 100 ∷ 101 ∷ 103 ∷ []
+follow Remainder = 1 ∷ 37 ∷ 76 ∷ 100 ∷ 101 ∷ 103 ∷ []
+follow Factor = 35 ∷ 53 ∷ 74 ∷ 77 ∷ 78 ∷ 79 ∷ 81 ∷ 83 ∷ 85 ∷ 999 ∷ []
+follow Operator = 76 ∷ 100 ∷ 101 ∷ 103 ∷ []
+follow Magnitude = 76 ∷ 100 ∷ 101 ∷ 103 ∷ []
+follow Not = 76 ∷ 100 ∷ 101 ∷ 103 ∷ []
+follow Primary = 35 ∷ 53 ∷ 74 ∷ 77 ∷ 78 ∷ 79 ∷ 81 ∷ 83 ∷ 85 ∷ 999 ∷ []
+follow Integer = 35 ∷ 53 ∷ 74 ∷ 77 ∷ 78 ∷ 79 ∷ 81 ∷ 83 ∷ 85 ∷ 999 ∷ []
+follow String = 35 ∷ 53 ∷ 74 ∷ 77 ∷ 78 ∷ 79 ∷ 81 ∷ 83 ∷ 85 ∷ 999 ∷ []
+follow Named = 35 ∷ 53 ∷ 74 ∷ 77 ∷ 78 ∷ 79 ∷ 81 ∷ 83 ∷ 85 ∷ 999 ∷ []
+follow Attribute = 35 ∷ 53 ∷ 74 ∷ 77 ∷ 78 ∷ 79 ∷ 81 ∷ 83 ∷ 85 ∷ 999 ∷ []
+follow Group = 35 ∷ 53 ∷ 74 ∷ 77 ∷ 78 ∷ 79 ∷ 81 ∷ 83 ∷ 85 ∷ 999 ∷ []
+follow Parens = 35 ∷ 53 ∷ 74 ∷ 77 ∷ 78 ∷ 79 ∷ 81 ∷ 83 ∷ 85 ∷ 999 ∷ []
+follow InParens = 35 ∷ 53 ∷ 74 ∷ 77 ∷ 78 ∷ 79 ∷ 81 ∷ 83 ∷ 85 ∷ 999 ∷ []
+follow Id = 32 ∷ 35 ∷ 53 ∷ 74 ∷ 75 ∷ 76 ∷ 77 ∷ 78 ∷ 79 ∷ 80 ∷ 81 ∷ 83 ∷ 84 ∷ 85 ∷ 92 ∷ 999 ∷ []
+follow Number = 35 ∷ 53 ∷ 74 ∷ 77 ∷ 78 ∷ 79 ∷ 81 ∷ 83 ∷ 85 ∷ 999 ∷ []
+follow Literal = 35 ∷ 53 ∷ 74 ∷ 77 ∷ 78 ∷ 79 ∷ 81 ∷ 83 ∷ 85 ∷ 999 ∷ []

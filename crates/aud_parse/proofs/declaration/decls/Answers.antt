@@ -1,0 +1,17 @@
+use Rattle.aud_parse.specs.Grammar as g
+use Rattle.std.proofs.Common.{sym, ap, ◌∙◌, ◌-◌, [], ◌∷◌, refl, rules}
+use Rattle.aud_parse.specs.Machine.{o_rule, o_this, o_other, o_last, o_yes, o_no, o_more, o_stop}
+use Rattle.aud_parse.specs.Actions.{tok}
+use Rattle.aud_parse.specs.Items.{list_item, decl_item}
+use Rattle.aud_parse.proofs.Passing.{to, exit, level_in, level_out, turns_push, turns_end, no_room, from_first, from_push, from_end}
+use Rattle.aud_parse.proofs.Rolls.{term_roll, added_roll, simple_roll, factor_items, named_none, named_some, decl_items, body_items, unit_items}
+use Rattle.aud_parse.proofs.declaration.decls.Goals as goal
+
+pub returns-then-room-eq0-clause-reads : goal.returns-then-room-eq0-clause-reads
+returns-then-room-eq0-clause-reads c = no_room g.Decls g.DeclList _ c.args.toks _ _ refl c.if-room-eq0.true c.is.ensures c.too_deep.ensures
+
+pub returns-in_err-all-clause-reads : goal.returns-in_err-all-clause-reads
+returns-in_err-all-clause-reads c = exit _ _ _ _ _ _ _ _ _ _ _ c.from_residual.ensures.1 c.in_err-all.ensures.reads (λ k ds v o. o_rule (level_in _ _ _ _ _ _ c.if-room-eq0.false o))
+
+pub returns-clause-reads : goal.returns-clause-reads
+returns-clause-reads c k ds v o = o_rule (level_in _ _ _ _ _ _ c.if-room-eq0.false (c.in_ok-all.ensures.reads _ _ _ (level_out _ _ _ _ _ c.if-room-eq0.false o)))

@@ -1,0 +1,26 @@
+use Rattle.aud_parse.specs.Grammar as g
+use Rattle.std.proofs.Common.{sym, ap, ◌∙◌, ◌-◌, [], ◌∷◌, refl, rules}
+use Rattle.aud_parse.specs.Machine.{o_rule, o_this, o_other, o_last, o_yes, o_no, o_more, o_stop}
+use Rattle.aud_parse.specs.Actions.{tok}
+use Rattle.aud_parse.specs.Items.{list_item, decl_item}
+use Rattle.aud_parse.proofs.Passing.{to, exit, level_in, level_out, turns_push, turns_end, no_room, from_first, from_push, from_end}
+use Rattle.aud_parse.proofs.Rolls.{term_roll, added_roll, simple_roll, factor_items, named_none, named_some, decl_items, body_items, unit_items}
+use Rattle.aud_parse.proofs.parser.unit.Goals as goal
+
+pub returns-in_err-rest : goal.returns-in_err-rest
+returns-in_err-rest c = exit _ _ _ _ _ _ _ _ _ _ _ c.from_residual.ensures.1 (c.in_err-rest.ensures.reads c.args.room) (λ k ds v o. o_rule o)
+
+pub returns-in_err-name : goal.returns-in_err-name
+returns-in_err-name c = exit _ _ _ _ _ _ _ _ _ _ _ c.from_residual-in_err-name.ensures.1 (c.in_err-name.ensures.reads c.args.room) (λ k ds v o. o_rule (c.in_ok-rest.ensures.reads _ _ _ _ o))
+
+pub returns-in_err-rest-2 : goal.returns-in_err-rest-2
+returns-in_err-rest-2 c = exit _ _ _ _ _ _ _ _ _ _ _ c.from_residual-in_err-rest-2.ensures.1 (c.in_err-rest-2.ensures.reads c.args.room) (λ k ds v o. o_rule (c.in_ok-rest.ensures.reads _ _ _ _ (c.in_ok-name.ensures.reads _ _ _ _ o)))
+
+pub returns-in_err-decls : goal.returns-in_err-decls
+returns-in_err-decls c = exit _ _ _ _ _ _ _ _ _ _ _ c.from_residual-in_err-decls.ensures.1 c.in_err-decls.ensures.reads (λ k ds v o. o_rule (c.in_ok-rest.ensures.reads _ _ _ _ (c.in_ok-name.ensures.reads _ _ _ _ (c.in_ok-rest-2.ensures.reads _ _ _ _ o))))
+
+pub returns-in_err-body : goal.returns-in_err-body
+returns-in_err-body c = exit _ _ _ _ _ _ _ _ _ _ _ c.from_residual-in_err-body.ensures.1 c.in_err-body.ensures.reads (λ k ds v o. o_rule (c.in_ok-rest.ensures.reads _ _ _ _ (c.in_ok-name.ensures.reads _ _ _ _ (c.in_ok-rest-2.ensures.reads _ _ _ _ (c.in_ok-decls.ensures.reads _ _ _ o)))))
+
+pub returns : goal.returns
+returns c k ds v o = to (o_rule (c.in_ok-rest.ensures.reads _ _ _ _ (c.in_ok-name.ensures.reads _ _ _ _ (c.in_ok-rest-2.ensures.reads _ _ _ _ (c.in_ok-decls.ensures.reads _ _ _ (c.in_ok-body.ensures.reads _ _ _ o)))))) (unit_items _ c.in_ok-decls.decls c.in_ok-body.body _)

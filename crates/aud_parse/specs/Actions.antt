@@ -1,0 +1,265 @@
+-- How the tree of each part is made from those of its symbols.
+use Rattle.std.specs.Prelude.{ℕ, ℤ, List, [], ◌∷◌, Option, Some, None}
+use Rattle.aud_text.specs.Name.{capitals}
+use Rattle.aud_text.specs.declared.place.Pos.{Pos}
+use Rattle.aud_lex.specs.declared.token.Kind.TheVariants as kind
+use Rattle.aud_lex.specs.Element.{Element}
+use Rattle.aud_syntax.specs.declared.tree.Ident.{Ident}
+use Rattle.aud_syntax.specs.declared.tree.Number.{Number}
+use Rattle.aud_syntax.specs.declared.tree.Literal.{Literal}
+use Rattle.aud_syntax.specs.declared.tree.Signed.{Signed}
+use Rattle.aud_syntax.specs.declared.tree.Sign.{Sign}
+use Rattle.aud_syntax.specs.declared.tree.Sign.TheVariants as sign
+use Rattle.aud_syntax.specs.declared.tree.Adding.{Adding}
+use Rattle.aud_syntax.specs.declared.tree.Adding.TheVariants as adding
+use Rattle.aud_syntax.specs.declared.tree.Multiplying.{Multiplying}
+use Rattle.aud_syntax.specs.declared.tree.Multiplying.TheVariants as multiplying
+use Rattle.aud_syntax.specs.declared.tree.Operator.{Operator}
+use Rattle.aud_syntax.specs.declared.tree.Highest.TheVariants as highest
+use Rattle.aud_syntax.specs.Plain as m
+use Rattle.aud_parse.specs.Grammar as g
+use Rattle.aud_parse.specs.Values.{number_value, unquoted}
+
+-- what is read so far, from the front: a token, nothing, a list, or a tree of one of these sorts
+pub data Item : Type 0 where
+  tok : Element → Item
+  none : Item
+  cons : Item → Item → Item
+  an_ident : Ident → Item
+  a_number : Number → Item
+  a_literal : Literal → Item
+  a_sign : Signed → Item
+  an_adding : Adding → Item
+  a_multiplying : Multiplying → Item
+  an_operator : Operator → Item
+  -- an expression in parentheses, and where they open
+  in_parens : Pos → m.Simple → Item
+  -- an attribute's name and its argument
+  an_attribute : Ident → m.MaybeSimple → Item
+  a_primary : m.Primary → Item
+  a_factor : m.Factor → Item
+  a_multiplied : m.Multiplied → Item
+  a_term : m.Term → Item
+  an_added : m.Added → Item
+  a_simple : m.Simple → Item
+  -- what follows the name with which a statement begins
+  assigned : m.Simple → Item
+  called : m.Simple → Item
+  a_stmt : m.Stmt → Item
+  a_body : m.Body → Item
+  a_decl : m.Decl → Item
+  a_unit : m.Unit → Item
+
+abbrev pub top : List Item → Item
+top [] = none
+top (x ∷ st) = x
+
+abbrev pub pop : List Item → List Item
+pop [] = []
+pop (x ∷ st) = st
+
+-- an item as a tree of its sort; what it is at an item of another sort does not matter
+
+abbrev no_place : Pos
+no_place = record { line = 1; col = 1 }
+
+abbrev pub the_text : Item → List ℕ
+the_text (tok t) = t.text
+the_text _ = []
+
+abbrev pub place : Item → Pos
+place (tok t) = t.at
+place _ = no_place
+
+abbrev no_ident : Ident
+no_ident = record { name = []; at = no_place }
+
+abbrev pub the_ident : Item → Ident
+the_ident (an_ident x) = x
+the_ident _ = no_ident
+
+abbrev pub opt_ident : Item → Option Ident
+opt_ident (an_ident x) = Some x
+opt_ident _ = None
+
+abbrev pub the_idents : Item → List Ident
+the_idents (cons x xs) = the_ident x ∷ the_idents xs
+the_idents _ = []
+
+abbrev pub the_number : Item → Number
+the_number (a_number x) = x
+the_number _ = record { value = None; at = no_place }
+
+abbrev pub the_literal : Item → Literal
+the_literal (a_literal x) = x
+the_literal _ = record { text = []; at = no_place }
+
+abbrev pub opt_sign : Item → Option Signed
+opt_sign (a_sign x) = Some x
+opt_sign _ = None
+
+abbrev pub the_adding : Item → Adding
+the_adding (an_adding x) = x
+the_adding _ = adding.Plus
+
+abbrev pub the_multiplying : Item → Multiplying
+the_multiplying (a_multiplying x) = x
+the_multiplying _ = multiplying.Times
+
+abbrev pub opt_operator : Item → Option Operator
+opt_operator (an_operator x) = Some x
+opt_operator _ = None
+
+abbrev no_primary : m.Primary
+no_primary = m.name no_ident
+
+abbrev no_factor : m.Factor
+no_factor = m.factor None no_primary
+
+abbrev no_term : m.Term
+no_term = m.term no_factor m.no_multiplieds
+
+abbrev pub no_expr : m.Simple
+no_expr = m.simple None no_term m.no_addeds
+
+abbrev pub opening : Item → Pos
+opening (in_parens at x) = at
+opening _ = no_place
+
+abbrev pub inside : Item → m.Simple
+inside (in_parens at x) = x
+inside _ = no_expr
+
+abbrev pub opt_inside : Item → m.MaybeSimple
+opt_inside (in_parens at x) = m.a_simple x
+opt_inside _ = m.no_simple
+
+abbrev pub the_primary : Item → m.Primary
+the_primary (a_primary x) = x
+the_primary _ = no_primary
+
+abbrev pub the_factor : Item → m.Factor
+the_factor (a_factor x) = x
+the_factor _ = no_factor
+
+abbrev pub the_multiplied : Item → m.Multiplied
+the_multiplied (a_multiplied x) = x
+the_multiplied _ = m.multiplied multiplying.Times no_factor
+
+abbrev pub the_multiplieds : Item → m.Multiplieds
+the_multiplieds (cons x xs) = m.more_multiplieds (the_multiplied x) (the_multiplieds xs)
+the_multiplieds _ = m.no_multiplieds
+
+abbrev pub the_term : Item → m.Term
+the_term (a_term x) = x
+the_term _ = no_term
+
+abbrev pub the_added : Item → m.Added
+the_added (an_added x) = x
+the_added _ = m.added adding.Plus no_term
+
+abbrev pub the_addeds : Item → m.Addeds
+the_addeds (cons x xs) = m.more_addeds (the_added x) (the_addeds xs)
+the_addeds _ = m.no_addeds
+
+abbrev pub the_expr : Item → m.Simple
+the_expr (a_simple x) = x
+the_expr _ = no_expr
+
+abbrev pub opt_expr : Item → m.MaybeSimple
+opt_expr (a_simple x) = m.a_simple x
+opt_expr _ = m.no_simple
+
+abbrev no_stmt : m.Stmt
+no_stmt = m.null no_place
+
+abbrev pub the_stmt : Item → m.Stmt
+the_stmt (a_stmt x) = x
+the_stmt _ = no_stmt
+
+abbrev pub the_stmts : Item → m.Stmts
+the_stmts (cons x xs) = m.more_stmts (the_stmt x) (the_stmts xs)
+the_stmts _ = m.no_stmts
+
+abbrev pub the_decl : Item → m.Decl
+the_decl (a_decl x) = x
+the_decl _ = m.object [] no_ident m.no_simple
+
+abbrev pub the_decls : Item → m.Decls
+the_decls (cons x xs) = m.more_decls (the_decl x) (the_decls xs)
+the_decls _ = m.no_decls
+
+abbrev no_body : m.Body
+no_body = m.body no_place m.no_stmts no_place None
+
+abbrev pub the_body : Item → m.Body
+the_body (a_body x) = x
+the_body _ = no_body
+
+abbrev pub the_unit : Item → m.Unit
+the_unit (a_unit x) = x
+the_unit _ = m.unit no_ident m.no_decls no_body
+
+-- the primary that begins with a name, by what follows the name (RM 4.1, 4.1.4)
+abbrev pub named : Ident → Item → m.Primary
+named i (an_attribute j e) = m.attribute i j e
+named i _ = m.name i
+
+-- the statement that begins with a name, by what follows the name (RM 5.2, 6.4)
+abbrev pub begun : Ident → Item → m.Stmt
+begun i (assigned e) = m.assign i e
+begun i (called e) = m.call i e
+begun i _ = no_stmt
+
+-- an identifier's letters are kept as capitals (RM 2.3(5))
+abbrev pub ident_of : Item → Ident
+ident_of x = record { name = capitals (the_text x); at = place x }
+
+abbrev pub number_of : Item → Number
+number_of x = record { value = number_value (the_text x); at = place x }
+
+abbrev pub literal_of : Item → Literal
+literal_of x = record { text = unquoted (the_text x); at = place x }
+
+-- two trees put in front of a list
+abbrev pub listed : List Item → List Item
+listed st = cons (top st) (top (pop st)) ∷ pop (pop st)
+
+-- the tree of a part from what its rule has read, in front of what comes after it
+abbrev pub made : g.Part → List Item → List Item
+made g.Unit st = a_unit (m.unit (the_ident (top st)) (the_decls (top (pop st))) (the_body (top (pop (pop st))))) ∷ pop (pop (pop st))
+made g.DeclList st = listed st
+made g.Decl st = a_decl (m.object (the_idents (top st)) (the_ident (top (pop st))) (opt_expr (top (pop (pop st))))) ∷ pop (pop (pop st))
+made g.Ids st = listed st
+made g.Body st = a_body (m.body (place (top st)) (the_stmts (top (pop st))) (place (top (pop (pop st)))) (opt_ident (top (pop (pop (pop st)))))) ∷ pop (pop (pop (pop st)))
+made g.StmtList st = listed st
+made g.NullStmt st = a_stmt (m.null (place (top st))) ∷ pop st
+made g.NameStmt st = a_stmt (begun (the_ident (top st)) (top (pop st))) ∷ pop (pop st)
+made g.Assignment st = assigned (the_expr (top st)) ∷ pop st
+made g.Call st = called (inside (top st)) ∷ pop st
+made g.Simple st = a_simple (m.simple (opt_sign (top st)) (the_term (top (pop st))) (the_addeds (top (pop (pop st))))) ∷ pop (pop (pop st))
+made g.Positive st = a_sign (record { sign = sign.Plus; at = place (top st) }) ∷ pop st
+made g.Negative st = a_sign (record { sign = sign.Minus; at = place (top st) }) ∷ pop st
+made g.Added st = an_added (m.added (the_adding (top st)) (the_term (top (pop st)))) ∷ pop (pop st)
+made g.Plus st = an_adding adding.Plus ∷ st
+made g.Minus st = an_adding adding.Minus ∷ st
+made g.Join st = an_adding adding.Join ∷ st
+made g.Term st = a_term (m.term (the_factor (top st)) (the_multiplieds (top (pop st)))) ∷ pop (pop st)
+made g.Multiplied st = a_multiplied (m.multiplied (the_multiplying (top st)) (the_factor (top (pop st)))) ∷ pop (pop st)
+made g.Times st = a_multiplying multiplying.Times ∷ st
+made g.Divide st = a_multiplying multiplying.Divide ∷ st
+made g.Modulo st = a_multiplying multiplying.Modulo ∷ st
+made g.Remainder st = a_multiplying multiplying.Remainder ∷ st
+made g.Factor st = a_factor (m.factor (opt_operator (top st)) (the_primary (top (pop st)))) ∷ pop (pop st)
+made g.Magnitude st = an_operator (record { highest = highest.Magnitude; at = place (top st) }) ∷ pop st
+made g.Not st = an_operator (record { highest = highest.Not; at = place (top st) }) ∷ pop st
+made g.Integer st = a_primary (m.integer (the_number (top st))) ∷ pop st
+made g.String st = a_primary (m.text (the_literal (top st))) ∷ pop st
+made g.Named st = a_primary (named (the_ident (top st)) (top (pop st))) ∷ pop (pop st)
+made g.Attribute st = an_attribute (the_ident (top st)) (opt_inside (top (pop st))) ∷ pop (pop st)
+made g.Group st = a_primary (m.group (opening (top st)) (inside (top st))) ∷ pop st
+made g.InParens st = in_parens (place (top st)) (the_expr (top (pop st))) ∷ pop (pop st)
+made g.Id st = an_ident (ident_of (top st)) ∷ pop st
+made g.Number st = a_number (number_of (top st)) ∷ pop st
+made g.Literal st = a_literal (literal_of (top st)) ∷ pop st
+made _ st = st

@@ -1,0 +1,41 @@
+-- The tokens with which a part begins.
+use Rattle.std.specs.Prelude.{ℕ, zero, suc, List, [], ◌∷◌, ◌++◌, Bool, true, false, ◌==◌, if◌then◌else◌}
+use Rattle.aud_lex.specs.declared.token.Kind.{Kind}
+use Rattle.aud_lex.specs.Element.{Element}
+use Rattle.aud_lex.specs.Kinds.{code}
+use Rattle.aud_parse.specs.Grammar.{Part, Sym, T, P, N, L, Down, A, Opt, Rep, rule}
+
+-- the kind with this number is one of these
+abbrev pub among : List Kind → ℕ → Bool
+among [] c = false
+among (k ∷ ks) c = if c == code k then true else among ks c
+
+-- the next token is of one of these kinds
+abbrev pub next_in : List Kind → List Element → Bool
+next_in ks [] = false
+next_in ks (t ∷ ts) = among ks (code t.kind)
+
+-- the kinds with which symbols can begin, given those of the parts
+abbrev pub first_of_all : (Part → List Kind) → List Part → List Kind
+first_of_all first [] = []
+first_of_all first (p ∷ ps) = first p ++ first_of_all first ps
+
+abbrev pub first_of : (Part → List Kind) → List Sym → List Kind
+first_of first [] = []
+first_of first (T k ∷ s) = k ∷ []
+first_of first (P k ∷ s) = k ∷ []
+first_of first (N p ∷ s) = first p
+first_of first (L p ∷ s) = first p
+first_of first (Down ∷ s) = first_of first s
+first_of first (A ps ∷ s) = first_of_all first ps
+first_of first (Opt p ∷ s) = first p ++ first_of first s
+first_of first (Rep p ∷ s) = first p ++ first_of first s
+
+-- so many rules deep
+abbrev pub first_within : ℕ → Part → List Kind
+first_within zero p = []
+first_within (suc n) p = first_of (first_within n) (rule p)
+
+-- the kinds with which a part can begin
+abbrev pub firsts : Part → List Kind
+firsts = first_within 12

@@ -1,0 +1,13 @@
+pub mod Grammar
+pub mod Values
+pub mod First
+pub mod Actions
+pub mod Parsed
+pub mod Machine
+pub mod Derives
+pub mod Spells
+pub mod Items
+pub mod Reads
+pub mod Gives
+pub mod Begun
+pub mod Laws

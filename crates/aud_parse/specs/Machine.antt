@@ -1,0 +1,46 @@
+-- How a list of symbols reads a list of tokens, looking one token ahead, as a relation.
+use Rattle.std.specs.Prelude.{◌≡◌, ℕ, suc, List, [], ◌∷◌, ◌++◌, true, false}
+use Rattle.aud_lex.specs.declared.token.Kind.{Kind}
+use Rattle.aud_lex.specs.Element.{Element}
+use Rattle.aud_lex.specs.Kinds.{code}
+use Rattle.aud_parse.specs.Grammar.{Part, Sym, T, P, N, L, Down, A, Opt, Rep, rule}
+use Rattle.aud_parse.specs.First.{among, next_in, firsts}
+use Rattle.aud_parse.specs.Actions.{Item, tok, none, listed, made}
+use Rattle.aud_parse.specs.Parsed.{Verdict, Good, Wrong, Deep}
+
+-- Out s room tokens items verdict: reading the tokens by the symbols, with room for so many levels, makes these items and ends so
+pub data Out : List Sym → ℕ → List Element → List Item → Verdict → Type 0 where
+  o_end : {r : ℕ} → Out [] r [] [] Good
+  o_rest : {r : ℕ} {t : Element} {ts : List Element} → Out [] r (t ∷ ts) [] (Wrong (t ∷ ts))
+  o_word : {c : Kind} {k : List Sym} {r : ℕ} {t : Element} {ts : List Element} {ds : List Item} {v : Verdict} →
+      among (c ∷ []) (code t.kind) ≡ true → Out k r ts ds v → Out (T c ∷ k) r (t ∷ ts) ds v
+  o_token : {c : Kind} {k : List Sym} {r : ℕ} {t : Element} {ts : List Element} {ds : List Item} {v : Verdict} →
+      among (c ∷ []) (code t.kind) ≡ true → Out k r ts ds v → Out (P c ∷ k) r (t ∷ ts) (tok t ∷ ds) v
+  o_no_word : {c : Kind} {k : List Sym} {r : ℕ} {ts : List Element} →
+      next_in (c ∷ []) ts ≡ false → Out (T c ∷ k) r ts [] (Wrong ts)
+  o_no_token : {c : Kind} {k : List Sym} {r : ℕ} {ts : List Element} →
+      next_in (c ∷ []) ts ≡ false → Out (P c ∷ k) r ts [] (Wrong ts)
+  o_rule : {p : Part} {k : List Sym} {r : ℕ} {ts : List Element} {ds : List Item} {v : Verdict} →
+      Out (rule p ++ k) r ts ds v → Out (N p ∷ k) r ts (made p ds) v
+  o_level : {p : Part} {k : List Sym} {r : ℕ} {ts : List Element} {ds : List Item} {v : Verdict} →
+      Out (N p ∷ k) r ts ds v → Out (L p ∷ k) (suc r) ts ds v
+  o_deep : {p : Part} {k : List Sym} {ts : List Element} →
+      next_in (firsts p) ts ≡ true → Out (L p ∷ k) 0 ts [] (Deep ts)
+  o_shut : {p : Part} {k : List Sym} {ts : List Element} →
+      next_in (firsts p) ts ≡ false → Out (L p ∷ k) 0 ts [] (Wrong ts)
+  o_down : {k : List Sym} {r : ℕ} {ts : List Element} {ds : List Item} {v : Verdict} →
+      Out k (suc r) ts ds v → Out (Down ∷ k) r ts ds v
+  o_this : {p q : Part} {ps : List Part} {k : List Sym} {r : ℕ} {ts : List Element} {ds : List Item} {v : Verdict} →
+      next_in (firsts p) ts ≡ true → Out (N p ∷ k) r ts ds v → Out (A (p ∷ q ∷ ps) ∷ k) r ts ds v
+  o_other : {p q : Part} {ps : List Part} {k : List Sym} {r : ℕ} {ts : List Element} {ds : List Item} {v : Verdict} →
+      next_in (firsts p) ts ≡ false → Out (A (q ∷ ps) ∷ k) r ts ds v → Out (A (p ∷ q ∷ ps) ∷ k) r ts ds v
+  o_last : {p : Part} {k : List Sym} {r : ℕ} {ts : List Element} {ds : List Item} {v : Verdict} →
+      Out (N p ∷ k) r ts ds v → Out (A (p ∷ []) ∷ k) r ts ds v
+  o_yes : {p : Part} {k : List Sym} {r : ℕ} {ts : List Element} {ds : List Item} {v : Verdict} →
+      next_in (firsts p) ts ≡ true → Out (N p ∷ k) r ts ds v → Out (Opt p ∷ k) r ts ds v
+  o_no : {p : Part} {k : List Sym} {r : ℕ} {ts : List Element} {ds : List Item} {v : Verdict} →
+      next_in (firsts p) ts ≡ false → Out k r ts ds v → Out (Opt p ∷ k) r ts (none ∷ ds) v
+  o_more : {p : Part} {k : List Sym} {r : ℕ} {ts : List Element} {ds : List Item} {v : Verdict} →
+      next_in (firsts p) ts ≡ true → Out (N p ∷ Rep p ∷ k) r ts ds v → Out (Rep p ∷ k) r ts (listed ds) v
+  o_stop : {p : Part} {k : List Sym} {r : ℕ} {ts : List Element} {ds : List Item} {v : Verdict} →
+      next_in (firsts p) ts ≡ false → Out k r ts ds v → Out (Rep p ∷ k) r ts (none ∷ ds) v

@@ -1,0 +1,41 @@
+-- What a function of the parser promises.
+use Rattle.std.specs.Prelude.{ℕ, List, [], ◌∷◌, Result, Ok, Err}
+use Rattle.std.specs.Borrow.{Bor}
+use Rattle.aud_lex.specs.Element.{Element}
+use Rattle.aud_lex.specs.declared.token.Kind.{Kind}
+use Rattle.aud_parse.specs.Grammar.{Sym, T, P}
+use Rattle.aud_parse.specs.Actions.{Item, tok}
+use Rattle.aud_parse.specs.Parsed.{Verdict, Wrong, Deep}
+use Rattle.aud_parse.specs.Machine.{Out}
+use Rattle.aud_parse.specs.declared.cursor.Rest.{Rest}
+use Rattle.aud_parse.specs.declared.cursor.Fault.{Fault}
+use Rattle.aud_parse.specs.declared.cursor.Fault.TheVariants as fault
+
+-- reading by the symbols ends in this verdict
+abbrev pub Fails : List Sym → ℕ → List Element → Verdict → Type 0
+Fails s r ts v = (ds : List Item) × Out s r ts ds v
+
+-- from the symbol and the tokens one comes, with these items more, to the rest of the tokens, whatever symbols follow
+abbrev pub Passes : Sym → ℕ → List Element → (List Item → List Item) → ℕ → List Element → Type 0
+Passes s r ts f r' ts' = (k : List Sym) (ds : List Item) (v : Verdict) → Out k r' ts' ds v → Out (s ∷ k) r ts (f ds) v
+
+-- reading by the symbol fails so, whatever symbols follow; want of memory says nothing
+abbrev pub FailsAt : Sym → ℕ → List Element → Fault → Type 0
+FailsAt s r ts fault.Memory = Unit {0}
+FailsAt s r ts (fault.Wrong rest) = (k : List Sym) → Fails (s ∷ k) r ts (Wrong rest.tokens.now)
+FailsAt s r ts (fault.Deep rest) = (k : List Sym) → Fails (s ∷ k) r ts (Deep rest.tokens.now)
+
+-- a tree and the tokens after it
+abbrev pub Reads : {X : Type 0} → (X → Item) → Sym → ℕ → List Element → Result (X × Rest) Fault → Type 0
+Reads f s r ts (Ok p) = Passes s r ts (λ ds. f p.0 ∷ ds) r p.1.tokens.now
+Reads f s r ts (Err e) = FailsAt s r ts e
+
+-- the tokens after a word
+abbrev pub ReadsWord : Kind → List Element → Result Rest Fault → Type 0
+ReadsWord c ts (Ok p) = (r : ℕ) → Passes (T c) r ts (λ ds. ds) r p.tokens.now
+ReadsWord c ts (Err e) = (r : ℕ) → FailsAt (T c) r ts e
+
+-- a token of this kind, and the tokens after it
+abbrev pub ReadsToken : Kind → List Element → Result (Bor Element × Rest) Fault → Type 0
+ReadsToken c ts (Ok p) = (r : ℕ) → Passes (P c) r ts (λ ds. tok p.0.now ∷ ds) r p.1.tokens.now
+ReadsToken c ts (Err e) = (r : ℕ) → FailsAt (P c) r ts e

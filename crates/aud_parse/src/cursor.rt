@@ -1,0 +1,115 @@
+// Looking at the tokens one by one.
+
+ghost use Rattle.std.specs.Prelude.{◌≡◌, ◌∷◌, [], length, ◌<◌, ◌≤◌, IfOk, if◌then◌else◌};
+ghost use Rattle.aud_parse.specs.First.{next_in};
+ghost use Rattle.aud_parse.specs.declared.cursor.Fault.TheVariants as fault;
+ghost use Rattle.aud_parse.specs.Reads.{ReadsWord, ReadsToken};
+
+use aud_lex::token::{Kind, Token};
+use std::alloc::{AllocError, AllocFailed};
+
+/// The tokens that are still to be read.
+#[derive(Clone, Copy)]
+pub struct Rest<'a, 's> {
+    pub tokens: &'a [Token<'s>],
+}
+
+/// Why no tree is read.
+#[derive(Drop)]
+pub enum Fault<'a, 's> {
+    /// Memory ran out.
+    Memory,
+    /// No program goes on with the first of these tokens.
+    Wrong(Rest<'a, 's>),
+    /// The first of these tokens opens one level too many.
+    Deep(Rest<'a, 's>),
+}
+
+/// Whether the next token is of this kind.
+pub fn is(toks: Rest, kind: Kind) -> bool
+    ensures { result ≡ next_in (kind ∷ []) toks.entry.tokens.now }
+{
+    match toks.tokens.first() {
+        None => false,
+        Some(t) => t.kind().code() == kind.code(),
+    }
+}
+
+/// Whether the next token is of one of these kinds.
+pub fn is_one_of(toks: Rest, kinds: &[Kind]) -> bool
+    ensures { result ≡ next_in kinds.now toks.entry.tokens.now }
+{
+    for kind in kinds {
+        if is(toks, *kind) {
+            return true;
+        }
+    }
+    false
+}
+
+/// The first token, and the others.
+fn split<'a, 's>(toks: Rest<'a, 's>) -> (&'a Token<'s>, Rest<'a, 's>)
+    requires { 1 ≤ length toks.tokens.now }
+    ensures { toks.entry.tokens.now ≡ result.0.now ∷ result.1.tokens.now }
+{
+    let tokens = toks.tokens;
+    (
+        &tokens[0],
+        Rest {
+            tokens: &tokens[1..],
+        },
+    )
+}
+
+/// Passes a word or a delimiter.
+pub fn word<'a, 's>(toks: Rest<'a, 's>, kind: Kind) -> Result<Rest<'a, 's>, Fault<'a, 's>>
+    ensures reads { ReadsWord kind toks.entry.tokens.now result }
+    ensures shorter { IfOk result (λ rest. length rest.tokens.now < length toks.entry.tokens.now) }
+{
+    if !is(toks, kind) {
+        return Err(Fault::Wrong(toks));
+    }
+    let (_, rest) = split(toks);
+    Ok(rest)
+}
+
+/// Passes a token of which the tree keeps something.
+pub fn token<'a, 's>(
+    toks: Rest<'a, 's>,
+    kind: Kind,
+) -> Result<(&'a Token<'s>, Rest<'a, 's>), Fault<'a, 's>>
+    ensures reads { ReadsToken kind toks.entry.tokens.now result }
+    ensures shorter { IfOk result (λ p. length p.1.tokens.now < length toks.entry.tokens.now) }
+{
+    if !is(toks, kind) {
+        return Err(Fault::Wrong(toks));
+    }
+    Ok(split(toks))
+}
+
+/// The fault at a place where no level is left: `begins` says whether the token would open one.
+pub fn too_deep<'a, 's>(toks: Rest<'a, 's>, begins: bool) -> Fault<'a, 's>
+    ensures { result ≡ (if begins then fault.Deep toks.entry else fault.Wrong toks.entry) }
+{
+    if begins {
+        Fault::Deep(toks)
+    } else {
+        Fault::Wrong(toks)
+    }
+}
+
+impl From<AllocError> for Fault<'_, '_> {
+    ghost from_gives = { λ _ e. e ≡ fault.Memory };
+
+    fn from(_: AllocError) -> Self {
+        Fault::Memory
+    }
+}
+
+impl<T: Drop> From<AllocFailed<T>> for Fault<'_, '_> {
+    ghost from_gives = { λ _ e. e ≡ fault.Memory };
+
+    fn from(_: AllocFailed<T>) -> Self {
+        Fault::Memory
+    }
+}

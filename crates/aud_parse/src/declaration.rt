@@ -1,0 +1,149 @@
+// Declarations of variables (RM 3.3.1).
+
+ghost use Rattle.std.specs.Prelude.{ℕ, length, ◌<◌, ◌≤◌, IfOk};
+ghost use Rattle.aud_parse.specs.Grammar as g;
+ghost use Rattle.aud_parse.specs.Grammar.{N, Opt};
+ghost use Rattle.aud_parse.specs.Actions.{an_ident};
+ghost use Rattle.aud_parse.specs.Items.{list_item, opt_item, expr_item, decl_item};
+ghost use Rattle.aud_parse.specs.Reads.{Reads};
+
+use crate::cursor::{Fault, Rest, is, too_deep, word};
+use crate::expression::expr;
+use crate::leaf::ident;
+use aud_lex::token::Kind;
+use aud_syntax::tree::{Decl, Expr, Ident};
+use std::alloc::Global;
+
+/// A further name.
+fn more_id<'a, 's>(
+    alloc: Global,
+    toks: Rest<'a, 's>,
+) -> Result<(Ident, Rest<'a, 's>), Fault<'a, 's>>
+    ensures reads { (room : ℕ) → Reads an_ident (N g.MoreIds) room toks.entry.tokens.now result }
+    ensures shorter { IfOk result (λ p. length p.1.tokens.now < length toks.entry.tokens.now) }
+{
+    let rest = word(toks, Kind::Comma)?;
+    let (one, rest) = ident(alloc, rest)?;
+    Ok((one, rest))
+}
+
+/// Names (RM 3.3.1(4)).
+fn ids<'a, 's>(
+    alloc: Global,
+    toks: Rest<'a, 's>,
+) -> Result<(Vec<Ident>, Rest<'a, 's>), Fault<'a, 's>>
+    ensures reads { (room : ℕ) → Reads (λ v. list_item an_ident v.items) (N g.Ids) room toks.entry.tokens.now result }
+    ensures shorter { IfOk result (λ p. length p.1.tokens.now < length toks.entry.tokens.now) }
+{
+    let (first, start) = ident(alloc, toks)?;
+    let mut all = Vec::new(alloc);
+    all.push(first)?;
+    let mut rest = start;
+    'turns: while is(rest, Kind::Comma) {
+        let (one, after) = more_id(alloc, rest)?;
+        all.push(one)?;
+        rest = after;
+    }
+    Ok((all, rest))
+}
+
+/// The value with which variables begin.
+fn initial<'a, 's>(
+    alloc: Global,
+    toks: Rest<'a, 's>,
+    room: u32,
+) -> Result<(Expr, Rest<'a, 's>), Fault<'a, 's>>
+    ensures reads { Reads expr_item (N g.Initial) room toks.entry.tokens.now result }
+    ensures shorter { IfOk result (λ p. length p.1.tokens.now < length toks.entry.tokens.now) }
+{
+    let rest = word(toks, Kind::Becomes)?;
+    let (value, rest) = expr(alloc, rest, room)?;
+    Ok((value, rest))
+}
+
+/// The value with which variables begin, if there is one.
+fn opt_initial<'a, 's>(
+    alloc: Global,
+    toks: Rest<'a, 's>,
+    room: u32,
+) -> Result<(Option<Expr>, Rest<'a, 's>), Fault<'a, 's>>
+    ensures reads { Reads (opt_item expr_item) (Opt g.Initial) room toks.entry.tokens.now result }
+    ensures shorter { IfOk result (λ p. length p.1.tokens.now ≤ length toks.entry.tokens.now) }
+{
+    if is(toks, Kind::Becomes) {
+        let (value, rest) = initial(alloc, toks, room)?;
+        return Ok((Some(value), rest));
+    }
+    Ok((None, toks))
+}
+
+/// Variables of one subtype.
+fn decl<'a, 's>(
+    alloc: Global,
+    toks: Rest<'a, 's>,
+    room: u32,
+) -> Result<(Decl, Rest<'a, 's>), Fault<'a, 's>>
+    ensures reads { Reads decl_item (N g.Decl) room toks.entry.tokens.now result }
+    ensures shorter { IfOk result (λ p. length p.1.tokens.now < length toks.entry.tokens.now) }
+{
+    let (names, rest) = ids(alloc, toks)?;
+    let rest = word(rest, Kind::Colon)?;
+    let (subtype, rest) = ident(alloc, rest)?;
+    let (value, rest) = opt_initial(alloc, rest, room)?;
+    let rest = word(rest, Kind::Semicolon)?;
+    Ok((Decl::Object(names, subtype, value), rest))
+}
+
+/// Declarations, at least one.
+fn decl_list<'a, 's>(
+    alloc: Global,
+    toks: Rest<'a, 's>,
+    room: u32,
+) -> Result<(Vec<Decl>, Rest<'a, 's>), Fault<'a, 's>>
+    ensures reads { Reads (λ v. list_item decl_item v.items) (N g.DeclList) room toks.entry.tokens.now result }
+    ensures shorter { IfOk result (λ p. length p.1.tokens.now < length toks.entry.tokens.now) }
+{
+    let (first, start) = decl(alloc, toks, room)?;
+    let mut all = Vec::new(alloc);
+    all.push(first)?;
+    let mut rest = start;
+    'turns: while is(rest, Kind::Identifier) {
+        let (one, after) = decl(alloc, rest, room)?;
+        all.push(one)?;
+        rest = after;
+    }
+    Ok((all, rest))
+}
+
+/// Declarations, which lie one level deeper.
+fn decls<'a, 's>(
+    alloc: Global,
+    toks: Rest<'a, 's>,
+    room: u32,
+) -> Result<(Vec<Decl>, Rest<'a, 's>), Fault<'a, 's>>
+    ensures reads { Reads (λ v. list_item decl_item v.items) (N g.Decls) room toks.entry.tokens.now result }
+    ensures shorter { IfOk result (λ p. length p.1.tokens.now < length toks.entry.tokens.now) }
+{
+    if room == 0 {
+        return Err(too_deep(toks, is(toks, Kind::Identifier)));
+    }
+    let (all, rest) = decl_list(alloc, toks, room - 1)?;
+    Ok((all, rest))
+}
+
+/// Declarations, if there are any (RM 3.11).
+pub fn opt_decls<'a, 's>(
+    alloc: Global,
+    toks: Rest<'a, 's>,
+    room: u32,
+) -> Result<(Vec<Decl>, Rest<'a, 's>), Fault<'a, 's>>
+    ensures reads { Reads (λ v. list_item decl_item v.items) (Opt g.Decls) room toks.entry.tokens.now result }
+    ensures shorter { IfOk result (λ p. length p.1.tokens.now ≤ length toks.entry.tokens.now) }
+{
+    if is(toks, Kind::Identifier) {
+        let (all, rest) = decls(alloc, toks, room)?;
+        return Ok((all, rest));
+    }
+    let none = Vec::new(alloc);
+    Ok((none, toks))
+}

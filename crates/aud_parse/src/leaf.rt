@@ -1,0 +1,40 @@
+// Identifiers and string literals.
+
+ghost use Rattle.std.specs.Prelude.{ℕ, length, ◌<◌, IfOk};
+ghost use Rattle.aud_parse.specs.Grammar as g;
+ghost use Rattle.aud_parse.specs.Grammar.{N};
+ghost use Rattle.aud_parse.specs.Actions.{an_ident, a_literal};
+ghost use Rattle.aud_parse.specs.Reads.{Reads};
+
+use crate::cursor::{Fault, Rest, token};
+use crate::value::unquoted;
+use aud_lex::token::Kind;
+use aud_syntax::tree::{Ident, Literal};
+use aud_text::name::Name;
+use std::alloc::Global;
+
+/// An identifier (RM 2.3).
+pub fn ident<'a, 's>(
+    alloc: Global,
+    toks: Rest<'a, 's>,
+) -> Result<(Ident, Rest<'a, 's>), Fault<'a, 's>>
+    ensures reads { (room : ℕ) → Reads an_ident (N g.Id) room toks.entry.tokens.now result }
+    ensures shorter { IfOk result (λ p. length p.1.tokens.now < length toks.entry.tokens.now) }
+{
+    let (t, rest) = token(toks, Kind::Identifier)?;
+    let name = Name::from_source(alloc, t.text())?;
+    Ok((Ident { name, at: t.at() }, rest))
+}
+
+/// A string literal (RM 2.6).
+pub fn literal<'a, 's>(
+    alloc: Global,
+    toks: Rest<'a, 's>,
+) -> Result<(Literal, Rest<'a, 's>), Fault<'a, 's>>
+    ensures reads { (room : ℕ) → Reads a_literal (N g.Literal) room toks.entry.tokens.now result }
+    ensures shorter { IfOk result (λ p. length p.1.tokens.now < length toks.entry.tokens.now) }
+{
+    let (t, rest) = token(toks, Kind::Text)?;
+    let text = unquoted(alloc, t.text())?;
+    Ok((Literal { text, at: t.at() }, rest))
+}

@@ -1,0 +1,13 @@
+// The parser.
+#![tactic(auto)]
+
+mod cursor;
+mod declaration;
+mod expression;
+pub mod laws;
+mod leaf;
+mod parser;
+mod statement;
+mod value;
+
+pub use crate::parser::{SyntaxFault, parse};

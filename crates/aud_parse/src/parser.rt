@@ -1,0 +1,80 @@
+// Programs (RM 10.1.1).
+
+ghost use Rattle.std.specs.Prelude.{◌≡◌, ◌-◌, length, ◌<◌, IfOk};
+ghost use Rattle.aud_syntax.specs.View.{plain_unit};
+ghost use Rattle.aud_parse.specs.Grammar as g;
+ghost use Rattle.aud_parse.specs.Grammar.{N};
+ghost use Rattle.aud_parse.specs.Parsed.{parsed};
+ghost use Rattle.aud_parse.specs.Items.{unit_item};
+ghost use Rattle.aud_parse.specs.Reads.{Reads};
+ghost use Rattle.aud_parse.specs.Gives.{Gives};
+
+use crate::cursor::{Fault, Rest, word};
+use crate::declaration::opt_decls;
+use crate::leaf::ident;
+use crate::statement::body;
+use aud_lex::token::{Kind, Token};
+use aud_syntax::tree::Unit;
+use aud_text::limits::LEVELS;
+use std::alloc::Global;
+use thiserror::Error;
+
+/// Why tokens are no program.
+#[derive(Debug, Drop, Error)]
+pub enum SyntaxFault {
+    /// Memory ran out.
+    #[error("out of memory")]
+    Memory,
+    /// No program goes on with the token of this number, counted from 0, or ends there where it is
+    /// the number of tokens.
+    #[error("no program goes on with token {0}")]
+    Syntax(usize),
+    /// The token of this number opens a level of declarations, statements or parentheses too many.
+    #[error("token {0} opens one level too many")]
+    TooDeep(usize),
+}
+
+/// A main procedure (RM 6.3, 10.1.1).
+fn unit<'a, 's>(
+    alloc: Global,
+    toks: Rest<'a, 's>,
+    room: u32,
+) -> Result<(Unit, Rest<'a, 's>), Fault<'a, 's>>
+    ensures { Reads unit_item (N g.Unit) room toks.entry.tokens.now result }
+{
+    let rest = word(toks, Kind::Procedure)?;
+    let (name, rest) = ident(alloc, rest)?;
+    let rest = word(rest, Kind::Is)?;
+    let (decls, rest) = opt_decls(alloc, rest, room)?;
+    let (body, rest) = body(alloc, rest, room)?;
+    Ok((Unit { name, decls, body }, rest))
+}
+
+/// The program that the tokens spell (RM 10.1.1).
+///
+/// # Errors
+///
+/// [`SyntaxFault::Syntax`] and [`SyntaxFault::TooDeep`] name the first token that is at fault;
+/// [`SyntaxFault::Memory`] says that memory ran out.
+pub fn parse(alloc: Global, tokens: &[Token]) -> Result<Unit, SyntaxFault>
+    ensures { Gives plain_unit (parsed tokens.now) result }
+{
+    match unit(alloc, Rest { tokens }, LEVELS) {
+        Ok((tree, rest)) => {
+            if rest.tokens.is_empty() {
+                return Ok(tree);
+            }
+            Err(SyntaxFault::Syntax(place(tokens, rest)))
+        }
+        Err(Fault::Memory) => Err(SyntaxFault::Memory),
+        Err(Fault::Wrong(rest)) => Err(SyntaxFault::Syntax(place(tokens, rest))),
+        Err(Fault::Deep(rest)) => Err(SyntaxFault::TooDeep(place(tokens, rest))),
+    }
+}
+
+// How many tokens come before the rest.
+fn place(tokens: &[Token], rest: Rest) -> usize
+    ensures { result ≡ length tokens.now - length rest.entry.tokens.now }
+{
+    tokens.len().saturating_sub(rest.tokens.len())
+}

@@ -1,0 +1,26 @@
+-- What is written to a user who sends some bytes and nothing else.
+use Rattle.std.specs.Prelude.{◌≡◌, ℕ, List, codes}
+use Rattle.aud_text.specs.declared.limits.TheConstants.{STANDARD}
+use Rattle.aud_bench.specs.Alone.{alone}
+use Rattle.aud_server.specs.Requests.{requests}
+use Rattle.aud_server.specs.Text.{text}
+
+unfoldable pub answers_to : List ℕ → List ℕ
+answers_to bytes = text (alone STANDARD (requests bytes))
+
+abbrev pub NullProgram : Type 0
+NullProgram =
+    answers_to (codes "LOAD 1\nprocedure M is begin null; end M;\nRUN 10\n") ≡ codes "+ 1\nloaded M\n+ 1\nran 3 ended\n"
+
+abbrev pub NoProgram : Type 0
+NoProgram = answers_to (codes "LOAD 0\nRUN 1\n") ≡ codes "- E21 1:1 syntax\n- E14 no program\n"
+
+abbrev pub Sum : Type 0
+Sum =
+    answers_to (codes "LOAD 1\nprocedure M is X : Integer := 40; begin X := X + 2; Put_Line (\"x\" & X'Image); end M;\nRUN 100\nOUTPUT\n")
+    ≡ codes "+ 1\nloaded M\n+ 1\nran 5 ended\n+ 2\nbytes 5\nx 42\n"
+
+abbrev pub ZeroDivision : Type 0
+ZeroDivision =
+    answers_to (codes "LOAD 1\nprocedure M is begin Put_Line (Integer'Image (1 / 0)); end M;\nRUN 9\nOUTPUT\n")
+    ≡ codes "+ 1\nloaded M\n+ 2\nran 3 ended\nmain raised CONSTRAINT_ERROR\n+ 1\nbytes 0\n"

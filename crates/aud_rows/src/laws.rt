@@ -1,0 +1,23 @@
+// Sessions whose answers follow from the definitions by computing.
+
+ghost use Rattle.aud_rows.specs.Sessions.{NullProgram, NoProgram, Sum, ZeroDivision};
+
+/// A program of one null statement ends in three steps.
+pub fn null_program()
+    ensures { NullProgram }
+{}
+
+/// An empty source text is no program, and without a program nothing runs.
+pub fn no_program()
+    ensures { NoProgram }
+{}
+
+/// A variable is declared, assigned and put out.
+pub fn sum()
+    ensures { Sum }
+{}
+
+/// A division by zero ends the program.
+pub fn zero_division()
+    ensures { ZeroDivision }
+{}

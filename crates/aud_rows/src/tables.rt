@@ -1,0 +1,10 @@
+// Sessions with their answers, worked out by hand from the language and the protocol and never taken from a program.
+
+pub mod checks;
+pub mod lexis;
+pub mod limits;
+pub mod lines;
+pub mod rows;
+pub mod runs;
+pub mod syntax;
+pub mod values;

@@ -1,0 +1,18 @@
+use Rattle.std.proofs.Common.{◌+◌, ◌∷◌, take, ap, ◌∙◌, sym, add-one}
+use Rattle.std.proofs.Common.{drop}
+use Rattle.std.proofs.lemmas.List.{take_rest}
+use Rattle.aud_server.specs.Lines.{lines_of}
+use Rattle.aud_server.proofs.LineLaws.{lines_none, lines_first}
+use Rattle.aud_server.proofs.lines.first_line.Goals as goal
+
+pub returns-in_default-clause-line : goal.returns-in_default-clause-line
+returns-in_default-clause-line c = lines_none c.args.bytes.now c.in_default.ensures
+
+pub returns-clause-line : goal.returns-clause-line
+returns-clause-line c =
+    let end = c.in-Some.end in
+    let bytes = c.args.bytes.now in
+    let found = c.in-Some.ensures in
+    lines_first bytes end found.0.high found.0.before found.1
+    ∙ (ap (λ n. take end bytes ∷ lines_of (drop n bytes)) (sym (add-one end))
+    ∙ ap (λ rest. take end bytes ∷ lines_of rest) (sym (take_rest bytes (end + 1))))

@@ -1,0 +1,5 @@
+pub mod Asked
+pub mod Lines
+pub mod Program
+pub mod Requests
+pub mod Text

@@ -1,0 +1,65 @@
+-- The text of answers.
+use Rattle.std.specs.Prelude.{ℕ, ◌+◌, List, [], ◌∷◌, ◌++◌, length, Option, Some, None, Bool, true, false, ◌==◌, if◌then◌else◌, codes, count_by}
+use Rattle.std.specs.Fmt.{decimal}
+use Rattle.aud_text.specs.declared.raise.Raise.{Raise}
+use Rattle.aud_text.specs.declared.code.Code.{Code}
+use Rattle.aud_text.specs.Code.{number, words}
+use Rattle.aud_text.specs.Raise.{raise_name}
+use Rattle.aud_meaning.specs.declared.state.State.{State}
+use Rattle.aud_meaning.specs.declared.state.State.TheVariants as state
+use Rattle.aud_bench.specs.declared.request.Report.{Report}
+use Rattle.aud_bench.specs.declared.request.Answer.{Answer}
+use Rattle.aud_bench.specs.declared.request.Answer.TheVariants as answer
+
+abbrev pub line_end : List ℕ
+line_end = 10 ∷ []
+
+-- the head of an answer of so many lines
+abbrev pub head : ℕ → List ℕ
+head lines = codes "+ " ++ decimal lines ++ line_end
+
+abbrev pub state_words : State → List ℕ
+state_words state.Ended = codes "ended"
+state_words state.OutputFull = codes "output full"
+state_words state.More = codes "more"
+state_words state.Stuck = codes "stuck"
+
+abbrev pub ran_line : Report → List ℕ
+ran_line r = codes "ran " ++ decimal r.steps ++ codes " " ++ state_words r.state ++ line_end
+
+abbrev pub report_text : Report → Option Raise → List ℕ
+report_text r None = head 1 ++ ran_line r
+report_text r (Some raise) = head 2 ++ ran_line r ++ codes "main raised " ++ raise_name raise ++ line_end
+
+-- whether the text goes on behind its last line feed
+abbrev pub is_open : List ℕ → Bool
+is_open [] = false
+is_open (byte ∷ []) = if byte == 10 then false else true
+is_open (byte ∷ next ∷ bytes) = is_open (next ∷ bytes)
+
+-- the lines of an output: it is cut at line feeds, with no empty last line
+abbrev pub output_lines : List ℕ → ℕ
+output_lines bytes = count_by (λ byte. byte == 10) bytes + (if is_open bytes then 1 else 0)
+
+abbrev pub output_text : List ℕ → List ℕ
+output_text bytes =
+    head (output_lines bytes + 1) ++ codes "bytes " ++ decimal (length bytes) ++ line_end ++ bytes ++ (if is_open bytes then line_end else [])
+
+abbrev pub refusal : Code → List ℕ
+refusal why = codes "- E" ++ decimal (number why) ++ codes " "
+
+abbrev pub answer_text : Answer → List ℕ
+answer_text (answer.Loaded name) = head 1 ++ codes "loaded " ++ name ++ line_end
+answer_text (answer.Ran r) = report_text r r.raised
+answer_text (answer.Output bytes) = output_text bytes
+answer_text answer.Done = head 0
+answer_text (answer.Refused why) = refusal why ++ words why ++ line_end
+answer_text (answer.RefusedAt why at) = refusal why ++ decimal at.line ++ codes ":" ++ decimal at.col ++ codes " " ++ words why ++ line_end
+
+-- the texts of the answers in order
+abbrev pub text_from : List Answer → List ℕ
+text_from [] = []
+text_from (a ∷ answers) = answer_text a ++ text_from answers
+
+unfoldable pub text : List Answer → List ℕ
+text answers = text_from answers

@@ -1,0 +1,171 @@
+// The text of answers.
+
+ghost use Rattle.std.specs.Prelude.{◌≡◌, ◌++◌, IfOk, OnOk, Some, None, codes};
+ghost use Rattle.std.specs.Fmt.{decimal};
+ghost use Rattle.aud_text.specs.Code.{words};
+ghost use Rattle.aud_server.specs.Text.{line_end, head, state_words, ran_line, report_text, is_open, output_lines, output_text, refusal, answer_text};
+
+use aud_bench::request::{Answer, Report};
+use aud_meaning::state::State;
+use aud_text::code::Code;
+use aud_text::digits::push_decimal;
+use aud_text::place::Pos;
+use aud_text::raise::Raise;
+use std::alloc::{AllocError, Global};
+
+/// The text of an answer: `+` and the number of its lines, and the lines; or `-`, the code of the
+/// refusal and why.
+pub fn answer_text(alloc: Global, answer: &Answer) -> Result<Vec<u8>, AllocError>
+    ensures { IfOk result (λ text. text.items ≡ answer_text answer.now) }
+{
+    let mut out = Vec::new(alloc);
+    push_answer(&mut out, answer)?;
+    Ok(out)
+}
+
+fn push_answer(out: &mut Vec<u8>, answer: &Answer) -> Result<(), AllocError>
+    ensures { OnOk result (out.new.items ≡ out.old.items ++ answer_text answer.now) }
+{
+    match answer {
+        Answer::Loaded(name) => push_loaded(out, name.as_bytes()),
+        Answer::Ran(report) => push_report(out, *report),
+        Answer::Output(bytes) => push_output(out, bytes.as_bytes()),
+        Answer::Done => push_head(out, 0),
+        Answer::Refused(why) => push_refusal(out, *why),
+        Answer::RefusedAt(why, at) => push_refusal_at(out, *why, *at),
+    }
+}
+
+fn push_loaded(out: &mut Vec<u8>, name: &[u8]) -> Result<(), AllocError>
+    ensures { OnOk result (out.new.items ≡ out.old.items ++ (head 1 ++ codes "loaded " ++ name.now ++ line_end)) }
+{
+    push_head(out, 1)?;
+    out.extend_from_slice(b"loaded ")?;
+    out.extend_from_slice(name)?;
+    push_line_end(out)
+}
+
+// What the answers that are not refusals begin with.
+fn push_head(out: &mut Vec<u8>, lines: u64) -> Result<(), AllocError>
+    ensures { OnOk result (out.new.items ≡ out.old.items ++ head lines) }
+{
+    out.extend_from_slice(b"+ ")?;
+    push_decimal(out, lines)?;
+    push_line_end(out)
+}
+
+fn push_line_end(out: &mut Vec<u8>) -> Result<(), AllocError>
+    ensures { OnOk result (out.new.items ≡ out.old.items ++ line_end) }
+{
+    out.push(b'\n')?;
+    Ok(())
+}
+
+fn push_report(out: &mut Vec<u8>, report: Report) -> Result<(), AllocError>
+    ensures { OnOk result (out.new.items ≡ out.old.items ++ report_text report report.raised) }
+{
+    match report.raised {
+        None => push_ran(out, report),
+        Some(raise) => push_raised(out, report, raise),
+    }
+}
+
+fn push_ran(out: &mut Vec<u8>, report: Report) -> Result<(), AllocError>
+    ensures { OnOk result (out.new.items ≡ out.old.items ++ report_text report None) }
+{
+    push_head(out, 1)?;
+    push_ran_line(out, report)
+}
+
+fn push_raised(out: &mut Vec<u8>, report: Report, raise: Raise) -> Result<(), AllocError>
+    ensures { OnOk result (out.new.items ≡ out.old.items ++ report_text report (Some raise)) }
+{
+    push_head(out, 2)?;
+    push_ran_line(out, report)?;
+    out.extend_from_slice(b"main raised ")?;
+    out.extend_from_slice(raise.name())?;
+    push_line_end(out)
+}
+
+fn push_ran_line(out: &mut Vec<u8>, report: Report) -> Result<(), AllocError>
+    ensures { OnOk result (out.new.items ≡ out.old.items ++ ran_line report) }
+{
+    out.extend_from_slice(b"ran ")?;
+    push_decimal(out, u64::from(report.steps))?;
+    out.extend_from_slice(b" ")?;
+    out.extend_from_slice(state_words(report.state))?;
+    push_line_end(out)
+}
+
+fn state_words(state: State) -> &'static [u8]
+    ensures { result.now ≡ state_words state }
+{
+    match state {
+        State::Ended => b"ended",
+        State::OutputFull => b"output full",
+        State::More => b"more",
+        State::Stuck => b"stuck",
+    }
+}
+
+fn push_output(out: &mut Vec<u8>, bytes: &[u8]) -> Result<(), AllocError>
+    ensures { OnOk result (out.new.items ≡ out.old.items ++ output_text bytes.now) }
+{
+    push_head(out, output_lines(bytes) + 1)?;
+    out.extend_from_slice(b"bytes ")?;
+    push_decimal(out, bytes.len() as u64)?;
+    push_line_end(out)?;
+    out.extend_from_slice(bytes)?;
+    if is_open(bytes) {
+        push_line_end(out)?;
+    }
+    Ok(())
+}
+
+// The lines of an output, of which the last one may lack its line feed.
+fn output_lines(bytes: &[u8]) -> u64
+    ensures { result ≡ output_lines bytes.now }
+{
+    let ended = bytes.iter().filter(|byte| **byte == b'\n').count() as u64;
+    if is_open(bytes) { ended + 1 } else { ended }
+}
+
+// Whether the text goes on behind its last line feed.
+#[tactic(auto, using(crate::proofs::OutputLaws::open_last))]
+fn is_open(bytes: &[u8]) -> bool
+    ensures { result ≡ is_open bytes.now }
+{
+    match bytes.split_last() {
+        Some((last, _)) => *last != b'\n',
+        None => false,
+    }
+}
+
+fn push_refusal(out: &mut Vec<u8>, why: Code) -> Result<(), AllocError>
+    ensures { OnOk result (out.new.items ≡ out.old.items ++ (refusal why ++ words why ++ line_end)) }
+{
+    push_code(out, why)?;
+    out.extend_from_slice(why.words())?;
+    push_line_end(out)
+}
+
+fn push_refusal_at(out: &mut Vec<u8>, why: Code, at: Pos) -> Result<(), AllocError>
+    ensures { OnOk result (out.new.items ≡ out.old.items ++ (refusal why ++ decimal at.line ++ codes ":" ++ decimal at.col ++ codes " " ++ words why ++ line_end)) }
+{
+    push_code(out, why)?;
+    push_decimal(out, at.line as u64)?;
+    out.extend_from_slice(b":")?;
+    push_decimal(out, at.col as u64)?;
+    out.extend_from_slice(b" ")?;
+    out.extend_from_slice(why.words())?;
+    push_line_end(out)
+}
+
+// What refusals begin with.
+fn push_code(out: &mut Vec<u8>, why: Code) -> Result<(), AllocError>
+    ensures { OnOk result (out.new.items ≡ out.old.items ++ refusal why) }
+{
+    out.extend_from_slice(b"- E")?;
+    push_decimal(out, u64::from(why.number()))?;
+    out.extend_from_slice(b" ")
+}

@@ -1,0 +1,116 @@
+// The program: its arguments, and how it ends.
+
+ghost use Rattle.std.specs.Prelude.{◌≡◌, ◌≢◌, ◌⊎◌, length, IsErrOf};
+ghost use Rattle.aud_server.specs.declared.program.ProgramFault.TheVariants as fault;
+ghost use Rattle.aud_server.specs.Program.{status, of_solo};
+
+use crate::solo::{SoloFault, solo};
+use clap::error::ErrorKind;
+use clap::{Arg, ArgAction, Command, Error as ClapError};
+use std::alloc::{AllocError, Global};
+use std::io;
+use thiserror::Error;
+
+/// Why the program ends with another status than 0.
+#[derive(Clone, Copy, PartialEq, Eq, Debug, Error)]
+pub enum ProgramFault {
+    /// The arguments are not those of the program.
+    #[error("bad arguments")]
+    Arguments,
+    /// The standard input cannot be read.
+    #[error("read failed")]
+    Read,
+    /// The standard output cannot be written.
+    #[error("write failed")]
+    Write,
+    /// Memory was refused.
+    #[error("out of memory")]
+    Memory,
+}
+
+impl From<AllocError> for ProgramFault {
+    ghost from_gives = { λ _ e. e ≡ fault.Memory };
+
+    fn from(_error: AllocError) -> ProgramFault {
+        ProgramFault::Memory
+    }
+}
+
+impl From<SoloFault> for ProgramFault {
+    ghost from_gives = { λ fault e. e ≡ of_solo fault };
+
+    fn from(fault: SoloFault) -> ProgramFault {
+        match fault {
+            SoloFault::Read => ProgramFault::Read,
+            SoloFault::Write => ProgramFault::Write,
+            SoloFault::Memory => ProgramFault::Memory,
+        }
+    }
+}
+
+impl From<ClapError> for ProgramFault {
+    fn from(error: ClapError) -> ProgramFault {
+        match error.kind() {
+            ErrorKind::OutOfMemory => ProgramFault::Memory,
+            _ => ProgramFault::Arguments,
+        }
+    }
+}
+
+impl ProgramFault {
+    /// The status with which the program ends.
+    pub fn status(self) -> u8
+        ensures { result ≡ status self }
+    {
+        match self {
+            ProgramFault::Read | ProgramFault::Write => 1,
+            ProgramFault::Arguments => 2,
+            ProgramFault::Memory => 4,
+        }
+    }
+}
+
+/// Runs the program on the words of its command line, the first of which is its own name, and gives
+/// its status. `--solo` alone serves the standard input; any other list of words is refused.
+pub fn program<R: Input + Print + Eprint + AllocGlobal>(rt: &R, words: &[String]) -> u8
+    ensures other { length words.now ≢ 2 → result ≡ 2 }
+    ensures known { (result ≡ 0) ⊎ (result ≡ 1) ⊎ (result ≡ 2) ⊎ (result ≡ 4) }
+{
+    match run(rt, words) {
+        Ok(()) => 0,
+        Err(fault) => refuse(rt, fault),
+    }
+}
+
+/// Says on the standard error why the program ends, and gives its status.
+pub fn refuse(rt: &impl Eprint, fault: ProgramFault) -> u8
+    ensures { result ≡ status fault }
+{
+    // Nothing is left to be done where the message cannot be written.
+    let _ = eprintln!(rt; "aud: {fault}");
+    fault.status()
+}
+
+fn run<R: Input + Print + AllocGlobal>(rt: &R, words: &[String]) -> Result<(), ProgramFault>
+    ensures { length words.now ≢ 2 → IsErrOf result fault.Arguments }
+{
+    // The name of the program, and one argument.
+    if words.len() != 2 || !is_solo(rt.alloc(), words)? {
+        return Err(ProgramFault::Arguments);
+    }
+    solo(rt.alloc(), &mut rt.reader(), &mut io::writer(rt))?;
+    Ok(())
+}
+
+// Whether `--solo` is among the arguments, and no other.
+fn is_solo(alloc: Global, words: &[String]) -> Result<bool, ProgramFault> {
+    let solo = Arg::new(alloc, "solo")
+        .long("solo")
+        .action(ArgAction::SetTrue);
+    let command = Command::new(alloc, "aud")
+        .disable_help_flag(true)
+        .disable_version_flag(true)
+        .arg(solo)?;
+    let matches = command.try_get_matches_from(words)?;
+    Ok(matches.get_flag("solo"))
+}

@@ -1,0 +1,116 @@
+// The server on one stream of requests.
+
+ghost use Rattle.std.specs.Prelude.{◌≡◌, List, OnOk};
+ghost use Rattle.std.specs.Io.KnownBytes.{Appends};
+ghost use Rattle.aud_bench.specs.declared.request.Answer.{Answer};
+ghost use Rattle.aud_text.specs.declared.code.Code.TheVariants as code;
+ghost use Rattle.aud_bench.specs.declared.request.Answer.TheVariants as answer;
+ghost use Rattle.aud_server.specs.declared.solo.SoloFault.TheVariants as fault;
+ghost use Rattle.aud_server.specs.Text.{answer_text, text};
+
+use crate::answers::answer_text;
+use crate::requests::read_requests;
+use aud_bench::request::Answer;
+use aud_bench::session::answer_all;
+use aud_text::limits::STANDARD;
+use std::alloc::{AllocError, Global};
+use std::io::{ErrorKind, Read, Write};
+use thiserror::Error;
+
+/// Why the server ends before the end of its session.
+#[derive(Clone, Copy, PartialEq, Eq, Debug, Error)]
+pub enum SoloFault {
+    /// A read failed.
+    #[error("read failed")]
+    Read,
+    /// A write failed.
+    #[error("write failed")]
+    Write,
+    /// Memory was refused.
+    #[error("out of memory")]
+    Memory,
+}
+
+impl From<AllocError> for SoloFault {
+    ghost from_gives = { λ _ e. e ≡ fault.Memory };
+
+    fn from(_error: AllocError) -> SoloFault {
+        SoloFault::Memory
+    }
+}
+
+/// Reads to the end of input, and then writes the answers to all requests, up to and with the first
+/// QUIT. The writer is not flushed.
+///
+/// Where a read fails, the requests that had come are answered, and then `Read` is the result. `Write`
+/// comes where a write fails. Where memory is refused, the answers so far are written and after them
+/// that memory is out, and then `Memory` is the result.
+pub fn solo<R: Read, W: Write>(
+    alloc: Global,
+    reader: &mut R,
+    writer: &mut W,
+) -> Result<(), SoloFault>
+    ensures { OnOk result ((answers : List Answer) × Appends (W.contents writer.old) (W.contents writer.new) (text answers)) }
+{
+    let answered = answer_reader(alloc, reader, writer);
+    if matches!(answered, Err(SoloFault::Memory)) {
+        write(writer, out_of_memory())?;
+    }
+    answered
+}
+
+fn answer_reader<R: Read, W: Write>(
+    alloc: Global,
+    reader: &mut R,
+    writer: &mut W,
+) -> Result<(), SoloFault>
+    ensures { OnOk result ((answers : List Answer) × Appends (W.contents writer.old) (W.contents writer.new) (text answers)) }
+{
+    let mut input = Vec::new(alloc);
+    match reader.read_to_end(&mut input) {
+        Ok(_) => answer_bytes(alloc, &input, writer),
+        Err(error) if error.kind() == ErrorKind::OutOfMemory => Err(SoloFault::Memory),
+        Err(_) => {
+            answer_bytes(alloc, &input, writer)?;
+            Err(SoloFault::Read)
+        }
+    }
+}
+
+fn answer_bytes<W: Write>(alloc: Global, bytes: &[u8], writer: &mut W) -> Result<(), SoloFault>
+    ensures { OnOk result ((answers : List Answer) × Appends (W.contents writer.old) (W.contents writer.new) (text answers)) }
+{
+    let requests = read_requests(alloc, bytes)?;
+    let mut answers = Vec::new(alloc);
+    let answered = answer_all(alloc, STANDARD, requests, &mut answers);
+    write_answers(alloc, &answers, writer)?;
+    answered?;
+    Ok(())
+}
+
+fn write_answers<W: Write>(
+    alloc: Global,
+    answers: &[Answer],
+    writer: &mut W,
+) -> Result<(), SoloFault>
+    ensures { OnOk result (Appends (W.contents writer.old) (W.contents writer.new) (text answers.now)) }
+{
+    for answer in answers {
+        let said = answer_text(alloc, answer)?;
+        write(writer, &said)?;
+    }
+    Ok(())
+}
+
+fn write<W: Write>(writer: &mut W, bytes: &[u8]) -> Result<(), SoloFault>
+    ensures { OnOk result (Appends (W.contents writer.old) (W.contents writer.new) bytes.now) }
+{
+    writer.write_all(bytes).map_err(|_| SoloFault::Write)
+}
+
+// The text of the answer that memory is out, for which no memory is needed.
+fn out_of_memory() -> &'static [u8]
+    ensures { result.now ≡ answer_text (answer.Refused code.OutOfMemory) }
+{
+    b"- E90 out of memory\n"
+}

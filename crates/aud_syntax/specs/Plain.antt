@@ -1,0 +1,73 @@
+-- Syntax trees as plain data, with nothing of where they lie in memory (RM 3 to 6).
+use Rattle.std.specs.Prelude.{List, Option}
+use Rattle.aud_text.specs.declared.place.Pos.{Pos}
+use Rattle.aud_syntax.specs.declared.tree.Ident.{Ident}
+use Rattle.aud_syntax.specs.declared.tree.Number.{Number}
+use Rattle.aud_syntax.specs.declared.tree.Literal.{Literal}
+use Rattle.aud_syntax.specs.declared.tree.Signed.{Signed}
+use Rattle.aud_syntax.specs.declared.tree.Adding.{Adding}
+use Rattle.aud_syntax.specs.declared.tree.Multiplying.{Multiplying}
+use Rattle.aud_syntax.specs.declared.tree.Operator.{Operator}
+
+-- expressions (RM 4.4)
+mutual
+  pub data Simple : Type 0 where
+    simple : Option Signed → Term → Addeds → Simple
+
+  pub data Addeds : Type 0 where
+    no_addeds : Addeds
+    more_addeds : Added → Addeds → Addeds
+
+  pub data Added : Type 0 where
+    added : Adding → Term → Added
+
+  pub data Term : Type 0 where
+    term : Factor → Multiplieds → Term
+
+  pub data Multiplieds : Type 0 where
+    no_multiplieds : Multiplieds
+    more_multiplieds : Multiplied → Multiplieds → Multiplieds
+
+  pub data Multiplied : Type 0 where
+    multiplied : Multiplying → Factor → Multiplied
+
+  pub data Factor : Type 0 where
+    factor : Option Operator → Primary → Factor
+
+  pub data Primary : Type 0 where
+    integer : Number → Primary
+    text : Literal → Primary
+    name : Ident → Primary
+    attribute : Ident → Ident → MaybeSimple → Primary
+    group : Pos → Simple → Primary
+
+  pub data MaybeSimple : Type 0 where
+    no_simple : MaybeSimple
+    a_simple : Simple → MaybeSimple
+
+mutual
+  -- RM 3.1, 3.3.1
+  pub data Decl : Type 0 where
+    object : List Ident → Ident → MaybeSimple → Decl
+
+  pub data Decls : Type 0 where
+    no_decls : Decls
+    more_decls : Decl → Decls → Decls
+
+  -- RM 5.1
+  pub data Stmt : Type 0 where
+    null : Pos → Stmt
+    assign : Ident → Simple → Stmt
+    call : Ident → Simple → Stmt
+
+  pub data Stmts : Type 0 where
+    no_stmts : Stmts
+    more_stmts : Stmt → Stmts → Stmts
+
+  -- where the statements begin, the statements, where they end, and the name after `end` (RM 11.2)
+  pub data Body : Type 0 where
+    body : Pos → Stmts → Pos → Option Ident → Body
+
+-- RM 10.1.1
+pub data Unit : Type 0 where
+  unit : Ident → Decls → Body → Unit

@@ -1,0 +1,163 @@
+// Syntax trees. A list that is never empty is its first element and the others.
+
+use aud_text::int32::Int32;
+use aud_text::name::Name;
+use aud_text::place::Pos;
+use aud_text::text::Text;
+
+/// An occurrence of a name (RM 2.3, 4.1).
+#[derive(Drop, Debug)]
+pub struct Ident {
+    pub name: Name,
+    pub at: Pos,
+}
+
+/// A whole number (RM 2.4): its value, none where it is larger than any Integer, and where it stands.
+#[derive(Clone, Copy, PartialEq, Eq, Debug)]
+pub struct Number {
+    pub value: Option<Int32>,
+    pub at: Pos,
+}
+
+/// A string literal (RM 2.6): its characters, and where it stands.
+#[derive(Drop, Debug)]
+pub struct Literal {
+    pub text: Text,
+    pub at: Pos,
+}
+
+/// A unary adding operator (RM 4.5.4).
+#[derive(Clone, Copy, PartialEq, Eq, Debug)]
+pub enum Sign {
+    Plus,
+    Minus,
+}
+
+/// A sign before the first term, and where it stands.
+#[derive(Clone, Copy, PartialEq, Eq, Debug)]
+pub struct Signed {
+    pub sign: Sign,
+    pub at: Pos,
+}
+
+/// A binary adding operator (RM 4.5.3).
+#[derive(Clone, Copy, PartialEq, Eq, Debug)]
+pub enum Adding {
+    Plus,
+    Minus,
+    Join,
+}
+
+/// A multiplying operator (RM 4.5.5).
+#[derive(Clone, Copy, PartialEq, Eq, Debug)]
+pub enum Multiplying {
+    Times,
+    Divide,
+    Modulo,
+    Remainder,
+}
+
+/// A highest precedence operator (RM 4.5.6).
+#[derive(Clone, Copy, PartialEq, Eq, Debug)]
+pub enum Highest {
+    Magnitude,
+    Not,
+}
+
+/// An operator before a primary, and where it stands.
+#[derive(Clone, Copy, PartialEq, Eq, Debug)]
+pub struct Operator {
+    pub highest: Highest,
+    pub at: Pos,
+}
+
+/// An expression (RM 4.4).
+pub type Expr = Simple;
+
+/// Terms that are added (RM 4.4(4)).
+#[derive(Drop, Debug)]
+#[cycle(expr)]
+pub struct Simple {
+    pub sign: Option<Signed>,
+    pub first: Term,
+    pub rest: Vec<Added>,
+}
+
+/// A further term.
+#[derive(Drop, Debug)]
+#[cycle(expr)]
+pub struct Added {
+    pub op: Adding,
+    pub term: Term,
+}
+
+/// Factors that are multiplied (RM 4.4(5)).
+#[derive(Drop, Debug)]
+#[cycle(expr)]
+pub struct Term {
+    pub first: Factor,
+    pub rest: Vec<Multiplied>,
+}
+
+/// A further factor.
+#[derive(Drop, Debug)]
+#[cycle(expr)]
+pub struct Multiplied {
+    pub op: Multiplying,
+    pub factor: Factor,
+}
+
+/// A primary with the operator before it (RM 4.4(6)).
+#[derive(Drop, Debug)]
+#[cycle(expr)]
+pub struct Factor {
+    pub op: Option<Operator>,
+    pub primary: Primary,
+}
+
+/// A primary (RM 4.4(7)).
+#[derive(Drop, Debug)]
+#[cycle(expr)]
+pub enum Primary {
+    Integer(Number),
+    Text(Literal),
+    Name(Ident),
+    /// The prefix, the attribute's name and its argument (RM 4.1.4).
+    Attribute(Ident, Ident, Option<Box<Expr>>),
+    /// An expression in parentheses, and where they open.
+    Group(Pos, Box<Expr>),
+}
+
+/// A declaration (RM 3.1).
+#[derive(Drop, Debug)]
+pub enum Decl {
+    /// Variables, their subtype and their initial value (RM 3.3.1).
+    Object(Vec<Ident>, Ident, Option<Expr>),
+}
+
+/// A statement (RM 5.1).
+#[derive(Drop, Debug)]
+pub enum Stmt {
+    /// A null statement, and where it stands.
+    Null(Pos),
+    Assign(Ident, Expr),
+    /// A call with one argument.
+    Call(Ident, Expr),
+}
+
+/// A body's statements (RM 11.2(2)), where they begin and end, and the name after `end`.
+#[derive(Drop, Debug)]
+pub struct Body {
+    pub begin: Pos,
+    pub stmts: Vec<Stmt>,
+    pub end: Pos,
+    pub name: Option<Ident>,
+}
+
+/// A program: its main procedure (RM 10.1.1).
+#[derive(Drop, Debug)]
+pub struct Unit {
+    pub name: Ident,
+    pub decls: Vec<Decl>,
+    pub body: Body,
+}

@@ -1,0 +1,128 @@
+#!/usr/bin/env python3
+"""Writes crates/aud_parse/proofs/Tables.antt from crates/aud_parse/specs/Grammar.antt.
+
+For each part of the grammar: `rank`, how many rules may be entered before a token of it is
+passed, and `follow`, the numbers of the kinds of tokens that may come behind it (999 is the end
+of the tokens). The prover checks both tables; this script only finds them, and it stops where the
+next token does not decide between two ways.
+"""
+import re
+import sys
+from pathlib import Path
+
+CRATES = Path(__file__).resolve().parent.parent / "crates"
+END = 999
+# the parts that may come last in a list of tokens
+LAST = ["Unit", "Expr"]
+
+SYMBOL = r"A \([^()]*\)|T kind\.\w+|P kind\.\w+|N \w+|L \w+|Down|Opt \w+|Rep \w+"
+
+
+def read_codes():
+    text = (CRATES / "aud_lex/specs/Kinds.antt").read_text()
+    return {name: int(n) for name, n in re.findall(r"^code kind\.(\w+) = (\d+)", text, re.M)}
+
+
+def read_rules():
+    text = (CRATES / "aud_parse/specs/Grammar.antt").read_text()
+    rules = {}
+    for name, body in re.findall(r"^rule (\w+) = (.*) ∷ \[\]$", text, re.M):
+        symbols = []
+        for symbol in re.findall(SYMBOL, body):
+            if symbol.startswith("A "):
+                symbols.append(("A", re.findall(r"\w+", symbol[2:])))
+            elif symbol == "Down":
+                symbols.append(("Down", None))
+            else:
+                shape, name_of = symbol.split(" ", 1)
+                symbols.append((shape, name_of.replace("kind.", "")))
+        rules[name] = symbols
+    return rules
+
+
+def close(table, step):
+    """Repeats `step`, which may add to the sets of `table`, until nothing is added."""
+    size = -1
+    while size != sum(map(len, table.values())):
+        size = sum(map(len, table.values()))
+        step()
+
+
+def main():
+    codes, rules = read_codes(), read_rules()
+    first = {part: set() for part in rules}
+    follow = {part: ({END} if part in LAST else set()) for part in rules}
+
+    def first_of(symbols, behind):
+        for place, (shape, name) in enumerate(symbols):
+            if shape in "TP":
+                return {codes[name]}
+            if shape in ("N", "L"):
+                return set(first[name])
+            if shape == "A":
+                return set().union(*(first[part] for part in name))
+            if shape in ("Opt", "Rep"):
+                return first[name] | first_of(symbols[place + 1 :], behind)
+        return set(behind)
+
+    def grow_first():
+        for part, symbols in rules.items():
+            first[part] |= first_of(symbols, set())
+
+    def grow_follow():
+        for part, symbols in rules.items():
+            for place, (shape, name) in enumerate(symbols):
+                behind = first_of(symbols[place + 1 :], follow[part])
+                if shape in ("N", "L", "Opt"):
+                    follow[name] |= behind
+                elif shape == "Rep":
+                    follow[name] |= behind | first[name]
+                elif shape == "A":
+                    for one in name:
+                        follow[one] |= behind
+
+    close(first, grow_first)
+    close(follow, grow_follow)
+    for part, symbols in rules.items():
+        for place, (shape, name) in enumerate(symbols):
+            behind = first_of(symbols[place + 1 :], follow[part])
+            if shape in ("Opt", "Rep") and first[name] & behind:
+                sys.exit(f"{part}: the next token does not decide whether {name} is there")
+            if shape == "A" and len(set().union(*(first[p] for p in name))) != sum(len(first[p]) for p in name):
+                sys.exit(f"{part}: the next token does not decide between {name}")
+
+    ranks = {}
+
+    def rank(part):
+        if part not in ranks:
+            most = 0
+            for shape, name in rules[part]:
+                if shape in "TP":
+                    break
+                if shape == "Down":
+                    continue
+                parts = name if shape == "A" else [name]
+                most = max([most] + [rank(p) + (shape != "N") for p in parts])
+                if shape in ("N", "L", "A"):
+                    break
+            ranks[part] = most + 1
+        return ranks[part]
+
+    lines = [
+        "-- What the laws need to know of each part. Written by tools/grammar_tables.py, and checked in Reading and Ends.",
+        "use Rattle.std.specs.Prelude.{ℕ, List, [], ◌∷◌}",
+        "use Rattle.aud_parse.specs.Grammar.{Part, " + ", ".join(rules) + "}",
+        "",
+        "-- how many rules may be entered before a token of the part is passed, its own among them",
+        "abbrev pub rank : Part → ℕ",
+        *(f"rank {part} = {rank(part)}" for part in rules),
+        "",
+        "-- the kinds that may come behind the part, as numbers; 999 is the end of the tokens",
+        "abbrev pub follow : Part → List ℕ",
+        *(f"follow {part} = " + "".join(f"{n} ∷ " for n in sorted(follow[part])) + "[]" for part in rules),
+    ]
+    (CRATES / "aud_parse/proofs/Tables.antt").write_text("\n".join(lines) + "\n")
+    print(f"{len(rules)} parts, highest rank {max(ranks.values())}")
+
+
+main()
