@@ -1,0 +1,6 @@
+pub mod Runs
+pub mod Serving
+pub mod Standing
+pub mod Sessions
+pub mod Journals
+pub mod Benches

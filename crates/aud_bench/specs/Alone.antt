@@ -87,9 +87,12 @@ is_quit (request.Run n) = false
 is_quit request.Output = false
 is_quit (request.Bad why) = false
 
--- whether a request fits after those kept
-abbrev pub fits : Server → Request → Bool
-fits s r = is_quit r || (nat_lt s.requests REQUESTS && nat_le (s.bytes + size r) REQUEST_BYTES)
+abbrev pub has_room : (requests bytes more : ℕ) → Bool
+has_room requests bytes more = nat_lt requests REQUESTS && nat_le (bytes + more) REQUEST_BYTES
+
+-- whether a request fits after so many of so many bytes
+abbrev pub fits : (requests bytes : ℕ) → Request → Bool
+fits requests bytes r = is_quit r || has_room requests bytes (size r)
 
 abbrev pub fresh : Server
 fresh = record { requests = 0; bytes = 0; loaded = None }
@@ -106,7 +109,7 @@ answers_after false reply others = reply.answer ∷ others reply.loaded
 abbrev pub answers_from : Limits → Server → List Request → List Answer
 answers_from limits s [] = []
 answers_from limits s (r ∷ rs) =
-    if fits s r then answers_after (is_quit r) (replied limits s.loaded r) (λ loaded. answers_from limits (kept s r loaded) rs)
+    if fits s.requests s.bytes r then answers_after (is_quit r) (replied limits s.loaded r) (λ loaded. answers_from limits (kept s r loaded) rs)
     else answer.Refused code.JournalFull ∷ answers_from limits s rs
 
 unfoldable pub alone : Limits → List Request → List Answer

@@ -4,3 +4,4 @@ pub mod Alone
 pub mod Loads
 pub mod Seen
 pub mod Serving
+pub mod Standing

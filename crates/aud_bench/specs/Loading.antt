@@ -28,7 +28,7 @@ after_checking (Ok program) = Ok program
 after_checking (Err fault) = Err (RefusedAt fault.code fault.at)
 
 abbrev pub after_parsing : List ℕ → List Element → Result plain.Unit syntax.Fault → Result tree.Program Answer
-after_parsing source tokens (Ok unit) = after_checking (checked unit)
+after_parsing source tokens (Ok read) = after_checking (checked read)
 after_parsing source tokens (Err (syntax.wrong_at i)) = Err (RefusedAt code.Syntax (place_of source tokens i))
 after_parsing source tokens (Err (syntax.deep_at i)) = Err (RefusedAt code.TooDeep (place_of source tokens i))
 

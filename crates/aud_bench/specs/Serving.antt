@@ -1,9 +1,14 @@
--- A machine as what is loaded.
-use Rattle.std.specs.Prelude.{◌≡◌, Option, Some, None}
+-- Work on one request, in one piece or in several.
+use Rattle.std.specs.Prelude.{◌≡◌, ℕ, ◌+◌, ◌<◌, min, ◌⊎◌, Option, Some, None}
+use Rattle.aud_text.specs.declared.limits.Limits.{Limits}
+use Rattle.aud_meaning.specs.Run.{run}
 use Rattle.aud_machine.specs.Shown.{Shown}
 use Rattle.aud_machine.specs.Shows.{Shows}
+use Rattle.aud_bench.specs.declared.request.Request.{Request}
+use Rattle.aud_bench.specs.declared.request.Request.TheVariants as request
 use Rattle.aud_bench.specs.declared.request.Answer.{Answer}
-use Rattle.aud_bench.specs.Alone.{Loaded, Reply}
+use Rattle.aud_bench.specs.declared.service.Served.{Served}
+use Rattle.aud_bench.specs.Alone.{Loaded, Reply, steps_left, replied}
 
 -- the machine, if there is one, shows how far the program is that is loaded
 abbrev pub IsLoaded : Option Shown → Option Loaded → Type 0
@@ -16,3 +21,46 @@ IsLoaded (Some machine) (Some loaded) = Shows machine loaded.now
 pub record Replies (answer : Answer) (machine : Option Shown) (reply : Reply) : Type 0 where
   pub answer_is : answer ≡ reply.answer
   pub loaded : IsLoaded machine reply.loaded
+
+-- the program so many steps on
+abbrev pub behind_steps : Limits → ℕ → Option Loaded → Option Loaded
+behind_steps limits done None = None
+behind_steps limits done (Some loaded) = Some (record loaded { now = run limits done loaded.now })
+
+-- what is loaded while the request is under way: a RUN has done a step for each unit
+abbrev pub behind : Limits → Request → ℕ → Option Loaded → Option Loaded
+behind limits (request.Load source) done loaded = loaded
+behind limits (request.Run n) done loaded = behind_steps limits done loaded
+behind limits request.Output done loaded = loaded
+behind limits request.Quit done loaded = loaded
+behind limits (request.Bad why) done loaded = loaded
+
+-- nothing is done yet, or so many steps of the run, none of them the last that it may do
+pub record HasRun (limits : Limits) (n done : ℕ) (loaded : Loaded) : Type 0 where
+  pub steps : (run limits done loaded.now).steps ≡ loaded.now.steps + done
+  pub room : (done ≡ 0) ⊎ (done < min n (steps_left loaded.now))
+
+abbrev pub EachStepped : Limits → Request → ℕ → Option Loaded → Type 0
+EachStepped limits (request.Run n) done (Some loaded) = HasRun limits n done loaded
+EachStepped limits (request.Run n) done None = Unit {0}
+EachStepped limits (request.Load source) done loaded = Unit {0}
+EachStepped limits request.Output done loaded = Unit {0}
+EachStepped limits request.Quit done loaded = Unit {0}
+EachStepped limits (request.Bad why) done loaded = Unit {0}
+
+-- so many units of the request are done, and it is not answered yet; this was loaded before it
+pub record UnderWay (limits : Limits) (r : Request) (loaded : Option Loaded) (done : ℕ) (machine : Option Shown) : Type 0 where
+  pub unanswered : done < (replied limits loaded r).cost
+  pub is_behind : IsLoaded machine (behind limits r done loaded)
+  pub stepped : EachStepped limits r done loaded
+
+-- more work on a request of which so many units were done: it is answered, and all that it costs is done; or it goes on, and the units
+-- are used up
+abbrev pub ServesBy : Option Answer → Limits → Request → Option Loaded → (done units cost after : ℕ) → Option Shown → Type 0
+ServesBy (Some answer) limits r loaded done units cost after machine =
+    Replies answer machine (replied limits loaded r) × (done + cost ≡ (replied limits loaded r).cost) × (after ≡ 0)
+ServesBy None limits r loaded done units cost after machine =
+    UnderWay limits r loaded after machine × (cost ≡ units) × (after ≡ done + units)
+
+abbrev pub Serves : Limits → Request → Option Loaded → (done units : ℕ) → Served → Option Shown → Type 0
+Serves limits r loaded done units served machine = ServesBy served.answer limits r loaded done units served.cost served.progress machine

@@ -1,5 +1,5 @@
 -- How many bytes a request takes in the journal: its text with single spaces, no leading zeros, and line feeds.
-use Rattle.std.specs.Prelude.{ℕ, ◌+◌, List, length, ◌==◌, count_by}
+use Rattle.std.specs.Prelude.{ℕ, ◌+◌, List, [], ◌∷◌, length, ◌==◌, count_by}
 use Rattle.std.specs.Fmt.{decimal}
 use Rattle.aud_text.specs.declared.code.Code.{Code}
 use Rattle.aud_bench.specs.declared.request.Request.{Request}
@@ -15,3 +15,8 @@ size (Run steps) = 5 + length (decimal steps)
 size Output = 7
 size Quit = 5
 size (Bad code) = 1
+
+-- the bytes of all requests
+abbrev pub bytes_of : List Request → ℕ
+bytes_of [] = 0
+bytes_of (r ∷ rs) = size r + bytes_of rs

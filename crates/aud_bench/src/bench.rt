@@ -1,14 +1,16 @@
 // The bench: the requests of one user, worked off in slices.
 
-ghost use Rattle.std.specs.Prelude.{◌≡◌, ◌-◌, ◌<◌, ◌≤◌, ◌++◌, List, [], ◌∷◌, Err, false, true, length, IfOk, OnOk, OnErr};
-ghost use Rattle.aud_bench.specs.Seen.{Seen};
+ghost use Rattle.std.specs.Prelude.{◌≡◌, ℕ, ◌+◌, ◌-◌, ◌<◌, ◌≤◌, ◌++◌, min, List, [], ◌∷◌, Err, false, true, length, vec_len, vec_capacity, None, IfSome, OnOk, OnErr, IsErrOf};
+ghost use Rattle.aud_bench.specs.Alone.{cost, fits};
+ghost use Rattle.aud_bench.specs.Seen.{Seen, HasMade, is_closed, unanswered};
+ghost use Rattle.aud_bench.specs.Size.{bytes_of};
 ghost use Rattle.aud_bench.specs.declared.bench.GiveFault.TheVariants as fault;
-ghost use Rattle.aud_bench.specs.declared.request.Answer.{Answer};
 
-use crate::journal::{has_room, size};
+use crate::journal::{fits, is_quit, size};
 use crate::request::{Answer, Request};
 use crate::service::{Served, serve};
 use aud_machine::machine::Machine;
+use aud_text::code::Code;
 use aud_text::limits::Limits;
 use std::alloc::{AllocError, Global};
 use std::marker::Model;
@@ -40,34 +42,44 @@ pub struct Bench {
     limits: Limits,
     journal: Vec<Request>,
     bytes: usize,
+    // There is room for one for each request, and for one more.
     answers: Vec<Answer>,
+    answered: usize,
     machine: Option<Machine>,
-    // steps that the RUN under way has done
+    // Units that are done of the first unanswered request.
     progress: u32,
-    closed: bool,
+    quit: bool,
+    spent: bool,
 }
 
 impl Model for Bench {
+    ghost use Rattle.std.specs.Prelude.{◌≡◌, ◌≤◌, ◌-◌, length, false, vec_capacity};
+    ghost use Rattle.aud_bench.specs.Standing.{IsAt, units_done};
+    ghost use Rattle.aud_bench.specs.Seen.{Seen, has_quit};
+    ghost use Rattle.aud_bench.specs.Size.{bytes_of};
+
     ghost Value = { Seen };
 
-    ghost view = { λ b. record { limits = b.limits; journal = b.journal.items; answers = b.answers.items; closed = b.closed } };
+    ghost view = { λ b. record { limits = b.limits; journal = b.journal.items; units = units_done b.limits b.journal.items b.answered b.progress; answers = b.answers.items; spent = b.spent } };
 
-    ghost invariant = { λ b. length b.answers.items ≤ length b.journal.items };
+    ghost invariant = { λ b. ∥ IsAt b.limits b.journal.items b.answered b.progress b.answers.items b.spent b.machine ∥₁ × (length b.journal.items ≤ vec_capacity b.answers - 1) × (b.quit ≡ false → b.bytes ≡ bytes_of b.journal.items) × (b.quit ≡ has_quit b.journal.items) };
 }
 
 impl Bench {
     /// A bench with an empty journal.
     pub fn new(alloc: Global, limits: Limits) -> Self
-        ensures { result ≡ record { limits = limits; journal = []; answers = []; closed = false } }
+        ensures { result ≡ record { limits = limits; journal = []; units = 0; answers = []; spent = false } }
     {
         Bench {
             limits,
             journal: Vec::new(alloc),
             bytes: 0,
             answers: Vec::new(alloc),
+            answered: 0,
             machine: None,
             progress: 0,
-            closed: false,
+            quit: false,
+            spent: false,
         }
     }
 
@@ -78,9 +90,11 @@ impl Bench {
         &self.journal
     }
 
-    /// The answers made, one for each of the first requests.
+    /// The answers made, one for each of the first requests: those that the units of work come to. Where memory was
+    /// refused, that is the last one.
     pub fn answers(&self) -> &[Answer]
-        ensures { result.now ≡ self.now.answers }
+        ensures answers { result.now ≡ self.now.answers }
+        ensures made { HasMade self.now.spent self.now }
     {
         &self.answers
     }
@@ -95,43 +109,69 @@ impl Bench {
     /// Adds a request at the journal's end. It is refused where the session is over, by a QUIT or for want of memory,
     /// and where it does not fit; a QUIT always fits. A refusal changes nothing.
     pub fn give(&mut self, request: Request) -> Result<(), GiveFault>
-        ensures ok { OnOk result (self.new.journal ≡ self.old.journal ++ request ∷ []) }
-        ensures answers { self.new.answers ≡ self.old.answers }
+        ensures ok { OnOk result (self.new ≡ record self.old { journal = self.old.journal ++ request ∷ [] }) }
         ensures err { OnErr result (self.new ≡ self.old) }
-        ensures closed { self.old.closed ≡ true → result ≡ Err fault.Closed }
+        ensures closed { is_closed self.old ≡ true → result ≡ Err fault.Closed }
+        ensures open { IsErrOf result fault.Closed → is_closed self.old ≡ true }
+        ensures full { is_closed self.old ≡ false → fits (length self.old.journal) (bytes_of self.old.journal) request ≡ false → result ≡ Err fault.Full }
+        ensures room { IsErrOf result fault.Full → fits (length self.old.journal) (bytes_of self.old.journal) request ≡ false }
     {
-        if self.closed {
+        if self.quit || self.spent {
             return Err(GiveFault::Closed);
         }
-        let is_quit = matches!(request, Request::Quit);
-        let size = size(&request);
-        if !is_quit && !has_room(self.journal.len(), self.bytes, size) {
+        if !fits(self.journal.len(), self.bytes, &request) {
             return Err(GiveFault::Full);
         }
-        if self.journal.push(request).is_err() {
-            return Err(GiveFault::Memory);
+        match self.keep(request) {
+            Ok(()) => Ok(()),
+            Err(_) => Err(GiveFault::Memory),
         }
+    }
+
+    // Keeps a request that fits, and room for one answer more.
+    fn keep(&mut self, request: Request) -> Result<(), AllocError>
+        requires open { is_closed self.old ≡ false }
+        requires fits { fits (length self.old.journal) (bytes_of self.old.journal) request ≡ true }
+        ensures ok { OnOk result (self.new ≡ record self.old { journal = self.old.journal ++ request ∷ [] }) }
+        ensures err { OnErr result (self.new ≡ self.old) }
+    {
+        let room = self.journal.len() + 2 - self.answers.len();
+        self.answers.reserve(room)?;
+        let quit = is_quit(&request);
+        let size = size(&request);
+        self.journal.push(request)?;
         self.bytes = self.bytes.saturating_add(size);
-        self.closed = is_quit;
+        self.quit = quit;
         Ok(())
     }
 
     /// Does so many units of work, or all that is left: a RUN costs its steps, at least one, and any other request one.
-    /// A RUN that the slice cuts goes on in the next one. Where memory is refused, the bench closes, and what has been
-    /// answered stays.
+    /// A RUN that the slice cuts goes on in the next one. Where memory is refused, the bench closes: the last answer
+    /// tells it, and those before it stay.
     pub fn slice(&mut self, alloc: Global, units: u64) -> Work
         ensures within { result.done ≤ units }
-        ensures journal { self.new.journal ≡ self.old.journal }
-        ensures left { result.left ≡ length self.new.journal - length self.new.answers }
+        ensures done { self.new.spent ≡ false → result.done ≡ min units (cost self.old.limits self.old.journal - self.old.units) }
+        ensures units { self.new.spent ≡ false → self.new.units ≡ self.old.units + result.done }
+        ensures journal { (self.new.journal ≡ self.old.journal) × (self.new.limits ≡ self.old.limits) }
+        ensures left { result.left ≡ unanswered self.new }
         ensures front { (more : List Answer) × (self.new.answers ≡ self.old.answers ++ more) }
+        ensures spent { self.old.spent ≡ true → (self.new ≡ self.old) × (result.done ≡ 0) }
     {
         let mut done = 0;
+        if self.spent {
+            return Work {
+                done,
+                left: self.left(),
+            };
+        }
         'requests: while done < units && self.left() > 0 {
             match self.work(alloc, units - done) {
-                Ok(cost) => done += cost,
-                Err(_) => {
-                    self.closed = true;
-                    break;
+                Some(cost) => done += cost,
+                None => {
+                    return Work {
+                        done,
+                        left: self.left(),
+                    };
                 }
             }
         }
@@ -143,37 +183,59 @@ impl Bench {
 
     // The requests that are given and unanswered.
     fn left(&self) -> usize
-        ensures { result ≡ length self.now.journal - length self.now.answers }
+        ensures left { result ≡ unanswered self.now }
+        ensures within { self.now.units ≤ cost self.now.limits self.now.journal }
+        ensures whole { result ≡ 0 → self.now.units ≡ cost self.now.limits self.now.journal }
     {
-        self.journal.len().saturating_sub(self.answers.len())
+        self.journal.len() - self.answered
     }
 
-    // Works on the first unanswered request, for so many units at most, and tells the units done.
-    fn work(&mut self, alloc: Global, units: u64) -> Result<u64, AllocError>
+    // Works on the first unanswered request, for so many units at most, and tells those done; nothing where memory is
+    // refused.
+    fn work(&mut self, alloc: Global, units: u64) -> Option<u64>
         requires some { 1 ≤ units }
-        requires unanswered { length self.old.answers < length self.old.journal }
-        ensures within { IfOk result (λ cost. cost ≤ units) }
-        ensures some { IfOk result (λ cost. 1 ≤ cost) }
-        ensures journal { self.new.journal ≡ self.old.journal }
+        requires alive { self.old.spent ≡ false }
+        requires unanswered { 1 ≤ unanswered self.old }
+        ensures kept { (self.new.journal ≡ self.old.journal) × (self.new.limits ≡ self.old.limits) }
         ensures front { (more : List Answer) × (self.new.answers ≡ self.old.answers ++ more) }
+        ensures works { IfSome result (λ done. (self.new.spent ≡ false) × (1 ≤ done) × (done ≤ units) × (self.new.units ≡ self.old.units + done)) }
+        ensures spent { result ≡ None → self.new.spent ≡ true }
     {
-        let request = &self.journal[self.answers.len()];
-        let Served {
-            answer,
-            progress,
-            cost,
-        } = serve(
+        let request = &self.journal[self.answered];
+        let Ok(served) = serve(
             alloc,
             self.limits,
             &mut self.machine,
             request,
             self.progress,
             units,
-        )?;
+        ) else {
+            self.spent = true;
+            add(&mut self.answers, Answer::Refused(Code::OutOfMemory));
+            return None;
+        };
+        let Served {
+            answer,
+            progress,
+            cost,
+        } = served;
         self.progress = progress;
         if let Some(answer) = answer {
-            self.answers.push(answer)?;
+            add(&mut self.answers, answer);
+            self.answered += 1;
         }
-        Ok(cost)
+        Some(cost)
+    }
+}
+
+// Adds an answer for which there is room.
+fn add(answers: &mut Vec<Answer>, answer: Answer)
+    requires { vec_len answers.old < vec_capacity answers.old }
+    ensures items { answers.new.items ≡ answers.old.items ++ answer ∷ [] }
+    ensures capacity { vec_capacity answers.old ≤ vec_capacity answers.new }
+{
+    match answers.push(answer) {
+        Ok(()) => {}
+        Err(_) => unreachable!(),
     }
 }

@@ -1,7 +1,8 @@
 // The size of requests, and the room for them.
 
-ghost use Rattle.std.specs.Prelude.{◌≡◌, ◌↔◌, ◌+◌, ◌<◌, ◌≤◌, length, IsTrue};
+ghost use Rattle.std.specs.Prelude.{◌≡◌, ◌+◌, ◌<◌, ◌≤◌, length, true, false};
 ghost use Rattle.std.specs.Fmt.{decimal};
+ghost use Rattle.aud_bench.specs.Alone.{is_quit, has_room, fits};
 ghost use Rattle.aud_bench.specs.Size.{size};
 
 use crate::loading::line_count;
@@ -25,9 +26,25 @@ pub fn size(request: &Request) -> usize
     }
 }
 
-/// Whether a request of this size fits behind so many requests of so many bytes.
-pub fn has_room(requests: usize, bytes: usize, size: usize) -> bool
-    ensures { IsTrue result ↔ ((requests < REQUESTS) × (bytes + size ≤ REQUEST_BYTES)) }
+/// Whether the request ends the session.
+pub fn is_quit(request: &Request) -> bool
+    ensures { result ≡ is_quit request.now }
+{
+    matches!(request, Request::Quit)
+}
+
+/// Whether a request fits behind so many requests of so many bytes; a QUIT always does.
+pub fn fits(requests: usize, bytes: usize, request: &Request) -> bool
+    ensures answer { result ≡ fits requests bytes request.now }
+    ensures room { result ≡ true → is_quit request.now ≡ false → (requests < REQUESTS) × (bytes + size request.now ≤ REQUEST_BYTES) }
+{
+    is_quit(request) || has_room(requests, bytes, size(request))
+}
+
+// Whether a request of this size fits.
+fn has_room(requests: usize, bytes: usize, size: usize) -> bool
+    ensures answer { result ≡ has_room requests bytes size }
+    ensures room { result ≡ true → (requests < REQUESTS) × (bytes + size ≤ REQUEST_BYTES) }
 {
     requests < REQUESTS as usize
         && size <= REQUEST_BYTES as usize

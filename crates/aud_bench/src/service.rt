@@ -1,16 +1,19 @@
 // The work on one request.
 
-ghost use Rattle.std.specs.Prelude.{◌≡◌, ◌≤◌, Option, Some, IfOk};
+ghost use Rattle.std.specs.Prelude.{◌≡◌, ◌≤◌, min, true, false, Option, Some, IfOk, IsSome};
+ghost use Rattle.aud_meaning.specs.declared.state.State.TheVariants as states;
+ghost use Rattle.aud_text.specs.declared.limits.Limits.{Limits as Bounds};
+ghost use Rattle.aud_bench.specs.declared.request.Request.TheVariants as asked;
 ghost use Rattle.aud_bench.specs.Loading.{program_of};
-ghost use Rattle.aud_bench.specs.Alone.{Loaded, ended_by, load_reply, output_reply};
-ghost use Rattle.aud_bench.specs.Serving.{IsLoaded, Replies};
+ghost use Rattle.aud_bench.specs.Alone.{Loaded, ended_by, load_reply, output_reply, replied};
+ghost use Rattle.aud_bench.specs.Serving.{IsLoaded, Replies, UnderWay, Serves};
 
 use crate::loading::{LoadFault, load};
 use crate::request::{Answer, Report, Request};
 use aud_machine::machine::Machine;
 use aud_meaning::state::State;
 use aud_text::code::Code;
-use aud_text::limits::{self, Limits};
+use aud_text::limits::{Limits, STEPS};
 use aud_text::raise::Raise;
 use aud_text::text::Text;
 use std::alloc::{AllocError, Global};
@@ -24,7 +27,8 @@ pub struct Served {
     pub cost: u64,
 }
 
-/// Works on a request for so many units at most, behind the steps that it has done already.
+/// Works on a request for so many units at most, behind the units of it that are done already. A RUN costs its steps, at
+/// least one, and any other request one.
 pub fn serve(
     alloc: Global,
     limits: Limits,
@@ -34,6 +38,8 @@ pub fn serve(
     units: u64,
 ) -> Result<Served, AllocError>
     requires { 1 ≤ units }
+    ensures serves { IfOk result (λ served. (loaded : Option Loaded) → UnderWay limits request.now loaded progress machine.old → Serves limits request.now loaded progress units served machine.new) }
+    ensures whole { STEPS ≤ units → IfOk result (λ served. IsSome served.answer) }
     ensures within { IfOk result (λ served. served.cost ≤ units) }
     ensures some { IfOk result (λ served. 1 ≤ served.cost) }
 {
@@ -46,6 +52,26 @@ pub fn serve(
         Request::Output => Ok(answered(output(alloc, machine)?)),
         Request::Quit => Ok(answered(Answer::Done)),
         Request::Bad(code) => Ok(answered(Answer::Refused(*code))),
+    }
+}
+
+/// Answers a request at once, whatever it costs.
+pub fn answer(
+    alloc: Global,
+    limits: Limits,
+    machine: &mut Option<Machine>,
+    request: &Request,
+) -> Result<Answer, AllocError>
+    ensures { IfOk result (λ answer. (loaded : Option Loaded) → IsLoaded machine.old loaded → Replies answer machine.new (replied limits loaded request.now)) }
+{
+    let Served {
+        answer,
+        progress: _,
+        cost: _,
+    } = serve(alloc, limits, machine, request, 0, u64::MAX)?;
+    match answer {
+        Some(answer) => Ok(answer),
+        None => unreachable!(),
     }
 }
 
@@ -98,23 +124,24 @@ fn run(
     units: u64,
 ) -> Result<Served, AllocError>
     requires { 1 ≤ units }
+    ensures serves { IfOk result (λ served. (bounds : Bounds) → (loaded : Loaded) → UnderWay bounds (asked.Run steps) (Some loaded) progress (Some machine.old) → Serves bounds (asked.Run steps) (Some loaded) progress units served (Some machine.new)) }
+    ensures whole { STEPS ≤ units → IfOk result (λ served. IsSome served.answer) }
     ensures within { IfOk result (λ served. served.cost ≤ units) }
     ensures some { IfOk result (λ served. 1 ≤ served.cost) }
 {
-    let left = limits::STEPS.saturating_sub(machine.steps());
+    let left = STEPS.saturating_sub(machine.steps());
     if left == 0 {
         return Ok(answered(Answer::Refused(Code::StepBudget)));
     }
     let wanted = steps.saturating_sub(progress).min(left);
-    let now = u32::try_from(units).unwrap_or(u32::MAX).min(wanted);
+    let now = within(wanted, units);
     let ran = machine.slice(alloc, now)?;
-    let done = progress.saturating_add(ran.steps);
-    let cost = u64::from(ran.steps.max(1));
-    if now < wanted && ran.state == State::More {
+    let done = progress + ran.steps;
+    if now < wanted && has_more(ran.state) {
         return Ok(Served {
             answer: None,
             progress: done,
-            cost,
+            cost: units,
         });
     }
     Ok(Served {
@@ -124,8 +151,29 @@ fn run(
             raised: ended_by(ran.state, machine.raised()),
         })),
         progress: 0,
-        cost,
+        cost: u64::from(ran.steps.max(1)),
     })
+}
+
+// Whether there is more to do.
+fn has_more(state: State) -> bool
+    ensures yes { result ≡ true → state ≡ states.More }
+    ensures no { result ≡ false → ¬ (state ≡ states.More) }
+{
+    match state {
+        State::More => true,
+        State::Ended | State::OutputFull | State::Stuck => false,
+    }
+}
+
+// As many of the steps as there are units for.
+fn within(steps: u32, units: u64) -> u32
+    ensures { result ≡ min steps units }
+{
+    match u32::try_from(units) {
+        Ok(units) => steps.min(units),
+        Err(_) => steps,
+    }
 }
 
 // The exception that ended the program.

@@ -1,45 +1,42 @@
 // A whole session at once.
 
-ghost use Rattle.std.specs.Prelude.{◌≡◌, ◌++◌, List};
+ghost use Rattle.std.specs.Prelude.{◌≡◌, ◌++◌, List, OnOk};
+ghost use Rattle.aud_bench.specs.Alone.{alone};
 ghost use Rattle.aud_bench.specs.declared.request.Answer.{Answer};
 
-use crate::journal::{has_room, size};
+use crate::journal::{fits, is_quit, size};
 use crate::request::{Answer, Request};
-use crate::service::serve;
+use crate::service::answer;
 use aud_machine::machine::Machine;
 use aud_text::code::Code;
 use aud_text::limits::Limits;
 use std::alloc::{AllocError, Global};
 
 /// Adds the answers to the requests of one user, one a request, up to and with that to the first QUIT. A request that
-/// does not fit the journal is answered so, and is not kept. Where memory is refused, the answers made so far are there.
+/// does not fit the journal is answered so, and is not kept. Where memory is refused, a front of the answers is there.
 pub fn answer_all(
     alloc: Global,
     limits: Limits,
-    requests: Vec<Request>,
+    requests: &[Request],
     answers: &mut Vec<Answer>,
 ) -> Result<(), AllocError>
-    ensures { (more : List Answer) × (answers.new.items ≡ answers.old.items ++ more) }
+    ensures all { OnOk result (answers.new.items ≡ answers.old.items ++ alone limits requests.now) }
+    ensures front { (some rest : List Answer) × (answers.new.items ≡ answers.old.items ++ some) × (alone limits requests.now ≡ some ++ rest) }
 {
     let mut machine: Option<Machine> = None;
     let mut kept: usize = 0;
     let mut bytes: usize = 0;
     'requests: for request in requests {
-        let is_quit = matches!(request, Request::Quit);
-        let size = size(&request);
-        if !is_quit && !has_room(kept, bytes, size) {
+        if !fits(kept, bytes, request) {
             answers.push(Answer::Refused(Code::JournalFull))?;
             continue;
         }
-        kept = kept.saturating_add(1);
-        bytes = bytes.saturating_add(size);
-        let served = serve(alloc, limits, &mut machine, &request, 0, u64::MAX)?;
-        if let Some(answer) = served.answer {
-            answers.push(answer)?;
-        }
-        if is_quit {
+        answers.push(answer(alloc, limits, &mut machine, request)?)?;
+        if is_quit(request) {
             return Ok(());
         }
+        kept += 1;
+        bytes += size(request);
     }
     Ok(())
 }

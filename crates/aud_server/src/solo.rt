@@ -1,11 +1,13 @@
 // The server on one stream of requests.
 
-ghost use Rattle.std.specs.Prelude.{◌≡◌, List, OnOk};
-ghost use Rattle.std.specs.Io.KnownBytes.{Appends};
-ghost use Rattle.aud_bench.specs.declared.request.Answer.{Answer};
+ghost use Rattle.std.specs.Prelude.{◌≡◌, ℕ, List, IfSome, OnOk, IsErrOf};
+ghost use Rattle.std.specs.Io.KnownBytes.{Appends, Consumes};
+ghost use Rattle.aud_text.specs.declared.limits.TheConstants.{STANDARD};
+ghost use Rattle.aud_bench.specs.Alone.{alone};
 ghost use Rattle.aud_text.specs.declared.code.Code.TheVariants as code;
 ghost use Rattle.aud_bench.specs.declared.request.Answer.TheVariants as answer;
 ghost use Rattle.aud_server.specs.declared.solo.SoloFault.TheVariants as fault;
+ghost use Rattle.aud_server.specs.Requests.{requests};
 ghost use Rattle.aud_server.specs.Text.{answer_text, text};
 
 use crate::answers::answer_text;
@@ -40,7 +42,7 @@ impl From<AllocError> for SoloFault {
 }
 
 /// Reads to the end of input, and then writes the answers to all requests, up to and with the first
-/// QUIT. The writer is not flushed.
+/// QUIT: those of a private server. The writer is not flushed.
 ///
 /// Where a read fails, the requests that had come are answered, and then `Read` is the result. `Write`
 /// comes where a write fails. Where memory is refused, the answers so far are written and after them
@@ -50,7 +52,8 @@ pub fn solo<R: Read, W: Write>(
     reader: &mut R,
     writer: &mut W,
 ) -> Result<(), SoloFault>
-    ensures { OnOk result ((answers : List Answer) × Appends (W.contents writer.old) (W.contents writer.new) (text answers)) }
+    ensures all { OnOk result (IfSome (R.remaining reader.old) (λ input. Appends (W.contents writer.old) (W.contents writer.new) (text (alone STANDARD (requests input))))) }
+    ensures read { IsErrOf result fault.Read → (input : List ℕ) × Consumes (R.remaining reader.old) (R.remaining reader.new) input × Appends (W.contents writer.old) (W.contents writer.new) (text (alone STANDARD (requests input))) }
 {
     let answered = answer_reader(alloc, reader, writer);
     if matches!(answered, Err(SoloFault::Memory)) {
@@ -64,7 +67,8 @@ fn answer_reader<R: Read, W: Write>(
     reader: &mut R,
     writer: &mut W,
 ) -> Result<(), SoloFault>
-    ensures { OnOk result ((answers : List Answer) × Appends (W.contents writer.old) (W.contents writer.new) (text answers)) }
+    ensures all { OnOk result (IfSome (R.remaining reader.old) (λ input. Appends (W.contents writer.old) (W.contents writer.new) (text (alone STANDARD (requests input))))) }
+    ensures read { IsErrOf result fault.Read → (input : List ℕ) × Consumes (R.remaining reader.old) (R.remaining reader.new) input × Appends (W.contents writer.old) (W.contents writer.new) (text (alone STANDARD (requests input))) }
 {
     let mut input = Vec::new(alloc);
     match reader.read_to_end(&mut input) {
@@ -78,11 +82,12 @@ fn answer_reader<R: Read, W: Write>(
 }
 
 fn answer_bytes<W: Write>(alloc: Global, bytes: &[u8], writer: &mut W) -> Result<(), SoloFault>
-    ensures { OnOk result ((answers : List Answer) × Appends (W.contents writer.old) (W.contents writer.new) (text answers)) }
+    ensures all { OnOk result (Appends (W.contents writer.old) (W.contents writer.new) (text (alone STANDARD (requests bytes.now)))) }
+    ensures read { IsErrOf result fault.Read → ⊥ }
 {
     let requests = read_requests(alloc, bytes)?;
     let mut answers = Vec::new(alloc);
-    let answered = answer_all(alloc, STANDARD, requests, &mut answers);
+    let answered = answer_all(alloc, STANDARD, &requests, &mut answers);
     write_answers(alloc, &answers, writer)?;
     answered?;
     Ok(())

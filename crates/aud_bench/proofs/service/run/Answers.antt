@@ -1,0 +1,30 @@
+use Rattle.std.proofs.Common.{◌≡◌, ℕ, ◌+◌, ◌-◌, ◌≤◌, min, max, Some, inl, inr, sym, ap, ◌∙◌, arith}
+use Rattle.aud_text.specs.declared.limits.TheConstants.{STEPS}
+use Rattle.aud_meaning.specs.Configuration.{Configuration}
+use Rattle.aud_meaning.specs.Run.{run}
+use Rattle.aud_bench.specs.Alone.{ended_by}
+use Rattle.aud_bench.proofs.Serving.{is_spent, goes_on, is_done}
+use Rattle.aud_bench.proofs.service.run.Goals as goal
+use Rattle.aud_bench.proofs.service.run.Goals.{else-now-wanted-via-then-now-wanted+else-has_more, else-now-wanted-via-else-now-wanted}
+
+pub returns-then-has_more-clause-serves : goal.returns-then-has_more-clause-serves
+returns-then-has_more-clause-serves c =
+    λ bounds loaded under.
+    let here : Configuration = run bounds c.args.progress loaded.now in
+    let steps = c.steps.ensures.shown here under.is_behind in
+    goes_on bounds c.args.steps c.args.progress loaded c.args.machine.now under c.min-wanted.result c.within-now.result c.args.units c.slice.new.self c.in_ok-ran.ran
+    (omega (arith, steps, c.saturating_sub-left.ensures, c.if-left-eq0.false)) (omega (arith, steps, c.saturating_sub-left.ensures, c.saturating_sub.ensures, c.min-wanted.ensures)) c.within-now.ensures
+    (c.in_ok-ran.ensures.runs bounds here under.is_behind) c.if-now-wanted.true (c.has_more.ensures.yes c.if-has_more.true)
+
+pub returns-clause-serves : goal.returns-clause-serves
+returns-clause-serves c =
+    λ bounds loaded under.
+    let here : Configuration = run bounds c.args.progress loaded.now in
+    let steps = c.steps.ensures.shown here under.is_behind in
+    let did = c.in_ok-ran.ensures.runs bounds here under.is_behind in
+    is_done bounds c.args.steps c.args.progress loaded c.args.machine.now under c.min-wanted.result c.within-now.result c.args.units c.slice.new.self c.in_ok-ran.ran
+    (omega (arith, steps, c.saturating_sub-left.ensures, c.if-left-eq0.false)) (omega (arith, steps, c.saturating_sub-left.ensures, c.saturating_sub.ensures, c.min-wanted.ensures)) c.within-now.ensures
+    did
+    (elim c.else-now-wanted.branch [ else-now-wanted-via-then-now-wanted+else-has_more w ↦ inr (w.has_more.ensures.no w.if-has_more.false) | else-now-wanted-via-else-now-wanted w ↦ inl w.if-now-wanted.false ])
+    c.ended_by.result (c.ended_by.ensures ∙ ap (ended_by c.in_ok-ran.ran.state) (c.raised.ensures (run bounds c.within-now.result here) did.shows))
+    c.from.result (omega (arith, c.from.ensures, c.max.ensures))

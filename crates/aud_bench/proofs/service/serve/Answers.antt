@@ -1,0 +1,23 @@
+use Rattle.std.proofs.Common.{◌≡◌, ℕ, List, Option, Some, sym, ap, subst}
+use Rattle.aud_bench.specs.declared.request.Request.{Request}
+use Rattle.aud_bench.specs.declared.request.Request.TheVariants as request
+use Rattle.aud_bench.specs.declared.service.Served.{Served}
+use Rattle.aud_bench.specs.Alone.{Loaded, load_reply}
+use Rattle.aud_bench.specs.Loading.{program_of}
+use Rattle.aud_bench.specs.Serving.{Replies, UnderWay, Serves}
+use Rattle.aud_bench.proofs.Serving.{load_costs, at_once}
+use Rattle.aud_bench.proofs.service.serve.Goals as goal
+
+pub returns-in_ok-take-in-Load-clause-serves : goal.returns-in_ok-take-in-Load-clause-serves
+returns-in_ok-take-in-Load-clause-serves c =
+    λ loaded.
+    let limits = c.args.limits in
+    let p = c.args.progress in
+    let source = c.in-Load.source in
+    let a = c.in_ok-take-in-Load.field-0 in
+    subst (λ (r : Request). UnderWay limits r loaded p c.args.machine.now → Serves limits r loaded p c.args.units c.answered.result c.take.new.machine) (sym c.in-Load.is)
+    (λ under.
+    let replies : Replies a c.take.new.machine (load_reply (program_of limits source) loaded) =
+    subst (λ (bytes : List ℕ). Replies a c.take.new.machine (load_reply (program_of limits bytes) loaded)) c.as_bytes.ensures (c.in_ok-take-in-Load.ensures loaded under.is_behind) in
+    subst (λ (s : Served). Serves limits (request.Load source) loaded p c.args.units s c.take.new.machine) (sym c.answered.ensures)
+    (at_once limits (request.Load source) loaded p c.args.units c.take.new.machine a (load_costs loaded (program_of limits source)) under.unanswered replies))
