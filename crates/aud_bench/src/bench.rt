@@ -103,7 +103,7 @@ impl Bench {
     pub fn answered(&self) -> usize
         ensures { result ≡ length self.now.answers }
     {
-        self.answers.len()
+        self.answers().len()
     }
 
     /// Adds a request at the journal's end. It is refused where the session is over, by a QUIT or for want of memory,

@@ -98,7 +98,8 @@ fn write_answers<W: Write>(
     answers: &[Answer],
     writer: &mut W,
 ) -> Result<(), SoloFault>
-    ensures { OnOk result (Appends (W.contents writer.old) (W.contents writer.new) (text answers.now)) }
+    ensures all { OnOk result (Appends (W.contents writer.old) (W.contents writer.new) (text answers.now)) }
+    ensures read { IsErrOf result fault.Read → ⊥ }
 {
     for answer in answers {
         let said = answer_text(alloc, answer)?;
@@ -108,7 +109,8 @@ fn write_answers<W: Write>(
 }
 
 fn write<W: Write>(writer: &mut W, bytes: &[u8]) -> Result<(), SoloFault>
-    ensures { OnOk result (Appends (W.contents writer.old) (W.contents writer.new) bytes.now) }
+    ensures all { OnOk result (Appends (W.contents writer.old) (W.contents writer.new) bytes.now) }
+    ensures read { IsErrOf result fault.Read → ⊥ }
 {
     writer.write_all(bytes).map_err(|_| SoloFault::Write)
 }

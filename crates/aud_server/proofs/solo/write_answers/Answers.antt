@@ -14,10 +14,10 @@ loop-answer-preserved g c =
     let said : c.deref.result.now ≡ answer_text (get_or answers i item) = c.deref.ensures.value ∙ (c.in_ok-said.ensures ∙ ap answer_text c.answer-item.is) in
     let whole : before ++ c.deref.result.now ≡ text_from (take (i + 1) answers) = ap (λ t. before ++ t) said ∙ sym (text_more answers i item (omega arith)) in
     subst (λ (t : List ℕ). Appends (contents c.args.writer.now) (contents c.write.new.writer) t) whole
-    (appends_more (contents c.args.writer.now) (contents c.loop-answer.writer) (contents c.write.new.writer) before c.deref.result.now c.loop-answer.invariant c.in_ok-write.ensures)
+    (appends_more (contents c.args.writer.now) (contents c.loop-answer.writer) (contents c.write.new.writer) before c.deref.result.now c.loop-answer.invariant c.in_ok-write.ensures.all)
 
-pub returns : goal.returns
-returns g c =
+pub returns-clause-all : goal.returns-clause-all
+returns-clause-all g c =
     let contents = g.W.Write.contents in
     let answers = c.args.answers.now in
     subst (λ (t : List ℕ). Appends (contents c.args.writer.now) (contents c.loop-answer.writer) t)
