@@ -4,3 +4,4 @@ pub mod Standing
 pub mod Sessions
 pub mod Journals
 pub mod Benches
+pub mod Fronts

@@ -2,6 +2,7 @@
 
 ghost use Rattle.std.specs.Prelude.{◌≡◌, ℕ, ◌+◌, ◌-◌, ◌<◌, ◌≤◌, ◌++◌, min, List, [], ◌∷◌, Err, false, true, length, vec_len, vec_capacity, None, IfSome, OnOk, OnErr, IsErrOf};
 ghost use Rattle.aud_bench.specs.Alone.{cost, fits};
+ghost use Rattle.aud_bench.specs.Kept.{is_kept};
 ghost use Rattle.aud_bench.specs.Seen.{Seen, HasMade, is_closed, unanswered};
 ghost use Rattle.aud_bench.specs.Size.{bytes_of};
 ghost use Rattle.aud_bench.specs.declared.bench.GiveFault.TheVariants as fault;
@@ -53,16 +54,17 @@ pub struct Bench {
 }
 
 impl Model for Bench {
-    ghost use Rattle.std.specs.Prelude.{◌≡◌, ◌≤◌, ◌-◌, length, false, vec_capacity};
+    ghost use Rattle.std.specs.Prelude.{◌≡◌, ◌≤◌, ◌-◌, length, true, false, vec_capacity};
     ghost use Rattle.aud_bench.specs.Standing.{IsAt, units_done};
     ghost use Rattle.aud_bench.specs.Seen.{Seen, has_quit};
+    ghost use Rattle.aud_bench.specs.Kept.{is_kept};
     ghost use Rattle.aud_bench.specs.Size.{bytes_of};
 
     ghost Value = { Seen };
 
     ghost view = { λ b. record { limits = b.limits; journal = b.journal.items; units = units_done b.limits b.journal.items b.answered b.progress; answers = b.answers.items; spent = b.spent } };
 
-    ghost invariant = { λ b. ∥ IsAt b.limits b.journal.items b.answered b.progress b.answers.items b.spent b.machine ∥₁ × (length b.journal.items ≤ vec_capacity b.answers - 1) × (b.quit ≡ false → b.bytes ≡ bytes_of b.journal.items) × (b.quit ≡ has_quit b.journal.items) };
+    ghost invariant = { λ b. ∥ IsAt b.limits b.journal.items b.answered b.progress b.answers.items b.spent b.machine ∥₁ × (length b.journal.items ≤ vec_capacity b.answers - 1) × (b.quit ≡ false → b.bytes ≡ bytes_of b.journal.items) × (b.quit ≡ has_quit b.journal.items) × (is_kept b.journal.items ≡ true) };
 }
 
 impl Bench {
@@ -83,9 +85,10 @@ impl Bench {
         }
     }
 
-    /// The requests that were given and kept, in order.
+    /// The requests that were given and kept, in order: each fits behind those before it, and none follows a QUIT.
     pub fn journal(&self) -> &[Request]
-        ensures { result.now ≡ self.now.journal }
+        ensures journal { result.now ≡ self.now.journal }
+        ensures kept { is_kept result.now ≡ true }
     {
         &self.journal
     }

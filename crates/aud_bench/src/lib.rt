@@ -3,6 +3,7 @@
 
 pub mod bench;
 pub mod journal;
+pub mod laws;
 pub mod loading;
 pub mod request;
 pub mod service;

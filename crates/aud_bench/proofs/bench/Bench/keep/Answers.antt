@@ -1,10 +1,12 @@
-use Rattle.std.proofs.Common.{◌≡◌, ℕ, ◌+◌, ◌-◌, ◌≤◌, List, [], ◌∷◌, ◌++◌, length, length-append, Bool, true, false, sym, ap, ◌∙◌, subst, arith}
+use Rattle.std.proofs.Common.{◌≡◌, ℕ, ◌+◌, ◌-◌, ◌≤◌, List, [], ◌∷◌, ◌++◌, length, length-append, zero-add, Bool, true, false, sym, ap, ◌∙◌, subst, arith}
 use Rattle.aud_bench.specs.declared.request.Request.{Request}
 use Rattle.aud_bench.specs.declared.request.Answer.{Answer}
 use Rattle.aud_bench.specs.Alone.{is_quit, fits}
 use Rattle.aud_bench.specs.Size.{size, bytes_of}
 use Rattle.aud_bench.specs.Seen.{Seen, has_quit, is_closed}
 use Rattle.aud_bench.specs.Standing.{IsAt, units_done}
+use Rattle.aud_bench.specs.Kept.{is_kept}
+use Rattle.aud_bench.proofs.Fronts.{kept_more}
 use Rattle.aud_bench.proofs.Benches.{known_is, length_is, given, given_units}
 use Rattle.aud_bench.proofs.Journals.{or_left, or_right, bytes_append, last_quits, room_left}
 use Rattle.aud_bench.proofs.bench.Bench.keep.Goals as goal
@@ -37,6 +39,7 @@ invariant_of-self-2 c =
           let within = room_left (length s.journal.items) (bytes_of s.journal.items) r room (sym c.is_quit-quit.ensures ∙ other) in
           omega (arith, within, bytes, c.saturating_add-self-inside.ensures, c.size-size.ensures, ap bytes_of c.in_ok-push.ensures.items, bytes_append s.journal.items r)),
       c.is_quit-quit.ensures ∙ sym (last_quits s.journal.items r going) ∙ ap has_quit (sym c.in_ok-push.ensures.items),
+      ap is_kept c.in_ok-push.ensures.items ∙ kept_more 0 0 s.journal.items r c.self.invariant.4 going (ap (λ n. fits n (0 + bytes_of s.journal.items) r) (zero-add (length s.journal.items)) ∙ ap (λ n. fits (length s.journal.items) n r) (zero-add (bytes_of s.journal.items)) ∙ room),
     )
 
 pub returns-clause-ok : goal.returns-clause-ok

@@ -20,6 +20,7 @@ invariant_of-self c =
       omega (arith, c.self.invariant.1, c.add.ensures.capacity),
       c.self.invariant.2,
       c.self.invariant.3,
+      c.self.invariant.4,
     )
 
 pub add-requires : goal.add-requires
@@ -52,6 +53,7 @@ invariant_of-self-in_default-answer c =
       c.self.invariant.1,
       c.self.invariant.2,
       c.self.invariant.3,
+      c.self.invariant.4,
     )
 
 pub returns-in_default-answer-clause-works : goal.returns-in_default-answer-clause-works
@@ -81,6 +83,7 @@ invariant_of-self-in-Some c =
       omega (arith, c.self.invariant.1, c.add-in-Some.ensures.capacity),
       c.self.invariant.2,
       c.self.invariant.3,
+      c.self.invariant.4,
     )
 
 pub returns-in-Some-clause-works : goal.returns-in-Some-clause-works
