@@ -87,7 +87,7 @@ kept_more requests bytes (x ∷ journal) r h going fitting =
     let n : requests + length (x ∷ journal) ≡ (requests + 1) + length journal = omega arith in
     let b : bytes + bytes_of (x ∷ journal) ≡ (bytes + size x) + bytes_of journal = omega arith in
     let fits_on : fits ((requests + 1) + length journal) ((bytes + size x) + bytes_of journal) r ≡ true =
-      sym (ap (λ k. fits k (bytes + bytes_of (x ∷ journal)) r) n ∙ ap (λ k. fits ((requests + 1) + length journal) k r) b) ∙ fitting in
+    sym (ap (λ k. fits k (bytes + bytes_of (x ∷ journal)) r) n ∙ ap (λ k. fits ((requests + 1) + length journal) k r) b) ∙ fitting in
     let on = kept_more (requests + 1) (bytes + size x) journal r (and_right (ends_there (is_quit x) journal) rest both) (or_right (is_quit x) (has_quit journal) going) fits_on in
     and_both (fits requests bytes x) (ends_there (is_quit x) (journal ++ r ∷ []) && kept_behind (requests + 1) (bytes + size x) (journal ++ r ∷ [])) (and_left (fits requests bytes x) others h)
     (and_both (ends_there (is_quit x) (journal ++ r ∷ [])) (kept_behind (requests + 1) (bytes + size x) (journal ++ r ∷ [])) (ap (λ q. ends_there q (journal ++ r ∷ [])) no_quit) on)

@@ -1,5 +1,6 @@
 // The sessions of the tables, sent to a server in memory.
 
+mod benches;
 mod pieces;
 
 use crate::case::Case;
