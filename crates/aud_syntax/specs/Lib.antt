@@ -1,2 +1,4 @@
 pub mod Plain
 pub mod View
+pub mod Printed
+pub mod Bare
