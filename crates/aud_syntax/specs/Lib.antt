@@ -2,3 +2,4 @@ pub mod Plain
 pub mod View
 pub mod Printed
 pub mod Bare
+pub mod Laws
