@@ -1,12 +1,8 @@
 -- Places do not matter: tokens that are alike are read alike.
-use Rattle.std.proofs.Common.{◌≡◌, ℕ, suc, ◌-◌, List, [], ◌∷◌, map, length, refl, sym, ap, ◌∙◌, subst, Bool, true, false}
-use Rattle.std.specs.Prelude.{Result, Ok, Err}
-use Rattle.aud_text.specs.Name.{capitals}
+use Rattle.std.proofs.Common.{◌≡◌, List, [], ◌∷◌, map, refl, sym, ap, Bool, true, false}
 use Rattle.aud_text.specs.declared.place.Pos.{Pos}
-use Rattle.aud_lex.specs.declared.token.Kind.{Kind}
 use Rattle.aud_lex.specs.declared.token.Kind.TheVariants as kind
 use Rattle.aud_lex.specs.Element.{Element}
-use Rattle.aud_lex.specs.Kinds.{code}
 use Rattle.aud_syntax.specs.declared.tree.Ident.{Ident}
 use Rattle.aud_syntax.specs.declared.tree.Sign.TheVariants as sign
 use Rattle.aud_syntax.specs.declared.tree.Highest.TheVariants as highest
@@ -14,10 +10,8 @@ use Rattle.aud_syntax.specs.Plain as m
 use Rattle.aud_syntax.specs.Bare.{nowhere, bare_ident, bare_number, bare_literal, bare_signed, bare_operator, bare_sign, bare_highest, bare_name, bare_simple, bare_addeds, bare_added, bare_term, bare_multiplieds, bare_multiplied, bare_factor, bare_primary, bare_maybe, bare_decl, bare_decls, bare_stmt, bare_stmts, bare_body, bare}
 use Rattle.aud_parse.specs.Grammar as g
 use Rattle.aud_parse.specs.Grammar.{Part, Sym, T, P, N, L, Down, A, Opt, Rep, rule}
-use Rattle.aud_parse.specs.First.{among, next_in, firsts}
 use Rattle.aud_parse.specs.Actions as a
 use Rattle.aud_parse.specs.Actions.{Item, tok, none, cons, top, pop, listed, made}
-use Rattle.aud_parse.specs.Alike.{Alike, AllAlike}
 
 abbrev no_token : Element
 no_token = record { kind = kind.Box; text = []; at = nowhere }

@@ -1,9 +1,9 @@
 -- How a token is written canonically, and that it is the same token then.
-use Rattle.std.proofs.Common.{◌≡◌, ℕ, zero, suc, ◌+◌, ◌-◌, ◌<◌, ◌≤◌, List, [], ◌∷◌, ◌++◌, map, length, refl, sym, ap, ◌∙◌, subst, arith, Bool, true, false, inl, inr, ⊎_elim, leb-true, le-leb}
+use Rattle.std.proofs.Common.{◌≡◌, ℕ, zero, suc, ◌+◌, ◌-◌, ◌<◌, ◌≤◌, List, [], ◌∷◌, ◌++◌, map, refl, sym, ap, ◌∙◌, subst, arith, Bool, true, false, inl, inr, ⊎_elim, leb-true, le-leb}
 use Rattle.std.proofs.lemmas.Bool.{eqb-true, eq-eqb}
 use Rattle.std.proofs.lemmas.Fmt.{decimal_by_steps}
 use Rattle.std.specs.Fmt.{decimal}
-use Rattle.std.specs.Prelude.{◌≢◌, ◌⊎◌, ◌==◌, ◌&&◌, ◌||◌, not, nat_le, ◌*◌, ◌/◌, ◌%◌, ◌^◌, ℤ, pos, if◌then◌else◌, Option, Some, None, codes}
+use Rattle.std.specs.Prelude.{◌⊎◌, ◌==◌, ◌&&◌, ◌||◌, nat_le, ◌*◌, ◌/◌, ◌%◌, ◌^◌, pos, if◌then◌else◌, Some, None, codes}
 use Rattle.std.specs.List.{list_all}
 use Rattle.aud_text.specs.Name.{capital, capitals}
 use Rattle.aud_lex.specs.declared.token.Kind.{Kind}
@@ -11,14 +11,14 @@ use Rattle.aud_lex.specs.declared.token.Kind.TheVariants as kind
 use Rattle.aud_lex.specs.declared.automaton.Class.{Class}
 use Rattle.aud_lex.specs.declared.automaton.Class.TheVariants.{Letter, Digit, Underscore, Quote, Point, Colon, Equals, Less, Greater, Slash, Star, Single, Graphic, Control}
 use Rattle.aud_lex.specs.declared.automaton.State.{State}
-use Rattle.aud_lex.specs.declared.automaton.State.TheVariants.{Start, Dead, InWord, WordUnderscore, InNumber, NumberUnderscore, AfterPoint, InDecimals, DecimalsUnderscore, InString, BehindQuote, OnPoint, OnColon, OnEquals, OnLess, OnGreater, OnSlash, OnStar, Whole}
+use Rattle.aud_lex.specs.declared.automaton.State.TheVariants.{Start, Dead, InWord, InNumber, InDecimals, InString, BehindQuote, Whole}
 use Rattle.aud_lex.specs.Bytes.{between, is_single, class}
 use Rattle.aud_lex.specs.Element.{Element}
 use Rattle.aud_lex.specs.Kinds.{Spelled, code, reserved, delimiters}
 use Rattle.aud_lex.specs.Spaced.{Word}
-use Rattle.aud_lex.specs.Tokens.{from_start, step, accepts, run, is_token, small, same_bytes, found, kind_in, kind_of}
+use Rattle.aud_lex.specs.Tokens.{step, accepts, run, is_token, small, same_bytes, found, kind_in, kind_of}
 use Rattle.aud_syntax.specs.Printed.{number_digits, doubled, quoted}
-use Rattle.aud_parse.specs.Values.{with_digit, digits_value, number_value, is_left_out, inner, unquoted}
+use Rattle.aud_parse.specs.Values.{with_digit, digits_value, number_value, inner, unquoted}
 use Rattle.aud_parse.proofs.Literals.{fits}
 
 -- the spelling of the kind with this number

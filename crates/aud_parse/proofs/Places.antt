@@ -1,28 +1,25 @@
 -- Tokens that are alike are read alike.
-use Rattle.std.proofs.Common.{◌≡◌, ℕ, suc, ◌-◌, List, [], ◌∷◌, ◌++◌, length, refl, sym, ap, ◌∙◌, subst, Bool, true, false}
+use Rattle.std.proofs.Common.{◌≡◌, ℕ, suc, List, [], ◌∷◌, length, refl, sym, ap, ◌∙◌, subst, Bool, true, false}
 use Rattle.std.proofs.lemmas.Bool.{eqb-true}
-use Rattle.std.specs.Prelude.{◌==◌, if◌then◌else◌, ℤ, Option, Result, Ok, Err}
-use Rattle.aud_text.specs.Name.{capitals}
+use Rattle.std.specs.Prelude.{◌==◌, if◌then◌else◌, ℤ, Option, Ok}
 use Rattle.aud_lex.specs.declared.token.Kind.{Kind}
 use Rattle.aud_lex.specs.declared.token.Kind.TheVariants as kind
 use Rattle.aud_lex.specs.Element.{Element}
 use Rattle.aud_lex.specs.Kinds.{code}
-use Rattle.aud_syntax.specs.Plain as m
 use Rattle.aud_syntax.specs.Bare.{nowhere, bare}
 use Rattle.aud_parse.specs.Grammar as g
 use Rattle.aud_parse.specs.Grammar.{Part, Sym, T, P, N, L, Down, A, Opt, Rep, rule}
 use Rattle.aud_parse.specs.First.{among, next_in, firsts}
-use Rattle.aud_parse.specs.Values.{number_value, unquoted}
 use Rattle.aud_parse.specs.Actions as a
 use Rattle.aud_parse.specs.Actions.{Item, tok, none, top, listed, made, the_unit}
-use Rattle.aud_parse.specs.Parsed.{Verdict, Good, Wrong, Deep, budget, levels, read, parsed, judged, Fault}
+use Rattle.aud_parse.specs.Parsed.{Verdict, Good, Wrong, Deep, budget, levels, parsed, judged}
 use Rattle.aud_parse.specs.Machine.{Out, o_end, o_rest, o_word, o_token, o_no_word, o_no_token, o_rule, o_level, o_deep, o_shut, o_down, o_this, o_other, o_last, o_yes, o_no, o_more, o_stop}
 use Rattle.aud_parse.specs.Alike.{Alike, AllAlike, stripped}
 use Rattle.aud_parse.specs.Laws.{AlikeRead}
 use Rattle.aud_parse.proofs.Reading.{enough_budget}
 use Rattle.aud_parse.proofs.Total.{out}
 use Rattle.aud_parse.proofs.Verdicts.{parsed_is}
-use Rattle.aud_parse.proofs.Bared.{bare_item, bares, bare_listed, bare_the_unit, is_leaf, bare_made}
+use Rattle.aud_parse.proofs.Bared.{bare_item, bares, bare_listed, bare_the_unit, bare_made}
 
 next_alike : (ks : List Kind) (ts us : List Element) → AllAlike ts us → next_in ks us ≡ next_in ks ts
 next_alike ks [] [] h = refl

@@ -1,5 +1,5 @@
 -- A program that was read from a text is read again from its canonical text.
-use Rattle.std.proofs.Common.{◌≡◌, ℕ, List, [], ◌∷◌, map, refl, sym, ap, ◌∙◌, subst, Bool, true}
+use Rattle.std.proofs.Common.{◌≡◌, List, [], ◌∷◌, map, refl, sym, ap, ◌∙◌, subst, true}
 use Rattle.std.specs.Prelude.{◌&&◌, Result, Ok, Err}
 use Rattle.std.specs.List.{list_all}
 use Rattle.aud_text.specs.Name.{capitals}
@@ -8,7 +8,7 @@ use Rattle.aud_lex.specs.Element.{Element}
 use Rattle.aud_lex.specs.Kinds.{code}
 use Rattle.aud_lex.specs.Tokens.{is_token, kind_of}
 use Rattle.aud_lex.specs.Lexed.{lexed, element}
-use Rattle.aud_lex.specs.Spaced.{Word, spaced}
+use Rattle.aud_lex.specs.Spaced.{spaced}
 use Rattle.aud_lex.proofs.Elements.{are_tokens}
 use Rattle.aud_lex.proofs.Spacing.{read_back}
 use Rattle.aud_syntax.specs.Plain as m

@@ -1,6 +1,6 @@
-use Rattle.std.proofs.Common.{◌++◌, ◌∷◌, [], ap, refl, sym, ◌∙◌, arith}
+use Rattle.std.proofs.Common.{◌++◌, ◌∷◌, [], ap, refl, arith}
 use Rattle.std.specs.Prelude.{codes}
-use Rattle.aud_lex.specs.Spaced.{word, spaced}
+use Rattle.aud_lex.specs.Spaced.{word}
 use Rattle.aud_syntax.specs.declared.tree.Simple.{out-Simple}
 use Rattle.aud_syntax.specs.declared.tree.Term.{out-Term}
 use Rattle.aud_syntax.specs.View.{plain_simple, plain_added, plain_term, plain_multiplied, plain_factor}

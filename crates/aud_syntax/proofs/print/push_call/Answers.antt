@@ -1,6 +1,6 @@
 use Rattle.std.proofs.Common.{◌++◌, ◌∷◌, []}
 use Rattle.std.specs.Prelude.{codes}
-use Rattle.aud_lex.specs.Spaced.{word, last_word}
+use Rattle.aud_lex.specs.Spaced.{last_word}
 use Rattle.aud_syntax.specs.View.{plain_simple}
 use Rattle.aud_syntax.specs.Printed.{ident_word, in_parentheses, simple_words}
 use Rattle.aud_syntax.proofs.Written.{all_written}
