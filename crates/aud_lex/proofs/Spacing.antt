@@ -1,7 +1,7 @@
 -- Tokens that are written with a separator behind each are read again.
 use Rattle.std.proofs.Common.{◌≡◌, ℕ, zero, suc, ◌+◌, ◌≤◌, List, [], ◌∷◌, ◌++◌, length, take, drop, map, Bool, true, false, refl, ap, ◌∙◌, sym, subst, arith, length-append}
 use Rattle.std.proofs.Math.Seq.{take-append_seam, drop-append_seam}
-use Rattle.std.proofs.lemmas.Bool.{eqb-true}
+use Rattle.std.proofs.lemmas.Bool.{eqb-true, ne_eqb, and_parts}
 use Rattle.std.specs.Prelude.{◌==◌, ◌&&◌, ◌||◌, if◌then◌else◌, Result, Ok, Err}
 use Rattle.std.specs.List.{list_all}
 use Rattle.aud_text.specs.declared.place.Pos.{Pos}
@@ -52,12 +52,8 @@ token_length_word w x rest a d = longest_word w Start 0 0 x rest a d (λ z. refl
 
 -- no token begins with this byte
 not_first : (n b : ℕ) (w : List ℕ) → step Start (class n) ≡ Dead → is_token (b ∷ w) ≡ true → (b == n) ≡ false
-not_first n b w d a = is_false (b == n) (λ e. refuse (eqb-true b n e))
+not_first n b w d a = ne_eqb b n refuse
   where
-    is_false : (t : Bool) → (t ≡ true → ⊥) → t ≡ false
-    is_false true h = absurd (h refl)
-    is_false false h = refl
-
     refuse : b ≡ n → ⊥
     refuse e = both (is_token (n ∷ w)) (subst (λ z. is_token (z ∷ w) ≡ true) e a) (ap (λ q. accepts (run q w)) d ∙ ap accepts (run_dead w))
 
@@ -108,10 +104,6 @@ word_passed b w rest is_last p a =
     ∙ ap (λ z. lexed_from z (Within 0 (is_wordlike (b ∷ w))) q) (drop-append_seam w (separator is_last ∷ rest))
     ∙ separator_passed is_last (is_wordlike (b ∷ w)) rest q)
 
-and_both : (s t : Bool) → (s && t) ≡ true → (s ≡ true) × (t ≡ true)
-and_both true t e = (refl, e)
-and_both false t e = cc
-
 abbrev Reads : List Word → Pos → Type 0
 Reads ws p = (es : List Element) × (lexed_from (spaced ws) (Within 0 false) p ≡ Ok es) × (map (λ e. e.text) es ≡ map (λ w. w.bytes) ws)
 
@@ -125,7 +117,7 @@ more_read (b ∷ w) is_last ws p a h =
 reads : (ws : List Word) (p : Pos) → list_all (λ w. is_token w.bytes) ws ≡ true → Reads ws p
 reads [] p a = ([], refl, refl)
 reads (w ∷ ws) p a =
-    let k = and_both (is_token w.bytes) (list_all (λ w. is_token w.bytes) ws) a in
+    let k = and_parts (is_token w.bytes) (list_all (λ w. is_token w.bytes) ws) a in
     more_read w.bytes w.is_last ws p k.0 (λ q. reads ws q k.1)
 
 pub read_back : ReadBack

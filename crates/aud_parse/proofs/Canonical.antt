@@ -1,6 +1,6 @@
 -- How a token is written canonically, and that it is the same token then.
 use Rattle.std.proofs.Common.{◌≡◌, ℕ, zero, suc, ◌+◌, ◌-◌, ◌<◌, ◌≤◌, List, [], ◌∷◌, ◌++◌, map, refl, sym, ap, ◌∙◌, subst, arith, Bool, true, false, inl, inr, ⊎_elim, leb-true, le-leb}
-use Rattle.std.proofs.lemmas.Bool.{eqb-true, eq-eqb}
+use Rattle.std.proofs.lemmas.Bool.{eqb-true, eqb-false, ne_eqb, lt-leb, and_parts, and_left, and_right, or_right, cond-true, cond-false}
 use Rattle.std.proofs.lemmas.Fmt.{decimal_by_steps}
 use Rattle.std.specs.Fmt.{decimal}
 use Rattle.std.specs.Prelude.{◌⊎◌, ◌==◌, ◌&&◌, ◌||◌, nat_le, ◌*◌, ◌/◌, ◌%◌, ◌^◌, pos, if◌then◌else◌, Some, None, codes}
@@ -17,6 +17,7 @@ use Rattle.aud_lex.specs.Element.{Element}
 use Rattle.aud_lex.specs.Kinds.{Spelled, code, reserved, delimiters}
 use Rattle.aud_lex.specs.Spaced.{Word}
 use Rattle.aud_lex.specs.Tokens.{step, accepts, run, is_token, small, same_bytes, found, kind_in, kind_of}
+use Rattle.aud_lex.proofs.Fronts.{run_dead}
 use Rattle.aud_syntax.specs.Printed.{number_digits, doubled, quoted}
 use Rattle.aud_parse.specs.Values.{with_digit, digits_value, number_value, inner, unquoted}
 use Rattle.aud_parse.proofs.Literals.{fits}
@@ -53,10 +54,6 @@ pub record Stays (c : ℕ) (text bytes : List ℕ) : Type 0 where
   pub number : c ≡ 101 → number_value text ≡ number_value bytes
   pub literal : c ≡ 103 → unquoted text ≡ unquoted bytes
 
-is_false : (t : Bool) → (t ≡ true → ⊥) → t ≡ false
-is_false true h = absurd (h refl)
-is_false false h = refl
-
 -- Words and delimiters
 
 abbrev table_code : ℕ → Bool
@@ -69,23 +66,16 @@ all_below (suc n) = table_code n && all_below n
 table_holds : all_below 100 ≡ true
 table_holds = refl
 
-and_both : (s t : Bool) → (s && t) ≡ true → (s ≡ true) × (t ≡ true)
-and_both true t e = (refl, e)
-and_both false t e = cc
-
 code_at : (n c : ℕ) (t : Bool) → (c == n) ≡ t → table_code n ≡ true → (c < n → table_code c ≡ true) → c < suc n → table_code c ≡ true
 code_at n c true i h ih l = subst (λ z. table_code z ≡ true) (sym (eqb-true c n i)) h
 code_at n c false i h ih l =
-    let ne : c ≡ n → ⊥ = λ e. both_ways (c == n) (eq-eqb c n e) i in
+    let ne : c ≡ n → ⊥ = eqb-false c n i in
     ih (omega arith)
-  where
-    both_ways : (t : Bool) → t ≡ true → t ≡ false → ⊥
-    both_ways t e f = cc
 
 code_holds : (n c : ℕ) → all_below n ≡ true → c < n → table_code c ≡ true
 code_holds zero c e h = absurd (omega arith)
 code_holds (suc n) c e h =
-    let k : (table_code n ≡ true) × (all_below n ≡ true) = and_both (table_code n) (all_below n) e in
+    let k : (table_code n ≡ true) × (all_below n ≡ true) = and_parts (table_code n) (all_below n) e in
     code_at n c (c == n) refl k.0 (λ l. code_holds n c k.1 l) h
 
 last_of : {X : Type 0} (t u v w : Bool) (x y z a b : X) → t ≡ false → u ≡ false → v ≡ false → w ≡ false → (if t then x else if u then y else if v then z else if w then a else b) ≡ b
@@ -95,15 +85,12 @@ last_of false false true w x y z a b e f g h = cc
 last_of false false false true x y z a b e f g h = cc
 last_of false false false false x y z a b e f g h = refl
 
-is_not : (c n : ℕ) → (c ≡ n → ⊥) → (c == n) ≡ false
-is_not c n h = is_false (c == n) (λ e. h (eqb-true c n e))
-
 table_stays : (c : ℕ) (text : List ℕ) → c < 100 → Stays c text (spelling c text)
 table_stays c text h =
     let bytes : List ℕ = spelling_in (reserved ++ delimiters) c in
-    let k : (is_token bytes ≡ true) × ((code (kind_of bytes) == c) ≡ true) = and_both (is_token bytes) (code (kind_of bytes) == c) (code_holds 100 c table_holds h) in
+    let k : (is_token bytes ≡ true) × ((code (kind_of bytes) == c) ≡ true) = and_parts (is_token bytes) (code (kind_of bytes) == c) (code_holds 100 c table_holds h) in
     let e : spelling c text ≡ bytes =
-    last_of (c == 100) (c == 101) (c == 102) (c == 103) _ _ _ _ bytes (is_not c 100 (λ e. omega (arith, e, h))) (is_not c 101 (λ e. omega (arith, e, h))) (is_not c 102 (λ e. omega (arith, e, h))) (is_not c 103 (λ e. omega (arith, e, h))) in
+    last_of (c == 100) (c == 101) (c == 102) (c == 103) _ _ _ _ bytes (ne_eqb c 100 (λ e. omega (arith, e, h))) (ne_eqb c 101 (λ e. omega (arith, e, h))) (ne_eqb c 102 (λ e. omega (arith, e, h))) (ne_eqb c 103 (λ e. omega (arith, e, h))) in
     subst (λ z. Stays c text z) (sym e) (record {
       token = k.0;
       kind = eqb-true _ _ k.1;
@@ -115,7 +102,7 @@ table_stays c text h =
 found_code : (table : List Spelled) (bytes : List ℕ) (other : Kind) → list_all (λ e. nat_le (suc (code e.kind)) 100) table ≡ true → (code (found table bytes other) ≡ code other) ⊎ (code (found table bytes other) < 100)
 found_code [] bytes other h = inl refl
 found_code (x ∷ xs) bytes other h =
-    let k = and_both (nat_le (suc (code x.kind)) 100) (list_all (λ e. nat_le (suc (code e.kind)) 100) xs) h in
+    let k = and_parts (nat_le (suc (code x.kind)) 100) (list_all (λ e. nat_le (suc (code e.kind)) 100) xs) h in
     at (same_bytes x.bytes bytes) x.kind (found xs bytes other) other (leb-true _ _ k.0) (found_code xs bytes other k.1)
   where
     at : (t : Bool) (c d other : Kind) → suc (code c) ≤ 100 → (code d ≡ code other) ⊎ (code d < 100) → (code (if t then c else d) ≡ code other) ⊎ (code (if t then c else d) < 100)
@@ -124,26 +111,11 @@ found_code (x ∷ xs) bytes other h =
 
 -- Identifiers
 
-skip_if : {X : Type 0} (b : Bool) (x y : X) → b ≡ true → (if b then x else y) ≡ x
-skip_if true x y h = refl
-skip_if false x y h = cc
-
-else_if : {X : Type 0} (b : Bool) (x y : X) → b ≡ false → (if b then x else y) ≡ y
-else_if true x y h = cc
-else_if false x y h = refl
-
-or_right : (s t : Bool) → t ≡ true → (s || t) ≡ true
-or_right true t e = refl
-or_right false t e = e
-
 within : (low b high : ℕ) → low ≤ b → b ≤ high → between low b high ≡ true
 within low b high h k = ap (λ t. t && nat_le b high) (le-leb low b h) ∙ le-leb b high k
 
-not_le : (m n : ℕ) → n < m → nat_le m n ≡ false
-not_le m n h = is_false (nat_le m n) (λ e. let i : m ≤ n = leb-true m n e in omega (arith, h, i))
-
 letter : (b : ℕ) → (between 65 b 90 || between 97 b 122) ≡ true → class b ≡ Letter
-letter b e = skip_if (between 65 b 90 || between 97 b 122) _ _ e
+letter b e = cond-true (between 65 b 90 || between 97 b 122) _ _ e
 
 -- a byte is a small letter or its own capital
 by_case : (P : ℕ → ℕ → Type 0) (b : ℕ) → (97 ≤ b → b ≤ 122 → P b (b - 32)) → P b b → P b (capital b)
@@ -161,18 +133,18 @@ class_capital b = by_case (λ x y. class y ≡ class x) b
 
 small_capital : (b : ℕ) → small (capital b) ≡ small b
 small_capital b = by_case (λ x y. small y ≡ small x) b
-    (λ h k. skip_if (nat_le 65 (b - 32) && nat_le (b - 32) 90) _ _ (within 65 (b - 32) 90 (omega arith) (omega arith))
+    (λ h k. cond-true (nat_le 65 (b - 32) && nat_le (b - 32) 90) _ _ (within 65 (b - 32) 90 (omega arith) (omega arith))
     ∙ (let e : b - 32 + 32 ≡ b = omega arith in e)
-    ∙ sym (else_if (nat_le 65 b && nat_le b 90) _ _ (is_false _ (λ e. let i : b ≤ 90 = leb-true b 90 (and_both (nat_le 65 b) (nat_le b 90) e).1 in omega (arith, h, i)))))
+    ∙ sym (cond-false (nat_le 65 b && nat_le b 90) _ _ (and_right (nat_le 65 b) (nat_le b 90) (lt-leb b 90 (omega (arith, h))))))
     refl
 
 capital_twice : (b : ℕ) → capital (capital b) ≡ capital b
 capital_twice b = at (nat_le 97 b) (nat_le b 122) refl refl
   where
     at : (s t : Bool) → nat_le 97 b ≡ s → nat_le b 122 ≡ t → capital (if s && t then b - 32 else b) ≡ (if s && t then b - 32 else b)
-    at true true e f = let k : b ≤ 122 = leb-true b 122 f in else_if (nat_le 97 (b - 32) && nat_le (b - 32) 122) _ _ (ap (λ t. t && nat_le (b - 32) 122) (not_le 97 (b - 32) (omega (arith, k))))
-    at true false e f = else_if (nat_le 97 b && nat_le b 122) _ _ (ap (λ z. z && nat_le b 122) e ∙ f)
-    at false t e f = else_if (nat_le 97 b && nat_le b 122) _ _ (ap (λ z. z && nat_le b 122) e)
+    at true true e f = let k : b ≤ 122 = leb-true b 122 f in cond-false (nat_le 97 (b - 32) && nat_le (b - 32) 122) _ _ (and_left (nat_le 97 (b - 32)) (nat_le (b - 32) 122) (lt-leb 97 (b - 32) (omega (arith, k))))
+    at true false e f = cond-false (nat_le 97 b && nat_le b 122) _ _ (and_right (nat_le 97 b) (nat_le b 122) f)
+    at false t e f = cond-false (nat_le 97 b && nat_le b 122) _ _ (and_left (nat_le 97 b) (nat_le b 122) e)
 
 run_capitals : (text : List ℕ) (s : State) → run s (capitals text) ≡ run s text
 run_capitals [] s = refl
@@ -255,7 +227,7 @@ number_stays text = at (nat_le (digits_value 0 text) 2147483647) refl
         let v : number_value text ≡ Some (pos (digits_value 0 text)) = fits text (digits_value 0 text) refl l in
         subst (λ z. Stays 101 text (number_digits z)) (sym v) (integer_stays text (decimal (digits_value 0 text)) n.0 (v ∙ sym (fits (decimal (digits_value 0 text)) (digits_value 0 text) n.1 l)))
     at false e =
-        let v : number_value text ≡ None = else_if (nat_le (digits_value 0 text) 2147483647) _ _ e in
+        let v : number_value text ≡ None = cond-false (nat_le (digits_value 0 text) 2147483647) _ _ e in
         subst (λ z. Stays 101 text (number_digits z)) (sym v) (integer_stays text (codes "2147483648") refl v)
 
 -- String literals
@@ -279,10 +251,7 @@ AllStand (b ∷ bs) = Stands b × AllStand bs
 
 stands_run : (b : ℕ) (rest : List ℕ) (t : Bool) → (b == 34) ≡ t → Stands b → run InString (if t then 34 ∷ 34 ∷ rest else b ∷ rest) ≡ run InString rest
 stands_run b rest true e h = refl
-stands_run b rest false e h = ⊎_elim (λ i. absurd (clash (b == 34) (eq-eqb b 34 i) e)) (λ i. ap (λ s. run s rest) i) h
-  where
-    clash : (t : Bool) → t ≡ true → t ≡ false → ⊥
-    clash t e f = cc
+stands_run b rest false e h = ⊎_elim (λ i. absurd (eqb-false b 34 e i)) (λ i. ap (λ s. run s rest) i) h
 
 doubled_run : (characters rest : List ℕ) → AllStand characters → run InString (doubled characters ++ rest) ≡ run InString rest
 doubled_run [] rest h = refl
@@ -312,10 +281,6 @@ is_quote false false false false false false false false false false false false
 
 quote_class : (b : ℕ) → class b ≡ Quote → (b == 34) ≡ true
 quote_class b e = is_quote (between 65 b 90 || between 97 b 122) (between 48 b 57) (b == 95) (b == 34) (b == 46) (b == 58) (b == 61) (b == 60) (b == 62) (b == 47) (b == 42) (is_single b) (between 32 b 126) e
-
-run_dead : (bs : List ℕ) → run Dead bs ≡ Dead
-run_dead [] = refl
-run_dead (b ∷ bs) = run_dead bs
 
 -- the string goes on, ends or breaks off at a byte of the class
 in_string_goes : (c : Class) → (c ≡ Quote) ⊎ ((step InString c ≡ InString) ⊎ (step InString c ≡ Dead))

@@ -1,5 +1,5 @@
 -- The words of a tree are the tokens that spell it, each written canonically.
-use Rattle.std.proofs.Common.{◌≡◌, ℕ, List, [], ◌∷◌, ◌++◌, map, refl, sym, ap, ◌∙◌, subst, append_assoc}
+use Rattle.std.proofs.Common.{append-nil, ◌≡◌, ℕ, List, [], ◌∷◌, ◌++◌, map, refl, sym, ap, ◌∙◌, subst, append_assoc}
 use Rattle.std.specs.Prelude.{Some, None, codes}
 use Rattle.aud_lex.specs.declared.token.Kind.{Kind}
 use Rattle.aud_lex.specs.Element.{Element}
@@ -291,12 +291,8 @@ told (d_no d) = t_none (told d)
 told (d_more d) = told_more (told d)
 told (d_stop d) = t_row row_end (told d)
 
-append_none : (ws : List Word) → ws ++ [] ≡ ws
-append_none [] = refl
-append_none (x ∷ ws) = ap (λ z. x ∷ z) (append_none ws)
-
 unit_told : {ds : List Item} {ws : List Word} → Told (N g.Unit ∷ []) ds ws → w.unit_words (the_unit (top ds)) ≡ ws
-unit_told (t_part (says_unit u) t_end) = sym (append_none (w.unit_words u))
+unit_told (t_part (says_unit u) t_end) = sym (append-nil (w.unit_words u))
 
 -- the words of a program are its tokens, each written canonically
 pub words_of : (ts : List Element) (u : m.Unit) → Spells ts u → w.unit_words u ≡ map written ts

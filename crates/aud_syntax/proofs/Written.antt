@@ -21,10 +21,6 @@ all_written (Err e) old mid new a b h k = tt
 pub one_written : (old new all : List ℕ) (a b : List Word) → old ++ spaced (a ++ b) ≡ all → new ≡ old ++ spaced a → new ++ spaced b ≡ all
 one_written old new all a b h k = ap (λ z. z ++ spaced b) k ∙ append_assoc old (spaced a) (spaced b) ∙ ap (λ z. old ++ z) (sym (spaced_append a b)) ∙ h
 
-pub nothing_left : (old : List ℕ) → old ++ [] ≡ old
-nothing_left [] = refl
-nothing_left (x ∷ xs) = ap (λ z. x ∷ z) (nothing_left xs)
-
 -- what a loop over a list has before it
 pub dropped : {A : Type 0} (xs : List A) (i : ℕ) (x : A) → i < length xs → x ≡ get_or xs i x → drop i xs ≡ x ∷ drop (i + 1) xs
 dropped xs i x h e = rw (add-one, drop-cons xs i x) (ap (λ z. z ∷ drop (suc i) xs) (sym e))
