@@ -1,8 +1,7 @@
 -- Faults that are noted one after the other.
 use Rattle.std.specs.Prelude.{List, [], ◌∷◌, ◌++◌, Option, Result, Ok, Err}
 use Rattle.std.specs.declared.alloc.AllocError.{AllocError}
-use Rattle.std.proofs.Common.{◌≡◌, ℕ, suc, ◌+◌, ◌<◌, length, drop, get_or, add-one, refl, sym, ◌∙◌, ap}
-use Rattle.std.proofs.Math.Seq.{drop-cons}
+use Rattle.std.proofs.Common.{◌≡◌, refl, sym, ◌∙◌, ap}
 use Rattle.aud_check.specs.declared.fault.Fault.{Fault}
 use Rattle.aud_check.specs.declared.typed.Typed as memory
 use Rattle.aud_check.specs.Least.{note, noted}
@@ -37,7 +36,3 @@ ahead_with old mid new all c f t a h = record {
 -- all of it is checked
 pub ahead_end : (old new : Option Fault) (all : Checked) (t : memory.Typed) → Ahead new (fine (plain_typed t)) old all → Shows old new all (Ok t)
 ahead_end old new all t a = (a.faults, a.typed)
-
--- what a loop over a list has before it
-pub dropped : {A : Type 0} (xs : List A) (i : ℕ) (x : A) → i < length xs → x ≡ get_or xs i x → drop i xs ≡ x ∷ drop (i + 1) xs
-dropped xs i x h e = rw (add-one, drop-cons xs i x) (ap (λ z. z ∷ drop (suc i) xs) (sym e))

@@ -1,17 +1,13 @@
 -- Trees by their parts.
 use Rattle.std.proofs.Common.{◌≡◌, List, [], ◌∷◌, refl, ap, sym, ◌∙◌}
-use Rattle.std.specs.Prelude.{Option, Vec}
-use Rattle.std.specs.Global.{Global}
+use Rattle.std.specs.Prelude.{Option}
 use Rattle.aud_text.specs.declared.place.Pos.{Pos}
-use Rattle.aud_syntax.specs.declared.tree.Signed.{Signed}
-use Rattle.aud_syntax.specs.declared.tree.Adding.{Adding}
-use Rattle.aud_syntax.specs.declared.tree.Factor.{Factor}
 use Rattle.aud_syntax.specs.declared.tree.Multiplied.{Multiplied}
-use Rattle.aud_syntax.specs.declared.tree.Simple.{Simple, out-Simple, roll-Simple, roll-out-Simple, rolls-Simple', Row_of-Added, end_of-Added, more_of-Added, items-the_row-Added, items_hidden-the_row-Added-0}
-use Rattle.aud_syntax.specs.declared.tree.Added.{Added, out-Added, roll-Added, roll-out-Added, rolls-Added'}
-use Rattle.aud_syntax.specs.declared.tree.Term.{Term, out-Term, roll-Term, roll-out-Term, rolls-Term', Row_of-Multiplied, end_of-Multiplied, more_of-Multiplied, items-the_row-Multiplied, items_hidden-the_row-Multiplied-1}
-use Rattle.aud_syntax.specs.declared.tree.Primary.TheBlock.{hidden-the_row-Multiplied-1, hidden-the_row-Added-0}
-use Rattle.aud_syntax.specs.View.{plain_simple, plain_addeds, plain_added, plain_term, plain_multiplieds, plain_multiplied, plain_factor}
+use Rattle.aud_syntax.specs.declared.tree.Simple.{Simple, out-Simple}
+use Rattle.aud_syntax.specs.declared.tree.Added.{Added}
+use Rattle.aud_syntax.specs.declared.tree.Term.{Term, out-Term}
+use Rattle.aud_syntax.specs.View.{plain_simple, plain_added, plain_term, plain_multiplied, plain_factor}
+use Rattle.aud_syntax.proofs.Opened.{multiplied_list, added_list, term_open, simple_open}
 use Rattle.aud_syntax.specs.Plain as m
 use Rattle.std.specs.Prelude.{Ok}
 use Rattle.aud_check.specs.declared.fault.Fault.{Fault}
@@ -20,40 +16,6 @@ use Rattle.aud_check.specs.Visible.{Names}
 use Rattle.aud_check.specs.Expressions.{Typed, Checked, with, simple_at, term_at, signed_at, factor_at, signed, check_simple, check_addeds, check_added, check_term, check_multiplieds, check_multiplied, check_factor}
 use Rattle.aud_check.specs.Typing.{plain_typed, Shows}
 use Rattle.aud_check.proofs.Notes.{Ahead, ahead_all, ahead_with}
-
-abbrev pub multiplied_list : List Multiplied → m.Multiplieds
-multiplied_list [] = m.no_multiplieds
-multiplied_list (x ∷ xs) = m.more_multiplieds (plain_multiplied x) (multiplied_list xs)
-
-abbrev pub added_list : List Added → m.Addeds
-added_list [] = m.no_addeds
-added_list (x ∷ xs) = m.more_addeds (plain_added x) (added_list xs)
-
-multiplied_rows : (n : _) (row : Row_of-Multiplied n) → plain_multiplieds row ≡ multiplied_list (items-the_row-Multiplied n row)
-multiplied_rows n end_of-Multiplied = refl
-multiplied_rows n (more_of-Multiplied op highest primary row) = ap (λ z. m.more_multiplieds (plain_multiplied (record { op = op; factor = record { op = highest; primary = primary } })) z) (multiplied_rows _ row)
-
-added_rows : (n : _) (row : Row_of-Added n) → plain_addeds row ≡ added_list (items-the_row-Added n row)
-added_rows n end_of-Added = refl
-added_rows n (more_of-Added x row) = ap (λ z. m.more_addeds (plain_added x) z) (added_rows _ row)
-
-added_roll : (op : Adding) (t : Term) → plain_added (roll-Added (record { op = op; term = t })) ≡ m.added op (plain_term t)
-added_roll op t = ap plain_added (rolls-Added' _)
-
-pub added_open : (x : Added) → plain_added x ≡ m.added (out-Added x).op (plain_term (out-Added x).term)
-added_open x = ap plain_added (sym (roll-out-Added x)) ∙ added_roll (out-Added x).op (out-Added x).term
-
-term_roll : (f : Factor) (v : Vec Multiplied Global) → plain_term (roll-Term (record { first = f; rest = v })) ≡ m.term (plain_factor f) (multiplied_list v.items)
-term_roll f v = ap plain_term (rolls-Term' _) ∙ ap (λ z. m.term (plain_factor f) z) (multiplied_rows _ (hidden-the_row-Multiplied-1 v) ∙ ap multiplied_list (items_hidden-the_row-Multiplied-1 v))
-
-pub term_open : (t : Term) → plain_term t ≡ m.term (plain_factor (out-Term t).first) (multiplied_list (out-Term t).rest.items)
-term_open t = ap plain_term (sym (roll-out-Term t)) ∙ term_roll (out-Term t).first (out-Term t).rest
-
-simple_roll : (s : Option Signed) (t : Term) (v : Vec Added Global) → plain_simple (roll-Simple (record { sign = s; first = t; rest = v })) ≡ m.simple s (plain_term t) (added_list v.items)
-simple_roll s t v = ap plain_simple (rolls-Simple' _) ∙ ap (λ z. m.simple s (plain_term t) z) (added_rows _ (hidden-the_row-Added-0 v) ∙ ap added_list (items_hidden-the_row-Added-0 v))
-
-pub simple_open : (e : Simple) → plain_simple e ≡ m.simple (out-Simple e).sign (plain_term (out-Simple e).first) (added_list (out-Simple e).rest.items)
-simple_open e = ap plain_simple (sym (roll-out-Simple e)) ∙ simple_roll (out-Simple e).sign (out-Simple e).first (out-Simple e).rest
 
 -- where they begin
 pub term_begins : (t : Term) → term_at (plain_term t) ≡ factor_at (plain_factor (out-Term t).first)

@@ -38,7 +38,7 @@ skipped [] (suc n) w p q e f h = absurd (omega arith)
 skipped (b ∷ bs) (suc n) w p q e f h = skipped bs n w (right p) q e (omega (arith, f)) (omega arith)
 
 -- what a place's standing leads to
-abbrev led : ℕ → List ℕ → Bool → Pos → Standing → Result (List Element) Pos
+abbrev pub led : ℕ → List ℕ → Bool → Pos → Standing → Result (List Element) Pos
 led b bs w at Blank = lexed_from bs (Within 0 false) (right at)
 led b bs w at LineEnd = lexed_from bs (Within 0 false) (below at)
 led b bs w at Comment = lexed_from bs InComment (right at)
@@ -47,13 +47,13 @@ led b bs w at (Token n) =
     if w && is_wordlike text then Err at else in_front (element text at) (lexed_from bs (Within n (is_wordlike text)) (right at))
 led b bs w at Nothing = Err at
 
-leads : (b : ℕ) (bs : List ℕ) (w : Bool) (at : Pos) (s : Standing) → standing b bs ≡ s → lexed_from (b ∷ bs) (Within 0 w) at ≡ led b bs w at s
+pub leads : (b : ℕ) (bs : List ℕ) (w : Bool) (at : Pos) (s : Standing) → standing b bs ≡ s → lexed_from (b ∷ bs) (Within 0 w) at ≡ led b bs w at s
 leads b bs w at s e = ap (led b bs w at) e
 
-abbrev pick : Bool → Bool → Bool → Standing → Standing
+abbrev pub pick : Bool → Bool → Bool → Standing → Standing
 pick t u v s = if t then Blank else if u then LineEnd else if v then Comment else s
 
-abbrev rest_of : ℕ → List ℕ → Standing
+abbrev pub rest_of : ℕ → List ℕ → Standing
 rest_of b bs = token_or_nothing (token_length (b ∷ bs))
 
 pub blank_here : (text : List ℕ) (c : Cursor) (b : ℕ) (bs : List ℕ) → drop c.index text ≡ b ∷ bs → bs ≡ drop (c.index + 1) text → c.line_start ≤ c.index →

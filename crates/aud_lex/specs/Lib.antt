@@ -5,4 +5,5 @@ pub mod Tokens
 pub mod Lexed
 pub mod Reading
 pub mod Gives
+pub mod Spaced
 pub mod Laws

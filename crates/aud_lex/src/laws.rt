@@ -6,3 +6,13 @@ ghost use Rattle.aud_lex.specs.Laws as laws;
 pub fn longest_token()
     ensures { laws.TheLongest }
 {}
+
+/// What is read of a text are tokens, each of the kind that its bytes say.
+pub fn are_tokens()
+    ensures { laws.AreTokens }
+{}
+
+/// Tokens that are written with a blank or a line feed behind each are read again.
+pub fn read_back()
+    ensures { laws.ReadBack }
+{}

@@ -8,3 +8,8 @@ pub mod Rolls
 pub mod Verdicts
 pub mod Literals
 pub mod Levels
+pub mod Bared
+pub mod Places
+pub mod Canonical
+pub mod Worded
+pub mod RoundTrip

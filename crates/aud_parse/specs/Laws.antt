@@ -1,11 +1,15 @@
 -- What is proved of the definitions.
 use Rattle.std.specs.Prelude.{◌≡◌, ℕ, ◌+◌, ◌<◌, List, length, take, ◌↔◌, Ok, Err}
 use Rattle.aud_lex.specs.Element.{Element}
+use Rattle.aud_lex.specs.Lexed.{lexed}
 use Rattle.aud_syntax.specs.Plain as m
+use Rattle.aud_syntax.specs.Bare.{bare}
+use Rattle.aud_syntax.specs.Printed.{printed}
 use Rattle.aud_parse.specs.Grammar as g
 use Rattle.aud_parse.specs.Parsed.{parsed, levels, wrong_at, deep_at}
 use Rattle.aud_parse.specs.Spells.{Spells, StopsAt, DeepAt}
 use Rattle.aud_parse.specs.Begun.{Within}
+use Rattle.aud_parse.specs.Alike.{AllAlike, stripped}
 
 -- a tree is read where the tokens spell it
 abbrev pub TheSpelled : Type 0
@@ -26,3 +30,17 @@ DeepPlace = (ts : List Element) (i : ℕ) → parsed ts ≡ Err (deep_at i) → 
 -- and it is the first token that opens a level too many
 abbrev pub FirstDeep : Type 0
 FirstDeep = (ts : List Element) (i : ℕ) → parsed ts ≡ Err (deep_at i) → (i < length ts) × Within levels (take i ts) × ¬ Within levels (take (i + 1) ts)
+
+-- what is read does not depend on places, on the case of letters or on how a number or a string is spelled
+abbrev pub AlikeRead : Type 0
+AlikeRead = (ts us : List Element) → AllAlike ts us → stripped (parsed ts) ≡ stripped (parsed us)
+
+-- the canonical text of a program that is read from a text is read as the same program, but for places
+abbrev pub RoundTrip : Type 0
+RoundTrip = (source : List ℕ) (ts : List Element) (u : m.Unit) → lexed source ≡ Ok ts → parsed ts ≡ Ok u →
+    (us : List Element) × (v : m.Unit) × (lexed (printed u) ≡ Ok us) × (parsed us ≡ Ok v) × (bare v ≡ bare u)
+
+-- two programs that are read from texts and have one canonical text are the same, but for places
+abbrev pub OneText : Type 0
+OneText = (a b : List ℕ) (ts us : List Element) (u v : m.Unit) → lexed a ≡ Ok ts → lexed b ≡ Ok us → parsed ts ≡ Ok u → parsed us ≡ Ok v →
+    printed u ≡ printed v → bare u ≡ bare v

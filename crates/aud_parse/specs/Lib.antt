@@ -10,4 +10,5 @@ pub mod Items
 pub mod Reads
 pub mod Gives
 pub mod Begun
+pub mod Alike
 pub mod Laws

@@ -26,3 +26,20 @@ pub fn deep_place_law()
 pub fn first_deep_law()
     ensures { laws.FirstDeep }
 {}
+
+/// What is read of tokens does not depend on their places, on the case of letters, or on how a
+/// number or a string is spelled.
+pub fn alike_law()
+    ensures { laws.AlikeRead }
+{}
+
+/// A program that was read from a text is read again from its canonical text, but for the places.
+pub fn round_trip_law()
+    ensures { laws.RoundTrip }
+{}
+
+/// Two programs that were read from texts and have one canonical text are the same, but for the
+/// places.
+pub fn one_text_law()
+    ensures { laws.OneText }
+{}

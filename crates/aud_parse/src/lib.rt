@@ -11,3 +11,6 @@ mod statement;
 mod value;
 
 pub use crate::parser::{SyntaxFault, parse};
+
+#[cfg(test)]
+mod tests;

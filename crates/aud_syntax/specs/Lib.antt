@@ -1,2 +1,5 @@
 pub mod Plain
 pub mod View
+pub mod Printed
+pub mod Bare
+pub mod Laws

@@ -1,7 +1,7 @@
 use Rattle.std.proofs.Common.{◌+◌, drop, arith}
 use Rattle.aud_syntax.specs.View.{plain_decls}
 use Rattle.aud_check.specs.Declarations.{check_decls}
-use Rattle.aud_check.proofs.Notes.{dropped}
+use Rattle.aud_syntax.proofs.Written.{dropped}
 use Rattle.aud_check.proofs.Elaborated.{decls_ahead}
 use Rattle.aud_check.proofs.decl.decls.Goals as goal
 

@@ -5,8 +5,10 @@ use Rattle.aud_syntax.specs.declared.tree.Added.{out-Added}
 use Rattle.aud_syntax.specs.View.{plain_simple, plain_term, plain_primary, plain_factor}
 use Rattle.aud_check.specs.Expressions.{check_simple, check_term, check_factor, check_primary, adding_operator, arithmetic, multiplying, highest, check_attribute, simple_at, term_at, factor_at, primary_at}
 use Rattle.aud_check.specs.Typing.{plain_typed}
-use Rattle.aud_check.proofs.Opened.{added_open, term_ahead, multiplied_ahead, simple_ahead, added_ahead}
-use Rattle.aud_check.proofs.Notes.{shows_with, dropped}
+use Rattle.aud_syntax.proofs.Opened.{added_open}
+use Rattle.aud_syntax.proofs.Written.{dropped}
+use Rattle.aud_check.proofs.Opened.{term_ahead, multiplied_ahead, simple_ahead, added_ahead}
+use Rattle.aud_check.proofs.Notes.{shows_with}
 use Rattle.aud_check.proofs.expr.+expr.Goals as goal
 
 pub added-returns : goal.added-returns

@@ -3,7 +3,7 @@ use Rattle.aud_syntax.specs.View.{plain_simple, plain_term}
 use Rattle.aud_check.specs.Expressions.{check_simple, check_term, check_addeds, check_multiplieds}
 use Rattle.aud_check.specs.Typing.{plain_typed}
 use Rattle.aud_check.proofs.Notes.{Ahead}
-use Rattle.aud_check.proofs.Opened.{added_list, multiplied_list}
+use Rattle.aud_syntax.proofs.Opened.{added_list, multiplied_list}
 use Rattle.aud_check.proofs.expr.+expr.Given as goal
 
 abbrev pub invariant-expr-loop-next : goal.invariant-expr-loop-next

@@ -1,0 +1,245 @@
+-- Places do not matter: tokens that are alike are read alike.
+use Rattle.std.proofs.Common.{◌≡◌, List, [], ◌∷◌, map, refl, sym, ap, Bool, true, false}
+use Rattle.aud_text.specs.declared.place.Pos.{Pos}
+use Rattle.aud_lex.specs.declared.token.Kind.TheVariants as kind
+use Rattle.aud_lex.specs.Element.{Element}
+use Rattle.aud_syntax.specs.declared.tree.Ident.{Ident}
+use Rattle.aud_syntax.specs.declared.tree.Sign.TheVariants as sign
+use Rattle.aud_syntax.specs.declared.tree.Highest.TheVariants as highest
+use Rattle.aud_syntax.specs.Plain as m
+use Rattle.aud_syntax.specs.Bare.{nowhere, bare_ident, bare_number, bare_literal, bare_signed, bare_operator, bare_sign, bare_highest, bare_name, bare_simple, bare_addeds, bare_added, bare_term, bare_multiplieds, bare_multiplied, bare_factor, bare_primary, bare_maybe, bare_decl, bare_decls, bare_stmt, bare_stmts, bare_body, bare}
+use Rattle.aud_parse.specs.Grammar as g
+use Rattle.aud_parse.specs.Grammar.{Part, Sym, T, P, N, L, Down, A, Opt, Rep, rule}
+use Rattle.aud_parse.specs.Actions as a
+use Rattle.aud_parse.specs.Actions.{Item, tok, none, cons, top, pop, listed, made}
+
+abbrev no_token : Element
+no_token = record { kind = kind.Box; text = []; at = nowhere }
+
+-- an item with one place in all positions
+abbrev pub bare_item : Item → Item
+bare_item (tok t) = tok no_token
+bare_item none = none
+bare_item (cons x y) = cons (bare_item x) (bare_item y)
+bare_item (a.an_ident x) = a.an_ident (bare_ident x)
+bare_item (a.a_number x) = a.a_number (bare_number x)
+bare_item (a.a_literal x) = a.a_literal (bare_literal x)
+bare_item (a.a_sign x) = a.a_sign (bare_signed x)
+bare_item (a.an_adding x) = a.an_adding x
+bare_item (a.a_multiplying x) = a.a_multiplying x
+bare_item (a.an_operator x) = a.an_operator (bare_operator x)
+bare_item (a.in_parens at x) = a.in_parens nowhere (bare_simple x)
+bare_item (a.an_attribute x e) = a.an_attribute (bare_ident x) (bare_maybe e)
+bare_item (a.a_primary x) = a.a_primary (bare_primary x)
+bare_item (a.a_factor x) = a.a_factor (bare_factor x)
+bare_item (a.a_multiplied x) = a.a_multiplied (bare_multiplied x)
+bare_item (a.a_term x) = a.a_term (bare_term x)
+bare_item (a.an_added x) = a.an_added (bare_added x)
+bare_item (a.a_simple x) = a.a_simple (bare_simple x)
+bare_item (a.assigned x) = a.assigned (bare_simple x)
+bare_item (a.called x) = a.called (bare_simple x)
+bare_item (a.a_stmt x) = a.a_stmt (bare_stmt x)
+bare_item (a.a_body x) = a.a_body (bare_body x)
+bare_item (a.a_decl x) = a.a_decl (bare_decl x)
+bare_item (a.a_unit x) = a.a_unit (bare x)
+
+abbrev pub bares : List Item → List Item
+bares [] = []
+bares (x ∷ xs) = bare_item x ∷ bares xs
+
+-- the views of an item
+bare_place : (x : Item) → a.place (bare_item x) ≡ nowhere
+bare_place (tok t) = refl
+bare_place _ = refl
+
+bare_opening : (x : Item) → a.opening (bare_item x) ≡ nowhere
+bare_opening (a.in_parens at e) = refl
+bare_opening _ = refl
+
+bare_the_ident : (x : Item) → a.the_ident (bare_item x) ≡ bare_ident (a.the_ident x)
+bare_the_ident (a.an_ident y) = refl
+bare_the_ident _ = refl
+
+bare_opt_ident : (x : Item) → a.opt_ident (bare_item x) ≡ bare_name (a.opt_ident x)
+bare_opt_ident (a.an_ident y) = refl
+bare_opt_ident _ = refl
+
+bare_opt_sign : (x : Item) → a.opt_sign (bare_item x) ≡ bare_sign (a.opt_sign x)
+bare_opt_sign (a.a_sign y) = refl
+bare_opt_sign _ = refl
+
+bare_the_adding : (x : Item) → a.the_adding (bare_item x) ≡ a.the_adding x
+bare_the_adding (a.an_adding y) = refl
+bare_the_adding _ = refl
+
+bare_the_multiplying : (x : Item) → a.the_multiplying (bare_item x) ≡ a.the_multiplying x
+bare_the_multiplying (a.a_multiplying y) = refl
+bare_the_multiplying _ = refl
+
+bare_opt_operator : (x : Item) → a.opt_operator (bare_item x) ≡ bare_highest (a.opt_operator x)
+bare_opt_operator (a.an_operator y) = refl
+bare_opt_operator _ = refl
+
+bare_the_number : (x : Item) → a.the_number (bare_item x) ≡ bare_number (a.the_number x)
+bare_the_number (a.a_number y) = refl
+bare_the_number _ = refl
+
+bare_the_literal : (x : Item) → a.the_literal (bare_item x) ≡ bare_literal (a.the_literal x)
+bare_the_literal (a.a_literal y) = refl
+bare_the_literal _ = refl
+
+bare_inside : (x : Item) → a.inside (bare_item x) ≡ bare_simple (a.inside x)
+bare_inside (a.in_parens at e) = refl
+bare_inside _ = refl
+
+bare_opt_inside : (x : Item) → a.opt_inside (bare_item x) ≡ bare_maybe (a.opt_inside x)
+bare_opt_inside (a.in_parens at e) = refl
+bare_opt_inside _ = refl
+
+bare_the_primary : (x : Item) → a.the_primary (bare_item x) ≡ bare_primary (a.the_primary x)
+bare_the_primary (a.a_primary y) = refl
+bare_the_primary _ = refl
+
+bare_the_factor : (x : Item) → a.the_factor (bare_item x) ≡ bare_factor (a.the_factor x)
+bare_the_factor (a.a_factor y) = refl
+bare_the_factor _ = refl
+
+bare_the_multiplied : (x : Item) → a.the_multiplied (bare_item x) ≡ bare_multiplied (a.the_multiplied x)
+bare_the_multiplied (a.a_multiplied y) = refl
+bare_the_multiplied _ = refl
+
+bare_the_term : (x : Item) → a.the_term (bare_item x) ≡ bare_term (a.the_term x)
+bare_the_term (a.a_term y) = refl
+bare_the_term _ = refl
+
+bare_the_added : (x : Item) → a.the_added (bare_item x) ≡ bare_added (a.the_added x)
+bare_the_added (a.an_added y) = refl
+bare_the_added _ = refl
+
+bare_the_expr : (x : Item) → a.the_expr (bare_item x) ≡ bare_simple (a.the_expr x)
+bare_the_expr (a.a_simple y) = refl
+bare_the_expr _ = refl
+
+bare_opt_expr : (x : Item) → a.opt_expr (bare_item x) ≡ bare_maybe (a.opt_expr x)
+bare_opt_expr (a.a_simple y) = refl
+bare_opt_expr _ = refl
+
+bare_the_stmt : (x : Item) → a.the_stmt (bare_item x) ≡ bare_stmt (a.the_stmt x)
+bare_the_stmt (a.a_stmt y) = refl
+bare_the_stmt _ = refl
+
+bare_the_decl : (x : Item) → a.the_decl (bare_item x) ≡ bare_decl (a.the_decl x)
+bare_the_decl (a.a_decl y) = refl
+bare_the_decl _ = refl
+
+bare_the_body : (x : Item) → a.the_body (bare_item x) ≡ bare_body (a.the_body x)
+bare_the_body (a.a_body y) = refl
+bare_the_body _ = refl
+
+pub bare_the_unit : (x : Item) → a.the_unit (bare_item x) ≡ bare (a.the_unit x)
+bare_the_unit (a.a_unit y) = refl
+bare_the_unit _ = refl
+
+bare_the_idents : (x : Item) → a.the_idents (bare_item x) ≡ map bare_ident (a.the_idents x)
+bare_the_idents (cons x y) = cc (bare_the_ident x, bare_the_idents y)
+bare_the_idents _ = refl
+
+bare_the_multiplieds : (x : Item) → a.the_multiplieds (bare_item x) ≡ bare_multiplieds (a.the_multiplieds x)
+bare_the_multiplieds (cons x y) = cc (bare_the_multiplied x, bare_the_multiplieds y)
+bare_the_multiplieds _ = refl
+
+bare_the_addeds : (x : Item) → a.the_addeds (bare_item x) ≡ bare_addeds (a.the_addeds x)
+bare_the_addeds (cons x y) = cc (bare_the_added x, bare_the_addeds y)
+bare_the_addeds _ = refl
+
+bare_the_stmts : (x : Item) → a.the_stmts (bare_item x) ≡ bare_stmts (a.the_stmts x)
+bare_the_stmts (cons x y) = cc (bare_the_stmt x, bare_the_stmts y)
+bare_the_stmts _ = refl
+
+bare_the_decls : (x : Item) → a.the_decls (bare_item x) ≡ bare_decls (a.the_decls x)
+bare_the_decls (cons x y) = cc (bare_the_decl x, bare_the_decls y)
+bare_the_decls _ = refl
+
+bare_named : (i : Ident) (x : Item) → a.named (bare_ident i) (bare_item x) ≡ bare_primary (a.named i x)
+bare_named i (a.an_attribute j e) = refl
+bare_named i _ = refl
+
+bare_begun : (i : Ident) (x : Item) → a.begun (bare_ident i) (bare_item x) ≡ bare_stmt (a.begun i x)
+bare_begun i (a.assigned e) = refl
+bare_begun i (a.called e) = refl
+bare_begun i _ = refl
+
+-- an item made of those on top
+made_1 : (f : Item → Item) → ((x : Item) → f (bare_item x) ≡ bare_item (f x)) → (st : List Item) → bares (f (top st) ∷ pop st) ≡ f (top (bares st)) ∷ pop (bares st)
+made_1 f h [] = ap (λ z. z ∷ []) (sym (h none))
+made_1 f h (x ∷ st) = ap (λ z. z ∷ bares st) (sym (h x))
+
+made_2 : (f : Item → Item → Item) → ((x y : Item) → f (bare_item x) (bare_item y) ≡ bare_item (f x y)) → (st : List Item) →
+    bares (f (top st) (top (pop st)) ∷ pop (pop st)) ≡ f (top (bares st)) (top (pop (bares st))) ∷ pop (pop (bares st))
+made_2 f h [] = ap (λ z. z ∷ []) (sym (h none none))
+made_2 f h (x ∷ []) = ap (λ z. z ∷ []) (sym (h x none))
+made_2 f h (x ∷ y ∷ st) = ap (λ z. z ∷ bares st) (sym (h x y))
+
+made_3 : (f : Item → Item → Item → Item) → ((x y u : Item) → f (bare_item x) (bare_item y) (bare_item u) ≡ bare_item (f x y u)) → (st : List Item) →
+    bares (f (top st) (top (pop st)) (top (pop (pop st))) ∷ pop (pop (pop st))) ≡ f (top (bares st)) (top (pop (bares st))) (top (pop (pop (bares st)))) ∷ pop (pop (pop (bares st)))
+made_3 f h [] = ap (λ z. z ∷ []) (sym (h none none none))
+made_3 f h (x ∷ []) = ap (λ z. z ∷ []) (sym (h x none none))
+made_3 f h (x ∷ y ∷ []) = ap (λ z. z ∷ []) (sym (h x y none))
+made_3 f h (x ∷ y ∷ u ∷ st) = ap (λ z. z ∷ bares st) (sym (h x y u))
+
+made_4 : (f : Item → Item → Item → Item → Item) → ((x y u v : Item) → f (bare_item x) (bare_item y) (bare_item u) (bare_item v) ≡ bare_item (f x y u v)) → (st : List Item) →
+    bares (f (top st) (top (pop st)) (top (pop (pop st))) (top (pop (pop (pop st)))) ∷ pop (pop (pop (pop st))))
+    ≡ f (top (bares st)) (top (pop (bares st))) (top (pop (pop (bares st)))) (top (pop (pop (pop (bares st))))) ∷ pop (pop (pop (pop (bares st))))
+made_4 f h [] = ap (λ z. z ∷ []) (sym (h none none none none))
+made_4 f h (x ∷ []) = ap (λ z. z ∷ []) (sym (h x none none none))
+made_4 f h (x ∷ y ∷ []) = ap (λ z. z ∷ []) (sym (h x y none none))
+made_4 f h (x ∷ y ∷ u ∷ []) = ap (λ z. z ∷ []) (sym (h x y u none))
+made_4 f h (x ∷ y ∷ u ∷ v ∷ st) = ap (λ z. z ∷ bares st) (sym (h x y u v))
+
+pub bare_listed : (st : List Item) → bares (listed st) ≡ listed (bares st)
+bare_listed = made_2 cons (λ x y. refl)
+
+-- the parts whose one token's bytes the tree keeps
+abbrev pub is_leaf : Part → Bool
+is_leaf g.Id = true
+is_leaf g.Number = true
+is_leaf g.Literal = true
+is_leaf _ = false
+
+pub bare_made : (p : Part) → is_leaf p ≡ false → (st : List Item) → bares (made p st) ≡ made p (bares st)
+bare_made g.Unit e = made_3 (λ x y z. a.a_unit (m.unit (a.the_ident x) (a.the_decls y) (a.the_body z))) (λ x y z. cc (bare_the_ident x, bare_the_decls y, bare_the_body z))
+bare_made g.DeclList e = bare_listed
+bare_made g.Decl e = made_3 (λ x y z. a.a_decl (m.object (a.the_idents x) (a.the_ident y) (a.opt_expr z))) (λ x y z. cc (bare_the_idents x, bare_the_ident y, bare_opt_expr z))
+bare_made g.Ids e = bare_listed
+bare_made g.Body e = made_4 (λ x y z w. a.a_body (m.body (a.place x) (a.the_stmts y) (a.place z) (a.opt_ident w))) (λ x y z w. cc (bare_place x, bare_the_stmts y, bare_place z, bare_opt_ident w))
+bare_made g.StmtList e = bare_listed
+bare_made g.NullStmt e = made_1 (λ x. a.a_stmt (m.null (a.place x))) (λ x. cc (bare_place x))
+bare_made g.NameStmt e = made_2 (λ x y. a.a_stmt (a.begun (a.the_ident x) y)) (λ x y. cc (bare_the_ident x, bare_begun (a.the_ident x) y))
+bare_made g.Assignment e = made_1 (λ x. a.assigned (a.the_expr x)) (λ x. cc (bare_the_expr x))
+bare_made g.Call e = made_1 (λ x. a.called (a.inside x)) (λ x. cc (bare_inside x))
+bare_made g.Simple e = made_3 (λ x y z. a.a_simple (m.simple (a.opt_sign x) (a.the_term y) (a.the_addeds z))) (λ x y z. cc (bare_opt_sign x, bare_the_term y, bare_the_addeds z))
+bare_made g.Positive e = made_1 (λ x. a.a_sign (record { sign = sign.Plus; at = a.place x })) (λ x. ap (λ (z : Pos). a.a_sign (record { sign = sign.Plus; at = z })) (bare_place x))
+bare_made g.Negative e = made_1 (λ x. a.a_sign (record { sign = sign.Minus; at = a.place x })) (λ x. ap (λ (z : Pos). a.a_sign (record { sign = sign.Minus; at = z })) (bare_place x))
+bare_made g.Added e = made_2 (λ x y. a.an_added (m.added (a.the_adding x) (a.the_term y))) (λ x y. cc (bare_the_adding x, bare_the_term y))
+bare_made g.Plus e = λ st. refl
+bare_made g.Minus e = λ st. refl
+bare_made g.Join e = λ st. refl
+bare_made g.Term e = made_2 (λ x y. a.a_term (m.term (a.the_factor x) (a.the_multiplieds y))) (λ x y. cc (bare_the_factor x, bare_the_multiplieds y))
+bare_made g.Multiplied e = made_2 (λ x y. a.a_multiplied (m.multiplied (a.the_multiplying x) (a.the_factor y))) (λ x y. cc (bare_the_multiplying x, bare_the_factor y))
+bare_made g.Times e = λ st. refl
+bare_made g.Divide e = λ st. refl
+bare_made g.Modulo e = λ st. refl
+bare_made g.Remainder e = λ st. refl
+bare_made g.Factor e = made_2 (λ x y. a.a_factor (m.factor (a.opt_operator x) (a.the_primary y))) (λ x y. cc (bare_opt_operator x, bare_the_primary y))
+bare_made g.Magnitude e = made_1 (λ x. a.an_operator (record { highest = highest.Magnitude; at = a.place x })) (λ x. ap (λ (z : Pos). a.an_operator (record { highest = highest.Magnitude; at = z })) (bare_place x))
+bare_made g.Not e = made_1 (λ x. a.an_operator (record { highest = highest.Not; at = a.place x })) (λ x. ap (λ (z : Pos). a.an_operator (record { highest = highest.Not; at = z })) (bare_place x))
+bare_made g.Integer e = made_1 (λ x. a.a_primary (m.integer (a.the_number x))) (λ x. cc (bare_the_number x))
+bare_made g.String e = made_1 (λ x. a.a_primary (m.text (a.the_literal x))) (λ x. cc (bare_the_literal x))
+bare_made g.Named e = made_2 (λ x y. a.a_primary (a.named (a.the_ident x) y)) (λ x y. cc (bare_the_ident x, bare_named (a.the_ident x) y))
+bare_made g.Attribute e = made_2 (λ x y. a.an_attribute (a.the_ident x) (a.opt_inside y)) (λ x y. cc (bare_the_ident x, bare_opt_inside y))
+bare_made g.Group e = made_1 (λ x. a.a_primary (m.group (a.opening x) (a.inside x))) (λ x. cc (bare_opening x, bare_inside x))
+bare_made g.InParens e = made_2 (λ x y. a.in_parens (a.place x) (a.the_expr y)) (λ x y. cc (bare_place x, bare_the_expr y))
+bare_made g.Id e = λ st. cc
+bare_made g.Number e = λ st. cc
+bare_made g.Literal e = λ st. cc
+bare_made _ e = λ st. refl

@@ -1,0 +1,299 @@
+-- The words of a tree are the tokens that spell it, each written canonically.
+use Rattle.std.proofs.Common.{append-nil, ◌≡◌, ℕ, List, [], ◌∷◌, ◌++◌, map, refl, sym, ap, ◌∙◌, subst, append_assoc}
+use Rattle.std.specs.Prelude.{Some, None, codes}
+use Rattle.aud_lex.specs.declared.token.Kind.{Kind}
+use Rattle.aud_lex.specs.Element.{Element}
+use Rattle.aud_lex.specs.Kinds.{code}
+use Rattle.aud_lex.specs.Spaced.{Word, word, last_word}
+use Rattle.aud_text.specs.declared.place.Pos.{Pos}
+use Rattle.aud_syntax.specs.declared.tree.Ident.{Ident}
+use Rattle.aud_syntax.specs.declared.tree.Number.{Number}
+use Rattle.aud_syntax.specs.declared.tree.Literal.{Literal}
+use Rattle.aud_syntax.specs.declared.tree.Signed.{Signed}
+use Rattle.aud_syntax.specs.declared.tree.Adding.{Adding}
+use Rattle.aud_syntax.specs.declared.tree.Multiplying.{Multiplying}
+use Rattle.aud_syntax.specs.declared.tree.Operator.{Operator}
+use Rattle.aud_syntax.specs.declared.tree.Sign.TheVariants as sign
+use Rattle.aud_syntax.specs.declared.tree.Adding.TheVariants as adding
+use Rattle.aud_syntax.specs.declared.tree.Multiplying.TheVariants as multiplying
+use Rattle.aud_syntax.specs.declared.tree.Highest.TheVariants as highest
+use Rattle.aud_syntax.specs.Plain as m
+use Rattle.aud_syntax.specs.Printed as w
+use Rattle.aud_parse.specs.Grammar as g
+use Rattle.aud_parse.specs.Grammar.{Part, Sym, T, P, N, L, Down, A, Opt, Rep, rule}
+use Rattle.aud_parse.specs.Actions as a
+use Rattle.aud_parse.specs.Actions.{Item, tok, none, cons, made, listed, top, the_unit}
+use Rattle.aud_parse.specs.Spells.{Spells}
+use Rattle.aud_parse.specs.Derives.{Member, here, later, Derives, d_end, d_word, d_token, d_rule, d_level, d_down, d_one, d_yes, d_no, d_more, d_stop}
+use Rattle.aud_parse.proofs.Canonical.{written_as, written}
+use Rattle.aud_parse.proofs.Places.{is_code}
+
+-- the sorts of trees
+data Sort : Type 0 where
+  s_unit s_decls s_decl s_idents s_more_ident s_initial s_body s_stmts s_stmt s_rest : Sort
+  s_expr s_sign s_added s_adding s_term s_multiplied s_multiplying s_factor s_operator : Sort
+  s_primary s_attribute s_parens s_ident s_number s_literal : Sort
+
+abbrev sort : Part → Sort
+sort g.Unit = s_unit
+sort g.Decls = s_decls
+sort g.DeclList = s_decls
+sort g.Decl = s_decl
+sort g.Ids = s_idents
+sort g.MoreIds = s_more_ident
+sort g.Initial = s_initial
+sort g.Body = s_body
+sort g.Stmts = s_stmts
+sort g.StmtList = s_stmts
+sort g.Stmt = s_stmt
+sort g.NullStmt = s_stmt
+sort g.NameStmt = s_stmt
+sort g.NameRest = s_rest
+sort g.Assignment = s_rest
+sort g.Call = s_rest
+sort g.Expr = s_expr
+sort g.Simple = s_expr
+sort g.Sign = s_sign
+sort g.Positive = s_sign
+sort g.Negative = s_sign
+sort g.Added = s_added
+sort g.AddingOperator = s_adding
+sort g.Plus = s_adding
+sort g.Minus = s_adding
+sort g.Join = s_adding
+sort g.Term = s_term
+sort g.Multiplied = s_multiplied
+sort g.MultiplyingOperator = s_multiplying
+sort g.Times = s_multiplying
+sort g.Divide = s_multiplying
+sort g.Modulo = s_multiplying
+sort g.Remainder = s_multiplying
+sort g.Factor = s_factor
+sort g.Operator = s_operator
+sort g.Magnitude = s_operator
+sort g.Not = s_operator
+sort g.Primary = s_primary
+sort g.Integer = s_primary
+sort g.String = s_primary
+sort g.Named = s_primary
+sort g.Attribute = s_attribute
+sort g.Group = s_primary
+sort g.Parens = s_parens
+sort g.InParens = s_parens
+sort g.Id = s_ident
+sort g.Number = s_number
+sort g.Literal = s_literal
+
+abbrev attribute_words : Ident → m.MaybeSimple → List Word
+attribute_words x e = word (codes "'") ∷ w.ident_word x ∷ w.argument_words e
+
+abbrev expr_words : m.Simple → List Word
+expr_words e = w.simple_words e
+
+-- an item of a sort, and its words
+data Says : Sort → Item → List Word → Type 0 where
+  says_unit : (u : m.Unit) → Says s_unit (a.a_unit u) (w.unit_words u)
+  says_decls : (x : Item) → Says s_decls x (w.decls_words (a.the_decls x))
+  says_decl : (d : m.Decl) → Says s_decl (a.a_decl d) (w.decl_words d)
+  says_idents : (x : Item) → Says s_idents x (w.idents_words (a.the_idents x))
+  says_more_ident : (i : Ident) → Says s_more_ident (a.an_ident i) (word (codes ",") ∷ w.ident_word i ∷ [])
+  says_initial : (e : m.Simple) → Says s_initial (a.a_simple e) (word (codes ":=") ∷ expr_words e)
+  says_body : (b : m.Body) → Says s_body (a.a_body b) (w.body_words b)
+  says_stmts : (x : Item) → Says s_stmts x (w.stmts_words (a.the_stmts x))
+  says_stmt : (s : m.Stmt) → Says s_stmt (a.a_stmt s) (w.stmt_words s)
+  says_assigned : (e : m.Simple) → Says s_rest (a.assigned e) (word (codes ":=") ∷ (expr_words e ++ (last_word (codes ";") ∷ [])))
+  says_called : (e : m.Simple) → Says s_rest (a.called e) (w.in_parentheses (expr_words e) ++ (last_word (codes ";") ∷ []))
+  says_expr : (e : m.Simple) → Says s_expr (a.a_simple e) (expr_words e)
+  says_sign : (s : Signed) → Says s_sign (a.a_sign s) (w.sign_words (Some s))
+  says_added : (x : m.Added) → Says s_added (a.an_added x) (w.added_words x)
+  says_adding : (x : Adding) → Says s_adding (a.an_adding x) (word (w.adding_spelling x) ∷ [])
+  says_term : (x : m.Term) → Says s_term (a.a_term x) (w.term_words x)
+  says_multiplied : (x : m.Multiplied) → Says s_multiplied (a.a_multiplied x) (w.multiplied_words x)
+  says_multiplying : (x : Multiplying) → Says s_multiplying (a.a_multiplying x) (word (w.multiplying_spelling x) ∷ [])
+  says_factor : (x : m.Factor) → Says s_factor (a.a_factor x) (w.factor_words x)
+  says_operator : (x : Operator) → Says s_operator (a.an_operator x) (w.operator_words (Some x))
+  says_primary : (x : m.Primary) → Says s_primary (a.a_primary x) (w.primary_words x)
+  says_attribute : (i : Ident) (e : m.MaybeSimple) → Says s_attribute (a.an_attribute i e) (attribute_words i e)
+  says_parens : (at : Pos) (e : m.Simple) → Says s_parens (a.in_parens at e) (w.in_parentheses (expr_words e))
+  says_ident : (i : Ident) → Says s_ident (a.an_ident i) (w.ident_word i ∷ [])
+  says_number : (n : Number) → Says s_number (a.a_number n) (w.number_word n ∷ [])
+  says_literal : (l : Literal) → Says s_literal (a.a_literal l) (w.literal_word l ∷ [])
+
+-- a list of items of a sort, and their words
+data Row : Sort → Item → List Word → Type 0 where
+  row_end : {s : Sort} → Row s none []
+  row_more : {s : Sort} {x xs : Item} {us vs : List Word} → Says s x us → Row s xs vs → Row s (cons x xs) (us ++ vs)
+
+-- the items that symbols make, and the words of the tokens that they read
+data Told : List Sym → List Item → List Word → Type 0 where
+  t_end : Told [] [] []
+  t_word : {c : Kind} {k : List Sym} {ds : List Item} {ws : List Word} (text : List ℕ) → Told k ds ws → Told (T c ∷ k) ds (written_as (code c) text ∷ ws)
+  t_token : {c : Kind} {k : List Sym} {ds : List Item} {ws : List Word} (t : Element) → Told k ds ws → Told (P c ∷ k) (tok t ∷ ds) (written_as (code c) t.text ∷ ws)
+  t_part : {p : Part} {k : List Sym} {x : Item} {ds : List Item} {us ws : List Word} → Says (sort p) x us → Told k ds ws → Told (N p ∷ k) (x ∷ ds) (us ++ ws)
+  t_level : {p : Part} {k : List Sym} {x : Item} {ds : List Item} {us ws : List Word} → Says (sort p) x us → Told k ds ws → Told (L p ∷ k) (x ∷ ds) (us ++ ws)
+  t_down : {k : List Sym} {ds : List Item} {ws : List Word} → Told k ds ws → Told (Down ∷ k) ds ws
+  t_one : {p : Part} {ps : List Part} {k : List Sym} {x : Item} {ds : List Item} {us ws : List Word} → Member p ps → Says (sort p) x us → Told k ds ws → Told (A ps ∷ k) (x ∷ ds) (us ++ ws)
+  t_some : {p : Part} {k : List Sym} {x : Item} {ds : List Item} {us ws : List Word} → Says (sort p) x us → Told k ds ws → Told (Opt p ∷ k) (x ∷ ds) (us ++ ws)
+  t_none : {p : Part} {k : List Sym} {ds : List Item} {ws : List Word} → Told k ds ws → Told (Opt p ∷ k) (none ∷ ds) ws
+  t_row : {p : Part} {k : List Sym} {x : Item} {ds : List Item} {us ws : List Word} → Row (sort p) x us → Told k ds ws → Told (Rep p ∷ k) (x ∷ ds) (us ++ ws)
+
+so : {s : List Sym} {ds : List Item} {us ws : List Word} → Told s ds us → us ≡ ws → Told s ds ws
+so {s} {ds} h e = subst (λ z. Told s ds z) e h
+
+decls_row : {x : Item} {us : List Word} → Row s_decl x us → us ≡ w.decls_words (a.the_decls x)
+decls_row row_end = refl
+decls_row (row_more (says_decl d) r) = ap (λ z. w.decl_words d ++ z) (decls_row r)
+
+stmts_row : {x : Item} {us : List Word} → Row s_stmt x us → us ≡ w.stmts_words (a.the_stmts x)
+stmts_row row_end = refl
+stmts_row (row_more (says_stmt s) r) = ap (λ z. w.stmt_words s ++ z) (stmts_row r)
+
+idents_row : {x : Item} {us : List Word} → Row s_more_ident x us → us ≡ w.more_ident_words (a.the_idents x)
+idents_row row_end = refl
+idents_row (row_more (says_more_ident i) r) = ap (λ z. word (codes ",") ∷ w.ident_word i ∷ z) (idents_row r)
+
+addeds_row : {x : Item} {us : List Word} → Row s_added x us → us ≡ w.addeds_words (a.the_addeds x)
+addeds_row row_end = refl
+addeds_row (row_more (says_added y) r) = ap (λ z. w.added_words y ++ z) (addeds_row r)
+
+multiplieds_row : {x : Item} {us : List Word} → Row s_multiplied x us → us ≡ w.multiplieds_words (a.the_multiplieds x)
+multiplieds_row row_end = refl
+multiplieds_row (row_more (says_multiplied y) r) = ap (λ z. w.multiplied_words y ++ z) (multiplieds_row r)
+
+no_member : {p : Part} → Member p [] → ⊥
+no_member h = elim h [ ]
+
+-- two parts, of which the second is a list
+two : (a b us ws : List Word) → us ≡ b → (a ++ b) ++ ws ≡ a ++ (us ++ ws)
+two a b us ws e = append_assoc a b ws ∙ ap (λ z. a ++ (z ++ ws)) (sym e)
+
+three : (a b c us ws : List Word) → us ≡ c → (a ++ b ++ c) ++ ws ≡ a ++ (b ++ (us ++ ws))
+three a b c us ws e = append_assoc (a ++ b) c ws ∙ append_assoc a b (c ++ ws) ∙ ap (λ z. a ++ (b ++ (z ++ ws))) (sym e)
+
+-- the words of a part are those of its symbols
+told_rule : (p : Part) {k : List Sym} {ds : List Item} {ws : List Word} → Told (rule p ++ k) ds ws → Told (N p ∷ k) (made p ds) ws
+told_rule g.Unit (t_word x (t_part (says_ident i) (t_word y (t_some (says_decls d) (t_part {ws = ws} (says_body b) r))))) =
+    so (t_part (says_unit (m.unit i (a.the_decls d) b)) r) (ap (λ z. word (codes "procedure") ∷ w.ident_word i ∷ last_word (codes "is") ∷ z) (append_assoc (w.decls_words (a.the_decls d)) (w.body_words b) ws))
+told_rule g.Unit (t_word x (t_part (says_ident i) (t_word y (t_none (t_part (says_body b) r))))) = t_part (says_unit (m.unit i m.no_decls b)) r
+told_rule g.Decls (t_level s (t_down r)) = t_part s r
+told_rule g.DeclList (t_part (says_decl d) (t_row {x = x} {us = us} {ws = ws} row r)) =
+    so (t_part (says_decls (cons (a.a_decl d) x)) r) (two (w.decl_words d) (w.decls_words (a.the_decls x)) us ws (decls_row row))
+told_rule g.Decl (t_part (says_idents x) (t_word c (t_part (says_ident i) (t_some (says_initial e) (t_word {ws = ws} s r))))) =
+    so (t_part (says_decl (m.object (a.the_idents x) i (m.a_simple e))) r)
+    (append_assoc (w.idents_words (a.the_idents x)) (word (codes ":") ∷ w.ident_word i ∷ word (codes ":=") ∷ (expr_words e ++ (last_word (codes ";") ∷ []))) ws
+    ∙ ap (λ z. w.idents_words (a.the_idents x) ++ (word (codes ":") ∷ w.ident_word i ∷ word (codes ":=") ∷ z)) (append_assoc (expr_words e) (last_word (codes ";") ∷ []) ws))
+told_rule g.Decl (t_part (says_idents x) (t_word c (t_part (says_ident i) (t_none (t_word {ws = ws} s r))))) =
+    so (t_part (says_decl (m.object (a.the_idents x) i m.no_simple)) r) (append_assoc (w.idents_words (a.the_idents x)) (word (codes ":") ∷ w.ident_word i ∷ last_word (codes ";") ∷ []) ws)
+told_rule g.Ids (t_part (says_ident i) (t_row {x = x} {us = us} {ws = ws} row r)) =
+    so (t_part (says_idents (cons (a.an_ident i) x)) r) (ap (λ z. w.ident_word i ∷ (z ++ ws)) (sym (idents_row row)))
+told_rule g.MoreIds (t_word c (t_part (says_ident i) r)) = t_part (says_more_ident i) r
+told_rule g.Initial (t_word c (t_part (says_expr e) r)) = t_part (says_initial e) r
+told_rule g.Body (t_token b (t_part (says_stmts x) (t_token e (t_some (says_ident i) (t_word {ws = ws} s r))))) =
+    so (t_part (says_body (m.body b.at (a.the_stmts x) e.at (Some i))) r)
+    (ap (λ z. last_word (codes "begin") ∷ z) (append_assoc (w.stmts_words (a.the_stmts x)) (word (codes "end") ∷ w.ident_word i ∷ last_word (codes ";") ∷ []) ws))
+told_rule g.Body (t_token b (t_part (says_stmts x) (t_token e (t_none (t_word {ws = ws} s r))))) =
+    so (t_part (says_body (m.body b.at (a.the_stmts x) e.at None)) r)
+    (ap (λ z. last_word (codes "begin") ∷ z) (append_assoc (w.stmts_words (a.the_stmts x)) (word (codes "end") ∷ last_word (codes ";") ∷ []) ws))
+told_rule g.Stmts (t_level s (t_down r)) = t_part s r
+told_rule g.StmtList (t_part (says_stmt d) (t_row {x = x} {us = us} {ws = ws} row r)) =
+    so (t_part (says_stmts (cons (a.a_stmt d) x)) r) (two (w.stmt_words d) (w.stmts_words (a.the_stmts x)) us ws (stmts_row row))
+told_rule g.Stmt (t_one here s r) = t_part s r
+told_rule g.Stmt (t_one (later here) s r) = t_part s r
+told_rule g.Stmt (t_one (later (later h)) s r) = absurd (no_member h)
+told_rule g.NullStmt (t_token n (t_word s r)) = t_part (says_stmt (m.null n.at)) r
+told_rule g.NameStmt (t_part (says_ident i) (t_part (says_assigned e) r)) = t_part (says_stmt (m.assign i e)) r
+told_rule g.NameStmt (t_part (says_ident i) (t_part (says_called e) r)) = t_part (says_stmt (m.call i e)) r
+told_rule g.NameRest (t_one here s r) = t_part s r
+told_rule g.NameRest (t_one (later here) s r) = t_part s r
+told_rule g.NameRest (t_one (later (later h)) s r) = absurd (no_member h)
+told_rule g.Assignment (t_word b (t_part (says_expr e) (t_word {ws = ws} s r))) =
+    so (t_part (says_assigned e) r) (ap (λ z. word (codes ":=") ∷ z) (append_assoc (expr_words e) (last_word (codes ";") ∷ []) ws))
+told_rule g.Call (t_part (says_parens at e) (t_word {ws = ws} s r)) =
+    so (t_part (says_called e) r) (append_assoc (w.in_parentheses (expr_words e)) (last_word (codes ";") ∷ []) ws)
+told_rule g.Expr (t_part s r) = t_part s r
+told_rule g.Simple (t_some (says_sign s) (t_part (says_term t) (t_row {x = x} {us = us} {ws = ws} row r))) =
+    so (t_part (says_expr (m.simple (Some s) t (a.the_addeds x))) r) (three (w.sign_words (Some s)) (w.term_words t) (w.addeds_words (a.the_addeds x)) us ws (addeds_row row))
+told_rule g.Simple (t_none (t_part (says_term t) (t_row {x = x} {us = us} {ws = ws} row r))) =
+    so (t_part (says_expr (m.simple None t (a.the_addeds x))) r) (two (w.term_words t) (w.addeds_words (a.the_addeds x)) us ws (addeds_row row))
+told_rule g.Sign (t_one here s r) = t_part s r
+told_rule g.Sign (t_one (later here) s r) = t_part s r
+told_rule g.Sign (t_one (later (later h)) s r) = absurd (no_member h)
+told_rule g.Positive (t_token t r) = t_part (says_sign (record { sign = sign.Plus; at = t.at })) r
+told_rule g.Negative (t_token t r) = t_part (says_sign (record { sign = sign.Minus; at = t.at })) r
+told_rule g.Added (t_part (says_adding o) (t_part (says_term t) r)) = t_part (says_added (m.added o t)) r
+told_rule g.AddingOperator (t_one here s r) = t_part s r
+told_rule g.AddingOperator (t_one (later here) s r) = t_part s r
+told_rule g.AddingOperator (t_one (later (later here)) s r) = t_part s r
+told_rule g.AddingOperator (t_one (later (later (later h))) s r) = absurd (no_member h)
+told_rule g.Plus (t_word x r) = t_part (says_adding adding.Plus) r
+told_rule g.Minus (t_word x r) = t_part (says_adding adding.Minus) r
+told_rule g.Join (t_word x r) = t_part (says_adding adding.Join) r
+told_rule g.Term (t_part (says_factor f) (t_row {x = x} {us = us} {ws = ws} row r)) =
+    so (t_part (says_term (m.term f (a.the_multiplieds x))) r) (two (w.factor_words f) (w.multiplieds_words (a.the_multiplieds x)) us ws (multiplieds_row row))
+told_rule g.Multiplied (t_part (says_multiplying o) (t_part (says_factor f) r)) = t_part (says_multiplied (m.multiplied o f)) r
+told_rule g.MultiplyingOperator (t_one here s r) = t_part s r
+told_rule g.MultiplyingOperator (t_one (later here) s r) = t_part s r
+told_rule g.MultiplyingOperator (t_one (later (later here)) s r) = t_part s r
+told_rule g.MultiplyingOperator (t_one (later (later (later here))) s r) = t_part s r
+told_rule g.MultiplyingOperator (t_one (later (later (later (later h)))) s r) = absurd (no_member h)
+told_rule g.Times (t_word x r) = t_part (says_multiplying multiplying.Times) r
+told_rule g.Divide (t_word x r) = t_part (says_multiplying multiplying.Divide) r
+told_rule g.Modulo (t_word x r) = t_part (says_multiplying multiplying.Modulo) r
+told_rule g.Remainder (t_word x r) = t_part (says_multiplying multiplying.Remainder) r
+told_rule g.Factor (t_some (says_operator o) (t_part (says_primary p) r)) = t_part (says_factor (m.factor (Some o) p)) r
+told_rule g.Factor (t_none (t_part (says_primary p) r)) = t_part (says_factor (m.factor None p)) r
+told_rule g.Operator (t_one here s r) = t_part s r
+told_rule g.Operator (t_one (later here) s r) = t_part s r
+told_rule g.Operator (t_one (later (later h)) s r) = absurd (no_member h)
+told_rule g.Magnitude (t_token t r) = t_part (says_operator (record { highest = highest.Magnitude; at = t.at })) r
+told_rule g.Not (t_token t r) = t_part (says_operator (record { highest = highest.Not; at = t.at })) r
+told_rule g.Primary (t_one here s r) = t_part s r
+told_rule g.Primary (t_one (later here) s r) = t_part s r
+told_rule g.Primary (t_one (later (later here)) s r) = t_part s r
+told_rule g.Primary (t_one (later (later (later here))) s r) = t_part s r
+told_rule g.Primary (t_one (later (later (later (later h)))) s r) = absurd (no_member h)
+told_rule g.Integer (t_part (says_number n) r) = t_part (says_primary (m.integer n)) r
+told_rule g.String (t_part (says_literal l) r) = t_part (says_primary (m.text l)) r
+told_rule g.Named (t_part (says_ident i) (t_some (says_attribute j e) r)) = t_part (says_primary (m.attribute i j e)) r
+told_rule g.Named (t_part (says_ident i) (t_none r)) = t_part (says_primary (m.name i)) r
+told_rule g.Attribute (t_word x (t_part (says_ident i) (t_some (says_parens at e) r))) = t_part (says_attribute i (m.a_simple e)) r
+told_rule g.Attribute (t_word x (t_part (says_ident i) (t_none r))) = t_part (says_attribute i m.no_simple) r
+told_rule g.Group (t_part (says_parens at e) r) = t_part (says_primary (m.group at e)) r
+told_rule g.Parens (t_level s (t_down r)) = t_part s r
+told_rule g.InParens (t_token t (t_part (says_expr e) (t_word {ws = ws} x r))) =
+    so (t_part (says_parens t.at e) r) (ap (λ z. word (codes "(") ∷ z) (append_assoc (expr_words e) (word (codes ")") ∷ []) ws))
+told_rule g.Id (t_token t r) = t_part (says_ident (a.ident_of (tok t))) r
+told_rule g.Number (t_token t r) = t_part (says_number (a.number_of (tok t))) r
+told_rule g.Literal (t_token t r) = t_part (says_literal (a.literal_of (tok t))) r
+
+told_level : {p : Part} {k : List Sym} {ds : List Item} {ws : List Word} → Told (N p ∷ k) ds ws → Told (L p ∷ k) ds ws
+told_level (t_part s r) = t_level s r
+
+told_one : {p : Part} {ps : List Part} {k : List Sym} {ds : List Item} {ws : List Word} → Member p ps → Told (N p ∷ k) ds ws → Told (A ps ∷ k) ds ws
+told_one h (t_part s r) = t_one h s r
+
+told_some : {p : Part} {k : List Sym} {ds : List Item} {ws : List Word} → Told (N p ∷ k) ds ws → Told (Opt p ∷ k) ds ws
+told_some (t_part s r) = t_some s r
+
+told_more : {p : Part} {k : List Sym} {ds : List Item} {ws : List Word} → Told (N p ∷ Rep p ∷ k) ds ws → Told (Rep p ∷ k) (listed ds) ws
+told_more (t_part {us = us} s (t_row {us = vs} {ws = ws} row r)) = so (t_row (row_more s row) r) (append_assoc us vs ws)
+
+told : {s : List Sym} {r : ℕ} {ds : List Item} {ts : List Element} → Derives s r ds ts → Told s ds (map written ts)
+told d_end = t_end
+told (d_word {c} {k} {r} {ds} {t} {ts} h d) = so (t_word t.text (told d)) (ap (λ n. written_as n t.text ∷ map written ts) (sym (is_code c (code t.kind) h)))
+told (d_token {c} {k} {r} {ds} {t} {ts} h d) = so (t_token t (told d)) (ap (λ n. written_as n t.text ∷ map written ts) (sym (is_code c (code t.kind) h)))
+told (d_rule {p} d) = told_rule p (told d)
+told (d_level d) = told_level (told d)
+told (d_down d) = t_down (told d)
+told (d_one h d) = told_one h (told d)
+told (d_yes d) = told_some (told d)
+told (d_no d) = t_none (told d)
+told (d_more d) = told_more (told d)
+told (d_stop d) = t_row row_end (told d)
+
+unit_told : {ds : List Item} {ws : List Word} → Told (N g.Unit ∷ []) ds ws → w.unit_words (the_unit (top ds)) ≡ ws
+unit_told (t_part (says_unit u) t_end) = sym (append-nil (w.unit_words u))
+
+-- the words of a program are its tokens, each written canonically
+pub words_of : (ts : List Element) (u : m.Unit) → Spells ts u → w.unit_words u ≡ map written ts
+words_of ts u s = ap w.unit_words (sym s.2) ∙ unit_told (told s.1)

@@ -1,0 +1,95 @@
+-- The words of a tree do not depend on its places.
+use Rattle.std.proofs.Common.{◌≡◌, List, [], ◌∷◌, map, refl, sym, ap, ◌∙◌}
+use Rattle.std.specs.Prelude.{Option, Some, None}
+use Rattle.aud_lex.specs.Spaced.{spaced}
+use Rattle.aud_syntax.specs.declared.tree.Ident.{Ident}
+use Rattle.aud_syntax.specs.declared.tree.Signed.{Signed}
+use Rattle.aud_syntax.specs.declared.tree.Operator.{Operator}
+use Rattle.aud_syntax.specs.Plain as m
+use Rattle.aud_syntax.specs.Bare.{bare_ident, bare_sign, bare_highest, bare_name, bare_simple, bare_addeds, bare_added, bare_term, bare_multiplieds, bare_multiplied, bare_factor, bare_primary, bare_maybe, bare_decl, bare_decls, bare_stmt, bare_stmts, bare_body, bare}
+use Rattle.aud_syntax.specs.Printed as w
+use Rattle.aud_syntax.specs.Laws.{WithoutPlaces}
+
+sign_same : (s : Option Signed) → w.sign_words (bare_sign s) ≡ w.sign_words s
+sign_same None = refl
+sign_same (Some x) = refl
+
+operator_same : (s : Option Operator) → w.operator_words (bare_highest s) ≡ w.operator_words s
+operator_same None = refl
+operator_same (Some x) = refl
+
+end_same : (s : Option Ident) → w.end_words (bare_name s) ≡ w.end_words s
+end_same None = refl
+end_same (Some x) = refl
+
+mutual
+  simple_same : (e : m.Simple) → w.simple_words (bare_simple e) ≡ w.simple_words e
+  simple_same (m.simple s t rest) = cc (sign_same s, term_same t, addeds_same rest)
+
+  addeds_same : (xs : m.Addeds) → w.addeds_words (bare_addeds xs) ≡ w.addeds_words xs
+  addeds_same m.no_addeds = refl
+  addeds_same (m.more_addeds x xs) = cc (added_same x, addeds_same xs)
+
+  added_same : (x : m.Added) → w.added_words (bare_added x) ≡ w.added_words x
+  added_same (m.added op t) = cc (term_same t)
+
+  term_same : (t : m.Term) → w.term_words (bare_term t) ≡ w.term_words t
+  term_same (m.term x rest) = cc (factor_same x, multiplieds_same rest)
+
+  multiplieds_same : (xs : m.Multiplieds) → w.multiplieds_words (bare_multiplieds xs) ≡ w.multiplieds_words xs
+  multiplieds_same m.no_multiplieds = refl
+  multiplieds_same (m.more_multiplieds x xs) = cc (multiplied_same x, multiplieds_same xs)
+
+  multiplied_same : (x : m.Multiplied) → w.multiplied_words (bare_multiplied x) ≡ w.multiplied_words x
+  multiplied_same (m.multiplied op x) = cc (factor_same x)
+
+  factor_same : (x : m.Factor) → w.factor_words (bare_factor x) ≡ w.factor_words x
+  factor_same (m.factor op x) = cc (operator_same op, primary_same x)
+
+  primary_same : (x : m.Primary) → w.primary_words (bare_primary x) ≡ w.primary_words x
+  primary_same (m.integer x) = refl
+  primary_same (m.text x) = refl
+  primary_same (m.name x) = refl
+  primary_same (m.attribute x y e) = cc (maybe_same e)
+  primary_same (m.group at e) = cc (simple_same e)
+
+  maybe_same : (e : m.MaybeSimple) → w.argument_words (bare_maybe e) ≡ w.argument_words e
+  maybe_same m.no_simple = refl
+  maybe_same (m.a_simple e) = cc (simple_same e)
+
+initial_same : (e : m.MaybeSimple) → w.initial_words (bare_maybe e) ≡ w.initial_words e
+initial_same m.no_simple = refl
+initial_same (m.a_simple e) = cc (simple_same e)
+
+more_idents_same : (xs : List Ident) → w.more_ident_words (map bare_ident xs) ≡ w.more_ident_words xs
+more_idents_same [] = refl
+more_idents_same (x ∷ xs) = cc (more_idents_same xs)
+
+idents_same : (xs : List Ident) → w.idents_words (map bare_ident xs) ≡ w.idents_words xs
+idents_same [] = refl
+idents_same (x ∷ xs) = cc (more_idents_same xs)
+
+decl_same : (x : m.Decl) → w.decl_words (bare_decl x) ≡ w.decl_words x
+decl_same (m.object names subtype value) = cc (idents_same names, initial_same value)
+
+decls_same : (xs : m.Decls) → w.decls_words (bare_decls xs) ≡ w.decls_words xs
+decls_same m.no_decls = refl
+decls_same (m.more_decls x xs) = cc (decl_same x, decls_same xs)
+
+stmt_same : (x : m.Stmt) → w.stmt_words (bare_stmt x) ≡ w.stmt_words x
+stmt_same (m.null at) = refl
+stmt_same (m.assign x e) = cc (simple_same e)
+stmt_same (m.call x e) = cc (simple_same e)
+
+stmts_same : (xs : m.Stmts) → w.stmts_words (bare_stmts xs) ≡ w.stmts_words xs
+stmts_same m.no_stmts = refl
+stmts_same (m.more_stmts x xs) = cc (stmt_same x, stmts_same xs)
+
+body_same : (x : m.Body) → w.body_words (bare_body x) ≡ w.body_words x
+body_same (m.body begin stmts end last) = cc (stmts_same stmts, end_same last)
+
+unit_same : (u : m.Unit) → w.unit_words (bare u) ≡ w.unit_words u
+unit_same (m.unit x decls rest) = cc (decls_same decls, body_same rest)
+
+pub without_places : WithoutPlaces
+without_places u v e = ap spaced (sym (unit_same u) ∙ ap w.unit_words e ∙ unit_same v)

@@ -1,0 +1,37 @@
+use Rattle.std.proofs.Common.{◌++◌, ◌∷◌, [], ap, refl, arith}
+use Rattle.std.specs.Prelude.{codes}
+use Rattle.aud_lex.specs.Spaced.{word}
+use Rattle.aud_syntax.specs.declared.tree.Simple.{out-Simple}
+use Rattle.aud_syntax.specs.declared.tree.Term.{out-Term}
+use Rattle.aud_syntax.specs.View.{plain_simple, plain_added, plain_term, plain_multiplied, plain_factor}
+use Rattle.aud_syntax.specs.Printed.{sign_words, simple_words, addeds_words, added_words, term_words, multiplieds_words, multiplied_words, factor_words}
+use Rattle.aud_syntax.proofs.Opened.{added_list, multiplied_list, simple_open, term_open}
+use Rattle.aud_syntax.proofs.Written.{both_written, all_written, next_written, loop_begins}
+use Rattle.aud_syntax.proofs.print.+print.Goals as goal
+
+pub push_expr-loop-next-init : goal.push_expr-loop-next-init
+push_expr-loop-next-init t c =
+    loop_begins c.args.out.now.items c.push_term.new.out.items (sign_words (out-Simple c.args.expr.now).sign ++ term_words (plain_term (out-Simple c.args.expr.now).first)) (addeds_words (added_list (out-Simple c.args.expr.now).rest.items)) (addeds_words (added_list c.deref-next-items.result.now)) (simple_words (plain_simple c.args.expr.now))
+    (ap (λ z. addeds_words (added_list z)) c.deref-next-items.ensures.value)
+    (ap simple_words (simple_open c.args.expr.now))
+    (both_written c.args.out.now.items c.push_sign.new.out.items c.push_term.new.out.items (sign_words (out-Simple c.args.expr.now).sign) (term_words (plain_term (out-Simple c.args.expr.now).first)) c.in_ok-push_sign.ensures c.in_ok-push_term.ensures)
+
+pub push_expr-loop-next-preserved : goal.push_expr-loop-next-preserved
+push_expr-loop-next-preserved t c =
+    next_written (λ xs. addeds_words (added_list xs)) (λ x. added_words (plain_added x)) (λ x xs. refl) c.deref-next-items.result.now c.loop-next.next-index c.next-item.result (omega arith) c.next-item.is c.loop-next.out.items c.push_added.new.out.items _ c.loop-next.invariant c.in_ok-push_added.ensures
+
+pub push_in_parentheses-returns : goal.push_in_parentheses-returns
+push_in_parentheses-returns t c =
+    all_written c.push_word-2.result c.args.out.now.items c.push_word.new.out.items c.push_word-2.new.out.items (word (codes "(") ∷ []) (simple_words (plain_simple c.args.inner.now) ++ (word (codes ")") ∷ [])) c.in_ok-push_word.ensures
+    (all_written c.push_word-2.result c.push_word.new.out.items c.push_expr.new.out.items c.push_word-2.new.out.items (simple_words (plain_simple c.args.inner.now)) (word (codes ")") ∷ []) c.in_ok-push_expr.ensures c.push_word-2.ensures)
+
+pub push_term-loop-next-init : goal.push_term-loop-next-init
+push_term-loop-next-init t c =
+    loop_begins c.args.out.now.items c.push_factor.new.out.items (factor_words (plain_factor (out-Term c.args.term.now).first)) (multiplieds_words (multiplied_list (out-Term c.args.term.now).rest.items)) (multiplieds_words (multiplied_list c.deref-next-items.result.now)) (term_words (plain_term c.args.term.now))
+    (ap (λ z. multiplieds_words (multiplied_list z)) c.deref-next-items.ensures.value)
+    (ap term_words (term_open c.args.term.now))
+    c.in_ok-push_factor.ensures
+
+pub push_term-loop-next-preserved : goal.push_term-loop-next-preserved
+push_term-loop-next-preserved t c =
+    next_written (λ xs. multiplieds_words (multiplied_list xs)) (λ x. multiplied_words (plain_multiplied x)) (λ x xs. refl) c.deref-next-items.result.now c.loop-next.next-index c.next-item.result (omega arith) c.next-item.is c.loop-next.out.items c.push_multiplied.new.out.items _ c.loop-next.invariant c.in_ok-push_multiplied.ensures

@@ -1,0 +1,171 @@
+-- The canonical text of a syntax tree: its words in order, each with a blank or, at the end of a line, a line feed behind it.
+use Rattle.std.specs.Prelude.{ℕ, ℤ, List, [], ◌∷◌, ◌++◌, ◌==◌, if◌then◌else◌, Option, Some, None, codes, nat_abs}
+use Rattle.std.specs.Fmt.{decimal}
+use Rattle.aud_lex.specs.Spaced.{Word, word, last_word, spaced}
+use Rattle.aud_syntax.specs.declared.tree.Ident.{Ident}
+use Rattle.aud_syntax.specs.declared.tree.Number.{Number}
+use Rattle.aud_syntax.specs.declared.tree.Literal.{Literal}
+use Rattle.aud_syntax.specs.declared.tree.Sign.{Sign}
+use Rattle.aud_syntax.specs.declared.tree.Sign.TheVariants as sign
+use Rattle.aud_syntax.specs.declared.tree.Signed.{Signed}
+use Rattle.aud_syntax.specs.declared.tree.Adding.{Adding}
+use Rattle.aud_syntax.specs.declared.tree.Adding.TheVariants as adding
+use Rattle.aud_syntax.specs.declared.tree.Multiplying.{Multiplying}
+use Rattle.aud_syntax.specs.declared.tree.Multiplying.TheVariants as multiplying
+use Rattle.aud_syntax.specs.declared.tree.Highest.{Highest}
+use Rattle.aud_syntax.specs.declared.tree.Highest.TheVariants as highest
+use Rattle.aud_syntax.specs.declared.tree.Operator.{Operator}
+use Rattle.aud_syntax.specs.Plain.{Simple, simple, Addeds, no_addeds, more_addeds, Added, added, Term, term, Multiplieds, no_multiplieds, more_multiplieds, Multiplied, multiplied, Factor, factor, Primary, integer, text, name, attribute, group, MaybeSimple, no_simple, a_simple, Decl, object, Decls, no_decls, more_decls, Stmt, null, assign, call, Stmts, no_stmts, more_stmts, Body, body, Unit, unit}
+
+-- a name as the tree has it, in capitals (RM 2.3)
+abbrev pub ident_word : Ident → Word
+ident_word x = word x.name
+
+-- the digits of a number without its sign, or of the least number that is larger than any Integer (RM 2.4.1)
+abbrev pub number_digits : Option ℤ → List ℕ
+number_digits (Some value) = decimal (nat_abs value)
+number_digits None = codes "2147483648"
+
+abbrev pub number_word : Number → Word
+number_word x = word (number_digits x.value)
+
+-- a quote is written as two (RM 2.6(4))
+abbrev pub doubled : List ℕ → List ℕ
+doubled [] = []
+doubled (byte ∷ bytes) = if byte == 34 then 34 ∷ 34 ∷ doubled bytes else byte ∷ doubled bytes
+
+-- a string literal of these characters (RM 2.6)
+abbrev pub quoted : List ℕ → List ℕ
+quoted characters = 34 ∷ (doubled characters ++ (34 ∷ []))
+
+abbrev pub literal_word : Literal → Word
+literal_word x = word (quoted x.text)
+
+-- RM 4.5
+abbrev pub sign_spelling : Sign → List ℕ
+sign_spelling sign.Plus = codes "+"
+sign_spelling sign.Minus = codes "-"
+
+abbrev pub sign_words : Option Signed → List Word
+sign_words None = []
+sign_words (Some x) = word (sign_spelling x.sign) ∷ []
+
+abbrev pub adding_spelling : Adding → List ℕ
+adding_spelling adding.Plus = codes "+"
+adding_spelling adding.Minus = codes "-"
+adding_spelling adding.Join = codes "&"
+
+abbrev pub multiplying_spelling : Multiplying → List ℕ
+multiplying_spelling multiplying.Times = codes "*"
+multiplying_spelling multiplying.Divide = codes "/"
+multiplying_spelling multiplying.Modulo = codes "mod"
+multiplying_spelling multiplying.Remainder = codes "rem"
+
+abbrev pub highest_spelling : Highest → List ℕ
+highest_spelling highest.Magnitude = codes "abs"
+highest_spelling highest.Not = codes "not"
+
+abbrev pub operator_words : Option Operator → List Word
+operator_words None = []
+operator_words (Some x) = word (highest_spelling x.highest) ∷ []
+
+abbrev pub in_parentheses : List Word → List Word
+in_parentheses ws = word (codes "(") ∷ (ws ++ (word (codes ")") ∷ []))
+
+-- RM 4.4
+abbrev mutual
+  pub simple_words : Simple → List Word
+  simple_words (simple s t rest) = sign_words s ++ term_words t ++ addeds_words rest
+
+  pub addeds_words : Addeds → List Word
+  addeds_words no_addeds = []
+  addeds_words (more_addeds x xs) = added_words x ++ addeds_words xs
+
+  pub added_words : Added → List Word
+  added_words (added op t) = word (adding_spelling op) ∷ term_words t
+
+  pub term_words : Term → List Word
+  term_words (term x rest) = factor_words x ++ multiplieds_words rest
+
+  pub multiplieds_words : Multiplieds → List Word
+  multiplieds_words no_multiplieds = []
+  multiplieds_words (more_multiplieds x xs) = multiplied_words x ++ multiplieds_words xs
+
+  pub multiplied_words : Multiplied → List Word
+  multiplied_words (multiplied op x) = word (multiplying_spelling op) ∷ factor_words x
+
+  pub factor_words : Factor → List Word
+  factor_words (factor op x) = operator_words op ++ primary_words x
+
+  pub primary_words : Primary → List Word
+  primary_words (integer x) = number_word x ∷ []
+  primary_words (text x) = literal_word x ∷ []
+  primary_words (name x) = ident_word x ∷ []
+  primary_words (attribute x y e) = ident_word x ∷ word (codes "'") ∷ ident_word y ∷ argument_words e
+  primary_words (group at e) = in_parentheses (simple_words e)
+
+  -- an attribute's argument (RM 4.1.4)
+  pub argument_words : MaybeSimple → List Word
+  argument_words no_simple = []
+  argument_words (a_simple e) = in_parentheses (simple_words e)
+
+-- RM 3.3.1
+abbrev pub more_ident_words : List Ident → List Word
+more_ident_words [] = []
+more_ident_words (x ∷ xs) = word (codes ",") ∷ ident_word x ∷ more_ident_words xs
+
+abbrev pub idents_words : List Ident → List Word
+idents_words [] = []
+idents_words (x ∷ xs) = ident_word x ∷ more_ident_words xs
+
+abbrev pub initial_words : MaybeSimple → List Word
+initial_words no_simple = []
+initial_words (a_simple e) = word (codes ":=") ∷ simple_words e
+
+abbrev pub object_words : List Ident → Ident → MaybeSimple → List Word
+object_words names subtype value = idents_words names ++ (word (codes ":") ∷ ident_word subtype ∷ (initial_words value ++ (last_word (codes ";") ∷ [])))
+
+abbrev pub decl_words : Decl → List Word
+decl_words (object names subtype value) = object_words names subtype value
+
+abbrev pub decls_words : Decls → List Word
+decls_words no_decls = []
+decls_words (more_decls x xs) = decl_words x ++ decls_words xs
+
+-- RM 5.1(6)
+abbrev pub null_words : List Word
+null_words = word (codes "null") ∷ last_word (codes ";") ∷ []
+
+-- RM 5.2
+abbrev pub assignment_words : Ident → Simple → List Word
+assignment_words x e = ident_word x ∷ word (codes ":=") ∷ (simple_words e ++ (last_word (codes ";") ∷ []))
+
+-- RM 6.4
+abbrev pub call_words : Ident → Simple → List Word
+call_words x e = ident_word x ∷ (in_parentheses (simple_words e) ++ (last_word (codes ";") ∷ []))
+
+-- RM 5.1
+abbrev pub stmt_words : Stmt → List Word
+stmt_words (null at) = null_words
+stmt_words (assign x e) = assignment_words x e
+stmt_words (call x e) = call_words x e
+
+abbrev pub stmts_words : Stmts → List Word
+stmts_words no_stmts = []
+stmts_words (more_stmts x xs) = stmt_words x ++ stmts_words xs
+
+-- the name after `end` (RM 6.3)
+abbrev pub end_words : Option Ident → List Word
+end_words None = []
+end_words (Some x) = ident_word x ∷ []
+
+-- RM 11.2
+abbrev pub body_words : Body → List Word
+body_words (body begin stmts end last) = last_word (codes "begin") ∷ (stmts_words stmts ++ (word (codes "end") ∷ (end_words last ++ (last_word (codes ";") ∷ []))))
+
+-- RM 6.3, 10.1.1
+abbrev pub unit_words : Unit → List Word
+unit_words (unit x decls rest) = word (codes "procedure") ∷ ident_word x ∷ last_word (codes "is") ∷ (decls_words decls ++ body_words rest)
+
+abbrev pub printed : Unit → List ℕ
+printed u = spaced (unit_words u)

@@ -1,0 +1,363 @@
+// The canonical text of a syntax tree: its words in order, each with a blank or, at the end of a
+// line, a line feed behind it.
+
+ghost use Rattle.std.specs.Prelude.{◌≡◌, ◌++◌, ◌∷◌, [], IfOk, OnOk};
+ghost use Rattle.aud_lex.specs.Spaced.{word, last_word, spaced};
+ghost use Rattle.aud_syntax.specs.View.{plain_simple, plain_added, plain_term, plain_multiplied, plain_factor, plain_primary, plain_maybe, plain_decl, plain_decls, plain_stmt, plain_stmts, plain_body, plain_unit};
+ghost use Rattle.aud_syntax.specs.Printed.{ident_word, number_word, doubled, literal_word, sign_words, adding_spelling, multiplying_spelling, operator_words, simple_words, added_words, term_words, multiplied_words, factor_words, primary_words, in_parentheses, more_ident_words, idents_words, initial_words, object_words, decl_words, decls_words, null_words, assignment_words, call_words, stmt_words, stmts_words, end_words, body_words, unit_words, printed};
+
+use crate::tree::{
+    Added, Adding, Body, Decl, Expr, Factor, Highest, Ident, Literal, Multiplied, Multiplying,
+    Number, Operator, Primary, Sign, Signed, Stmt, Term, Unit,
+};
+use aud_text::digits::push_decimal;
+use aud_text::text::Text;
+use std::alloc::{AllocError, Global};
+
+/// The canonical text of a program: its words in order, names in capitals and numbers in base ten,
+/// each with a blank or, at the end of a line, a line feed behind it. A program that was read from a
+/// text is read from its canonical text again, but for the places.
+///
+/// A number without a value is written as one that is larger than any Integer, and a negative one,
+/// which no text has, without its sign.
+///
+/// # Errors
+///
+/// Memory ran out.
+pub fn print(alloc: Global, unit: &Unit) -> Result<Text, AllocError>
+    ensures { IfOk result (λ text. text ≡ printed (plain_unit unit.now)) }
+{
+    let mut out = Vec::new(alloc);
+    push_unit(&mut out, unit)?;
+    Ok(Text::new(out))
+}
+
+// RM 6.3, 10.1.1
+fn push_unit(out: &mut Vec<u8>, unit: &Unit) -> Result<(), AllocError>
+    ensures { OnOk result (out.new.items ≡ out.old.items ++ spaced (unit_words (plain_unit unit.now))) }
+{
+    push_word(out, b"procedure")?;
+    push_ident(out, &unit.name)?;
+    push_last_word(out, b"is")?;
+    push_decls(out, &unit.decls)?;
+    push_body(out, &unit.body)
+}
+
+// RM 11.2
+fn push_body(out: &mut Vec<u8>, body: &Body) -> Result<(), AllocError>
+    ensures { OnOk result (out.new.items ≡ out.old.items ++ spaced (body_words (plain_body body.now))) }
+{
+    push_last_word(out, b"begin")?;
+    push_stmts(out, &body.stmts)?;
+    push_word(out, b"end")?;
+    push_end_name(out, &body.name)?;
+    push_last_word(out, b";")
+}
+
+fn push_end_name(out: &mut Vec<u8>, name: &Option<Ident>) -> Result<(), AllocError>
+    ensures { OnOk result (out.new.items ≡ out.old.items ++ spaced (end_words name.now)) }
+{
+    match name {
+        None => Ok(()),
+        Some(name) => push_ident(out, name),
+    }
+}
+
+fn push_stmts(out: &mut Vec<u8>, stmts: &[Stmt]) -> Result<(), AllocError>
+    ensures { OnOk result (out.new.items ≡ out.old.items ++ spaced (stmts_words (plain_stmts stmts.now))) }
+{
+    for next in stmts {
+        push_stmt(out, next)?;
+    }
+    Ok(())
+}
+
+// RM 5.1
+fn push_stmt(out: &mut Vec<u8>, stmt: &Stmt) -> Result<(), AllocError>
+    ensures { OnOk result (out.new.items ≡ out.old.items ++ spaced (stmt_words (plain_stmt stmt.now))) }
+{
+    match stmt {
+        Stmt::Null(_) => push_null(out),
+        Stmt::Assign(target, value) => push_assignment(out, target, value),
+        Stmt::Call(name, argument) => push_call(out, name, argument),
+    }
+}
+
+fn push_null(out: &mut Vec<u8>) -> Result<(), AllocError>
+    ensures { OnOk result (out.new.items ≡ out.old.items ++ spaced null_words) }
+{
+    push_word(out, b"null")?;
+    push_last_word(out, b";")
+}
+
+// RM 5.2
+fn push_assignment(out: &mut Vec<u8>, target: &Ident, value: &Expr) -> Result<(), AllocError>
+    ensures { OnOk result (out.new.items ≡ out.old.items ++ spaced (assignment_words target.now (plain_simple value.now))) }
+{
+    push_ident(out, target)?;
+    push_word(out, b":=")?;
+    push_expr(out, value)?;
+    push_last_word(out, b";")
+}
+
+// RM 6.4
+fn push_call(out: &mut Vec<u8>, name: &Ident, argument: &Expr) -> Result<(), AllocError>
+    ensures { OnOk result (out.new.items ≡ out.old.items ++ spaced (call_words name.now (plain_simple argument.now))) }
+{
+    push_ident(out, name)?;
+    push_in_parentheses(out, argument)?;
+    push_last_word(out, b";")
+}
+
+fn push_decls(out: &mut Vec<u8>, decls: &[Decl]) -> Result<(), AllocError>
+    ensures { OnOk result (out.new.items ≡ out.old.items ++ spaced (decls_words (plain_decls decls.now))) }
+{
+    for next in decls {
+        push_decl(out, next)?;
+    }
+    Ok(())
+}
+
+// RM 3.3.1
+fn push_decl(out: &mut Vec<u8>, decl: &Decl) -> Result<(), AllocError>
+    ensures { OnOk result (out.new.items ≡ out.old.items ++ spaced (decl_words (plain_decl decl.now))) }
+{
+    let Decl::Object(names, subtype, value) = decl;
+    push_object(out, names, subtype, value)
+}
+
+fn push_object(
+    out: &mut Vec<u8>,
+    names: &[Ident],
+    subtype: &Ident,
+    value: &Option<Expr>,
+) -> Result<(), AllocError>
+    ensures { OnOk result (out.new.items ≡ out.old.items ++ spaced (object_words names.now subtype.now (plain_maybe value.now))) }
+{
+    push_idents(out, names)?;
+    push_word(out, b":")?;
+    push_ident(out, subtype)?;
+    push_initial(out, value)?;
+    push_last_word(out, b";")
+}
+
+fn push_initial(out: &mut Vec<u8>, value: &Option<Expr>) -> Result<(), AllocError>
+    ensures { OnOk result (out.new.items ≡ out.old.items ++ spaced (initial_words (plain_maybe value.now))) }
+{
+    match value {
+        None => Ok(()),
+        Some(value) => {
+            push_word(out, b":=")?;
+            push_expr(out, value)
+        }
+    }
+}
+
+fn push_idents(out: &mut Vec<u8>, names: &[Ident]) -> Result<(), AllocError>
+    ensures { OnOk result (out.new.items ≡ out.old.items ++ spaced (idents_words names.now)) }
+{
+    match names {
+        [] => Ok(()),
+        [first, others @ ..] => {
+            push_ident(out, first)?;
+            push_more_idents(out, others)
+        }
+    }
+}
+
+fn push_more_idents(out: &mut Vec<u8>, names: &[Ident]) -> Result<(), AllocError>
+    ensures { OnOk result (out.new.items ≡ out.old.items ++ spaced (more_ident_words names.now)) }
+{
+    for next in names {
+        push_word(out, b",")?;
+        push_ident(out, next)?;
+    }
+    Ok(())
+}
+
+#[cycle(print)]
+fn push_in_parentheses(out: &mut Vec<u8>, inner: &Expr) -> Result<(), AllocError>
+    ensures { OnOk result (out.new.items ≡ out.old.items ++ spaced (in_parentheses (simple_words (plain_simple inner.now)))) }
+{
+    push_word(out, b"(")?;
+    push_expr(out, inner)?;
+    push_word(out, b")")
+}
+
+// RM 4.4
+#[cycle(print)]
+fn push_expr(out: &mut Vec<u8>, expr: &Expr) -> Result<(), AllocError>
+    ensures { OnOk result (out.new.items ≡ out.old.items ++ spaced (simple_words (plain_simple expr.now))) }
+{
+    push_sign(out, expr.sign)?;
+    push_term(out, &expr.first)?;
+    for next in &expr.rest {
+        push_added(out, next)?;
+    }
+    Ok(())
+}
+
+#[cycle(print)]
+fn push_added(out: &mut Vec<u8>, added: &Added) -> Result<(), AllocError>
+    ensures { OnOk result (out.new.items ≡ out.old.items ++ spaced (added_words (plain_added added.now))) }
+{
+    push_adding(out, added.op)?;
+    push_term(out, &added.term)
+}
+
+#[cycle(print)]
+fn push_term(out: &mut Vec<u8>, term: &Term) -> Result<(), AllocError>
+    ensures { OnOk result (out.new.items ≡ out.old.items ++ spaced (term_words (plain_term term.now))) }
+{
+    push_factor(out, &term.first)?;
+    for next in &term.rest {
+        push_multiplied(out, next)?;
+    }
+    Ok(())
+}
+
+#[cycle(print)]
+fn push_multiplied(out: &mut Vec<u8>, multiplied: &Multiplied) -> Result<(), AllocError>
+    ensures { OnOk result (out.new.items ≡ out.old.items ++ spaced (multiplied_words (plain_multiplied multiplied.now))) }
+{
+    push_multiplying(out, multiplied.op)?;
+    push_factor(out, &multiplied.factor)
+}
+
+#[cycle(print)]
+fn push_factor(out: &mut Vec<u8>, factor: &Factor) -> Result<(), AllocError>
+    ensures { OnOk result (out.new.items ≡ out.old.items ++ spaced (factor_words (plain_factor factor.now))) }
+{
+    push_operator(out, factor.op)?;
+    push_primary(out, &factor.primary)
+}
+
+#[cycle(print)]
+fn push_primary(out: &mut Vec<u8>, primary: &Primary) -> Result<(), AllocError>
+    ensures { OnOk result (out.new.items ≡ out.old.items ++ spaced (primary_words (plain_primary primary.now))) }
+{
+    match primary {
+        Primary::Integer(number) => push_number(out, *number),
+        Primary::Text(literal) => push_literal(out, literal),
+        Primary::Name(name) => push_ident(out, name),
+        Primary::Attribute(prefix, designator, argument) => {
+            push_ident(out, prefix)?;
+            push_word(out, b"'")?;
+            push_ident(out, designator)?;
+            match argument {
+                None => Ok(()),
+                Some(argument) => push_in_parentheses(out, argument),
+            }
+        }
+        Primary::Group(_, inner) => push_in_parentheses(out, inner),
+    }
+}
+
+// RM 4.5.4
+fn push_sign(out: &mut Vec<u8>, sign: Option<Signed>) -> Result<(), AllocError>
+    ensures { OnOk result (out.new.items ≡ out.old.items ++ spaced (sign_words sign)) }
+{
+    let Some(signed) = sign else {
+        return Ok(());
+    };
+    match signed.sign {
+        Sign::Plus => push_word(out, b"+"),
+        Sign::Minus => push_word(out, b"-"),
+    }
+}
+
+// RM 4.5.3
+fn push_adding(out: &mut Vec<u8>, op: Adding) -> Result<(), AllocError>
+    ensures { OnOk result (out.new.items ≡ out.old.items ++ spaced (word (adding_spelling op) ∷ [])) }
+{
+    match op {
+        Adding::Plus => push_word(out, b"+"),
+        Adding::Minus => push_word(out, b"-"),
+        Adding::Join => push_word(out, b"&"),
+    }
+}
+
+// RM 4.5.5
+fn push_multiplying(out: &mut Vec<u8>, op: Multiplying) -> Result<(), AllocError>
+    ensures { OnOk result (out.new.items ≡ out.old.items ++ spaced (word (multiplying_spelling op) ∷ [])) }
+{
+    match op {
+        Multiplying::Times => push_word(out, b"*"),
+        Multiplying::Divide => push_word(out, b"/"),
+        Multiplying::Modulo => push_word(out, b"mod"),
+        Multiplying::Remainder => push_word(out, b"rem"),
+    }
+}
+
+// RM 4.5.6
+fn push_operator(out: &mut Vec<u8>, op: Option<Operator>) -> Result<(), AllocError>
+    ensures { OnOk result (out.new.items ≡ out.old.items ++ spaced (operator_words op)) }
+{
+    let Some(op) = op else {
+        return Ok(());
+    };
+    match op.highest {
+        Highest::Magnitude => push_word(out, b"abs"),
+        Highest::Not => push_word(out, b"not"),
+    }
+}
+
+fn push_ident(out: &mut Vec<u8>, ident: &Ident) -> Result<(), AllocError>
+    ensures { OnOk result (out.new.items ≡ out.old.items ++ spaced (ident_word ident.now ∷ [])) }
+{
+    push_word(out, ident.name.as_bytes())
+}
+
+// RM 2.4.1
+fn push_number(out: &mut Vec<u8>, number: Number) -> Result<(), AllocError>
+    ensures { OnOk result (out.new.items ≡ out.old.items ++ spaced (number_word number ∷ [])) }
+{
+    match number.value {
+        Some(value) => {
+            push_decimal(out, u64::from(value.get().unsigned_abs()))?;
+            out.push(b' ')?;
+            Ok(())
+        }
+        None => push_word(out, b"2147483648"),
+    }
+}
+
+// RM 2.6
+fn push_literal(out: &mut Vec<u8>, literal: &Literal) -> Result<(), AllocError>
+    ensures { OnOk result (out.new.items ≡ out.old.items ++ spaced (literal_word literal.now ∷ [])) }
+{
+    out.push(b'"')?;
+    push_doubled(out, literal.text.as_bytes())?;
+    push_word(out, b"\"")
+}
+
+// The characters, each quote twice.
+fn push_doubled(out: &mut Vec<u8>, characters: &[u8]) -> Result<(), AllocError>
+    ensures { OnOk result (out.new.items ≡ out.old.items ++ doubled characters.now) }
+{
+    for byte in characters {
+        if *byte == b'"' {
+            out.push(b'"')?;
+        }
+        out.push(*byte)?;
+    }
+    Ok(())
+}
+
+// The word and a blank.
+fn push_word(out: &mut Vec<u8>, spelling: &[u8]) -> Result<(), AllocError>
+    ensures { OnOk result (out.new.items ≡ out.old.items ++ spaced (word spelling.now ∷ [])) }
+{
+    out.extend_from_slice(spelling)?;
+    out.push(b' ')?;
+    Ok(())
+}
+
+// The word and a line feed.
+fn push_last_word(out: &mut Vec<u8>, spelling: &[u8]) -> Result<(), AllocError>
+    ensures { OnOk result (out.new.items ≡ out.old.items ++ spaced (last_word spelling.now ∷ [])) }
+{
+    out.extend_from_slice(spelling)?;
+    out.push(b'\n')?;
+    Ok(())
+}
