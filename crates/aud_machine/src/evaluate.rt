@@ -2,7 +2,7 @@
 
 ghost use Rattle.std.specs.Prelude.{◌≡◌, ℕ, ◌+◌, ◌-◌, ◌^◌, ◌<◌, ◌≤◌, List, [], length, drop, min, IfOk, All};
 ghost use Rattle.aud_code.specs.declared.code.Line.{Line};
-ghost use Rattle.aud_code.specs.Eval.{Then, act, eval};
+ghost use Rattle.aud_code.specs.Eval.{Ended, Then, act, eval, ticks_of};
 ghost use Rattle.aud_code.specs.Sound.{Leads, InstrFine};
 ghost use Rattle.aud_meaning.specs.Evaluation.{unary_of, binary_of};
 ghost use Rattle.aud_machine.specs.Flow.{Needs, followed, FlowFits, LeftBy, ended, OutcomeFits};
@@ -63,7 +63,8 @@ pub fn execute(
 ) -> Result<Flow, AllocError>
     requires needs { Needs instr.now (length operands.old.ints) (length display.now) }
     requires frames { All (λ frame. frame < length frames.now) display.now }
-    ensures acts { IfOk result (λ flow. (go : Then) → act display.now frames.now instr.now go operands.old.ints operands.old.text ≡ followed flow go operands.new) }
+    ensures acts { IfOk result (λ flow. (go : Then Ended) → act (λ e. e) display.now frames.now instr.now go operands.old.ints operands.old.text ≡ followed (λ e. e) flow go operands.new) }
+    ensures counts { IfOk result (λ flow. (go : Then ℕ) → act (λ e. 0) display.now frames.now instr.now go operands.old.ints operands.old.text ≡ followed (λ e. 0) flow go operands.new) }
     ensures fits { IfOk result (λ flow. (code : List Line) → (place : ℕ) → InstrFine code place instr.now (length operands.old.ints) (length display.now) → FlowFits flow code place operands.new (length display.now)) }
     ensures tick { ticks.new ≡ min (ticks.old + 1) u64.MAX }
 {
@@ -130,7 +131,8 @@ pub fn evaluate(
     requires frames { All (λ frame. frame < length frames.now) display.now }
     ensures ends { IfOk result (λ outcome. ended outcome operands.new ≡ eval display.now frames.now (drop place code.now) [] []) }
     ensures fits { IfOk result (λ outcome. OutcomeFits outcome code.now operands.new (length display.now)) }
-    ensures ticks { ticks.new + place ≤ ticks.old + length code.now }
+    ensures ticks { IfOk result (λ outcome. ticks.new ≡ min (ticks.old + ticks_of display.now frames.now (drop place code.now) [] []) u64.MAX) }
+    ensures few { ticks.new + place ≤ ticks.old + length code.now }
 {
     operands.clear();
     for at in place..code.len() {

@@ -8,6 +8,7 @@ use crate::operands::Operands;
 use crate::progress::Progress;
 use aud_code::sound::SoundCode;
 use aud_meaning::state::State;
+use aud_text::limits::STEPS;
 use std::alloc::AllocError;
 
 /// What a run did: its steps, the instructions that they took, and what can happen next.
@@ -26,7 +27,7 @@ pub fn run(
     n: u32,
 ) -> Result<Ran, AllocError>
     requires fit { AllFit code.now progress.old }
-    requires budget { progress.old.steps + n ≤ u32.MAX }
+    requires budget { progress.old.steps + n ≤ STEPS }
     ensures runs { IfOk result (λ ran. RunsTo code.now n progress.old progress.new ran) }
     ensures fit { IfOk result (λ _. AllFit code.now progress.new) }
     ensures few { IfOk result (λ ran. ran.steps ≤ n) }

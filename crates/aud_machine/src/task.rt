@@ -1,10 +1,11 @@
 // A task, and its steps.
 
-ghost use Rattle.std.specs.Prelude.{◌≡◌, ◌<◌, ◌≤◌, ◌+◌, ◌∷◌, [], length, All, OnOk, IfOk};
+ghost use Rattle.std.specs.Prelude.{◌≡◌, ◌<◌, ◌≤◌, ◌+◌, ◌∷◌, [], length, min, All, OnOk, IfOk};
 ghost use Rattle.aud_meaning.specs.Effects.{raises};
 ghost use Rattle.aud_meaning.specs.Run.{acting, is_terminated};
 ghost use Rattle.aud_code.specs.Next.{next, effect};
 ghost use Rattle.aud_machine.specs.Fits.{Fits, Ready};
+ghost use Rattle.aud_machine.specs.Ticks.{task_ticks};
 
 use crate::evaluate::{Outcome, evaluate};
 use crate::operands::Operands;
@@ -58,6 +59,27 @@ impl Task {
         }
     }
 
+    /// How far it is.
+    pub fn status(&self) -> Status
+        ensures { result ≡ self.now.own.status }
+    {
+        self.status
+    }
+
+    /// The exception that is raised and not yet handled (RM 11.4).
+    pub fn pending(&self) -> Option<Raise>
+        ensures { result ≡ self.now.own.pending }
+    {
+        self.pending
+    }
+
+    /// The numbers of the frames that it sees, outermost first.
+    pub fn display(&self) -> &[usize]
+        ensures { result.now ≡ self.now.own.display }
+    {
+        &self.display
+    }
+
     /// The exception that completed it.
     pub fn raised(&self) -> Option<Raise>
         ensures { result ≡ self.now.own.raised }
@@ -77,8 +99,11 @@ impl Task {
         ensures next { OnOk result (acting self.new shared.new ≡ next code.now (acting self.old shared.old)) }
         ensures fits { OnOk result (Fits code.now (length shared.new.frames) self.new) }
         ensures frames { OnOk result (length shared.new.frames ≡ length shared.old.frames) }
-        ensures ticks { ticks.new ≤ ticks.old + length code.now }
+        ensures ticks { OnOk result (ticks.new ≡ min (ticks.old + task_ticks code.now (acting self.old shared.old)) u64.MAX) }
+        ensures few { ticks.new ≤ ticks.old + length code.now }
     {
+        // seen before any instruction, so that it is known to be a u64 where none is executed
+        let _before = *ticks;
         match self.status {
             Status::Running => {}
             Status::Completed => {
