@@ -5,9 +5,9 @@ ghost use Rattle.aud_text.specs.declared.limits.Limits.{Limits};
 ghost use Rattle.aud_typed.specs.View.{plain_program};
 ghost use Rattle.aud_typed.specs.Scoped.{IsScoped};
 ghost use Rattle.aud_meaning.specs.Configuration.{Configuration};
-ghost use Rattle.aud_meaning.specs.Run.{moves, state_of, main_raised, supplied, advanced, opening};
+ghost use Rattle.aud_meaning.specs.Run.{Move, moves, state_of, main_raised, supplied, advanced, opening};
 ghost use Rattle.aud_machine.specs.Shows.{Shows, RunsFrom, Takes};
-ghost use Rattle.aud_machine.specs.Ticks.{run_ticks};
+ghost use Rattle.aud_machine.specs.Ticks.{step_ticks, run_ticks};
 
 use crate::operands::Operands;
 use crate::parts::Parts;
@@ -235,6 +235,7 @@ impl Machine {
     pub fn take(&mut self, alloc: Global, nth: usize) -> Result<Option<Ran>, AllocError>
         requires { self.old.all.steps < STEPS }
         ensures takes { IfOk result (λ taken. (limits : Limits) → (c : Configuration) → Shows self.old c → Takes limits c (slice_get (moves c) nth) self.old self.new taken) }
+        ensures ticks { IfOk result (λ taken. IfSome taken (λ ran. (m : Move) → slice_get (moves self.old.all) nth ≡ Some m → ran.ticks ≡ min (step_ticks self.old.code m.task self.old.all) u64.MAX)) }
         ensures few_ticks { IfOk result (λ taken. IfSome taken (λ ran. ran.ticks ≤ length self.old.code)) }
         ensures code { self.new.code ≡ self.old.code }
         ensures program { self.new.program ≡ self.old.program }
