@@ -1,40 +1,69 @@
 """Times `aud --solo` on straight-line programs beside other interpreters on the same statements.
 
-Each interpreter loads the same text of assignments again and again, first without running it and
-then running it once a load. The difference of the two times is that of the runs. Each time is the
-least of several processes'. benchmark.sh calls it.
+Each loads a text of assignments again and again and runs it once a load. The others time their loads
+and their runs themselves. Of aud the processor time of whole sessions is taken, of LOADs alone and of
+LOADs and RUNs, and the runs are the difference. Each number is the least of several processes'.
+benchmark.sh calls it.
 """
 import os
 import shutil
 import subprocess
 import sys
 import tempfile
-import time
 
 SOURCE = 32_768  # bytes of the largest source text
 JOURNAL = 1_048_576  # bytes of all requests of a session
 PER_LINE = 100  # assignments on a line of 700 bytes; a line may have 1,024
-TIMES = 5  # processes that are timed for each number
+TIMES = 7  # processes that are timed for each number
 
 HEAD, TAIL = "procedure B is X:Integer:=0;begin\n", "end B;\n"
 
-# LOADER takes the text of the assignments, how often to load it, and whether to run it
+# what the others do with the text of the assignments, so many times; they print two times in seconds
 PYTHON = """
 import sys
-text, loads, runs = open(sys.argv[1]).read(), int(sys.argv[2]), sys.argv[3] == "run"
-for _ in range(loads):
+from time import process_time
+text, loads, runs = open(sys.argv[1]).read(), 0.0, 0.0
+for _ in range(int(sys.argv[2])):
+    begin = process_time()
     code = compile(text, "b", "exec")
-    if runs:
-        exec(code, {"X": 0})
+    loaded = process_time()
+    exec(code, {"X": 0})
+    loads, runs = loads + loaded - begin, runs + process_time() - loaded
+print(loads, runs)
 """
 LUA = """
 local file = io.open(arg[1])
-local text = file:read("a")
+local text, loads, runs = file:read("a"), 0, 0
 for _ = 1, tonumber(arg[2]) do
+  local begin = os.clock()
   local code = load(text)
-  if arg[3] == "run" then X = 0; code() end
+  local loaded = os.clock()
+  X = 0
+  code()
+  loads, runs = loads + loaded - begin, runs + os.clock() - loaded
 end
+print(loads, runs)
 """
+
+
+class Figures:
+    def __init__(self, name, load, run, steps, peak):
+        self.name = name
+        self.load = load
+        self.speed = steps / run
+        self.peak = peak
+
+    def line(self):
+        return (
+            f"{self.name:8} load {self.load * 1e3:7.2f} ms   {self.speed:11,.0f} steps a second"
+            f"   peak {self.peak / 1e6:5.1f} MB"
+        )
+
+    def beside(self, other):
+        return (
+            f"{self.name} to {other.name}: load time {self.load / other.load:.2f},"
+            f" steps a second {self.speed / other.speed:.2f}, peak memory {self.peak / other.peak:.2f}"
+        )
 
 
 def assignments():
@@ -54,62 +83,53 @@ def in_lines(statement, count):
     return "".join(lines)
 
 
-def measure(words, stdin=None):
-    """The least time of a process in seconds, its peak memory in bytes, and what it wrote."""
-    least, peak, wrote = None, 0, b""
-    for _ in range(TIMES):
-        with tempfile.TemporaryFile() as out:
-            begin = time.perf_counter()
-            with open(stdin or os.devnull, "rb") as given:
-                process = subprocess.Popen(words, stdin=given, stdout=out)
-                _, status, used = os.wait4(process.pid, 0)
-            took = time.perf_counter() - begin
-            process.returncode = os.waitstatus_to_exitcode(status)
-            if process.returncode != 0:
-                sys.exit(f"benchmark: {words[0]} ended with status {process.returncode}")
-            out.seek(0)
-            wrote = out.read()
-        least = took if least is None else min(least, took)
-        peak = max(peak, used.ru_maxrss * 1024)
-    return least, peak, wrote
+def measure(words, stdin=os.devnull):
+    """A process's processor time in seconds, its peak memory in bytes, and what it wrote."""
+    with tempfile.TemporaryFile() as out, open(stdin, "rb") as given:
+        process = subprocess.Popen(words, stdin=given, stdout=out)
+        _, status, used = os.wait4(process.pid, 0)
+        process.returncode = os.waitstatus_to_exitcode(status)
+        if process.returncode != 0:
+            sys.exit(f"benchmark: {words[0]} ended with status {process.returncode}")
+        out.seek(0)
+        return used.ru_utime + used.ru_stime, used.ru_maxrss * 1024, out.read()
 
 
-class Figures:
-    def __init__(self, name, start, load, run, loads, count, peak):
-        self.name = name
-        self.load = (load - start) / loads
-        # runs that are shorter than the clock can tell count as one microsecond
-        self.speed = count / max((run - load) / loads, 1e-6)
-        self.peak = peak
+def session(program, folder, name, text, told, times):
+    """The least processor time of a session, and its peak memory; its answers say `told` so often."""
+    path = f"{folder}/{name}.txt"
+    with open(path, "w") as file:
+        file.write(text)
+    measured = [measure([program, "--solo"], path) for _ in range(TIMES)]
+    for _, _, wrote in measured:
+        if wrote.count(told) != times:
+            sys.exit("benchmark: aud did not load and run each program to its end")
+    return min(it[0] for it in measured), max(it[1] for it in measured)
 
 
 def of_aud(program, count, folder):
     source = HEAD + in_lines("X:=X+1;", count) + TAIL
     load = f"LOAD {source.count(chr(10))}\n{source}"
     run = "RUN 100000\n"
-    # a QUIT always fits
     loads = JOURNAL // (len(load) + len(run))
-    times = {}
-    for name, text in {"start": "QUIT\n", "load": load * loads, "run": (load + run) * loads}.items():
-        path = f"{folder}/{name}.txt"
-        with open(path, "w") as file:
-            file.write(text)
-        times[name] = measure([program, "--solo"], path)
-    # one declaration, the assignments, and two steps at the end
-    told = f"ran {count + 3} ended\n".encode()
-    if times["load"][2].count(b"loaded B\n") != loads or times["run"][2].count(told) != loads:
-        sys.exit("benchmark: aud did not load and run each program to its end")
-    return loads, Figures("aud", times["start"][0], times["load"][0], times["run"][0], loads, count + 3, times["run"][1])
+    # one declaration, the assignments, and the two steps in which the program ends
+    steps = count + 3
+    start, _ = session(program, folder, "start", "QUIT\n", b"+ 0\n", 1)
+    loaded, _ = session(program, folder, "load", load * loads, b"loaded B\n", loads)
+    ran, peak = session(program, folder, "run", (load + run) * loads, f"ran {steps} ended\n".encode(), loads)
+    if ran <= loaded:
+        sys.exit("benchmark: the runs are too short beside the loads to be told from them; try again on a quiet machine")
+    return loads, Figures("aud", (loaded - start) / loads, (ran - loaded) / loads, steps, peak)
 
 
 def of_other(name, words, statement, count, loads, folder):
-    path = f"{folder}/{os.path.basename(words[0])}.txt"
+    path = f"{folder}/{name}.txt"
     with open(path, "w") as file:
         file.write(in_lines(statement, count))
-    start = measure([*words, path, "0", "load"])
-    load = measure([*words, path, str(loads), "load"])
-    run = measure([*words, path, str(loads), "run"])
-    return Figures(name, start[0], load[0], run[0], loads, count, run[1])
+    measured = [measure([*words, path, str(loads)]) for _ in range(TIMES)]
+    times = [[float(it) for it in wrote.split()] for _, _, wrote in measured]
+    load, run = (min(column) / loads for column in zip(*times))
+    return Figures(name, load, run, count, max(it[1] for it in measured))
 
 
 def main(program):
@@ -123,14 +143,11 @@ def main(program):
             with open(script, "w") as file:
                 file.write(LUA)
             others.append(of_other("lua5.4", [lua, script], "X=X+1;", count, loads, folder))
-    print(f"{count} assignments in a source text of at most {SOURCE} bytes, loaded {loads} times")
+    print(f"{count} assignments in a source text of at most {SOURCE:,} bytes, loaded {loads} times")
     for it in [aud, *others]:
-        print(f"{it.name:8} load {it.load * 1e3:8.2f} ms   {it.speed:12,.0f} steps a second   peak {it.peak / 1e6:6.1f} MB")
+        print(it.line())
     for it in others:
-        print(
-            f"aud to {it.name}: load time {aud.load / it.load:.2f}, steps a second {aud.speed / it.speed:.2f},"
-            f" peak memory {aud.peak / it.peak:.2f}"
-        )
+        print(aud.beside(it))
 
 
 main(sys.argv[1])
