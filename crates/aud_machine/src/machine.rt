@@ -235,7 +235,7 @@ impl Machine {
     pub fn take(&mut self, alloc: Global, nth: usize) -> Result<Option<Ran>, AllocError>
         requires { self.old.all.steps < STEPS }
         ensures takes { IfOk result (λ taken. (limits : Limits) → (c : Configuration) → Shows self.old c → Takes limits c (slice_get (moves c) nth) self.old self.new taken) }
-        ensures ticks { IfOk result (λ taken. IfSome taken (λ ran. (m : Move) → slice_get (moves self.old.all) nth ≡ Some m → ran.ticks ≡ min (step_ticks self.old.code m.task self.old.all) u64.MAX)) }
+        ensures ticks { IfOk result (λ taken. IfSome taken (λ ran. (m : Move) → slice_get (moves self.old.all) nth ≡ Some m → ran.ticks ≡ step_ticks self.old.code m.task self.old.all)) }
         ensures few_ticks { IfOk result (λ taken. IfSome taken (λ ran. ran.ticks ≤ length self.old.code)) }
         ensures code { self.new.code ≡ self.old.code }
         ensures program { self.new.program ≡ self.old.program }
@@ -250,9 +250,7 @@ impl Machine {
         };
         self.spent = true;
         let mut operands = Operands::new(alloc);
-        let mut ticks = 0;
-        self.progress
-            .take(&self.code, &mut operands, &mut ticks, task)?;
+        let ticks = self.progress.take(&self.code, &mut operands, task)?;
         self.spent = false;
         let state = self.progress.state();
         Ok(Some(Ran {

@@ -1,6 +1,6 @@
 // How far a program is.
 
-ghost use Rattle.std.specs.Prelude.{◌≡◌, ◌<◌, ◌≤◌, ◌+◌, length, min, OnOk, IfOk, IfSome, slice_get};
+ghost use Rattle.std.specs.Prelude.{◌≡◌, ◌<◌, ◌≤◌, ◌+◌, length, OnOk, IfOk, IfSome, slice_get};
 ghost use Rattle.aud_meaning.specs.Run.{has_ended, moves, moves_from, state_of, main_raised, step_with, own_move, supplied, advanced};
 ghost use Rattle.aud_code.specs.Next.{next};
 ghost use Rattle.aud_gen.specs.Shows.{opening_code};
@@ -188,27 +188,26 @@ impl Progress {
         }
     }
 
-    /// The move of a task.
+    /// The move of a task. It tells how many instructions were executed.
     pub fn take(
         &mut self,
         code: &SoundCode,
         operands: &mut Operands,
-        ticks: &mut u64,
         task: usize,
-    ) -> Result<(), AllocError>
+    ) -> Result<u64, AllocError>
         requires known { task < length self.old.tasks }
         requires fit { AllFit code.now self.old }
         requires steps { self.old.steps < STEPS }
         ensures next { OnOk result (self.new ≡ step_with (next code.now) self.old (own_move task)) }
         ensures fit { OnOk result (AllFit code.now self.new) }
         ensures steps { OnOk result (self.new.steps ≡ self.old.steps + 1) }
-        ensures ticks { OnOk result (ticks.new ≡ min (ticks.old + step_ticks code.now task self.old) u64.MAX) }
-        ensures few { ticks.new ≤ ticks.old + length code.now }
+        ensures ticks { IfOk result (λ ticks. ticks ≡ step_ticks code.now task self.old) }
+        ensures few { IfOk result (λ ticks. ticks ≤ length code.now) }
     {
         let acting = &mut self.tasks[task];
-        acting.step(code, &mut self.shared, operands, ticks)?;
+        let ticks = acting.step(code, &mut self.shared, operands)?;
         self.steps += 1;
-        Ok(())
+        Ok(ticks)
     }
 }
 

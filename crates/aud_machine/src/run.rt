@@ -32,7 +32,7 @@ pub fn run(
     ensures fit { IfOk result (λ _. AllFit code.now progress.new) }
     ensures few { IfOk result (λ ran. ran.steps ≤ n) }
 {
-    let mut ticks = 0;
+    let mut ticks: u64 = 0;
     let mut steps = 0;
     while steps < n {
         let Some(task) = progress.pick() else {
@@ -43,7 +43,8 @@ pub fn run(
                 state,
             });
         };
-        progress.take(code, operands, &mut ticks, task)?;
+        let executed = progress.take(code, operands, task)?;
+        ticks = ticks.saturating_add(executed);
         steps += 1;
     }
     let state = progress.state();

@@ -24,7 +24,7 @@ loop-at-preserved c = record {
   leads = rw c.in-On.is at (fits (goal.at.loop-at-preserved c).In_ok-execute);
   same = rw c.in-On.is at (turn (goal.at.loop-at-preserved c).In_ok-execute);
   counted = omega (arith, c.execute.ensures.tick, rw c.in-On.is at (tick (goal.at.loop-at-preserved c).In_ok-execute), c.loop-at.invariant.counted);
-  few = omega (arith, c.execute.ensures.tick);
+  few = omega (arith, c.execute.ensures.tick, c.loop-at.invariant.few);
 }
 
 pub returns-in-Ends-clause-ends : goal.returns-in-Ends-clause-ends
@@ -35,7 +35,7 @@ returns-in-Ends-clause-ticks c =
     omega (arith, c.execute.ensures.tick, rw c.in-Ends.is at (tick (goal.at.returns-in-Ends-clause-ticks c).In_ok-execute), c.loop-at.invariant.counted)
 
 pub returns-in-Ends-clause-few : goal.returns-in-Ends-clause-few
-returns-in-Ends-clause-few c = omega (arith, c.execute.ensures.tick, leads_within _ _ _ _ c.loop-at.invariant.leads)
+returns-in-Ends-clause-few c = omega (arith, c.execute.ensures.tick, c.loop-at.invariant.few, leads_within _ _ _ _ c.loop-at.invariant.leads)
 
 pub returns-in-Raises-clause-ends : goal.returns-in-Raises-clause-ends
 returns-in-Raises-clause-ends c = rw c.in-Raises.is at (turn (goal.at.returns-in-Raises-clause-ends c).In_ok-execute)
@@ -45,4 +45,4 @@ returns-in-Raises-clause-ticks c =
     omega (arith, c.execute.ensures.tick, rw c.in-Raises.is at (tick (goal.at.returns-in-Raises-clause-ticks c).In_ok-execute), c.loop-at.invariant.counted)
 
 pub returns-in-Raises-clause-few : goal.returns-in-Raises-clause-few
-returns-in-Raises-clause-few c = omega (arith, c.execute.ensures.tick, leads_within _ _ _ _ c.loop-at.invariant.leads)
+returns-in-Raises-clause-few c = omega (arith, c.execute.ensures.tick, c.loop-at.invariant.few, leads_within _ _ _ _ c.loop-at.invariant.leads)

@@ -24,12 +24,12 @@ loop-steps-preserved c =
     let kept : c.pick.new.self.steps ≡ c.loop-steps.progress.steps = ap (λ p. p.steps) c.pick.ensures.kept in
     record {
       within = omega arith;
-      fit = c.in_ok-take.ensures.fit;
-      run = c.loop-steps.invariant.run ∙ turns (next c.args.code.now) c.args.n c.loop-steps.steps c.in-Some.task c.loop-steps.progress c.pick.new.self c.loop-steps-test.true picks ∙ ap (run_with (next c.args.code.now) (c.args.n - (c.loop-steps.steps + 1))) (sym c.in_ok-take.ensures.next);
-      counted = omega (arith, kept, c.in_ok-take.ensures.steps);
-      ticked = omega (arith, c.loop-steps.invariant.ticked, c.in_ok-take.ensures.ticks, ticks_turn c.args.code.now c.args.n c.loop-steps.steps c.in-Some.task c.loop-steps.progress c.pick.new.self c.loop-steps-test.true picks, ap (run_ticks c.args.code.now (c.args.n - (c.loop-steps.steps + 1))) c.in_ok-take.ensures.next);
-      narrow = omega (arith, c.in_ok-take.ensures.ticks);
-      few = omega (arith, c.loop-steps.invariant.few, c.take.ensures.few);
+      fit = c.in_ok-executed.ensures.fit;
+      run = c.loop-steps.invariant.run ∙ turns (next c.args.code.now) c.args.n c.loop-steps.steps c.in-Some.task c.loop-steps.progress c.pick.new.self c.loop-steps-test.true picks ∙ ap (run_with (next c.args.code.now) (c.args.n - (c.loop-steps.steps + 1))) (sym c.in_ok-executed.ensures.next);
+      counted = omega (arith, kept, c.in_ok-executed.ensures.steps);
+      ticked = omega (arith, c.loop-steps.invariant.ticked, c.in_ok-executed.ensures.ticks, ticks_turn c.args.code.now c.args.n c.loop-steps.steps c.in-Some.task c.loop-steps.progress c.pick.new.self c.loop-steps-test.true picks, ap (run_ticks c.args.code.now (c.args.n - (c.loop-steps.steps + 1))) c.in_ok-executed.ensures.next);
+      narrow = omega (arith, c.in_ok-executed.ensures.ticks);
+      few = omega (arith, c.loop-steps.invariant.few, c.in_ok-executed.ensures.few);
     }
 
 pub returns-clause-runs : goal.returns-clause-runs
