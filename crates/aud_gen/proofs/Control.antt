@@ -92,7 +92,7 @@ module _ (code : List Line) where
     pub settled : IsSettled c.control
 
   -- with the value, or by an exception
-  pub shows_value : {A : Type 0} (c : Acting (List Item)) (place : ℕ) (s : Stmt) (rest : List Item) (o : Result A Raise) (f : A → Ended) (go : A → Acting (List Item)) → At c place s rest → ((value : A) → Shows code (after_eval (f value) (code_of place c)) (go value)) → Shows code (after_eval (on_result o f) (code_of place c)) (on_value o c go)
+  pub shows_value : {A : Type 0} (c : Acting (List Item)) (place : ℕ) (s : Stmt) (rest : List Item) (o : Result A Raise) (f : A → Ended) (go : A → Acting (List Item)) → At c place s rest → ((value : A) → Shows code (after_eval (f value) (code_of place c)) (go value)) → Shows code (after_eval (on_result (λ e. e) o f) (code_of place c)) (on_value o c go)
   shows_value c place s rest (Ok value) f go at r = r value
   shows_value c place s rest (Err raise) f go at r = shown (record c { own = record c.own { pending = Some raise } }) at.around place at.whole at.frames at.settled
 

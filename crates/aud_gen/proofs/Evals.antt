@@ -12,12 +12,12 @@ use Rattle.aud_gen.specs.declared.around.Step.{Step}
 use Rattle.aud_gen.specs.Code.{line, integer_code, text_code}
 
 -- a value, and what is made of it
-then_value : {A B : Type 0} (a : Result A Raise) (f : A → Result B Raise) (g : B → Ended) (h : A → Ended) (e : Ended) → e ≡ on_result a h → ((x : A) → h x ≡ on_result (f x) g) → e ≡ on_result (with_value a f) g
+then_value : {A B : Type 0} (a : Result A Raise) (f : A → Result B Raise) (g : B → Ended) (h : A → Ended) (e : Ended) → e ≡ on_result (λ e. e) a h → ((x : A) → h x ≡ on_result (λ e. e) (f x) g) → e ≡ on_result (λ e. e) (with_value a f) g
 then_value (Ok x) f g h e r s = r ∙ s x
 then_value (Err raise) f g h e r s = r
 
 module _ (display : List ℕ) (frames : List Frame) where
-  pub eval_integer : (e : IntegerExpr) (step : Step) (i : ℕ) (rest : List Line) (ints : List ℤ) (text : List ℕ) → eval display frames (integer_code e step i ++ rest) ints text ≡ on_result (evaluated e display frames) (λ value. eval display frames rest (value ∷ ints) text)
+  pub eval_integer : (e : IntegerExpr) (step : Step) (i : ℕ) (rest : List Line) (ints : List ℤ) (text : List ℕ) → eval display frames (integer_code e step i ++ rest) ints text ≡ on_result (λ e. e) (evaluated e display frames) (λ value. eval display frames rest (value ∷ ints) text)
   eval_integer (number value) step i rest ints text = refl
   eval_integer (variable v) step i rest ints text = refl
   eval_integer (unary op x) step i rest ints text =
@@ -32,7 +32,7 @@ module _ (display : List ℕ) (frames : List Frame) where
       then_value (evaluated x display frames) (λ a. with_value (evaluated y display frames) (λ b. binary_of op a b)) end (λ a. eval display frames (cy ++ (l ∷ rest)) (a ∷ ints) text) _ (ap (λ ls. eval display frames ls ints text) flat ∙ eval_integer x step i (cy ++ (l ∷ rest)) ints text) (λ a.
       then_value (evaluated y display frames) (binary_of op a) end (λ b. eval display frames (l ∷ rest) (b ∷ a ∷ ints) text) _ (eval_integer y step (i + 1) (l ∷ rest) (a ∷ ints) text) (λ b. refl))
 
-  pub eval_text : (t : TextExpr) (step : Step) (rest : List Line) (text : List ℕ) → eval display frames (text_code t step ++ rest) [] text ≡ on_result (text_of t display frames) (λ more. eval display frames rest [] (text ++ more))
+  pub eval_text : (t : TextExpr) (step : Step) (rest : List Line) (text : List ℕ) → eval display frames (text_code t step ++ rest) [] text ≡ on_result (λ e. e) (text_of t display frames) (λ more. eval display frames rest [] (text ++ more))
   eval_text (literal more) step rest text = refl
   eval_text (image e) step rest text =
       let l = line step 1 AppendImage in

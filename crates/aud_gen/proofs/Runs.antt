@@ -3,12 +3,12 @@ use Rattle.std.proofs.Common.{◌≡◌, ℕ, zero, suc, ◌+◌, List, [], ◌�
 use Rattle.std.specs.Prelude.{slice_get, slice_set, if◌then◌else◌}
 use Rattle.aud_meaning.specs.Configuration.{Item, TaskAt, All, Configuration, Acting}
 use Rattle.aud_meaning.specs.Step.{task_step}
-use Rattle.aud_meaning.specs.Run.{Move, moves_by, moves_from, is_terminated, has_ended, moves, main_raised, acting, step_of, pick, take_picked, run_by, run_with, opening}
+use Rattle.aud_meaning.specs.Run.{Move, moves_by, moves_from, is_terminated, has_ended, moves, main_raised, acting, step_of, step_with, pick, take_picked, run_by, run_with, opening}
 use Rattle.aud_code.specs.declared.code.Line.{Line}
 use Rattle.aud_code.specs.Next.{next}
 use Rattle.aud_gen.specs.Code.{stmt_size, stmt_code, in_body, end_line, program_code}
 use Rattle.aud_gen.specs.Shows.{HasAt, ShowsTask, ShowsTasks, ShowsAll}
-use Rattle.aud_gen.specs.Law.{MoveLaw, OpeningLaw, RunLaw, MovesLaw}
+use Rattle.aud_gen.specs.Law.{MoveLaw, OpeningLaw, RunLaw, MovesLaw, SupplyLaw, AdvanceLaw}
 use Rattle.aud_gen.proofs.Places.{has_front, has_back, length-stmt}
 use Rattle.aud_gen.proofs.Control.{enters}
 use Rattle.aud_gen.proofs.Steps.{step_law}
@@ -42,7 +42,7 @@ module _ (code : List Line) where
   moved task m c (Some x) None h g = absurd g
   moved task m c (Some x) (Some y) h g =
       let k = step_law code (acting x m.shared) (acting y c.shared) (record { task = g; shared = h.shared }) in
-      record { tasks = one_moved task _ _ m.tasks c.tasks k.task h.tasks; shared = k.shared; choices = h.choices; steps = ap suc h.steps }
+      record { tasks = one_moved task _ _ m.tasks c.tasks k.task h.tasks; shared = k.shared; choices = h.choices; clock = h.clock; steps = ap suc h.steps }
 
   same_moves : (task : ℕ) (ms : List (TaskAt ℕ)) (cs : List (TaskAt (List Item))) → ShowsTasks code ms cs → moves_from task ms ≡ moves_from task cs
   same_moves task [] [] h = refl
@@ -85,9 +85,17 @@ run_law code (suc n) m c h = go (run_law code n) (moves c) (moves m) (moves_law 
         let first : j ≡ k = cc in
         let others : js ≡ ks = cc in
         let same : pick j js m.choices ≡ p = ap (λ x. pick x js m.choices) first ∙ ap (λ l. pick k l m.choices) others ∙ ap (pick k ks) h.choices in
-        let with_left : ShowsAll code (record m { choices = p.choices }) (record c { choices = p.choices }) = record { tasks = h.tasks; shared = h.shared; choices = refl; steps = h.steps } in
+        let with_left : ShowsAll code (record m { choices = p.choices }) (record c { choices = p.choices }) = record { tasks = h.tasks; shared = h.shared; choices = refl; clock = h.clock; steps = h.steps } in
         let step = move_law code (record m { choices = p.choices }) (record c { choices = p.choices }) p.move with_left in
         subst (λ q. ShowsAll code (run_with (next code) n (take_picked (next code) q m)) (run_with task_step n (take_picked task_step p c))) (sym same) (ih _ _ step)
+
+pub supply_law : SupplyLaw
+supply_law code choices m c h =
+    record { tasks = h.tasks; shared = h.shared; choices = ap (λ waiting. waiting ++ choices) h.choices; clock = h.clock; steps = h.steps }
+
+pub advance_law : AdvanceLaw
+advance_law code milliseconds m c h =
+    record { tasks = h.tasks; shared = h.shared; choices = h.choices; clock = ap (λ clock. clock + milliseconds) h.clock; steps = h.steps }
 
 pub opening_law : OpeningLaw
 opening_law program =
@@ -106,6 +114,7 @@ opening_law program =
       tasks = (record { own = refl; placed = record { around = p.around; at = 0; stands = p.stands; frames = p.frames; here = (refl, p.settled) } }, tt);
       shared = refl;
       choices = refl;
+      clock = refl;
       steps = refl;
     }
 
@@ -126,3 +135,18 @@ module _ {C : Type 0} (own_step : Acting C → Acting C) where
       by : ((d : All C) → run_with own_step (n + k) d ≡ run_with own_step k (run_with own_step n d)) → (ms : List Move) → moves c ≡ ms → run_by own_step (run_with own_step (n + k)) ms c ≡ run_with own_step k (run_by own_step (run_with own_step n) ms c)
       by ih [] none = sym (run_ends c k none)
       by ih (m ∷ ms) some = ih (take_picked own_step (pick m ms c.choices) c)
+
+  step_takes_no_time : (t : Option (TaskAt C)) (task : ℕ) (c : All C) → (step_of own_step t task c).clock ≡ c.clock
+  step_takes_no_time None task c = refl
+  step_takes_no_time (Some t) task c = refl
+
+  pub clock_kept : (n : ℕ) (c : All C) → (run_with own_step n c).clock ≡ c.clock
+  clock_kept zero c = refl
+  clock_kept (suc n) c = by (clock_kept n) (moves c)
+    where
+      by : ((d : All C) → (run_with own_step n d).clock ≡ d.clock) → (ms : List Move) → (run_by own_step (run_with own_step n) ms c).clock ≡ c.clock
+      by ih [] = refl
+      by ih (m ∷ ms) =
+          let p = pick m ms c.choices in
+          let used : All C = record c { choices = p.choices } in
+          ih (step_with own_step used p.move) ∙ step_takes_no_time (slice_get used.tasks p.move.task) p.move.task used

@@ -7,7 +7,7 @@ use Rattle.aud_typed.specs.Tree.{IntegerExpr, TextExpr, Stmt, declare, null, ass
 use Rattle.aud_meaning.specs.declared.state.Status.TheVariants.{Running, Completed}
 use Rattle.aud_meaning.specs.Configuration.{Item, Do, All, Configuration, Acting}
 use Rattle.aud_meaning.specs.Step.{task_step}
-use Rattle.aud_meaning.specs.Run.{Move, moves, state_of, main_raised, step_with, run_with, opening}
+use Rattle.aud_meaning.specs.Run.{Move, moves, state_of, main_raised, step_with, run_with, supplied, advanced, opening}
 use Rattle.aud_code.specs.declared.code.Line.{Line}
 use Rattle.aud_code.specs.Next.{next}
 use Rattle.aud_gen.specs.Code.{program_code}
@@ -88,6 +88,17 @@ StateLaw = (code : List Line) (m : All ℕ) (c : Configuration) → ShowsAll cod
 
 abbrev pub RaisedLaw : Type 0
 RaisedLaw = (code : List Line) (m : All ℕ) (c : Configuration) → ShowsAll code m c → main_raised m.tasks ≡ main_raised c.tasks
+
+-- steps take no time: only the user lets the clock go on
+abbrev pub ClockLaw : Type 0 → Type 0
+ClockLaw C = (own_step : Acting C → Acting C) (n : ℕ) (c : All C) → (run_with own_step n c).clock ≡ c.clock
+
+-- what the user supplies between runs is supplied to both
+abbrev pub SupplyLaw : Type 0
+SupplyLaw = (code : List Line) (choices : List ℕ) (m : All ℕ) (c : Configuration) → ShowsAll code m c → ShowsAll code (supplied choices m) (supplied choices c)
+
+abbrev pub AdvanceLaw : Type 0
+AdvanceLaw = (code : List Line) (milliseconds : ℕ) (m : All ℕ) (c : Configuration) → ShowsAll code m c → ShowsAll code (advanced milliseconds m) (advanced milliseconds c)
 
 -- a run may be cut anywhere
 abbrev pub CutLaw : Type 0 → Type 0

@@ -82,6 +82,7 @@ pub record ShowsAll (code : List Line) (m : All ℕ) (c : Configuration) : Type 
   pub tasks : ShowsTasks code m.tasks c.tasks
   pub shared : m.shared ≡ c.shared
   pub choices : m.choices ≡ c.choices
+  pub clock : m.clock ≡ c.clock
   pub steps : m.steps ≡ c.steps
 
 -- code before its first step (RM 10.2)
@@ -93,5 +94,6 @@ opening_code = record {
   } ∷ [];
   shared = record { frames = [] ∷ []; output = []; cut = false };
   choices = [];
+  clock = 0;
   steps = 0;
 }

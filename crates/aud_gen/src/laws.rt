@@ -2,7 +2,7 @@
 
 ghost use Rattle.std.specs.Prelude.{ℕ, List};
 ghost use Rattle.aud_meaning.specs.Configuration.{Item};
-ghost use Rattle.aud_gen.specs.Law.{DeclarationLaw, NullLaw, AssignmentLaw, PutLaw, CompletionLaw, PropagationLaw, ClosingLaw, StepLaw, MoveLaw, OpeningLaw, RunLaw, MovesLaw, StateLaw, RaisedLaw, CutLaw};
+ghost use Rattle.aud_gen.specs.Law.{DeclarationLaw, NullLaw, AssignmentLaw, PutLaw, CompletionLaw, PropagationLaw, ClosingLaw, StepLaw, MoveLaw, OpeningLaw, RunLaw, MovesLaw, StateLaw, RaisedLaw, SupplyLaw, AdvanceLaw, ClockLaw, CutLaw};
 
 /// The code of a declaration evaluates its initial value and makes the variable (RM 3.3.1).
 pub fn declaration_law()
@@ -64,6 +64,18 @@ pub fn moves_law()
     ensures moves { MovesLaw }
     ensures state { StateLaw }
     ensures raised { RaisedLaw }
+{}
+
+/// Choices, and time on the clock, are supplied to the code as to the program (RM 9.6).
+pub fn supply_law()
+    ensures choices { SupplyLaw }
+    ensures time { AdvanceLaw }
+{}
+
+/// Steps take no time.
+pub fn clock_law()
+    ensures code { ClockLaw ℕ }
+    ensures program { ClockLaw (List Item) }
 {}
 
 /// A run may be cut anywhere.

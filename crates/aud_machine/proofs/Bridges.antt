@@ -1,5 +1,5 @@
 -- From what the code does to what the program does.
-use Rattle.std.proofs.Common.{◌≡◌, ℕ, ◌+◌, List, sym, [], ◌∷◌, ap, ◌∙◌, Some, None, subst, refl, arith}
+use Rattle.std.proofs.Common.{◌≡◌, ℕ, ◌+◌, List, map, sym, [], ◌∷◌, ap, ◌∙◌, Some, None, subst, refl, arith}
 use Rattle.std.specs.Prelude.{if◌then◌else◌, slice_get}
 use Rattle.aud_text.specs.declared.limits.Limits.{Limits}
 use Rattle.aud_meaning.specs.declared.state.State.TheVariants as state
@@ -38,6 +38,13 @@ module _ (limits : Limits) (code : List Line) (n : ℕ) (old new : All ℕ) (ran
         steps = ap (λ k. ran.steps + k) (sym h.steps) ∙ r.steps ∙ after.steps;
         state = r.state ∙ same_state code new (run limits n c) after;
       }
+
+-- the tasks' own parts
+pub same_owns : (code : List Line) (ms : List (TaskAt ℕ)) (cs : List (TaskAt (List Item))) → ShowsTasks code ms cs → map (λ t. t.own) ms ≡ map (λ t. t.own) cs
+same_owns code [] [] h = refl
+same_owns code [] (c ∷ cs) h = absurd h
+same_owns code (m ∷ ms) [] h = absurd h
+same_owns code (m ∷ ms) (c ∷ cs) h = ap (λ own. own ∷ map (λ t. t.own) ms) h.0.own ∙ ap (λ owns. c.own ∷ owns) (same_owns code ms cs h.1)
 
 -- no move has this number
 pub none_taken : (limits : Limits) (code : List Line) (nth : ℕ) (all : All ℕ) (m : Shown) (c : Configuration) → ShowsAll code all c → move_of None ≡ slice_get (moves all) nth → Takes limits c (slice_get (moves c) nth) m m None

@@ -1,11 +1,11 @@
 -- One instruction of an evaluation.
-use Rattle.std.proofs.Common.{◌≡◌, ℕ, ◌+◌, ◌<◌, List, ◌∷◌, length, drop, Some, sym, ap, ◌∙◌, subst}
+use Rattle.std.proofs.Common.{◌≡◌, ℕ, suc, ◌+◌, ◌<◌, List, ◌∷◌, length, drop, Some, sym, ap, ◌∙◌, subst}
 use Rattle.std.specs.Prelude.{ℤ, slice_get}
 use Rattle.std.proofs.lemmas.List.{drop_more}
 use Rattle.std.proofs.lemmas.Option.{slice_get_within, get_or_from_slice_get}
 use Rattle.aud_meaning.specs.Configuration.{Frame}
 use Rattle.aud_code.specs.declared.code.Line.{Line}
-use Rattle.aud_code.specs.Eval.{Ended, Reached, Raised, Then, act, eval}
+use Rattle.aud_code.specs.Eval.{Ended, Reached, Raised, Then, act, eval, ticks_of}
 use Rattle.aud_code.specs.Sound.{Leads, InstrFine, IsFine}
 use Rattle.aud_machine.specs.declared.evaluate.Flow.{Flow}
 use Rattle.aud_machine.specs.declared.evaluate.Flow.TheVariants.{On, Ends, Raises}
@@ -16,7 +16,7 @@ line_first : (code : List Line) (at : ℕ) (l : Line) → slice_get code at ≡ 
 line_first code at l e =
     drop_more code at l (slice_get_within code at l e) ∙ ap (λ x. x ∷ drop (at + 1) code) (get_or_from_slice_get code at l l e)
 
-pub eval_here : (display : List ℕ) (frames : List Frame) (code : List Line) (at : ℕ) (l : Line) (ints : List ℤ) (text : List ℕ) → slice_get code at ≡ Some l → eval display frames (drop at code) ints text ≡ act display frames l.instr (eval display frames (drop (at + 1) code)) ints text
+pub eval_here : (display : List ℕ) (frames : List Frame) (code : List Line) (at : ℕ) (l : Line) (ints : List ℤ) (text : List ℕ) → slice_get code at ≡ Some l → eval display frames (drop at code) ints text ≡ act (λ e. e) display frames l.instr (eval display frames (drop (at + 1) code)) ints text
 eval_here display frames code at l ints text e = ap (λ ls. eval display frames ls ints text) (line_first code at l e)
 
 pub fine_here : (code : List Line) (at i f : ℕ) (l : Line) → Leads code at i f → slice_get code at ≡ Some l → IsFine code at l → InstrFine code at l.instr i f
@@ -35,11 +35,16 @@ Turned On display frames code at held end = eval display frames (drop (at + 1) c
 Turned (Ends ending) display frames code at held end = Reached ending held.ints held.text ≡ end
 Turned (Raises raise) display frames code at held end = Raised raise ≡ end
 
-pub turned : (flow : Flow) (display : List ℕ) (frames : List Frame) (code : List Line) (at : ℕ) (l : Line) (ints : List ℤ) (text : List ℕ) (held : Held) (end : Ended) → slice_get code at ≡ Some l → ((go : Then) → act display frames l.instr go ints text ≡ followed flow go held) → eval display frames (drop at code) ints text ≡ end → Turned flow display frames code at held end
+pub turned : (flow : Flow) (display : List ℕ) (frames : List Frame) (code : List Line) (at : ℕ) (l : Line) (ints : List ℤ) (text : List ℕ) (held : Held) (end : Ended) → slice_get code at ≡ Some l → ((go : Then Ended) → act (λ e. e) display frames l.instr go ints text ≡ followed (λ e. e) flow go held) → eval display frames (drop at code) ints text ≡ end → Turned flow display frames code at held end
 turned flow display frames code at l ints text held end is acts same =
     by flow (sym (acts (eval display frames (drop (at + 1) code))) ∙ sym (eval_here display frames code at l ints text is) ∙ same)
   where
-    by : (f : Flow) → followed f (eval display frames (drop (at + 1) code)) held ≡ end → Turned f display frames code at held end
+    by : (f : Flow) → followed (λ e. e) f (eval display frames (drop (at + 1) code)) held ≡ end → Turned f display frames code at held end
     by On e = e
     by (Ends ending) e = e
     by (Raises raise) e = e
+
+-- the instructions from one on, counted
+pub ticked : (flow : Flow) (display : List ℕ) (frames : List Frame) (code : List Line) (at : ℕ) (l : Line) (ints : List ℤ) (text : List ℕ) (held : Held) → slice_get code at ≡ Some l → ((go : Then ℕ) → act (λ e. 0) display frames l.instr go ints text ≡ followed (λ e. 0) flow go held) → ticks_of display frames (drop at code) ints text ≡ suc (followed (λ e. 0) flow (ticks_of display frames (drop (at + 1) code)) held)
+ticked flow display frames code at l ints text held is counts =
+    ap (λ ls. ticks_of display frames ls ints text) (line_first code at l is) ∙ ap suc (counts (ticks_of display frames (drop (at + 1) code)))

@@ -23,11 +23,11 @@ Needs AppendImage ints frames = 1 ≤ ints
 Needs AppendNewLine ints frames = Unit {0}
 Needs (End ending) ints frames = Unit {0}
 
--- how the evaluation goes on after the instruction
-abbrev pub followed : Flow → Then → Held → Ended
-followed On go held = go held.ints held.text
-followed (Ends ending) go held = Reached ending held.ints held.text
-followed (Raises raise) go held = Raised raise
+-- how the evaluation goes on after the instruction, where end gives the R of one that ends
+abbrev pub followed : {R : Type 0} → (Ended → R) → Flow → Then R → Held → R
+followed end On go held = go held.ints held.text
+followed end (Ends ending) go held = end (Reached ending held.ints held.text)
+followed end (Raises raise) go held = end (Raised raise)
 
 -- the stack has as many Integers as are written where the evaluation goes on
 abbrev pub FlowFits : Flow → List Line → ℕ → Held → ℕ → Type 0

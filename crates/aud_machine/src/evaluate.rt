@@ -1,8 +1,8 @@
 // One instruction after the other, up to the one that ends the step.
 
-ghost use Rattle.std.specs.Prelude.{◌≡◌, ℕ, ◌+◌, ◌-◌, ◌^◌, ◌<◌, ◌≤◌, List, [], length, drop, min, IfOk, All};
+ghost use Rattle.std.specs.Prelude.{◌≡◌, ℕ, ◌+◌, ◌-◌, ◌^◌, ◌<◌, ◌≤◌, List, [], length, drop, IfOk, All};
 ghost use Rattle.aud_code.specs.declared.code.Line.{Line};
-ghost use Rattle.aud_code.specs.Eval.{Then, act, eval};
+ghost use Rattle.aud_code.specs.Eval.{Ended, Then, act, eval, ticks_of};
 ghost use Rattle.aud_code.specs.Sound.{Leads, InstrFine};
 ghost use Rattle.aud_meaning.specs.Evaluation.{unary_of, binary_of};
 ghost use Rattle.aud_machine.specs.Flow.{Needs, followed, FlowFits, LeftBy, ended, OutcomeFits};
@@ -22,6 +22,13 @@ pub enum Flow {
     On,
     Ends(Ending),
     Raises(Raise),
+}
+
+/// How an evaluation ended, and the instructions that it took.
+#[derive(Clone, Copy, PartialEq, Eq, Debug)]
+pub struct Evaluation {
+    pub outcome: Outcome,
+    pub ticks: u64,
 }
 
 /// How an evaluation ends.
@@ -63,11 +70,13 @@ pub fn execute(
 ) -> Result<Flow, AllocError>
     requires needs { Needs instr.now (length operands.old.ints) (length display.now) }
     requires frames { All (λ frame. frame < length frames.now) display.now }
-    ensures acts { IfOk result (λ flow. (go : Then) → act display.now frames.now instr.now go operands.old.ints operands.old.text ≡ followed flow go operands.new) }
+    requires room { ticks.old < u64.MAX }
+    ensures acts { IfOk result (λ flow. (go : Then Ended) → act (λ e. e) display.now frames.now instr.now go operands.old.ints operands.old.text ≡ followed (λ e. e) flow go operands.new) }
+    ensures counts { IfOk result (λ flow. (go : Then ℕ) → act (λ e. 0) display.now frames.now instr.now go operands.old.ints operands.old.text ≡ followed (λ e. 0) flow go operands.new) }
     ensures fits { IfOk result (λ flow. (code : List Line) → (place : ℕ) → InstrFine code place instr.now (length operands.old.ints) (length display.now) → FlowFits flow code place operands.new (length display.now)) }
-    ensures tick { ticks.new ≡ min (ticks.old + 1) u64.MAX }
+    ensures tick { ticks.new ≡ ticks.old + 1 }
 {
-    *ticks = ticks.saturating_add(1);
+    *ticks += 1;
     match instr {
         Instr::Push(value) => {
             operands.push(*value)?;
@@ -124,21 +133,28 @@ pub fn evaluate(
     display: &[usize],
     frames: &Frames,
     operands: &mut Operands,
-    ticks: &mut u64,
-) -> Result<Outcome, AllocError>
+) -> Result<Evaluation, AllocError>
     requires begins { Leads code.now place 0 (length display.now) }
     requires frames { All (λ frame. frame < length frames.now) display.now }
-    ensures ends { IfOk result (λ outcome. ended outcome operands.new ≡ eval display.now frames.now (drop place code.now) [] []) }
-    ensures fits { IfOk result (λ outcome. OutcomeFits outcome code.now operands.new (length display.now)) }
-    ensures ticks { ticks.new + place ≤ ticks.old + length code.now }
+    ensures ends { IfOk result (λ evaluation. ended evaluation.outcome operands.new ≡ eval display.now frames.now (drop place code.now) [] []) }
+    ensures fits { IfOk result (λ evaluation. OutcomeFits evaluation.outcome code.now operands.new (length display.now)) }
+    ensures ticks { IfOk result (λ evaluation. evaluation.ticks ≡ ticks_of display.now frames.now (drop place code.now) [] []) }
+    ensures few { IfOk result (λ evaluation. evaluation.ticks ≤ length code.now) }
 {
     operands.clear();
+    let mut ticks = 0;
     for at in place..code.len() {
         let line = code.line(at);
-        match execute(&line.instr, display, frames, operands, ticks)? {
+        match execute(&line.instr, display, frames, operands, &mut ticks)? {
             Flow::On => {}
-            Flow::Ends(ending) => return Ok(Outcome::Reaches(ending)),
-            Flow::Raises(raise) => return Ok(Outcome::Fails(raise)),
+            Flow::Ends(ending) => {
+                let outcome = Outcome::Reaches(ending);
+                return Ok(Evaluation { outcome, ticks });
+            }
+            Flow::Raises(raise) => {
+                let outcome = Outcome::Fails(raise);
+                return Ok(Evaluation { outcome, ticks });
+            }
         }
     }
     // sound code leads nowhere but to its own places

@@ -1,6 +1,6 @@
 // The variables of all executions of bodies.
 
-ghost use Rattle.std.specs.Prelude.{◌≡◌, ℕ, ℤ, pos, ◌<◌, List, [], ◌∷◌, ◌++◌, length, map, OnOk, slice_index_or, slice_set};
+ghost use Rattle.std.specs.Prelude.{◌≡◌, ℕ, ℤ, pos, ◌<◌, List, [], ◌∷◌, ◌++◌, length, map, OnOk, slice_get, slice_index_or, slice_set};
 
 use aud_text::int32::Int32;
 use std::alloc::{AllocError, Global};
@@ -35,6 +35,21 @@ impl Frames {
     {
         self.frames.push(Vec::new(alloc))?;
         Ok(())
+    }
+
+    /// How many frames there are.
+    pub fn len(&self) -> usize
+        ensures { result ≡ length self.now }
+    {
+        self.frames.len()
+    }
+
+    /// The variables of a frame, in the order of their declarations.
+    pub fn frame(&self, number: usize) -> &[Int32]
+        requires { number < length self.now }
+        ensures { slice_get self.now number ≡ Some result.now }
+    {
+        &self.frames[number]
     }
 
     /// A variable, or 0 where the frame has none of this number.

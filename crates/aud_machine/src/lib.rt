@@ -5,6 +5,7 @@ pub mod evaluate;
 pub mod frames;
 pub mod machine;
 pub mod operands;
+pub mod parts;
 pub mod progress;
 pub mod run;
 pub mod shared;

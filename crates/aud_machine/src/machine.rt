@@ -1,21 +1,23 @@
 // A machine and its runs.
 
-ghost use Rattle.std.specs.Prelude.{◌≡◌, ◌+◌, ◌*◌, ◌<◌, ◌≤◌, length, true, false, slice_get, IfOk, IfSome, OnErr, IsErr};
+ghost use Rattle.std.specs.Prelude.{◌≡◌, ◌+◌, ◌*◌, ◌<◌, ◌≤◌, length, map, min, true, false, slice_get, IfOk, IfSome, OnOk, OnErr, IsErr};
 ghost use Rattle.aud_text.specs.declared.limits.Limits.{Limits};
 ghost use Rattle.aud_typed.specs.View.{plain_program};
 ghost use Rattle.aud_typed.specs.Scoped.{IsScoped};
 ghost use Rattle.aud_meaning.specs.Configuration.{Configuration};
-ghost use Rattle.aud_meaning.specs.Run.{moves, state_of, main_raised, opening};
+ghost use Rattle.aud_meaning.specs.Run.{Move, moves, state_of, main_raised, supplied, advanced, opening};
 ghost use Rattle.aud_machine.specs.Shows.{Shows, RunsFrom, Takes};
+ghost use Rattle.aud_machine.specs.Ticks.{step_ticks, run_ticks};
 
 use crate::operands::Operands;
+use crate::parts::Parts;
 use crate::progress::Progress;
 pub use crate::run::Ran;
 use crate::run::run;
 use aud_code::sound::SoundCode;
 use aud_gen::generate;
 use aud_meaning::state::State;
-use aud_text::limits::STEPS;
+use aud_text::limits::{CLOCK, OUTPUT, STEPS};
 use aud_text::raise::Raise;
 use aud_typed::program::Program;
 use std::alloc::{AllocError, Global};
@@ -32,6 +34,8 @@ pub struct Machine {
 
 impl Model for Machine {
     ghost use Rattle.std.specs.Prelude.{◌≡◌, false};
+    ghost use Rattle.aud_typed.specs.View.{plain_program};
+    ghost use Rattle.aud_gen.specs.Code.{program_code};
     ghost use Rattle.aud_machine.specs.Moving.{AllFit};
     ghost use Rattle.aud_machine.specs.Shown.{Shown};
     ghost use Rattle.std.specs.Coded.{codes};
@@ -43,7 +47,7 @@ impl Model for Machine {
 
     ghost view = { λ m. record { program = m.program; code = m.code; all = m.progress; spent = m.spent } };
 
-    ghost invariant = { λ m. m.spent ≡ false → AllFit m.code m.progress };
+    ghost invariant = { λ m. (m.code ≡ program_code (plain_program m.program)) × (m.spent ≡ false → AllFit m.code m.progress) };
 }
 
 impl Machine {
@@ -77,7 +81,8 @@ impl Machine {
 
     /// The output so far (RM A.10.7).
     pub fn output(&self) -> &[u8]
-        ensures { (c : Configuration) → Shows self.now c → result.now ≡ c.shared.output }
+        ensures shown { (c : Configuration) → Shows self.now c → result.now ≡ c.shared.output }
+        ensures within { length result.now ≤ OUTPUT }
     {
         self.progress.output()
     }
@@ -110,12 +115,90 @@ impl Machine {
         self.progress.choices()
     }
 
+    /// The time on the clock, in milliseconds.
+    pub fn clock(&self) -> u32
+        ensures value { result ≡ self.now.all.clock }
+        ensures shown { (c : Configuration) → Shows self.now c → result ≡ c.clock }
+        ensures within { result ≤ CLOCK }
+    {
+        self.progress.clock()
+    }
+
     /// The steps taken.
     pub fn steps(&self) -> u32
         ensures value { result ≡ self.now.all.steps }
         ensures shown { (c : Configuration) → Shows self.now c → result ≡ c.steps }
+        ensures within { result ≤ STEPS }
     {
         self.progress.steps()
+    }
+
+    /// The frames, the tasks, the time and the steps.
+    pub fn parts(&self) -> Parts<'_>
+        ensures frames { (c : Configuration) → Shows self.now c → result.frames.now ≡ c.shared.frames }
+        ensures tasks { (c : Configuration) → Shows self.now c → map (λ t. t.own) result.tasks.now ≡ map (λ t. t.own) c.tasks }
+        ensures clock { (c : Configuration) → Shows self.now c → result.clock ≡ c.clock }
+        ensures steps { (c : Configuration) → Shows self.now c → result.steps ≡ c.steps }
+    {
+        Parts {
+            frames: self.progress.frames(),
+            tasks: self.progress.tasks(),
+            clock: self.progress.clock(),
+            steps: self.progress.steps(),
+        }
+    }
+
+    /// Supplies choices, which wait behind those that wait already.
+    ///
+    /// # Errors
+    ///
+    /// Memory is refused, or the machine is spent. It is spent then.
+    pub fn choose(&mut self, choices: &[u32]) -> Result<(), AllocError>
+        ensures shows { OnOk result ((c : Configuration) → Shows self.old c → Shows self.new (supplied choices.now c)) }
+        ensures exact { OnOk result (self.new ≡ record self.old { all = supplied choices.now self.old.all }) }
+        ensures code { self.new.code ≡ self.old.code }
+        ensures program { self.new.program ≡ self.old.program }
+        ensures spent { OnErr result (self.new.spent ≡ true) }
+        ensures refuses { self.old.spent ≡ true → IsErr result }
+    {
+        if self.spent {
+            return Err(AllocError);
+        }
+        self.spent = true;
+        self.progress.choose(choices)?;
+        self.spent = false;
+        Ok(())
+    }
+
+    /// Lets the clock go on by so many milliseconds (RM 9.6). Steps take no time.
+    pub fn advance(&mut self, milliseconds: u32)
+        requires { self.old.all.clock + milliseconds ≤ CLOCK }
+        ensures shows { (c : Configuration) → Shows self.old c → Shows self.new (advanced milliseconds c) }
+        ensures exact { self.new ≡ record self.old { all = advanced milliseconds self.old.all } }
+    {
+        self.progress.advance(milliseconds);
+    }
+
+    /// Begins anew: the program before its first step, with no choices, no output and the clock at 0.
+    ///
+    /// # Errors
+    ///
+    /// Memory is refused, or the machine is spent. It is spent then.
+    pub fn reset(&mut self, alloc: Global) -> Result<(), AllocError>
+        ensures shows { OnOk result (Shows self.new (opening (plain_program self.old.program))) }
+        ensures code { self.new.code ≡ self.old.code }
+        ensures program { self.new.program ≡ self.old.program }
+        ensures spent { OnErr result (self.new.spent ≡ true) }
+        ensures refuses { self.old.spent ≡ true → IsErr result }
+    {
+        if self.spent {
+            return Err(AllocError);
+        }
+        self.spent = true;
+        self.progress = Progress::new(alloc)?;
+        self.code.check_start();
+        self.spent = false;
+        Ok(())
     }
 
     /// So many steps, or until no move is enabled.
@@ -127,7 +210,8 @@ impl Machine {
         requires { self.old.all.steps + n ≤ STEPS }
         ensures runs { IfOk result (λ ran. (limits : Limits) → (c : Configuration) → Shows self.old c → RunsFrom limits n c self.new ran) }
         ensures few { IfOk result (λ ran. ran.steps ≤ n) }
-        ensures ticks { IfOk result (λ ran. ran.ticks ≤ ran.steps * length self.old.code) }
+        ensures ticks { IfOk result (λ ran. ran.ticks ≡ min (run_ticks self.old.code n self.old.all) u64.MAX) }
+        ensures few_ticks { IfOk result (λ ran. ran.ticks ≤ ran.steps * length self.old.code) }
         ensures code { self.new.code ≡ self.old.code }
         ensures program { self.new.program ≡ self.old.program }
         ensures spent { OnErr result (self.new.spent ≡ true) }
@@ -151,7 +235,8 @@ impl Machine {
     pub fn take(&mut self, alloc: Global, nth: usize) -> Result<Option<Ran>, AllocError>
         requires { self.old.all.steps < STEPS }
         ensures takes { IfOk result (λ taken. (limits : Limits) → (c : Configuration) → Shows self.old c → Takes limits c (slice_get (moves c) nth) self.old self.new taken) }
-        ensures ticks { IfOk result (λ taken. IfSome taken (λ ran. ran.ticks ≤ length self.old.code)) }
+        ensures ticks { IfOk result (λ taken. IfSome taken (λ ran. (m : Move) → slice_get (moves self.old.all) nth ≡ Some m → ran.ticks ≡ step_ticks self.old.code m.task self.old.all)) }
+        ensures few_ticks { IfOk result (λ taken. IfSome taken (λ ran. ran.ticks ≤ length self.old.code)) }
         ensures code { self.new.code ≡ self.old.code }
         ensures program { self.new.program ≡ self.old.program }
         ensures spent { OnErr result (self.new.spent ≡ true) }
@@ -165,9 +250,7 @@ impl Machine {
         };
         self.spent = true;
         let mut operands = Operands::new(alloc);
-        let mut ticks = 0;
-        self.progress
-            .take(&self.code, &mut operands, &mut ticks, task)?;
+        let ticks = self.progress.take(&self.code, &mut operands, task)?;
         self.spent = false;
         let state = self.progress.state();
         Ok(Some(Ran {

@@ -1,37 +1,44 @@
 // How far a program is.
 
 ghost use Rattle.std.specs.Prelude.{◌≡◌, ◌<◌, ◌≤◌, ◌+◌, length, OnOk, IfOk, IfSome, slice_get};
-ghost use Rattle.aud_meaning.specs.Run.{has_ended, moves, moves_from, state_of, main_raised, step_with, own_move};
+ghost use Rattle.aud_meaning.specs.Run.{has_ended, moves, moves_from, state_of, main_raised, step_with, own_move, supplied, advanced};
 ghost use Rattle.aud_code.specs.Next.{next};
 ghost use Rattle.aud_gen.specs.Shows.{opening_code};
 ghost use Rattle.aud_machine.specs.Moving.{move_of, Picks, AllFit};
+ghost use Rattle.aud_machine.specs.Ticks.{step_ticks};
 
+use crate::frames::Frames;
 use crate::operands::Operands;
 use crate::shared::Shared;
 use crate::task::Task;
 use aud_code::sound::SoundCode;
 use aud_meaning::state::State;
+use aud_text::limits::{CLOCK, OUTPUT, STEPS};
 use aud_text::raise::Raise;
 use std::alloc::{AllocError, Global};
 use std::collections::VecDeque;
 use std::marker::Model;
 
-/// The tasks of a program, what they share, the choices that wait, and the steps taken.
+/// The tasks of a program, what they share, the choices that wait, the time on its clock, and the steps taken.
 #[derive(Drop)]
 pub struct Progress {
     tasks: Vec<Task>,
     shared: Shared,
     choices: VecDeque<u32>,
+    clock: u32,
     steps: u32,
 }
 
 impl Model for Progress {
-    ghost use Rattle.std.specs.Prelude.{ℕ};
+    ghost use Rattle.std.specs.Prelude.{ℕ, ◌≤◌};
+    ghost use Rattle.aud_text.specs.declared.limits.TheConstants.{CLOCK, STEPS};
     ghost use Rattle.aud_meaning.specs.Configuration.{All as Everything};
 
     ghost Value = { Everything ℕ };
 
-    ghost view = { λ p. record { tasks = p.tasks.items; shared = p.shared; choices = p.choices.items; steps = p.steps } };
+    ghost view = { λ p. record { tasks = p.tasks.items; shared = p.shared; choices = p.choices.items; clock = p.clock; steps = p.steps } };
+
+    ghost invariant = { λ p. (p.clock ≤ CLOCK) × (p.steps ≤ STEPS) };
 }
 
 impl Progress {
@@ -44,12 +51,28 @@ impl Progress {
             tasks: vec![in alloc; main]?,
             shared: Shared::new(alloc)?,
             choices: VecDeque::new(alloc),
+            clock: 0,
             steps: 0,
         })
     }
 
+    /// All frames ever made, by their numbers.
+    pub fn frames(&self) -> &Frames
+        ensures { result.now ≡ self.now.shared.frames }
+    {
+        self.shared.frames()
+    }
+
+    /// The tasks ever created, by their numbers.
+    pub fn tasks(&self) -> &[Task]
+        ensures { result.now ≡ self.now.tasks }
+    {
+        &self.tasks
+    }
+
     pub fn output(&self) -> &[u8]
-        ensures { result.now ≡ self.now.shared.output }
+        ensures value { result.now ≡ self.now.shared.output }
+        ensures within { length result.now ≤ OUTPUT }
     {
         self.shared.output()
     }
@@ -68,11 +91,35 @@ impl Progress {
         self.choices.len()
     }
 
+    /// The time on the clock, in milliseconds.
+    pub fn clock(&self) -> u32
+        ensures value { result ≡ self.now.clock }
+        ensures within { result ≤ CLOCK }
+    {
+        self.clock
+    }
+
     /// The steps taken.
     pub fn steps(&self) -> u32
-        ensures { result ≡ self.now.steps }
+        ensures value { result ≡ self.now.steps }
+        ensures within { result ≤ STEPS }
     {
         self.steps
+    }
+
+    /// Choices, which wait behind those that wait already.
+    pub fn choose(&mut self, choices: &[u32]) -> Result<(), AllocError>
+        ensures { OnOk result (self.new ≡ supplied choices.now self.old) }
+    {
+        self.choices.extend(choices)
+    }
+
+    /// So many milliseconds more on the clock.
+    pub fn advance(&mut self, milliseconds: u32)
+        requires { self.old.clock + milliseconds ≤ CLOCK }
+        ensures { self.new ≡ advanced milliseconds self.old }
+    {
+        self.clock += milliseconds;
     }
 
     /// The exception that left the main procedure.
@@ -141,26 +188,26 @@ impl Progress {
         }
     }
 
-    /// The move of a task.
+    /// The move of a task. It tells how many instructions were executed.
     pub fn take(
         &mut self,
         code: &SoundCode,
         operands: &mut Operands,
-        ticks: &mut u64,
         task: usize,
-    ) -> Result<(), AllocError>
+    ) -> Result<u64, AllocError>
         requires known { task < length self.old.tasks }
         requires fit { AllFit code.now self.old }
-        requires steps { self.old.steps < u32.MAX }
+        requires steps { self.old.steps < STEPS }
         ensures next { OnOk result (self.new ≡ step_with (next code.now) self.old (own_move task)) }
         ensures fit { OnOk result (AllFit code.now self.new) }
         ensures steps { OnOk result (self.new.steps ≡ self.old.steps + 1) }
-        ensures ticks { ticks.new ≤ ticks.old + length code.now }
+        ensures ticks { IfOk result (λ ticks. ticks ≡ step_ticks code.now task self.old) }
+        ensures few { IfOk result (λ ticks. ticks ≤ length code.now) }
     {
         let acting = &mut self.tasks[task];
-        acting.step(code, &mut self.shared, operands, ticks)?;
+        let ticks = acting.step(code, &mut self.shared, operands)?;
         self.steps += 1;
-        Ok(())
+        Ok(ticks)
     }
 }
 

@@ -8,6 +8,7 @@ use crate::operands::Operands;
 use crate::progress::Progress;
 use aud_code::sound::SoundCode;
 use aud_meaning::state::State;
+use aud_text::limits::STEPS;
 use std::alloc::AllocError;
 
 /// What a run did: its steps, the instructions that they took, and what can happen next.
@@ -26,12 +27,12 @@ pub fn run(
     n: u32,
 ) -> Result<Ran, AllocError>
     requires fit { AllFit code.now progress.old }
-    requires budget { progress.old.steps + n ≤ u32.MAX }
+    requires budget { progress.old.steps + n ≤ STEPS }
     ensures runs { IfOk result (λ ran. RunsTo code.now n progress.old progress.new ran) }
     ensures fit { IfOk result (λ _. AllFit code.now progress.new) }
     ensures few { IfOk result (λ ran. ran.steps ≤ n) }
 {
-    let mut ticks = 0;
+    let mut ticks: u64 = 0;
     let mut steps = 0;
     while steps < n {
         let Some(task) = progress.pick() else {
@@ -42,7 +43,8 @@ pub fn run(
                 state,
             });
         };
-        progress.take(code, operands, &mut ticks, task)?;
+        let executed = progress.take(code, operands, task)?;
+        ticks = ticks.saturating_add(executed);
         steps += 1;
     }
     let state = progress.state();

@@ -50,7 +50,8 @@ impl Shared {
     }
 
     pub fn output(&self) -> &[u8]
-        ensures { result.now ≡ self.now.output }
+        ensures value { result.now ≡ self.now.output }
+        ensures within { length result.now ≤ OUTPUT }
     {
         &self.output
     }

@@ -5,8 +5,9 @@ ghost use Rattle.aud_meaning.specs.Effects.{raises};
 ghost use Rattle.aud_meaning.specs.Run.{acting, is_terminated};
 ghost use Rattle.aud_code.specs.Next.{next, effect};
 ghost use Rattle.aud_machine.specs.Fits.{Fits, Ready};
+ghost use Rattle.aud_machine.specs.Ticks.{task_ticks};
 
-use crate::evaluate::{Outcome, evaluate};
+use crate::evaluate::{Evaluation, Outcome, evaluate};
 use crate::operands::Operands;
 use crate::shared::Shared;
 use aud_code::code::Ending;
@@ -58,6 +59,27 @@ impl Task {
         }
     }
 
+    /// How far it is.
+    pub fn status(&self) -> Status
+        ensures { result ≡ self.now.own.status }
+    {
+        self.status
+    }
+
+    /// The exception that is raised and not yet handled (RM 11.4).
+    pub fn pending(&self) -> Option<Raise>
+        ensures { result ≡ self.now.own.pending }
+    {
+        self.pending
+    }
+
+    /// The numbers of the frames that it sees, outermost first.
+    pub fn display(&self) -> &[usize]
+        ensures { result.now ≡ self.now.own.display }
+    {
+        &self.display
+    }
+
     /// The exception that completed it.
     pub fn raised(&self) -> Option<Raise>
         ensures { result ≡ self.now.own.raised }
@@ -65,47 +87,45 @@ impl Task {
         self.raised
     }
 
-    /// One step. Its instructions are counted as ticks.
+    /// One step. It tells how many instructions were executed, each a tick.
     pub fn step(
         &mut self,
         code: &SoundCode,
         shared: &mut Shared,
         operands: &mut Operands,
-        ticks: &mut u64,
-    ) -> Result<(), AllocError>
+    ) -> Result<u64, AllocError>
         requires { Fits code.now (length shared.old.frames) self.old }
         ensures next { OnOk result (acting self.new shared.new ≡ next code.now (acting self.old shared.old)) }
         ensures fits { OnOk result (Fits code.now (length shared.new.frames) self.new) }
         ensures frames { OnOk result (length shared.new.frames ≡ length shared.old.frames) }
-        ensures ticks { ticks.new ≤ ticks.old + length code.now }
+        ensures ticks { IfOk result (λ ticks. ticks ≡ task_ticks code.now (acting self.old shared.old)) }
+        ensures few { IfOk result (λ ticks. ticks ≤ length code.now) }
     {
         match self.status {
             Status::Running => {}
             Status::Completed => {
                 self.close();
-                return Ok(());
+                return Ok(0);
             }
-            Status::Terminated => return Ok(()),
+            Status::Terminated => return Ok(0),
         }
         if let Some(raise) = self.pending {
             self.place = code.line(self.place).out.to;
             self.complete(Some(raise));
-            return Ok(());
+            return Ok(0);
         }
-        match evaluate(
+        let Evaluation { outcome, ticks } = evaluate(
             code,
             self.place,
             &self.display,
             shared.frames(),
             operands,
-            ticks,
-        )? {
-            Outcome::Reaches(ending) => self.end_step(ending, shared, operands),
-            Outcome::Fails(raise) => {
-                self.pending = Some(raise);
-                Ok(())
-            }
+        )?;
+        match outcome {
+            Outcome::Reaches(ending) => self.end_step(ending, shared, operands)?,
+            Outcome::Fails(raise) => self.pending = Some(raise),
         }
+        Ok(ticks)
     }
 
     // What the instruction that ends a step does.

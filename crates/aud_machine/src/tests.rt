@@ -5,7 +5,7 @@ ghost use Rattle.aud_typed.specs.View.{plain_integer, plain_program};
 ghost use Rattle.aud_typed.specs.Scoped.{IntegerScoped, IsScoped};
 
 use crate::machine::{Machine, Ran};
-use aud_meaning::state::State;
+use aud_meaning::state::{State, Status};
 use aud_text::int32::Int32;
 use aud_text::name::Name;
 use aud_text::place::Pos;
@@ -72,6 +72,22 @@ fn failure(alloc: Global) -> Result<Program, AllocError>
     })
 }
 
+// begin Put (first); Put (second); null;
+fn two_texts(alloc: Global, first: &[u8], second: &[u8]) -> Result<Program, AllocError>
+    ensures { IfOk result (λ program. IsScoped (plain_program program)) }
+{
+    let first = Stmt::Put(AT, TextExpr::Literal(Text::from_slice(alloc, first)?));
+    let second = Stmt::Put(AT, TextExpr::Literal(Text::from_slice(alloc, second)?));
+    let rest = Stmt::Sequence(Box::new(alloc, second)?, Box::new(alloc, Stmt::Null(AT))?);
+    let body = Stmt::Sequence(Box::new(alloc, first)?, Box::new(alloc, rest)?);
+    Ok(Program {
+        name: Name::from_source(alloc, b"M")?,
+        variables: Vec::new(alloc),
+        body,
+        end: AT,
+    })
+}
+
 fn run(rt: &impl Abort, machine: &mut Machine, alloc: Global, n: u32) -> Result<Ran, AllocError> {
     let steps = machine.steps();
     assert!(rt; steps <= 1_000 && n <= 1_000);
@@ -127,5 +143,105 @@ fn takes_one_move(rt: HostRuntime) -> Result<(), Fail> {
     let taken = machine.take(alloc, 0)?;
     assert_eq!(rt; taken.map(|ran| ran.steps), Some(1));
     assert_eq!(rt; machine.steps(), 1);
+    Ok(())
+}
+
+#[test]
+fn fills_the_output(rt: HostRuntime) -> Result<(), Fail> {
+    let alloc = rt.alloc();
+    let many = vec![in alloc; b'x'; 65_535]?;
+    let program = two_texts(alloc, &many, b"y")?;
+    let mut machine = Machine::new(alloc, program)?;
+    let puts = run(&rt, &mut machine, alloc, 2)?;
+    assert_eq!(rt; puts.state, State::More);
+    assert_eq!(rt; machine.output().len(), 65_536);
+    assert_eq!(rt; machine.output().last().copied(), Some(b'y'));
+    assert!(rt; !machine.is_cut());
+    let rest = run(&rt, &mut machine, alloc, 100)?;
+    assert_eq!(rt; rest.steps, 3);
+    assert_eq!(rt; rest.state, State::Ended);
+    Ok(())
+}
+
+#[test]
+fn cuts_the_output(rt: HostRuntime) -> Result<(), Fail> {
+    let alloc = rt.alloc();
+    let many = vec![in alloc; b'x'; 65_535]?;
+    let program = two_texts(alloc, &many, b"yz")?;
+    let mut machine = Machine::new(alloc, program)?;
+    let first = run(&rt, &mut machine, alloc, 1)?;
+    assert_eq!(rt; first.state, State::More);
+    assert_eq!(rt; machine.output().len(), 65_535);
+    let second = run(&rt, &mut machine, alloc, 100)?;
+    assert_eq!(rt; second.steps, 1);
+    assert_eq!(rt; second.state, State::OutputFull);
+    assert_eq!(rt; machine.state(), State::OutputFull);
+    assert!(rt; machine.is_cut());
+    assert_eq!(rt; machine.output().len(), 65_536);
+    assert_eq!(rt; machine.output().last().copied(), Some(b'y'));
+    let steps = machine.steps();
+    assert!(rt; steps <= 1_000);
+    assert_eq!(rt; machine.take(alloc, 0)?, None);
+    let more = run(&rt, &mut machine, alloc, 100)?;
+    assert_eq!(rt; more.steps, 0);
+    assert_eq!(rt; more.state, State::OutputFull);
+    Ok(())
+}
+
+#[test]
+fn begins_anew(rt: HostRuntime) -> Result<(), Fail> {
+    let alloc = rt.alloc();
+    let program = answer(alloc)?;
+    let mut machine = Machine::new(alloc, program)?;
+    machine.choose(&[3, 1])?;
+    machine.choose(&[4])?;
+    assert_eq!(rt; machine.choices(), 3);
+    let clock = machine.clock();
+    assert!(rt; clock <= 1_000);
+    machine.advance(250);
+    let clock = machine.clock();
+    assert!(rt; clock <= 1_000);
+    machine.advance(500);
+    assert_eq!(rt; machine.clock(), 750);
+    let first = run(&rt, &mut machine, alloc, 100)?;
+    assert_eq!(rt; first.state, State::Ended);
+    // with one task no choice is ever used up, and no step takes time
+    assert_eq!(rt; machine.choices(), 3);
+    assert_eq!(rt; machine.clock(), 750);
+    machine.reset(alloc)?;
+    assert_eq!(rt; machine.choices(), 0);
+    assert_eq!(rt; machine.clock(), 0);
+    assert_eq!(rt; machine.steps(), 0);
+    assert_eq!(rt; machine.output(), b"".as_slice());
+    assert_eq!(rt; machine.state(), State::More);
+    let second = run(&rt, &mut machine, alloc, 100)?;
+    assert_eq!(rt; second, first);
+    assert_eq!(rt; machine.output(), b"x 42\n".as_slice());
+    Ok(())
+}
+
+#[test]
+fn lends_its_parts(rt: HostRuntime) -> Result<(), Fail> {
+    let alloc = rt.alloc();
+    let program = answer(alloc)?;
+    let mut machine = Machine::new(alloc, program)?;
+    run(&rt, &mut machine, alloc, 2)?;
+    let parts = machine.parts();
+    assert_eq!(rt; parts.steps, 2);
+    assert_eq!(rt; parts.clock, 0);
+    assert_eq!(rt; parts.tasks.len(), 1);
+    assert_eq!(rt; parts.frames.len(), 1);
+    if let Some(main) = parts.tasks.first() {
+        assert_eq!(rt; main.status(), Status::Running);
+        assert_eq!(rt; main.pending(), None);
+        assert_eq!(rt; main.raised(), None);
+        assert_eq!(rt; main.display(), [0].as_slice());
+    }
+    let frames = parts.frames.len();
+    assert!(rt; 0 < frames);
+    assert_eq!(rt;
+        parts.frames.frame(0).first().copied(),
+        Some(Int32::new(42))
+    );
     Ok(())
 }

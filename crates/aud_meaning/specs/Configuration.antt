@@ -36,11 +36,13 @@ pub record TaskAt (C : Type 0) : Type 0 where
   pub control : C
   pub own : Own
 
--- the tasks ever created, by their numbers, of which the main procedure has the first; the choices that wait; the steps taken
+-- the tasks ever created, by their numbers, of which the main procedure has the first; the choices that wait; the time on
+-- the program's own clock, in milliseconds; the steps taken
 pub record All (C : Type 0) : Type 0 where
   pub tasks : List (TaskAt C)
   pub shared : Shared
   pub choices : List ℕ
+  pub clock : ℕ
   pub steps : ℕ
 
 abbrev pub Configuration : Type 0

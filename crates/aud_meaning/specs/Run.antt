@@ -1,5 +1,5 @@
 -- Moves, choices and runs of a program.
-use Rattle.std.specs.Prelude.{ℕ, zero, suc, ◌+◌, ◌%◌, List, [], ◌∷◌, length, Option, Some, None, Bool, true, false, if◌then◌else◌, slice_get, slice_index, slice_index_or, slice_set}
+use Rattle.std.specs.Prelude.{ℕ, zero, suc, ◌+◌, ◌%◌, List, [], ◌∷◌, ◌++◌, length, Option, Some, None, Bool, true, false, if◌then◌else◌, slice_get, slice_index, slice_index_or, slice_set}
 use Rattle.aud_text.specs.declared.raise.Raise.{Raise}
 use Rattle.aud_text.specs.declared.limits.Limits.{Limits}
 use Rattle.aud_typed.specs.Tree.{Program}
@@ -97,6 +97,16 @@ abbrev pub run_with : {C : Type 0} → (Acting C → Acting C) → ℕ → All C
 run_with own_step zero c = c
 run_with own_step (suc n) c = run_by own_step (run_with own_step n) (moves c) c
 
+-- What the user supplies between runs.
+
+-- choices, which wait behind those that wait already
+abbrev pub supplied : {C : Type 0} → List ℕ → All C → All C
+supplied choices c = record c { choices = c.choices ++ choices }
+
+-- time on the clock, which no step moves (RM 9.6)
+abbrev pub advanced : {C : Type 0} → ℕ → All C → All C
+advanced milliseconds c = record c { clock = c.clock + milliseconds }
+
 -- Of a program, with the limits of its machine. None of the present steps comes to one of them.
 
 abbrev pub step : Limits → Configuration → Move → Configuration
@@ -114,5 +124,6 @@ opening program = record {
   } ∷ [];
   shared = record { frames = [] ∷ []; output = []; cut = false };
   choices = [];
+  clock = 0;
   steps = 0;
 }

@@ -1,7 +1,9 @@
-use Rattle.std.proofs.Common.{◌≡◌, ◌+◌, ◌-◌, ◌*◌, ◌≤◌, length}
+use Rattle.std.proofs.Common.{◌≡◌, ◌+◌, ◌-◌, ◌*◌, ◌^◌, ◌≤◌, length}
+use Rattle.std.specs.Prelude.{min}
 use Rattle.aud_meaning.specs.Run.{run_with}
 use Rattle.aud_code.specs.Next.{next}
 use Rattle.aud_machine.specs.Moving.{AllFit}
+use Rattle.aud_machine.specs.Ticks.{run_ticks}
 use Rattle.aud_machine.proofs.run.run.Given as goal
 
 abbrev pub invariant-loop-steps : goal.invariant-loop-steps
@@ -10,7 +12,9 @@ invariant-loop-steps l = record {
   fit : AllFit l.code l.progress;
   run : run_with (next l.code) l.n l.fn.progress ≡ run_with (next l.code) (l.n - l.steps) l.progress;
   counted : l.steps + l.fn.progress.steps ≡ l.progress.steps;
-  ticked : l.ticks ≤ l.steps * length l.code;
+  ticked : min (l.ticks + run_ticks l.code (l.n - l.steps) l.progress) (2 ^ 64 - 1) ≡ min (run_ticks l.code l.n l.fn.progress) (2 ^ 64 - 1);
+  narrow : l.ticks ≤ 2 ^ 64 - 1;
+  few : l.ticks ≤ l.steps * length l.code;
 }
 
 abbrev pub decreases-loop-steps : goal.decreases-loop-steps

@@ -1,0 +1,17 @@
+// What a machine has at a moment.
+
+use crate::frames::Frames;
+use crate::task::Task;
+
+/// What a machine has at a moment, lent to whoever looks at it.
+#[derive(Clone, Copy)]
+pub struct Parts<'a> {
+    /// All frames that were ever made, by their numbers.
+    pub frames: &'a Frames,
+    /// The tasks that were ever created, by their numbers; the main procedure is the first.
+    pub tasks: &'a [Task],
+    /// The time on the clock, in milliseconds.
+    pub clock: u32,
+    /// The steps taken.
+    pub steps: u32,
+}

@@ -1,0 +1,11 @@
+#!/bin/sh
+# How fast `aud --solo` loads and runs straight-line programs, beside python3, and lua5.4 where it is there.
+# It times the program that `rt run` built last in crates/aud, or the one that is named.
+set -eu
+top=$(cd "$(dirname "$0")/.." && pwd)
+program=${1:-$top/crates/aud/out/aud}
+if [ ! -x "$program" ]; then
+    echo "benchmark: no program at $program; build it by: cd crates/aud && rt run -- --solo < ../../examples/first-session.txt" >&2
+    exit 2
+fi
+exec python3 "$top/tools/benchmark.py" "$program"
