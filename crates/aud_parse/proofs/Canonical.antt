@@ -99,15 +99,15 @@ table_stays c text h =
       literal = λ e. absurd (omega (arith, e, h));
     })
 
-found_code : (table : List Spelled) (bytes : List ℕ) (other : Kind) → list_all (λ e. nat_le (suc (code e.kind)) 100) table ≡ true → (code (found table bytes other) ≡ code other) ⊎ (code (found table bytes other) < 100)
-found_code [] bytes other h = inl refl
-found_code (x ∷ xs) bytes other h =
+found_code : (table : List Spelled) (bytes : List ℕ) (ordinary : Kind) → list_all (λ e. nat_le (suc (code e.kind)) 100) table ≡ true → (code (found table bytes ordinary) ≡ code ordinary) ⊎ (code (found table bytes ordinary) < 100)
+found_code [] bytes ordinary h = inl refl
+found_code (x ∷ xs) bytes ordinary h =
     let k = and_parts (nat_le (suc (code x.kind)) 100) (list_all (λ e. nat_le (suc (code e.kind)) 100) xs) h in
-    at (same_bytes x.bytes bytes) x.kind (found xs bytes other) other (leb-true _ _ k.0) (found_code xs bytes other k.1)
+    at (same_bytes x.bytes bytes) x.kind (found xs bytes ordinary) ordinary (leb-true _ _ k.0) (found_code xs bytes ordinary k.1)
   where
-    at : (t : Bool) (c d other : Kind) → suc (code c) ≤ 100 → (code d ≡ code other) ⊎ (code d < 100) → (code (if t then c else d) ≡ code other) ⊎ (code (if t then c else d) < 100)
-    at true c d other h k = inr (omega arith)
-    at false c d other h k = k
+    at : (t : Bool) (c d ordinary : Kind) → suc (code c) ≤ 100 → (code d ≡ code ordinary) ⊎ (code d < 100) → (code (if t then c else d) ≡ code ordinary) ⊎ (code (if t then c else d) < 100)
+    at true c d ordinary h k = inr (omega arith)
+    at false c d ordinary h k = k
 
 -- Identifiers
 

@@ -13,7 +13,8 @@ use Rattle.aud_parse.specs.Derives.{Member, here, later}
 use Rattle.aud_parse.specs.Begun.{Begun, b_stop, b_word, b_token, b_rule, b_level, b_down, b_one, b_yes, b_no, b_more, b_last, Within}
 use Rattle.aud_parse.proofs.Reading.{enough_budget}
 use Rattle.aud_parse.proofs.Total.{out}
-use Rattle.aud_parse.proofs.Ends.{mem, mem_left, mem_right, fs, fin, first_seq, first_append, table_first, member_first, Clean, Full, Apart, fs_all, clean_rule, full_append, table_full, next_code, rest_of, yes_not, no_not, next_same, whole_clean, deep_next}
+use Rattle.aud_parse.proofs.Ends.{Full, full_append, table_full, rest_of, yes_not, no_not, next_same, whole_clean, deep_next}
+use Rattle.aud_parse.proofs.Choices.{mem, mem_left, mem_right, fs, fin, first_seq, first_append, table_first, member_first, Clean, Apart, fs_all, clean_rule, next_code}
 use Rattle.aud_parse.proofs.Spelled.{Start, take_front, take_one_more}
 
 -- what a begun derivation of some tokens is

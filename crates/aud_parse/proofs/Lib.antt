@@ -1,5 +1,6 @@
 pub mod Tables
 pub mod Reading
+pub mod Choices
 pub mod Ends
 pub mod Total
 pub mod Spelled

@@ -13,7 +13,8 @@ use Rattle.aud_parse.proofs.Reading.{enough_budget, read_is}
 use Rattle.aud_parse.proofs.Total.{out}
 use Rattle.aud_parse.specs.Derives.{Derives, Viable}
 use Rattle.aud_parse.specs.Spells.{SpellsAs, Spells, StopsAt, DeepAt}
-use Rattle.aud_parse.proofs.Ends.{Ends, whole, whole_clean, may_end, sound, complete, more_room, next_code, Gets, reach_of, deep_next}
+use Rattle.aud_parse.proofs.Ends.{Ends, whole, whole_clean, may_end, sound, complete, more_room, Gets, reach_of, deep_next}
+use Rattle.aud_parse.proofs.Choices.{next_code}
 
 abbrev Fails : List Sym → ℕ → List Element → Verdict → Type 0
 Fails s r ts v = (ds : List Item) × Out s r ts ds v
