@@ -72,28 +72,6 @@ fn failure(alloc: Global) -> Result<Program, AllocError>
     })
 }
 
-// Nothing is said of them, since the prover would write out so many.
-fn letters(alloc: Global, count: usize) -> Result<Vec<u8>, AllocError> {
-    let letters = vec![in alloc; b'x'; count]?;
-    Ok(letters)
-}
-
-// begin Put (first); Put (second); null;
-fn two_texts(alloc: Global, first: &[u8], second: &[u8]) -> Result<Program, AllocError>
-    ensures { IfOk result (λ program. IsScoped (plain_program program)) }
-{
-    let first = Stmt::Put(AT, TextExpr::Literal(Text::from_slice(alloc, first)?));
-    let second = Stmt::Put(AT, TextExpr::Literal(Text::from_slice(alloc, second)?));
-    let rest = Stmt::Sequence(Box::new(alloc, second)?, Box::new(alloc, Stmt::Null(AT))?);
-    let body = Stmt::Sequence(Box::new(alloc, first)?, Box::new(alloc, rest)?);
-    Ok(Program {
-        name: Name::from_source(alloc, b"M")?,
-        variables: Vec::new(alloc),
-        body,
-        end: AT,
-    })
-}
-
 fn run(rt: &impl Abort, machine: &mut Machine, alloc: Global, n: u32) -> Result<Ran, AllocError> {
     let steps = machine.steps();
     assert!(rt; steps <= 1_000 && n <= 1_000);
@@ -149,40 +127,6 @@ fn takes_one_move(rt: HostRuntime) -> Result<(), Fail> {
     let taken = machine.take(alloc, 0)?;
     assert_eq!(rt; taken.map(|ran| ran.steps), Some(1));
     assert_eq!(rt; machine.steps(), 1);
-    Ok(())
-}
-
-#[test]
-fn fills_the_output(rt: HostRuntime) -> Result<(), Fail> {
-    let alloc = rt.alloc();
-    let many = letters(alloc, 65_535)?;
-    let program = two_texts(alloc, &many, b"y")?;
-    let mut machine = Machine::new(alloc, program)?;
-    let puts = run(&rt, &mut machine, alloc, 2)?;
-    assert_eq!(rt; puts.state, State::More);
-    assert_eq!(rt; machine.output().len(), 65_536);
-    assert_eq!(rt; machine.output().last().copied(), Some(b'y'));
-    assert!(rt; !machine.is_cut());
-    let rest = run(&rt, &mut machine, alloc, 100)?;
-    assert_eq!(rt; rest.steps, 3);
-    assert_eq!(rt; rest.state, State::Ended);
-    Ok(())
-}
-
-#[test]
-fn cuts_the_output(rt: HostRuntime) -> Result<(), Fail> {
-    let alloc = rt.alloc();
-    let many = letters(alloc, 65_535)?;
-    let program = two_texts(alloc, &many, b"yz")?;
-    let mut machine = Machine::new(alloc, program)?;
-    let puts = run(&rt, &mut machine, alloc, 100)?;
-    assert_eq!(rt; puts.steps, 2);
-    assert_eq!(rt; puts.state, State::OutputFull);
-    assert!(rt; machine.is_cut());
-    assert_eq!(rt; machine.output().len(), 65_536);
-    assert_eq!(rt; machine.output().last().copied(), Some(b'y'));
-    let more = run(&rt, &mut machine, alloc, 100)?;
-    assert_eq!(rt; more.steps, 0);
     Ok(())
 }
 
