@@ -2,4 +2,5 @@ pub mod Asked
 pub mod Lines
 pub mod Program
 pub mod Requests
+pub mod Solo
 pub mod Text

@@ -1,13 +1,15 @@
 // The server on one stream of requests.
 
-ghost use Rattle.std.specs.Prelude.{◌≡◌, ℕ, List, IfSome, OnOk, IsErrOf};
+ghost use Rattle.std.specs.Prelude.{◌≡◌, ◌++◌, ℕ, List, IfSome, OnOk, IsErrOf};
 ghost use Rattle.std.specs.Io.KnownBytes.{Appends, Consumes};
 ghost use Rattle.aud_text.specs.declared.limits.TheConstants.{STANDARD};
 ghost use Rattle.aud_bench.specs.Alone.{alone};
 ghost use Rattle.aud_text.specs.declared.code.Code.TheVariants as code;
+ghost use Rattle.aud_bench.specs.declared.request.Answer.{Answer};
 ghost use Rattle.aud_bench.specs.declared.request.Answer.TheVariants as answer;
 ghost use Rattle.aud_server.specs.declared.solo.SoloFault.TheVariants as fault;
 ghost use Rattle.aud_server.specs.Requests.{requests};
+ghost use Rattle.aud_server.specs.Solo.{AppendsFront, AppendsSome, IsCutShort, AreAnswers};
 ghost use Rattle.aud_server.specs.Text.{answer_text, text};
 
 use crate::answers::answer_text;
@@ -45,8 +47,8 @@ impl From<AllocError> for SoloFault {
 /// QUIT: those of a private server. The writer is not flushed.
 ///
 /// Where a read fails, the requests that had come are answered, and then `Read` is the result. `Write`
-/// comes where a write fails. Where memory is refused, the answers so far are written and after them
-/// that memory is out, and then `Memory` is the result.
+/// comes where a write fails, and a front of what was to be written stands there. Where memory is refused,
+/// a front of the answers is written and after it that memory is out, and then `Memory` is the result.
 pub fn solo<R: Read, W: Write>(
     alloc: Global,
     reader: &mut R,
@@ -54,6 +56,8 @@ pub fn solo<R: Read, W: Write>(
 ) -> Result<(), SoloFault>
     ensures all { OnOk result (IfSome (R.remaining reader.old) (λ input. Appends (W.contents writer.old) (W.contents writer.new) (text (alone STANDARD (requests input))))) }
     ensures read { IsErrOf result fault.Read → (input : List ℕ) × Consumes (R.remaining reader.old) (R.remaining reader.new) input × Appends (W.contents writer.old) (W.contents writer.new) (text (alone STANDARD (requests input))) }
+    ensures memory { IsErrOf result fault.Memory → (input : List ℕ) × (answers : List Answer) × Consumes (R.remaining reader.old) (R.remaining reader.new) input × IsCutShort (alone STANDARD (requests input)) answers × Appends (W.contents writer.old) (W.contents writer.new) (text answers) }
+    ensures write { IsErrOf result fault.Write → (input : List ℕ) × (answers : List Answer) × Consumes (R.remaining reader.old) (R.remaining reader.new) input × AreAnswers (alone STANDARD (requests input)) answers × AppendsFront (W.contents writer.old) (W.contents writer.new) (text answers) }
 {
     let answered = answer_reader(alloc, reader, writer);
     if matches!(answered, Err(SoloFault::Memory)) {
@@ -69,6 +73,8 @@ fn answer_reader<R: Read, W: Write>(
 ) -> Result<(), SoloFault>
     ensures all { OnOk result (IfSome (R.remaining reader.old) (λ input. Appends (W.contents writer.old) (W.contents writer.new) (text (alone STANDARD (requests input))))) }
     ensures read { IsErrOf result fault.Read → (input : List ℕ) × Consumes (R.remaining reader.old) (R.remaining reader.new) input × Appends (W.contents writer.old) (W.contents writer.new) (text (alone STANDARD (requests input))) }
+    ensures memory { IsErrOf result fault.Memory → (input : List ℕ) × Consumes (R.remaining reader.old) (R.remaining reader.new) input × AppendsSome (W.contents writer.old) (W.contents writer.new) (alone STANDARD (requests input)) }
+    ensures write { IsErrOf result fault.Write → (input : List ℕ) × Consumes (R.remaining reader.old) (R.remaining reader.new) input × AppendsFront (W.contents writer.old) (W.contents writer.new) (text (alone STANDARD (requests input))) }
 {
     let mut input = Vec::new(alloc);
     match reader.read_to_end(&mut input) {
@@ -84,6 +90,8 @@ fn answer_reader<R: Read, W: Write>(
 fn answer_bytes<W: Write>(alloc: Global, bytes: &[u8], writer: &mut W) -> Result<(), SoloFault>
     ensures all { OnOk result (Appends (W.contents writer.old) (W.contents writer.new) (text (alone STANDARD (requests bytes.now)))) }
     ensures read { IsErrOf result fault.Read → ⊥ }
+    ensures memory { IsErrOf result fault.Memory → AppendsSome (W.contents writer.old) (W.contents writer.new) (alone STANDARD (requests bytes.now)) }
+    ensures write { IsErrOf result fault.Write → AppendsFront (W.contents writer.old) (W.contents writer.new) (text (alone STANDARD (requests bytes.now))) }
 {
     let requests = read_requests(alloc, bytes)?;
     let mut answers = Vec::new(alloc);
@@ -100,6 +108,8 @@ fn write_answers<W: Write>(
 ) -> Result<(), SoloFault>
     ensures all { OnOk result (Appends (W.contents writer.old) (W.contents writer.new) (text answers.now)) }
     ensures read { IsErrOf result fault.Read → ⊥ }
+    ensures memory { IsErrOf result fault.Memory → AppendsSome (W.contents writer.old) (W.contents writer.new) answers.now }
+    ensures write { IsErrOf result fault.Write → AppendsFront (W.contents writer.old) (W.contents writer.new) (text answers.now) }
 {
     for answer in answers {
         let said = answer_text(alloc, answer)?;
@@ -108,11 +118,26 @@ fn write_answers<W: Write>(
     Ok(())
 }
 
+// As `write_all`, whose contract does not say what a failed call has written.
 fn write<W: Write>(writer: &mut W, bytes: &[u8]) -> Result<(), SoloFault>
     ensures all { OnOk result (Appends (W.contents writer.old) (W.contents writer.new) bytes.now) }
     ensures read { IsErrOf result fault.Read → ⊥ }
+    ensures memory { IsErrOf result fault.Memory → ⊥ }
+    ensures write { IsErrOf result fault.Write → AppendsFront (W.contents writer.old) (W.contents writer.new) bytes.now }
 {
-    writer.write_all(bytes).map_err(|_| SoloFault::Write)
+    let mut rest = bytes;
+    for _ in 0..u64::MAX {
+        if rest.is_empty() {
+            return Ok(());
+        }
+        match writer.write(rest) {
+            Ok(0) => return Err(SoloFault::Write),
+            Ok(count) => rest = &rest[count..],
+            Err(error) if error.kind() == ErrorKind::Interrupted => {}
+            Err(_) => return Err(SoloFault::Write),
+        }
+    }
+    Err(SoloFault::Write)
 }
 
 // The text of the answer that memory is out, for which no memory is needed.

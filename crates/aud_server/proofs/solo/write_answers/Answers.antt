@@ -1,7 +1,7 @@
-use Rattle.std.proofs.Common.{◌≡◌, ◌+◌, ◌++◌, List, ℕ, take, get_or, ap, sym, subst, ◌∙◌, arith}
+use Rattle.std.proofs.Common.{rules, ◌≡◌, ◌+◌, ◌++◌, List, ℕ, take, get_or, ap, sym, subst, ◌∙◌, arith}
 use Rattle.std.specs.Io.KnownBytes.{Appends}
 use Rattle.aud_server.specs.Text.{answer_text, text_from}
-use Rattle.aud_server.proofs.SoloLaws.{appends_more, text_more, text_all}
+use Rattle.aud_server.proofs.SoloLaws.{appends_more, text_more, text_all, first_some, next_front}
 use Rattle.aud_server.proofs.solo.write_answers.Goals as goal
 
 pub loop-answer-preserved : goal.loop-answer-preserved
@@ -23,3 +23,18 @@ returns-clause-all g c =
     subst (λ (t : List ℕ). Appends (contents c.args.writer.now) (contents c.loop-answer.writer) t)
     (text_all answers c.loop-answer.answer-index (omega arith))
     c.loop-answer.invariant
+
+pub returns-in_err-said-clause-memory : goal.returns-in_err-said-clause-memory
+returns-in_err-said-clause-memory g c e =
+    let contents = g.W.Write.contents in
+    first_some (contents c.args.writer.now) (contents c.loop-answer.writer) c.args.answers.now c.loop-answer.answer-index c.loop-answer.invariant
+
+pub returns-in_err-write-clause-write : goal.returns-in_err-write-clause-write
+returns-in_err-write-clause-write g c e =
+    let contents = g.W.Write.contents in
+    let answers = c.args.answers.now in
+    let i = c.loop-answer.answer-index in
+    let item = c.answer-item.result in
+    let said : c.deref.result.now ≡ answer_text (get_or answers i item) = c.deref.ensures.value ∙ (c.in_ok-said.ensures ∙ ap answer_text c.answer-item.is) in
+    next_front (contents c.args.writer.now) (contents c.loop-answer.writer) (contents c.write.new.writer) answers i item c.deref.result.now (omega arith)
+    c.loop-answer.invariant said (c.write.ensures.write (search rules))
