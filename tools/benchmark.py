@@ -10,11 +10,13 @@ import shutil
 import subprocess
 import sys
 import tempfile
+from statistics import median
 
 SOURCE = 32_768  # bytes of the largest source text
 JOURNAL = 1_048_576  # bytes of all requests of a session
 PER_LINE = 100  # assignments on a line of 700 bytes; a line may have 1,024
-TIMES = 7  # processes that are timed for each number
+TIMES = 7  # processes of another interpreter that are timed for each number
+SESSIONS = 101  # sessions of aud that are timed for each number
 
 HEAD, TAIL = "procedure B is X:Integer:=0;begin\n", "end B;\n"
 
@@ -95,16 +97,20 @@ def measure(words, stdin=os.devnull):
         return used.ru_utime + used.ru_stime, used.ru_maxrss * 1024, out.read()
 
 
-def session(program, folder, name, text, told, times):
-    """The least processor time of a session, and its peak memory; its answers say `told` so often."""
-    path = f"{folder}/{name}.txt"
-    with open(path, "w") as file:
-        file.write(text)
-    measured = [measure([program, "--solo"], path) for _ in range(TIMES)]
-    for _, _, wrote in measured:
-        if wrote.count(told) != times:
-            sys.exit("benchmark: aud did not load and run each program to its end")
-    return min(it[0] for it in measured), max(it[1] for it in measured)
+def sessions(program, folder, texts):
+    """The processor times of each session, and its peak memory; its answers say `told` so often."""
+    seconds, peaks = {name: [] for name in texts}, dict.fromkeys(texts, 0)
+    for name, (text, _, _) in texts.items():
+        with open(f"{folder}/{name}.txt", "w") as file:
+            file.write(text)
+    for _ in range(SESSIONS):
+        for name, (_, told, times) in texts.items():
+            second, peak, wrote = measure([program, "--solo"], f"{folder}/{name}.txt")
+            if wrote.count(told) != times:
+                sys.exit("benchmark: aud did not load and run each program to its end")
+            seconds[name].append(second)
+            peaks[name] = max(peak, peaks[name])
+    return seconds, peaks
 
 
 def of_aud(program, count, folder):
@@ -114,12 +120,16 @@ def of_aud(program, count, folder):
     loads = JOURNAL // (len(load) + len(run))
     # one declaration, the assignments, and the two steps in which the program ends
     steps = count + 3
-    start, _ = session(program, folder, "start", "QUIT\n", b"+ 0\n", 1)
-    loaded, _ = session(program, folder, "load", load * loads, b"loaded B\n", loads)
-    ran, peak = session(program, folder, "run", (load + run) * loads, f"ran {steps} ended\n".encode(), loads)
-    if ran <= loaded:
+    seconds, peaks = sessions(program, folder, {
+        "start": ("QUIT\n", b"+ 0\n", 1),
+        "load": (load * loads, b"loaded B\n", loads),
+        "run": ((load + run) * loads, f"ran {steps} ended\n".encode(), loads),
+    })
+    loading = min(seconds["load"]) - min(seconds["start"])
+    running = median(ran - loaded for loaded, ran in zip(seconds["load"], seconds["run"]))
+    if running <= 0:
         sys.exit("benchmark: the runs are too short beside the loads to be told from them; try again on a quiet machine")
-    return loads, Figures("aud", (loaded - start) / loads, (ran - loaded) / loads, steps, peak)
+    return loads, Figures("aud", loading / loads, running / loads, steps, peaks["run"])
 
 
 def of_other(name, words, statement, count, loads, folder):

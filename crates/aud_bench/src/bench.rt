@@ -90,7 +90,7 @@ impl Bench {
         ensures journal { result.now ≡ self.now.journal }
         ensures kept { is_kept result.now ≡ true }
     {
-        &self.journal
+        self.journal.as_slice()
     }
 
     /// The answers made, one for each of the first requests: those that the units of work come to. Where memory was
@@ -154,7 +154,7 @@ impl Bench {
     pub fn slice(&mut self, alloc: Global, units: u64) -> Work
         ensures within { result.done ≤ units }
         ensures done { self.new.spent ≡ false → result.done ≡ min units (cost self.old.limits self.old.journal - self.old.units) }
-        ensures units { self.new.spent ≡ false → self.new.units ≡ self.old.units + result.done }
+        ensures units { self.new.units ≡ self.old.units + result.done }
         ensures journal { (self.new.journal ≡ self.old.journal) × (self.new.limits ≡ self.old.limits) }
         ensures left { result.left ≡ unanswered self.new }
         ensures front { (more : List Answer) × (self.new.answers ≡ self.old.answers ++ more) }
@@ -202,7 +202,7 @@ impl Bench {
         ensures kept { (self.new.journal ≡ self.old.journal) × (self.new.limits ≡ self.old.limits) }
         ensures front { (more : List Answer) × (self.new.answers ≡ self.old.answers ++ more) }
         ensures works { IfSome result (λ done. (self.new.spent ≡ false) × (1 ≤ done) × (done ≤ units) × (self.new.units ≡ self.old.units + done)) }
-        ensures spent { result ≡ None → self.new.spent ≡ true }
+        ensures spent { result ≡ None → (self.new.spent ≡ true) × (self.new.units ≡ self.old.units) }
     {
         let request = &self.journal[self.answered];
         let Ok(served) = serve(
