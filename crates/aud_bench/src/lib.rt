@@ -2,9 +2,9 @@
 #![tactic(auto)]
 
 pub mod bench;
-pub mod journal;
+mod journal;
 pub mod laws;
-pub mod loading;
+mod loading;
 pub mod request;
 pub mod service;
 pub mod session;

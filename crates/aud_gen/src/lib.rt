@@ -1,7 +1,7 @@
 // From typed programs to bytecode, and the laws that tie its steps to the program's.
 #![tactic(auto)]
 
-pub mod around;
+mod around;
 mod emit;
 pub mod laws;
 mod sizes;

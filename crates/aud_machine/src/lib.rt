@@ -1,14 +1,14 @@
 // Machines: compiled programs under way. They do the bytecode, one step after the other.
 #![tactic(auto)]
 
-pub mod evaluate;
+mod evaluate;
 pub mod frames;
 pub mod machine;
-pub mod operands;
+mod operands;
 pub mod parts;
-pub mod progress;
-pub mod run;
-pub mod shared;
+mod progress;
+mod run;
+mod shared;
 pub mod task;
 #[cfg(test)]
 mod tests;
