@@ -8,10 +8,9 @@ use Rattle.aud_typed.specs.View.{plain_stmt}
 use Rattle.aud_syntax.specs.declared.tree.Stmt as source
 use Rattle.aud_syntax.specs.declared.tree.Decl.{Decl}
 use Rattle.aud_syntax.specs.View.{plain_stmts, plain_decls, plain_decl, plain_stmt as plain_source}
-use Rattle.aud_check.specs.Visible.{Names}
+use Rattle.aud_check.specs.Visible.{Symbol, Names}
 use Rattle.aud_check.specs.declared.decl.Part.{Part}
 use Rattle.aud_check.specs.declared.fault.Fault.{Fault}
-use Rattle.aud_check.specs.declared.names.Symbol.{Symbol}
 use Rattle.aud_check.specs.Least.{noted}
 use Rattle.aud_check.specs.Declarations.{Declared, check_decl, check_decls}
 use Rattle.aud_check.specs.Part.{plain_steps, Declares}
@@ -45,14 +44,14 @@ pub record DeclaresAhead (now_faults : Option Fault) (now : Part) (rest : Declar
   pub symbols : rest.symbols ≡ all.symbols
   pub steps : plain_steps now.steps.items ++ rest.steps ≡ plain_steps old.steps.items ++ all.steps
 
-pub decls_ahead : (old mid new : Option Fault) (first now next : Part) (all : Declared) (x : Decl) (xs ys : List Decl) (main : List ℕ) → xs ≡ x ∷ ys → DeclaresAhead mid now (check_decls (plain_decls xs) main now.symbols.items) old first all → Declares mid new now next (check_decl (plain_decl x) main now.symbols.items) → DeclaresAhead new next (check_decls (plain_decls ys) main next.symbols.items) old first all
+pub decls_ahead : (old mid new : Option Fault) (first now next : Part) (all : Declared) (x : Decl) (xs ys : List Decl) (main : List ℕ) → xs ≡ x ∷ ys → DeclaresAhead mid now (check_decls (plain_decls xs) main now.symbols.entries) old first all → Declares mid new now next (check_decl (plain_decl x) main now.symbols.entries) → DeclaresAhead new next (check_decls (plain_decls ys) main next.symbols.entries) old first all
 decls_ahead old mid new first now next all x xs ys main p a d =
-    let one : Declared = check_decl (plain_decl x) main now.symbols.items in
+    let one : Declared = check_decl (plain_decl x) main now.symbols.entries in
     let rest : List Symbol → Declared = λ s. check_decls (plain_decls ys) main s in
     record {
-      noted = ap (λ o. noted o (rest next.symbols.items).faults) d.0 ∙ ap (λ s. noted (noted mid one.faults) (rest s).faults) d.1 ∙ sym (noted_append mid one.faults (rest one.symbols).faults) ∙ sym (ap (λ l. noted mid (check_decls (plain_decls l) main now.symbols.items).faults) p) ∙ a.noted;
-      symbols = ap (λ s. (rest s).symbols) d.1 ∙ sym (ap (λ l. (check_decls (plain_decls l) main now.symbols.items).symbols) p) ∙ a.symbols;
-      steps = ap (λ l. l ++ (rest next.symbols.items).steps) d.2 ∙ ap (λ s. (plain_steps now.steps.items ++ one.steps) ++ (rest s).steps) d.1 ∙ append_assoc (plain_steps now.steps.items) one.steps (rest one.symbols).steps ∙ sym (ap (λ l. plain_steps now.steps.items ++ (check_decls (plain_decls l) main now.symbols.items).steps) p) ∙ a.steps;
+      noted = ap (λ o. noted o (rest next.symbols.entries).faults) d.0 ∙ ap (λ s. noted (noted mid one.faults) (rest s).faults) d.1 ∙ sym (noted_append mid one.faults (rest one.symbols).faults) ∙ sym (ap (λ l. noted mid (check_decls (plain_decls l) main now.symbols.entries).faults) p) ∙ a.noted;
+      symbols = ap (λ s. (rest s).symbols) d.1 ∙ sym (ap (λ l. (check_decls (plain_decls l) main now.symbols.entries).symbols) p) ∙ a.symbols;
+      steps = ap (λ l. l ++ (rest next.symbols.entries).steps) d.2 ∙ ap (λ s. (plain_steps now.steps.items ++ one.steps) ++ (rest s).steps) d.1 ∙ append_assoc (plain_steps now.steps.items) one.steps (rest one.symbols).steps ∙ sym (ap (λ l. plain_steps now.steps.items ++ (check_decls (plain_decls l) main now.symbols.entries).steps) p) ∙ a.steps;
     }
 
 -- the last step is put before what follows it

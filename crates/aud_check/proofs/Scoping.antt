@@ -1,5 +1,5 @@
 -- Each variable of a typed program names an open frame.
-use Rattle.std.proofs.Common.{◌≡◌, ℕ, ℤ, ◌<◌, Bool, true, false, List, [], ◌∷◌, ◌++◌, length, Option, Some, None, if◌then◌else◌, pos, arith, codes}
+use Rattle.std.proofs.Common.{ℕ, ℤ, ◌<◌, Bool, true, false, List, [], ◌∷◌, ◌++◌, length, Option, Some, None, if◌then◌else◌, arith, codes}
 use Rattle.std.specs.Str.{bytes_eq}
 use Rattle.aud_text.specs.declared.place.Pos.{Pos}
 use Rattle.aud_text.specs.declared.code.Code.TheVariants.{WrongKindOfName}
@@ -17,11 +17,10 @@ use Rattle.aud_typed.specs.declared.program.Unary.TheVariants as unary
 use Rattle.aud_typed.specs.declared.program.Binary.{Binary}
 use Rattle.aud_typed.specs.Tree as tree
 use Rattle.aud_typed.specs.Scoped.{IntegerScoped, TextScoped, StmtScoped, IsScoped}
-use Rattle.aud_check.specs.declared.names.Symbol.{Symbol}
 use Rattle.aud_check.specs.declared.names.Meaning.{Meaning}
 use Rattle.aud_check.specs.declared.names.Meaning.TheVariants.{IntegerType, PutLine, MainProcedure, Variable, Faulty}
 use Rattle.aud_check.specs.Visible as names
-use Rattle.aud_check.specs.Visible.{Names}
+use Rattle.aud_check.specs.Visible.{Symbol, Names}
 use Rattle.aud_check.specs.Expressions as e
 use Rattle.aud_check.specs.Expressions.{Typed, number, string, unknown}
 use Rattle.aud_check.specs.Declarations as d
@@ -42,7 +41,7 @@ VisibleScoped (Some m) = MeaningScoped m
 
 abbrev pub SymbolsScoped : List Symbol → Type 0
 SymbolsScoped [] = Unit {0}
-SymbolsScoped (x ∷ xs) = MeaningScoped x.meaning × SymbolsScoped xs
+SymbolsScoped (x ∷ xs) = MeaningScoped x.1 × SymbolsScoped xs
 
 abbrev pub TypedScoped : Typed → Type 0
 TypedScoped (number x) = IntegerScoped x 1
@@ -61,7 +60,7 @@ visible_if false x y h i = i
 
 found_scoped : (name : List ℕ) (xs : List Symbol) → SymbolsScoped xs → VisibleScoped (names.found name xs)
 found_scoped name [] h = tt
-found_scoped name (x ∷ xs) h = visible_if (bytes_eq name x.name) _ _ h.0 (found_scoped name xs h.1)
+found_scoped name (x ∷ xs) h = visible_if (bytes_eq name x.0) _ _ h.0 (found_scoped name xs h.1)
 
 or_scoped : (x y : Option Meaning) → VisibleScoped x → VisibleScoped y → VisibleScoped (names.or_outside x y)
 or_scoped None y h i = i

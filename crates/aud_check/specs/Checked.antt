@@ -32,7 +32,7 @@ or_null at (s ∷ ss) = s ∷ ss
 abbrev pub unit_program : Ident → Declared → Body → tree.Program
 unit_program main d (body begin stmts end last) = record {
   name = main.name;
-  variables = map (λ s. s.name) d.symbols;
+  variables = map (λ s. s.0) d.symbols;
   body = in_sequence begin (d.steps ++ or_null begin (typed_stmts stmts (all_names main.name d)));
   end = end;
 }

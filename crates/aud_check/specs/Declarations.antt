@@ -6,10 +6,9 @@ use Rattle.aud_syntax.specs.declared.tree.Ident.{Ident}
 use Rattle.aud_syntax.specs.Plain.{Decl, object, Decls, no_decls, more_decls, MaybeSimple, no_simple, a_simple}
 use Rattle.aud_typed.specs.Tree as tree
 use Rattle.aud_check.specs.declared.fault.Fault.{Fault}
-use Rattle.aud_check.specs.declared.names.Symbol.{Symbol}
 use Rattle.aud_check.specs.declared.names.Meaning.{Meaning}
 use Rattle.aud_check.specs.declared.names.Meaning.TheVariants.{IntegerType, PutLine, MainProcedure, Variable, Faulty}
-use Rattle.aud_check.specs.Visible.{Names, visible, is_declared}
+use Rattle.aud_check.specs.Visible.{Symbol, Names, visible, is_declared}
 use Rattle.aud_check.specs.Expressions.{Typed, number, check_simple, simple_at, not_integer}
 
 -- the faults of declarations, what the body has declared after them, and their elaboration, name by name (RM 3.11)
@@ -52,11 +51,11 @@ new_meaning good index = if good then Variable (record { level = 0; index = inde
 -- names are declared one after the other; a name that the region has already is refused (RM 8.3(26))
 abbrev pub declared_names : List Ident → Bool → List Symbol → List Symbol
 declared_names [] good symbols = symbols
-declared_names (i ∷ is) good symbols = if is_declared i.name symbols then declared_names is good symbols else declared_names is good (symbols ++ record { name = i.name; meaning = new_meaning good (length symbols) } ∷ [])
+declared_names (i ∷ is) good symbols = if is_declared i.name symbols then declared_names is good symbols else declared_names is good (symbols ++ (i.name, new_meaning good (length symbols)) ∷ [])
 
 abbrev pub twice_faults : List Ident → Bool → List Symbol → List Fault
 twice_faults [] good symbols = []
-twice_faults (i ∷ is) good symbols = if is_declared i.name symbols then record { at = i.at; code = DeclaredTwice } ∷ twice_faults is good symbols else twice_faults is good (symbols ++ record { name = i.name; meaning = new_meaning good (length symbols) } ∷ [])
+twice_faults (i ∷ is) good symbols = if is_declared i.name symbols then record { at = i.at; code = DeclaredTwice } ∷ twice_faults is good symbols else twice_faults is good (symbols ++ (i.name, new_meaning good (length symbols)) ∷ [])
 
 abbrev pub first_at : List Ident → Pos
 first_at [] = record { line = 0; col = 0 }

@@ -13,4 +13,4 @@ plain_steps steps = map plain_stmt steps
 
 -- the faults are noted, the names are declared, and the elaboration is added
 abbrev pub Declares : Option Fault → Option Fault → Part → Part → Declared → Type 0
-Declares old_faults new_faults old new d = (new_faults ≡ noted old_faults d.faults) × (new.symbols.items ≡ d.symbols) × (plain_steps new.steps.items ≡ plain_steps old.steps.items ++ d.steps)
+Declares old_faults new_faults old new d = (new_faults ≡ noted old_faults d.faults) × (new.symbols.entries ≡ d.symbols) × (plain_steps new.steps.items ≡ plain_steps old.steps.items ++ d.steps)

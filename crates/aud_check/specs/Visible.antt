@@ -1,11 +1,15 @@
 -- What names stand for, and where they are visible (RM 8.2, 8.3).
-use Rattle.std.specs.Prelude.{ℕ, Bool, List, [], ◌∷◌, Option, Some, None, codes, if◌then◌else◌}
+use Rattle.std.specs.Prelude.{ℕ, Bool, List, Option, Some, None, is_some, codes, if◌then◌else◌}
 use Rattle.std.specs.Str.{bytes_eq}
 use Rattle.std.specs.List.{list_any}
+use Rattle.std.specs.Map.{lookup}
 use Rattle.aud_syntax.specs.declared.tree.Ident.{Ident}
-use Rattle.aud_check.specs.declared.names.Symbol.{Symbol}
 use Rattle.aud_check.specs.declared.names.Meaning.{Meaning}
 use Rattle.aud_check.specs.declared.names.Meaning.TheVariants.{IntegerType, PutLine, MainProcedure}
+
+-- a name that the body declares, and what it stands for
+abbrev pub Symbol : Type 0
+Symbol = List ℕ × Meaning
 
 -- the regions of a place in a body, innermost last: the main procedure's name in the library, what the body has declared,
 -- and the names of the declaration that lasts
@@ -22,9 +26,9 @@ predefined name = if bytes_eq name (codes "INTEGER") then Some IntegerType else 
 abbrev pub outside : List ℕ → List ℕ → Option Meaning
 outside main name = if bytes_eq name main then Some MainProcedure else predefined name
 
+-- what the body has declared a name to stand for: the first symbol of that name decides
 abbrev pub found : List ℕ → List Symbol → Option Meaning
-found name [] = None
-found name (s ∷ ss) = if bytes_eq name s.name then Some s.meaning else found name ss
+found name symbols = lookup (bytes_eq name) symbols
 
 abbrev pub or_outside : Option Meaning → Option Meaning → Option Meaning
 or_outside (Some m) other = Some m
@@ -40,4 +44,4 @@ visible name names = if is_hidden name names.hidden then None else or_outside (f
 
 -- whether the body has declared a name (RM 8.3(26): no two homographs in one region)
 abbrev pub is_declared : List ℕ → List Symbol → Bool
-is_declared name symbols = list_any (λ s. bytes_eq name s.name) symbols
+is_declared name symbols = is_some (found name symbols)

@@ -10,7 +10,7 @@ ghost use Rattle.aud_check.specs.Part.{plain_steps, Declares};
 
 use crate::expr::{expr, simple_at};
 use crate::fault::Least;
-use crate::names::{Meaning, Scope, Symbol, is_declared};
+use crate::names::{Meaning, Scope, Symbols};
 use crate::typed::{Typed, wants_integer};
 use aud_syntax::tree::{Decl, Expr, Ident};
 use aud_text::code::Code;
@@ -23,7 +23,7 @@ use std::alloc::{AllocError, Global};
 /// What a declarative part declares, and its elaboration (RM 3.11).
 #[derive(Drop, Debug)]
 pub struct Part {
-    pub symbols: Vec<Symbol>,
+    pub symbols: Symbols,
     pub steps: Vec<Stmt>,
 }
 
@@ -110,19 +110,19 @@ fn declare(
     alloc: Global,
     names: &[Ident],
     good: bool,
-    symbols: &mut Vec<Symbol>,
+    symbols: &mut Symbols,
     faults: &mut Least,
 ) -> Result<(), AllocError>
-    ensures symbols { OnOk result (symbols.new.items ≡ declared_names names.now good symbols.old.items) }
-    ensures noted { OnOk result (faults.new ≡ noted faults.old (twice_faults names.now good symbols.old.items)) }
+    ensures symbols { OnOk result (symbols.new.entries ≡ declared_names names.now good symbols.old.entries) }
+    ensures noted { OnOk result (faults.new ≡ noted faults.old (twice_faults names.now good symbols.old.entries)) }
 {
     for ident in names {
-        if is_declared(&ident.name, symbols) {
+        if symbols.contains_key(&ident.name) {
             faults.note(ident.at, Code::DeclaredTwice);
         } else {
             let name = ident.name.try_clone(alloc)?;
             let meaning = new_meaning(good, symbols.len());
-            symbols.push(Symbol { name, meaning })?;
+            symbols.insert(name, meaning)?;
         }
     }
     Ok(())
@@ -163,7 +163,7 @@ pub fn decl(
     part: &mut Part,
     faults: &mut Least,
 ) -> Result<(), AllocError>
-    ensures { OnOk result (Declares faults.old faults.new part.old part.new (check_decl (plain_decl decl.now) main.now part.old.symbols.items)) }
+    ensures { OnOk result (Declares faults.old faults.new part.old part.new (check_decl (plain_decl decl.now) main.now part.old.symbols.entries)) }
 {
     let Decl::Object(names, subtype, initial) = decl;
     let scope = Scope::new(main, &part.symbols, names);
@@ -188,7 +188,7 @@ pub fn decls(
     part: &mut Part,
     faults: &mut Least,
 ) -> Result<(), AllocError>
-    ensures { OnOk result (Declares faults.old faults.new part.old part.new (check_decls (plain_decls decls.now) main.now part.old.symbols.items)) }
+    ensures { OnOk result (Declares faults.old faults.new part.old part.new (check_decls (plain_decls decls.now) main.now part.old.symbols.entries)) }
 {
     for next in decls {
         decl(alloc, next, main, part, faults)?;

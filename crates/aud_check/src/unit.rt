@@ -10,7 +10,7 @@ ghost use Rattle.aud_check.specs.Checked.{end_faults, or_null, faults as program
 
 use crate::decl::{Part, decls};
 use crate::fault::Least;
-use crate::names::{Scope, Symbol, same};
+use crate::names::{Scope, Symbols};
 use crate::stmt::{in_sequence, stmts};
 use aud_syntax::tree::{Body, Ident, Unit};
 use aud_text::code::Code;
@@ -23,7 +23,7 @@ fn check_end(main: &Name, end: &Option<Ident>, faults: &mut Least)
     ensures { faults.new ≡ noted faults.old (end_faults main.now end.now) }
 {
     if let Some(ident) = end {
-        if !same(&ident.name, main) {
+        if ident.name != *main {
             faults.note(ident.at, Code::WrongNameAtEnd);
         }
     }
@@ -49,10 +49,10 @@ fn statements(
 }
 
 // The symbols' names.
-fn names_of(alloc: Global, symbols: Vec<Symbol>) -> Result<Vec<Name>, AllocError>
-    ensures { IfOk result (λ names. names.items ≡ map (λ s. s.name) symbols.items) }
+fn names_of(alloc: Global, symbols: Symbols) -> Result<Vec<Name>, AllocError>
+    ensures { IfOk result (λ names. names.items ≡ map (λ s. s.0) symbols.entries) }
 {
-    symbols.into_iter().map(|symbol| symbol.name).collect(alloc)
+    symbols.into_keys().collect(alloc)
 }
 
 /// Checks a program (RM 10.1.1): notes its faults, and answers what is left of it.
@@ -63,7 +63,7 @@ pub fn typed(alloc: Global, unit: &Unit, faults: &mut Least) -> Result<Program, 
 {
     let main = &unit.name.name;
     let mut part = Part {
-        symbols: Vec::new(alloc),
+        symbols: Symbols::new(alloc),
         steps: Vec::new(alloc),
     };
     decls(alloc, &unit.decls, main, &mut part, faults)?;

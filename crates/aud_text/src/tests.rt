@@ -108,6 +108,8 @@ fn names_have_no_case(rt: HostRuntime) -> Result<(), Fail> {
     let name = Name::from_source(rt.alloc(), b"Put_Line2")?;
     assert_eq!(rt; name.as_bytes(), b"PUT_LINE2".as_slice());
     let other = name.try_clone(rt.alloc())?;
+    assert_eq!(rt; name, other);
+    assert_ne!(rt; name, Name::from_source(rt.alloc(), b"Put")?);
     assert!(rt; other.is(b"PUT_LINE2"));
     assert!(rt; !other.is(b"PUT_LINE"));
     Ok(())

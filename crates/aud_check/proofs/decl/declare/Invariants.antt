@@ -5,6 +5,6 @@ use Rattle.aud_check.proofs.decl.declare.Given as goal
 
 abbrev pub invariant-loop-ident : goal.invariant-loop-ident
 invariant-loop-ident l = record {
-  symbols : declared_names (drop l.ident-index l.names) l.good l.symbols.items ≡ declared_names l.fn.names l.good l.fn.symbols.items;
-  noted : noted l.faults (twice_faults (drop l.ident-index l.names) l.good l.symbols.items) ≡ noted l.fn.faults (twice_faults l.fn.names l.good l.fn.symbols.items);
+  symbols : declared_names (drop l.ident-index l.names) l.good l.symbols.entries ≡ declared_names l.fn.names l.good l.fn.symbols.entries;
+  noted : noted l.faults (twice_faults (drop l.ident-index l.names) l.good l.symbols.entries) ≡ noted l.fn.faults (twice_faults l.fn.names l.good l.fn.symbols.entries);
 }

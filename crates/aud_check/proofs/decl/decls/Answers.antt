@@ -6,4 +6,4 @@ use Rattle.aud_check.proofs.Elaborated.{decls_ahead}
 use Rattle.aud_check.proofs.decl.decls.Goals as goal
 
 pub loop-next-preserved : goal.loop-next-preserved
-loop-next-preserved c = decls_ahead c.args.faults.now c.loop-next.faults c.decl.new.faults c.args.part.now c.loop-next.part c.decl.new.part (check_decls (plain_decls c.args.decls.now) c.args.main.now c.args.part.now.symbols.items) c.next-item.result (drop c.loop-next.next-index c.args.decls.now) (drop (c.loop-next.next-index + 1) c.args.decls.now) c.args.main.now (dropped c.args.decls.now c.loop-next.next-index c.next-item.result (omega arith) c.next-item.is) c.loop-next.invariant c.in_ok-decl.ensures
+loop-next-preserved c = decls_ahead c.args.faults.now c.loop-next.faults c.decl.new.faults c.args.part.now c.loop-next.part c.decl.new.part (check_decls (plain_decls c.args.decls.now) c.args.main.now c.args.part.now.symbols.entries) c.next-item.result (drop c.loop-next.next-index c.args.decls.now) (drop (c.loop-next.next-index + 1) c.args.decls.now) c.args.main.now (dropped c.args.decls.now c.loop-next.next-index c.next-item.result (omega arith) c.next-item.is) c.loop-next.invariant c.in_ok-decl.ensures

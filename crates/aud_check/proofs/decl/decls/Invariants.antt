@@ -5,4 +5,4 @@ use Rattle.aud_check.proofs.Elaborated.{DeclaresAhead}
 use Rattle.aud_check.proofs.decl.decls.Given as goal
 
 abbrev pub invariant-loop-next : goal.invariant-loop-next
-invariant-loop-next l = DeclaresAhead l.faults l.part (check_decls (plain_decls (drop l.next-index l.decls)) l.main l.part.symbols.items) l.fn.faults l.fn.part (check_decls (plain_decls l.fn.decls) l.main l.fn.part.symbols.items)
+invariant-loop-next l = DeclaresAhead l.faults l.part (check_decls (plain_decls (drop l.next-index l.decls)) l.main l.part.symbols.entries) l.fn.faults l.fn.part (check_decls (plain_decls l.fn.decls) l.main l.fn.part.symbols.entries)
