@@ -8,14 +8,14 @@ ghost use Rattle.aud_typed.specs.View.{plain_program};
 ghost use Rattle.aud_check.specs.Checked.{checked};
 ghost use Rattle.aud_check.specs.Gives.{Gives};
 
-pub mod decl;
-pub mod expr;
+mod decl;
+mod expr;
 pub mod fault;
 pub mod laws;
-pub mod names;
-pub mod stmt;
-pub mod typed;
-pub mod unit;
+mod names;
+mod stmt;
+mod typed;
+mod unit;
 
 use crate::fault::{CheckFault, Least};
 use aud_syntax::tree::Unit;
