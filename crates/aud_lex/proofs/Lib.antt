@@ -3,3 +3,5 @@ pub mod Steps
 pub mod Fronts
 pub mod Spacing
 pub mod Elements
+pub mod Gaps
+pub mod Cutting

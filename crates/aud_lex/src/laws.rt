@@ -16,3 +16,19 @@ pub fn are_tokens()
 pub fn read_back()
     ensures { laws.ReadBack }
 {}
+
+/// A text of which tokens are read is cut into them: between two tokens stand separators and comments alone, and at least one
+/// separator or comment where two words or numbers meet.
+pub fn is_cut()
+    ensures { laws.IsCut }
+{}
+
+/// Of every text that is so cut its tokens are read.
+pub fn cut_is_read()
+    ensures { laws.CutIsRead }
+{}
+
+/// A text at fault is cut up to the fault's place, where it cannot go on.
+pub fn stands_at_fault()
+    ensures { laws.StandsAtFault }
+{}
