@@ -10,6 +10,3 @@ pub mod spelling;
 pub mod token;
 
 pub use scan::lex;
-
-#[cfg(test)]
-mod tests;

@@ -10,5 +10,3 @@ pub mod progress;
 pub mod run;
 pub mod shared;
 pub mod task;
-#[cfg(test)]
-mod tests;
