@@ -39,6 +39,3 @@ pub fn check(alloc: Global, unit: &Unit) -> Result<Program, CheckFault>
         Some(fault) => Err(CheckFault::Wrong(fault)),
     }
 }
-
-#[cfg(test)]
-mod tests;

@@ -10,5 +10,3 @@ mod progress;
 mod run;
 mod shared;
 pub mod task;
-#[cfg(test)]
-mod tests;

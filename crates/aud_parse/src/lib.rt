@@ -11,6 +11,3 @@ mod statement;
 mod value;
 
 pub use crate::parser::{SyntaxFault, parse};
-
-#[cfg(test)]
-mod tests;

@@ -1,4 +1,4 @@
-// Sessions and their answers.
+// Sessions and their answers, and the tests of all crates.
 #![tactic(auto)]
 
 #[cfg(test)]

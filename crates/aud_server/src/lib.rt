@@ -7,5 +7,3 @@ pub mod lines;
 pub mod program;
 pub mod requests;
 pub mod solo;
-#[cfg(test)]
-mod tests;

@@ -1,11 +1,11 @@
 // Values that the reference manual gives, and each call once where it succeeds.
 
-use crate::code::Code;
-use crate::digits::push_decimal;
-use crate::int32::Int32;
-use crate::name::Name;
-use crate::place::Pos;
-use crate::raise::Raise;
+use aud_text::code::Code;
+use aud_text::digits::push_decimal;
+use aud_text::int32::Int32;
+use aud_text::name::Name;
+use aud_text::place::Pos;
+use aud_text::raise::Raise;
 use std::test::Fail;
 
 // The table of RM 4.5.5: A, B, A / B, A rem B and A mod B.

@@ -1,8 +1,8 @@
 // Tokens and faults of texts, worked out by hand.
 
-use crate::fault::LexFault;
-use crate::lex;
-use crate::token::Kind;
+use aud_lex::fault::LexFault;
+use aud_lex::lex;
+use aud_lex::token::Kind;
 use aud_text::place::Pos;
 use std::alloc::Global;
 use std::process::Abort;

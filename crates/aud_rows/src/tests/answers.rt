@@ -1,8 +1,8 @@
 // Answers.
 
-use crate::answers::answer_text;
 use aud_bench::request::{Answer, Report};
 use aud_meaning::state::State;
+use aud_server::answers::answer_text;
 use aud_text::code::Code;
 use aud_text::name::Name;
 use aud_text::place::Pos;

@@ -1,7 +1,7 @@
 // Requests.
 
-use crate::requests::read_requests;
 use aud_bench::request::Request;
+use aud_server::requests::read_requests;
 use aud_text::code::Code;
 use std::alloc::{AllocError, Global};
 use std::process::Abort;

@@ -1,7 +1,7 @@
 // Programs and their canonical texts, worked out by hand.
 
-use crate::parse;
 use aud_lex::lex;
+use aud_parse::parse;
 use aud_syntax::print::print;
 use aud_text::text::Text;
 use std::alloc::Global;

@@ -1,7 +1,7 @@
 // Small programs, checked with ample memory.
 
-use crate::check;
-use crate::fault::{CheckFault, Fault};
+use aud_check::check;
+use aud_check::fault::{CheckFault, Fault};
 use aud_syntax::tree::{Body, Decl, Factor, Ident, Number, Primary, Simple, Stmt, Term, Unit};
 use aud_text::code::Code;
 use aud_text::int32::Int32;

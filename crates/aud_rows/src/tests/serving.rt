@@ -1,7 +1,7 @@
 // The server on one stream, and the program.
 
-use crate::program::program;
-use crate::solo::{SoloFault, solo};
+use aud_server::program::program;
+use aud_server::solo::{SoloFault, solo};
 use std::alloc::{AllocError, Global};
 use std::io::{self, ErrorKind, Read, Write};
 use std::process::Abort;

@@ -4,7 +4,7 @@ ghost use Rattle.std.specs.Prelude.{IfOk};
 ghost use Rattle.aud_typed.specs.View.{plain_integer, plain_program};
 ghost use Rattle.aud_typed.specs.Scoped.{IntegerScoped, IsScoped};
 
-use crate::machine::{Machine, Ran};
+use aud_machine::machine::{Machine, Ran};
 use aud_meaning::state::{State, Status};
 use aud_text::int32::Int32;
 use aud_text::name::Name;
