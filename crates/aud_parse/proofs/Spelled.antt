@@ -1,5 +1,5 @@
 -- What the function's answer says of the tokens, in the grammar's words.
-use Rattle.std.proofs.Common.{◌≡◌, ◌<◌, ◌≤◌, ℕ, ◌+◌, ◌-◌, List, [], ◌∷◌, ◌++◌, length, take, refl, sym, ap, ◌∙◌, subst, arith, length-append, append_assoc, true, false, ◌==◌, Result, Ok, Err}
+use Rattle.std.proofs.Common.{◌≡◌, ◌≤◌, ℕ, ◌+◌, ◌-◌, List, [], ◌∷◌, ◌++◌, length, take, refl, sym, ap, ◌∙◌, subst, arith, length-append, append_assoc, true, Ok, Err}
 use Rattle.std.proofs.Math.Seq.{take-append_seam}
 use Rattle.aud_text.specs.declared.limits.TheConstants.{LEVELS}
 use Rattle.aud_lex.specs.Element.{Element}
@@ -7,14 +7,14 @@ use Rattle.aud_parse.specs.Grammar as g
 use Rattle.aud_parse.specs.Grammar.{Part, Sym, N}
 use Rattle.aud_parse.specs.Parsed.{Verdict, Good, Wrong, Deep}
 use Rattle.aud_syntax.specs.Plain as m
-use Rattle.aud_parse.specs.Actions.{Item, top, the_unit}
-use Rattle.aud_parse.specs.Parsed.{Ran, read, budget, parsed, parsed_as, judged, Fault, wrong_at, deep_at}
+use Rattle.aud_parse.specs.Actions.{Item, the_unit}
+use Rattle.aud_parse.specs.Parsed.{Ran, budget, parsed, parsed_as, judged, wrong_at, deep_at}
 use Rattle.aud_parse.specs.Machine.{Out}
 use Rattle.aud_parse.proofs.Reading.{enough_budget, read_is}
 use Rattle.aud_parse.proofs.Total.{out}
-use Rattle.aud_parse.specs.Derives.{Derives, Viable}
+use Rattle.aud_parse.specs.Derives.{Derives}
 use Rattle.aud_parse.specs.Spells.{SpellsAs, Spells, StopsAt, DeepAt}
-use Rattle.aud_parse.proofs.Ends.{Ends, whole, whole_clean, may_end, sound, complete, more_room, Gets, reach_of, deep_next}
+use Rattle.aud_parse.proofs.Ends.{whole, whole_clean, may_end, sound, complete, more_room, Gets, reach_of, deep_next}
 use Rattle.aud_parse.proofs.Choices.{next_code}
 
 abbrev Fails : List Sym → ℕ → List Element → Verdict → Type 0
