@@ -1,17 +1,15 @@
 -- What symbols can begin with, and that the next token decides each choice of the grammar.
-use Rattle.std.specs.Prelude.{◌≡◌, ◌⊎◌, ℕ, zero, suc, ◌+◌, List, [], ◌∷◌, ◌++◌, Bool, true, false, ◌==◌, if◌then◌else◌, refl, map}
-use Rattle.std.proofs.Common.{sym, ap, ◌∙◌, subst, inl, inr, ⊎_elim, ◌≤◌, arith}
-use Rattle.std.proofs.lemmas.Bool.{eqb-true, eq-eqb}
+use Rattle.std.specs.Prelude.{◌≡◌, ◌⊎◌, ℕ, List, [], ◌∷◌, ◌++◌, Bool, true, false, ◌==◌, if◌then◌else◌, refl}
+use Rattle.std.proofs.Common.{sym, ap, ◌∙◌, subst, inl, inr, ⊎_elim}
+use Rattle.std.proofs.lemmas.Bool.{eqb-true}
 use Rattle.aud_lex.specs.declared.token.Kind.{Kind}
 use Rattle.aud_lex.specs.declared.token.Kind.TheVariants as kind
 use Rattle.aud_lex.specs.Element.{Element}
 use Rattle.aud_parse.specs.Grammar as g
 use Rattle.aud_parse.specs.Grammar.{Part, Sym, T, P, N, L, Down, A, Opt, Rep, rule}
 use Rattle.aud_lex.specs.Kinds.{code}
-use Rattle.aud_parse.specs.First.{among, next_in, firsts, first_of, first_of_all, first_within}
-use Rattle.aud_parse.specs.Parsed.{Verdict, Good, Wrong, Deep}
-use Rattle.aud_parse.specs.Actions.{Item, tok, none, listed, made}
-use Rattle.aud_parse.specs.Machine.{Out, o_end, o_rest, o_word, o_token, o_no_word, o_no_token, o_rule, o_level, o_deep, o_shut, o_down, o_this, o_other, o_last, o_yes, o_no, o_more, o_stop}
+use Rattle.aud_parse.specs.First.{among, next_in, firsts}
+use Rattle.aud_parse.specs.Actions.{Item}
 use Rattle.aud_parse.specs.Derives.{Member, here, later, Derives, d_end, d_word, d_token, d_rule, d_level, d_down, d_one, d_yes, d_no, d_more, d_stop}
 use Rattle.aud_parse.proofs.Tables.{follow}
 

@@ -1,13 +1,14 @@
 -- A fault of levels stands at the first token that opens one too many.
-use Rattle.std.specs.Prelude.{◌≡◌, ◌⊎◌, ℕ, zero, suc, ◌+◌, ◌-◌, List, [], ◌∷◌, ◌++◌, true, false, Ok, Err, length, take}
-use Rattle.std.proofs.Common.{refl, sym, ap, ◌∙◌, subst, ⊎_elim, inl, inr, ◌<◌, arith, length-append}
+use Rattle.std.specs.Prelude.{◌≡◌, ◌⊎◌, ℕ, zero, suc, ◌+◌, ◌-◌, List, [], ◌∷◌, ◌++◌, true, false, Err, length, take}
+use Rattle.std.proofs.Common.{refl, sym, ap, subst, ⊎_elim, inl, inr, ◌<◌, arith, length-append}
+use Rattle.aud_text.specs.declared.limits.TheConstants.{LEVELS}
 use Rattle.aud_lex.specs.Element.{Element}
 use Rattle.aud_parse.specs.Grammar as g
 use Rattle.aud_parse.specs.Grammar.{Part, Sym, T, P, N, L, Down, A, Opt, Rep, rule}
 use Rattle.aud_lex.specs.Kinds.{code}
 use Rattle.aud_parse.specs.First.{next_in, firsts}
 use Rattle.aud_parse.specs.Actions.{Item, the_unit}
-use Rattle.aud_parse.specs.Parsed.{Verdict, Good, Wrong, Deep, budget, levels, parsed, judged, wrong_at, deep_at}
+use Rattle.aud_parse.specs.Parsed.{Verdict, Good, Wrong, Deep, budget, parsed, judged, deep_at}
 use Rattle.aud_parse.specs.Machine.{Out, o_end, o_rest, o_word, o_token, o_no_word, o_no_token, o_rule, o_level, o_deep, o_shut, o_down, o_this, o_other, o_last, o_yes, o_no, o_more, o_stop}
 use Rattle.aud_parse.specs.Derives.{Member, here, later}
 use Rattle.aud_parse.specs.Begun.{Begun, b_stop, b_word, b_token, b_rule, b_level, b_down, b_one, b_yes, b_no, b_more, b_last, Within}
@@ -208,19 +209,19 @@ reaches (o_stop {p} {k} {r} {ts} {ds} {v} h o) c u =
 -- for the whole language
 
 abbrev FirstAt : List Element → ℕ → Type 0
-FirstAt ts i = (i < length ts) × Within levels (take i ts) × ¬ Within levels (take (i + 1) ts)
+FirstAt ts i = (i < length ts) × Within LEVELS (take i ts) × ¬ Within LEVELS (take (i + 1) ts)
 
-first_at : (front rest : List Element) → (rest ≡ [] → ⊥) → Within levels front → ((t : Element) (us : List Element) → next_code rest ≡ code t.kind → Begun (Start g.Unit) levels (front ++ t ∷ us) → ⊥) →
+first_at : (front rest : List Element) → (rest ≡ [] → ⊥) → Within LEVELS front → ((t : Element) (us : List Element) → next_code rest ≡ code t.kind → Begun (Start g.Unit) LEVELS (front ++ t ∷ us) → ⊥) →
     FirstAt (front ++ rest) (length (front ++ rest) - length rest)
 first_at front [] some_rest held beyond = absurd (some_rest refl)
 first_at front (t ∷ rest) some_rest held beyond =
     let len = length-append front (t ∷ rest) in (
       omega (arith, len),
-      subst (λ z. Within levels z) (sym (take_front front (t ∷ rest))) held,
-      λ d. beyond t [] refl (subst (λ z. Within levels z) (take_one_more front t rest) d),
+      subst (λ z. Within LEVELS z) (sym (take_front front (t ∷ rest))) held,
+      λ d. beyond t [] refl (subst (λ z. Within LEVELS z) (take_one_more front t rest) d),
     )
 
-first_is : (ts : List Element) (i : ℕ) (ds : List Item) (v : Verdict) → Out (Start g.Unit) levels ts ds v → judged the_unit (length ts) ds v ≡ Err (deep_at i) → FirstAt ts i
+first_is : (ts : List Element) (i : ℕ) (ds : List Item) (v : Verdict) → Out (Start g.Unit) LEVELS ts ds v → judged the_unit (length ts) ds v ≡ Err (deep_at i) → FirstAt ts i
 first_is ts i ds Good o e = cc
 first_is ts i ds (Wrong rest) o e = cc
 first_is ts i ds (Deep rest) o e =
@@ -229,4 +230,4 @@ first_is ts i ds (Deep rest) o e =
     subst (λ z. FirstAt ts z) h (subst (λ z. FirstAt z (length z - length rest)) (sym x.split) (first_at x.front rest (deep_next o rest refl) x.held x.beyond))
 
 pub first_deep : (ts : List Element) (i : ℕ) → parsed ts ≡ Err (deep_at i) → FirstAt ts i
-first_deep ts i e = first_is ts i _ _ (out ts budget (Start g.Unit) levels tt (enough_budget (Start g.Unit))) e
+first_deep ts i e = first_is ts i _ _ (out ts budget (Start g.Unit) LEVELS tt (enough_budget (Start g.Unit))) e

@@ -14,3 +14,4 @@ pub mod Places
 pub mod Canonical
 pub mod Worded
 pub mod RoundTrip
+pub mod Rows

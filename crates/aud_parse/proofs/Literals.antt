@@ -1,5 +1,5 @@
 -- How the values of literals are read byte by byte.
-use Rattle.std.proofs.Common.{◌≡◌, ◌≢◌, ℕ, zero, suc, ◌+◌, ◌-◌, ◌<◌, ◌≤◌, ℤ, pos, List, [], ◌∷◌, ◌++◌, drop, take, take_all, length, Bool, true, false, refl, sym, ap, ◌∙◌, arith, subst, append_assoc, slice_index_or, leb-true, le-leb}
+use Rattle.std.proofs.Common.{◌≡◌, ℕ, zero, suc, ◌+◌, ◌-◌, ◌<◌, ◌≤◌, ℤ, pos, List, [], ◌∷◌, drop, take, take_all, length, Bool, true, false, refl, sym, ap, ◌∙◌, arith, subst, slice_index_or, leb-true, le-leb}
 use Rattle.std.specs.Prelude.{nat_le, ◌==◌, ◌*◌, if◌then◌else◌, Option, Some, None}
 use Rattle.aud_parse.specs.Values.{with_digit, digits_value, number_value, is_left_out, inner, unquoted}
 

@@ -1,6 +1,6 @@
 -- How symbols are passed: words, tokens, levels, loops, and the exit of a function at a fault.
-use Rattle.std.proofs.Common.{◌≡◌, ◌≢◌, ℕ, zero, suc, ◌<◌, ◌≤◌, List, [], ◌∷◌, ◌++◌, length, ◌-◌, ap, append_assoc, Bool, true, false, refl, sym, arith, subst, ◌∙◌}
-use Rattle.std.specs.Prelude.{if◌then◌else◌, Result, Ok, Err, IsErrAnd}
+use Rattle.std.proofs.Common.{◌≡◌, ◌≢◌, ℕ, zero, suc, ◌≤◌, List, [], ◌∷◌, ◌++◌, length, ◌-◌, ap, append_assoc, Bool, true, false, refl, sym, arith, subst, ◌∙◌}
+use Rattle.std.specs.Prelude.{if◌then◌else◌, Result, IsErrAnd}
 use Rattle.std.proofs.lemmas.Result.{err_from_is_err_and}
 use Rattle.aud_lex.specs.Element.{Element}
 use Rattle.aud_lex.specs.declared.token.Kind.{Kind}
@@ -13,7 +13,7 @@ use Rattle.aud_parse.specs.Items.{list_item}
 use Rattle.aud_parse.specs.declared.cursor.Rest.{Rest}
 use Rattle.aud_parse.specs.declared.cursor.Fault.{Fault}
 use Rattle.aud_parse.specs.declared.cursor.Fault.TheVariants as fault
-use Rattle.aud_parse.specs.Reads.{Passes, Fails, FailsAt, Reads}
+use Rattle.aud_parse.specs.Reads.{Passes, FailsAt, Reads}
 
 pub not_true : (b : Bool) → b ≢ true → b ≡ false
 not_true true n = absurd (n refl)

@@ -2,6 +2,7 @@
 use Rattle.std.proofs.Common.{◌≡◌, ℕ, suc, List, [], ◌∷◌, length, refl, sym, ap, ◌∙◌, subst, Bool, true, false}
 use Rattle.std.proofs.lemmas.Bool.{eqb-true}
 use Rattle.std.specs.Prelude.{◌==◌, if◌then◌else◌, ℤ, Option, Ok}
+use Rattle.aud_text.specs.declared.limits.TheConstants.{LEVELS}
 use Rattle.aud_lex.specs.declared.token.Kind.{Kind}
 use Rattle.aud_lex.specs.declared.token.Kind.TheVariants as kind
 use Rattle.aud_lex.specs.Element.{Element}
@@ -12,7 +13,7 @@ use Rattle.aud_parse.specs.Grammar.{Part, Sym, T, P, N, L, Down, A, Opt, Rep, ru
 use Rattle.aud_parse.specs.First.{among, next_in, firsts}
 use Rattle.aud_parse.specs.Actions as a
 use Rattle.aud_parse.specs.Actions.{Item, tok, none, top, listed, made, the_unit}
-use Rattle.aud_parse.specs.Parsed.{Verdict, Good, Wrong, Deep, budget, levels, parsed, judged}
+use Rattle.aud_parse.specs.Parsed.{Verdict, Good, Wrong, Deep, budget, parsed, judged}
 use Rattle.aud_parse.specs.Machine.{Out, o_end, o_rest, o_word, o_token, o_no_word, o_no_token, o_rule, o_level, o_deep, o_shut, o_down, o_this, o_other, o_last, o_yes, o_no, o_more, o_stop}
 use Rattle.aud_parse.specs.Alike.{Alike, AllAlike, stripped}
 use Rattle.aud_parse.specs.Laws.{AlikeRead}
@@ -149,12 +150,12 @@ judged_alike n k ds es (Wrong ts) (Deep us) e b h = absurd h
 judged_alike n k ds es (Deep ts) Good e b h = absurd h
 judged_alike n k ds es (Deep ts) (Wrong us) e b h = absurd h
 
-alike_out : (ts us : List Element) (ds : List Item) (v : Verdict) → Out (N g.Unit ∷ []) levels ts ds v → AllAlike ts us → stripped (parsed ts) ≡ stripped (parsed us)
+alike_out : (ts us : List Element) (ds : List Item) (v : Verdict) → Out (N g.Unit ∷ []) LEVELS ts ds v → AllAlike ts us → stripped (parsed ts) ≡ stripped (parsed us)
 alike_out ts us ds v o h =
-    let f : Follows (N g.Unit ∷ []) levels us ds v = follows o us h in
-    ap stripped (parsed_is the_unit g.Unit levels ts ds v o)
+    let f : Follows (N g.Unit ∷ []) LEVELS us ds v = follows o us h in
+    ap stripped (parsed_is the_unit g.Unit LEVELS ts ds v o)
     ∙ judged_alike (length ts) (length us) ds f.items v f.end (length_alike ts us h) f.bared f.ended
-    ∙ ap stripped (sym (parsed_is the_unit g.Unit levels us f.items f.end f.reads))
+    ∙ ap stripped (sym (parsed_is the_unit g.Unit LEVELS us f.items f.end f.reads))
 
 pub alike_read : AlikeRead
-alike_read ts us h = alike_out ts us _ _ (out ts budget (N g.Unit ∷ []) levels tt (enough_budget (N g.Unit ∷ []))) h
+alike_read ts us h = alike_out ts us _ _ (out ts budget (N g.Unit ∷ []) LEVELS tt (enough_budget (N g.Unit ∷ []))) h

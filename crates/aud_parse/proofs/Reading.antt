@@ -1,18 +1,16 @@
 -- The function `read` computes what the machine ends in.
-use Rattle.std.specs.Prelude.{◌≡◌, ℕ, zero, suc, ◌+◌, ◌-◌, ◌≤◌, ◌<◌, List, [], ◌∷◌, ◌++◌, Bool, true, false, ◌==◌, nat_le, if◌then◌else◌, refl}
-use Rattle.std.proofs.Common.{sym, ap, ◌∙◌, subst, arith, leb-true, le-leb}
-use Rattle.std.proofs.lemmas.Bool.{eqb-true, eq-eqb}
+use Rattle.std.specs.Prelude.{◌≡◌, ℕ, zero, suc, ◌-◌, ◌≤◌, List, [], ◌∷◌, ◌++◌, Bool, true, false, ◌==◌, nat_le, if◌then◌else◌, refl}
+use Rattle.std.proofs.Common.{sym, ap, ◌∙◌, arith, leb-true, le-leb}
 use Rattle.aud_lex.specs.declared.token.Kind.{Kind}
-use Rattle.aud_lex.specs.declared.token.Kind.TheVariants as kind
 use Rattle.aud_lex.specs.Element.{Element}
 use Rattle.aud_parse.specs.Grammar as g
 use Rattle.aud_parse.specs.Grammar.{Part, Sym, T, P, N, L, Down, A, Opt, Rep, rule}
 use Rattle.aud_lex.specs.Kinds.{code}
 use Rattle.aud_parse.specs.First.{among, next_in, firsts}
-use Rattle.aud_parse.specs.Parsed.{Verdict, Good, Wrong, Deep}
+use Rattle.aud_parse.specs.Parsed.{Verdict, Wrong, Deep}
 use Rattle.aud_parse.specs.Actions.{Item, tok, none, listed, made}
 use Rattle.aud_parse.proofs.Tables.{rank}
-use Rattle.aud_parse.specs.Parsed.{pick, Ran, onto, lost, budget, read}
+use Rattle.aud_parse.specs.Parsed.{pick, Ran, onto, budget, read}
 use Rattle.aud_parse.specs.Machine.{Out, o_end, o_rest, o_word, o_token, o_no_word, o_no_token, o_rule, o_level, o_deep, o_shut, o_down, o_this, o_other, o_last, o_yes, o_no, o_more, o_stop}
 
 -- how many rules are entered before the next token is passed

@@ -3,11 +3,9 @@ use Rattle.std.proofs.Common.{◌≡◌, List, [], ◌∷◌, refl, ap, sym, ◌
 use Rattle.std.specs.Prelude.{Option, Some, None, Vec}
 use Rattle.std.specs.Global.{Global}
 use Rattle.std.specs.Prelude.{Box}
-use Rattle.aud_text.specs.declared.place.Pos.{Pos}
 use Rattle.aud_syntax.specs.declared.tree.Ident.{Ident}
 use Rattle.aud_syntax.specs.declared.tree.Signed.{Signed}
 use Rattle.aud_syntax.specs.declared.tree.Adding.{Adding}
-use Rattle.aud_syntax.specs.declared.tree.Multiplying.{Multiplying}
 use Rattle.aud_syntax.specs.declared.tree.Operator.{Operator}
 use Rattle.aud_syntax.specs.declared.tree.Simple.{Simple, roll-Simple, rolls-Simple', Row_of-Added, end_of-Added, more_of-Added, items-the_row-Added, items_hidden-the_row-Added-0}
 use Rattle.aud_syntax.specs.declared.tree.Added.{Added, roll-Added, rolls-Added'}
@@ -20,12 +18,11 @@ use Rattle.aud_syntax.specs.declared.tree.Decl.{Decl}
 use Rattle.aud_syntax.specs.declared.tree.Decl.TheVariants as decl
 use Rattle.aud_syntax.specs.declared.tree.Stmt.{Stmt}
 use Rattle.aud_syntax.specs.declared.tree.Body.{Body}
-use Rattle.aud_syntax.specs.declared.tree.Unit as declared
 use Rattle.aud_syntax.specs.Plain as m
-use Rattle.aud_syntax.specs.View.{plain_primary, plain_factor, plain_multiplied, plain_multiplieds, plain_term, plain_added, plain_addeds, plain_simple, plain_maybe, plain_decl, plain_decls, plain_stmts, plain_stmt, plain_body}
+use Rattle.aud_syntax.specs.View.{plain_primary, plain_factor, plain_multiplieds, plain_term, plain_added, plain_addeds, plain_simple, plain_maybe, plain_decl, plain_decls, plain_stmts, plain_stmt, plain_body}
 use Rattle.aud_parse.specs.Grammar as g
-use Rattle.aud_parse.specs.Actions.{Item, made, place, tok, none, an_ident, a_sign, an_operator, a_primary, a_factor, a_decl, a_body, a_unit, the_idents, the_decls, the_stmts, opt_ident, opt_expr, opt_sign, opt_operator, the_multiplieds, the_addeds}
-use Rattle.aud_parse.specs.Items.{list_item, opt_item, attribute_item, factor_item, multiplied_item, term_item, primary_item, added_item, expr_item, decl_item, stmt_item, body_item, unit_item}
+use Rattle.aud_parse.specs.Actions.{Item, made, place, an_ident, a_sign, an_operator, a_primary, a_factor, a_decl, a_body, a_unit, the_idents, the_decls, the_stmts, opt_ident, opt_expr, opt_sign, opt_operator, the_multiplieds, the_addeds}
+use Rattle.aud_parse.specs.Items.{list_item, opt_item, attribute_item, factor_item, multiplied_item, primary_item, added_item, expr_item, decl_item, stmt_item, body_item, unit_item}
 
 pub multiplied_rows : (n : _) (row : Row_of-Multiplied n) → plain_multiplieds row ≡ the_multiplieds (list_item multiplied_item (items-the_row-Multiplied n row))
 multiplied_rows n end_of-Multiplied = refl

@@ -1,19 +1,20 @@
 -- What the function's answer says of the tokens, in the grammar's words.
-use Rattle.std.proofs.Common.{◌≡◌, ◌<◌, ◌≤◌, ℕ, ◌+◌, ◌-◌, List, [], ◌∷◌, ◌++◌, length, take, refl, sym, ap, ◌∙◌, subst, arith, length-append, append_assoc, true, false, ◌==◌, Result, Ok, Err}
+use Rattle.std.proofs.Common.{◌≡◌, ◌≤◌, ℕ, ◌+◌, ◌-◌, List, [], ◌∷◌, ◌++◌, length, take, refl, sym, ap, ◌∙◌, subst, arith, length-append, append_assoc, true, Ok, Err}
 use Rattle.std.proofs.Math.Seq.{take-append_seam}
+use Rattle.aud_text.specs.declared.limits.TheConstants.{LEVELS}
 use Rattle.aud_lex.specs.Element.{Element}
 use Rattle.aud_parse.specs.Grammar as g
 use Rattle.aud_parse.specs.Grammar.{Part, Sym, N}
 use Rattle.aud_parse.specs.Parsed.{Verdict, Good, Wrong, Deep}
 use Rattle.aud_syntax.specs.Plain as m
-use Rattle.aud_parse.specs.Actions.{Item, top, the_unit}
-use Rattle.aud_parse.specs.Parsed.{Ran, read, budget, levels, parsed, parsed_as, judged, Fault, wrong_at, deep_at}
+use Rattle.aud_parse.specs.Actions.{Item, the_unit}
+use Rattle.aud_parse.specs.Parsed.{Ran, budget, parsed, parsed_as, judged, wrong_at, deep_at}
 use Rattle.aud_parse.specs.Machine.{Out}
 use Rattle.aud_parse.proofs.Reading.{enough_budget, read_is}
 use Rattle.aud_parse.proofs.Total.{out}
-use Rattle.aud_parse.specs.Derives.{Derives, Viable}
+use Rattle.aud_parse.specs.Derives.{Derives}
 use Rattle.aud_parse.specs.Spells.{SpellsAs, Spells, StopsAt, DeepAt}
-use Rattle.aud_parse.proofs.Ends.{Ends, whole, whole_clean, may_end, sound, complete, more_room, Gets, reach_of, deep_next}
+use Rattle.aud_parse.proofs.Ends.{whole, whole_clean, may_end, sound, complete, more_room, Gets, reach_of, deep_next}
 use Rattle.aud_parse.proofs.Choices.{next_code}
 
 abbrev Fails : List Sym → ℕ → List Element → Verdict → Type 0
@@ -105,14 +106,14 @@ deep_place f p m r ts i e = deep_is f p m r ts i _ _ (out ts budget (N p ∷ [])
 
 -- for the whole language
 pub parsed_spells : (ts : List Element) (t : m.Unit) → (parsed ts ≡ Ok t → Spells ts t) × (Spells ts t → parsed ts ≡ Ok t)
-parsed_spells ts t = (tree_spells the_unit g.Unit levels ts t, spells_tree the_unit g.Unit refl levels ts t)
+parsed_spells ts t = (tree_spells the_unit g.Unit LEVELS ts t, spells_tree the_unit g.Unit refl LEVELS ts t)
 
 -- a list of tokens spells one tree
 pub one_tree : (ts : List Element) (t u : m.Unit) → Spells ts t → Spells ts u → t ≡ u
 one_tree ts t u a b = let e : parsed ts ≡ Ok t = (parsed_spells ts t).1 a in let h : parsed ts ≡ Ok u = (parsed_spells ts u).1 b in cc
 
 pub wrong_place_unit : (ts : List Element) (i : ℕ) → parsed ts ≡ Err (wrong_at i) → StopsAt g.Unit ts i
-wrong_place_unit ts i e = wrong_place the_unit g.Unit refl levels ts i e
+wrong_place_unit ts i e = wrong_place the_unit g.Unit refl LEVELS ts i e
 
-pub deep_place_unit : (ts : List Element) (i : ℕ) → parsed ts ≡ Err (deep_at i) → DeepAt g.Unit levels ts i
-deep_place_unit ts i e = deep_place the_unit g.Unit refl levels ts i e
+pub deep_place_unit : (ts : List Element) (i : ℕ) → parsed ts ≡ Err (deep_at i) → DeepAt g.Unit LEVELS ts i
+deep_place_unit ts i e = deep_place the_unit g.Unit refl LEVELS ts i e

@@ -1,21 +1,18 @@
 -- The function takes the machine's way: what it answers is derived, or is a fault.
-use Rattle.std.specs.Prelude.{◌≡◌, ◌⊎◌, ℕ, zero, suc, ◌+◌, ◌-◌, ◌≤◌, List, [], ◌∷◌, ◌++◌, Bool, true, false, ◌==◌, nat_le, if◌then◌else◌, refl, length, Result, Ok, Err}
-use Rattle.std.proofs.Common.{sym, ap, ◌∙◌, subst, arith, leb-true, le-leb}
+use Rattle.std.specs.Prelude.{◌≡◌, ℕ, zero, suc, ◌≤◌, List, [], ◌∷◌, ◌++◌, Bool, true, false, ◌==◌, nat_le, if◌then◌else◌, refl}
+use Rattle.std.proofs.Common.{sym, ap, subst, arith, leb-true}
 use Rattle.aud_lex.specs.declared.token.Kind.{Kind}
 use Rattle.aud_lex.specs.Element.{Element}
-use Rattle.aud_parse.specs.Grammar as g
 use Rattle.aud_parse.specs.Grammar.{Part, Sym, T, P, N, L, Down, A, Opt, Rep, rule}
 use Rattle.aud_lex.specs.Kinds.{code}
-use Rattle.aud_parse.specs.First.{among, next_in, firsts}
-use Rattle.aud_parse.specs.Parsed.{Verdict, Good, Wrong, Deep}
-use Rattle.aud_syntax.specs.Plain as m
-use Rattle.aud_parse.specs.Actions.{Item, tok, none, listed, made, top, the_unit}
+use Rattle.aud_parse.specs.First.{next_in, firsts}
+use Rattle.aud_parse.specs.Parsed.{Verdict}
+use Rattle.aud_parse.specs.Actions.{Item}
 use Rattle.aud_parse.proofs.Tables.{rank}
-use Rattle.aud_parse.specs.Parsed.{pick, Ran, onto, budget, read, parsed, parsed_as, judged, Fault, wrong_at, deep_at}
+use Rattle.aud_parse.specs.Parsed.{pick, Ran, budget, read}
 use Rattle.aud_parse.specs.Machine.{Out, o_end, o_rest, o_word, o_token, o_no_word, o_no_token, o_rule, o_level, o_deep, o_shut, o_down, o_this, o_other, o_last, o_yes, o_no, o_more, o_stop}
-use Rattle.aud_parse.proofs.Reading.{is_yes, is_no, no_word, no_token, run_down, run_rule, run_level, run_deep, run_shut, run_one, run_yes, run_no, run_more, run_stop, pick_yes, pick_no, none_left, less, and_in, table_rank_some, enough_rule, enough_budget, below, enough, read_is}
-use Rattle.aud_parse.specs.Derives.{Derives}
-use Rattle.aud_parse.proofs.Ends.{Full, full_append, table_full, sound, complete, whole, Ends}
+use Rattle.aud_parse.proofs.Reading.{is_yes, no_word, no_token, run_down, run_rule, run_level, run_deep, run_shut, run_one, run_yes, run_no, run_more, run_stop, pick_yes, pick_no, none_left, less, and_in, table_rank_some, enough_rule, enough_budget, below, enough}
+use Rattle.aud_parse.proofs.Ends.{Full, full_append, table_full}
 
 abbrev pub Outs : List Sym → ℕ → List Element → Ran → Type 0
 Outs s r ts x = Out s r ts x.0 x.1

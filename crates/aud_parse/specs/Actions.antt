@@ -1,14 +1,12 @@
 -- How the tree of each part is made from those of its symbols.
-use Rattle.std.specs.Prelude.{ℕ, ℤ, List, [], ◌∷◌, Option, Some, None}
+use Rattle.std.specs.Prelude.{ℕ, List, [], ◌∷◌, Option, Some, None}
 use Rattle.aud_text.specs.Name.{capitals}
 use Rattle.aud_text.specs.declared.place.Pos.{Pos}
-use Rattle.aud_lex.specs.declared.token.Kind.TheVariants as kind
 use Rattle.aud_lex.specs.Element.{Element}
 use Rattle.aud_syntax.specs.declared.tree.Ident.{Ident}
 use Rattle.aud_syntax.specs.declared.tree.Number.{Number}
 use Rattle.aud_syntax.specs.declared.tree.Literal.{Literal}
 use Rattle.aud_syntax.specs.declared.tree.Signed.{Signed}
-use Rattle.aud_syntax.specs.declared.tree.Sign.{Sign}
 use Rattle.aud_syntax.specs.declared.tree.Sign.TheVariants as sign
 use Rattle.aud_syntax.specs.declared.tree.Adding.{Adding}
 use Rattle.aud_syntax.specs.declared.tree.Adding.TheVariants as adding

@@ -1,5 +1,5 @@
 -- What the grammar derives, said without looking ahead.
-use Rattle.std.specs.Prelude.{◌≡◌, ℕ, zero, suc, List, [], ◌∷◌, ◌++◌, Bool, true, ◌⊎◌}
+use Rattle.std.specs.Prelude.{◌≡◌, ℕ, suc, List, [], ◌∷◌, ◌++◌, true}
 use Rattle.aud_lex.specs.declared.token.Kind.{Kind}
 use Rattle.aud_lex.specs.Element.{Element}
 use Rattle.aud_parse.specs.Grammar.{Part, Sym, T, P, N, L, Down, A, Opt, Rep, rule}

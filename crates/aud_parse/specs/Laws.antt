@@ -1,12 +1,13 @@
 -- What is proved of the definitions.
 use Rattle.std.specs.Prelude.{◌≡◌, ℕ, ◌+◌, ◌<◌, List, length, take, ◌↔◌, Ok, Err}
+use Rattle.aud_text.specs.declared.limits.TheConstants.{LEVELS}
 use Rattle.aud_lex.specs.Element.{Element}
 use Rattle.aud_lex.specs.Lexed.{lexed}
 use Rattle.aud_syntax.specs.Plain as m
 use Rattle.aud_syntax.specs.Bare.{bare}
 use Rattle.aud_syntax.specs.Printed.{printed}
 use Rattle.aud_parse.specs.Grammar as g
-use Rattle.aud_parse.specs.Parsed.{parsed, levels, wrong_at, deep_at}
+use Rattle.aud_parse.specs.Parsed.{parsed, wrong_at, deep_at}
 use Rattle.aud_parse.specs.Spells.{Spells, StopsAt, DeepAt}
 use Rattle.aud_parse.specs.Begun.{Within}
 use Rattle.aud_parse.specs.Alike.{AllAlike, stripped}
@@ -25,11 +26,11 @@ WrongPlace = (ts : List Element) (i : ℕ) → parsed ts ≡ Err (wrong_at i) �
 
 -- a fault of levels stands at a token with which a program goes on, but none that has no more levels than may be
 abbrev pub DeepPlace : Type 0
-DeepPlace = (ts : List Element) (i : ℕ) → parsed ts ≡ Err (deep_at i) → DeepAt g.Unit levels ts i
+DeepPlace = (ts : List Element) (i : ℕ) → parsed ts ≡ Err (deep_at i) → DeepAt g.Unit LEVELS ts i
 
 -- and it is the first token that opens a level too many
 abbrev pub FirstDeep : Type 0
-FirstDeep = (ts : List Element) (i : ℕ) → parsed ts ≡ Err (deep_at i) → (i < length ts) × Within levels (take i ts) × ¬ Within levels (take (i + 1) ts)
+FirstDeep = (ts : List Element) (i : ℕ) → parsed ts ≡ Err (deep_at i) → (i < length ts) × Within LEVELS (take i ts) × ¬ Within LEVELS (take (i + 1) ts)
 
 -- what is read does not depend on places, on the case of letters or on how a number or a string is spelled
 abbrev pub AlikeRead : Type 0

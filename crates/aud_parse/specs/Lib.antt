@@ -11,4 +11,6 @@ pub mod Reads
 pub mod Gives
 pub mod Begun
 pub mod Alike
+pub mod Shorthand
+pub mod Rows
 pub mod Laws

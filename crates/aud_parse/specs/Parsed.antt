@@ -1,5 +1,6 @@
 -- The tree of a program's tokens, as a function: reading tokens by symbols, looking one token ahead.
 use Rattle.std.specs.Prelude.{ℕ, zero, suc, ◌-◌, List, [], ◌∷◌, ◌++◌, ◌==◌, length, Result, Ok, Err, if◌then◌else◌}
+use Rattle.aud_text.specs.declared.limits.TheConstants.{LEVELS}
 use Rattle.aud_lex.specs.Element.{Element}
 use Rattle.aud_lex.specs.Kinds.{code}
 use Rattle.aud_parse.specs.Grammar as g
@@ -72,10 +73,6 @@ judged f n st (Deep rest) = Err (deep_at (n - length rest))
 abbrev pub parsed_as : {X : Type 0} → (Item → X) → Part → ℕ → List Element → Result X Fault
 parsed_as f p limit ts = let x : Ran = read ts budget (N p ∷ []) limit in judged f (length ts) x.0 x.1
 
--- levels of declarations, statements and parentheses that may lie in one another (profile choice)
-abbrev pub levels : ℕ
-levels = 200
-
--- the tokens as a program (RM 10.1.1)
+-- the tokens as a program (RM 10.1.1), in which so many levels of declarations, statements and parentheses may lie in one another (profile choice)
 abbrev pub parsed : List Element → Result m.Unit Fault
-parsed ts = parsed_as the_unit g.Unit levels ts
+parsed ts = parsed_as the_unit g.Unit LEVELS ts

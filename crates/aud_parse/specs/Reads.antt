@@ -1,5 +1,5 @@
 -- What a function of the parser promises.
-use Rattle.std.specs.Prelude.{ℕ, List, [], ◌∷◌, Result, Ok, Err}
+use Rattle.std.specs.Prelude.{ℕ, List, ◌∷◌, Result, Ok, Err}
 use Rattle.std.specs.Borrow.{Bor}
 use Rattle.aud_lex.specs.Element.{Element}
 use Rattle.aud_lex.specs.declared.token.Kind.{Kind}

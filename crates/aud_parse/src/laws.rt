@@ -1,6 +1,7 @@
 // Laws of the definitions, each proved as what a function ensures.
 
 ghost use Rattle.aud_parse.specs.Laws as laws;
+ghost use Rattle.aud_parse.specs.Rows as rows;
 
 /// The tree that is read is the tree that the tokens spell.
 pub fn spells_law()
@@ -42,4 +43,20 @@ pub fn round_trip_law()
 /// places.
 pub fn one_text_law()
     ensures { laws.OneText }
+{}
+
+/// What is read of small texts, of which each rule of the grammar has some: the whole tree, with
+/// all its places.
+pub fn trees_of_texts()
+    ensures { rows.TreesOfTexts }
+{}
+
+/// The token at which small texts go wrong.
+pub fn faults_of_texts()
+    ensures { rows.FaultsOfTexts }
+{}
+
+/// The token at which small texts open a level too many.
+pub fn levels_of_texts()
+    ensures { rows.LevelsOfTexts }
 {}

@@ -1,6 +1,6 @@
 // Programs (RM 10.1.1).
 
-ghost use Rattle.std.specs.Prelude.{◌≡◌, ◌-◌, length, ◌<◌, IfOk};
+ghost use Rattle.std.specs.Prelude.{◌≡◌, ◌-◌, length};
 ghost use Rattle.aud_syntax.specs.View.{plain_unit};
 ghost use Rattle.aud_parse.specs.Grammar as g;
 ghost use Rattle.aud_parse.specs.Grammar.{N};

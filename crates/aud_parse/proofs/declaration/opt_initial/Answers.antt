@@ -1,10 +1,6 @@
-use Rattle.aud_parse.specs.Grammar as g
-use Rattle.std.proofs.Common.{sym, ap, ◌∙◌, ◌-◌, [], ◌∷◌, refl, rules}
-use Rattle.aud_parse.specs.Machine.{o_rule, o_this, o_other, o_last, o_yes, o_no, o_more, o_stop}
-use Rattle.aud_parse.specs.Actions.{tok}
-use Rattle.aud_parse.specs.Items.{list_item, decl_item}
-use Rattle.aud_parse.proofs.Passing.{to, exit, level_in, level_out, turns_push, turns_end, no_room, from_first, from_push, from_end}
-use Rattle.aud_parse.proofs.Rolls.{term_roll, added_roll, simple_roll, factor_items, named_none, named_some, decl_items, body_items, unit_items}
+use Rattle.std.proofs.Common.{sym, ◌∙◌}
+use Rattle.aud_parse.specs.Machine.{o_yes, o_no}
+use Rattle.aud_parse.proofs.Passing.{exit}
 use Rattle.aud_parse.proofs.declaration.opt_initial.Goals as goal
 
 pub returns-in_err-value-clause-reads : goal.returns-in_err-value-clause-reads

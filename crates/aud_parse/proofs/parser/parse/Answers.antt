@@ -1,4 +1,4 @@
-use Rattle.std.proofs.Common.{[], ◌∷◌, refl, subst, sym, ◌∙◌}
+use Rattle.std.proofs.Common.{[], sym, ◌∙◌}
 use Rattle.aud_parse.specs.Grammar as g
 use Rattle.aud_parse.specs.Parsed.{Good}
 use Rattle.aud_parse.specs.Actions.{the_unit}

@@ -1,4 +1,4 @@
-use Rattle.std.proofs.Common.{ℕ, ◌≤◌, length}
+use Rattle.std.proofs.Common.{◌≤◌, length}
 use Rattle.aud_parse.specs.Grammar as g
 use Rattle.aud_parse.specs.Items.{stmt_item}
 use Rattle.aud_parse.proofs.Passing.{TurnsFrom}

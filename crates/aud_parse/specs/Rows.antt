@@ -1,0 +1,294 @@
+-- Small texts: the trees of some, and the tokens at which others go wrong.
+use Rattle.std.specs.Prelude.{◌≡◌, ℕ, zero, suc, ◌+◌, List, [], ◌∷◌, ◌++◌, replicate, codes, Option, Some, None, Result, Ok, Err}
+use Rattle.aud_text.specs.declared.place.Pos.{Pos}
+use Rattle.aud_lex.specs.Element.{Element}
+use Rattle.aud_lex.specs.Lexed.{lexed}
+use Rattle.aud_syntax.specs.declared.tree.Adding.TheVariants.{Plus, Minus, Join}
+use Rattle.aud_syntax.specs.declared.tree.Multiplying.TheVariants.{Times, Divide, Modulo, Remainder}
+use Rattle.aud_syntax.specs.Plain.{Simple, added, multiplied, Primary, attribute, group, no_simple, a_simple, Decl, object, Stmt, null, assign, call, Body, body, Unit, unit}
+use Rattle.aud_parse.specs.Grammar as g
+use Rattle.aud_parse.specs.Actions.{the_unit}
+use Rattle.aud_parse.specs.Parsed.{Fault, wrong_at, deep_at, parsed, parsed_as}
+use Rattle.aud_parse.specs.Shorthand.{at, id, num, too_large, str, var, just, magnitude, opposite, product, multiplying, one, sum, adding, only, only_term, positive, negative, decls, stmts}
+
+-- how tokens are read, where there are tokens
+abbrev pub read_by : (List Element → Result Unit Fault) → Result (List Element) Pos → Option (Result Unit Fault)
+read_by reads (Ok ts) = Some (reads ts)
+read_by reads (Err place) = None
+
+-- the text has tokens, and this is what they are as a program
+abbrev pub IsRead : List ℕ → Result Unit Fault → Type 0
+IsRead source what = read_by parsed (lexed source) ≡ Some what
+
+-- a program whose name is P
+abbrev pub program : List Decl → Body → Unit
+program ds b = unit (id (codes "P") (at 1 11)) (decls ds) b
+
+-- the text as declarations, statements or an expression, in the second line of a program, and a place there
+
+abbrev pub with_decls : List ℕ → List ℕ
+with_decls source = codes "procedure P is\n" ++ source ++ codes "\nbegin null; end;"
+
+abbrev pub with_stmts : List ℕ → List ℕ
+with_stmts source = codes "procedure P is begin\n" ++ source ++ codes "\nend;"
+
+abbrev pub with_expr : List ℕ → List ℕ
+with_expr source = codes "procedure P is begin X :=\n" ++ source ++ codes "\n; end;"
+
+abbrev pub DeclsAre : List ℕ → List Decl → Type 0
+DeclsAre source ds = IsRead (with_decls source) (Ok (program ds (body (at 3 1) (stmts (null (at 3 7) ∷ [])) (at 3 13) None)))
+
+abbrev pub StmtsAre : List ℕ → List Stmt → Type 0
+StmtsAre source ss = IsRead (with_stmts source) (Ok (program [] (body (at 1 16) (stmts ss) (at 3 1) None)))
+
+abbrev pub ExprIs : List ℕ → Simple → Type 0
+ExprIs source e = IsRead (with_expr source) (Ok (program [] (body (at 1 16) (stmts (assign (id (codes "X") (at 1 22)) e ∷ [])) (at 3 3) None)))
+
+abbrev pub col : ℕ → Pos
+col n = at 2 n
+
+-- no program goes on with the token of this number, counted from 0 in the text itself
+
+abbrev pub DeclsStop : List ℕ → ℕ → Type 0
+DeclsStop source n = IsRead (with_decls source) (Err (wrong_at (3 + n)))
+
+abbrev pub StmtsStop : List ℕ → ℕ → Type 0
+StmtsStop source n = IsRead (with_stmts source) (Err (wrong_at (4 + n)))
+
+abbrev pub ExprStops : List ℕ → ℕ → Type 0
+ExprStops source n = IsRead (with_expr source) (Err (wrong_at (6 + n)))
+
+-- the first program of docs/LANGUAGE.md
+
+abbrev pub example : List ℕ
+example =
+    codes "procedure Sum is\n"
+    ++ codes "   X : Integer := 40;\n"
+    ++ codes "begin\n"
+    ++ codes "   X := X + 2;               -- 42\n"
+    ++ codes "   Put_Line (\"x\" & X'Image);\n"
+    ++ codes "end Sum;\n"
+
+abbrev pub example_decl : Decl
+example_decl = object (id (codes "X") (at 2 4) ∷ []) (id (codes "INTEGER") (at 2 8)) (a_simple (only (num 40 (at 2 19))))
+
+abbrev pub example_assign : Stmt
+example_assign = assign (id (codes "X") (at 4 4)) (sum (one (var (codes "X") (at 4 9))) (adding Plus (num 2 (at 4 13)) ∷ []))
+
+abbrev pub example_image : Primary
+example_image = attribute (id (codes "X") (at 5 20)) (id (codes "IMAGE") (at 5 22)) no_simple
+
+abbrev pub example_call : Stmt
+example_call = call (id (codes "PUT_LINE") (at 5 4)) (sum (one (str (codes "x") (at 5 14))) (adding Join example_image ∷ []))
+
+abbrev pub example_body : Body
+example_body = body (at 3 1) (stmts (example_assign ∷ example_call ∷ [])) (at 6 1) (Some (id (codes "SUM") (at 6 5)))
+
+-- programs (RM 6.3)
+abbrev pub Programs : Type 0
+Programs =
+    IsRead (codes "procedure P is begin null; end;")
+    (Ok (program [] (body (at 1 16) (stmts (null (at 1 22) ∷ [])) (at 1 28) None)))
+    × IsRead (codes "PROCEDURE p IS\nBEGIN\n  NULL;\nEND p;")
+    (Ok (program [] (body (at 2 1) (stmts (null (at 3 3) ∷ [])) (at 4 1) (Some (id (codes "P") (at 4 5))))))
+    × IsRead (codes "procedure P is begin null; end Other_Name;")
+    (Ok (program [] (body (at 1 16) (stmts (null (at 1 22) ∷ [])) (at 1 28) (Some (id (codes "OTHER_NAME") (at 1 32))))))
+    × IsRead example (Ok (unit (id (codes "SUM") (at 1 11)) (decls (example_decl ∷ [])) example_body))
+
+-- declarations (RM 3.3.1)
+abbrev pub Declarations : Type 0
+Declarations =
+    DeclsAre (codes "X : Integer;")
+    (object (id (codes "X") (col 1) ∷ []) (id (codes "INTEGER") (col 5)) no_simple ∷ [])
+    × DeclsAre (codes "X : T := 1;")
+    (object (id (codes "X") (col 1) ∷ []) (id (codes "T") (col 5)) (a_simple (only (num 1 (col 10)))) ∷ [])
+    × DeclsAre (codes "A, B, C : T;")
+    (object (id (codes "A") (col 1) ∷ id (codes "B") (col 4) ∷ id (codes "C") (col 7) ∷ []) (id (codes "T") (col 11)) no_simple ∷ [])
+    × DeclsAre (codes "A : T; B, C : U := -1; D : V;")
+    (object (id (codes "A") (col 1) ∷ []) (id (codes "T") (col 5)) no_simple
+    ∷ object (id (codes "B") (col 8) ∷ id (codes "C") (col 11) ∷ []) (id (codes "U") (col 15)) (a_simple (negative (col 20) (one (num 1 (col 21))) []))
+    ∷ object (id (codes "D") (col 24) ∷ []) (id (codes "V") (col 28)) no_simple
+    ∷ [])
+
+-- statements (RM 5.1, 5.2, 6.4)
+abbrev pub Statements : Type 0
+Statements =
+    StmtsAre (codes "null;")
+    (null (col 1) ∷ [])
+    × StmtsAre (codes "X := 1;")
+    (assign (id (codes "X") (col 1)) (only (num 1 (col 6))) ∷ [])
+    × StmtsAre (codes "Put_Line (\"x\");")
+    (call (id (codes "PUT_LINE") (col 1)) (only (str (codes "x") (col 11))) ∷ [])
+    × StmtsAre (codes "null; X := 1; P (X); null;")
+    (null (col 1)
+    ∷ assign (id (codes "X") (col 7)) (only (num 1 (col 12)))
+    ∷ call (id (codes "P") (col 15)) (only (var (codes "X") (col 18)))
+    ∷ null (col 22)
+    ∷ [])
+
+-- primaries (RM 2.3(5), 2.4.1(4, 5), 2.6(4, 5), 4.1, 4.1.4, 4.4(7))
+abbrev pub Primaries : Type 0
+Primaries =
+    ExprIs (codes "7") (only (num 7 (col 1)))
+    × ExprIs (codes "1_000") (only (num 1000 (col 1)))
+    × ExprIs (codes "2147483647") (only (num 2147483647 (col 1)))
+    × ExprIs (codes "2147483648") (only (too_large (col 1)))
+    × ExprIs (codes "\"say \"\"hi\"\"\"") (only (str (codes "say \"hi\"") (col 1)))
+    × ExprIs (codes "\"\"") (only (str [] (col 1)))
+    × ExprIs (codes "Some_Name") (only (var (codes "SOME_NAME") (col 1)))
+    × ExprIs (codes "X'Image") (only (attribute (id (codes "X") (col 1)) (id (codes "IMAGE") (col 3)) no_simple))
+    × ExprIs (codes "T'Image (X)") (only (attribute (id (codes "T") (col 1)) (id (codes "IMAGE") (col 3)) (a_simple (only (var (codes "X") (col 10))))))
+    × ExprIs (codes "(X)") (only (group (col 1) (only (var (codes "X") (col 2)))))
+    × ExprIs (codes "((1))") (only (group (col 1) (only (group (col 2) (only (num 1 (col 3)))))))
+
+-- operators; those of one level stand in the order of the text, in which they are taken (RM 4.5(8))
+abbrev pub Operators : Type 0
+Operators =
+    ExprIs (codes "1 - 2 + 3")
+    (sum (one (num 1 (col 1))) (adding Minus (num 2 (col 5)) ∷ adding Plus (num 3 (col 9)) ∷ []))
+    × ExprIs (codes "A & B & \"c\"")
+    (sum (one (var (codes "A") (col 1))) (adding Join (var (codes "B") (col 5)) ∷ adding Join (str (codes "c") (col 9)) ∷ []))
+    × ExprIs (codes "1 - (2 + 3)")
+    (sum (one (num 1 (col 1))) (adding Minus (group (col 5) (sum (one (num 2 (col 6))) (adding Plus (num 3 (col 10)) ∷ []))) ∷ []))
+    × ExprIs (codes "8 / 4 * 2")
+    (only_term (product (just (num 8 (col 1))) (multiplying Divide (num 4 (col 5)) ∷ multiplying Times (num 2 (col 9)) ∷ [])))
+    × ExprIs (codes "9 mod 5 rem 3")
+    (only_term (product (just (num 9 (col 1))) (multiplying Modulo (num 5 (col 7)) ∷ multiplying Remainder (num 3 (col 13)) ∷ [])))
+    × ExprIs (codes "1 + 2 * 3 - 4")
+    (sum (one (num 1 (col 1))) (added Plus (product (just (num 2 (col 5))) (multiplying Times (num 3 (col 9)) ∷ [])) ∷ adding Minus (num 4 (col 13)) ∷ []))
+    × ExprIs (codes "(1 + 2) * 3")
+    (only_term (product (just (group (col 1) (sum (one (num 1 (col 2))) (adding Plus (num 2 (col 6)) ∷ [])))) (multiplying Times (num 3 (col 11)) ∷ [])))
+    × ExprIs (codes "+1")
+    (positive (col 1) (one (num 1 (col 2))) [])
+    × ExprIs (codes "-7 mod 2 + 1")
+    (negative (col 1) (product (just (num 7 (col 2))) (multiplying Modulo (num 2 (col 8)) ∷ [])) (adding Plus (num 1 (col 12)) ∷ []))
+    × ExprIs (codes "2 * (-1)")
+    (only_term (product (just (num 2 (col 1))) (multiplying Times (group (col 5) (negative (col 6) (one (num 1 (col 7))) [])) ∷ [])))
+    × ExprIs (codes "abs X + 1")
+    (sum (product (magnitude (col 1) (var (codes "X") (col 5))) []) (adding Plus (num 1 (col 9)) ∷ []))
+    × ExprIs (codes "2 * abs X")
+    (only_term (product (just (num 2 (col 1))) (multiplied Times (magnitude (col 5) (var (codes "X") (col 9))) ∷ [])))
+    × ExprIs (codes "not X & Y")
+    (sum (product (opposite (col 1) (var (codes "X") (col 5))) []) (adding Join (var (codes "Y") (col 9)) ∷ []))
+    × ExprIs (codes "-abs X")
+    (negative (col 1) (product (magnitude (col 2) (var (codes "X") (col 6))) []) [])
+
+abbrev pub TreesOfTexts : Type 0
+TreesOfTexts = Programs × Declarations × Statements × Primaries × Operators
+
+-- programs that go wrong; the number of tokens stands for their end
+abbrev pub WrongPrograms : Type 0
+WrongPrograms =
+    IsRead (codes "") (Err (wrong_at 0))
+    × IsRead (codes "-- nothing\n") (Err (wrong_at 0))
+    × IsRead (codes "begin null; end;") (Err (wrong_at 0))
+    × IsRead (codes "procedure") (Err (wrong_at 1))
+    × IsRead (codes "procedure null is begin null; end;") (Err (wrong_at 1))
+    × IsRead (codes "procedure P") (Err (wrong_at 2))
+    × IsRead (codes "procedure P (X : Integer) is begin null; end;") (Err (wrong_at 2))
+    × IsRead (codes "procedure P is") (Err (wrong_at 3))
+    × IsRead (codes "procedure P is begin") (Err (wrong_at 4))
+    × IsRead (codes "procedure P is begin null;") (Err (wrong_at 6))
+    × IsRead (codes "procedure P is begin null; end") (Err (wrong_at 7))
+    × IsRead (codes "procedure P is begin null; end P") (Err (wrong_at 8))
+    × IsRead (codes "procedure P is begin null; end P.Q;") (Err (wrong_at 8))
+    × IsRead (codes "procedure P is begin null; end; null;") (Err (wrong_at 8))
+
+abbrev pub WrongDeclarations : Type 0
+WrongDeclarations =
+    DeclsStop (codes "null;") 0
+    × DeclsStop (codes "X") 1
+    × DeclsStop (codes "X Y : T;") 1
+    × DeclsStop (codes "X, : T;") 2
+    × DeclsStop (codes "X : constant T := 1;") 2
+    × DeclsStop (codes "X : T") 3
+    × DeclsStop (codes "X : T = 1;") 3
+    × DeclsStop (codes "X : T :=;") 4
+    × DeclsStop (codes "X : T := 1, Y : T;") 5
+    × DeclsStop (codes "X : T; null;") 4
+
+abbrev pub WrongStatements : Type 0
+WrongStatements =
+    StmtsStop (codes "") 0
+    × StmtsStop (codes ";") 0
+    × StmtsStop (codes "if") 0
+    × StmtsStop (codes "null") 1
+    × StmtsStop (codes "Put_Line;") 1
+    × StmtsStop (codes "X = 1;") 1
+    × StmtsStop (codes "X := 1") 3
+    × StmtsStop (codes "X := ;") 2
+    × StmtsStop (codes "Put_Line ();") 2
+    × StmtsStop (codes "Put_Line (\"a\", \"b\");") 3
+    × StmtsStop (codes "Put_Line (\"a\") & \"b\";") 4
+    × StmtsStop (codes "null; X : T;") 3
+
+abbrev pub WrongExpressions : Type 0
+WrongExpressions =
+    ExprStops (codes "1.5") 0
+    × ExprStops (codes "1 2") 1
+    × ExprStops (codes "1 +") 2
+    × ExprStops (codes "1 + -1") 2
+    × ExprStops (codes "2 * -1") 2
+    × ExprStops (codes "- -1") 1
+    × ExprStops (codes "abs -1") 1
+    × ExprStops (codes "abs abs X") 1
+    × ExprStops (codes "not") 1
+    × ExprStops (codes "2 ** 3") 1
+    × ExprStops (codes "1 = 2") 1
+    × ExprStops (codes "A and B") 1
+    × ExprStops (codes "A.B") 1
+    × ExprStops (codes "A (1)") 1
+    × ExprStops (codes "1'Image") 1
+    × ExprStops (codes "X'") 2
+    × ExprStops (codes "X'Image'Image") 3
+    × ExprStops (codes "X'Image ()") 4
+    × ExprStops (codes "()") 1
+    × ExprStops (codes "(1") 2
+    × ExprStops (codes "1)") 1
+
+abbrev pub FaultsOfTexts : Type 0
+FaultsOfTexts = WrongPrograms × WrongDeclarations × WrongStatements × WrongExpressions
+
+-- so many levels are allowed, fewer than in the language
+abbrev pub IsReadWithin : ℕ → List ℕ → Result Unit Fault → Type 0
+IsReadWithin limit source what = read_by (parsed_as the_unit g.Unit limit) (lexed source) ≡ Some what
+
+-- a program with two levels open at a time, and no more
+
+abbrev pub closed_decl : Decl
+closed_decl = object (id (codes "X") (at 1 16) ∷ []) (id (codes "T") (at 1 20)) (a_simple (only (group (at 1 25) (only (num 1 (at 1 26))))))
+
+abbrev pub closed_calls : List Stmt
+closed_calls = call (id (codes "P") (at 1 36)) (only (num 2 (at 1 39))) ∷ call (id (codes "P") (at 1 43)) (only (num 3 (at 1 46))) ∷ []
+
+-- declarations, statements and parentheses open a level each, and close it; and the first fault counts
+abbrev pub FewLevels : Type 0
+FewLevels =
+    IsReadWithin 0 (with_decls (codes "X : T;")) (Err (deep_at 3))
+    × IsReadWithin 0 (with_stmts (codes "null;")) (Err (deep_at 4))
+    × IsReadWithin 0 (codes "procedure P is begin") (Err (wrong_at 4))
+    × IsReadWithin 1 (with_decls (codes "X : T := (1);")) (Err (deep_at (3 + 4)))
+    × IsReadWithin 1 (with_stmts (codes "X := (1);")) (Err (deep_at (4 + 2)))
+    × IsReadWithin 1 (with_stmts (codes "Put_Line (1);")) (Err (deep_at (4 + 1)))
+    × IsReadWithin 1 (with_stmts (codes "X := Y'Image (1);")) (Err (deep_at (4 + 5)))
+    × IsReadWithin 2 (with_stmts (codes "X := (1) + (2 + (3));")) (Err (deep_at (4 + 9)))
+    × IsReadWithin 1 (with_stmts (codes "X := );")) (Err (wrong_at (4 + 2)))
+    × IsReadWithin 1 (with_stmts (codes "X := 1 2 (3);")) (Err (wrong_at (4 + 3)))
+    × IsReadWithin 1 (with_stmts (codes "X := (1 2);")) (Err (deep_at (4 + 2)))
+    × IsReadWithin 2 (codes "procedure P is X : T := (1); begin P (2); P (3); end;")
+    (Ok (program (closed_decl ∷ []) (body (at 1 30) (stmts closed_calls) (at 1 50) None)))
+
+-- an expression in so many parentheses, of which the first opens at this column of the second line
+abbrev pub nested : ℕ → ℕ → Simple
+nested zero n = only (num 1 (col n))
+nested (suc deep) n = only (group (col n) (nested deep (n + 1)))
+
+abbrev pub in_parentheses : ℕ → List ℕ
+in_parentheses deep = replicate deep 40 ++ codes "1" ++ replicate deep 41
+
+-- the statements are one of the 200 levels
+abbrev pub AllLevels : Type 0
+AllLevels = ExprIs (in_parentheses 199) (nested 199 1) × IsRead (with_expr (in_parentheses 200)) (Err (deep_at (6 + 199)))
+
+abbrev pub LevelsOfTexts : Type 0
+LevelsOfTexts = FewLevels × AllLevels

@@ -1,0 +1,90 @@
+-- Syntax trees, written shortly.
+use Rattle.std.specs.Prelude.{ℕ, pos, List, [], ◌∷◌, Some, None}
+use Rattle.aud_text.specs.declared.place.Pos.{Pos}
+use Rattle.aud_syntax.specs.declared.tree.Ident.{Ident}
+use Rattle.aud_syntax.specs.declared.tree.Sign.TheVariants as sign
+use Rattle.aud_syntax.specs.declared.tree.Adding.{Adding}
+use Rattle.aud_syntax.specs.declared.tree.Multiplying.{Multiplying}
+use Rattle.aud_syntax.specs.declared.tree.Highest.TheVariants as highest
+use Rattle.aud_syntax.specs.Plain.{Simple, simple, Addeds, no_addeds, more_addeds, Added, added, Term, term, Multiplieds, no_multiplieds, more_multiplieds, Multiplied, multiplied, Factor, factor, Primary, integer, text, name, Decl, Decls, no_decls, more_decls, Stmt, Stmts, no_stmts, more_stmts}
+
+abbrev pub at : ℕ → ℕ → Pos
+at line col = record { line = line; col = col }
+
+abbrev pub id : List ℕ → Pos → Ident
+id spelling place = record { name = spelling; at = place }
+
+-- primaries
+
+abbrev pub num : ℕ → Pos → Primary
+num n place = integer (record { value = Some (pos n); at = place })
+
+-- a number larger than any Integer
+abbrev pub too_large : Pos → Primary
+too_large place = integer (record { value = None; at = place })
+
+abbrev pub str : List ℕ → Pos → Primary
+str characters place = text (record { text = characters; at = place })
+
+abbrev pub var : List ℕ → Pos → Primary
+var spelling place = name (id spelling place)
+
+-- factors: without an operator, and behind `abs` and `not`
+
+abbrev pub just : Primary → Factor
+just p = factor None p
+
+abbrev pub magnitude : Pos → Primary → Factor
+magnitude place p = factor (Some (record { highest = highest.Magnitude; at = place })) p
+
+abbrev pub opposite : Pos → Primary → Factor
+opposite place p = factor (Some (record { highest = highest.Not; at = place })) p
+
+-- terms: a factor, and each further one behind its operator
+
+abbrev pub multiplieds : List Multiplied → Multiplieds
+multiplieds [] = no_multiplieds
+multiplieds (x ∷ xs) = more_multiplieds x (multiplieds xs)
+
+abbrev pub product : Factor → List Multiplied → Term
+product first further = term first (multiplieds further)
+
+abbrev pub multiplying : Multiplying → Primary → Multiplied
+multiplying op p = multiplied op (just p)
+
+abbrev pub one : Primary → Term
+one p = product (just p) []
+
+-- expressions: a term without or behind a sign, and each further one behind its operator
+
+abbrev pub addeds : List Added → Addeds
+addeds [] = no_addeds
+addeds (x ∷ xs) = more_addeds x (addeds xs)
+
+abbrev pub sum : Term → List Added → Simple
+sum first further = simple None first (addeds further)
+
+abbrev pub adding : Adding → Primary → Added
+adding op p = added op (one p)
+
+abbrev pub only_term : Term → Simple
+only_term t = sum t []
+
+abbrev pub only : Primary → Simple
+only p = only_term (one p)
+
+abbrev pub positive : Pos → Term → List Added → Simple
+positive place first further = simple (Some (record { sign = sign.Plus; at = place })) first (addeds further)
+
+abbrev pub negative : Pos → Term → List Added → Simple
+negative place first further = simple (Some (record { sign = sign.Minus; at = place })) first (addeds further)
+
+-- lists
+
+abbrev pub decls : List Decl → Decls
+decls [] = no_decls
+decls (x ∷ xs) = more_decls x (decls xs)
+
+abbrev pub stmts : List Stmt → Stmts
+stmts [] = no_stmts
+stmts (x ∷ xs) = more_stmts x (stmts xs)
