@@ -1,11 +1,12 @@
 -- How code that runs shows a configuration: tasks stand at places of the code where the statements follow that they have left to do.
-use Rattle.std.specs.Prelude.{◌≡◌, ℕ, List, [], ◌∷◌, ◌++◌, length, drop, Option, Some, None, false, slice_get}
+use Rattle.std.specs.Prelude.{◌≡◌, ℕ, List, [], ◌∷◌, ◌++◌, length, drop, Option, Some, None, slice_get}
 use Rattle.aud_text.specs.declared.place.Pos.{Pos}
 use Rattle.aud_text.specs.declared.raise.Raise.{Raise}
 use Rattle.aud_typed.specs.Tree.{Stmt, sequence, declare, null, assign, put}
 use Rattle.aud_meaning.specs.declared.state.Status.{Status}
 use Rattle.aud_meaning.specs.declared.state.Status.TheVariants.{Running, Completed, Terminated}
 use Rattle.aud_meaning.specs.Configuration.{Own, Item, Do, TaskAt, All, Configuration, Acting}
+use Rattle.aud_meaning.specs.Run.{opening_with}
 use Rattle.aud_code.specs.declared.code.Line.{Line}
 use Rattle.aud_gen.specs.declared.around.Around.{Around}
 use Rattle.aud_gen.specs.Code.{stmt_code, in_body, end_line}
@@ -87,13 +88,4 @@ pub record ShowsAll (code : List Line) (m : All ℕ) (c : Configuration) : Type 
 
 -- code before its first step (RM 10.2)
 abbrev pub opening_code : All ℕ
-opening_code = record {
-  tasks = record {
-    control = 0;
-    own = record { pending = None; status = Running; display = 0 ∷ []; raised = None };
-  } ∷ [];
-  shared = record { frames = [] ∷ []; output = []; cut = false };
-  choices = [];
-  clock = 0;
-  steps = 0;
-}
+opening_code = opening_with 0

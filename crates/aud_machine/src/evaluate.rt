@@ -61,7 +61,7 @@ fn binary_of(op: Binary, x: Int32, y: Int32) -> Result<Int32, Raise>
 }
 
 /// One instruction, which is one tick.
-pub fn execute(
+pub fn eval_step(
     instr: &Instr,
     display: &[usize],
     frames: &Frames,
@@ -145,7 +145,7 @@ pub fn evaluate(
     let mut ticks = 0;
     for at in place..code.len() {
         let line = code.line(at);
-        match execute(&line.instr, display, frames, operands, &mut ticks)? {
+        match eval_step(&line.instr, display, frames, operands, &mut ticks)? {
             Flow::On => {}
             Flow::Ends(ending) => {
                 let outcome = Outcome::Reaches(ending);

@@ -1,11 +1,10 @@
 -- What a step does to a task and to what all share, wherever the task goes on.
-use Rattle.std.specs.Prelude.{ℕ, ℤ, ◌+◌, ◌-◌, List, [], ◌∷◌, ◌++◌, length, take, Option, Some, None, Result, Ok, Err, Bool, true, false, nat_le, if◌then◌else◌, slice_index, slice_set}
+use Rattle.std.specs.Prelude.{ℕ, ℤ, ◌-◌, List, [], ◌∷◌, ◌++◌, length, take, Option, Some, None, Result, Ok, Err, true, nat_le, if◌then◌else◌, slice_index, slice_set}
 use Rattle.aud_text.specs.declared.raise.Raise.{Raise}
 use Rattle.aud_text.specs.declared.limits.TheConstants.{OUTPUT}
 use Rattle.aud_typed.specs.declared.program.Variable.{Variable}
-use Rattle.aud_meaning.specs.declared.state.Status.{Status}
-use Rattle.aud_meaning.specs.declared.state.Status.TheVariants.{Running, Completed, Terminated}
-use Rattle.aud_meaning.specs.Configuration.{Frame, Own, Shared, Acting}
+use Rattle.aud_meaning.specs.declared.state.Status.TheVariants.{Completed, Terminated}
+use Rattle.aud_meaning.specs.Configuration.{Frame, Shared, Acting}
 use Rattle.aud_meaning.specs.Evaluation.{frame_at}
 
 -- the exception is pending, and nothing else has changed (RM 11.3, 11.4)

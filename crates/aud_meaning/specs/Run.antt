@@ -1,5 +1,5 @@
 -- Moves, choices and runs of a program.
-use Rattle.std.specs.Prelude.{ℕ, zero, suc, ◌+◌, ◌%◌, List, [], ◌∷◌, ◌++◌, length, Option, Some, None, Bool, true, false, if◌then◌else◌, slice_get, slice_index, slice_index_or, slice_set}
+use Rattle.std.specs.Prelude.{ℕ, zero, suc, ◌+◌, ◌%◌, List, [], ◌∷◌, ◌++◌, length, Option, Some, None, Bool, true, false, if◌then◌else◌, slice_get, slice_index_or, slice_set}
 use Rattle.aud_text.specs.declared.raise.Raise.{Raise}
 use Rattle.aud_text.specs.declared.limits.Limits.{Limits}
 use Rattle.aud_typed.specs.Tree.{Program}
@@ -7,7 +7,7 @@ use Rattle.aud_meaning.specs.declared.state.Status.{Status}
 use Rattle.aud_meaning.specs.declared.state.Status.TheVariants.{Running, Completed, Terminated}
 use Rattle.aud_meaning.specs.declared.state.State.{State}
 use Rattle.aud_meaning.specs.declared.state.State.TheVariants as state
-use Rattle.aud_meaning.specs.Configuration.{Own, Shared, Item, TaskAt, All, Configuration, Acting}
+use Rattle.aud_meaning.specs.Configuration.{Shared, TaskAt, All, Configuration, Acting}
 use Rattle.aud_meaning.specs.Step.{entered, task_step}
 
 -- a move: the step of a task, and which alternative it picks where there are several
@@ -115,11 +115,11 @@ step limits c m = step_with task_step c m
 abbrev pub run : Limits → ℕ → Configuration → Configuration
 run limits n c = run_with task_step n c
 
--- the configuration before the first step (RM 10.2)
-abbrev pub opening : Program → Configuration
-opening program = record {
+-- the main procedure before its first step, with this left to do (RM 10.2)
+abbrev pub opening_with : {C : Type 0} → C → All C
+opening_with left = record {
   tasks = record {
-    control = entered program.body [];
+    control = left;
     own = record { pending = None; status = Running; display = 0 ∷ []; raised = None };
   } ∷ [];
   shared = record { frames = [] ∷ []; output = []; cut = false };
@@ -127,3 +127,7 @@ opening program = record {
   clock = 0;
   steps = 0;
 }
+
+-- the configuration before the first step
+abbrev pub opening : Program → Configuration
+opening program = opening_with (entered program.body [])

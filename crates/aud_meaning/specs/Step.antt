@@ -1,5 +1,5 @@
 -- The steps of a task, one case a kind.
-use Rattle.std.specs.Prelude.{ℕ, ℤ, List, [], ◌∷◌, Option, Some, None}
+use Rattle.std.specs.Prelude.{List, [], ◌∷◌, Option, Some, None}
 use Rattle.aud_text.specs.declared.raise.Raise.{Raise}
 use Rattle.aud_typed.specs.Tree.{Stmt, sequence, declare, null, assign, put}
 use Rattle.aud_meaning.specs.declared.state.Status.{Status}
