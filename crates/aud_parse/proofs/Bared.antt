@@ -1,5 +1,5 @@
 -- Places do not matter: tokens that are alike are read alike.
-use Rattle.std.proofs.Common.{◌≡◌, List, [], ◌∷◌, map, refl, sym, ap, Bool, true, false}
+use Rattle.std.proofs.Common.{◌≡◌, List, [], ◌∷◌, map, refl, ap, Bool, true, false}
 use Rattle.aud_text.specs.declared.place.Pos.{Pos}
 use Rattle.aud_lex.specs.declared.token.Kind.TheVariants as kind
 use Rattle.aud_lex.specs.Element.{Element}
@@ -170,31 +170,32 @@ bare_begun i (a.called e) = refl
 bare_begun i _ = refl
 
 -- an item made of those on top
+
+bare_top : (st : List Item) → top (bares st) ≡ bare_item (top st)
+bare_top [] = refl
+bare_top (x ∷ st) = refl
+
+bare_pop : (st : List Item) → pop (bares st) ≡ bares (pop st)
+bare_pop [] = refl
+bare_pop (x ∷ st) = refl
+
 made_1 : (f : Item → Item) → ((x : Item) → f (bare_item x) ≡ bare_item (f x)) → (st : List Item) → bares (f (top st) ∷ pop st) ≡ f (top (bares st)) ∷ pop (bares st)
-made_1 f h [] = ap (λ z. z ∷ []) (sym (h none))
-made_1 f h (x ∷ st) = ap (λ z. z ∷ bares st) (sym (h x))
+made_1 f h st = cc (h (top st), bare_top st, bare_pop st)
 
 made_2 : (f : Item → Item → Item) → ((x y : Item) → f (bare_item x) (bare_item y) ≡ bare_item (f x y)) → (st : List Item) →
     bares (f (top st) (top (pop st)) ∷ pop (pop st)) ≡ f (top (bares st)) (top (pop (bares st))) ∷ pop (pop (bares st))
-made_2 f h [] = ap (λ z. z ∷ []) (sym (h none none))
-made_2 f h (x ∷ []) = ap (λ z. z ∷ []) (sym (h x none))
-made_2 f h (x ∷ y ∷ st) = ap (λ z. z ∷ bares st) (sym (h x y))
+made_2 f h st = cc (h (top st) (top (pop st)), bare_top st, bare_pop st, bare_top (pop st), bare_pop (pop st))
 
 made_3 : (f : Item → Item → Item → Item) → ((x y u : Item) → f (bare_item x) (bare_item y) (bare_item u) ≡ bare_item (f x y u)) → (st : List Item) →
     bares (f (top st) (top (pop st)) (top (pop (pop st))) ∷ pop (pop (pop st))) ≡ f (top (bares st)) (top (pop (bares st))) (top (pop (pop (bares st)))) ∷ pop (pop (pop (bares st)))
-made_3 f h [] = ap (λ z. z ∷ []) (sym (h none none none))
-made_3 f h (x ∷ []) = ap (λ z. z ∷ []) (sym (h x none none))
-made_3 f h (x ∷ y ∷ []) = ap (λ z. z ∷ []) (sym (h x y none))
-made_3 f h (x ∷ y ∷ u ∷ st) = ap (λ z. z ∷ bares st) (sym (h x y u))
+made_3 f h st = let two : List Item = pop (pop st) in cc (h (top st) (top (pop st)) (top two), bare_top st, bare_pop st, bare_top (pop st), bare_pop (pop st), bare_top two, bare_pop two)
 
 made_4 : (f : Item → Item → Item → Item → Item) → ((x y u v : Item) → f (bare_item x) (bare_item y) (bare_item u) (bare_item v) ≡ bare_item (f x y u v)) → (st : List Item) →
     bares (f (top st) (top (pop st)) (top (pop (pop st))) (top (pop (pop (pop st)))) ∷ pop (pop (pop (pop st))))
     ≡ f (top (bares st)) (top (pop (bares st))) (top (pop (pop (bares st)))) (top (pop (pop (pop (bares st))))) ∷ pop (pop (pop (pop (bares st))))
-made_4 f h [] = ap (λ z. z ∷ []) (sym (h none none none none))
-made_4 f h (x ∷ []) = ap (λ z. z ∷ []) (sym (h x none none none))
-made_4 f h (x ∷ y ∷ []) = ap (λ z. z ∷ []) (sym (h x y none none))
-made_4 f h (x ∷ y ∷ u ∷ []) = ap (λ z. z ∷ []) (sym (h x y u none))
-made_4 f h (x ∷ y ∷ u ∷ v ∷ st) = ap (λ z. z ∷ bares st) (sym (h x y u v))
+made_4 f h st =
+    let two : List Item = pop (pop st) in
+    cc (h (top st) (top (pop st)) (top two) (top (pop two)), bare_top st, bare_pop st, bare_top (pop st), bare_pop (pop st), bare_top two, bare_pop two, bare_top (pop two), bare_pop (pop two))
 
 pub bare_listed : (st : List Item) → bares (listed st) ≡ listed (bares st)
 bare_listed = made_2 cons (λ x y. refl)

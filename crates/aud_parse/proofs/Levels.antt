@@ -82,8 +82,8 @@ some : (front : List Element) (t : Element) (us : List Element) → front ++ t �
 some [] t us e = cc
 some (x ∷ front) t us e = cc
 
-begun_tail : (s : List Sym) (r : ℕ) (t t' : Element) (xs us : List Element) → t ∷ xs ≡ t' ∷ us → Begun s r us → Begun s r xs
-begun_tail s r t t' xs us e d = let i : us ≡ xs = cc in subst (λ z. Begun s r z) i d
+begun_tail : (k : List Sym) (r : ℕ) (x : Element) (us : List Element) → (t : Element) × (ws : List Element) × Begun k r ws × (x ∷ us ≡ t ∷ ws) → Begun k r us
+begun_tail k r x us w = let i : w.1 ≡ us = cc (w.3) in subst (λ z. Begun k r z) i w.2
 
 level_here : (p : Part) (k : List Sym) (ts : List Element) → Begun (L p ∷ k) 0 ts → (ts ≡ [] → ⊥) → ⊥
 level_here p k ts d n = begun_view d n
@@ -102,109 +102,61 @@ last_begun : {p p' : Part} (k : List Sym) (r : ℕ) (us : List Element) (v : Ver
 last_begun k r us v here d go = go d
 last_begun k r us v (later m) d go = elim m [ ]
 
+-- a test of the next token leaves one way
+not_after_yes : (p : Part) (k : List Sym) {r : ℕ} (ts us : List Element) (v : Verdict) → Apart (fs p) (first_seq k fin) → next_in (firsts p) ts ≡ true → next_code ts ≡ next_code us →
+    (us ≡ [] → ⊥) → Begun k r us → NotDeep v
+not_after_yes p k ts us v apart h n i d = not_deep v (yes_not p (first_seq k fin) ts us apart h n (begun_starts d i))
+
+not_after_no : (p : Part) (k : List Sym) {r : ℕ} (ts us : List Element) (v : Verdict) → next_in (firsts p) ts ≡ false → next_code ts ≡ next_code us → (us ≡ [] → ⊥) → Begun (N p ∷ k) r us → NotDeep v
+not_after_no p k ts us v h n i d = not_deep v (no_not p ts us h n (begun_starts d i))
+
+-- a step that passes a token, and one that passes none
+
+pass_reaches : {s k : List Sym} {r : ℕ} {ts : List Element} {v : Verdict} (x : Element) → Reaches k r ts v → ((us : List Element) → Begun k r us → Begun s r (x ∷ us)) →
+    ((us : List Element) → Begun s r (x ∷ us) → Begun k r us) → Reaches s r (x ∷ ts) v
+pass_reaches x e into back = record {
+  front = x ∷ e.front;
+  split = ap (λ z. x ∷ z) e.split;
+  held = into e.front e.held;
+  beyond = λ t us n d. e.beyond t us n (back (e.front ++ t ∷ us) d);
+}
+
+step_reaches : {s k : List Sym} {r q : ℕ} {ts : List Element} {v : Verdict} → Reaches k q ts v → ((us : List Element) → Begun k q us → Begun s r us) →
+    ((us : List Element) → Begun s r us → (us ≡ [] → ⊥) → next_code ts ≡ next_code us → (Begun k q us → NotDeep v) → NotDeep v) → Reaches s r ts v
+step_reaches {ts = ts} {v = v} e into back = record {
+  front = e.front;
+  split = e.split;
+  held = into e.front e.held;
+  beyond = λ t us n d.
+      back (e.front ++ t ∷ us) d (some e.front t us) (next_same ts e.front (rest_of v) (t ∷ us) e.split n) (λ i. e.beyond t us n i);
+}
+
 reaches : {s : List Sym} {r : ℕ} {ts : List Element} {ds : List Item} {v : Verdict} → Out s r ts ds v → Clean s fin → Full s → Reaches s r ts v
 reaches o_end c u = record { front = []; split = refl; held = b_stop; beyond = λ t us n d. tt }
 reaches o_rest c u = record { front = []; split = refl; held = b_stop; beyond = λ t us n d. tt }
-reaches (o_word {k = k} {r = r} {t = x} h o) c u =
-    let e = reaches o c u in
-    record {
-      front = x ∷ e.front;
-      split = ap (λ z. x ∷ z) e.split;
-      held = b_word h e.held;
-      beyond = λ t us n d.
-          let w = begun_view d (λ z. cc) in e.beyond t us n (begun_tail k r x w.0 (e.front ++ t ∷ us) w.1 w.3 w.2);
-    }
-reaches (o_token {k = k} {r = r} {t = x} h o) c u =
-    let e = reaches o c u in
-    record {
-      front = x ∷ e.front;
-      split = ap (λ z. x ∷ z) e.split;
-      held = b_token h e.held;
-      beyond = λ t us n d.
-          let w = begun_view d (λ z. cc) in e.beyond t us n (begun_tail k r x w.0 (e.front ++ t ∷ us) w.1 w.3 w.2);
-    }
+reaches (o_word {k = k} {r = r} {t = x} h o) c u = pass_reaches x (reaches o c u) (λ us d. b_word h d) (λ us d. begun_tail k r x us (begun_view d (λ z. cc)))
+reaches (o_token {k = k} {r = r} {t = x} h o) c u = pass_reaches x (reaches o c u) (λ us d. b_token h d) (λ us d. begun_tail k r x us (begun_view d (λ z. cc)))
 reaches (o_no_word h) c u = record { front = []; split = refl; held = b_stop; beyond = λ t us n d. tt }
 reaches (o_no_token h) c u = record { front = []; split = refl; held = b_stop; beyond = λ t us n d. tt }
-reaches (o_rule {p} {k} o) c u =
-    let e = reaches o (clean_rule p k fin c) (full_append (rule p) k (table_full p) u) in
-    record { front = e.front; split = e.split; held = b_rule e.held; beyond = λ t us n d. e.beyond t us n (begun_view d (some e.front t us)) }
-reaches (o_level o) c u =
-    let e = reaches o c u in
-    record { front = e.front; split = e.split; held = b_level e.held; beyond = λ t us n d. e.beyond t us n (begun_view d (some e.front t us)) }
+reaches (o_rule {p} {k} o) c u = step_reaches (reaches o (clean_rule p k fin c) (full_append (rule p) k (table_full p) u)) (λ us d. b_rule d) (λ us d i n go. go (begun_view d i))
+reaches (o_level o) c u = step_reaches (reaches o c u) (λ us d. b_level d) (λ us d i n go. go (begun_view d i))
 reaches (o_deep {p} {k} h) c u = record { front = []; split = refl; held = b_stop; beyond = λ t us n d. level_here p k (t ∷ us) d (λ z. cc) }
 reaches (o_shut h) c u = record { front = []; split = refl; held = b_stop; beyond = λ t us n d. tt }
-reaches (o_down o) c u =
-    let e = reaches o c u in
-    record { front = e.front; split = e.split; held = b_down e.held; beyond = λ t us n d. e.beyond t us n (begun_view d (some e.front t us)) }
-reaches (o_this {p} {q} {ps} {k} {r} {ts} {ds} {v} h o) c u =
-    let e = reaches o (c.0.0, c.2) u in
-    record {
-      front = e.front;
-      split = e.split;
-      held = b_one here e.held;
-      beyond = λ t us n d.
-          let w = begun_view d (some e.front t us) in
-          this_begun k r ts (e.front ++ t ∷ us) v w.1 w.2 (some e.front t us) c.1.0 h (next_same ts e.front (rest_of v) (t ∷ us) e.split n) (λ i. e.beyond t us n i);
-    }
-reaches (o_other {p} {q} {ps} {k} {r} {ts} {ds} {v} h o) c u =
-    let e = reaches o (c.0.1, c.1.1, c.2) u in
-    record {
-      front = e.front;
-      split = e.split;
-      held = begun_other p e.held;
-      beyond = λ t us n d.
-          let w = begun_view d (some e.front t us) in
-          e.beyond t us n (other_begun k r ts (e.front ++ t ∷ us) w.1 w.2 (some e.front t us) h (next_same ts e.front (rest_of v) (t ∷ us) e.split n));
-    }
-reaches (o_last {p} {k} {r} {ts} {ds} {v} o) c u =
-    let e = reaches o (c.0.0, c.2) u in
-    record {
-      front = e.front;
-      split = e.split;
-      held = b_one here e.held;
-      beyond = λ t us n d.
-          let w = begun_view d (some e.front t us) in last_begun k r (e.front ++ t ∷ us) v w.1 w.2 (λ i. e.beyond t us n i);
-    }
-reaches (o_yes {p} {k} {r} {ts} {ds} {v} h o) c u =
-    let e = reaches o (c.1, c.2) u in
-    record {
-      front = e.front;
-      split = e.split;
-      held = b_yes e.held;
-      beyond = λ t us n d.
-          ⊎_elim (λ w. e.beyond t us n w)
-          (λ w. not_deep v (yes_not p (first_seq k fin) ts (e.front ++ t ∷ us) c.0 h (next_same ts e.front (rest_of v) (t ∷ us) e.split n) (begun_starts w (some e.front t us)))) (begun_view d (some e.front t us));
-    }
-reaches (o_no {p} {k} {r} {ts} {ds} {v} h o) c u =
-    let e = reaches o c.2 u in
-    record {
-      front = e.front;
-      split = e.split;
-      held = b_no e.held;
-      beyond = λ t us n d.
-          ⊎_elim (λ w. not_deep v (no_not p ts (e.front ++ t ∷ us) h (next_same ts e.front (rest_of v) (t ∷ us) e.split n) (begun_starts w (some e.front t us))))
-          (λ w. e.beyond t us n w) (begun_view d (some e.front t us));
-    }
-reaches (o_more {p} {k} {r} {ts} {ds} {v} h o) c u =
-    let e = reaches o (c.1, c) u in
-    record {
-      front = e.front;
-      split = e.split;
-      held = b_more e.held;
-      beyond = λ t us n d.
-          ⊎_elim (λ w. e.beyond t us n w)
-          (λ w. not_deep v (yes_not p (first_seq k fin) ts (e.front ++ t ∷ us) c.0 h (next_same ts e.front (rest_of v) (t ∷ us) e.split n) (begun_starts w (some e.front t us)))) (begun_view d (some e.front t us));
-    }
-reaches (o_stop {p} {k} {r} {ts} {ds} {v} h o) c u =
-    let e = reaches o c.2 u in
-    record {
-      front = e.front;
-      split = e.split;
-      held = b_last e.held;
-      beyond = λ t us n d.
-          ⊎_elim (λ w. not_deep v (no_not p ts (e.front ++ t ∷ us) h (next_same ts e.front (rest_of v) (t ∷ us) e.split n) (begun_starts w (some e.front t us))))
-          (λ w. e.beyond t us n w) (begun_view d (some e.front t us));
-    }
+reaches (o_down o) c u = step_reaches (reaches o c u) (λ us d. b_down d) (λ us d i n go. go (begun_view d i))
+reaches (o_this {k = k} {r} {ts} {v = v} h o) c u =
+    step_reaches (reaches o (c.0.0, c.2) u) (λ us d. b_one here d) (λ us d i n go. let w = begun_view d i in this_begun k r ts us v w.1 w.2 i c.1.0 h n go)
+reaches (o_other {p} {k = k} {r} {ts} h o) c u =
+    step_reaches (reaches o (c.0.1, c.1.1, c.2) u) (λ us d. begun_other p d) (λ us d i n go. let w = begun_view d i in go (other_begun k r ts us w.1 w.2 i h n))
+reaches (o_last {k = k} {r} {v = v} o) c u =
+    step_reaches (reaches o (c.0.0, c.2) u) (λ us d. b_one here d) (λ us d i n go. let w = begun_view d i in last_begun k r us v w.1 w.2 go)
+reaches (o_yes {p} {k} {ts = ts} {v = v} h o) c u =
+    step_reaches (reaches o (c.1, c.2) u) (λ us d. b_yes d) (λ us d i n go. ⊎_elim go (λ w. not_after_yes p k ts us v c.0 h n i w) (begun_view d i))
+reaches (o_no {p} {k} {ts = ts} {v = v} h o) c u =
+    step_reaches (reaches o c.2 u) (λ us d. b_no d) (λ us d i n go. ⊎_elim (λ w. not_after_no p k ts us v h n i w) go (begun_view d i))
+reaches (o_more {p} {k} {ts = ts} {v = v} h o) c u =
+    step_reaches (reaches o (c.1, c) u) (λ us d. b_more d) (λ us d i n go. ⊎_elim go (λ w. not_after_yes p k ts us v c.0 h n i w) (begun_view d i))
+reaches (o_stop {p} {k} {ts = ts} {v = v} h o) c u =
+    step_reaches (reaches o c.2 u) (λ us d. b_last d) (λ us d i n go. ⊎_elim (λ w. not_after_no p (Rep p ∷ k) ts us v h n i w) go (begun_view d i))
 
 -- for the whole language
 
