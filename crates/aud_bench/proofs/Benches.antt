@@ -1,6 +1,6 @@
 -- What a bench has made, and how a request more and more work change that. Where the work stands is known as a fact with one proof
 -- at most, so each of these facts has one, too.
-use Rattle.std.proofs.Common.{◌≡◌, ℕ, suc, ◌+◌, ◌-◌, ◌<◌, ◌≤◌, min, List, [], ◌∷◌, ◌++◌, length, take, drop, get_or, Option, Some, None, Bool, true, false, refl, sym, ap, ◌∙◌, subst, arith, append_assoc, append-nil, length-append}
+use Rattle.std.proofs.Common.{◌≡◌, ℕ, suc, ◌+◌, ◌-◌, ◌<◌, ◌≤◌, List, [], ◌∷◌, ◌++◌, length, take, drop, get_or, Option, Some, None, Bool, true, false, refl, sym, ap, ◌∙◌, subst, arith, append-nil, length-append}
 use Rattle.std.proofs.Math.Logic.{∥∥₁_elim, ∥∥₁_map}
 use Rattle.std.proofs.lemmas.List.{take-append-le, drop-append-le, take_all, drop_all, take_more, drop_more, length-take-le}
 use Rattle.std.specs.Coded.{Coded-set, coded_list, coded_ℕ}
@@ -13,8 +13,8 @@ use Rattle.aud_bench.specs.declared.request.Answer.{Answer}
 use Rattle.aud_bench.specs.declared.request.Answer.TheVariants.{Refused}
 use Rattle.aud_bench.specs.contracts.request.Answer as contract
 use Rattle.aud_bench.specs.declared.service.Served.{Served}
-use Rattle.aud_bench.specs.Alone.{Loaded, Reply, replied, cost_from, cost, made}
-use Rattle.aud_bench.specs.Serving.{IsLoaded, UnderWay, ServesBy, Serves}
+use Rattle.aud_bench.specs.Alone.{Loaded, replied, cost_from, cost, made}
+use Rattle.aud_bench.specs.Serving.{UnderWay, ServesBy, Serves}
 use Rattle.aud_bench.specs.Standing.{loaded_after, answers_to, units_done, AtFirst, told, IsAt}
 use Rattle.aud_bench.proofs.Standing.{cost_append, opens, still_first, loaded_append, answers_append, made_is, units_within}
 

@@ -1,14 +1,14 @@
 -- The answers to requests that are kept are those of a private server.
 use Rattle.std.specs.Prelude.{nat_le, ◌&&◌, if◌then◌else◌}
-use Rattle.std.proofs.Common.{◌≡◌, ℕ, ◌+◌, ◌-◌, List, [], ◌∷◌, ◌++◌, length, Option, Some, None, Bool, true, false, refl, sym, ap, ◌∙◌, subst, arith, append-nil}
+use Rattle.std.proofs.Common.{◌≡◌, ℕ, ◌+◌, ◌-◌, List, [], ◌∷◌, ◌++◌, length, Option, None, Bool, true, false, refl, sym, ap, ◌∙◌, arith, append-nil}
 use Rattle.aud_text.specs.declared.limits.Limits.{Limits}
 use Rattle.aud_bench.specs.declared.request.Request.{Request}
 use Rattle.aud_bench.specs.declared.request.Answer.{Answer}
-use Rattle.aud_bench.specs.Alone.{Loaded, Server, Reply, is_quit, fits, kept, fresh, replied, answers_from, alone, cost_from, cost, made_after, made_from, made}
+use Rattle.aud_bench.specs.Alone.{Loaded, Server, is_quit, fits, kept, fresh, replied, answers_from, alone, cost_from, cost, made_from, made}
 use Rattle.aud_bench.specs.Size.{size, bytes_of}
 use Rattle.aud_bench.specs.Seen.{has_quit}
-use Rattle.aud_bench.specs.Kept.{ends_there, kept_behind, is_kept, FrontLaw, WholeLaw}
-use Rattle.aud_bench.specs.Standing.{loaded_after, answers_to}
+use Rattle.aud_bench.specs.Kept.{ends_there, kept_behind, FrontLaw, WholeLaw}
+use Rattle.aud_bench.specs.Standing.{answers_to}
 use Rattle.aud_bench.proofs.Sessions.{last_one, goes_on}
 use Rattle.aud_bench.proofs.Standing.{made_past}
 use Rattle.aud_bench.proofs.Journals.{or_left, or_right}

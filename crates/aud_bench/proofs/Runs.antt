@@ -1,6 +1,6 @@
 -- How many steps a run does, and where it ends.
-use Rattle.std.specs.Prelude.{if◌then◌else◌, slice_get, slice_index_or, slice_set}
-use Rattle.std.proofs.Common.{◌≡◌, ℕ, zero, suc, ◌+◌, ◌-◌, ◌%◌, ◌<◌, ◌≤◌, List, [], ◌∷◌, length, Option, Some, None, Bool, true, false, All, refl, sym, ap, ◌∙◌, subst, arith}
+use Rattle.std.specs.Prelude.{if◌then◌else◌, slice_get, slice_index_or}
+use Rattle.std.proofs.Common.{◌≡◌, ℕ, zero, suc, ◌+◌, ◌%◌, ◌<◌, ◌≤◌, List, [], ◌∷◌, length, Bool, true, false, refl, sym, ap, ◌∙◌, subst, arith}
 use Rattle.std.proofs.lemmas.Option.{slice_get-get_or}
 use Rattle.aud_meaning.specs.declared.state.Status.{Status}
 use Rattle.aud_meaning.specs.declared.state.Status.TheVariants.{Running, Completed, Terminated}
@@ -8,8 +8,7 @@ use Rattle.aud_meaning.specs.declared.state.State.{State}
 use Rattle.aud_meaning.specs.declared.state.State.TheVariants as state
 use Rattle.aud_meaning.specs.Configuration.{TaskAt, Configuration}
 use Rattle.aud_meaning.specs.Configuration as whole
-use Rattle.aud_meaning.specs.Step.{task_step}
-use Rattle.aud_meaning.specs.Run.{Move, own_move, moves_by, moves_from, has_ended, moves, some_move, state_of, step_of, step_with, pick, pick_by, take_picked, run_by, run_with}
+use Rattle.aud_meaning.specs.Run.{Move, moves_by, moves_from, has_ended, moves, some_move, state_of, step_of, pick, pick_by, take_picked, run_by, run_with}
 
 -- moves of tasks below this number
 abbrev AllOf : ℕ → List Move → Type 0

@@ -1,16 +1,15 @@
 -- A RUN that is cut into slices comes to what it comes to at once.
-use Rattle.std.specs.Prelude.{min, max, nat_lt, ◌==◌, if◌then◌else◌, ◌⊎◌}
-use Rattle.std.proofs.Common.{◌≡◌, ℕ, zero, suc, ◌+◌, ◌-◌, ◌<◌, ◌≤◌, List, [], Option, Some, None, Result, Ok, Err, Bool, true, false, inl, inr, refl, sym, ap, ◌∙◌, subst, arith}
+use Rattle.std.specs.Prelude.{min, max, ◌==◌, if◌then◌else◌, ◌⊎◌}
+use Rattle.std.proofs.Common.{◌≡◌, ℕ, ◌+◌, ◌-◌, ◌<◌, ◌≤◌, [], Option, Some, None, Result, Ok, Err, Bool, true, false, inl, inr, refl, sym, ap, ◌∙◌, subst, arith}
 use Rattle.aud_text.specs.declared.raise.Raise.{Raise}
 use Rattle.aud_text.specs.declared.code.Code.TheVariants as code
 use Rattle.aud_text.specs.declared.limits.Limits.{Limits}
 use Rattle.aud_text.specs.declared.limits.TheConstants.{STEPS}
 use Rattle.aud_typed.specs.Tree as tree
-use Rattle.aud_meaning.specs.declared.state.State.{State}
 use Rattle.aud_meaning.specs.declared.state.State.TheVariants as state
 use Rattle.aud_meaning.specs.Configuration.{Configuration}
 use Rattle.aud_meaning.specs.Step.{task_step}
-use Rattle.aud_meaning.specs.Run.{moves, run, state_of, main_raised}
+use Rattle.aud_meaning.specs.Run.{moves, run, main_raised}
 use Rattle.aud_machine.specs.declared.run.Ran.{Ran}
 use Rattle.aud_machine.specs.Shown.{Shown}
 use Rattle.aud_machine.specs.Shows.{Shows, RunsFrom}
@@ -19,11 +18,10 @@ use Rattle.aud_bench.specs.declared.request.Request.{Request}
 use Rattle.aud_bench.specs.declared.request.Request.TheVariants as request
 use Rattle.aud_bench.specs.declared.request.Answer.{Answer}
 use Rattle.aud_bench.specs.declared.request.Answer.TheVariants as answer
-use Rattle.aud_bench.specs.declared.request.Report.{Report}
-use Rattle.aud_bench.specs.Alone.{Loaded, Reply, answers_only, ended_by, report, ran_reply, steps_left, run_reply, load_reply, output_reply, replied}
+use Rattle.aud_bench.specs.Alone.{Loaded, answers_only, ended_by, report, ran_reply, steps_left, run_reply, load_reply, output_reply, replied}
 use Rattle.aud_bench.specs.Loading.{program_of}
-use Rattle.aud_bench.specs.Serving.{IsLoaded, Replies, HasRun, UnderWay, ServesBy}
-use Rattle.aud_bench.proofs.Runs.{run_grows, run_moves, run_stays, run_full, more_moves, no_moves}
+use Rattle.aud_bench.specs.Serving.{Replies, UnderWay, ServesBy}
+use Rattle.aud_bench.proofs.Runs.{run_moves, run_stays, run_full, more_moves, no_moves}
 
 is_none : (n : ℕ) → n ≡ 0 → (n == 0) ≡ true
 is_none n e = ap (λ k. k == 0) e

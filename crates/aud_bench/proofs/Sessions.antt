@@ -4,7 +4,6 @@ use Rattle.std.proofs.Common.{◌≡◌, List, [], ◌∷◌, true, false, ap, �
 use Rattle.aud_text.specs.declared.code.Code.TheVariants as code
 use Rattle.aud_text.specs.declared.limits.Limits.{Limits}
 use Rattle.aud_bench.specs.declared.request.Request.{Request}
-use Rattle.aud_bench.specs.declared.request.Answer.{Answer}
 use Rattle.aud_bench.specs.declared.request.Answer.TheVariants as answer
 use Rattle.aud_bench.specs.Alone.{Server, is_quit, fits, kept, replied, answers_after, answers_from}
 

@@ -1,6 +1,6 @@
 -- Requests that are worked off one after the other come to what their answers cost together.
 use Rattle.std.specs.Prelude.{nat_le, if◌then◌else◌}
-use Rattle.std.proofs.Common.{◌≡◌, ℕ, ◌+◌, ◌-◌, ◌<◌, ◌≤◌, inl, inr, List, [], ◌∷◌, ◌++◌, length, take, drop, Option, Some, None, Bool, true, false, refl, sym, ap, ◌∙◌, subst, arith, append_assoc, append-nil, take-append-drop}
+use Rattle.std.proofs.Common.{◌≡◌, ℕ, ◌+◌, ◌-◌, ◌<◌, ◌≤◌, inl, List, [], ◌∷◌, ◌++◌, take, drop, Option, Some, None, true, false, refl, sym, ap, ◌∙◌, subst, arith, append-nil, take-append-drop}
 use Rattle.aud_text.specs.declared.limits.Limits.{Limits}
 use Rattle.aud_machine.specs.Shown.{Shown}
 use Rattle.aud_bench.specs.declared.request.Request.{Request}

@@ -1,7 +1,6 @@
 -- How many bytes a request takes in the journal: its text with single spaces, no leading zeros, and line feeds.
 use Rattle.std.specs.Prelude.{ℕ, ◌+◌, List, [], ◌∷◌, length, ◌==◌, count_by}
 use Rattle.std.specs.Fmt.{decimal}
-use Rattle.aud_text.specs.declared.code.Code.{Code}
 use Rattle.aud_bench.specs.declared.request.Request.{Request}
 use Rattle.aud_bench.specs.declared.request.Request.TheVariants.{Load, Run, Output, Quit, Bad}
 

@@ -6,7 +6,7 @@ use Rattle.aud_machine.specs.Shown.{Shown}
 use Rattle.aud_bench.specs.declared.request.Request.{Request}
 use Rattle.aud_bench.specs.declared.request.Answer.{Answer}
 use Rattle.aud_bench.specs.declared.request.Answer.TheVariants.{Refused}
-use Rattle.aud_bench.specs.Alone.{Loaded, Reply, replied, cost}
+use Rattle.aud_bench.specs.Alone.{Loaded, replied, cost}
 use Rattle.aud_bench.specs.Serving.{IsLoaded, UnderWay}
 
 -- what is loaded after requests

@@ -1,4 +1,4 @@
-use Rattle.std.proofs.Common.{◌≡◌, sym, subst}
+use Rattle.std.proofs.Common.{sym, subst}
 use Rattle.aud_bench.specs.Loading.{after_parsing}
 use Rattle.aud_bench.specs.Loads.{Gives}
 use Rattle.aud_bench.proofs.loading.parsed.Goals as goal

@@ -1,5 +1,4 @@
-use Rattle.std.proofs.Common.{◌≡◌, List, sym, subst}
-use Rattle.aud_lex.specs.Element.{Element}
+use Rattle.std.proofs.Common.{sym, subst}
 use Rattle.aud_parse.specs.Parsed as syntax
 use Rattle.aud_bench.specs.Loading.{after_lexing, after_parsing}
 use Rattle.aud_bench.specs.Loads.{Gives}

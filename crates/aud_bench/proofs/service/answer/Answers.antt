@@ -1,4 +1,4 @@
-use Rattle.std.proofs.Common.{◌≡◌, List, [], ◌∷◌, Option, Some, subst}
+use Rattle.std.proofs.Common.{[], ◌∷◌, Option, subst}
 use Rattle.aud_bench.specs.declared.request.Answer.{Answer}
 use Rattle.aud_bench.specs.Serving.{ServesBy}
 use Rattle.aud_bench.proofs.Standing.{opens}

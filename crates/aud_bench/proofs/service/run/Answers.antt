@@ -1,9 +1,8 @@
-use Rattle.std.proofs.Common.{◌≡◌, ℕ, ◌+◌, ◌-◌, ◌≤◌, min, max, Some, inl, inr, sym, ap, ◌∙◌, arith}
-use Rattle.aud_text.specs.declared.limits.TheConstants.{STEPS}
+use Rattle.std.proofs.Common.{inl, inr, ap, ◌∙◌, arith}
 use Rattle.aud_meaning.specs.Configuration.{Configuration}
 use Rattle.aud_meaning.specs.Run.{run}
 use Rattle.aud_bench.specs.Alone.{ended_by}
-use Rattle.aud_bench.proofs.Serving.{is_spent, goes_on, is_done}
+use Rattle.aud_bench.proofs.Serving.{goes_on, is_done}
 use Rattle.aud_bench.proofs.service.run.Goals as goal
 use Rattle.aud_bench.proofs.service.run.Goals.{else-now-wanted-via-then-now-wanted+else-has_more, else-now-wanted-via-else-now-wanted}
 

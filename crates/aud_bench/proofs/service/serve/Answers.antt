@@ -1,8 +1,8 @@
-use Rattle.std.proofs.Common.{◌≡◌, ℕ, List, Option, Some, sym, ap, subst}
+use Rattle.std.proofs.Common.{ℕ, List, sym, subst}
 use Rattle.aud_bench.specs.declared.request.Request.{Request}
 use Rattle.aud_bench.specs.declared.request.Request.TheVariants as request
 use Rattle.aud_bench.specs.declared.service.Served.{Served}
-use Rattle.aud_bench.specs.Alone.{Loaded, load_reply}
+use Rattle.aud_bench.specs.Alone.{load_reply}
 use Rattle.aud_bench.specs.Loading.{program_of}
 use Rattle.aud_bench.specs.Serving.{Replies, UnderWay, Serves}
 use Rattle.aud_bench.proofs.Serving.{load_costs, at_once}

@@ -1,9 +1,7 @@
-use Rattle.std.proofs.Common.{◌≡◌, ℕ, ◌+◌, List, [], ◌∷◌, ◌++◌, drop, get_or, None, refl, sym, ap, ◌∙◌, subst, append-nil, append_assoc, arith}
+use Rattle.std.proofs.Common.{◌≡◌, ◌+◌, [], ◌∷◌, ◌++◌, drop, None, refl, sym, ap, ◌∙◌, append-nil, append_assoc, arith}
 use Rattle.std.proofs.lemmas.List.{drop_more}
-use Rattle.aud_bench.specs.declared.request.Request.{Request}
-use Rattle.aud_bench.specs.declared.request.Answer.{Answer}
-use Rattle.aud_bench.specs.Alone.{Server, replied, answers_from, alone}
-use Rattle.aud_bench.proofs.Sessions.{not_kept, last_one, goes_on}
+use Rattle.aud_bench.specs.Alone.{Server, answers_from, alone}
+use Rattle.aud_bench.proofs.Sessions.{last_one}
 use Rattle.aud_bench.proofs.session.answer_all.Goals as goal
 
 pub requests-init : goal.requests-init

@@ -1,5 +1,4 @@
-use Rattle.std.proofs.Common.{◌≡◌, List, [], ◌++◌, Bool, true, false, subst, ap, ◌∙◌, append-nil}
-use Rattle.aud_bench.specs.declared.request.Answer.{Answer}
+use Rattle.std.proofs.Common.{◌≡◌, ◌++◌, Bool, true, false, subst, ◌∙◌, append-nil}
 use Rattle.aud_bench.specs.Alone.{made}
 use Rattle.aud_bench.specs.Seen.{Seen, HasMade}
 use Rattle.aud_bench.specs.Standing.{told}

@@ -1,9 +1,9 @@
-use Rattle.std.proofs.Common.{◌≡◌, ℕ, ◌+◌, ◌-◌, ◌≤◌, List, [], ◌∷◌, ◌++◌, length, length-append, zero-add, Bool, true, false, sym, ap, ◌∙◌, subst, arith}
+use Rattle.std.proofs.Common.{◌≡◌, ℕ, ◌+◌, List, [], ◌∷◌, ◌++◌, length, length-append, zero-add, true, false, sym, ap, ◌∙◌, subst, arith}
 use Rattle.aud_bench.specs.declared.request.Request.{Request}
 use Rattle.aud_bench.specs.declared.request.Answer.{Answer}
-use Rattle.aud_bench.specs.Alone.{is_quit, fits}
-use Rattle.aud_bench.specs.Size.{size, bytes_of}
-use Rattle.aud_bench.specs.Seen.{Seen, has_quit, is_closed}
+use Rattle.aud_bench.specs.Alone.{fits}
+use Rattle.aud_bench.specs.Size.{bytes_of}
+use Rattle.aud_bench.specs.Seen.{Seen, has_quit}
 use Rattle.aud_bench.specs.Standing.{IsAt, units_done}
 use Rattle.aud_bench.specs.Kept.{is_kept}
 use Rattle.aud_bench.proofs.Fronts.{kept_more}

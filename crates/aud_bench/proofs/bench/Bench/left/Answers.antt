@@ -1,4 +1,4 @@
-use Rattle.std.proofs.Common.{◌≡◌, ℕ, ◌-◌, ◌≤◌, length, sym, ap, ◌∙◌, subst, arith}
+use Rattle.std.proofs.Common.{◌≡◌, ◌-◌, ◌≤◌, ap, ◌∙◌, subst, arith}
 use Rattle.aud_bench.specs.Alone.{cost}
 use Rattle.aud_bench.specs.Seen.{Seen, unanswered}
 use Rattle.aud_bench.proofs.Benches.{known_is, left_is, within_is, whole_is}

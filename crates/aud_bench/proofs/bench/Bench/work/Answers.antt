@@ -1,4 +1,4 @@
-use Rattle.std.proofs.Common.{◌≡◌, ℕ, ◌+◌, ◌-◌, ◌<◌, List, length, vec_len, vec_capacity, drop, true, false, sym, ap, ◌∙◌, subst, arith}
+use Rattle.std.proofs.Common.{◌≡◌, ◌+◌, ◌<◌, List, length, vec_len, vec_capacity, drop, true, false, sym, ap, ◌∙◌, subst, arith}
 use Rattle.aud_bench.specs.declared.request.Answer.{Answer}
 use Rattle.aud_bench.specs.Seen.{Seen, unanswered}
 use Rattle.aud_bench.specs.Standing.{IsAt, units_done}
