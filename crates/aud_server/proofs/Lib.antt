@@ -1,3 +1,4 @@
+pub mod ArgumentLaws
 pub mod CommandLaws
 pub mod LineLaws
 pub mod OutputLaws

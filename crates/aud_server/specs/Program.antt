@@ -1,9 +1,17 @@
--- How the program ends.
-use Rattle.std.specs.Prelude.{ℕ}
+-- What the program is asked for, and how it ends.
+use Rattle.std.specs.Prelude.{◌≡◌, ℕ, List, [], ◌∷◌, codes}
+use Rattle.clap.specs.declared.error.ErrorKind.{ErrorKind}
+use Rattle.clap.specs.declared.error.ErrorKind.TheVariants.{OutOfMemory}
 use Rattle.aud_server.specs.declared.solo.SoloFault.{SoloFault}
 use Rattle.aud_server.specs.declared.solo.SoloFault.TheVariants as solo
 use Rattle.aud_server.specs.declared.program.ProgramFault.{ProgramFault}
 use Rattle.aud_server.specs.declared.program.ProgramFault.TheVariants.{Arguments, Read, Write, Memory}
+
+-- the words of a command line, the first of which is the program's own name, ask for the server: there is one more, and it is
+-- `--solo` in full
+abbrev pub AsksSolo : List (List ℕ) → Type 0
+AsksSolo (name ∷ word ∷ []) = word ≡ codes "--solo"
+AsksSolo _ = ⊥
 
 -- the status with which it ends
 abbrev pub status : ProgramFault → ℕ
@@ -16,3 +24,8 @@ abbrev pub of_solo : SoloFault → ProgramFault
 of_solo solo.Read = Read
 of_solo solo.Write = Write
 of_solo solo.Memory = Memory
+
+-- of an error that was met while the words were read
+abbrev pub of_kind : ErrorKind → ProgramFault
+of_kind OutOfMemory = Memory
+of_kind _ = Arguments

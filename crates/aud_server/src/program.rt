@@ -1,8 +1,9 @@
 // The program: its arguments, and how it ends.
 
-ghost use Rattle.std.specs.Prelude.{◌≡◌, ◌≢◌, ◌⊎◌, length, IsErrOf};
+ghost use Rattle.std.specs.Prelude.{◌≡◌, ◌≢◌, ◌⊎◌, ◌↔◌, length, map, string_bytes, IsTrue, IfOk, IfErr, IsErrOf};
+ghost use Rattle.clap.specs.Words.{kind_of};
 ghost use Rattle.aud_server.specs.declared.program.ProgramFault.TheVariants as fault;
-ghost use Rattle.aud_server.specs.Program.{status, of_solo};
+ghost use Rattle.aud_server.specs.Program.{AsksSolo, status, of_kind, of_solo};
 
 use crate::solo::{SoloFault, solo};
 use clap::error::ErrorKind;
@@ -49,6 +50,8 @@ impl From<SoloFault> for ProgramFault {
 }
 
 impl From<ClapError> for ProgramFault {
+    ghost from_gives = { λ error e. e ≡ of_kind (kind_of error) };
+
     fn from(error: ClapError) -> ProgramFault {
         match error.kind() {
             ErrorKind::OutOfMemory => ProgramFault::Memory,
@@ -73,7 +76,9 @@ impl ProgramFault {
 /// Runs the program on the words of its command line, the first of which is its own name, and gives
 /// its status. `--solo` alone serves the standard input; any other list of words is refused.
 pub fn program<R: Input + Print + Eprint + AllocGlobal>(rt: &R, words: &[String]) -> u8
-    ensures other { length words.now ≢ 2 → result ≡ 2 }
+    ensures solo { AsksSolo (map string_bytes words.now) → result ≢ 2 }
+    ensures other { (AsksSolo (map string_bytes words.now) → ⊥) → (result ≡ 2) ⊎ (result ≡ 4) }
+    ensures count { length words.now ≢ 2 → result ≡ 2 }
     ensures known { (result ≡ 0) ⊎ (result ≡ 1) ⊎ (result ≡ 2) ⊎ (result ≡ 4) }
 {
     match run(rt, words) {
@@ -92,7 +97,9 @@ pub fn refuse(rt: &impl Eprint, fault: ProgramFault) -> u8
 }
 
 fn run<R: Input + Print + AllocGlobal>(rt: &R, words: &[String]) -> Result<(), ProgramFault>
-    ensures { length words.now ≢ 2 → IsErrOf result fault.Arguments }
+    ensures solo { AsksSolo (map string_bytes words.now) → IsErrOf result fault.Arguments → ⊥ }
+    ensures other { (AsksSolo (map string_bytes words.now) → ⊥) → IsErrOf result fault.Arguments ⊎ IsErrOf result fault.Memory }
+    ensures count { length words.now ≢ 2 → IsErrOf result fault.Arguments }
 {
     // The name of the program, and one argument.
     if words.len() != 2 || !is_solo(rt.alloc(), words)? {
@@ -102,8 +109,12 @@ fn run<R: Input + Print + AllocGlobal>(rt: &R, words: &[String]) -> Result<(), P
     Ok(())
 }
 
-// Whether `--solo` is among the arguments, and no other.
-fn is_solo(alloc: Global, words: &[String]) -> Result<bool, ProgramFault> {
+// Whether the one argument is `--solo`.
+fn is_solo(alloc: Global, words: &[String]) -> Result<bool, ProgramFault>
+    ensures asked { length words.now ≡ 2 → IfOk result (λ r. IsTrue r ↔ AsksSolo (map string_bytes words.now)) }
+    ensures memory { AsksSolo (map string_bytes words.now) → IfErr result (λ e. e ≡ fault.Memory) }
+    ensures known { IfErr result (λ e. (e ≡ fault.Arguments) ⊎ (e ≡ fault.Memory)) }
+{
     let solo = Arg::new(alloc, "solo")
         .long("solo")
         .action(ArgAction::SetTrue);
