@@ -11,7 +11,7 @@ use Rattle.aud_syntax.specs.declared.tree.Highest.TheVariants.{Not}
 use Rattle.aud_syntax.specs.declared.tree.Multiplying.TheVariants.{Times}
 use Rattle.aud_syntax.specs.Plain.{Simple, simple, no_addeds, more_addeds, added, term, no_multiplieds, more_multiplieds, multiplied, factor, Primary, integer, text, name, attribute, group, no_simple, a_simple, Decl, object, Decls, no_decls, more_decls, Stmt, null, assign, call, Stmts, no_stmts, more_stmts, body, Unit, unit}
 use Rattle.aud_typed.specs.declared.program.Unary.TheVariants.{Negative}
-use Rattle.aud_typed.specs.declared.program.Binary.TheVariants.{Sum}
+use Rattle.aud_typed.specs.declared.program.Binary.TheVariants.{Sum, Difference}
 use Rattle.aud_typed.specs.Tree as tree
 use Rattle.aud_check.specs.declared.fault.Fault.{Fault}
 use Rattle.aud_check.specs.Checked.{faults, checked}
@@ -58,6 +58,19 @@ variable n = tree.variable (record { level = 0; index = n })
 
 fine_row : checked (main (two ∷ []) (assign (id (codes "B") (at 6 1)) (simple (Some (record { sign = sign.Minus; at = at 6 6 })) (term (factor None (name (id (codes "A") (at 6 7)))) no_multiplieds) (more_addeds (added Plus (term (factor None (num 2 (at 6 11))) no_multiplieds)) no_addeds)) ∷ call (id (codes "PUT_LINE") (at 7 1)) (only (attribute (id (codes "B") (at 7 11)) (id (codes "IMAGE") (at 7 13)) no_simple)) ∷ [])) ≡ Ok (record { name = codes "P"; variables = codes "A" ∷ codes "B" ∷ []; body = tree.sequence (tree.declare (at 2 1) (tree.number (pos 7))) (tree.sequence (tree.declare (at 2 1) (tree.number (pos 7))) (tree.sequence (tree.assign (at 6 1) (record { level = 0; index = 1 }) (tree.binary Sum (tree.unary Negative (variable 0)) (tree.number (pos 2)))) (tree.put (at 7 1) (tree.join (tree.image (variable 1)) tree.new_line)))); end = at 9 1 })
 fine_row = refl
+
+-- operators of one level go from left to right (RM 4.5(8))
+abbrev three : Simple
+three = simple None (term (factor None (num 9 (at 6 6))) no_multiplieds) (more_addeds (added Minus (term (factor None (num 3 (at 6 10))) no_multiplieds)) (more_addeds (added Minus (term (factor None (num 2 (at 6 14))) no_multiplieds)) no_addeds))
+
+abbrev left_first : tree.IntegerExpr
+left_first = tree.binary Difference (tree.binary Difference (tree.number (pos 9)) (tree.number (pos 3))) (tree.number (pos 2))
+
+abbrev elaborated : tree.Stmt → tree.Stmt
+elaborated s = tree.sequence (tree.declare (at 2 1) (tree.number (pos 7))) (tree.sequence (tree.declare (at 2 1) (tree.number (pos 7))) s)
+
+chain_row : checked (main (two ∷ []) (assign (id (codes "B") (at 6 1)) three ∷ [])) ≡ Ok (record { name = codes "P"; variables = codes "A" ∷ codes "B" ∷ []; body = elaborated (tree.assign (at 6 1) (record { level = 0; index = 1 }) left_first); end = at 9 1 })
+chain_row = refl
 
 -- a name that is not declared, and a variable in its own initial value
 undeclared_row : checked (main [] (assign (id (codes "C") (at 6 1)) (only (num 1 (at 6 6))) ∷ [])) ≡ Err (fault (at 6 1) NameNotDeclared)

@@ -188,14 +188,19 @@ made_2 f h st = cc (h (top st) (top (pop st)), bare_top st, bare_pop st, bare_to
 
 made_3 : (f : Item → Item → Item → Item) → ((x y u : Item) → f (bare_item x) (bare_item y) (bare_item u) ≡ bare_item (f x y u)) → (st : List Item) →
     bares (f (top st) (top (pop st)) (top (pop (pop st))) ∷ pop (pop (pop st))) ≡ f (top (bares st)) (top (pop (bares st))) (top (pop (pop (bares st)))) ∷ pop (pop (pop (bares st)))
-made_3 f h st = let two : List Item = pop (pop st) in cc (h (top st) (top (pop st)) (top two), bare_top st, bare_pop st, bare_top (pop st), bare_pop (pop st), bare_top two, bare_pop two)
+made_3 f h st =
+    let one : List Item = pop st in
+    let two : List Item = pop one in
+    cc (h (top st) (top one) (top two), bare_top st, bare_pop st, bare_top one, bare_pop one, bare_top two, bare_pop two)
 
 made_4 : (f : Item → Item → Item → Item → Item) → ((x y u v : Item) → f (bare_item x) (bare_item y) (bare_item u) (bare_item v) ≡ bare_item (f x y u v)) → (st : List Item) →
     bares (f (top st) (top (pop st)) (top (pop (pop st))) (top (pop (pop (pop st)))) ∷ pop (pop (pop (pop st))))
     ≡ f (top (bares st)) (top (pop (bares st))) (top (pop (pop (bares st)))) (top (pop (pop (pop (bares st))))) ∷ pop (pop (pop (pop (bares st))))
 made_4 f h st =
-    let two : List Item = pop (pop st) in
-    cc (h (top st) (top (pop st)) (top two) (top (pop two)), bare_top st, bare_pop st, bare_top (pop st), bare_pop (pop st), bare_top two, bare_pop two, bare_top (pop two), bare_pop (pop two))
+    let one : List Item = pop st in
+    let two : List Item = pop one in
+    let three : List Item = pop two in
+    cc (h (top st) (top one) (top two) (top three), bare_top st, bare_pop st, bare_top one, bare_pop one, bare_top two, bare_pop two, bare_top three, bare_pop three)
 
 pub bare_listed : (st : List Item) → bares (listed st) ≡ listed (bares st)
 bare_listed = made_2 cons (λ x y. refl)

@@ -373,8 +373,10 @@ last_or k r r' ds es gs us v (later m) d e go = elim m [ ]
 
 -- a step that passes a token, and one that passes none
 
-pass_ends : {s k : List Sym} {r : ℕ} {ts : List Element} {ds : List Item} {v : Verdict} (t : Element) (f : List Item → List Item) → Ends k r ts ds v → ((l : List Element) → Gets k l → Gets s (t ∷ l)) →
-    ((us : List Element) (r' : ℕ) (es : List Item) → Derives s r' es (t ∷ us) → (gs : List Item) × Derives k r' gs us × (es ≡ f gs)) → Ends s r (t ∷ ts) (f ds) v
+pass_ends : {s k : List Sym} {r : ℕ} {ts : List Element} {ds : List Item} {v : Verdict} (t : Element) (f : List Item → List Item) → Ends k r ts ds v →
+    ((l : List Element) → Gets k l → Gets s (t ∷ l)) →
+    ((us : List Element) (r' : ℕ) (es : List Item) → Derives s r' es (t ∷ us) → (gs : List Item) × Derives k r' gs us × (es ≡ f gs)) →
+    Ends s r (t ∷ ts) (f ds) v
 pass_ends {r = r} {ds = ds} {v = v} t f e gets past = record {
   front = t ∷ e.front;
   split = ap (λ z. t ∷ z) e.split;
@@ -383,7 +385,8 @@ pass_ends {r = r} {ds = ds} {v = v} t f e gets past = record {
       let w = past (e.front ++ us) r' es d in tells_step v r r' f ds es w.0 w.2 (e.only us r' w.0 le n w.1);
 }
 
-step_ends : {s k : List Sym} {r q : ℕ} {ts : List Element} {ds : List Item} {v : Verdict} (f : List Item → List Item) → Ends k q ts ds v → ((l : List Element) → Gets k l → Gets s l) →
+step_ends : {s k : List Sym} {r q : ℕ} {ts : List Element} {ds : List Item} {v : Verdict} (f : List Item → List Item) → Ends k q ts ds v →
+    ((l : List Element) → Gets k l → Gets s l) →
     ((us : List Element) (r' : ℕ) (es : List Item) → r ≤ r' → next_code ts ≡ next_code us → Derives s r' es us →
     ((q' : ℕ) (gs : List Item) → q ≤ q' → Derives k q' gs us → Tells v q q' ds gs) → Tells v r r' (f ds) es) → Ends s r ts (f ds) v
 step_ends {ts = ts} {v = v} f e gets tell = record {
@@ -398,9 +401,11 @@ pub ends : {s : List Sym} {r : ℕ} {ts : List Element} {ds : List Item} {v : Ve
 ends o_end c u = record { front = []; split = refl; alive = can [] u; only = λ us r' es le n d. sym (view d).0 }
 ends (o_rest {t = t}) c u = record { front = []; split = refl; alive = can [] u; only = λ us r' es le n d. end_code t (sym (n ∙ ap next_code (view d).1)) }
 ends (o_word {c = c'} {k = k} {t = t} h o) c u =
-    pass_ends t (λ l. l) (ends o c u) (λ l i. gets_word c' t k l h i) (λ us r' es d. let w = view d in (w.2, at_tail k r' w.2 t w.0 us w.1 w.6 w.4, w.5))
+    pass_ends t (λ l. l) (ends o c u) (λ l i. gets_word c' t k l h i)
+    (λ us r' es d. let w = view d in (w.2, at_tail k r' w.2 t w.0 us w.1 w.6 w.4, w.5))
 ends (o_token {c = c'} {k = k} {t = t} h o) c u =
-    pass_ends t (λ l. tok t ∷ l) (ends o c u) (λ l i. gets_token c' t k l h i) (λ us r' es d. let w = view d in (w.2, at_tail k r' w.2 t w.0 us w.1 w.6 w.4, same_token c' t w.0 us w.1 es w.2 w.6 w.5))
+    pass_ends t (λ l. tok t ∷ l) (ends o c u) (λ l i. gets_token c' t k l h i)
+    (λ us r' es d. let w = view d in (w.2, at_tail k r' w.2 t w.0 us w.1 w.6 w.4, same_token c' t w.0 us w.1 es w.2 w.6 w.5))
 ends (o_no_word {c = c'} {k = k'} {ts = ts} h) c u = record { front = []; split = refl; alive = can (T c' ∷ k') u; only = λ us r' es le n d. wrong_next c' ts us h n (starts d) }
 ends (o_no_token {c = c'} {k = k'} {ts = ts} h) c u = record { front = []; split = refl; alive = can (P c' ∷ k') u; only = λ us r' es le n d. wrong_next c' ts us h n (starts d) }
 ends (o_rule {p} {k} {r} {ts} {ds} {v} o) c u =
@@ -421,7 +426,8 @@ ends (o_deep {p} {k} {ts} h) c u = record {
 }
 ends (o_shut {p} {k} {ts} h) c u = record { front = []; split = refl; alive = can (L p ∷ k) u; only = λ us r' es le n d. no_not p ts us h n (starts d) }
 ends (o_down {k} {r} {ts} {ds} {v} o) c u =
-    step_ends (λ l. l) (ends o c u) (λ l i. gets_down k l i) (λ us r' es le n d go. let i : suc r ≤ suc r' = omega arith in tells_out v r r' ds es (go (suc r') es i (view d)))
+    step_ends (λ l. l) (ends o c u) (λ l i. gets_down k l i)
+    (λ us r' es le n d go. let i : suc r ≤ suc r' = omega arith in tells_out v r r' ds es (go (suc r') es i (view d)))
 ends (o_this {p} {q} {ps} {k = k} {r = r} {ts = ts} {ds = ds} {v = v} h o) c u =
     step_ends (λ l. l) (ends o (c.0.0, c.2) u) (λ l i. gets_one p (p ∷ q ∷ ps) k l here i)
     (λ us r' es le n d go. let w = view d in this_or k r r' ds es w.1 ts us v w.2 w.3 w.4 c.1.0 h n (λ xs i. go r' xs le i))
@@ -437,14 +443,16 @@ ends (o_yes {p} {k} {r} {ts} {ds} {v} h o) c u =
     ⊎_elim (λ w. tells_step v r r' (λ l. l) ds es w.0 w.2 (go r' w.0 le w.1)) (λ w. absurd (yes_not p (first_seq k fin) ts us c.0 h n (starts w.1))) (view d))
 ends (o_no {p} {k} {r} {ts} {ds} {v} h o) c u =
     step_ends (λ l. none ∷ l) (ends o c.2 u) (λ l i. gets_no p k l i)
-    (λ us r' es le n d go. ⊎_elim (λ w. absurd (no_not p ts us h n (starts w.1))) (λ w. tells_step v r r' (λ l. none ∷ l) ds es w.0 w.2 (go r' w.0 le w.1)) (view d))
+    (λ us r' es le n d go.
+    ⊎_elim (λ w. absurd (no_not p ts us h n (starts w.1))) (λ w. tells_step v r r' (λ l. none ∷ l) ds es w.0 w.2 (go r' w.0 le w.1)) (view d))
 ends (o_more {p} {k} {r} {ts} {ds} {v} h o) c u =
     step_ends listed (ends o (c.1, c) u) (λ l i. gets_more p k l i)
     (λ us r' es le n d go.
     ⊎_elim (λ w. tells_step v r r' listed ds es w.0 w.2 (go r' w.0 le w.1)) (λ w. absurd (yes_not p (first_seq k fin) ts us c.0 h n (starts w.1))) (view d))
 ends (o_stop {p} {k} {r} {ts} {ds} {v} h o) c u =
     step_ends (λ l. none ∷ l) (ends o c.2 u) (λ l i. gets_stop p k l i)
-    (λ us r' es le n d go. ⊎_elim (λ w. absurd (no_not p ts us h n (starts w.1))) (λ w. tells_step v r r' (λ l. none ∷ l) ds es w.0 w.2 (go r' w.0 le w.1)) (view d))
+    (λ us r' es le n d go.
+    ⊎_elim (λ w. absurd (no_not p ts us h n (starts w.1))) (λ w. tells_step v r r' (λ l. none ∷ l) ds es w.0 w.2 (go r' w.0 le w.1)) (view d))
 
 -- more room does no harm
 

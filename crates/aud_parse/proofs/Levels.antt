@@ -103,17 +103,18 @@ last_begun k r us v here d go = go d
 last_begun k r us v (later m) d go = elim m [ ]
 
 -- a test of the next token leaves one way
-not_after_yes : (p : Part) (k : List Sym) {r : ℕ} (ts us : List Element) (v : Verdict) → Apart (fs p) (first_seq k fin) → next_in (firsts p) ts ≡ true → next_code ts ≡ next_code us →
-    (us ≡ [] → ⊥) → Begun k r us → NotDeep v
+not_after_yes : (p : Part) (k : List Sym) {r : ℕ} (ts us : List Element) (v : Verdict) → Apart (fs p) (first_seq k fin) → next_in (firsts p) ts ≡ true →
+    next_code ts ≡ next_code us → (us ≡ [] → ⊥) → Begun k r us → NotDeep v
 not_after_yes p k ts us v apart h n i d = not_deep v (yes_not p (first_seq k fin) ts us apart h n (begun_starts d i))
 
-not_after_no : (p : Part) (k : List Sym) {r : ℕ} (ts us : List Element) (v : Verdict) → next_in (firsts p) ts ≡ false → next_code ts ≡ next_code us → (us ≡ [] → ⊥) → Begun (N p ∷ k) r us → NotDeep v
+not_after_no : (p : Part) (k : List Sym) {r : ℕ} (ts us : List Element) (v : Verdict) → next_in (firsts p) ts ≡ false → next_code ts ≡ next_code us →
+    (us ≡ [] → ⊥) → Begun (N p ∷ k) r us → NotDeep v
 not_after_no p k ts us v h n i d = not_deep v (no_not p ts us h n (begun_starts d i))
 
 -- a step that passes a token, and one that passes none
 
-pass_reaches : {s k : List Sym} {r : ℕ} {ts : List Element} {v : Verdict} (x : Element) → Reaches k r ts v → ((us : List Element) → Begun k r us → Begun s r (x ∷ us)) →
-    ((us : List Element) → Begun s r (x ∷ us) → Begun k r us) → Reaches s r (x ∷ ts) v
+pass_reaches : {s k : List Sym} {r : ℕ} {ts : List Element} {v : Verdict} (x : Element) → Reaches k r ts v →
+    ((us : List Element) → Begun k r us → Begun s r (x ∷ us)) → ((us : List Element) → Begun s r (x ∷ us) → Begun k r us) → Reaches s r (x ∷ ts) v
 pass_reaches x e into back = record {
   front = x ∷ e.front;
   split = ap (λ z. x ∷ z) e.split;
@@ -138,7 +139,8 @@ reaches (o_word {k = k} {r = r} {t = x} h o) c u = pass_reaches x (reaches o c u
 reaches (o_token {k = k} {r = r} {t = x} h o) c u = pass_reaches x (reaches o c u) (λ us d. b_token h d) (λ us d. begun_tail k r x us (begun_view d (λ z. cc)))
 reaches (o_no_word h) c u = record { front = []; split = refl; held = b_stop; beyond = λ t us n d. tt }
 reaches (o_no_token h) c u = record { front = []; split = refl; held = b_stop; beyond = λ t us n d. tt }
-reaches (o_rule {p} {k} o) c u = step_reaches (reaches o (clean_rule p k fin c) (full_append (rule p) k (table_full p) u)) (λ us d. b_rule d) (λ us d i n go. go (begun_view d i))
+reaches (o_rule {p} {k} o) c u =
+    step_reaches (reaches o (clean_rule p k fin c) (full_append (rule p) k (table_full p) u)) (λ us d. b_rule d) (λ us d i n go. go (begun_view d i))
 reaches (o_level o) c u = step_reaches (reaches o c u) (λ us d. b_level d) (λ us d i n go. go (begun_view d i))
 reaches (o_deep {p} {k} h) c u = record { front = []; split = refl; held = b_stop; beyond = λ t us n d. level_here p k (t ∷ us) d (λ z. cc) }
 reaches (o_shut h) c u = record { front = []; split = refl; held = b_stop; beyond = λ t us n d. tt }
