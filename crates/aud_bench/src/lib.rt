@@ -4,7 +4,7 @@
 pub mod bench;
 mod journal;
 pub mod laws;
-mod loading;
+pub mod loading;
 pub mod request;
 pub mod service;
 pub mod session;
