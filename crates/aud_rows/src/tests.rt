@@ -6,10 +6,21 @@ mod benches;
 mod checks;
 mod codes;
 mod machines;
-mod pieces;
 mod requests;
 mod serving;
 mod sessions;
 mod texts;
 mod tokens;
 mod trees;
+
+use std::process::Abort;
+
+// Tests that these bytes were found.
+fn finds(rt: &impl Abort, name: &str, found: &[u8], wanted: &[u8]) {
+    assert_eq!(rt; found, wanted, "{name}");
+}
+
+// Tests that these bytes were found for what was given.
+fn finds_for(rt: &impl Abort, given: &[u8], found: &[u8], wanted: &[u8]) {
+    assert_eq!(rt; found, wanted, "{given:?}");
+}

@@ -2,7 +2,7 @@
 
 use crate::case::Case;
 
-pub const ROWS: [Case; 7] = [
+pub const ROWS: [Case; 13] = [
     Case {
         name: "a null statement, complete and close",
         sent: b"LOAD 1\n\
@@ -77,5 +77,42 @@ pub const ROWS: [Case; 7] = [
             + 1\nbytes 0\n\
             + 1\nran 3 ended\n\
             + 2\nbytes 2\na\n",
+    },
+    Case {
+        name: "a variable is declared, assigned and put out, and the session ends",
+        sent: b"LOAD 1\n\
+            procedure M is X : Integer := 40; begin X := X + 2; Put_Line (\"x\" & X'Image); end M;\n\
+            RUN 100\n\
+            OUTPUT\n\
+            QUIT\n",
+        written: b"+ 1\nloaded M\n+ 1\nran 5 ended\n+ 2\nbytes 5\nx 42\n+ 0\n",
+    },
+    Case {
+        name: "a program that has ended takes no step",
+        sent: b"LOAD 1\n\
+            procedure M is begin null; end M;\n\
+            RUN 10\n\
+            RUN 1\n",
+        written: b"+ 1\nloaded M\n+ 1\nran 3 ended\n+ 1\nran 0 ended\n",
+    },
+    Case {
+        name: "an empty source",
+        sent: b"LOAD 0\n",
+        written: b"- E21 1:1 syntax\n",
+    },
+    Case {
+        name: "a command in small letters is unknown",
+        sent: b"RUN 1\nrun 1\n",
+        written: b"- E14 no program\n- E10 unknown command\n",
+    },
+    Case {
+        name: "nothing is answered after QUIT",
+        sent: b"QUIT\nRUN 1\n",
+        written: b"+ 0\n",
+    },
+    Case {
+        name: "a QUIT without its line feed",
+        sent: b"QUIT",
+        written: b"",
     },
 ];

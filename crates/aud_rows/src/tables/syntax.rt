@@ -419,3 +419,6 @@ pub const LATER: [Case; 7] = [
         written: b"- E21 1:27 syntax\n- E21 1:31 syntax\n- E21 1:32 syntax\n- E21 1:22 syntax\n- E21 1:24 syntax\n",
     },
 ];
+
+/// All of them.
+pub const TABLES: [&[Case]; 4] = [&UNIT, &DECLARATIONS, &STATEMENTS, &LATER];

@@ -1,57 +1,63 @@
 // The code of a program.
 
-ghost use Rattle.std.specs.Prelude.{IfOk};
 ghost use Rattle.aud_typed.specs.View.{plain_program};
 ghost use Rattle.aud_typed.specs.Scoped.{IsScoped};
 
-use aud_code::code::{Ending, Instr};
+use crate::tests::finds;
+use aud_bench::loading::load;
+use aud_code::sound::SoundCode;
 use aud_gen::generate;
-use aud_text::int32::Int32;
-use aud_text::name::Name;
-use aud_text::place::Pos;
-use aud_typed::program::{Binary, IntegerExpr, Program, Stmt, TextExpr, Variable};
+use aud_text::limits::STANDARD;
+use aud_typed::program::Program;
 use std::alloc::{AllocError, Global};
+use std::process::Abort;
 use std::test::Fail;
 
-const X: Variable = Variable { level: 0, index: 0 };
+const DOUBLING: &[u8] =
+    b"procedure M is X : Integer := 7; begin X := X * 2; Put_Line (Integer'Image (X)); end M;\n";
 
-// procedure M is X : Integer := 7; begin X := X * 2; Put (Integer'Image (X)); end M;
-fn doubling(alloc: Global) -> Result<Program, AllocError>
-    ensures { IfOk result (λ program. IsScoped (plain_program program)) }
+// Where an exception goes, the Integers on the stack, the column and the kind of the step, and the instruction.
+const CODE: &[u8] = b"10 0 16 Decl Push(Int32 { value: 7 })\n\
+    10 1 16 Decl End(Declare(2))\n\
+    10 0 40 Assign Load(Variable { level: 0, index: 0 })\n\
+    10 1 40 Assign Push(Int32 { value: 2 })\n\
+    10 2 40 Assign Binary(Product)\n\
+    10 1 40 Assign End(Assign(Variable { level: 0, index: 0 }, 6))\n\
+    10 0 52 Put Load(Variable { level: 0, index: 0 })\n\
+    10 1 52 Put AppendImage\n\
+    10 0 52 Put AppendNewLine\n\
+    10 0 52 Put End(Put(10))\n\
+    10 0 82 Complete End(Complete)\n";
+
+fn told(alloc: Global, code: &SoundCode) -> Result<String, AllocError> {
+    let mut out = String::new(alloc);
+    for place in 0..code.len() {
+        let line = code.line(place);
+        let state = format!(in alloc; "{} {} {} ", line.out.to, line.ints, line.at.col)?;
+        let instr = format!(in alloc; "{:?} {:?}\n", line.kind, line.instr)?;
+        out.push_str(&state)?;
+        out.push_str(&instr)?;
+    }
+    Ok(out)
+}
+
+fn lays_out(
+    rt: &impl Abort,
+    alloc: Global,
+    program: &Program,
+    wanted: &[u8],
+) -> Result<(), AllocError>
+    requires { IsScoped (plain_program program.now) }
 {
-    let declaration = Stmt::Declare(Pos { line: 1, col: 16 }, IntegerExpr::Number(Int32::new(7)));
-    let two = Box::new(alloc, IntegerExpr::Number(Int32::new(2)))?;
-    let twice = IntegerExpr::Binary(
-        Binary::Product,
-        Box::new(alloc, IntegerExpr::Variable(X))?,
-        two,
-    );
-    let assignment = Stmt::Assign(Pos { line: 1, col: 40 }, X, twice);
-    let output = Stmt::Put(
-        Pos { line: 1, col: 52 },
-        TextExpr::Image(IntegerExpr::Variable(X)),
-    );
-    let statements = Stmt::Sequence(Box::new(alloc, assignment)?, Box::new(alloc, output)?);
-    Ok(Program {
-        name: Name::from_source(alloc, b"M")?,
-        variables: Vec::new(alloc),
-        body: Stmt::Sequence(Box::new(alloc, declaration)?, Box::new(alloc, statements)?),
-        end: Pos { line: 1, col: 77 },
-    })
+    let code = generate(alloc, program)?;
+    let found = told(alloc, &code)?;
+    finds(rt, "code", found.as_bytes(), wanted);
+    Ok(())
 }
 
 #[test]
 fn lays_out_each_step(rt: HostRuntime) -> Result<(), Fail> {
-    let program = doubling(rt.alloc())?;
-    let code = generate(rt.alloc(), &program)?;
-    assert_eq!(rt; code.len(), 10);
-    assert!(rt; matches!(code.line(1).instr, Instr::End(Ending::Declare(2))));
-    assert!(rt; matches!(code.line(4).instr, Instr::Binary(Binary::Product)));
-    assert!(rt; matches!(code.line(5).instr, Instr::End(Ending::Assign(X, 6))));
-    assert!(rt; matches!(code.line(8).instr, Instr::End(Ending::Put(9))));
-    assert!(rt; matches!(code.line(9).instr, Instr::End(Ending::Complete)));
-    assert_eq!(rt; code.line(3).ints, 1);
-    assert_eq!(rt; code.line(3).out.to, 9);
-    assert_eq!(rt; code.line(9).at.col, 77);
+    let program = load(rt.alloc(), STANDARD, DOUBLING)?;
+    lays_out(&rt, rt.alloc(), &program, CODE)?;
     Ok(())
 }

@@ -1,193 +1,332 @@
 // Machines with ample memory.
 
-ghost use Rattle.std.specs.Prelude.{IfOk};
-ghost use Rattle.aud_typed.specs.View.{plain_integer, plain_program};
-ghost use Rattle.aud_typed.specs.Scoped.{IntegerScoped, IsScoped};
-
+use crate::tests::finds;
+use aud_bench::loading::load;
 use aud_machine::machine::{Machine, Ran};
+use aud_machine::task::Task;
 use aud_meaning::state::{State, Status};
 use aud_text::int32::Int32;
-use aud_text::name::Name;
-use aud_text::place::Pos;
+use aud_text::limits::{CLOCK, STANDARD, STEPS};
 use aud_text::raise::Raise;
-use aud_text::text::Text;
-use aud_typed::program::{Binary, IntegerExpr, Program, Stmt, TextExpr, Variable};
 use std::alloc::{AllocError, Global};
 use std::process::Abort;
 use std::test::Fail;
 
-const AT: Pos = Pos { line: 1, col: 1 };
+const SUM: &[u8] =
+    b"procedure M is X : Integer; begin X := 40 + 2; Put_Line (\"x\" & X'Image); end M;\n";
 
-const X: Variable = Variable { level: 0, index: 0 };
+const FAILING: &[u8] = b"procedure M is X : Integer := 1 / 0; begin null; end M;\n";
 
-fn number(value: i32) -> IntegerExpr
-    ensures { IntegerScoped (plain_integer result) 1 }
-{
-    IntegerExpr::Number(Int32::new(value))
+// What is done with a machine.
+#[derive(Clone, Copy)]
+enum Act {
+    Slice(u32),
+    Take(usize),
+    Choose(&'static [u32]),
+    Advance(u32),
+    Reset,
+    // Its name and its parts are looked at, once 42 is assigned.
+    Look,
 }
 
-// X : Integer; begin X := 40 + 2; Put_Line ("x" & Integer'Image (X));
-fn answer(alloc: Global) -> Result<Program, AllocError>
-    ensures { IfOk result (λ program. IsScoped (plain_program program)) }
-{
-    let sum = IntegerExpr::Binary(
-        Binary::Sum,
-        Box::new(alloc, number(40))?,
-        Box::new(alloc, number(2))?,
-    );
-    let letter = Box::new(alloc, TextExpr::Literal(Text::from_slice(alloc, b"x")?))?;
-    let image = Box::new(alloc, TextExpr::Image(IntegerExpr::Variable(X)))?;
-    let text = TextExpr::Join(letter, image);
-    let line = TextExpr::Join(Box::new(alloc, text)?, Box::new(alloc, TextExpr::NewLine)?);
-    let statements = Stmt::Sequence(
-        Box::new(alloc, Stmt::Assign(AT, X, sum))?,
-        Box::new(alloc, Stmt::Put(AT, line))?,
-    );
-    let first = Stmt::Declare(AT, number(0));
-    let body = Stmt::Sequence(Box::new(alloc, first)?, Box::new(alloc, statements)?);
-    Ok(Program {
-        name: Name::from_source(alloc, b"M")?,
-        variables: vec![in alloc; Name::from_source(alloc, b"X")?]?,
-        body,
-        end: AT,
-    })
+// What a machine tells of itself.
+#[derive(Clone, Copy, PartialEq, Eq, Debug)]
+struct Told {
+    steps: u32,
+    state: State,
+    raised: Option<Raise>,
+    choices: usize,
+    clock: u32,
+    is_cut: bool,
 }
 
-// X : Integer := 1 / 0; begin null;
-fn failure(alloc: Global) -> Result<Program, AllocError>
-    ensures { IfOk result (λ program. IsScoped (plain_program program)) }
-{
-    let quotient = IntegerExpr::Binary(
-        Binary::Quotient,
-        Box::new(alloc, number(1))?,
-        Box::new(alloc, number(0))?,
-    );
-    let first = Stmt::Declare(AT, quotient);
-    let body = Stmt::Sequence(Box::new(alloc, first)?, Box::new(alloc, Stmt::Null(AT))?);
-    Ok(Program {
-        name: Name::from_source(alloc, b"M")?,
-        variables: vec![in alloc; Name::from_source(alloc, b"X")?]?,
-        body,
-        end: AT,
-    })
+const NEW: Told = Told {
+    steps: 0,
+    state: State::More,
+    raised: None,
+    choices: 0,
+    clock: 0,
+    is_cut: false,
+};
+
+// What is done, what comes back, and what the machine tells then.
+#[derive(Clone, Copy)]
+struct Row {
+    act: Act,
+    ran: Option<Ran>,
+    told: Told,
+    output: &'static [u8],
 }
 
-fn run(rt: &impl Abort, machine: &mut Machine, alloc: Global, n: u32) -> Result<Ran, AllocError> {
+fn does(
+    rt: &impl Abort,
+    alloc: Global,
+    machine: &mut Machine,
+    act: Act,
+) -> Result<Option<Ran>, AllocError> {
     let steps = machine.steps();
-    assert!(rt; steps <= 1_000 && n <= 1_000);
-    machine.slice(alloc, n)
+    let clock = machine.clock();
+    match act {
+        Act::Slice(n) => {
+            assert!(rt; steps <= 1_000 && n <= 1_000);
+            return Ok(Some(machine.slice(alloc, n)?));
+        }
+        Act::Take(nth) => {
+            assert!(rt; steps < STEPS);
+            return machine.take(alloc, nth);
+        }
+        Act::Choose(choices) => machine.choose(choices)?,
+        Act::Advance(milliseconds) => {
+            assert!(rt; milliseconds <= CLOCK - clock);
+            machine.advance(milliseconds);
+        }
+        Act::Reset => machine.reset(alloc)?,
+        Act::Look => looks(rt, machine),
+    }
+    Ok(None)
+}
+
+fn looks(rt: &impl Abort, machine: &Machine) {
+    assert!(rt; machine.program().name.is(b"M"));
+    let parts = machine.parts();
+    assert!(rt; parts.steps == 2 && parts.clock == 0);
+    assert!(rt; matches!(parts.tasks, [main] if is_at_work(main)));
+    assert!(rt; parts.frames.len() == 1);
+    assert!(rt; parts.frames.frame(0) == [Int32::new(42)].as_slice());
+}
+
+fn is_at_work(main: &Task) -> bool {
+    main.status() == Status::Running
+        && main.pending().is_none()
+        && main.raised().is_none()
+        && main.display() == [0].as_slice()
+}
+
+fn tells(rt: &impl Abort, machine: &Machine, wanted: Told) {
+    let told = Told {
+        steps: machine.steps(),
+        state: machine.state(),
+        raised: machine.raised(),
+        choices: machine.choices(),
+        clock: machine.clock(),
+        is_cut: machine.is_cut(),
+    };
+    assert_eq!(rt; told, wanted);
+}
+
+fn goes(
+    rt: &impl Abort,
+    alloc: Global,
+    machine: &mut Machine,
+    rows: &[Row],
+) -> Result<(), AllocError> {
+    tells(rt, machine, NEW);
+    for row in rows {
+        let ran = does(rt, alloc, machine, row.act)?;
+        assert_eq!(rt; ran, row.ran);
+        tells(rt, machine, row.told);
+        finds(rt, "output", machine.output(), row.output);
+    }
+    Ok(())
+}
+
+fn meets(rt: &impl Abort, alloc: Global, source: &[u8], rows: &[Row]) -> Result<(), Fail> {
+    let mut machine = Machine::new(alloc, load(alloc, STANDARD, source)?)?;
+    goes(rt, alloc, &mut machine, rows)?;
+    Ok(())
 }
 
 #[test]
 fn puts_the_answer(rt: HostRuntime) -> Result<(), Fail> {
-    let alloc = rt.alloc();
-    let program = answer(alloc)?;
-    let mut machine = Machine::new(alloc, program)?;
-    assert_eq!(rt; machine.state(), State::More);
-    let first = run(&rt, &mut machine, alloc, 3)?;
-    assert_eq!(rt; first.steps, 3);
-    // 2 instructions for the declaration, 4 for the assignment, 5 for the output
-    assert_eq!(rt; first.ticks, 11);
-    assert_eq!(rt; first.state, State::More);
-    assert_eq!(rt; machine.output(), b"x 42\n".as_slice());
-    let last = run(&rt, &mut machine, alloc, 100)?;
-    assert_eq!(rt; last.steps, 2);
-    assert_eq!(rt; last.state, State::Ended);
-    assert_eq!(rt; machine.steps(), 5);
-    assert_eq!(rt; machine.raised(), None);
-    assert_eq!(rt; machine.choices(), 0);
-    assert!(rt; !machine.is_cut());
-    assert_eq!(rt; machine.program().name.as_bytes(), b"M".as_slice());
-    Ok(())
+    meets(&rt, rt.alloc(), SUM, &PUTS)
 }
+
+const PUTS: [Row; 2] = [
+    Row {
+        act: Act::Slice(3),
+        // 2 instructions for the declaration, 4 for the assignment, 5 for the output
+        ran: Some(Ran {
+            steps: 3,
+            ticks: 11,
+            state: State::More,
+        }),
+        told: Told { steps: 3, ..NEW },
+        output: b"x 42\n",
+    },
+    Row {
+        act: Act::Slice(100),
+        // 1 for the end of the body, none for closing it
+        ran: Some(Ran {
+            steps: 2,
+            ticks: 1,
+            state: State::Ended,
+        }),
+        told: Told {
+            steps: 5,
+            state: State::Ended,
+            ..NEW
+        },
+        output: b"x 42\n",
+    },
+];
 
 #[test]
 fn raises_at_a_division(rt: HostRuntime) -> Result<(), Fail> {
-    let alloc = rt.alloc();
-    let program = failure(alloc)?;
-    let mut machine = Machine::new(alloc, program)?;
-    let ran = run(&rt, &mut machine, alloc, 100)?;
-    assert_eq!(rt; ran.steps, 3);
-    assert_eq!(rt; ran.state, State::Ended);
-    assert_eq!(rt; machine.raised(), Some(Raise::Constraint));
-    assert_eq!(rt; machine.output(), b"".as_slice());
-    Ok(())
+    meets(&rt, rt.alloc(), FAILING, &RAISES)
 }
+
+const RAISES: [Row; 1] = [Row {
+    act: Act::Slice(100),
+    // the division is the third instruction, and the other two steps have none
+    ran: Some(Ran {
+        steps: 3,
+        ticks: 3,
+        state: State::Ended,
+    }),
+    told: Told {
+        steps: 3,
+        state: State::Ended,
+        raised: Some(Raise::Constraint),
+        ..NEW
+    },
+    output: b"",
+}];
 
 #[test]
 fn takes_one_move(rt: HostRuntime) -> Result<(), Fail> {
-    let alloc = rt.alloc();
-    let program = answer(alloc)?;
-    let mut machine = Machine::new(alloc, program)?;
-    let steps = machine.steps();
-    assert!(rt; steps <= 1_000);
-    assert_eq!(rt; machine.take(alloc, 1)?, None);
-    let steps = machine.steps();
-    assert!(rt; steps <= 1_000);
-    let taken = machine.take(alloc, 0)?;
-    assert_eq!(rt; taken.map(|ran| ran.steps), Some(1));
-    assert_eq!(rt; machine.steps(), 1);
-    Ok(())
+    meets(&rt, rt.alloc(), SUM, &TAKES)
 }
 
+const TAKES: [Row; 2] = [
+    Row {
+        act: Act::Take(1),
+        ran: None,
+        told: NEW,
+        output: b"",
+    },
+    Row {
+        act: Act::Take(0),
+        ran: Some(Ran {
+            steps: 1,
+            ticks: 2,
+            state: State::More,
+        }),
+        told: Told { steps: 1, ..NEW },
+        output: b"",
+    },
+];
+
+// The whole program.
+const ALL: Option<Ran> = Some(Ran {
+    steps: 5,
+    ticks: 12,
+    state: State::Ended,
+});
+
+// With one task no choice is ever used up, and no step takes time.
 #[test]
 fn takes_what_is_supplied(rt: HostRuntime) -> Result<(), Fail> {
-    let alloc = rt.alloc();
-    let program = answer(alloc)?;
-    let mut machine = Machine::new(alloc, program)?;
-    machine.choose(&[3, 1])?;
-    machine.choose(&[4])?;
-    assert_eq!(rt; machine.choices(), 3);
-    let clock = machine.clock();
-    assert!(rt; clock <= 1_000);
-    machine.advance(250);
-    assert_eq!(rt; machine.clock(), 250);
-    // with one task no choice is ever used up, and no step takes time
-    run(&rt, &mut machine, alloc, 100)?;
-    assert_eq!(rt; machine.choices(), 3);
-    assert_eq!(rt; machine.clock(), 250);
-    Ok(())
+    meets(&rt, rt.alloc(), SUM, &SUPPLIED)
 }
+
+const SUPPLIED: [Row; 4] = [
+    Row {
+        act: Act::Choose(&[3, 1]),
+        ran: None,
+        told: Told { choices: 2, ..NEW },
+        output: b"",
+    },
+    Row {
+        act: Act::Choose(&[4]),
+        ran: None,
+        told: Told { choices: 3, ..NEW },
+        output: b"",
+    },
+    Row {
+        act: Act::Advance(250),
+        ran: None,
+        told: Told {
+            choices: 3,
+            clock: 250,
+            ..NEW
+        },
+        output: b"",
+    },
+    Row {
+        act: Act::Slice(100),
+        ran: ALL,
+        told: Told {
+            steps: 5,
+            state: State::Ended,
+            choices: 3,
+            clock: 250,
+            ..NEW
+        },
+        output: b"x 42\n",
+    },
+];
 
 #[test]
 fn begins_anew(rt: HostRuntime) -> Result<(), Fail> {
-    let alloc = rt.alloc();
-    let program = answer(alloc)?;
-    let mut machine = Machine::new(alloc, program)?;
-    machine.choose(&[3])?;
-    let first = run(&rt, &mut machine, alloc, 100)?;
-    machine.reset(alloc)?;
-    assert_eq!(rt; machine.choices(), 0);
-    assert_eq!(rt; machine.steps(), 0);
-    assert_eq!(rt; machine.output(), b"".as_slice());
-    let second = run(&rt, &mut machine, alloc, 100)?;
-    assert_eq!(rt; second.steps, first.steps);
-    assert_eq!(rt; machine.output(), b"x 42\n".as_slice());
-    Ok(())
+    meets(&rt, rt.alloc(), SUM, &ANEW)
 }
+
+const ANEW: [Row; 4] = [
+    Row {
+        act: Act::Choose(&[3]),
+        ran: None,
+        told: Told { choices: 1, ..NEW },
+        output: b"",
+    },
+    Row {
+        act: Act::Slice(100),
+        ran: ALL,
+        told: Told {
+            steps: 5,
+            state: State::Ended,
+            choices: 1,
+            ..NEW
+        },
+        output: b"x 42\n",
+    },
+    Row {
+        act: Act::Reset,
+        ran: None,
+        told: NEW,
+        output: b"",
+    },
+    Row {
+        act: Act::Slice(100),
+        ran: ALL,
+        told: Told {
+            steps: 5,
+            state: State::Ended,
+            ..NEW
+        },
+        output: b"x 42\n",
+    },
+];
 
 #[test]
 fn lends_its_parts(rt: HostRuntime) -> Result<(), Fail> {
-    let alloc = rt.alloc();
-    let program = answer(alloc)?;
-    let mut machine = Machine::new(alloc, program)?;
-    run(&rt, &mut machine, alloc, 2)?;
-    let parts = machine.parts();
-    assert_eq!(rt; parts.steps, 2);
-    assert_eq!(rt; parts.clock, 0);
-    assert_eq!(rt; parts.tasks.len(), 1);
-    assert_eq!(rt; parts.frames.len(), 1);
-    if let Some(main) = parts.tasks.first() {
-        assert_eq!(rt; main.status(), Status::Running);
-        assert_eq!(rt; main.pending(), None);
-        assert_eq!(rt; main.raised(), None);
-        assert_eq!(rt; main.display(), [0].as_slice());
-    }
-    let frames = parts.frames.len();
-    assert!(rt; 0 < frames);
-    assert_eq!(rt;
-        parts.frames.frame(0).first().copied(),
-        Some(Int32::new(42))
-    );
-    Ok(())
+    meets(&rt, rt.alloc(), SUM, &LENT)
 }
+
+const LENT: [Row; 2] = [
+    Row {
+        act: Act::Slice(2),
+        ran: Some(Ran {
+            steps: 2,
+            ticks: 6,
+            state: State::More,
+        }),
+        told: Told { steps: 2, ..NEW },
+        output: b"",
+    },
+    Row {
+        act: Act::Look,
+        ran: None,
+        told: Told { steps: 2, ..NEW },
+        output: b"",
+    },
+];

@@ -1,147 +1,148 @@
 // The sessions of the tables, sent to a server in memory.
 
-use crate::case::Case;
-use crate::tables::limits::Session;
+use crate::case::{Case, LongCase, spelled};
 use crate::tables::{checks, lexis, limits, lines, rows, runs, syntax, values};
 use aud_server::solo::{SoloFault, solo};
 use std::alloc::Global;
+use std::io;
+use std::io::Read;
 use std::process::Abort;
-use std::test::Fail;
 
-// What is written where these bytes are sent and nothing else.
-fn answered(alloc: Global, sent: &[u8]) -> Result<Vec<u8>, SoloFault> {
-    let mut reader = sent;
-    let mut written = Vec::new(alloc);
-    solo(alloc, &mut reader, &mut written)?;
-    Ok(written)
+// Gives its bytes in pieces of so many at most.
+#[derive(Drop)]
+struct Pieces<'a> {
+    rest: &'a [u8],
+    most: usize,
 }
 
-fn meets(rt: &impl Abort, alloc: Global, cases: &[Case]) -> Result<(), SoloFault> {
-    for case in cases {
-        let name = case.name;
-        let written = answered(alloc, case.sent)?;
-        assert_eq!(rt; written.as_slice(), case.written, "{name}");
+impl<'a> Read for Pieces<'a> {
+    fn read(&mut self, buf: &mut [u8]) -> io::Result<usize> {
+        let count = self.most.min(self.rest.len()).min(buf.len());
+        buf[..count].copy_from_slice(&self.rest[..count]);
+        self.rest = &self.rest[count..];
+        Ok(count)
+    }
+}
+
+// Tests what is written where these bytes are sent, so many at a time, and nothing else.
+fn answers(
+    rt: &impl Abort,
+    alloc: Global,
+    name: &str,
+    most: usize,
+    sent: &[u8],
+    wanted: &[u8],
+) -> Result<(), SoloFault> {
+    let mut reader = Pieces { rest: sent, most };
+    let mut written = Vec::new(alloc);
+    solo(alloc, &mut reader, &mut written)?;
+    assert_eq!(rt; written.as_slice(), wanted, "{name}, in pieces of {most}");
+    Ok(())
+}
+
+// More bytes than any session has.
+const WHOLE: usize = 10_000_000;
+
+const PIECES: [usize; 4] = [WHOLE, 1, 2, 7];
+
+fn meets(rt: &impl Abort, alloc: Global, tables: &[&[Case]]) -> Result<(), SoloFault> {
+    for cases in tables {
+        for case in *cases {
+            for most in PIECES {
+                answers(rt, alloc, case.name, most, case.sent, case.written)?;
+            }
+        }
     }
     Ok(())
 }
 
-fn meets_session(rt: &impl Abort, alloc: Global, session: &Session) -> Result<(), SoloFault> {
-    let written = answered(alloc, &session.0)?;
-    assert_eq!(rt; written.as_slice(), session.1.as_slice());
+fn meets_long(rt: &impl Abort, alloc: Global, cases: &[LongCase]) -> Result<(), SoloFault> {
+    for case in cases {
+        let sent = spelled(alloc, case.sent)?;
+        let written = spelled(alloc, case.written)?;
+        answers(rt, alloc, case.name, WHOLE, &sent, &written)?;
+    }
     Ok(())
 }
 
 #[test]
-fn answers_rows(rt: HostRuntime) -> Result<(), Fail> {
-    meets(&rt, rt.alloc(), &rows::ROWS)?;
-    Ok(())
+fn answers_rows(rt: HostRuntime) -> Result<(), SoloFault> {
+    meets(&rt, rt.alloc(), &[&rows::ROWS])
 }
 
 #[test]
-fn reads_tokens(rt: HostRuntime) -> Result<(), Fail> {
+fn reads_tokens(rt: HostRuntime) -> Result<(), SoloFault> {
+    meets(&rt, rt.alloc(), &[&lexis::READ, &lexis::FAULTS])
+}
+
+#[test]
+fn finds_syntax_faults(rt: HostRuntime) -> Result<(), SoloFault> {
+    meets(&rt, rt.alloc(), &syntax::TABLES)
+}
+
+#[test]
+fn finds_broken_rules(rt: HostRuntime) -> Result<(), SoloFault> {
+    let tables: [&[Case]; 4] = [
+        &checks::NAMES,
+        &checks::TYPES,
+        &checks::SEVERAL,
+        &checks::LATER,
+    ];
+    meets(&rt, rt.alloc(), &tables)
+}
+
+#[test]
+fn evaluates(rt: HostRuntime) -> Result<(), SoloFault> {
+    meets(&rt, rt.alloc(), &[&values::VALUES, &values::EXCEPTIONS])
+}
+
+#[test]
+fn runs_in_pieces(rt: HostRuntime) -> Result<(), SoloFault> {
+    meets(&rt, rt.alloc(), &[&runs::CUTS, &runs::OUTPUTS, &runs::KEPT])
+}
+
+#[test]
+fn reads_lines(rt: HostRuntime) -> Result<(), SoloFault> {
+    let tables: [&[Case]; 4] = [&lines::READ, &lines::ENDS, &lines::MALFORMED, &lines::LATER];
+    meets(&rt, rt.alloc(), &tables)
+}
+
+#[test]
+fn measures_lines(rt: HostRuntime) -> Result<(), SoloFault> {
+    meets_long(&rt, rt.alloc(), &limits::LINES)
+}
+
+#[test]
+fn measures_sources(rt: HostRuntime) -> Result<(), SoloFault> {
+    meets_long(&rt, rt.alloc(), &limits::SOURCES)
+}
+
+#[test]
+fn counts_levels(rt: HostRuntime) -> Result<(), SoloFault> {
+    meets_long(&rt, rt.alloc(), &limits::LEVELS)
+}
+
+#[test]
+fn counts_requests(rt: HostRuntime) -> Result<(), SoloFault> {
+    meets_long(&rt, rt.alloc(), &limits::REQUESTS)
+}
+
+#[test]
+fn measures_requests(rt: HostRuntime) -> Result<(), SoloFault> {
+    meets_long(&rt, rt.alloc(), &limits::SIZES)
+}
+
+#[test]
+fn takes_large_programs(rt: HostRuntime) -> Result<(), SoloFault> {
     let alloc = rt.alloc();
-    meets(&rt, alloc, &lexis::READ)?;
-    meets(&rt, alloc, &lexis::FAULTS)?;
-    Ok(())
-}
-
-#[test]
-fn finds_syntax_faults(rt: HostRuntime) -> Result<(), Fail> {
-    let alloc = rt.alloc();
-    meets(&rt, alloc, &syntax::UNIT)?;
-    meets(&rt, alloc, &syntax::DECLARATIONS)?;
-    meets(&rt, alloc, &syntax::STATEMENTS)?;
-    meets(&rt, alloc, &syntax::LATER)?;
-    Ok(())
-}
-
-#[test]
-fn finds_broken_rules(rt: HostRuntime) -> Result<(), Fail> {
-    let alloc = rt.alloc();
-    meets(&rt, alloc, &checks::NAMES)?;
-    meets(&rt, alloc, &checks::TYPES)?;
-    meets(&rt, alloc, &checks::SEVERAL)?;
-    meets(&rt, alloc, &checks::LATER)?;
-    Ok(())
-}
-
-#[test]
-fn evaluates(rt: HostRuntime) -> Result<(), Fail> {
-    let alloc = rt.alloc();
-    meets(&rt, alloc, &values::VALUES)?;
-    meets(&rt, alloc, &values::EXCEPTIONS)?;
-    Ok(())
-}
-
-#[test]
-fn runs_in_pieces(rt: HostRuntime) -> Result<(), Fail> {
-    let alloc = rt.alloc();
-    meets(&rt, alloc, &runs::CUTS)?;
-    meets(&rt, alloc, &runs::OUTPUTS)?;
-    meets(&rt, alloc, &runs::KEPT)?;
-    Ok(())
-}
-
-#[test]
-fn reads_lines(rt: HostRuntime) -> Result<(), Fail> {
-    let alloc = rt.alloc();
-    meets(&rt, alloc, &lines::READ)?;
-    meets(&rt, alloc, &lines::ENDS)?;
-    meets(&rt, alloc, &lines::MALFORMED)?;
-    meets(&rt, alloc, &lines::LATER)?;
-    Ok(())
-}
-
-#[test]
-fn measures_lines(rt: HostRuntime) -> Result<(), Fail> {
-    let alloc = rt.alloc();
-    meets_session(&rt, alloc, &limits::command_lines(alloc)?)?;
-    meets_session(&rt, alloc, &limits::long_load_line(alloc)?)?;
-    meets_session(&rt, alloc, &limits::source_lines(alloc)?)?;
-    meets_session(&rt, alloc, &limits::first_bad_line(alloc)?)?;
-    Ok(())
-}
-
-#[test]
-fn measures_sources(rt: HostRuntime) -> Result<(), Fail> {
-    let alloc = rt.alloc();
-    meets_session(&rt, alloc, &limits::source_bytes(alloc)?)?;
-    meets_session(&rt, alloc, &limits::most_lines(alloc)?)?;
-    Ok(())
-}
-
-#[test]
-fn counts_levels(rt: HostRuntime) -> Result<(), Fail> {
-    let alloc = rt.alloc();
-    meets_session(&rt, alloc, &limits::levels(alloc)?)?;
-    meets_session(&rt, alloc, &limits::levels_and_faults(alloc)?)?;
-    Ok(())
-}
-
-#[test]
-fn counts_requests(rt: HostRuntime) -> Result<(), Fail> {
-    let alloc = rt.alloc();
-    meets_session(&rt, alloc, &limits::requests(alloc)?)?;
-    Ok(())
-}
-
-#[test]
-fn measures_requests(rt: HostRuntime) -> Result<(), Fail> {
-    let alloc = rt.alloc();
-    meets_session(&rt, alloc, &limits::request_bytes(alloc)?)?;
-    meets_session(&rt, alloc, &limits::request_too_large(alloc)?)?;
-    meets_session(&rt, alloc, &limits::last_byte(alloc)?)?;
-    meets_session(&rt, alloc, &limits::sizes(alloc)?)?;
-    meets_session(&rt, alloc, &limits::sizes_of_seven(alloc)?)?;
-    meets_session(&rt, alloc, &limits::size_of_load(alloc)?)?;
-    Ok(())
-}
-
-#[test]
-fn takes_large_programs(rt: HostRuntime) -> Result<(), Fail> {
-    let alloc = rt.alloc();
-    meets_session(&rt, alloc, &limits::statements(alloc)?)?;
-    meets_session(&rt, alloc, &limits::variables(alloc)?)?;
-    meets_session(&rt, alloc, &limits::output(alloc)?)?;
-    Ok(())
+    meets_long(&rt, alloc, &limits::PROGRAMS)?;
+    let variables = limits::variables(alloc)?;
+    answers(
+        &rt,
+        alloc,
+        "1,100 variables",
+        WHOLE,
+        &variables,
+        limits::SHOWN,
+    )
 }

@@ -1,5 +1,6 @@
 // Programs and their canonical texts, worked out by hand.
 
+use crate::tests::finds_for;
 use aud_lex::lex;
 use aud_parse::parse;
 use aud_syntax::print::print;
@@ -22,10 +23,10 @@ fn expect_canonical(
     source: &[u8],
     text: &[u8],
 ) -> Result<(), Fail> {
-    let printed = canonical(alloc, source)?;
-    assert_eq!(rt; printed.as_bytes(), text);
-    let again = canonical(alloc, printed.as_bytes())?;
-    assert_eq!(rt; again.as_bytes(), text);
+    for spelled in [source, text] {
+        let printed = canonical(alloc, spelled)?;
+        finds_for(rt, spelled, printed.as_bytes(), text);
+    }
     Ok(())
 }
 

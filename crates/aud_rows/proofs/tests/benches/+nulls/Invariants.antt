@@ -1,4 +1,3 @@
-use Rattle.std.proofs.Common.{ℕ}
 use Rattle.aud_rows.proofs.tests.benches.+nulls.Given as goal
 
 abbrev pub decreases-nulls : goal.decreases-nulls
