@@ -5,11 +5,13 @@ use Rattle.aud_text.specs.declared.raise.Raise.{Raise}
 use Rattle.aud_typed.specs.declared.program.Variable.{Variable}
 use Rattle.aud_typed.specs.Tree.{IntegerExpr, TextExpr, Stmt, declare, null, assign, put, Program}
 use Rattle.aud_meaning.specs.declared.state.Status.TheVariants.{Running, Completed}
-use Rattle.aud_meaning.specs.Configuration.{Item, Do, All, Configuration, Acting}
+use Rattle.aud_meaning.specs.Configuration.{Item, Do, Ends, All, Configuration, Acting}
 use Rattle.aud_meaning.specs.Step.{task_step}
 use Rattle.aud_meaning.specs.Run.{Move, moves, state_of, main_raised, step_with, run_with, supplied, advanced, opening}
 use Rattle.aud_code.specs.declared.code.Line.{Line}
+use Rattle.aud_meaning.specs.Coming.{coming}
 use Rattle.aud_code.specs.Next.{next}
+use Rattle.aud_code.specs.Coming as placed
 use Rattle.aud_gen.specs.Code.{program_code}
 use Rattle.aud_gen.specs.Shows.{Shows, ShowsAll, opening_code}
 
@@ -28,7 +30,9 @@ pub record IsNext (s : Stmt) (c : Acting (List Item)) : Type 0 where
 pub record IsAtEnd (c : Acting (List Item)) : Type 0 where
   pub running : c.own.status ≡ Running
   pub none_pending : c.own.pending ≡ None
-  pub left : c.control ≡ []
+  pub at : Pos
+  pub rest : List Item
+  pub left : c.control ≡ Ends at ∷ rest
 
 -- an exception is pending
 pub record IsPending (raise : Raise) (c : Acting (List Item)) : Type 0 where
@@ -82,6 +86,10 @@ RunLaw = (code : List Line) (n : ℕ) (m : All ℕ) (c : Configuration) → Show
 -- the enabled moves are the same
 abbrev pub MovesLaw : Type 0
 MovesLaw = (code : List Line) (m : All ℕ) (c : Configuration) → ShowsAll code m c → moves m ≡ moves c
+
+-- the same comes next of each task: the kind of its step, and the place in the text
+abbrev pub ComingLaw : Type 0
+ComingLaw = (code : List Line) (m : All ℕ) (c : Configuration) → ShowsAll code m c → placed.coming code m ≡ coming c
 
 abbrev pub StateLaw : Type 0
 StateLaw = (code : List Line) (m : All ℕ) (c : Configuration) → ShowsAll code m c → state_of m ≡ state_of c

@@ -5,7 +5,7 @@ use Rattle.aud_text.specs.declared.raise.Raise.{Raise}
 use Rattle.aud_typed.specs.Tree.{Stmt, sequence, declare, null, assign, put}
 use Rattle.aud_meaning.specs.declared.state.Status.{Status}
 use Rattle.aud_meaning.specs.declared.state.Status.TheVariants.{Running, Completed, Terminated}
-use Rattle.aud_meaning.specs.Configuration.{Own, Item, Do, TaskAt, All, Configuration, Acting}
+use Rattle.aud_meaning.specs.Configuration.{Own, Item, Do, Ends, TaskAt, All, Configuration, Acting}
 use Rattle.aud_meaning.specs.Run.{opening_with}
 use Rattle.aud_code.specs.declared.code.Line.{Line}
 use Rattle.aud_gen.specs.declared.around.Around.{Around}
@@ -18,7 +18,8 @@ pub record HasAt (code : List Line) (place : ℕ) (lines : List Line) : Type 0 w
 
 -- the code of the items follows at a place, within what surrounds it
 abbrev pub Stands : List Line → Around → ℕ → List Item → Type 0
-Stands code around place [] = (end : Pos) × (around ≡ in_body place) × HasAt code place (end_line place end ∷ [])
+Stands code around place [] = ⊥
+Stands code around place (Ends at ∷ rest) = (around ≡ in_body place) × HasAt code place (end_line place at ∷ [])
 Stands code around place (Do s ∷ rest) = (next : ℕ) × HasAt code place (stmt_code s place next around) × Stands code around next rest
 
 -- the statement is a step
@@ -33,25 +34,15 @@ IsStep (put at t) = Unit {0}
 abbrev pub IsSettled : List Item → Type 0
 IsSettled [] = Unit {0}
 IsSettled (Do s ∷ rest) = IsStep s
+IsSettled (Ends at ∷ rest) = Unit {0}
 
--- the line at a place says where the exceptions go that are pending within what surrounds it
-pub record HasWay (code : List Line) (around : Around) (place : ℕ) : Type 0 where
-  pub here : Line
-  pub is : slice_get code place ≡ Some here
-  pub goes : here.out ≡ around.out
-
--- the task is where its next step begins, or where the way of its pending exception is told
-abbrev pub IsHere : List Line → Around → ℕ → ℕ → Option Raise → List Item → Type 0
-IsHere code around place at None items = (at ≡ place) × IsSettled items
-IsHere code around place at (Some raise) items = HasWay code around place
-
--- a task that stands at a place has these items left
+-- a task that stands at a place has these items left, and its next step begins there; while an exception is pending, that is the
+-- step that raised it
 pub record IsPlaced (code : List Line) (place : ℕ) (own : Own) (items : List Item) : Type 0 where
   pub around : Around
-  pub at : ℕ
-  pub stands : Stands code around at items
+  pub stands : Stands code around place items
   pub frames : length own.display ≡ around.frames
-  pub here : IsHere code around place at own.pending items
+  pub settled : IsSettled items
 
 -- a terminated task does nothing any more, wherever it stands
 abbrev pub PlacedBy : Status → List Line → ℕ → Own → List Item → Type 0

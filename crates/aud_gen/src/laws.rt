@@ -2,7 +2,7 @@
 
 ghost use Rattle.std.specs.Prelude.{ℕ, List};
 ghost use Rattle.aud_meaning.specs.Configuration.{Item};
-ghost use Rattle.aud_gen.specs.Law.{DeclarationLaw, NullLaw, AssignmentLaw, PutLaw, CompletionLaw, PropagationLaw, ClosingLaw, StepLaw, MoveLaw, OpeningLaw, RunLaw, MovesLaw, StateLaw, RaisedLaw, SupplyLaw, AdvanceLaw, ClockLaw, CutLaw};
+ghost use Rattle.aud_gen.specs.Law.{DeclarationLaw, NullLaw, AssignmentLaw, PutLaw, CompletionLaw, PropagationLaw, ClosingLaw, StepLaw, MoveLaw, OpeningLaw, RunLaw, MovesLaw, ComingLaw, StateLaw, RaisedLaw, SupplyLaw, AdvanceLaw, ClockLaw, CutLaw};
 
 /// The code of a declaration evaluates its initial value and makes the variable (RM 3.3.1).
 pub fn declaration_law()
@@ -64,6 +64,11 @@ pub fn moves_law()
     ensures moves { MovesLaw }
     ensures state { StateLaw }
     ensures raised { RaisedLaw }
+{}
+
+/// What comes next of each task stands in the code as in the program: the kind of its step, and its place in the text.
+pub fn coming_law()
+    ensures { ComingLaw }
 {}
 
 /// Choices, and time on the clock, are supplied to the code as to the program (RM 9.6).

@@ -1,5 +1,6 @@
 -- A program under way: its tasks, what they share, and what the user has supplied (RM 9).
 use Rattle.std.specs.Prelude.{ℕ, ℤ, List, Option, Bool}
+use Rattle.aud_text.specs.declared.place.Pos.{Pos}
 use Rattle.aud_text.specs.declared.raise.Raise.{Raise}
 use Rattle.aud_meaning.specs.declared.state.Status.{Status}
 use Rattle.aud_typed.specs.Tree.{Stmt}
@@ -30,6 +31,8 @@ pub record Shared : Type 0 where
 pub data Item : Type 0 where
   -- a statement
   Do : Stmt → Item
+  -- the end of the body (RM 6.3(2))
+  Ends : Pos → Item
 
 -- a task; what is left to do for it is said at C: by statements, or by a place in code
 pub record TaskAt (C : Type 0) : Type 0 where

@@ -7,7 +7,7 @@ use Rattle.aud_meaning.specs.declared.state.Status.{Status}
 use Rattle.aud_meaning.specs.declared.state.Status.TheVariants.{Running, Completed, Terminated}
 use Rattle.aud_meaning.specs.declared.state.State.{State}
 use Rattle.aud_meaning.specs.declared.state.State.TheVariants as state
-use Rattle.aud_meaning.specs.Configuration.{Shared, TaskAt, All, Configuration, Acting}
+use Rattle.aud_meaning.specs.Configuration.{Ends, Shared, TaskAt, All, Configuration, Acting}
 use Rattle.aud_meaning.specs.Step.{entered, task_step}
 
 -- a move: the step of a task, and which alternative it picks where there are several
@@ -130,4 +130,4 @@ opening_with left = record {
 
 -- the configuration before the first step
 abbrev pub opening : Program → Configuration
-opening program = opening_with (entered program.body [])
+opening program = opening_with (entered program.body (Ends program.end ∷ []))

@@ -4,7 +4,7 @@ use Rattle.aud_text.specs.declared.raise.Raise.{Raise}
 use Rattle.aud_typed.specs.Tree.{Stmt, sequence, declare, null, assign, put}
 use Rattle.aud_meaning.specs.declared.state.Status.{Status}
 use Rattle.aud_meaning.specs.declared.state.Status.TheVariants.{Running, Completed, Terminated}
-use Rattle.aud_meaning.specs.Configuration.{Acting, Item, Do}
+use Rattle.aud_meaning.specs.Configuration.{Acting, Item, Do, Ends}
 use Rattle.aud_meaning.specs.Evaluation.{evaluated, text_of}
 use Rattle.aud_meaning.specs.Effects.{on_value, declares, assigns, puts, completes, closes}
 
@@ -20,6 +20,7 @@ entered (put at t) rest = Do (put at t) ∷ rest
 abbrev pub resumed : List Item → List Item
 resumed [] = []
 resumed (Do s ∷ rest) = entered s rest
+resumed (Ends at ∷ rest) = Ends at ∷ rest
 
 abbrev pub goes_on : List Item → Acting (List Item) → Acting (List Item)
 goes_on rest t = record t { control = resumed rest }
@@ -33,13 +34,21 @@ statement (put at e) rest t = on_value (text_of e t.own.display t.shared.frames)
 -- entered by no step
 statement (sequence a b) rest t = t
 
--- the step complete (RM 9.3(5)): nothing is left to do
+-- the end of the body, behind the statements that an exception leaves out (RM 11.4)
+abbrev pub at_end : List Item → List Item
+at_end [] = []
+at_end (Do s ∷ rest) = at_end rest
+at_end (Ends at ∷ rest) = Ends at ∷ rest
+
+-- the step complete (RM 9.3(5)): the task stands at the end of its body
 abbrev pub complete : Option Raise → Acting (List Item) → Acting (List Item)
-complete raised t = record (completes raised t) { control = [] }
+complete raised t = record (completes raised t) { control = at_end t.control }
 
 abbrev pub next_item : List Item → Acting (List Item) → Acting (List Item)
-next_item [] t = complete None t
+-- never met: a task has the end of its body left as long as it is not terminated
+next_item [] t = t
 next_item (Do s ∷ rest) t = statement s rest t
+next_item (Ends at ∷ rest) t = complete None t
 
 -- a pending exception leaves the leaving step of the innermost construct alone: here that of the body (RM 11.4)
 abbrev pub propagated : Option Raise → Acting (List Item) → Acting (List Item)

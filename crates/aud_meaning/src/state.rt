@@ -1,5 +1,7 @@
 // How far tasks and programs are.
 
+use aud_text::place::Pos;
+
 /// How far a task is (RM 9.1).
 #[derive(Clone, Copy, PartialEq, Eq, Debug)]
 pub enum Status {
@@ -20,6 +22,13 @@ pub enum State {
     More,
     /// Nothing can happen any more.
     Stuck,
+}
+
+/// What a task does next: the kind of the step, and where it stands in the text.
+#[derive(Clone, Copy, PartialEq, Eq, Debug)]
+pub struct NextStep {
+    pub kind: StepKind,
+    pub at: Pos,
 }
 
 /// The kinds of step, by the word that names each.

@@ -1,4 +1,5 @@
-// Typed programs. A list of statements is never empty.
+// Typed programs. Operators and statements that follow one another are lists, so that a program is as deep in memory as its
+// text is nested, however long it is.
 
 use aud_text::int32::Int32;
 use aud_text::name::Name;
@@ -32,11 +33,21 @@ pub enum Binary {
 
 /// An expression of type Integer.
 #[derive(Drop, Debug)]
+#[cycle(integer)]
 pub enum IntegerExpr {
     Number(Int32),
     Variable(Variable),
     Unary(Unary, Box<IntegerExpr>),
-    Binary(Binary, Box<IntegerExpr>, Box<IntegerExpr>),
+    /// An operand, and operations one after the other on what stands before them.
+    Chain(Box<IntegerExpr>, Vec<Operation>),
+}
+
+/// An operator and its right operand; the left one is all that stands before it in its chain.
+#[derive(Drop, Debug)]
+#[cycle(integer)]
+pub struct Operation {
+    pub op: Binary,
+    pub right: IntegerExpr,
 }
 
 /// A text, which is put out.
@@ -45,7 +56,8 @@ pub enum TextExpr {
     Literal(Text),
     /// Integer'Image of a value (RM 4.10).
     Image(IntegerExpr),
-    Join(Box<TextExpr>, Box<TextExpr>),
+    /// A text, and those that follow it.
+    Join(Box<TextExpr>, Vec<TextExpr>),
     /// What ends a line.
     NewLine,
 }
@@ -53,7 +65,6 @@ pub enum TextExpr {
 /// A statement, or the elaboration of one name of an object declaration, with the place of its first token.
 #[derive(Drop, Debug)]
 pub enum Stmt {
-    Sequence(Box<Stmt>, Box<Stmt>),
     /// The next variable of the innermost frame, and its initial value.
     Declare(Pos, IntegerExpr),
     Null(Pos),
@@ -67,8 +78,8 @@ pub struct Program {
     pub name: Name,
     /// The names of its variables, in the order of their declarations.
     pub variables: Vec<Name>,
-    /// Its declarations and statements.
-    pub body: Stmt,
+    /// Its declarations and statements, in their order; there is at least one.
+    pub body: Vec<Stmt>,
     /// Where the `end` of its body stands.
     pub end: Pos,
 }
