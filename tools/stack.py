@@ -1,0 +1,135 @@
+"""Loads and runs the largest source text of every shape by `aud --solo` on a stack of so many KiB.
+
+A text is long (one chain of operators, one list of statements or of names) or nested (parentheses at
+the limit of levels), or both. stack.sh calls it.
+"""
+import resource
+import subprocess
+import sys
+
+SOURCE = 32_768  # bytes of the largest source text
+LINE = 1_000  # bytes that are put on a line, which may have 1,024
+DEEP = 199  # parentheses that fit into the statements of a body at the limit of 200 levels
+
+
+def source(head, unit, tail, joint=""):
+    """As many of the same units as fit into a source text, the line feeds between them counted."""
+    text, line, count = head + "\n", "", 0
+    while True:
+        more = (joint if count else "") + unit(count)
+        if len(text) + len(line) + len(more) + len(tail) + 2 > SOURCE:
+            return text + line + "\n" + tail + "\n", count
+        if len(line) + len(more) > LINE:
+            text, line = text + line + "\n", ""
+        line, count = line + more, count + 1
+
+
+def wrapped(text):
+    """The text, cut into lines behind parentheses that open."""
+    lines, line = [], ""
+    for piece in text.replace("(", "(\n").split("\n"):
+        if len(line) + len(piece) > LINE:
+            lines, line = lines + [line], ""
+        line += piece
+    return "\n".join(lines + [line]) + "\n"
+
+
+def name(number):
+    letters = ""
+    for _ in range(3):
+        number, letter = divmod(number, 26)
+        letters = chr(ord("A") + letter) + letters
+    return "V" + letters
+
+
+def chain(operator, operand):
+    text, _ = source(
+        "procedure M is X:Integer:=1;begin X:=", lambda i: operand, ";end M;", operator
+    )
+    return text, 4
+
+
+def shapes():
+    """Names, source texts, and the steps of each, or the refusal."""
+    for operator in "+", "-", "*", " mod ":
+        yield f"one chain of {operator.strip()}", *chain(operator, "1")
+    yield "one chain of parenthesized operands", *chain("+", "(1)")
+    yield "one chain of signed groups", *chain("+", "(-1)")
+    text, _ = source("procedure M is begin Put_Line(", lambda i: '""', ");end M;", "&")
+    yield "one chain of texts", text, 3
+    text, _ = source("procedure M is begin Put_Line(", lambda i: "Integer'Image(1)", ");end M;", "&")
+    yield "one chain of images", text, 3
+    text, count = source("procedure M is begin", lambda i: "null;", "end M;")
+    yield "one list of null statements", text, count + 2
+    text, count = source("procedure M is X:Integer;begin", lambda i: "X:=1;", "end M;")
+    yield "one list of assignments", text, count + 3
+    text, count = source("procedure M is", name, ":Integer;begin null;end M;", ",")
+    yield "one list of names", text, count + 3
+    text, count = source("procedure M is", lambda i: name(i) + ":Integer;", "begin null;end M;")
+    yield "one list of declarations", text, count + 3
+    nest = "(" * DEEP + "1" + ")" * DEEP
+    yield "the deepest parentheses", wrapped(f"procedure M is X:Integer;begin X:={nest};end M;"), 4
+    text, count = source("procedure M is X:Integer;begin", lambda i: f"X:={nest};", "end M;")
+    yield "the deepest parentheses in each statement", text, count + 3
+    right = "(1+" * DEEP + "1" + ")" * DEEP
+    yield "operands nested to the right", wrapped(
+        f"procedure M is X:Integer;begin X:={right};end M;"
+    ), 4
+    left = "(" * DEEP + "1" + "+1)" * DEEP
+    yield "operands nested to the left", wrapped(
+        f"procedure M is X:Integer;begin X:={left};end M;"
+    ), 4
+    signs = "(-abs" * DEEP + " 1" + ")" * DEEP
+    yield "signs and operators at every level", wrapped(
+        f"procedure M is X:Integer;begin X:=-abs{signs};end M;"
+    ), 4
+    texts = "(" * (DEEP - 1) + '""' + '&"")' * (DEEP - 1)
+    yield "nested texts", wrapped(f"procedure M is begin Put_Line({texts});end M;"), 3
+    images = "Integer'Image(" * DEEP + "1" + ")" * DEEP
+    yield "attributes in one another", wrapped(
+        f"procedure M is X:Integer;begin X:={images};end M;"
+    ), "- E33"
+    yield "one parenthesis too many", wrapped(
+        f"procedure M is X:Integer;begin X:=({nest});end M;"
+    ), "- E23"
+    text, _ = source("procedure M is X:Integer;begin X:=", lambda i: "(", "")
+    yield "parentheses without an end", text, "- E23"
+
+
+def answered(program, text, size):
+    lines = text.count("\n")
+    said = f"LOAD {lines}\n{text}RUN 100000\nQUIT\n"
+    size *= 1_024
+    return subprocess.run(
+        [program, "--solo"],
+        input=said.encode(),
+        capture_output=True,
+        preexec_fn=lambda: resource.setrlimit(resource.RLIMIT_STACK, (size, size)),
+        timeout=60,
+        check=False,
+    )
+
+
+def is_right(answer, result):
+    """Loaded, and ended after so many steps; or refused by this code."""
+    if isinstance(result, int):
+        return answer == f"+ 1\nloaded M\n+ 1\nran {result} ended\n+ 0\n"
+    return answer.startswith(result)
+
+
+def main(program, size):
+    failed = 0
+    for shape, text, result in shapes():
+        assert len(text) <= SOURCE and max(map(len, text.split("\n"))) < 1_024, shape
+        done = answered(program, text, size)
+        good = done.returncode == 0 and is_right(done.stdout.decode(), result)
+        failed += not good
+        print(f"{'good' if good else 'BAD '}  {len(text):6} bytes  {shape}")
+        if not good:
+            print(f"      status {done.returncode}: {done.stdout[:120]!r}")
+    print(f"{failed} of the shapes failed" if failed else f"every shape is answered on {size} KiB")
+    return 1 if failed else 0
+
+
+if __name__ == "__main__":
+    sys.exit(main(sys.argv[1], int(sys.argv[2])))
