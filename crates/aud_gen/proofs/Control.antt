@@ -4,60 +4,39 @@ use Rattle.aud_text.specs.declared.raise.Raise.{Raise}
 use Rattle.aud_typed.specs.Tree.{Stmt, sequence, declare, null, assign, put}
 use Rattle.aud_meaning.specs.declared.state.Status.{Status}
 use Rattle.aud_meaning.specs.declared.state.Status.TheVariants.{Running, Completed, Terminated}
-use Rattle.aud_meaning.specs.Configuration.{Own, Item, Do, Acting}
-use Rattle.aud_meaning.specs.Effects.{on_value}
+use Rattle.aud_meaning.specs.Configuration.{Own, Item, Do, Ends, Acting}
+use Rattle.aud_meaning.specs.Effects.{raises, on_value}
 use Rattle.aud_meaning.specs.Step.{entered, resumed, goes_on, statement, next_item, propagated, task_step_by, task_step}
 use Rattle.aud_code.specs.declared.code.Line.{Line}
 use Rattle.aud_code.specs.Eval.{Ended, on_result, eval}
 use Rattle.aud_code.specs.Next.{after_eval, next_pending, next_by, next}
 use Rattle.aud_gen.specs.declared.around.Around.{Around}
-use Rattle.aud_gen.specs.Code.{stmt_size, stmt_code, in_body, end_line}
-use Rattle.aud_gen.specs.Shows.{HasAt, Stands, IsSettled, HasWay, IsHere, IsPlaced, PlacedBy, Shows}
+use Rattle.aud_gen.specs.Code.{stmt_size, stmt_code}
+use Rattle.aud_gen.specs.Shows.{HasAt, Stands, IsPlaced, PlacedBy, Shows}
 use Rattle.aud_gen.specs.Law.{IsNext}
-use Rattle.aud_gen.proofs.Places.{has_front, has_back, length-stmt, line_at, Begins, begins_line, begins_stmt}
+use Rattle.aud_gen.proofs.Places.{has_front, has_back, length-stmt}
 
 -- the task of the program, at a place of the code
 abbrev pub code_of : ℕ → Acting (List Item) → Acting ℕ
 code_of place c = record { control = place; own = c.own; shared = c.shared }
 
 module _ (code : List Line) where
-  -- items that stand at a place, the next being a step, with n frames open
-  pub record Settled (n place : ℕ) (items : List Item) : Type 0 where
-    pub around : Around
-    pub stands : Stands code around place items
-    pub frames : n ≡ around.frames
-    pub settled : IsSettled items
-
   -- a statement is entered without a step
-  pub enters : (s : Stmt) (n : ℕ) (around : Around) (place next : ℕ) (rest : List Item) → n ≡ around.frames → HasAt code place (stmt_code s place next around) → Stands code around next rest → Settled n place (entered s rest)
-  enters (sequence a b) n around place next rest e has st =
+  pub enters : (s : Stmt) (own : Own) (around : Around) (place next : ℕ) (rest : List Item) → length own.display ≡ around.frames → HasAt code place (stmt_code s place next around) → Stands code around next rest → IsPlaced code place own (entered s rest)
+  enters (sequence a b) own around place next rest e has st =
       let mid = place + stmt_size a in
       let ca = stmt_code a place mid around in
       let cb = stmt_code b mid next around in
-      enters a n around place mid (Do b ∷ rest) e (has_front code place ca cb has) (next, has_back code place (stmt_size a) ca cb (length-stmt a place mid around) has, st)
-  enters (declare at x) n around place next rest e has st = record { around = around; stands = (next, has, st); frames = e; settled = tt }
-  enters (null at) n around place next rest e has st = record { around = around; stands = (next, has, st); frames = e; settled = tt }
-  enters (assign at v x) n around place next rest e has st = record { around = around; stands = (next, has, st); frames = e; settled = tt }
-  enters (put at t) n around place next rest e has st = record { around = around; stands = (next, has, st); frames = e; settled = tt }
+      enters a own around place mid (Do b ∷ rest) e (has_front code place ca cb has) (next, has_back code place (stmt_size a) ca cb (length-stmt a place mid around) has, st)
+  enters (declare at x) own around place next rest e has st = record { around = around; stands = (next, has, st); frames = e; settled = tt }
+  enters (null at) own around place next rest e has st = record { around = around; stands = (next, has, st); frames = e; settled = tt }
+  enters (assign at v x) own around place next rest e has st = record { around = around; stands = (next, has, st); frames = e; settled = tt }
+  enters (put at t) own around place next rest e has st = record { around = around; stands = (next, has, st); frames = e; settled = tt }
 
-  pub resumes : (items : List Item) (n : ℕ) (around : Around) (place : ℕ) → n ≡ around.frames → Stands code around place items → Settled n place (resumed items)
-  resumes [] n around place e st = record { around = around; stands = st; frames = e; settled = tt }
-  resumes (Do s ∷ rest) n around place e st = enters s n around place st.0 rest e st.1 st.2
-
-  -- the first line of what is next tells the way of an exception
-  way_of : (around : Around) (place : ℕ) (lines : List Line) → HasAt code place lines → Begins lines around 0 → HasWay code around place
-  way_of around place lines has b =
-      record { here = b.head; is = line_at code place b.head (b.tail ++ has.rest) (has.is ∙ ap (λ x. x ++ has.rest) b.is); goes = b.goes }
-
-  pub has_way : (items : List Item) (around : Around) (place : ℕ) → Stands code around place items → HasWay code around place
-  has_way [] around place st =
-      let w = way_of (in_body place) place (end_line place st.0 ∷ []) st.2 (begins_line _ 0 _ []) in
-      record { here = w.here; is = w.is; goes = w.goes ∙ ap (λ x. x.out) (sym st.1) }
-  has_way (Do s ∷ rest) around place st = way_of around place (stmt_code s place st.0 around) st.1 (begins_stmt s place st.0 around)
-
-  here_by : (pending : Option Raise) (items : List Item) (around : Around) (place : ℕ) → Stands code around place items → IsSettled items → IsHere code around place place pending items
-  here_by None items around place st is = (refl, is)
-  here_by (Some raise) items around place st is = has_way items around place st
+  resumes : (items : List Item) (own : Own) (around : Around) (place : ℕ) → length own.display ≡ around.frames → Stands code around place items → IsPlaced code place own (resumed items)
+  resumes [] own around place e st = absurd st
+  resumes (Do s ∷ rest) own around place e st = enters s own around place st.0 rest e st.1 st.2
+  resumes (Ends at ∷ rest) own around place e st = record { around = around; stands = st; frames = e; settled = tt }
 
   placed_by : (status : Status) (place : ℕ) (own : Own) (items : List Item) → IsPlaced code place own items → PlacedBy status code place own items
   placed_by Running place own items h = h
@@ -65,20 +44,11 @@ module _ (code : List Line) where
   placed_by Terminated place own items h = tt
 
   -- a task that stands where its next step begins
-  pub shown : (c : Acting (List Item)) (around : Around) (place : ℕ) → Stands code around place c.control → length c.own.display ≡ around.frames → IsSettled c.control → Shows code (code_of place c) c
-  shown c around place st e is =
-      record {
-        task = record {
-          own = refl;
-          placed = placed_by c.own.status place c.own c.control (record { around = around; at = place; stands = st; frames = e; here = here_by c.own.pending c.control around place st is });
-        };
-        shared = refl;
-      }
+  pub shown : (c : Acting (List Item)) (place : ℕ) → IsPlaced code place c.own c.control → Shows code (code_of place c) c
+  shown c place h = record { task = record { own = refl; placed = placed_by c.own.status place c.own c.control h }; shared = refl }
 
   pub shows_on : (c : Acting (List Item)) (around : Around) (next : ℕ) (rest : List Item) → length c.own.display ≡ around.frames → Stands code around next rest → Shows code (code_of next c) (goes_on rest c)
-  shows_on c around next rest e st =
-      let p = resumes rest (length c.own.display) around next e st in
-      shown (goes_on rest c) p.around next p.stands p.frames p.settled
+  shows_on c around next rest e st = shown (goes_on rest c) next (resumes rest c.own around next e st)
 
   -- where a task stands whose next step is a statement
   pub record At (c : Acting (List Item)) (place : ℕ) (s : Stmt) (rest : List Item) : Type 0 where
@@ -88,13 +58,14 @@ module _ (code : List Line) where
     pub has : HasAt code place (stmt_code s place next around)
     pub stands : Stands code around next rest
     -- for an exception, after which all is left to do
-    pub whole : Stands code around place c.control
-    pub settled : IsSettled c.control
+    pub whole : IsPlaced code place c.own c.control
 
   -- with the value, or by an exception
   pub shows_value : {A : Type 0} (c : Acting (List Item)) (place : ℕ) (s : Stmt) (rest : List Item) (o : Result A Raise) (f : A → Ended) (go : A → Acting (List Item)) → At c place s rest → ((value : A) → Shows code (after_eval (f value) (code_of place c)) (go value)) → Shows code (after_eval (on_result (λ e. e) o f) (code_of place c)) (on_value o c go)
   shows_value c place s rest (Ok value) f go at r = r value
-  shows_value c place s rest (Err raise) f go at r = shown (record c { own = record c.own { pending = Some raise } }) at.around place at.whole at.frames at.settled
+  shows_value c place s rest (Err raise) f go at r =
+      let w = at.whole in
+      shown (raises raise c) place (record { around = w.around; stands = w.stands; frames = w.frames; settled = w.settled })
 
   -- what the code does, under the equation that says how the evaluation ends
   pub by_end : (m : Acting ℕ) (c : Acting (List Item)) (e f : Ended) → e ≡ f → Shows code (after_eval f m) c → Shows code (after_eval e m) c
@@ -105,24 +76,12 @@ module _ (code : List Line) where
       let with_own : m ≡ record { control = m.control; own = c.own; shared = m.shared } = ap (λ own. record m { own = own }) h.task.own in
       with_own ∙ ap (λ shared. code_of m.control (record c { shared = shared })) h.shared
 
-  pub placed_running : (status : Status) (place : ℕ) (own : Own) (items : List Item) → status ≡ Running → PlacedBy status code place own items → IsPlaced code place own items
+  placed_running : (status : Status) (place : ℕ) (own : Own) (items : List Item) → status ≡ Running → PlacedBy status code place own items → IsPlaced code place own items
   placed_running status place own items e h = subst (λ s. PlacedBy s code place own items) e h
 
-  here_none : (pending : Option Raise) (around : Around) (place at : ℕ) (items : List Item) → pending ≡ None → IsHere code around place at pending items → (at ≡ place) × IsSettled items
-  here_none pending around place at items e h = subst (λ p. IsHere code around place at p items) e h
-
-  -- a task with nothing pending stands where its next step begins
-  pub record AtStep (c : Acting (List Item)) (place : ℕ) : Type 0 where
-    pub around : Around
-    pub frames : length c.own.display ≡ around.frames
-    pub stands : Stands code around place c.control
-    pub settled : IsSettled c.control
-
-  pub at_step : (m : Acting ℕ) (c : Acting (List Item)) → c.own.status ≡ Running → c.own.pending ≡ None → Shows code m c → AtStep c m.control
-  at_step m c running none_pending h =
-      let p = placed_running c.own.status m.control c.own c.control running h.task.placed in
-      let here = here_none c.own.pending p.around m.control p.at c.control none_pending p.here in
-      record { around = p.around; frames = p.frames; stands = subst (λ x. Stands code p.around x c.control) here.0 p.stands; settled = here.1 }
+  -- a running task stands where its next step begins
+  pub is_placed : (m : Acting ℕ) (c : Acting (List Item)) → c.own.status ≡ Running → Shows code m c → IsPlaced code m.control c.own c.control
+  is_placed m c running h = placed_running c.own.status m.control c.own c.control running h.task.placed
 
   -- the steps of both, with nothing pending
   next_evaluates : (m : Acting ℕ) → m.own.status ≡ Running → m.own.pending ≡ None → next code m ≡ after_eval (eval m.own.display m.shared.frames (drop m.control code) [] []) m
@@ -140,8 +99,8 @@ module _ (code : List Line) where
   -- the law of a statement, from where it stands
   pub by_statement : (s : Stmt) (m : Acting ℕ) (c : Acting (List Item)) (is : IsNext s c) → Shows code m c → (At c m.control s is.rest → Shows code (after_eval (eval c.own.display c.shared.frames (drop m.control code) [] []) (code_of m.control c)) (statement s is.rest c)) → Shows code (next code m) (task_step c)
   by_statement s m c is h law =
-      let a = at_step m c is.running is.none_pending h in
+      let a = is_placed m c is.running h in
       let st : Stands code a.around m.control (Do s ∷ is.rest) = subst (λ items. Stands code a.around m.control items) is.left a.stands in
-      let at : At c m.control s is.rest = record { around = a.around; frames = a.frames; next = st.0; has = st.1; stands = st.2; whole = a.stands; settled = a.settled } in
+      let at : At c m.control s is.rest = record { around = a.around; frames = a.frames; next = st.0; has = st.1; stands = st.2; whole = a } in
       let same : next_item c.control c ≡ statement s is.rest c = ap (λ items. next_item items c) is.left in
       by_items m c is.running is.none_pending h (subst (λ d. Shows code (after_eval (eval c.own.display c.shared.frames (drop m.control code) [] []) (code_of m.control c)) d) (sym same) (law at))

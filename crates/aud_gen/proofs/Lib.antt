@@ -1,5 +1,7 @@
+pub mod Loops
 pub mod Places
 pub mod Evals
+pub mod Told
 pub mod Control
 pub mod Starts
 pub mod Declaring

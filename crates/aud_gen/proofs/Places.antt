@@ -4,12 +4,13 @@ use Rattle.std.specs.Prelude.{slice_get}
 use Rattle.std.proofs.lemmas.List.{drop-drop, drop_at, get_or-drop}
 use Rattle.std.proofs.lemmas.Option.{slice_get-get_or}
 use Rattle.aud_typed.specs.Tree.{IntegerExpr, number, variable, unary, binary, TextExpr, literal, image, join, new_line, Stmt, sequence, declare, null, assign, put}
+use Rattle.aud_meaning.specs.Coming as meaning
 use Rattle.aud_code.specs.declared.code.Instr.{Instr}
 use Rattle.aud_code.specs.declared.code.Instr.TheVariants.{Unary, Binary, AppendImage}
 use Rattle.aud_code.specs.declared.code.Line.{Line}
 use Rattle.aud_gen.specs.declared.around.Around.{Around}
 use Rattle.aud_gen.specs.declared.around.Step.{Step}
-use Rattle.aud_gen.specs.Code.{integer_size, text_size, stmt_size, line, integer_code, text_code, stmt_code}
+use Rattle.aud_gen.specs.Code.{integer_size, text_size, stmt_size, line, integer_code, text_code, step_of, stmt_code}
 use Rattle.aud_gen.specs.Shows.{HasAt}
 
 pub has_front : (code : List Line) (place : ℕ) (a b : List Line) → HasAt code place (a ++ b) → HasAt code place a
@@ -58,36 +59,41 @@ line_at code place l ls e =
     let zero_more : place + 0 ≡ place = omega arith in
     slice_get-get_or code place l within ∙ ap Some (ap (λ i. get_or code i l) (sym zero_more) ∙ sym (get_or-drop place code 0 l) ∙ here)
 
--- the code of each part has a first line, with what surrounds it and so many Integers
-pub record Begins (lines : List Line) (around : Around) (ints : ℕ) : Type 0 where
-  pub head : Line
+-- the code of each part has a first line, which belongs to a step and finds so many Integers
+pub record Begins (lines : List Line) (step : Step) (ints : ℕ) : Type 0 where
+  pub instr : Instr
   pub tail : List Line
-  pub is : lines ≡ head ∷ tail
-  pub goes : head.out ≡ around.out
-  pub ints_are : head.ints ≡ ints
-  pub frames_are : head.frames ≡ around.frames
+  pub is : lines ≡ line step ints instr ∷ tail
 
-pub begins_line : (step : Step) (ints : ℕ) (instr : Instr) (lines : List Line) → Begins (line step ints instr ∷ lines) step.around ints
-begins_line step ints instr lines = record { head = line step ints instr; tail = lines; is = refl; goes = refl; ints_are = refl; frames_are = refl }
+-- that line stands where the code does
+pub begun : (code : List Line) (place : ℕ) (lines : List Line) (step : Step) (ints : ℕ) → HasAt code place lines → (b : Begins lines step ints) → slice_get code place ≡ Some (line step ints b.instr)
+begun code place lines step ints has b = line_at code place (line step ints b.instr) (b.tail ++ has.rest) (has.is ∙ ap (λ x. x ++ has.rest) b.is)
 
-pub begins_more : (a b : List Line) (around : Around) (ints : ℕ) → Begins a around ints → Begins (a ++ b) around ints
-begins_more a b around ints h = record { head = h.head; tail = h.tail ++ b; is = ap (λ x. x ++ b) h.is; goes = h.goes; ints_are = h.ints_are; frames_are = h.frames_are }
+pub begins_line : (step : Step) (ints : ℕ) (instr : Instr) (lines : List Line) → Begins (line step ints instr ∷ lines) step ints
+begins_line step ints instr lines = record { instr = instr; tail = lines; is = refl }
 
-pub begins_integer : (e : IntegerExpr) (step : Step) (ints : ℕ) → Begins (integer_code e step ints) step.around ints
+pub begins_more : (a b : List Line) (step : Step) (ints : ℕ) → Begins a step ints → Begins (a ++ b) step ints
+begins_more a b step ints h = record { instr = h.instr; tail = h.tail ++ b; is = ap (λ x. x ++ b) h.is }
+
+pub begins_integer : (e : IntegerExpr) (step : Step) (ints : ℕ) → Begins (integer_code e step ints) step ints
 begins_integer (number value) step ints = begins_line step ints _ []
 begins_integer (variable v) step ints = begins_line step ints _ []
-begins_integer (unary op x) step ints = begins_more _ _ step.around ints (begins_integer x step ints)
-begins_integer (binary op x y) step ints = begins_more _ _ step.around ints (begins_integer x step ints)
+begins_integer (unary op x) step ints = begins_more _ _ step ints (begins_integer x step ints)
+begins_integer (binary op x y) step ints = begins_more _ _ step ints (begins_integer x step ints)
 
-pub begins_text : (t : TextExpr) (step : Step) → Begins (text_code t step) step.around 0
+pub begins_text : (t : TextExpr) (step : Step) → Begins (text_code t step) step 0
 begins_text (literal text) step = begins_line step 0 _ []
-begins_text (image e) step = begins_more _ _ step.around 0 (begins_integer e step 0)
-begins_text (join x y) step = begins_more _ _ step.around 0 (begins_text x step)
+begins_text (image e) step = begins_more _ _ step 0 (begins_integer e step 0)
+begins_text (join x y) step = begins_more _ _ step 0 (begins_text x step)
 begins_text new_line step = begins_line step 0 _ []
 
-pub begins_stmt : (s : Stmt) (at next : ℕ) (around : Around) → Begins (stmt_code s at next around) around 0
-begins_stmt (sequence a b) at next around = begins_more _ _ around 0 (begins_stmt a at (at + stmt_size a) around)
-begins_stmt (declare pos e) at next around = begins_more _ _ around 0 (begins_integer e _ 0)
-begins_stmt (null pos) at next around = begins_line _ 0 _ []
-begins_stmt (assign pos v e) at next around = begins_more _ _ around 0 (begins_integer e _ 0)
-begins_stmt (put pos t) at next around = begins_more _ _ around 0 (begins_text t _)
+-- the step that a statement begins with
+abbrev pub step_in : Around → Stmt → Step
+step_in around s = step_of around (meaning.step_of s).kind (meaning.step_of s).at
+
+pub begins_stmt : (s : Stmt) (at next : ℕ) (around : Around) → Begins (stmt_code s at next around) (step_in around s) 0
+begins_stmt (sequence a b) at next around = begins_more _ _ (step_in around a) 0 (begins_stmt a at (at + stmt_size a) around)
+begins_stmt (declare pos e) at next around = begins_more _ _ (step_in around (declare pos e)) 0 (begins_integer e (step_in around (declare pos e)) 0)
+begins_stmt (null pos) at next around = begins_line (step_in around (null pos)) 0 _ []
+begins_stmt (assign pos v e) at next around = begins_more _ _ (step_in around (assign pos v e)) 0 (begins_integer e (step_in around (assign pos v e)) 0)
+begins_stmt (put pos t) at next around = begins_more _ _ (step_in around (put pos t)) 0 (begins_text t (step_in around (put pos t)))

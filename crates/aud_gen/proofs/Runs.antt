@@ -1,15 +1,21 @@
 -- The laws of several tasks and of runs.
 use Rattle.std.proofs.Common.{◌≡◌, ℕ, zero, suc, ◌+◌, List, [], ◌∷◌, ◌++◌, Option, Some, None, refl, sym, ap, ◌∙◌, subst, arith, append-nil}
-use Rattle.std.specs.Prelude.{slice_get, slice_set, if◌then◌else◌}
-use Rattle.aud_meaning.specs.Configuration.{Item, TaskAt, All, Configuration, Acting}
+use Rattle.std.specs.Prelude.{slice_get, slice_set, map, option_map, if◌then◌else◌}
+use Rattle.aud_meaning.specs.declared.state.Status.{Status}
+use Rattle.aud_meaning.specs.declared.state.Status.TheVariants.{Running, Completed, Terminated}
+use Rattle.aud_meaning.specs.declared.state.NextStep.{NextStep}
+use Rattle.aud_meaning.specs.Configuration.{Own, Item, Ends, TaskAt, All, Configuration, Acting}
+use Rattle.aud_meaning.specs.Coming.{first_step, next_by, coming_of}
 use Rattle.aud_meaning.specs.Step.{task_step}
 use Rattle.aud_meaning.specs.Run.{Move, moves_by, moves_from, is_terminated, has_ended, moves, main_raised, acting, step_of, step_with, pick, take_picked, run_by, run_with, opening}
 use Rattle.aud_code.specs.declared.code.Line.{Line}
 use Rattle.aud_code.specs.Next.{next}
+use Rattle.aud_code.specs.Coming.{written, step_at}
 use Rattle.aud_gen.specs.Code.{stmt_size, stmt_code, in_body, end_line, program_code}
-use Rattle.aud_gen.specs.Shows.{HasAt, ShowsTask, ShowsTasks, ShowsAll}
-use Rattle.aud_gen.specs.Law.{MoveLaw, OpeningLaw, RunLaw, MovesLaw, SupplyLaw, AdvanceLaw}
+use Rattle.aud_gen.specs.Shows.{HasAt, IsPlaced, PlacedBy, ShowsTask, ShowsTasks, ShowsAll}
+use Rattle.aud_gen.specs.Law.{MoveLaw, OpeningLaw, RunLaw, MovesLaw, ComingLaw, SupplyLaw, AdvanceLaw}
 use Rattle.aud_gen.proofs.Places.{has_front, has_back, length-stmt}
+use Rattle.aud_gen.proofs.Told.{told}
 use Rattle.aud_gen.proofs.Control.{enters}
 use Rattle.aud_gen.proofs.Steps.{step_law}
 
@@ -63,6 +69,31 @@ module _ (code : List Line) where
   same_raised (m ∷ ms) [] h = absurd h
   same_raised (m ∷ ms) (c ∷ cs) h = ap (λ own. own.raised) h.0.own
 
+  -- the line at the place of a task tells what comes next of it
+  comes_placed : (place : ℕ) (own : Own) (items : List Item) → IsPlaced code place own items → coming_of own (step_at code place) ≡ coming_of own (first_step items)
+  comes_placed place own items p =
+      let w = told code items p.around place p.stands in
+      ap (coming_of own) (ap (option_map written) w.is ∙ w.tells)
+
+  -- of a terminated task nothing does, whatever stands at its place
+  none_comes : (own : Own) (here : Option NextStep) → own.status ≡ Terminated → coming_of own here ≡ None
+  none_comes own None e = refl
+  none_comes own (Some here) e = ap (λ s. next_by s own.pending here) e
+
+  comes : (status : Status) (place : ℕ) (own : Own) (items : List Item) → own.status ≡ status → PlacedBy status code place own items → coming_of own (step_at code place) ≡ coming_of own (first_step items)
+  comes Running place own items e p = comes_placed place own items p
+  comes Completed place own items e p = comes_placed place own items p
+  comes Terminated place own items e p = none_comes own (step_at code place) e ∙ sym (none_comes own (first_step items) e)
+
+  same_coming : (ms : List (TaskAt ℕ)) (cs : List (TaskAt (List Item))) → ShowsTasks code ms cs → map (λ t. coming_of t.own (step_at code t.control)) ms ≡ map (λ t. coming_of t.own (first_step t.control)) cs
+  same_coming [] [] h = refl
+  same_coming [] (c ∷ cs) h = absurd h
+  same_coming (m ∷ ms) [] h = absurd h
+  same_coming (m ∷ ms) (c ∷ cs) h =
+      ap (λ own. coming_of own (step_at code m.control) ∷ map (λ t. coming_of t.own (step_at code t.control)) ms) h.0.own
+      ∙ ap (λ x. x ∷ map (λ t. coming_of t.own (step_at code t.control)) ms) (comes c.own.status m.control c.own c.control refl h.0.placed)
+      ∙ ap (λ xs. coming_of c.own (first_step c.control) ∷ xs) (same_coming ms cs h.1)
+
 pub move_law : MoveLaw
 move_law code m c move h = moved code move.task m c (slice_get m.tasks move.task) (slice_get c.tasks move.task) h (both_at code move.task m.tasks c.tasks h.tasks)
 
@@ -71,6 +102,9 @@ moves_law code m c h =
     ap (λ b. if b then [] else if m.shared.cut then [] else moves_from 0 m.tasks) (same_end code m.tasks c.tasks h.tasks)
     ∙ ap (λ s. if has_ended c.tasks then [] else if s.cut then [] else moves_from 0 m.tasks) h.shared
     ∙ ap (λ l. if has_ended c.tasks then [] else if c.shared.cut then [] else l) (same_moves code 0 m.tasks c.tasks h.tasks)
+
+pub coming_law : ComingLaw
+coming_law code m c h = same_coming code m.tasks c.tasks h.tasks
 
 pub run_law : RunLaw
 run_law code zero m c h = h
@@ -108,10 +142,9 @@ opening_law program =
     let whole : HasAt code 0 (main ++ end) = record { rest = []; is = sym (append-nil code) } in
     let zero_n : 0 + n ≡ n = omega arith in
     let has_end = subst (λ p. HasAt code p end) zero_n (has_back code 0 n main end (length-stmt body 0 n around) whole) in
-    let p = enters code body 1 around 0 n [] refl (has_front code 0 main end whole) (program.end, refl, has_end) in
-    let c = opening program in
+    let own : Own = record { pending = None; status = Running; display = 0 ∷ []; raised = None } in
     record {
-      tasks = (record { own = refl; placed = record { around = p.around; at = 0; stands = p.stands; frames = p.frames; here = (refl, p.settled) } }, tt);
+      tasks = (record { own = refl; placed = enters code body own around 0 n (Ends program.end ∷ []) refl (has_front code 0 main end whole) (refl, has_end) }, tt);
       shared = refl;
       choices = refl;
       clock = refl;

@@ -1,8 +1,9 @@
--- The code of a program whose variables name open frames is sound.
-use Rattle.std.proofs.Common.{◌≡◌, ℕ, zero, suc, ◌+◌, ◌-◌, ◌≤◌, List, [], ◌∷◌, ◌++◌, length, Some, refl, sym, ap, ◌∙◌, subst, arith, append-nil}
-use Rattle.std.specs.Prelude.{slice_get}
+-- The code of a program is sound: a variable that has been elaborated is in an open frame.
+use Rattle.std.proofs.Common.{◌≡◌, ℕ, zero, suc, ◌+◌, ◌-◌, ◌<◌, ◌≤◌, List, [], ◌∷◌, ◌++◌, length, Some, refl, sym, ap, ◌∙◌, subst, arith, append-nil}
+use Rattle.std.specs.Prelude.{slice_get, slice_index}
+use Rattle.aud_typed.specs.declared.program.Variable.{Variable}
 use Rattle.aud_typed.specs.Tree.{IntegerExpr, number, variable, unary, binary, TextExpr, literal, image, join, new_line, Stmt, sequence, declare, null, assign, put, Program}
-use Rattle.aud_typed.specs.Scoped.{IntegerScoped, TextScoped, StmtScoped, IsScoped}
+use Rattle.aud_typed.specs.Scoped.{Scope, IsElaborated, IntegerScoped, TextScoped, elaborated, scope_after, StmtScoped, IsScoped}
 use Rattle.aud_meaning.specs.declared.state.StepKind.TheVariants as kind
 use Rattle.aud_code.specs.declared.code.Instr.{Instr}
 use Rattle.aud_code.specs.declared.code.Instr.TheVariants.{Unary, Binary, AppendImage, End}
@@ -13,7 +14,26 @@ use Rattle.aud_gen.specs.declared.around.Around.{Around}
 use Rattle.aud_gen.specs.declared.around.Step.{Step}
 use Rattle.aud_gen.specs.Code.{integer_size, text_size, stmt_size, line, integer_code, text_code, step_of, stmt_code, in_body, end_line, program_code}
 use Rattle.aud_gen.specs.Shows.{HasAt}
-use Rattle.aud_gen.proofs.Places.{has_front, has_back, length-integer, length-text, length-stmt, line_at, Begins, begins_line, begins_more, begins_integer, begins_text, begins_stmt}
+use Rattle.aud_gen.proofs.Places.{has_front, has_back, length-integer, length-text, length-stmt, Begins, begun, begins_line, begins_more, begins_integer, begins_text, step_in, begins_stmt}
+
+-- a frame of which variables are elaborated is open
+frame_open : (scope : Scope) (level n : ℕ) → n < slice_index scope level → level < length scope
+frame_open [] level n h = absurd (omega (arith, h))
+frame_open (count ∷ scope) zero n h = omega arith
+frame_open (count ∷ scope) (suc level) n h = omega (arith, frame_open scope level n h)
+
+length-elaborated : (scope : Scope) → length (elaborated scope) ≡ length scope
+length-elaborated [] = refl
+length-elaborated (n ∷ []) = refl
+length-elaborated (n ∷ k ∷ scope) = ap suc (length-elaborated (k ∷ scope))
+
+-- no statement opens a frame
+length-after : (s : Stmt) (scope : Scope) → length (scope_after s scope) ≡ length scope
+length-after (sequence a b) scope = length-after b (scope_after a scope) ∙ length-after a scope
+length-after (declare at e) scope = length-elaborated scope
+length-after (null at) scope = refl
+length-after (assign at v e) scope = refl
+length-after (put at t) scope = refl
 
 module _ (code : List Line) where
   -- each of the lines is fine, from a place on
@@ -40,14 +60,13 @@ module _ (code : List Line) where
       subst (λ p. IsFine code p l) z (fine_each ls (place + 1) i l h.1 e)
 
   -- where code begins, it is led to
-  leads_to : (lines : List Line) (around : Around) (ints place : ℕ) → HasAt code place lines → Begins lines around ints → Leads code place ints around.frames
-  leads_to lines around ints place has h =
-      record { here = h.head; is = line_at code place h.head (h.tail ++ has.rest) (has.is ∙ ap (λ x. x ++ has.rest) h.is); ints_are = h.ints_are; frames_are = h.frames_are }
+  leads_to : (lines : List Line) (step : Step) (ints place : ℕ) → HasAt code place lines → Begins lines step ints → Leads code place ints step.around.frames
+  leads_to lines step ints place has h = record { here = line step ints h.instr; is = begun code place lines step ints has h; ints_are = refl; frames_are = refl }
 
   moved : (p q i j frames : ℕ) → p ≡ q → i ≡ j → Leads code p i frames → Leads code q j frames
   moved p q i j frames e g h = subst (λ x. Leads code q x frames) g (subst (λ x. Leads code x i frames) e h)
 
-  module _ (step : Step) (out : Goes code step.around.out step.around.frames) where
+  module _ (step : Step) (out : Goes code step.around.out step.around.frames) (scope : Scope) (counted : length scope ≡ step.around.frames) where
     one_fine : (place ints : ℕ) (instr : Instr) → InstrFine code place instr ints step.around.frames → AllFine place (line step ints instr ∷ [])
     one_fine place ints instr fine = (record { instr_fine = fine; out_fine = out }, tt)
 
@@ -57,11 +76,14 @@ module _ (code : List Line) where
 
     line_led : (a : List Line) (n place ints : ℕ) (instr : Instr) → length a ≡ n → HasAt code place (a ++ line step ints instr ∷ []) → Leads code (place + n) ints step.around.frames
     line_led a n place ints instr e has =
-        leads_to (line step ints instr ∷ []) step.around ints (place + n) (has_back code place n a (line step ints instr ∷ []) e has) (begins_line step ints instr [])
+        leads_to (line step ints instr ∷ []) step ints (place + n) (has_back code place n a (line step ints instr ∷ []) e has) (begins_line step ints instr [])
 
-    fine_integer : (e : IntegerExpr) (ints place : ℕ) → IntegerScoped e step.around.frames → HasAt code place (integer_code e step ints) → Leads code (place + integer_size e) (ints + 1) step.around.frames → AllFine place (integer_code e step ints)
+    is_open : (v : Variable) → IsElaborated v scope → v.level < step.around.frames
+    is_open v h = omega (arith, counted, frame_open scope v.level v.index h)
+
+    fine_integer : (e : IntegerExpr) (ints place : ℕ) → IntegerScoped e scope → HasAt code place (integer_code e step ints) → Leads code (place + integer_size e) (ints + 1) step.around.frames → AllFine place (integer_code e step ints)
     fine_integer (number value) ints place scoped has to = one_fine place ints _ to
-    fine_integer (variable v) ints place scoped has to = one_fine place ints _ (scoped, to)
+    fine_integer (variable v) ints place scoped has to = one_fine place ints _ (is_open v scoped, to)
     fine_integer (unary op x) ints place scoped has to =
         let cx = integer_code x step ints in
         let l = line step (ints + 1) (Unary op) in
@@ -77,13 +99,13 @@ module _ (code : List Line) where
         let ex = length-integer x step ints in
         let ey = length-integer y step (ints + 1) in
         let has_y = has_back code place nx cx (cy ++ l ∷ []) ex has in
-        let at_y = leads_to (cy ++ l ∷ []) step.around (ints + 1) (place + nx) has_y (begins_more cy (l ∷ []) step.around (ints + 1) (begins_integer y step (ints + 1))) in
+        let at_y = leads_to (cy ++ l ∷ []) step (ints + 1) (place + nx) has_y (begins_more cy (l ∷ []) step (ints + 1) (begins_integer y step (ints + 1))) in
         let at_l = line_led cy ny (place + nx) (ints + 2) (Binary op) ey has_y in
         let fx = fine_integer x ints place scoped.0 (has_front code place cx (cy ++ l ∷ []) has) at_y in
         let fy = fine_integer y (ints + 1) (place + nx) scoped.1 (has_front code (place + nx) cy (l ∷ []) has_y) (moved (place + nx + ny) (place + nx + ny) (ints + 2) (ints + 1 + 1) step.around.frames refl (omega arith) at_l) in
         all_append cx (cy ++ l ∷ []) place nx ex fx (then_fine cy ny (place + nx) (ints + 2) (Binary op) ey fy (omega arith, moved (place + (nx + ny + 1)) (place + nx + ny + 1) (ints + 1) (ints + 2 - 1) step.around.frames (omega arith) (omega arith) to))
 
-    fine_text : (t : TextExpr) (place : ℕ) → TextScoped t step.around.frames → HasAt code place (text_code t step) → Leads code (place + text_size t) 0 step.around.frames → AllFine place (text_code t step)
+    fine_text : (t : TextExpr) (place : ℕ) → TextScoped t scope → HasAt code place (text_code t step) → Leads code (place + text_size t) 0 step.around.frames → AllFine place (text_code t step)
     fine_text (literal text) place scoped has to = one_fine place 0 _ to
     fine_text (image e) place scoped has to =
         let n = integer_size e in
@@ -97,20 +119,20 @@ module _ (code : List Line) where
         let cy = text_code y step in
         let ex = length-text x step in
         let has_y = has_back code place nx cx cy ex has in
-        let fx = fine_text x place scoped.0 (has_front code place cx cy has) (leads_to cy step.around 0 (place + nx) has_y (begins_text y step)) in
+        let fx = fine_text x place scoped.0 (has_front code place cx cy has) (leads_to cy step 0 (place + nx) has_y (begins_text y step)) in
         let fy = fine_text y (place + nx) scoped.1 has_y (moved (place + (nx + text_size y)) (place + nx + text_size y) 0 0 step.around.frames (omega arith) refl to) in
         all_append cx cy place nx ex fx fy
     fine_text new_line place scoped has to = one_fine place 0 _ to
 
     -- a value and the instruction that ends the step with it
-    integer_ends : (e : IntegerExpr) (place : ℕ) (instr : Instr) → IntegerScoped e step.around.frames → HasAt code place (integer_code e step 0 ++ line step 1 instr ∷ []) → InstrFine code (place + integer_size e) instr 1 step.around.frames → AllFine place (integer_code e step 0 ++ line step 1 instr ∷ [])
+    integer_ends : (e : IntegerExpr) (place : ℕ) (instr : Instr) → IntegerScoped e scope → HasAt code place (integer_code e step 0 ++ line step 1 instr ∷ []) → InstrFine code (place + integer_size e) instr 1 step.around.frames → AllFine place (integer_code e step 0 ++ line step 1 instr ∷ [])
     integer_ends e place instr scoped has fine =
         let n = integer_size e in
         let ce = integer_code e step 0 in
         let ee = length-integer e step 0 in
         then_fine ce n place 1 instr ee (fine_integer e 0 place scoped (has_front code place ce (line step 1 instr ∷ []) has) (line_led ce n place 1 instr ee has)) fine
 
-    text_ends : (t : TextExpr) (place : ℕ) (instr : Instr) → TextScoped t step.around.frames → HasAt code place (text_code t step ++ line step 0 instr ∷ []) → InstrFine code (place + text_size t) instr 0 step.around.frames → AllFine place (text_code t step ++ line step 0 instr ∷ [])
+    text_ends : (t : TextExpr) (place : ℕ) (instr : Instr) → TextScoped t scope → HasAt code place (text_code t step ++ line step 0 instr ∷ []) → InstrFine code (place + text_size t) instr 0 step.around.frames → AllFine place (text_code t step ++ line step 0 instr ∷ [])
     text_ends t place instr scoped has fine =
         let n = text_size t in
         let ct = text_code t step in
@@ -118,20 +140,20 @@ module _ (code : List Line) where
         then_fine ct n place 0 instr et (fine_text t place scoped (has_front code place ct (line step 0 instr ∷ []) has) (line_led ct n place 0 instr et has)) fine
 
   stmt_led : (s : Stmt) (at next : ℕ) (around : Around) → HasAt code at (stmt_code s at next around) → Leads code at 0 around.frames
-  stmt_led s at next around has = leads_to (stmt_code s at next around) around 0 at has (begins_stmt s at next around)
+  stmt_led s at next around has = leads_to (stmt_code s at next around) (step_in around s) 0 at has (begins_stmt s at next around)
 
-  fine_stmt : (s : Stmt) (at next : ℕ) (around : Around) → Goes code around.out around.frames → 1 ≤ around.frames → StmtScoped s around.frames → HasAt code at (stmt_code s at next around) → Leads code next 0 around.frames → AllFine at (stmt_code s at next around)
-  fine_stmt (sequence a b) at next around out some scoped has to =
+  fine_stmt : (s : Stmt) (at next : ℕ) (around : Around) → Goes code around.out around.frames → 1 ≤ around.frames → (scope : Scope) → length scope ≡ around.frames → StmtScoped s scope → HasAt code at (stmt_code s at next around) → Leads code next 0 around.frames → AllFine at (stmt_code s at next around)
+  fine_stmt (sequence a b) at next around out some scope counted scoped has to =
       let n = stmt_size a in
       let ca = stmt_code a at (at + n) around in
       let cb = stmt_code b (at + n) next around in
       let ea = length-stmt a at (at + n) around in
       let has_b = has_back code at n ca cb ea has in
-      all_append ca cb at n ea (fine_stmt a at (at + n) around out some scoped.0 (has_front code at ca cb has) (stmt_led b (at + n) next around has_b)) (fine_stmt b (at + n) next around out some scoped.1 has_b to)
-  fine_stmt (declare pos e) at next around out some scoped has to = integer_ends (step_of around kind.Decl pos) out e at (End (ending.Declare next)) scoped has (refl, some, to)
-  fine_stmt (null pos) at next around out some scoped has to = one_fine (step_of around kind.Null pos) out at 0 (End (ending.Null next)) (refl, to)
-  fine_stmt (assign pos v e) at next around out some scoped has to = integer_ends (step_of around kind.Assign pos) out e at (End (ending.Assign v next)) scoped.1 has (refl, scoped.0, to)
-  fine_stmt (put pos t) at next around out some scoped has to = text_ends (step_of around kind.Put pos) out t at (End (ending.Put next)) scoped has (refl, to)
+      all_append ca cb at n ea (fine_stmt a at (at + n) around out some scope counted scoped.0 (has_front code at ca cb has) (stmt_led b (at + n) next around has_b)) (fine_stmt b (at + n) next around out some (scope_after a scope) (length-after a scope ∙ counted) scoped.1 has_b to)
+  fine_stmt (declare pos e) at next around out some scope counted scoped has to = integer_ends (step_of around kind.Decl pos) out scope counted e at (End (ending.Declare next)) scoped has (refl, some, to)
+  fine_stmt (null pos) at next around out some scope counted scoped has to = one_fine (step_of around kind.Null pos) out scope counted at 0 (End (ending.Null next)) (refl, to)
+  fine_stmt (assign pos v e) at next around out some scope counted scoped has to = integer_ends (step_of around kind.Assign pos) out scope counted e at (End (ending.Assign v next)) scoped.1 has (refl, is_open (step_of around kind.Assign pos) out scope counted v scoped.0, to)
+  fine_stmt (put pos t) at next around out some scope counted scoped has to = text_ends (step_of around kind.Put pos) out scope counted t at (End (ending.Put next)) scoped has (refl, to)
 
 pub generated_sound : (program : Program) → IsScoped program → IsSound (program_code program)
 generated_sound program scoped =
@@ -145,12 +167,12 @@ generated_sound program scoped =
     let whole : HasAt code 0 (main ++ end ∷ []) = record { rest = []; is = sym (append-nil code) } in
     let zero_n : 0 + n ≡ n = omega arith in
     let has_end = subst (λ p. HasAt code p (end ∷ [])) zero_n (has_back code 0 n main (end ∷ []) (length-stmt body 0 n around) whole) in
-    let at_end = leads_to code (end ∷ []) around 0 n has_end (begins_line last 0 (End ending.Complete) []) in
+    let at_end = leads_to code (end ∷ []) last 0 n has_end (begins_line last 0 (End ending.Complete) []) in
     let le : 1 ≤ 1 = omega arith in
     let out : Goes code around.out around.frames = record { closes = le; leads = at_end } in
     let has_main = has_front code 0 main (end ∷ []) whole in
-    let fm = fine_stmt code body 0 n around out le scoped has_main at_end in
-    let fe = one_fine code last out (0 + n) 0 (End ending.Complete) (refl, refl) in
+    let fm = fine_stmt code body 0 n around out le (0 ∷ []) refl scoped.body has_main at_end in
+    let fe = one_fine code last out (0 ∷ []) refl (0 + n) 0 (End ending.Complete) (refl, refl) in
     let all = all_append code main (end ∷ []) 0 n (length-stmt body 0 n around) fm fe in
     record {
       start = stmt_led code body 0 n around has_main;

@@ -4,13 +4,13 @@ use Rattle.aud_text.specs.declared.raise.Raise.{Raise}
 use Rattle.aud_typed.specs.Tree.{Stmt, sequence, declare, null, assign, put}
 use Rattle.aud_meaning.specs.declared.state.Status.{Status}
 use Rattle.aud_meaning.specs.declared.state.Status.TheVariants.{Running, Completed, Terminated}
-use Rattle.aud_meaning.specs.Configuration.{Item, Do, Acting}
+use Rattle.aud_meaning.specs.Configuration.{Item, Do, Ends, Acting}
 use Rattle.aud_meaning.specs.Step.{task_step}
 use Rattle.aud_code.specs.declared.code.Line.{Line}
 use Rattle.aud_code.specs.Next.{next}
-use Rattle.aud_gen.specs.Shows.{IsSettled, Shows}
+use Rattle.aud_gen.specs.Shows.{Stands, IsSettled, Shows}
 use Rattle.aud_gen.specs.Law.{IsNext, StepLaw}
-use Rattle.aud_gen.proofs.Control.{at_step}
+use Rattle.aud_gen.proofs.Control.{is_placed}
 use Rattle.aud_gen.proofs.Declaring.{declaration_law}
 use Rattle.aud_gen.proofs.Idling.{null_law}
 use Rattle.aud_gen.proofs.Assigning.{assignment_law}
@@ -29,9 +29,13 @@ module _ (code : List Line) (m : Acting ℕ) (c : Acting (List Item)) (h : Shows
   by_stmt (put at t) is settled = put_law at t code m c is h
 
   by_control : c.own.status ≡ Running → c.own.pending ≡ None → (items : List Item) → c.control ≡ items → StepShown
-  by_control running none_pending [] left = completion_law code m c (record { running = running; none_pending = none_pending; left = left }) h
+  by_control running none_pending [] left =
+      let p = is_placed code m c running h in
+      absurd (subst (λ items. Stands code p.around m.control items) left p.stands)
   by_control running none_pending (Do s ∷ rest) left =
-      by_stmt s (record { running = running; none_pending = none_pending; rest = rest; left = left }) ((at_step code m c running none_pending h).settled)
+      by_stmt s (record { running = running; none_pending = none_pending; rest = rest; left = left }) ((is_placed code m c running h).settled)
+  by_control running none_pending (Ends at ∷ rest) left =
+      completion_law code m c (record { running = running; none_pending = none_pending; at = at; rest = rest; left = left }) h
 
   by_pending : c.own.status ≡ Running → (pending : Option Raise) → c.own.pending ≡ pending → StepShown
   by_pending running None is = by_control running is c.control refl

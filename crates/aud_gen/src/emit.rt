@@ -1,15 +1,17 @@
 // The instructions of each part of a program.
 
-ghost use Rattle.std.specs.Prelude.{◌≡◌, [], ◌∷◌, ◌++◌, OnOk, IfOk};
+ghost use Rattle.std.specs.Prelude.{◌≡◌, ℕ, [], ◌∷◌, ◌++◌, map, OnOk, IfOk};
+ghost use Rattle.aud_typed.specs.Tree.{in_sequence};
 ghost use Rattle.aud_typed.specs.View.{plain_integer, plain_text, plain_stmt, plain_program};
 ghost use Rattle.aud_typed.specs.Scoped.{IsScoped};
 ghost use Rattle.aud_gen.specs.Code.{integer_code, text_code, stmt_code, program_code};
 
 use crate::around::{Around, Step};
-use crate::sizes::{stmt_size, sum};
+use crate::sizes::{stmt_size, stmts_size, sum};
 use aud_code::code::{Ending, Instr, Line};
 use aud_code::sound::{SoundCode, verify};
 use aud_meaning::state::StepKind;
+use aud_text::place::Pos;
 use aud_typed::program::{IntegerExpr, Program, Stmt, TextExpr};
 use std::alloc::{AllocError, Global};
 
@@ -23,10 +25,10 @@ fn append(code: &mut Vec<Line>, line: Line) -> Result<(), AllocError>
 fn emit_integer(
     code: &mut Vec<Line>,
     e: &IntegerExpr,
-    step: Step,
+    step: &Step,
     ints: usize,
 ) -> Result<(), AllocError>
-    ensures { OnOk result (code.new.items ≡ code.old.items ++ integer_code (plain_integer e.now) step ints) }
+    ensures { OnOk result (code.new.items ≡ code.old.items ++ integer_code (plain_integer e.now) step.now ints) }
 {
     match e {
         IntegerExpr::Number(value) => append(code, step.line(ints, Instr::Push(*value))),
@@ -35,10 +37,13 @@ fn emit_integer(
             emit_integer(code, x, step, ints)?;
             append(code, step.line(sum(ints, 1)?, Instr::Unary(*op)))
         }
-        IntegerExpr::Binary(op, x, y) => {
-            emit_integer(code, x, step, ints)?;
-            emit_integer(code, y, step, sum(ints, 1)?)?;
-            append(code, step.line(sum(ints, 2)?, Instr::Binary(*op)))
+        IntegerExpr::Chain(first, rest) => {
+            emit_integer(code, first, step, ints)?;
+            for next in rest {
+                emit_integer(code, &next.right, step, sum(ints, 1)?)?;
+                append(code, step.line(sum(ints, 2)?, Instr::Binary(next.op)))?;
+            }
+            Ok(())
         }
     }
 }
@@ -47,9 +52,9 @@ fn emit_text(
     alloc: Global,
     code: &mut Vec<Line>,
     t: &TextExpr,
-    step: Step,
+    step: &Step,
 ) -> Result<(), AllocError>
-    ensures { OnOk result (code.new.items ≡ code.old.items ++ text_code (plain_text t.now) step) }
+    ensures { OnOk result (code.new.items ≡ code.old.items ++ text_code (plain_text t.now) step.now) }
 {
     match t {
         TextExpr::Literal(text) => append(
@@ -60,33 +65,31 @@ fn emit_text(
             emit_integer(code, e, step, 0)?;
             append(code, step.line(1, Instr::AppendImage))
         }
-        TextExpr::Join(x, y) => {
-            emit_text(alloc, code, x, step)?;
-            emit_text(alloc, code, y, step)
+        TextExpr::Join(first, rest) => {
+            emit_text(alloc, code, first, step)?;
+            for next in rest {
+                emit_text(alloc, code, next, step)?;
+            }
+            Ok(())
         }
         TextExpr::NewLine => append(code, step.line(0, Instr::AppendNewLine)),
     }
 }
 
+// wherever it begins: no statement has others inside it
 fn emit_stmt(
     alloc: Global,
     code: &mut Vec<Line>,
     s: &Stmt,
-    at: usize,
     next: usize,
     around: Around,
 ) -> Result<(), AllocError>
-    ensures { OnOk result (code.new.items ≡ code.old.items ++ stmt_code (plain_stmt s.now) at next around) }
+    ensures { OnOk result ((at : ℕ) → code.new.items ≡ code.old.items ++ stmt_code (plain_stmt s.now) at next around) }
 {
     match s {
-        Stmt::Sequence(a, b) => {
-            let second = sum(at, stmt_size(a)?)?;
-            emit_stmt(alloc, code, a, at, second, around)?;
-            emit_stmt(alloc, code, b, second, next, around)
-        }
         Stmt::Declare(pos, e) => {
             let step = around.step(StepKind::Decl, *pos);
-            emit_integer(code, e, step, 0)?;
+            emit_integer(code, e, &step, 0)?;
             append(code, step.line(1, Instr::End(Ending::Declare(next))))
         }
         Stmt::Null(pos) => {
@@ -95,13 +98,37 @@ fn emit_stmt(
         }
         Stmt::Assign(pos, v, e) => {
             let step = around.step(StepKind::Assign, *pos);
-            emit_integer(code, e, step, 0)?;
+            emit_integer(code, e, &step, 0)?;
             append(code, step.line(1, Instr::End(Ending::Assign(*v, next))))
         }
         Stmt::Put(pos, t) => {
             let step = around.step(StepKind::Put, *pos);
-            emit_text(alloc, code, t, step)?;
+            emit_text(alloc, code, t, &step)?;
             append(code, step.line(0, Instr::End(Ending::Put(next))))
+        }
+    }
+}
+
+// behind each but the last stands the one that follows it
+fn emit_stmts(
+    alloc: Global,
+    code: &mut Vec<Line>,
+    stmts: &[Stmt],
+    at: usize,
+    next: usize,
+    around: Around,
+) -> Result<(), AllocError>
+    ensures { OnOk result (code.new.items ≡ code.old.items ++ stmt_code (in_sequence (map plain_stmt stmts.now)) at next around) }
+{
+    match stmts {
+        [] => emit_stmt(alloc, code, &Stmt::Null(Pos { line: 0, col: 0 }), next, around),
+        [others @ .., last] => {
+            let mut place = at;
+            for s in others {
+                place = sum(place, stmt_size(s)?)?;
+                emit_stmt(alloc, code, s, place, around)?;
+            }
+            emit_stmt(alloc, code, last, next, around)
         }
     }
 }
@@ -109,16 +136,16 @@ fn emit_stmt(
 fn emit_program(alloc: Global, program: &Program) -> Result<Vec<Line>, AllocError>
     ensures { IfOk result (λ code. code.items ≡ program_code (plain_program program.now)) }
 {
-    let end = stmt_size(&program.body)?;
+    let end = stmts_size(&program.body)?;
     let around = Around::in_body(end);
     let mut code = Vec::new(alloc);
-    emit_stmt(alloc, &mut code, &program.body, 0, end, around)?;
+    emit_stmts(alloc, &mut code, &program.body, 0, end, around)?;
     let last = around.step(StepKind::Complete, program.end);
     append(&mut code, last.line(0, Instr::End(Ending::Complete)))?;
     Ok(code)
 }
 
-/// The code of a program whose variables name open frames. Its only refusal is want of memory.
+/// The code of a program whose variables are elaborated where they are named. Its only refusal is want of memory.
 pub fn generate(alloc: Global, program: &Program) -> Result<SoundCode, AllocError>
     requires { IsScoped (plain_program program.now) }
     ensures { IfOk result (λ code. code ≡ program_code (plain_program program.now)) }

@@ -1,0 +1,10 @@
+use Rattle.std.proofs.Common.{◌≡◌, ◌++◌}
+use Rattle.aud_typed.specs.Tree.{chained}
+use Rattle.aud_typed.specs.View.{plain_integer}
+use Rattle.aud_typed.proofs.Opened.{plain_operation}
+use Rattle.aud_gen.specs.Code.{integer_code}
+use Rattle.aud_gen.proofs.Loops.{SoFar}
+use Rattle.aud_gen.proofs.emit.+emit_integer.Given as goal
+
+abbrev pub invariant-loop-next : goal.invariant-loop-next
+invariant-loop-next l = SoFar chained plain_operation l.next-items l.next-index (plain_integer l.e) (λ done. l.code.items ≡ l.fn.code.items ++ integer_code done l.step l.ints)
