@@ -14,7 +14,7 @@ use Rattle.aud_check.specs.declared.fault.Fault.{Fault}
 use Rattle.aud_check.specs.Least.{noted}
 use Rattle.aud_check.specs.Declarations.{Declared, check_decl, check_decls}
 use Rattle.aud_check.specs.Part.{plain_steps, Declares}
-use Rattle.aud_check.specs.Statements.{in_sequence, stmt_faults, stmts_faults, typed_stmts}
+use Rattle.aud_check.specs.Statements.{stmt_faults, stmts_faults, typed_stmts}
 use Rattle.aud_check.specs.Checked.{or_null}
 use Rattle.aud_check.proofs.Notes.{noted_append}
 
@@ -32,12 +32,6 @@ pub stmts_ahead : (mid new all : Option Fault) (x : source.Stmt) (xs ys : List s
 stmts_ahead mid new all x xs ys names p q h =
     ap (λ o. noted o (stmts_faults (plain_stmts ys) names)) q ∙ sym (noted_append mid (stmt_faults (plain_source x) names) (stmts_faults (plain_stmts ys) names)) ∙ sym (ap (λ l. noted mid (stmts_faults (plain_stmts l) names)) p) ∙ h
 
--- the last two of a sequence are taken together
-pub sequence_last : (at : Pos) (xs : List tree.Stmt) (s t : tree.Stmt) → in_sequence at (xs ++ tree.sequence s t ∷ []) ≡ in_sequence at ((xs ++ s ∷ []) ++ t ∷ [])
-sequence_last at [] s t = refl
-sequence_last at (x ∷ []) s t = refl
-sequence_last at (x ∷ y ∷ ys) s t = ap (λ z. tree.sequence x z) (sequence_last at (y ∷ ys) s t)
-
 -- what is still to be declared, from some faults and a part on, amounts to what was asked
 pub record DeclaresAhead (now_faults : Option Fault) (now : Part) (rest : Declared) (old_faults : Option Fault) (old : Part) (all : Declared) : Type 0 where
   pub noted : noted now_faults rest.faults ≡ noted old_faults all.faults
@@ -53,11 +47,6 @@ decls_ahead old mid new first now next all x xs ys main p a d =
       symbols = ap (λ s. (rest s).symbols) d.1 ∙ sym (ap (λ l. (check_decls (plain_decls l) main now.symbols.entries).symbols) p) ∙ a.symbols;
       steps = ap (λ l. l ++ (rest next.symbols.entries).steps) d.2 ∙ ap (λ s. (plain_steps now.steps.items ++ one.steps) ++ (rest s).steps) d.1 ∙ append_assoc (plain_steps now.steps.items) one.steps (rest one.symbols).steps ∙ sym (ap (λ l. plain_steps now.steps.items ++ (check_decls (plain_decls l) main now.symbols.entries).steps) p) ∙ a.steps;
     }
-
--- the last step is put before what follows it
-pub sequence_ahead : (at : Pos) (old new : List memory.Stmt) (step all : memory.Stmt) (s t goal : tree.Stmt) → old ≡ new ++ step ∷ [] → s ≡ plain_stmt step → t ≡ plain_stmt all → in_sequence at (plain_steps old ++ plain_stmt all ∷ []) ≡ goal → in_sequence at (plain_steps new ++ tree.sequence s t ∷ []) ≡ goal
-sequence_ahead at old new step all s t goal p q r h =
-    ap (λ z. in_sequence at (plain_steps new ++ tree.sequence z t ∷ [])) q ∙ ap (λ z. in_sequence at (plain_steps new ++ tree.sequence (plain_stmt step) z ∷ [])) r ∙ sequence_last at (plain_steps new) (plain_stmt step) (plain_stmt all) ∙ ap (λ l. in_sequence at (l ++ plain_stmt all ∷ [])) (sym (steps_append new (step ∷ [])) ∙ sym (ap plain_steps p)) ∙ h
 
 -- where there are statements, they are left as they are
 pub some_steps : (at : Pos) (names : Names) (xs : List source.Stmt) → (0 < length xs) → or_null at (typed_stmts (plain_stmts xs) names) ≡ typed_stmts (plain_stmts xs) names

@@ -10,6 +10,10 @@ noted_least : (f : Fault) (fs : List Fault) → noted (Some f) fs ≡ Some (leas
 noted_least f [] = refl
 noted_least f (g ∷ gs) = noted_least (earlier f g) gs
 
+pub none_noted : (fs : List Fault) → noted None fs ≡ None → fs ≡ []
+none_noted [] h = refl
+none_noted (f ∷ fs) h = let e : Some (least f fs) ≡ None = sym (noted_least f fs) ∙ h in cc
+
 pub judged_fine : (fs : List Fault) (p : tree.Program) → noted None fs ≡ None → judged fs p ≡ Ok p
 judged_fine [] p h = refl
 judged_fine (f ∷ fs) p h = let e : Some (least f fs) ≡ None = sym (noted_least f fs) ∙ h in cc

@@ -1,6 +1,7 @@
 mod Rows
 pub mod Notes
 pub mod Opened
+pub mod Chains
 pub mod Elaborated
 pub mod Judged
 pub mod First

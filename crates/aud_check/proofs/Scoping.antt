@@ -1,8 +1,9 @@
--- Each variable of a typed program names an open frame.
-use Rattle.std.proofs.Common.{ℕ, ℤ, ◌<◌, Bool, true, false, List, [], ◌∷◌, ◌++◌, length, Option, Some, None, if◌then◌else◌, arith, codes}
+-- Where there are no faults, each variable of the typed program has been elaborated where it is read or assigned.
+use Rattle.std.proofs.Common.{◌≡◌, ℕ, zero, suc, ℤ, ◌<◌, Bool, true, false, List, [], ◌∷◌, ◌++◌, length, Option, Some, None, if◌then◌else◌, arith, codes, map, not, refl, sym, ◌∙◌, ap, subst}
+use Rattle.std.specs.Prelude.{slice_index}
 use Rattle.std.specs.Str.{bytes_eq}
+use Rattle.std.proofs.lemmas.List.{length-map}
 use Rattle.aud_text.specs.declared.place.Pos.{Pos}
-use Rattle.aud_text.specs.declared.code.Code.TheVariants.{WrongKindOfName}
 use Rattle.aud_syntax.specs.declared.tree.Ident.{Ident}
 use Rattle.aud_syntax.specs.declared.tree.Signed.{Signed}
 use Rattle.aud_syntax.specs.declared.tree.Sign.{Sign}
@@ -16,286 +17,383 @@ use Rattle.aud_typed.specs.declared.program.Unary.{Unary}
 use Rattle.aud_typed.specs.declared.program.Unary.TheVariants as unary
 use Rattle.aud_typed.specs.declared.program.Binary.{Binary}
 use Rattle.aud_typed.specs.Tree as tree
-use Rattle.aud_typed.specs.Scoped.{IntegerScoped, TextScoped, StmtScoped, IsScoped}
+use Rattle.aud_typed.specs.Scoped.{Scope, IsElaborated, IntegerScoped, TextScoped, scope_after, StmtScoped, IsScoped}
+use Rattle.aud_check.specs.declared.fault.Fault.{Fault}
 use Rattle.aud_check.specs.declared.names.Meaning.{Meaning}
 use Rattle.aud_check.specs.declared.names.Meaning.TheVariants.{IntegerType, PutLine, MainProcedure, Variable, Faulty}
 use Rattle.aud_check.specs.Visible as names
 use Rattle.aud_check.specs.Visible.{Symbol, Names}
+use Rattle.aud_check.specs.Rules as rules
 use Rattle.aud_check.specs.Expressions as e
 use Rattle.aud_check.specs.Expressions.{Typed, number, string, unknown}
 use Rattle.aud_check.specs.Declarations as d
 use Rattle.aud_check.specs.Statements as s
 use Rattle.aud_check.specs.Checked as c
 
--- what a name stands for is a variable of the body's frame, if it is a variable
-abbrev pub MeaningScoped : Meaning → Type 0
-MeaningScoped (Variable v) = v.level < 1
-MeaningScoped IntegerType = Unit {0}
-MeaningScoped PutLine = Unit {0}
-MeaningScoped MainProcedure = Unit {0}
-MeaningScoped Faulty = Unit {0}
+-- where so many variables of the body have been elaborated
+abbrev pub only : ℕ → Scope
+only k = k ∷ []
 
-abbrev pub VisibleScoped : Option Meaning → Type 0
-VisibleScoped None = Unit {0}
-VisibleScoped (Some m) = MeaningScoped m
+-- what a name stands for is one of them, if it is a variable
+abbrev pub MeaningScoped : ℕ → Meaning → Type 0
+MeaningScoped k (Variable v) = IsElaborated v (only k)
+MeaningScoped k IntegerType = Unit {0}
+MeaningScoped k PutLine = Unit {0}
+MeaningScoped k MainProcedure = Unit {0}
+MeaningScoped k Faulty = Unit {0}
 
-abbrev pub SymbolsScoped : List Symbol → Type 0
-SymbolsScoped [] = Unit {0}
-SymbolsScoped (x ∷ xs) = MeaningScoped x.1 × SymbolsScoped xs
+abbrev pub VisibleScoped : ℕ → Option Meaning → Type 0
+VisibleScoped k None = Unit {0}
+VisibleScoped k (Some m) = MeaningScoped k m
 
-abbrev pub TypedScoped : Typed → Type 0
-TypedScoped (number x) = IntegerScoped x 1
-TypedScoped (string x) = TextScoped x 1
-TypedScoped unknown = Unit {0}
+abbrev pub SymbolsScoped : ℕ → List Symbol → Type 0
+SymbolsScoped k [] = Unit {0}
+SymbolsScoped k (x ∷ xs) = MeaningScoped k x.1 × SymbolsScoped k xs
 
-abbrev pub StmtsScoped : List tree.Stmt → Type 0
-StmtsScoped [] = Unit {0}
-StmtsScoped (x ∷ xs) = StmtScoped x 1 × StmtsScoped xs
+abbrev pub TypedScoped : ℕ → Typed → Type 0
+TypedScoped k (number x) = IntegerScoped x (only k)
+TypedScoped k (string x) = TextScoped x (only k)
+TypedScoped k unknown = Unit {0}
 
 -- names
 
-visible_if : (b : Bool) (x y : Option Meaning) → VisibleScoped x → VisibleScoped y → VisibleScoped (if b then x else y)
-visible_if true x y h i = h
-visible_if false x y h i = i
+visible_if : (k : ℕ) → (b : Bool) (x y : Option Meaning) → VisibleScoped k x → VisibleScoped k y → VisibleScoped k (if b then x else y)
+visible_if k true x y h i = h
+visible_if k false x y h i = i
 
-found_scoped : (name : List ℕ) (xs : List Symbol) → SymbolsScoped xs → VisibleScoped (names.found name xs)
-found_scoped name [] h = tt
-found_scoped name (x ∷ xs) h = visible_if (bytes_eq name x.0) _ _ h.0 (found_scoped name xs h.1)
+found_scoped : (k : ℕ) → (name : List ℕ) (xs : List Symbol) → SymbolsScoped k xs → VisibleScoped k (names.found name xs)
+found_scoped k name [] h = tt
+found_scoped k name (x ∷ xs) h = visible_if k (bytes_eq name x.0) _ _ h.0 (found_scoped k name xs h.1)
 
-or_scoped : (x y : Option Meaning) → VisibleScoped x → VisibleScoped y → VisibleScoped (names.or_outside x y)
-or_scoped None y h i = i
-or_scoped (Some m) y h i = h
+or_scoped : (k : ℕ) → (x y : Option Meaning) → VisibleScoped k x → VisibleScoped k y → VisibleScoped k (names.or_outside x y)
+or_scoped k None y h i = i
+or_scoped k (Some m) y h i = h
 
-predefined_scoped : (name : List ℕ) → VisibleScoped (names.predefined name)
-predefined_scoped name =
-    visible_if (bytes_eq name (codes "INTEGER")) (Some IntegerType) (if bytes_eq name (codes "PUT_LINE") then Some PutLine else None) tt
-    (visible_if (bytes_eq name (codes "PUT_LINE")) (Some PutLine) None tt tt)
+predefined_scoped : (k : ℕ) → (name : List ℕ) → VisibleScoped k (names.predefined name)
+predefined_scoped k name =
+    visible_if k (bytes_eq name (codes "INTEGER")) (Some IntegerType) (if bytes_eq name (codes "PUT_LINE") then Some PutLine else None) tt
+    (visible_if k (bytes_eq name (codes "PUT_LINE")) (Some PutLine) None tt tt)
 
-outside_scoped : (main name : List ℕ) → VisibleScoped (names.outside main name)
-outside_scoped main name = visible_if (bytes_eq name main) (Some MainProcedure) (names.predefined name) tt (predefined_scoped name)
+outside_scoped : (k : ℕ) → (main name : List ℕ) → VisibleScoped k (names.outside main name)
+outside_scoped k main name = visible_if k (bytes_eq name main) (Some MainProcedure) (names.predefined name) tt (predefined_scoped k name)
 
-visible_scoped : (name : List ℕ) (n : Names) → SymbolsScoped n.symbols → VisibleScoped (names.visible name n)
-visible_scoped name n h = visible_if (names.is_hidden name n.hidden) _ _ tt (or_scoped (names.found name n.symbols) _ (found_scoped name n.symbols h) (outside_scoped n.main name))
+visible_scoped : (k : ℕ) → (name : List ℕ) (n : Names) → SymbolsScoped k n.symbols → VisibleScoped k (names.visible name n)
+visible_scoped k name n h = visible_if k (names.is_hidden name n.hidden) _ _ tt (or_scoped k (names.found name n.symbols) _ (found_scoped k name n.symbols h) (outside_scoped k n.main name))
 
 -- expressions
 
-number_scoped : (x : Option ℤ) (at : Pos) → TypedScoped (e.check_number x at).typed
-number_scoped None at = tt
-number_scoped (Some x) at = tt
+number_scoped : (k : ℕ) → (x : Option ℤ) (at : Pos) → TypedScoped k (e.check_number x at).typed
+number_scoped k None at = tt
+number_scoped k (Some x) at = tt
 
-name_scoped : (m : Option Meaning) (at : Pos) → VisibleScoped m → TypedScoped (e.check_name m at).typed
-name_scoped None at h = tt
-name_scoped (Some (Variable v)) at h = h
-name_scoped (Some Faulty) at h = tt
-name_scoped (Some IntegerType) at h = tt
-name_scoped (Some PutLine) at h = tt
-name_scoped (Some MainProcedure) at h = tt
+read_scoped : (k : ℕ) → (m : Option Meaning) → VisibleScoped k m → TypedScoped k (e.variable_read m)
+read_scoped k None h = tt
+read_scoped k (Some (Variable v)) h = h
+read_scoped k (Some Faulty) h = tt
+read_scoped k (Some IntegerType) h = tt
+read_scoped k (Some PutLine) h = tt
+read_scoped k (Some MainProcedure) h = tt
 
-one_scoped : (op : Unary) (t : Typed) → TypedScoped t → TypedScoped (e.one op t)
-one_scoped op (number x) h = h
-one_scoped op (string x) h = tt
-one_scoped op unknown h = tt
+one_scoped : (k : ℕ) → (op : Unary) (t : Typed) → TypedScoped k t → TypedScoped k (e.one op t)
+one_scoped k op (number x) h = h
+one_scoped k op (string x) h = tt
+one_scoped k op unknown h = tt
 
-integer_scoped : (t : Typed) → TypedScoped t → TypedScoped (e.integer_only t)
-integer_scoped (number x) h = h
-integer_scoped (string x) h = tt
-integer_scoped unknown h = tt
+integer_scoped : (k : ℕ) → (t : Typed) → TypedScoped k t → TypedScoped k (e.integer_only t)
+integer_scoped k (number x) h = h
+integer_scoped k (string x) h = tt
+integer_scoped k unknown h = tt
 
-sign_scoped : (x : Sign) (t : Typed) → TypedScoped t → TypedScoped (elim x as (λ _. Typed) [ sign.Plus ↦ e.integer_only t | sign.Minus ↦ e.one unary.Negative t ])
-sign_scoped sign.Plus t h = integer_scoped t h
-sign_scoped sign.Minus t h = one_scoped unary.Negative t h
+sign_scoped : (k : ℕ) → (x : Sign) (t : Typed) → TypedScoped k t → TypedScoped k (elim x as (λ _. Typed) [ sign.Plus ↦ e.integer_only t | sign.Minus ↦ e.one unary.Negative t ])
+sign_scoped k sign.Plus t h = integer_scoped k t h
+sign_scoped k sign.Minus t h = one_scoped k unary.Negative t h
 
-signed_scoped : (x : Option Signed) (at : Pos) (t : Typed) → TypedScoped t → TypedScoped (e.signed x at t).typed
-signed_scoped None at t h = h
-signed_scoped (Some x) at t h = sign_scoped x.sign t h
+signed_scoped : (k : ℕ) → (x : Option Signed) (at : Pos) (t : Typed) → TypedScoped k t → TypedScoped k (e.signed x at t).typed
+signed_scoped k None at t h = h
+signed_scoped k (Some x) at t h = sign_scoped k x.sign t h
 
-combined_scoped : (op : Binary) (x y : Typed) → TypedScoped x → TypedScoped y → TypedScoped (e.combined op x y)
-combined_scoped op (number x) (number y) h i = (h, i)
-combined_scoped op (number x) (string y) h i = tt
-combined_scoped op (number x) unknown h i = tt
-combined_scoped op (string x) y h i = tt
-combined_scoped op unknown y h i = tt
+combined_scoped : (k : ℕ) → (op : Binary) (x y : Typed) → TypedScoped k x → TypedScoped k y → TypedScoped k (e.combined op x y)
+combined_scoped k op (number x) (number y) h i = (h, i)
+combined_scoped k op (number x) (string y) h i = tt
+combined_scoped k op (number x) unknown h i = tt
+combined_scoped k op (string x) y h i = tt
+combined_scoped k op unknown y h i = tt
 
-joined_scoped : (x y : Typed) → TypedScoped x → TypedScoped y → TypedScoped (e.joined x y)
-joined_scoped (string x) (string y) h i = (h, i)
-joined_scoped (string x) (number y) h i = tt
-joined_scoped (string x) unknown h i = tt
-joined_scoped (number x) y h i = tt
-joined_scoped unknown y h i = tt
+joined_scoped : (k : ℕ) → (x y : Typed) → TypedScoped k x → TypedScoped k y → TypedScoped k (e.joined x y)
+joined_scoped k (string x) (string y) h i = (h, i)
+joined_scoped k (string x) (number y) h i = tt
+joined_scoped k (string x) unknown h i = tt
+joined_scoped k (number x) y h i = tt
+joined_scoped k unknown y h i = tt
 
-adding_scoped : (op : Adding) (at : Pos) (x : Typed) (at' : Pos) (y : Typed) → TypedScoped x → TypedScoped y → TypedScoped (e.adding_operator op at x at' y).typed
-adding_scoped adding.Plus at x at' y h i = combined_scoped _ x y h i
-adding_scoped adding.Minus at x at' y h i = combined_scoped _ x y h i
-adding_scoped adding.Join at x at' y h i = joined_scoped x y h i
+adding_scoped : (k : ℕ) → (op : Adding) (at : Pos) (x : Typed) (at' : Pos) (y : Typed) → TypedScoped k x → TypedScoped k y → TypedScoped k (e.adding_operator op at x at' y).typed
+adding_scoped k adding.Plus at x at' y h i = combined_scoped k _ x y h i
+adding_scoped k adding.Minus at x at' y h i = combined_scoped k _ x y h i
+adding_scoped k adding.Join at x at' y h i = joined_scoped k x y h i
 
-highest_scoped : (op : Highest) (at : Pos) (t : Typed) → TypedScoped t → TypedScoped (e.highest op at t).typed
-highest_scoped Magnitude at t h = one_scoped unary.Magnitude t h
-highest_scoped Not at t h = tt
+highest_scoped : (k : ℕ) → (op : Highest) (at : Pos) (t : Typed) → TypedScoped k t → TypedScoped k (e.highest op at t).typed
+highest_scoped k Magnitude at t h = one_scoped k unary.Magnitude t h
+highest_scoped k Not at t h = tt
 
-checked_if : (b : Bool) (x y : e.Checked) → TypedScoped x.typed → TypedScoped y.typed → TypedScoped (if b then x else y).typed
-checked_if true x y h i = h
-checked_if false x y h i = i
+checked_if : (k : ℕ) → (b : Bool) (x y : e.Checked) → TypedScoped k x.typed → TypedScoped k y.typed → TypedScoped k (if b then x else y).typed
+checked_if k true x y h i = h
+checked_if k false x y h i = i
 
-alone_scoped : (m : Meaning) (prefix designator : Ident) → MeaningScoped m → TypedScoped (e.image_alone m prefix designator).typed
-alone_scoped IntegerType prefix designator h = tt
-alone_scoped (Variable v) prefix designator h = h
-alone_scoped Faulty prefix designator h = tt
-alone_scoped PutLine prefix designator h = tt
-alone_scoped MainProcedure prefix designator h = tt
+alone_scoped : (k : ℕ) → (m : Meaning) (prefix designator : Ident) → MeaningScoped k m → TypedScoped k (e.image_alone m prefix designator).typed
+alone_scoped k IntegerType prefix designator h = tt
+alone_scoped k (Variable v) prefix designator h = h
+alone_scoped k Faulty prefix designator h = tt
+alone_scoped k PutLine prefix designator h = tt
+alone_scoped k MainProcedure prefix designator h = tt
 
-image_scoped : (t : Typed) → TypedScoped t → TypedScoped (e.image_of t)
-image_scoped (number x) h = h
-image_scoped (string x) h = tt
-image_scoped unknown h = tt
+image_scoped : (k : ℕ) → (t : Typed) → TypedScoped k t → TypedScoped k (e.image_of t)
+image_scoped k (number x) h = h
+image_scoped k (string x) h = tt
+image_scoped k unknown h = tt
 
-with_scoped : (m : Meaning) (prefix designator : Ident) (at : Pos) (t : Typed) → TypedScoped t → TypedScoped (e.image_with m prefix designator at t).typed
-with_scoped IntegerType prefix designator at t h = image_scoped t h
-with_scoped (Variable v) prefix designator at t h = tt
-with_scoped Faulty prefix designator at t h = tt
-with_scoped PutLine prefix designator at t h = tt
-with_scoped MainProcedure prefix designator at t h = tt
+with_scoped : (k : ℕ) → (m : Meaning) (prefix designator : Ident) (at : Pos) (t : Typed) → TypedScoped k t → TypedScoped k (e.image_with m prefix designator at t).typed
+with_scoped k IntegerType prefix designator at t h = image_scoped k t h
+with_scoped k (Variable v) prefix designator at t h = tt
+with_scoped k Faulty prefix designator at t h = tt
+with_scoped k PutLine prefix designator at t h = tt
+with_scoped k MainProcedure prefix designator at t h = tt
 
-abbrev ArgumentScoped : Option (Pos × Typed) → Type 0
-ArgumentScoped None = Unit {0}
-ArgumentScoped (Some a) = TypedScoped a.1
+abbrev ArgumentScoped : ℕ → Option (Pos × Typed) → Type 0
+ArgumentScoped k None = Unit {0}
+ArgumentScoped k (Some a) = TypedScoped k a.1
 
-any_image_scoped : (m : Meaning) (prefix designator : Ident) (a : Option (Pos × Typed)) → MeaningScoped m → ArgumentScoped a → TypedScoped (e.image m prefix designator a).typed
-any_image_scoped m prefix designator None h i = alone_scoped m prefix designator h
-any_image_scoped m prefix designator (Some a) h i = with_scoped m prefix designator a.0 a.1 i
+any_image_scoped : (k : ℕ) → (m : Meaning) (prefix designator : Ident) (a : Option (Pos × Typed)) → MeaningScoped k m → ArgumentScoped k a → TypedScoped k (e.image m prefix designator a).typed
+any_image_scoped k m prefix designator None h i = alone_scoped k m prefix designator h
+any_image_scoped k m prefix designator (Some a) h i = with_scoped k m prefix designator a.0 a.1 i
 
-attribute_scoped : (m : Option Meaning) (prefix designator : Ident) (a : Option (Pos × Typed)) → VisibleScoped m → ArgumentScoped a → TypedScoped (e.check_attribute m prefix designator a).typed
-attribute_scoped None prefix designator a h i = tt
-attribute_scoped (Some m) prefix designator a h i =
-    checked_if (bytes_eq designator.name (codes "IMAGE")) (e.image m prefix designator a) (e.faulty designator.at WrongKindOfName) (any_image_scoped m prefix designator a h i) tt
+attribute_scoped : (k : ℕ) → (m : Option Meaning) (prefix designator : Ident) (a : Option (Pos × Typed)) → VisibleScoped k m → ArgumentScoped k a → TypedScoped k (e.check_attribute m prefix designator a).typed
+attribute_scoped k None prefix designator a h i = tt
+attribute_scoped k (Some m) prefix designator a h i =
+    checked_if k (bytes_eq designator.name (codes "IMAGE")) (e.image m prefix designator a) (e.faulty (rules.wrong_kind_of_name designator.at)) (any_image_scoped k m prefix designator a h i) tt
 
 mutual
-  simple_scoped : (x : plain.Simple) (n : Names) → SymbolsScoped n.symbols → TypedScoped (e.check_simple x n).typed
-  simple_scoped (plain.simple x t rest) n h = addeds_scoped rest n _ _ h (signed_scoped x _ _ (term_scoped t n h))
+  simple_scoped : (k : ℕ) → (x : plain.Simple) (n : Names) → SymbolsScoped k n.symbols → TypedScoped k (e.check_simple x n).typed
+  simple_scoped k (plain.simple x t rest) n h = addeds_scoped k rest n _ _ h (signed_scoped k x _ _ (term_scoped k t n h))
 
-  addeds_scoped : (x : plain.Addeds) (n : Names) (at : Pos) (left : Typed) → SymbolsScoped n.symbols → TypedScoped left → TypedScoped (e.check_addeds x n at left).typed
-  addeds_scoped plain.no_addeds n at left h i = i
-  addeds_scoped (plain.more_addeds x rest) n at left h i = addeds_scoped rest n at _ h (added_scoped x n at left h i)
+  addeds_scoped : (k : ℕ) → (x : plain.Addeds) (n : Names) (at : Pos) (left : Typed) → SymbolsScoped k n.symbols → TypedScoped k left → TypedScoped k (e.check_addeds x n at left).typed
+  addeds_scoped k plain.no_addeds n at left h i = i
+  addeds_scoped k (plain.more_addeds x rest) n at left h i = addeds_scoped k rest n at _ h (added_scoped k x n at left h i)
 
-  added_scoped : (x : plain.Added) (n : Names) (at : Pos) (left : Typed) → SymbolsScoped n.symbols → TypedScoped left → TypedScoped (e.check_added x n at left).typed
-  added_scoped (plain.added op t) n at left h i = adding_scoped op at left _ _ i (term_scoped t n h)
+  added_scoped : (k : ℕ) → (x : plain.Added) (n : Names) (at : Pos) (left : Typed) → SymbolsScoped k n.symbols → TypedScoped k left → TypedScoped k (e.check_added x n at left).typed
+  added_scoped k (plain.added op t) n at left h i = adding_scoped k op at left _ _ i (term_scoped k t n h)
 
-  term_scoped : (x : plain.Term) (n : Names) → SymbolsScoped n.symbols → TypedScoped (e.check_term x n).typed
-  term_scoped (plain.term f rest) n h = multiplieds_scoped rest n _ _ h (factor_scoped f n h)
+  term_scoped : (k : ℕ) → (x : plain.Term) (n : Names) → SymbolsScoped k n.symbols → TypedScoped k (e.check_term x n).typed
+  term_scoped k (plain.term f rest) n h = multiplieds_scoped k rest n _ _ h (factor_scoped k f n h)
 
-  multiplieds_scoped : (x : plain.Multiplieds) (n : Names) (at : Pos) (left : Typed) → SymbolsScoped n.symbols → TypedScoped left → TypedScoped (e.check_multiplieds x n at left).typed
-  multiplieds_scoped plain.no_multiplieds n at left h i = i
-  multiplieds_scoped (plain.more_multiplieds x rest) n at left h i = multiplieds_scoped rest n at _ h (multiplied_scoped x n at left h i)
+  multiplieds_scoped : (k : ℕ) → (x : plain.Multiplieds) (n : Names) (at : Pos) (left : Typed) → SymbolsScoped k n.symbols → TypedScoped k left → TypedScoped k (e.check_multiplieds x n at left).typed
+  multiplieds_scoped k plain.no_multiplieds n at left h i = i
+  multiplieds_scoped k (plain.more_multiplieds x rest) n at left h i = multiplieds_scoped k rest n at _ h (multiplied_scoped k x n at left h i)
 
-  multiplied_scoped : (x : plain.Multiplied) (n : Names) (at : Pos) (left : Typed) → SymbolsScoped n.symbols → TypedScoped left → TypedScoped (e.check_multiplied x n at left).typed
-  multiplied_scoped (plain.multiplied op f) n at left h i = combined_scoped _ left _ i (factor_scoped f n h)
+  multiplied_scoped : (k : ℕ) → (x : plain.Multiplied) (n : Names) (at : Pos) (left : Typed) → SymbolsScoped k n.symbols → TypedScoped k left → TypedScoped k (e.check_multiplied x n at left).typed
+  multiplied_scoped k (plain.multiplied op f) n at left h i = combined_scoped k _ left _ i (factor_scoped k f n h)
 
-  factor_scoped : (x : plain.Factor) (n : Names) → SymbolsScoped n.symbols → TypedScoped (e.check_factor x n).typed
-  factor_scoped (plain.factor None p) n h = primary_scoped p n h
-  factor_scoped (plain.factor (Some op) p) n h = highest_scoped op.highest _ _ (primary_scoped p n h)
+  factor_scoped : (k : ℕ) → (x : plain.Factor) (n : Names) → SymbolsScoped k n.symbols → TypedScoped k (e.check_factor x n).typed
+  factor_scoped k (plain.factor None p) n h = primary_scoped k p n h
+  factor_scoped k (plain.factor (Some op) p) n h = highest_scoped k op.highest _ _ (primary_scoped k p n h)
 
-  primary_scoped : (x : plain.Primary) (n : Names) → SymbolsScoped n.symbols → TypedScoped (e.check_primary x n).typed
-  primary_scoped (plain.integer x) n h = number_scoped x.value x.at
-  primary_scoped (plain.text x) n h = tt
-  primary_scoped (plain.name i) n h = name_scoped (names.visible i.name n) i.at (visible_scoped i.name n h)
-  primary_scoped (plain.attribute prefix designator argument) n h = argument_scoped argument n prefix designator h
-  primary_scoped (plain.group at x) n h = simple_scoped x n h
+  primary_scoped : (k : ℕ) → (x : plain.Primary) (n : Names) → SymbolsScoped k n.symbols → TypedScoped k (e.check_primary x n).typed
+  primary_scoped k (plain.integer x) n h = number_scoped k x.value x.at
+  primary_scoped k (plain.text x) n h = tt
+  primary_scoped k (plain.name i) n h = read_scoped k (names.visible i.name n) (visible_scoped k i.name n h)
+  primary_scoped k (plain.attribute prefix designator argument) n h = argument_scoped k argument n prefix designator h
+  primary_scoped k (plain.group at x) n h = simple_scoped k x n h
 
-  argument_scoped : (x : plain.MaybeSimple) (n : Names) (prefix designator : Ident) → SymbolsScoped n.symbols → TypedScoped (e.check_image x n prefix designator).typed
-  argument_scoped plain.no_simple n prefix designator h = attribute_scoped (names.visible prefix.name n) prefix designator None (visible_scoped prefix.name n h) tt
-  argument_scoped (plain.a_simple x) n prefix designator h =
-      attribute_scoped (names.visible prefix.name n) prefix designator (Some (e.simple_at x, (e.check_simple x n).typed)) (visible_scoped prefix.name n h) (simple_scoped x n h)
+  argument_scoped : (k : ℕ) → (x : plain.MaybeSimple) (n : Names) (prefix designator : Ident) → SymbolsScoped k n.symbols → TypedScoped k (e.check_image x n prefix designator).typed
+  argument_scoped k plain.no_simple n prefix designator h = attribute_scoped k (names.visible prefix.name n) prefix designator None (visible_scoped k prefix.name n h) tt
+  argument_scoped k (plain.a_simple x) n prefix designator h =
+      attribute_scoped k (names.visible prefix.name n) prefix designator (Some (e.simple_at x, (e.check_simple x n).typed)) (visible_scoped k prefix.name n h) (simple_scoped k x n h)
 
 -- declarations
 
-symbols_append : (xs ys : List Symbol) → SymbolsScoped xs → SymbolsScoped ys → SymbolsScoped (xs ++ ys)
-symbols_append [] ys h i = i
-symbols_append (x ∷ xs) ys h i = (h.0, symbols_append xs ys h.1 i)
+variable_more : (level index k : ℕ) → index < slice_index (only k) level → index < slice_index (only (suc k)) level
+variable_more zero index k h = omega arith
+variable_more (suc level) index k h = h
 
-new_scoped : (good : Bool) (index : ℕ) → MeaningScoped (d.new_meaning good index)
-new_scoped true index = omega arith
-new_scoped false index = tt
+integer_more : (k : ℕ) → (x : tree.IntegerExpr) → IntegerScoped x (only k) → IntegerScoped x (only (suc k))
+integer_more k (tree.number value) h = tt
+integer_more k (tree.variable v) h = variable_more v.level v.index k h
+integer_more k (tree.unary op x) h = integer_more k x h
+integer_more k (tree.binary op x y) h = (integer_more k x h.0, integer_more k y h.1)
 
-symbols_if : (b : Bool) (xs ys : List Symbol) → SymbolsScoped xs → SymbolsScoped ys → SymbolsScoped (if b then xs else ys)
-symbols_if true xs ys h i = h
-symbols_if false xs ys h i = i
+meaning_more : (k : ℕ) → (m : Meaning) → MeaningScoped k m → MeaningScoped (suc k) m
+meaning_more k (Variable v) h = variable_more v.level v.index k h
+meaning_more k IntegerType h = tt
+meaning_more k PutLine h = tt
+meaning_more k MainProcedure h = tt
+meaning_more k Faulty h = tt
 
-declared_scoped : (is : List Ident) (good : Bool) (xs : List Symbol) → SymbolsScoped xs → SymbolsScoped (d.declared_names is good xs)
-declared_scoped [] good xs h = h
-declared_scoped (i ∷ is) good xs h =
-    symbols_if (names.is_declared i.name xs) _ _ (declared_scoped is good xs h) (declared_scoped is good _ (symbols_append xs _ h (new_scoped good (length xs), tt)))
+new_scoped : (good : Bool) (k : ℕ) → MeaningScoped (suc k) (d.new_meaning good k)
+new_scoped true k = omega arith
+new_scoped false k = tt
 
-stmts_append : (xs ys : List tree.Stmt) → StmtsScoped xs → StmtsScoped ys → StmtsScoped (xs ++ ys)
-stmts_append [] ys h i = i
-stmts_append (x ∷ xs) ys h i = (h.0, stmts_append xs ys h.1 i)
+-- one symbol more
+symbols_more : (k : ℕ) → (xs : List Symbol) (x : Symbol) → SymbolsScoped k xs → MeaningScoped (suc k) x.1 → SymbolsScoped (suc k) (xs ++ x ∷ [])
+symbols_more k [] x h i = (i, tt)
+symbols_more k (y ∷ ys) x h i = (meaning_more k y.1 h.0, symbols_more k ys x h.1 i)
 
-zero_scoped : (t : Typed) → TypedScoped t → IntegerScoped (d.integer_or_zero t) 1
-zero_scoped (number x) h = h
-zero_scoped (string x) h = tt
-zero_scoped unknown h = tt
+length_more : (xs : List Symbol) (x : Symbol) → length (xs ++ x ∷ []) ≡ suc (length xs)
+length_more [] x = refl
+length_more (y ∷ ys) x = ap suc (length_more ys x)
 
-initial_scoped : (x : plain.MaybeSimple) (n : Names) → SymbolsScoped n.symbols → IntegerScoped (d.initial_value x n) 1
-initial_scoped plain.no_simple n h = tt
-initial_scoped (plain.a_simple x) n h = zero_scoped (e.check_simple x n).typed (simple_scoped x n h)
+-- steps one after the other
+abbrev pub StepsScoped : List tree.Stmt → Scope → Type 0
+StepsScoped [] scope = Unit {0}
+StepsScoped (x ∷ xs) scope = StmtScoped x scope × StepsScoped xs (scope_after x scope)
 
-elaboration_scoped : (is : List Ident) (at : Pos) (x : tree.IntegerExpr) → IntegerScoped x 1 → StmtsScoped (d.elaboration is at x)
-elaboration_scoped [] at x h = tt
-elaboration_scoped (i ∷ is) at x h = (h, elaboration_scoped is at x h)
+abbrev pub scope_behind : List tree.Stmt → Scope → Scope
+scope_behind [] scope = scope
+scope_behind (x ∷ xs) scope = scope_behind xs (scope_after x scope)
 
-decl_scoped : (x : plain.Decl) (main : List ℕ) (xs : List Symbol) → SymbolsScoped xs → SymbolsScoped (d.check_decl x main xs).symbols × StmtsScoped (d.check_decl x main xs).steps
-decl_scoped (plain.object ids subtype initial) main xs h =
-    (declared_scoped ids _ xs h, elaboration_scoped ids _ _ (initial_scoped initial _ h))
+-- where so many variables have been elaborated, these steps elaborate one for each further symbol
+pub record Elaborates (k : ℕ) (xs : List Symbol) (ys : List tree.Stmt) : Type 0 where
+  pub symbols : SymbolsScoped (length xs) xs
+  pub steps : StepsScoped ys (only k)
+  pub behind : scope_behind ys (only k) ≡ only (length xs)
 
-decls_scoped : (x : plain.Decls) (main : List ℕ) (xs : List Symbol) → SymbolsScoped xs → SymbolsScoped (d.check_decls x main xs).symbols × StmtsScoped (d.check_decls x main xs).steps
-decls_scoped plain.no_decls main xs h = (h, tt)
-decls_scoped (plain.more_decls x rest) main xs h =
-    let first = decl_scoped x main xs h in
-    let others = decls_scoped rest main (d.check_decl x main xs).symbols first.0 in
-    (others.0, stmts_append _ _ first.1 others.1)
+no_first : {A : Type 0} (xs ys : List A) → xs ++ ys ≡ [] → xs ≡ []
+no_first [] ys h = refl
+no_first (x ∷ xs) ys h = cc
 
--- statements
+no_second : {A : Type 0} (xs ys : List A) → xs ++ ys ≡ [] → ys ≡ []
+no_second [] ys h = h
+no_second (x ∷ xs) ys h = cc
 
-assigned_scoped : (m : Option Meaning) (at : Pos) (t : Typed) → VisibleScoped m → TypedScoped t → StmtScoped (s.assigned m at t) 1
-assigned_scoped (Some (Variable v)) at (number x) h i = (h, i)
-assigned_scoped (Some (Variable v)) at (string x) h i = tt
-assigned_scoped (Some (Variable v)) at unknown h i = tt
-assigned_scoped (Some IntegerType) at t h i = tt
-assigned_scoped (Some PutLine) at t h i = tt
-assigned_scoped (Some MainProcedure) at t h i = tt
-assigned_scoped (Some Faulty) at t h i = tt
-assigned_scoped None at t h i = tt
+new_at : (b : Bool) (f : Fault) → rules.unless (not b) f ≡ [] → b ≡ false
+new_at true f h = cc
+new_at false f h = refl
 
-called_scoped : (m : Option Meaning) (at : Pos) (t : Typed) → TypedScoped t → StmtScoped (s.called m at t) 1
-called_scoped (Some PutLine) at (string x) i = (i, tt)
-called_scoped (Some PutLine) at (number x) i = tt
-called_scoped (Some PutLine) at unknown i = tt
-called_scoped (Some (Variable v)) at t i = tt
-called_scoped (Some IntegerType) at t i = tt
-called_scoped (Some MainProcedure) at t i = tt
-called_scoped (Some Faulty) at t i = tt
-called_scoped None at t i = tt
+-- a name that is declared for the first time
+new_name : (i : Ident) (xs : List Symbol) → rules.declared_once i.name i.at xs ≡ [] → names.is_declared i.name xs ≡ false
+new_name i xs h = new_at (names.is_declared i.name xs) _ h
 
-stmt_scoped : (x : plain.Stmt) (n : Names) → SymbolsScoped n.symbols → StmtScoped (s.typed_stmt x n) 1
-stmt_scoped (plain.null at) n h = tt
-stmt_scoped (plain.assign target value) n h = assigned_scoped (names.visible target.name n) target.at _ (visible_scoped target.name n h) (simple_scoped value n h)
-stmt_scoped (plain.call name argument) n h = called_scoped (names.visible name.name n) name.at _ (simple_scoped argument n h)
+names_scoped : (is : List Ident) (good : Bool) (at : Pos) (x : tree.IntegerExpr) (k : ℕ) (xs : List Symbol) → length xs ≡ k → d.twice_faults is good xs ≡ [] → SymbolsScoped k xs → IntegerScoped x (only k) → Elaborates k (d.declared_names is good xs) (d.elaboration is at x)
+names_scoped [] good at x k xs p q h i = record { symbols = subst (λ n. SymbolsScoped n xs) (sym p) h; steps = tt; behind = ap only (sym p) }
+names_scoped (i ∷ is) good at x k xs p q h y =
+    let new : names.is_declared i.name xs ≡ false = new_name i xs (no_first _ _ q) in
+    let added : List Symbol = xs ++ (i.name, d.new_meaning good (length xs)) ∷ [] in
+    let none : d.twice_faults is good (d.with_name i good xs) ≡ [] = no_second (rules.declared_once i.name i.at xs) _ q in
+    let fresh : d.twice_faults is good added ≡ [] = rw new at none in
+    let rest : Elaborates (suc k) (d.declared_names is good added) (d.elaboration is at x) = names_scoped is good at x (suc k) added (length_more xs _ ∙ ap suc p) fresh (symbols_more k xs _ h (rw p (new_scoped good k))) (integer_more k x y) in
+    rw new (record { symbols = rest.symbols; steps = (y, rest.steps); behind = rest.behind })
 
-stmts_scoped : (x : plain.Stmts) (n : Names) → SymbolsScoped n.symbols → StmtsScoped (s.typed_stmts x n)
-stmts_scoped plain.no_stmts n h = tt
-stmts_scoped (plain.more_stmts x xs) n h = (stmt_scoped x n h, stmts_scoped xs n h)
+zero_scoped : (k : ℕ) → (t : Typed) → TypedScoped k t → IntegerScoped (d.integer_or_zero t) (only k)
+zero_scoped k (number x) h = h
+zero_scoped k (string x) h = tt
+zero_scoped k unknown h = tt
 
-sequence_scoped : (at : Pos) (xs : List tree.Stmt) → StmtsScoped xs → StmtScoped (s.in_sequence at xs) 1
-sequence_scoped at [] h = tt
-sequence_scoped at (x ∷ []) h = h.0
-sequence_scoped at (x ∷ y ∷ xs) h = (h.0, sequence_scoped at (y ∷ xs) h.1)
+initial_scoped : (k : ℕ) → (x : plain.MaybeSimple) (n : Names) → SymbolsScoped k n.symbols → IntegerScoped (d.initial_value x n) (only k)
+initial_scoped k plain.no_simple n h = tt
+initial_scoped k (plain.a_simple x) n h = zero_scoped k (e.check_simple x n).typed (simple_scoped k x n h)
 
-or_null_scoped : (at : Pos) (xs : List tree.Stmt) → StmtsScoped xs → StmtsScoped (c.or_null at xs)
-or_null_scoped at [] h = (tt, tt)
-or_null_scoped at (x ∷ xs) h = h
+decl_scoped : (x : plain.Decl) (main : List ℕ) (xs : List Symbol) → (d.check_decl x main xs).faults ≡ [] → SymbolsScoped (length xs) xs → Elaborates (length xs) (d.check_decl x main xs).symbols (d.check_decl x main xs).steps
+decl_scoped (plain.object ids subtype initial) main xs q h =
+    names_scoped ids _ _ _ (length xs) xs refl (no_second _ _ (no_second _ _ q)) h (initial_scoped (length xs) initial _ h)
+
+steps_append : (xs ys : List tree.Stmt) (scope : Scope) → StepsScoped xs scope → StepsScoped ys (scope_behind xs scope) → StepsScoped (xs ++ ys) scope
+steps_append [] ys scope h i = i
+steps_append (x ∷ xs) ys scope h i = (h.0, steps_append xs ys _ h.1 i)
+
+behind_append : (xs ys : List tree.Stmt) (scope : Scope) → scope_behind (xs ++ ys) scope ≡ scope_behind ys (scope_behind xs scope)
+behind_append [] ys scope = refl
+behind_append (x ∷ xs) ys scope = behind_append xs ys (scope_after x scope)
+
+decls_scoped : (x : plain.Decls) (main : List ℕ) (xs : List Symbol) → (d.check_decls x main xs).faults ≡ [] → SymbolsScoped (length xs) xs → Elaborates (length xs) (d.check_decls x main xs).symbols (d.check_decls x main xs).steps
+decls_scoped plain.no_decls main xs q h = record { symbols = h; steps = tt; behind = refl }
+decls_scoped (plain.more_decls x rest) main xs q h =
+    let one : d.Declared = d.check_decl x main xs in
+    let first : Elaborates (length xs) one.symbols one.steps = decl_scoped x main xs (no_first _ _ q) h in
+    let others : Elaborates (length one.symbols) (d.check_decls rest main one.symbols).symbols (d.check_decls rest main one.symbols).steps = decls_scoped rest main one.symbols (no_second one.faults _ q) first.symbols in
+    record {
+      symbols = others.symbols;
+      steps = steps_append one.steps _ _ first.steps (rw first.behind others.steps);
+      behind = behind_append one.steps _ _ ∙ ap (scope_behind (d.check_decls rest main one.symbols).steps) first.behind ∙ others.behind;
+    }
+
+-- statements, which elaborate nothing
+
+pub record IsStatement (k : ℕ) (x : tree.Stmt) : Type 0 where
+  pub scoped : StmtScoped x (only k)
+  pub after : scope_after x (only k) ≡ only k
+
+null_scoped : {k : ℕ} → (at : Pos) → IsStatement k (tree.null at)
+null_scoped at = record { scoped = tt; after = refl }
+
+assigned_scoped : {k : ℕ} → (m : Option Meaning) (at : Pos) (t : Typed) → VisibleScoped k m → TypedScoped k t → IsStatement k (s.assigned m at t)
+assigned_scoped (Some (Variable v)) at (number x) h i = record { scoped = (h, i); after = refl }
+assigned_scoped (Some (Variable v)) at (string x) h i = null_scoped at
+assigned_scoped (Some (Variable v)) at unknown h i = null_scoped at
+assigned_scoped (Some IntegerType) at t h i = null_scoped at
+assigned_scoped (Some PutLine) at t h i = null_scoped at
+assigned_scoped (Some MainProcedure) at t h i = null_scoped at
+assigned_scoped (Some Faulty) at t h i = null_scoped at
+assigned_scoped None at t h i = null_scoped at
+
+called_scoped : {k : ℕ} → (m : Option Meaning) (at : Pos) (t : Typed) → TypedScoped k t → IsStatement k (s.called m at t)
+called_scoped (Some PutLine) at (string x) i = record { scoped = (i, tt); after = refl }
+called_scoped (Some PutLine) at (number x) i = null_scoped at
+called_scoped (Some PutLine) at unknown i = null_scoped at
+called_scoped (Some (Variable v)) at t i = null_scoped at
+called_scoped (Some IntegerType) at t i = null_scoped at
+called_scoped (Some MainProcedure) at t i = null_scoped at
+called_scoped (Some Faulty) at t i = null_scoped at
+called_scoped None at t i = null_scoped at
+
+stmt_scoped : (k : ℕ) → (x : plain.Stmt) (n : Names) → SymbolsScoped k n.symbols → IsStatement k (s.typed_stmt x n)
+stmt_scoped k (plain.null at) n h = null_scoped at
+stmt_scoped k (plain.assign target value) n h = assigned_scoped (names.visible target.name n) target.at _ (visible_scoped k target.name n h) (simple_scoped k value n h)
+stmt_scoped k (plain.call name argument) n h = called_scoped (names.visible name.name n) name.at _ (simple_scoped k argument n h)
+
+abbrev AreStatements : ℕ → List tree.Stmt → Type 0
+AreStatements k [] = Unit {0}
+AreStatements k (x ∷ xs) = IsStatement k x × AreStatements k xs
+
+stmts_scoped : (k : ℕ) → (x : plain.Stmts) (n : Names) → SymbolsScoped k n.symbols → AreStatements k (s.typed_stmts x n)
+stmts_scoped k plain.no_stmts n h = tt
+stmts_scoped k (plain.more_stmts x xs) n h = (stmt_scoped k x n h, stmts_scoped k xs n h)
+
+or_null_scoped : (k : ℕ) → (at : Pos) (xs : List tree.Stmt) → AreStatements k xs → AreStatements k (c.or_null at xs)
+or_null_scoped k at [] h = (null_scoped at, tt)
+or_null_scoped k at (x ∷ xs) h = h
+
+statements_scoped : (k : ℕ) → (xs : List tree.Stmt) → AreStatements k xs → StepsScoped xs (only k)
+statements_scoped k [] h = tt
+statements_scoped k (x ∷ xs) h = (h.0.scoped, rw h.0.after (statements_scoped k xs h.1))
+
+statements_behind : (k : ℕ) → (xs : List tree.Stmt) → AreStatements k xs → scope_behind xs (only k) ≡ only k
+statements_behind k [] h = refl
+statements_behind k (x ∷ xs) h = ap (scope_behind xs) h.0.after ∙ statements_behind k xs h.1
 
 -- programs
 
-body_scoped : (main : Ident) (x : d.Declared) (b : plain.Body) → SymbolsScoped x.symbols → StmtsScoped x.steps → IsScoped (c.unit_program main x b)
-body_scoped main x (plain.body begin xs end last) h i = sequence_scoped begin _ (stmts_append _ _ i (or_null_scoped begin _ (stmts_scoped xs _ h)))
+before_scoped : (x : tree.Stmt) (xs : List tree.Stmt) (scope : Scope) → StmtScoped x scope → StepsScoped xs (scope_after x scope) → StmtScoped (tree.before x xs) scope
+before_scoped x [] scope h i = h
+before_scoped x (y ∷ ys) scope h i = (h, before_scoped y ys _ i.0 i.1)
 
-pub typed_scoped : (u : plain.Unit) → IsScoped (c.typed u)
-typed_scoped (plain.unit name decls b) = let x = decls_scoped decls name.name [] tt in body_scoped name (d.check_decls decls name.name []) b x.0 x.1
+before_behind : (x : tree.Stmt) (xs : List tree.Stmt) (scope : Scope) → scope_after (tree.before x xs) scope ≡ scope_behind xs (scope_after x scope)
+before_behind x [] scope = refl
+before_behind x (y ∷ ys) scope = before_behind y ys (scope_after x scope)
+
+sequence_scoped : (xs : List tree.Stmt) (scope : Scope) → StepsScoped xs scope → StmtScoped (tree.in_sequence xs) scope
+sequence_scoped [] scope h = tt
+sequence_scoped (x ∷ xs) scope h = before_scoped x xs scope h.0 h.1
+
+sequence_behind : (xs : List tree.Stmt) (scope : Scope) → scope_after (tree.in_sequence xs) scope ≡ scope_behind xs scope
+sequence_behind [] scope = refl
+sequence_behind (x ∷ xs) scope = before_behind x xs scope
+
+body_scoped : (main : Ident) (x : d.Declared) (b : plain.Body) → Elaborates 0 x.symbols x.steps → IsScoped (c.unit_program main x b)
+body_scoped main x (plain.body begin xs end last) h =
+    let stmts : List tree.Stmt = c.or_null begin (s.typed_stmts xs (c.all_names main.name x)) in
+    let are : AreStatements (length x.symbols) stmts = or_null_scoped (length x.symbols) begin _ (stmts_scoped (length x.symbols) xs _ h.symbols) in
+    record {
+      body = sequence_scoped (x.steps ++ stmts) (only 0) (steps_append x.steps stmts (only 0) h.steps (rw h.behind (statements_scoped (length x.symbols) stmts are)));
+      variables = sequence_behind (x.steps ++ stmts) (only 0) ∙ behind_append x.steps stmts (only 0) ∙ ap (scope_behind stmts) h.behind ∙ statements_behind (length x.symbols) stmts are ∙ ap only (sym (length-map x.symbols (λ z. z.0)));
+    }
+
+pub typed_scoped : (u : plain.Unit) → c.faults u ≡ [] → IsScoped (c.typed u)
+typed_scoped (plain.unit name decls (plain.body begin xs end last)) q = body_scoped name (d.check_decls decls name.name []) (plain.body begin xs end last) (decls_scoped decls name.name [] (no_first _ _ q) tt)

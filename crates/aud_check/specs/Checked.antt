@@ -1,28 +1,22 @@
 -- Programs: their faults, and the typed program of one without faults (RM 6.3, 10.1.1).
-use Rattle.std.specs.Prelude.{ℕ, List, [], ◌∷◌, ◌++◌, map, Option, Some, None, Result, Ok, Err, if◌then◌else◌}
-use Rattle.std.specs.Str.{bytes_eq}
+use Rattle.std.specs.Prelude.{ℕ, List, [], ◌∷◌, ◌++◌, map, Result, Ok, Err}
 use Rattle.aud_text.specs.declared.place.Pos.{Pos}
-use Rattle.aud_text.specs.declared.code.Code.TheVariants.{WrongNameAtEnd}
 use Rattle.aud_syntax.specs.declared.tree.Ident.{Ident}
 use Rattle.aud_syntax.specs.Plain.{Body, body, Unit, unit}
 use Rattle.aud_typed.specs.Tree as tree
 use Rattle.aud_check.specs.declared.fault.Fault.{Fault}
 use Rattle.aud_check.specs.Least.{least}
 use Rattle.aud_check.specs.Visible.{Names}
+use Rattle.aud_check.specs.Rules.{right_name_at_end}
 use Rattle.aud_check.specs.Declarations.{Declared, check_decls}
-use Rattle.aud_check.specs.Statements.{stmts_faults, typed_stmts, in_sequence}
-
--- the name after a body's end must be the procedure's (RM 6.3(4))
-abbrev pub end_faults : List ℕ → Option Ident → List Fault
-end_faults main None = []
-end_faults main (Some i) = if bytes_eq i.name main then [] else record { at = i.at; code = WrongNameAtEnd } ∷ []
+use Rattle.aud_check.specs.Statements.{stmts_faults, typed_stmts}
 
 -- what the statements see: all that the body declares
 abbrev pub all_names : List ℕ → Declared → Names
 all_names main d = record { main = main; symbols = d.symbols; hidden = [] }
 
 abbrev pub unit_faults : Ident → Declared → Body → List Fault
-unit_faults main d (body begin stmts end last) = d.faults ++ (stmts_faults stmts (all_names main.name d) ++ end_faults main.name last)
+unit_faults main d (body begin stmts end last) = d.faults ++ (stmts_faults stmts (all_names main.name d) ++ right_name_at_end main.name last)
 
 -- no statements are a null statement where they would begin
 abbrev pub or_null : Pos → List tree.Stmt → List tree.Stmt
@@ -33,11 +27,11 @@ abbrev pub unit_program : Ident → Declared → Body → tree.Program
 unit_program main d (body begin stmts end last) = record {
   name = main.name;
   variables = map (λ s. s.0) d.symbols;
-  body = in_sequence begin (d.steps ++ or_null begin (typed_stmts stmts (all_names main.name d)));
+  body = tree.in_sequence (d.steps ++ or_null begin (typed_stmts stmts (all_names main.name d)));
   end = end;
 }
 
--- every fault of a program
+-- every fault of a program; the name after the end must be its own
 abbrev pub faults : Unit → List Fault
 faults (unit name decls b) = unit_faults name (check_decls decls name.name []) b
 

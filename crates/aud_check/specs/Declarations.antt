@@ -1,7 +1,6 @@
 -- Declarations of variables (RM 3.1, 3.3.1).
 use Rattle.std.specs.Prelude.{ℕ, Bool, true, false, List, [], ◌∷◌, ◌++◌, length, map, Option, Some, None, pos, if◌then◌else◌}
 use Rattle.aud_text.specs.declared.place.Pos.{Pos}
-use Rattle.aud_text.specs.declared.code.Code.TheVariants.{NameNotDeclared, DeclaredTwice, WrongKindOfName}
 use Rattle.aud_syntax.specs.declared.tree.Ident.{Ident}
 use Rattle.aud_syntax.specs.Plain.{Decl, object, Decls, no_decls, more_decls, MaybeSimple, no_simple, a_simple}
 use Rattle.aud_typed.specs.Tree as tree
@@ -9,6 +8,7 @@ use Rattle.aud_check.specs.declared.fault.Fault.{Fault}
 use Rattle.aud_check.specs.declared.names.Meaning.{Meaning}
 use Rattle.aud_check.specs.declared.names.Meaning.TheVariants.{IntegerType, PutLine, MainProcedure, Variable, Faulty}
 use Rattle.aud_check.specs.Visible.{Symbol, Names, visible, is_declared}
+use Rattle.aud_check.specs.Rules.{name_not_declared, declared_once, wrong_kind_of_name}
 use Rattle.aud_check.specs.Expressions.{Typed, number, check_simple, simple_at, not_integer}
 
 -- the faults of declarations, what the body has declared after them, and their elaboration, name by name (RM 3.11)
@@ -19,12 +19,12 @@ pub record Declared : Type 0 where
 
 -- a subtype mark must be that of a type (RM 3.2.2), of which there is only Integer
 abbrev pub subtype_faults : Option Meaning → Pos → List Fault
-subtype_faults None at = record { at = at; code = NameNotDeclared } ∷ []
+subtype_faults None at = name_not_declared at
 subtype_faults (Some IntegerType) at = []
 subtype_faults (Some Faulty) at = []
-subtype_faults (Some PutLine) at = record { at = at; code = WrongKindOfName } ∷ []
-subtype_faults (Some MainProcedure) at = record { at = at; code = WrongKindOfName } ∷ []
-subtype_faults (Some (Variable v)) at = record { at = at; code = WrongKindOfName } ∷ []
+subtype_faults (Some PutLine) at = wrong_kind_of_name at
+subtype_faults (Some MainProcedure) at = wrong_kind_of_name at
+subtype_faults (Some (Variable v)) at = wrong_kind_of_name at
 
 abbrev pub is_integer_type : Option Meaning → Bool
 is_integer_type (Some IntegerType) = true
@@ -48,14 +48,19 @@ initial_value (a_simple e) names = integer_or_zero (check_simple e names).typed
 abbrev pub new_meaning : Bool → ℕ → Meaning
 new_meaning good index = if good then Variable (record { level = 0; index = index }) else Faulty
 
--- names are declared one after the other; a name that the region has already is refused (RM 8.3(26))
+-- what is declared after one name more; a name that the region has already stays what it was
+abbrev pub with_name : Ident → Bool → List Symbol → List Symbol
+with_name i good symbols = if is_declared i.name symbols then symbols else symbols ++ (i.name, new_meaning good (length symbols)) ∷ []
+
+-- names are declared one after the other
 abbrev pub declared_names : List Ident → Bool → List Symbol → List Symbol
 declared_names [] good symbols = symbols
-declared_names (i ∷ is) good symbols = if is_declared i.name symbols then declared_names is good symbols else declared_names is good (symbols ++ (i.name, new_meaning good (length symbols)) ∷ [])
+declared_names (i ∷ is) good symbols = declared_names is good (with_name i good symbols)
 
+-- each of them once
 abbrev pub twice_faults : List Ident → Bool → List Symbol → List Fault
 twice_faults [] good symbols = []
-twice_faults (i ∷ is) good symbols = if is_declared i.name symbols then record { at = i.at; code = DeclaredTwice } ∷ twice_faults is good symbols else twice_faults is good (symbols ++ (i.name, new_meaning good (length symbols)) ∷ [])
+twice_faults (i ∷ is) good symbols = declared_once i.name i.at symbols ++ twice_faults is good (with_name i good symbols)
 
 abbrev pub first_at : List Ident → Pos
 first_at [] = record { line = 0; col = 0 }

@@ -2,8 +2,6 @@
 use Rattle.std.specs.Prelude.{ℤ, List, [], ◌∷◌, ◌++◌, Option, Some, None, codes, if◌then◌else◌}
 use Rattle.std.specs.Str.{bytes_eq}
 use Rattle.aud_text.specs.declared.place.Pos.{Pos}
-use Rattle.aud_text.specs.declared.code.Code.{Code}
-use Rattle.aud_text.specs.declared.code.Code.TheVariants.{NameNotDeclared, WrongKindOfName, WrongType, WrongNumberOfArguments, NumberTooLarge}
 use Rattle.aud_syntax.specs.declared.tree.Ident.{Ident}
 use Rattle.aud_syntax.specs.declared.tree.Signed.{Signed}
 use Rattle.aud_syntax.specs.declared.tree.Sign.TheVariants as sign
@@ -22,7 +20,10 @@ use Rattle.aud_typed.specs.Tree as tree
 use Rattle.aud_check.specs.declared.fault.Fault.{Fault}
 use Rattle.aud_check.specs.declared.names.Meaning.{Meaning}
 use Rattle.aud_check.specs.declared.names.Meaning.TheVariants.{IntegerType, PutLine, MainProcedure, Variable, Faulty}
+use Rattle.aud_check.specs.declared.rules.Base.{Base}
+use Rattle.aud_check.specs.declared.rules.Base.TheVariants.{Whole, Truth, Text}
 use Rattle.aud_check.specs.Visible.{Names, visible}
+use Rattle.aud_check.specs.Rules.{name_not_declared, wrong_kind_of_name, right_type, wrong_number_of_arguments, number_too_large}
 
 -- an expression with its type, unknown where the expression is faulty
 pub data Typed : Type 0 where
@@ -37,8 +38,8 @@ pub record Checked : Type 0 where
 abbrev pub fine : Typed → Checked
 fine t = record { faults = []; typed = t }
 
-abbrev pub faulty : Pos → Code → Checked
-faulty at code = record { faults = record { at = at; code = code } ∷ []; typed = unknown }
+abbrev pub faulty : List Fault → Checked
+faulty faults = record { faults = faults; typed = unknown }
 
 -- what is checked further with the type of a part
 abbrev pub after : List Fault → Checked → Checked
@@ -69,16 +70,18 @@ signed_at (Some s) at = s.at
 abbrev pub simple_at : Simple → Pos
 simple_at (simple s t rest) = signed_at s (term_at t)
 
--- an expression that must be of type Integer, and one that must be a text; nothing more is said of one that is faulty (RM 8.6)
+-- the type of an expression, where it is known
+abbrev pub base_of : Typed → Option Base
+base_of (number e) = Some Whole
+base_of (string t) = Some Text
+base_of unknown = None
+
+-- an operand that must be of type Integer, and one that must be a text
 abbrev pub not_integer : Pos → Typed → List Fault
-not_integer at (number e) = []
-not_integer at (string t) = record { at = at; code = WrongType } ∷ []
-not_integer at unknown = []
+not_integer at t = right_type (Some Whole) at (base_of t)
 
 abbrev pub not_text : Pos → Typed → List Fault
-not_text at (number e) = record { at = at; code = WrongType } ∷ []
-not_text at (string t) = []
-not_text at unknown = []
+not_text at t = right_type (Some Text) at (base_of t)
 
 -- the operators on two Integers (RM 4.5.3, 4.5.5)
 abbrev pub multiplying : Multiplying → Binary
@@ -124,9 +127,7 @@ signed (Some s) at t = record { faults = not_integer at t; typed = elim s.sign [
 
 -- not asks a Boolean, which no operand of this language is (RM 4.5.6)
 abbrev pub not_boolean : Pos → Typed → List Fault
-not_boolean at (number e) = record { at = at; code = WrongType } ∷ []
-not_boolean at (string t) = record { at = at; code = WrongType } ∷ []
-not_boolean at unknown = []
+not_boolean at t = right_type (Some Truth) at (base_of t)
 
 -- RM 4.5.6
 abbrev pub highest : Highest → Pos → Typed → Checked
@@ -136,16 +137,24 @@ highest Not at t = record { faults = not_boolean at t; typed = unknown }
 -- a whole number (RM 2.4): it must be a value of type Integer (RM 3.5.4)
 abbrev pub check_number : Option ℤ → Pos → Checked
 check_number (Some value) at = fine (number (tree.number value))
-check_number None at = faulty at NumberTooLarge
+check_number None at = faulty (number_too_large at)
 
--- a name as a primary must be a variable's (RM 4.1, 4.4)
+-- what is read or assigned must be a variable (RM 4.1, 4.4, 5.2); nothing more is said of one whose declaration is faulty
+abbrev pub variable_faults : Option Meaning → Pos → List Fault
+variable_faults None at = name_not_declared at
+variable_faults (Some (Variable v)) at = []
+variable_faults (Some Faulty) at = []
+variable_faults (Some IntegerType) at = wrong_kind_of_name at
+variable_faults (Some PutLine) at = wrong_kind_of_name at
+variable_faults (Some MainProcedure) at = wrong_kind_of_name at
+
+abbrev pub variable_read : Option Meaning → Typed
+variable_read (Some (Variable v)) = number (tree.variable v)
+variable_read _ = unknown
+
+-- a name as a primary
 abbrev pub check_name : Option Meaning → Pos → Checked
-check_name None at = faulty at NameNotDeclared
-check_name (Some (Variable v)) at = fine (number (tree.variable v))
-check_name (Some Faulty) at = fine unknown
-check_name (Some IntegerType) at = faulty at WrongKindOfName
-check_name (Some PutLine) at = faulty at WrongKindOfName
-check_name (Some MainProcedure) at = faulty at WrongKindOfName
+check_name m at = record { faults = variable_faults m at; typed = variable_read m }
 
 abbrev pub image_of : Typed → Typed
 image_of (number e) = string (tree.image e)
@@ -153,18 +162,18 @@ image_of _ = unknown
 
 -- X'Image of a variable (RM 4.10(40)) asks no argument, Integer'Image asks one (RM 3.5(35))
 abbrev pub image_alone : Meaning → Ident → Ident → Checked
-image_alone IntegerType prefix designator = faulty designator.at WrongNumberOfArguments
+image_alone IntegerType prefix designator = faulty (wrong_number_of_arguments designator.at)
 image_alone (Variable v) prefix designator = fine (string (tree.image (tree.variable v)))
 image_alone Faulty prefix designator = fine unknown
-image_alone PutLine prefix designator = faulty prefix.at WrongKindOfName
-image_alone MainProcedure prefix designator = faulty prefix.at WrongKindOfName
+image_alone PutLine prefix designator = faulty (wrong_kind_of_name prefix.at)
+image_alone MainProcedure prefix designator = faulty (wrong_kind_of_name prefix.at)
 
 abbrev pub image_with : Meaning → Ident → Ident → Pos → Typed → Checked
 image_with IntegerType prefix designator at t = record { faults = not_integer at t; typed = image_of t }
-image_with (Variable v) prefix designator at t = faulty designator.at WrongNumberOfArguments
+image_with (Variable v) prefix designator at t = faulty (wrong_number_of_arguments designator.at)
 image_with Faulty prefix designator at t = fine unknown
-image_with PutLine prefix designator at t = faulty prefix.at WrongKindOfName
-image_with MainProcedure prefix designator at t = faulty prefix.at WrongKindOfName
+image_with PutLine prefix designator at t = faulty (wrong_kind_of_name prefix.at)
+image_with MainProcedure prefix designator at t = faulty (wrong_kind_of_name prefix.at)
 
 -- the argument, if there is one, with the place where it begins
 abbrev pub image : Meaning → Ident → Ident → Option (Pos × Typed) → Checked
@@ -173,8 +182,8 @@ image m prefix designator (Some a) = image_with m prefix designator a.0 a.1
 
 -- an attribute's prefix must be declared, and its designator must be Image (RM 4.1.4)
 abbrev pub check_attribute : Option Meaning → Ident → Ident → Option (Pos × Typed) → Checked
-check_attribute None prefix designator argument = faulty prefix.at NameNotDeclared
-check_attribute (Some m) prefix designator argument = if bytes_eq designator.name (codes "IMAGE") then image m prefix designator argument else faulty designator.at WrongKindOfName
+check_attribute None prefix designator argument = faulty (name_not_declared prefix.at)
+check_attribute (Some m) prefix designator argument = if bytes_eq designator.name (codes "IMAGE") then image m prefix designator argument else faulty (wrong_kind_of_name designator.at)
 
 abbrev mutual
   -- RM 4.4(4): the sign belongs to the first term

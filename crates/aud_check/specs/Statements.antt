@@ -1,38 +1,48 @@
 -- Statements (RM 5).
 use Rattle.std.specs.Prelude.{List, [], ◌∷◌, ◌++◌, Option, Some, None}
 use Rattle.aud_text.specs.declared.place.Pos.{Pos}
-use Rattle.aud_text.specs.declared.code.Code.TheVariants.{NameNotDeclared, WrongKindOfName, WrongNumberOfArguments}
 use Rattle.aud_syntax.specs.Plain.{Stmt, null, assign, call, Stmts, no_stmts, more_stmts}
 use Rattle.aud_typed.specs.Tree as tree
 use Rattle.aud_check.specs.declared.fault.Fault.{Fault}
 use Rattle.aud_check.specs.declared.names.Meaning.{Meaning}
 use Rattle.aud_check.specs.declared.names.Meaning.TheVariants.{IntegerType, PutLine, MainProcedure, Variable, Faulty}
+use Rattle.aud_check.specs.declared.rules.Base.{Base}
+use Rattle.aud_check.specs.declared.rules.Base.TheVariants.{Whole, Text}
 use Rattle.aud_check.specs.Visible.{Names, visible}
-use Rattle.aud_check.specs.Expressions.{Typed, number, string, check_simple, simple_at, not_integer, not_text}
+use Rattle.aud_check.specs.Rules.{name_not_declared, wrong_kind_of_name, right_type, wrong_number_of_arguments}
+use Rattle.aud_check.specs.Expressions.{Typed, number, string, check_simple, simple_at, base_of, variable_faults}
+
+-- the type of what is assigned to, where it is known
+abbrev pub target_base : Option Meaning → Option Base
+target_base (Some (Variable v)) = Some Whole
+target_base _ = None
 
 -- the target of an assignment must be a variable, and the value of its type (RM 5.2(4))
 abbrev pub assign_faults : Option Meaning → Pos → Pos → Typed → List Fault
-assign_faults None target at value = record { at = target; code = NameNotDeclared } ∷ []
-assign_faults (Some (Variable v)) target at value = not_integer at value
-assign_faults (Some Faulty) target at value = []
-assign_faults (Some IntegerType) target at value = record { at = target; code = WrongKindOfName } ∷ []
-assign_faults (Some PutLine) target at value = record { at = target; code = WrongKindOfName } ∷ []
-assign_faults (Some MainProcedure) target at value = record { at = target; code = WrongKindOfName } ∷ []
+assign_faults m target at value = variable_faults m target ++ right_type (target_base m) at (base_of value)
 
 -- a faulty statement is left as a null statement
 abbrev pub assigned : Option Meaning → Pos → Typed → tree.Stmt
 assigned (Some (Variable v)) at (number e) = tree.assign at v e
 assigned _ at _ = tree.null at
 
--- what is called must be a procedure (RM 6.4), and the argument must be one of its formal parameter's type (RM 6.4.1(3));
--- the main procedure has no formal parameters (RM 6.4(3))
+-- what is called must be a procedure (RM 6.4), and one with a formal parameter (RM 6.4(3)), which the main procedure has not
+abbrev pub callee_faults : Option Meaning → Pos → List Fault
+callee_faults None at = name_not_declared at
+callee_faults (Some PutLine) at = []
+callee_faults (Some MainProcedure) at = wrong_number_of_arguments at
+callee_faults (Some Faulty) at = []
+callee_faults (Some IntegerType) at = wrong_kind_of_name at
+callee_faults (Some (Variable v)) at = wrong_kind_of_name at
+
+-- the type of the formal parameter, where there is one
+abbrev pub formal_base : Option Meaning → Option Base
+formal_base (Some PutLine) = Some Text
+formal_base _ = None
+
+-- the argument must be of the formal parameter's type (RM 6.4.1(3))
 abbrev pub call_faults : Option Meaning → Pos → Pos → Typed → List Fault
-call_faults None called at argument = record { at = called; code = NameNotDeclared } ∷ []
-call_faults (Some PutLine) called at argument = not_text at argument
-call_faults (Some MainProcedure) called at argument = record { at = called; code = WrongNumberOfArguments } ∷ []
-call_faults (Some Faulty) called at argument = []
-call_faults (Some IntegerType) called at argument = record { at = called; code = WrongKindOfName } ∷ []
-call_faults (Some (Variable v)) called at argument = record { at = called; code = WrongKindOfName } ∷ []
+call_faults m called at argument = callee_faults m called ++ right_type (formal_base m) at (base_of argument)
 
 -- Put_Line puts out its text and ends the line
 abbrev pub called : Option Meaning → Pos → Typed → tree.Stmt
@@ -58,9 +68,3 @@ stmts_faults (more_stmts s ss) names = stmt_faults s names ++ stmts_faults ss na
 abbrev pub typed_stmts : Stmts → Names → List tree.Stmt
 typed_stmts no_stmts names = []
 typed_stmts (more_stmts s ss) names = typed_stmt s names ∷ typed_stmts ss names
-
--- statements one after the other (RM 5.1(15)); none are a null statement at a place
-abbrev pub in_sequence : Pos → List tree.Stmt → tree.Stmt
-in_sequence at [] = tree.null at
-in_sequence at (s ∷ []) = s
-in_sequence at (s ∷ t ∷ ss) = tree.sequence s (in_sequence at (t ∷ ss))

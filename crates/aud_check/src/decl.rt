@@ -4,20 +4,21 @@ ghost use Rattle.std.specs.Prelude.{◌≡◌, ◌++◌, IfOk, OnOk};
 ghost use Rattle.aud_syntax.specs.View.{plain_maybe, plain_decl, plain_decls};
 ghost use Rattle.aud_typed.specs.View.{plain_integer};
 ghost use Rattle.aud_check.specs.Least.{noted};
-ghost use Rattle.aud_check.specs.Declarations.{subtype_faults, is_integer_type, initial_faults, initial_value, integer_or_zero, new_meaning, declared_names, twice_faults, first_at, elaboration, check_decl, check_decls};
+ghost use Rattle.aud_check.specs.Rules.{declared_once};
+ghost use Rattle.aud_check.specs.Declarations.{subtype_faults, is_integer_type, initial_faults, initial_value, integer_or_zero, new_meaning, with_name, declared_names, twice_faults, first_at, elaboration, check_decl, check_decls};
 ghost use Rattle.aud_check.specs.Typing.{plain_typed};
 ghost use Rattle.aud_check.specs.Part.{plain_steps, Declares};
 
 use crate::expr::{expr, simple_at};
 use crate::fault::Least;
 use crate::names::{Meaning, Scope, Symbols};
+use crate::rules::{declared_once, name_not_declared, wrong_kind_of_name};
 use crate::typed::{Typed, wants_integer};
 use aud_syntax::tree::{Decl, Expr, Ident};
-use aud_text::code::Code;
 use aud_text::int32::Int32;
 use aud_text::name::Name;
 use aud_text::place::Pos;
-use aud_typed::program::{IntegerExpr, Stmt, Variable};
+use aud_typed::program::{IntegerExpr, Operation, Stmt, Variable};
 use std::alloc::{AllocError, Global};
 
 /// What a declarative part declares, and its elaboration (RM 3.11).
@@ -32,9 +33,9 @@ fn check_subtype(meaning: Option<Meaning>, at: Pos, faults: &mut Least)
     ensures { faults.new ≡ noted faults.old (subtype_faults meaning at) }
 {
     match meaning {
-        None => faults.note(at, Code::NameNotDeclared),
+        None => name_not_declared(at, faults),
         Some(Meaning::IntegerType | Meaning::Faulty) => {}
-        Some(_) => faults.note(at, Code::WrongKindOfName),
+        Some(_) => wrong_kind_of_name(at, faults),
     }
 }
 
@@ -87,10 +88,14 @@ fn copy(alloc: Global, value: &IntegerExpr) -> Result<IntegerExpr, AllocError>
             let x = Box::new(alloc, copy(alloc, x)?)?;
             Ok(IntegerExpr::Unary(*op, x))
         }
-        IntegerExpr::Binary(op, x, y) => {
-            let x = Box::new(alloc, copy(alloc, x)?)?;
-            let y = Box::new(alloc, copy(alloc, y)?)?;
-            Ok(IntegerExpr::Binary(*op, x, y))
+        IntegerExpr::Chain(first, rest) => {
+            let first = Box::new(alloc, copy(alloc, first)?)?;
+            let mut copied = Vec::with_capacity(alloc, rest.len())?;
+            for next in rest {
+                let right = copy(alloc, &next.right)?;
+                copied.push(Operation { op: next.op, right })?;
+            }
+            Ok(IntegerExpr::Chain(first, copied))
         }
     }
 }
@@ -105,6 +110,25 @@ fn new_meaning(good: bool, index: usize) -> Meaning
     }
 }
 
+// Declares one name more.
+fn declare_name(
+    alloc: Global,
+    ident: &Ident,
+    good: bool,
+    symbols: &mut Symbols,
+    faults: &mut Least,
+) -> Result<(), AllocError>
+    ensures symbols { OnOk result (symbols.new.entries ≡ with_name ident.now good symbols.old.entries) }
+    ensures noted { OnOk result (faults.new ≡ noted faults.old (declared_once ident.now.name ident.now.at symbols.old.entries)) }
+{
+    if declared_once(ident, symbols, faults) {
+        let name = ident.name.try_clone(alloc)?;
+        let meaning = new_meaning(good, symbols.len());
+        symbols.insert(name, meaning)?;
+    }
+    Ok(())
+}
+
 // Declares the names one after the other.
 fn declare(
     alloc: Global,
@@ -117,13 +141,7 @@ fn declare(
     ensures noted { OnOk result (faults.new ≡ noted faults.old (twice_faults names.now good symbols.old.entries)) }
 {
     for ident in names {
-        if symbols.contains_key(&ident.name) {
-            faults.note(ident.at, Code::DeclaredTwice);
-        } else {
-            let name = ident.name.try_clone(alloc)?;
-            let meaning = new_meaning(good, symbols.len());
-            symbols.insert(name, meaning)?;
-        }
+        declare_name(alloc, ident, good, symbols, faults)?;
     }
     Ok(())
 }

@@ -2,17 +2,19 @@
 
 ghost use Rattle.std.specs.Prelude.{◌≡◌, option_map};
 ghost use Rattle.aud_syntax.specs.View.{plain_simple, plain_added, plain_term, plain_multiplied, plain_factor, plain_primary, plain_maybe};
-ghost use Rattle.aud_check.specs.Expressions.{simple_at, term_at, factor_at, primary_at, multiplying, check_number, check_name, check_simple, check_added, check_term, check_multiplied, check_factor, check_primary, check_image, check_attribute, image_alone, image_with, unknown};
-ghost use Rattle.aud_check.specs.Least.{note};
+ghost use Rattle.aud_check.specs.Expressions.{simple_at, term_at, factor_at, primary_at, multiplying, check_number, check_name, check_simple, check_added, check_term, check_multiplied, check_factor, check_primary, check_image, check_attribute, image_alone, image_with, variable_faults};
+ghost use Rattle.aud_check.specs.Least.{noted};
 ghost use Rattle.aud_check.specs.Typing.{plain_typed, Shows};
 
 use crate::fault::Least;
 use crate::names::{Meaning, Scope};
+use crate::rules::{
+    name_not_declared, number_too_large, wrong_kind_of_name, wrong_number_of_arguments,
+};
 use crate::typed::{Typed, adding_operator, arithmetic, highest, image_of, signed, wants_integer};
 use aud_syntax::tree::{
     Added, Expr, Factor, Ident, Multiplied, Multiplying, Number, Primary, Simple, Term,
 };
-use aud_text::code::Code;
 use aud_text::place::Pos;
 use aud_typed::program::{Binary, IntegerExpr, TextExpr};
 use std::alloc::{AllocError, Global};
@@ -69,32 +71,36 @@ fn multiplying(op: Multiplying) -> Binary
     }
 }
 
-// Notes a fault; nothing is known of the type of what has it.
-fn faulty(at: Pos, code: Code, faults: &mut Least) -> Typed
-    ensures unknown_type { plain_typed result ≡ unknown }
-    ensures noted { faults.new ≡ note faults.old (record { at = at; code = code }) }
-{
-    faults.note(at, code);
-    Typed::Unknown
-}
-
 fn check_number(number: Number, faults: &mut Least) -> Result<Typed, AllocError>
     ensures { Shows faults.old faults.new (check_number number.value number.at) result }
 {
     match number.value {
         Some(value) => Ok(Typed::Number(IntegerExpr::Number(value))),
-        None => Ok(faulty(number.at, Code::NumberTooLarge, faults)),
+        None => {
+            number_too_large(number.at, faults);
+            Ok(Typed::Unknown)
+        }
+    }
+}
+
+/// Notes where what is read or assigned is not a variable (RM 4.1, 4.4, 5.2).
+pub fn check_variable(meaning: Option<Meaning>, at: Pos, faults: &mut Least)
+    ensures { faults.new ≡ noted faults.old (variable_faults meaning at) }
+{
+    match meaning {
+        None => name_not_declared(at, faults),
+        Some(Meaning::Variable(_) | Meaning::Faulty) => {}
+        Some(_) => wrong_kind_of_name(at, faults),
     }
 }
 
 fn check_name(meaning: Option<Meaning>, at: Pos, faults: &mut Least) -> Result<Typed, AllocError>
     ensures { Shows faults.old faults.new (check_name meaning at) result }
 {
+    check_variable(meaning, at, faults);
     match meaning {
-        None => Ok(faulty(at, Code::NameNotDeclared, faults)),
         Some(Meaning::Variable(variable)) => Ok(Typed::Number(IntegerExpr::Variable(variable))),
-        Some(Meaning::Faulty) => Ok(Typed::Unknown),
-        Some(_) => Ok(faulty(at, Code::WrongKindOfName, faults)),
+        _ => Ok(Typed::Unknown),
     }
 }
 
@@ -108,13 +114,17 @@ fn image_alone(
     ensures { Shows faults.old faults.new (image_alone meaning prefix.now designator.now) result }
 {
     match meaning {
-        Meaning::IntegerType => Ok(faulty(designator.at, Code::WrongNumberOfArguments, faults)),
+        Meaning::IntegerType => {
+            wrong_number_of_arguments(designator.at, faults);
+            Ok(Typed::Unknown)
+        }
         Meaning::Variable(variable) => {
             Ok(Typed::Text(TextExpr::Image(IntegerExpr::Variable(variable))))
         }
         Meaning::Faulty => Ok(Typed::Unknown),
         Meaning::PutLine | Meaning::MainProcedure => {
-            Ok(faulty(prefix.at, Code::WrongKindOfName, faults))
+            wrong_kind_of_name(prefix.at, faults);
+            Ok(Typed::Unknown)
         }
     }
 }
@@ -135,10 +145,14 @@ fn image_with(
             wants_integer(at, &argument, faults);
             Ok(image_of(argument))
         }
-        Meaning::Variable(_) => Ok(faulty(designator.at, Code::WrongNumberOfArguments, faults)),
+        Meaning::Variable(_) => {
+            wrong_number_of_arguments(designator.at, faults);
+            Ok(Typed::Unknown)
+        }
         Meaning::Faulty => Ok(Typed::Unknown),
         Meaning::PutLine | Meaning::MainProcedure => {
-            Ok(faulty(prefix.at, Code::WrongKindOfName, faults))
+            wrong_kind_of_name(prefix.at, faults);
+            Ok(Typed::Unknown)
         }
     }
 }
@@ -154,10 +168,12 @@ fn attribute(
     ensures { Shows faults.old faults.new (check_attribute meaning prefix.now designator.now (option_map (λ p. (p.0, plain_typed p.1)) argument)) result }
 {
     let Some(meaning) = meaning else {
-        return Ok(faulty(prefix.at, Code::NameNotDeclared, faults));
+        name_not_declared(prefix.at, faults);
+        return Ok(Typed::Unknown);
     };
     if designator.name.as_bytes() != IMAGE {
-        return Ok(faulty(designator.at, Code::WrongKindOfName, faults));
+        wrong_kind_of_name(designator.at, faults);
+        return Ok(Typed::Unknown);
     }
     match argument {
         None => image_alone(meaning, prefix, designator, faults),

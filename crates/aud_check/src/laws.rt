@@ -1,8 +1,9 @@
 // Laws of the definitions.
 
+ghost use Rattle.std.specs.Prelude.{◌≡◌, []};
 ghost use Rattle.aud_syntax.specs.Plain as plain;
 ghost use Rattle.aud_typed.specs.Scoped.{IsScoped};
-ghost use Rattle.aud_check.specs.Checked.{typed};
+ghost use Rattle.aud_check.specs.Checked.{faults, typed};
 ghost use Rattle.aud_check.specs.Least.{LeastIsFirst};
 
 /// What is reported is one of the faults, and none of them comes before it.
@@ -10,7 +11,7 @@ pub fn least_is_first()
     ensures { LeastIsFirst }
 {}
 
-/// Each variable of a typed program names an open frame.
+/// In the typed program of a unit without faults each variable that is read or assigned has been elaborated (RM 3.3.1, 8.3).
 pub fn scoped()
-    ensures { (unit : plain.Unit) → IsScoped (typed unit) }
+    ensures { (unit : plain.Unit) → faults unit ≡ [] → IsScoped (typed unit) }
 {}

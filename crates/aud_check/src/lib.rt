@@ -13,6 +13,7 @@ mod expr;
 pub mod fault;
 pub mod laws;
 mod names;
+mod rules;
 mod stmt;
 mod typed;
 mod unit;
@@ -22,7 +23,8 @@ use aud_syntax::tree::Unit;
 use aud_typed::program::Program;
 use std::alloc::Global;
 
-/// The typed program of a program without faults (RM 10.1.1). Each variable in it names an open frame.
+/// The typed program of a program without faults (RM 10.1.1). Each variable in it has been elaborated where it
+/// is read or assigned (RM 3.3.1).
 ///
 /// # Errors
 ///

@@ -1,33 +1,36 @@
 // Statements.
 
-ghost use Rattle.std.specs.Prelude.{◌≡◌, ◌++◌, Some, IfOk, OnOk};
+ghost use Rattle.std.specs.Prelude.{◌≡◌, ◌++◌, IfOk, OnOk};
 ghost use Rattle.aud_syntax.specs.View.{plain_stmt, plain_stmts};
 ghost use Rattle.aud_typed.specs.View.{plain_stmt as plain_step};
 ghost use Rattle.aud_check.specs.Least.{noted};
-ghost use Rattle.aud_check.specs.Statements.{assign_faults, assigned, call_faults, called, stmt_faults, typed_stmt, stmts_faults, typed_stmts, in_sequence};
+ghost use Rattle.aud_check.specs.Statements.{target_base, assign_faults, assigned, callee_faults, formal_base, called, stmt_faults, typed_stmt, stmts_faults, typed_stmts};
 ghost use Rattle.aud_check.specs.Typing.{plain_typed};
 ghost use Rattle.aud_check.specs.Part.{plain_steps};
 
-use crate::expr::{expr, simple_at};
+use crate::expr::{check_variable, expr, simple_at};
 use crate::fault::Least;
 use crate::names::{Meaning, Scope};
-use crate::typed::{Typed, wants_integer, wants_text};
+use crate::rules::{
+    Base, name_not_declared, right_type, wrong_kind_of_name, wrong_number_of_arguments,
+};
+use crate::typed::{Typed, base_of, with_text};
 use aud_syntax::tree::Stmt;
-use aud_text::code::Code;
 use aud_text::place::Pos;
-use aud_typed::program::{Stmt as Step, TextExpr, Variable};
+use aud_typed::program::{Stmt as Step, TextExpr};
 use std::alloc::{AllocError, Global};
 
-fn assignment(target: Pos, variable: Variable, value: Typed) -> Step
-    ensures { plain_step result ≡ assigned (Some (Meaning.Variable variable)) target (plain_typed value) }
+fn target_base(meaning: Option<Meaning>) -> Option<Base>
+    ensures { result ≡ target_base meaning }
 {
-    match value {
-        Typed::Number(value) => Step::Assign(target, variable, value),
-        _ => Step::Null(target),
+    match meaning {
+        Some(Meaning::Variable(_)) => Some(Base::Whole),
+        _ => None,
     }
 }
 
 // An assignment whose target has this meaning; a faulty one is left as a null statement.
+#[tactic(auto, using(crate::proofs::Notes::noted_append))]
 fn assigned(
     meaning: Option<Meaning>,
     target: Pos,
@@ -38,67 +41,52 @@ fn assigned(
     ensures step { plain_step result ≡ assigned meaning target (plain_typed value) }
     ensures noted { faults.new ≡ noted faults.old (assign_faults meaning target at (plain_typed value)) }
 {
-    match meaning {
-        None => {
-            faults.note(target, Code::NameNotDeclared);
-            Step::Null(target)
+    check_variable(meaning, target, faults);
+    right_type(target_base(meaning), at, base_of(&value), faults);
+    match (meaning, value) {
+        (Some(Meaning::Variable(variable)), Typed::Number(value)) => {
+            Step::Assign(target, variable, value)
         }
-        Some(Meaning::Variable(variable)) => {
-            wants_integer(at, &value, faults);
-            assignment(target, variable, value)
-        }
-        Some(Meaning::Faulty) => Step::Null(target),
-        Some(_) => {
-            faults.note(target, Code::WrongKindOfName);
-            Step::Null(target)
-        }
+        _ => Step::Null(target),
     }
 }
 
-// The text, and then the end of the line.
-fn put(alloc: Global, name: Pos, argument: Typed) -> Result<Step, AllocError>
-    ensures { IfOk result (λ step. plain_step step ≡ called (Some Meaning.PutLine) name (plain_typed argument)) }
+// Notes where what is called is not a procedure with a formal parameter.
+fn check_callee(meaning: Option<Meaning>, at: Pos, faults: &mut Least)
+    ensures { faults.new ≡ noted faults.old (callee_faults meaning at) }
 {
-    match argument {
-        Typed::Text(text) => {
-            let text = Box::new(alloc, text)?;
-            let end = Box::new(alloc, TextExpr::NewLine)?;
-            Ok(Step::Put(name, TextExpr::Join(text, end)))
-        }
-        _ => Ok(Step::Null(name)),
+    match meaning {
+        None => name_not_declared(at, faults),
+        Some(Meaning::PutLine | Meaning::Faulty) => {}
+        Some(Meaning::MainProcedure) => wrong_number_of_arguments(at, faults),
+        Some(Meaning::IntegerType | Meaning::Variable(_)) => wrong_kind_of_name(at, faults),
     }
 }
 
-// A call of what has this meaning; a faulty one is left as a null statement.
+fn formal_base(meaning: Option<Meaning>) -> Option<Base>
+    ensures { result ≡ formal_base meaning }
+{
+    match meaning {
+        Some(Meaning::PutLine) => Some(Base::Text),
+        _ => None,
+    }
+}
+
+// A call of what has this meaning: the text, and then the end of the line. A faulty one is left as a null statement.
 fn called(
     alloc: Global,
     meaning: Option<Meaning>,
     name: Pos,
-    at: Pos,
     argument: Typed,
-    faults: &mut Least,
 ) -> Result<Step, AllocError>
-    ensures step { IfOk result (λ step. plain_step step ≡ called meaning name (plain_typed argument)) }
-    ensures noted { OnOk result (faults.new ≡ noted faults.old (call_faults meaning name at (plain_typed argument))) }
+    ensures { IfOk result (λ step. plain_step step ≡ called meaning name (plain_typed argument)) }
 {
-    match meaning {
-        None => {
-            faults.note(name, Code::NameNotDeclared);
-            Ok(Step::Null(name))
+    match (meaning, argument) {
+        (Some(Meaning::PutLine), Typed::Text(text)) => {
+            let line = with_text(alloc, text, TextExpr::NewLine)?;
+            Ok(Step::Put(name, line))
         }
-        Some(Meaning::PutLine) => {
-            wants_text(at, &argument, faults);
-            put(alloc, name, argument)
-        }
-        Some(Meaning::MainProcedure) => {
-            faults.note(name, Code::WrongNumberOfArguments);
-            Ok(Step::Null(name))
-        }
-        Some(Meaning::Faulty) => Ok(Step::Null(name)),
-        Some(Meaning::IntegerType | Meaning::Variable(_)) => {
-            faults.note(name, Code::WrongKindOfName);
-            Ok(Step::Null(name))
-        }
+        _ => Ok(Step::Null(name)),
     }
 }
 
@@ -123,7 +111,14 @@ pub fn stmt(
         Stmt::Call(name, argument) => {
             let typed = expr(alloc, argument, scope, faults)?;
             let meaning = scope.visible(&name.name);
-            called(alloc, meaning, name.at, simple_at(argument), typed, faults)
+            check_callee(meaning, name.at, faults);
+            right_type(
+                formal_base(meaning),
+                simple_at(argument),
+                base_of(&typed),
+                faults,
+            );
+            called(alloc, meaning, name.at, typed)
         }
     }
 }
@@ -144,19 +139,4 @@ pub fn stmts(
         steps.push(step)?;
     }
     Ok(())
-}
-
-/// The steps one after the other (RM 5.1(15)); none are a null statement at a place.
-pub fn in_sequence(alloc: Global, at: Pos, mut steps: Vec<Step>) -> Result<Step, AllocError>
-    ensures { IfOk result (λ step. plain_step step ≡ in_sequence at (plain_steps steps.items)) }
-{
-    let Some(mut all) = steps.pop() else {
-        return Ok(Step::Null(at));
-    };
-    while let Some(step) = steps.pop() {
-        let first = Box::new(alloc, step)?;
-        let rest = Box::new(alloc, all)?;
-        all = Step::Sequence(first, rest);
-    }
-    Ok(all)
 }

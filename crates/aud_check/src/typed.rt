@@ -1,16 +1,18 @@
 // Expressions with their types, and the rules on operands.
 
 ghost use Rattle.std.specs.Prelude.{◌≡◌, IfOk};
-ghost use Rattle.aud_typed.specs.View.{plain_integer};
+ghost use Rattle.aud_typed.specs.Tree.{binary, join};
+ghost use Rattle.aud_typed.specs.declared.program.Operation.{out-Operation};
+ghost use Rattle.aud_typed.specs.View.{plain_integer, plain_text};
 ghost use Rattle.aud_check.specs.Least.{noted};
-ghost use Rattle.aud_check.specs.Expressions.{not_integer, not_text, not_boolean, combined, joined, one, integer_only, image_of, arithmetic, joining, adding_operator, signed, highest};
+ghost use Rattle.aud_check.specs.Expressions.{base_of, not_integer, not_text, not_boolean, combined, joined, one, integer_only, image_of, arithmetic, joining, adding_operator, signed, highest};
 ghost use Rattle.aud_check.specs.Typing.{plain_typed, Shows};
 
 use crate::fault::Least;
+use crate::rules::{Base, right_type};
 use aud_syntax::tree::{Adding, Highest, Sign, Signed};
-use aud_text::code::Code;
 use aud_text::place::Pos;
-use aud_typed::program::{Binary, IntegerExpr, TextExpr, Unary};
+use aud_typed::program::{Binary, IntegerExpr, Operation, TextExpr, Unary};
 use std::alloc::{AllocError, Global};
 
 /// An expression with its type. Nothing is known of the type of a faulty one.
@@ -21,30 +23,55 @@ pub enum Typed {
     Unknown,
 }
 
+/// The type of an expression, where it is known.
+pub fn base_of(typed: &Typed) -> Option<Base>
+    ensures { result ≡ base_of (plain_typed typed.now) }
+{
+    match typed {
+        Typed::Number(_) => Some(Base::Whole),
+        Typed::Text(_) => Some(Base::Text),
+        Typed::Unknown => None,
+    }
+}
+
 /// Notes where an expression that must be of type Integer has another type.
 pub fn wants_integer(at: Pos, typed: &Typed, faults: &mut Least)
     ensures { faults.new ≡ noted faults.old (not_integer at (plain_typed typed.now)) }
 {
-    if let Typed::Text(_) = typed {
-        faults.note(at, Code::WrongType);
-    }
+    right_type(Some(Base::Whole), at, base_of(typed), faults);
 }
 
-/// Notes where an expression that must be a text has another type.
-pub fn wants_text(at: Pos, typed: &Typed, faults: &mut Least)
+fn wants_text(at: Pos, typed: &Typed, faults: &mut Least)
     ensures { faults.new ≡ noted faults.old (not_text at (plain_typed typed.now)) }
 {
-    if let Typed::Number(_) = typed {
-        faults.note(at, Code::WrongType);
-    }
+    right_type(Some(Base::Text), at, base_of(typed), faults);
 }
 
 fn wants_boolean(at: Pos, typed: &Typed, faults: &mut Least)
     ensures { faults.new ≡ noted faults.old (not_boolean at (plain_typed typed.now)) }
 {
-    match typed {
-        Typed::Number(_) | Typed::Text(_) => faults.note(at, Code::WrongType),
-        Typed::Unknown => {}
+    right_type(Some(Base::Truth), at, base_of(typed), faults);
+}
+
+// The operation goes on the operand's chain, or begins one.
+fn with_operation(
+    alloc: Global,
+    left: IntegerExpr,
+    next: Operation,
+) -> Result<IntegerExpr, AllocError>
+    ensures { IfOk result (λ value. plain_integer value ≡ binary (out-Operation next).op (plain_integer left) (plain_integer (out-Operation next).right)) }
+{
+    match left {
+        IntegerExpr::Chain(first, mut rest) => {
+            rest.push(next)?;
+            Ok(IntegerExpr::Chain(first, rest))
+        }
+        first => {
+            let mut rest = Vec::new(alloc);
+            rest.push(next)?;
+            let first = Box::new(alloc, first)?;
+            Ok(IntegerExpr::Chain(first, rest))
+        }
     }
 }
 
@@ -52,12 +79,29 @@ fn combined(alloc: Global, op: Binary, left: Typed, right: Typed) -> Result<Type
     ensures { IfOk result (λ typed. plain_typed typed ≡ combined op (plain_typed left) (plain_typed right)) }
 {
     match (left, right) {
-        (Typed::Number(x), Typed::Number(y)) => {
-            let x = Box::new(alloc, x)?;
-            let y = Box::new(alloc, y)?;
-            Ok(Typed::Number(IntegerExpr::Binary(op, x, y)))
+        (Typed::Number(left), Typed::Number(right)) => {
+            let value = with_operation(alloc, left, Operation { op, right })?;
+            Ok(Typed::Number(value))
         }
         _ => Ok(Typed::Unknown),
+    }
+}
+
+/// A text, and another one that follows it.
+pub fn with_text(alloc: Global, left: TextExpr, next: TextExpr) -> Result<TextExpr, AllocError>
+    ensures { IfOk result (λ text. plain_text text ≡ join (plain_text left) (plain_text next)) }
+{
+    match left {
+        TextExpr::Join(first, mut rest) => {
+            rest.push(next)?;
+            Ok(TextExpr::Join(first, rest))
+        }
+        first => {
+            let mut rest = Vec::new(alloc);
+            rest.push(next)?;
+            let first = Box::new(alloc, first)?;
+            Ok(TextExpr::Join(first, rest))
+        }
     }
 }
 
@@ -65,10 +109,9 @@ fn joined(alloc: Global, left: Typed, right: Typed) -> Result<Typed, AllocError>
     ensures { IfOk result (λ typed. plain_typed typed ≡ joined (plain_typed left) (plain_typed right)) }
 {
     match (left, right) {
-        (Typed::Text(x), Typed::Text(y)) => {
-            let x = Box::new(alloc, x)?;
-            let y = Box::new(alloc, y)?;
-            Ok(Typed::Text(TextExpr::Join(x, y)))
+        (Typed::Text(left), Typed::Text(right)) => {
+            let text = with_text(alloc, left, right)?;
+            Ok(Typed::Text(text))
         }
         _ => Ok(Typed::Unknown),
     }

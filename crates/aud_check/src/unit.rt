@@ -6,28 +6,17 @@ ghost use Rattle.aud_typed.specs.View.{plain_program};
 ghost use Rattle.aud_check.specs.Least.{noted};
 ghost use Rattle.aud_check.specs.Statements.{typed_stmts, stmts_faults};
 ghost use Rattle.aud_check.specs.Part.{plain_steps};
-ghost use Rattle.aud_check.specs.Checked.{end_faults, or_null, faults as program_faults, typed as typed_program};
+ghost use Rattle.aud_check.specs.Checked.{or_null, faults as program_faults, typed as typed_program};
 
 use crate::decl::{Part, decls};
 use crate::fault::Least;
 use crate::names::{Scope, Symbols};
-use crate::stmt::{in_sequence, stmts};
-use aud_syntax::tree::{Body, Ident, Unit};
-use aud_text::code::Code;
+use crate::rules::right_name_at_end;
+use crate::stmt::stmts;
+use aud_syntax::tree::{Body, Unit};
 use aud_text::name::Name;
 use aud_typed::program::{Program, Stmt as Step};
 use std::alloc::{AllocError, Global};
-
-// Notes where the name after a body's end is not the procedure's (RM 6.3(4)).
-fn check_end(main: &Name, end: &Option<Ident>, faults: &mut Least)
-    ensures { faults.new ≡ noted faults.old (end_faults main.now end.now) }
-{
-    if let Some(ident) = end {
-        if ident.name != *main {
-            faults.note(ident.at, Code::WrongNameAtEnd);
-        }
-    }
-}
 
 // The statements of a body; none are a null statement where they would begin.
 fn statements(
@@ -70,14 +59,13 @@ pub fn typed(alloc: Global, unit: &Unit, faults: &mut Least) -> Result<Program, 
     let Part { symbols, mut steps } = part;
     let scope = Scope::new(main, &symbols, &[]);
     statements(alloc, &unit.body, &scope, &mut steps, faults)?;
-    check_end(main, &unit.body.name, faults);
-    let body = in_sequence(alloc, unit.body.begin, steps)?;
+    right_name_at_end(main, &unit.body.name, faults);
     let variables = names_of(alloc, symbols)?;
     let name = main.try_clone(alloc)?;
     Ok(Program {
         name,
         variables,
-        body,
+        body: steps,
         end: unit.body.end,
     })
 }

@@ -1,0 +1,53 @@
+-- The rules of the language that a program may break, each with its code, and where a breach stands. That a target is a variable
+-- which may be changed (RM 5.2(5)) has a code and no rule here: each variable of this language may be changed.
+use Rattle.std.specs.Prelude.{Bool, true, false, not, List, [], ◌∷◌, Option, Some, None, if◌then◌else◌, ℕ}
+use Rattle.std.specs.Str.{bytes_eq}
+use Rattle.aud_text.specs.declared.place.Pos.{Pos}
+use Rattle.aud_text.specs.declared.code.Code.TheVariants.{NameNotDeclared, DeclaredTwice, WrongKindOfName, WrongType, WrongNumberOfArguments, WrongNameAtEnd, NumberTooLarge}
+use Rattle.aud_syntax.specs.declared.tree.Ident.{Ident}
+use Rattle.aud_check.specs.declared.fault.Fault.{Fault}
+use Rattle.aud_check.specs.declared.rules.Base.{Base}
+use Rattle.aud_check.specs.declared.rules.Base.TheVariants.{Whole, Truth, Text}
+use Rattle.aud_check.specs.Visible.{Symbol, is_declared}
+
+abbrev pub unless : Bool → Fault → List Fault
+unless good f = if good then [] else f ∷ []
+
+-- a name is visible (RM 8.3); at the name
+abbrev pub name_not_declared : Pos → List Fault
+name_not_declared at = record { at = at; code = NameNotDeclared } ∷ []
+
+-- a region declares a name once (RM 8.3(26)); at the second declaration
+abbrev pub declared_once : List ℕ → Pos → List Symbol → List Fault
+declared_once name at symbols = unless (not (is_declared name symbols)) (record { at = at; code = DeclaredTwice })
+
+-- a name is of the kind that its place asks; at the name
+abbrev pub wrong_kind_of_name : Pos → List Fault
+wrong_kind_of_name at = record { at = at; code = WrongKindOfName } ∷ []
+
+abbrev pub same_base : Base → Base → Bool
+same_base Whole Whole = true
+same_base Truth Truth = true
+same_base Text Text = true
+same_base _ _ = false
+
+abbrev pub fits : Option Base → Option Base → Bool
+fits (Some asked) (Some given) = same_base asked given
+fits _ _ = true
+
+-- an expression has the type that its place asks, where both are known (RM 8.6); at its first token
+abbrev pub right_type : Option Base → Pos → Option Base → List Fault
+right_type asked at given = unless (fits asked given) (record { at = at; code = WrongType })
+
+-- as many arguments as formals, one for Image of a type and none for that of a variable (RM 6.4.1, 3.5(35), 4.10(40)); at the name
+abbrev pub wrong_number_of_arguments : Pos → List Fault
+wrong_number_of_arguments at = record { at = at; code = WrongNumberOfArguments } ∷ []
+
+-- the name after `end` is the procedure's (RM 6.3(4)); at the name
+abbrev pub right_name_at_end : List ℕ → Option Ident → List Fault
+right_name_at_end name None = []
+right_name_at_end name (Some last) = unless (bytes_eq last.name name) (record { at = last.at; code = WrongNameAtEnd })
+
+-- a number is at most the last Integer (RM 3.5.4); at the number
+abbrev pub number_too_large : Pos → List Fault
+number_too_large at = record { at = at; code = NumberTooLarge } ∷ []

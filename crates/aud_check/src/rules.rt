@@ -1,0 +1,94 @@
+// The rules of the language that a program may break: each function notes a breach of one of them.
+
+ghost use Rattle.std.specs.Prelude.{◌≡◌, not};
+ghost use Rattle.aud_check.specs.Least.{noted};
+ghost use Rattle.aud_check.specs.Visible.{is_declared};
+ghost use Rattle.aud_check.specs.Rules.{name_not_declared, declared_once, wrong_kind_of_name, fits, right_type, wrong_number_of_arguments, right_name_at_end, number_too_large};
+
+use crate::fault::Least;
+use crate::names::Symbols;
+use aud_syntax::tree::Ident;
+use aud_text::code::Code;
+use aud_text::name::Name;
+use aud_text::place::Pos;
+
+/// The types that places ask.
+#[derive(Clone, Copy, PartialEq, Eq, Debug)]
+pub enum Base {
+    /// Integer (RM 3.5.4).
+    Whole,
+    /// Boolean (RM 3.5.3).
+    Truth,
+    /// A text, which is put out.
+    Text,
+}
+
+/// A name is visible (RM 8.3).
+pub fn name_not_declared(at: Pos, faults: &mut Least)
+    ensures { faults.new ≡ noted faults.old (name_not_declared at) }
+{
+    faults.note(at, Code::NameNotDeclared);
+}
+
+/// A region declares a name once (RM 8.3(26)): whether this declaration of it is the first.
+pub fn declared_once(ident: &Ident, symbols: &Symbols, faults: &mut Least) -> bool
+    ensures first { result ≡ not (is_declared ident.now.name symbols.now.entries) }
+    ensures noted { faults.new ≡ noted faults.old (declared_once ident.now.name ident.now.at symbols.now.entries) }
+{
+    if symbols.contains_key(&ident.name) {
+        faults.note(ident.at, Code::DeclaredTwice);
+        return false;
+    }
+    true
+}
+
+/// A name is of the kind that its place asks.
+pub fn wrong_kind_of_name(at: Pos, faults: &mut Least)
+    ensures { faults.new ≡ noted faults.old (wrong_kind_of_name at) }
+{
+    faults.note(at, Code::WrongKindOfName);
+}
+
+fn fits(asked: Option<Base>, given: Option<Base>) -> bool
+    ensures { result ≡ fits asked given }
+{
+    match (asked, given) {
+        (Some(asked), Some(given)) => asked == given,
+        _ => true,
+    }
+}
+
+/// An expression has the type that its place asks, where both are known (RM 8.6).
+pub fn right_type(asked: Option<Base>, at: Pos, given: Option<Base>, faults: &mut Least)
+    ensures { faults.new ≡ noted faults.old (right_type asked at given) }
+{
+    if !fits(asked, given) {
+        faults.note(at, Code::WrongType);
+    }
+}
+
+/// As many arguments as formals, one for Image of a type and none for that of a variable
+/// (RM 6.4.1, 3.5(35), 4.10(40)).
+pub fn wrong_number_of_arguments(at: Pos, faults: &mut Least)
+    ensures { faults.new ≡ noted faults.old (wrong_number_of_arguments at) }
+{
+    faults.note(at, Code::WrongNumberOfArguments);
+}
+
+/// The name after `end` is the procedure's (RM 6.3(4)).
+pub fn right_name_at_end(name: &Name, last: &Option<Ident>, faults: &mut Least)
+    ensures { faults.new ≡ noted faults.old (right_name_at_end name.now last.now) }
+{
+    if let Some(last) = last {
+        if last.name != *name {
+            faults.note(last.at, Code::WrongNameAtEnd);
+        }
+    }
+}
+
+/// A number is at most the last Integer (RM 3.5.4).
+pub fn number_too_large(at: Pos, faults: &mut Least)
+    ensures { faults.new ≡ noted faults.old (number_too_large at) }
+{
+    faults.note(at, Code::NumberTooLarge);
+}
