@@ -6,13 +6,14 @@ use Rattle.aud_text.specs.declared.code.Code.TheVariants as code
 use Rattle.aud_text.specs.declared.limits.Limits.{Limits}
 use Rattle.aud_text.specs.declared.limits.TheConstants.{STEPS}
 use Rattle.aud_typed.specs.Tree as tree
+use Rattle.aud_typed.specs.View.{plain_program}
 use Rattle.aud_meaning.specs.declared.state.State.TheVariants as state
 use Rattle.aud_meaning.specs.Configuration.{Configuration}
 use Rattle.aud_meaning.specs.Step.{task_step}
 use Rattle.aud_meaning.specs.Run.{moves, run, main_raised}
 use Rattle.aud_machine.specs.declared.run.Ran.{Ran}
 use Rattle.aud_machine.specs.Shown.{Shown}
-use Rattle.aud_machine.specs.Shows.{Shows, RunsFrom}
+use Rattle.aud_machine.specs.Shows.{RunsFrom}
 use Rattle.aud_gen.proofs.Runs.{run_cut}
 use Rattle.aud_bench.specs.declared.request.Request.{Request}
 use Rattle.aud_bench.specs.declared.request.Request.TheVariants as request
@@ -20,7 +21,7 @@ use Rattle.aud_bench.specs.declared.request.Answer.{Answer}
 use Rattle.aud_bench.specs.declared.request.Answer.TheVariants as answer
 use Rattle.aud_bench.specs.Alone.{Loaded, answers_only, ended_by, report, ran_reply, steps_left, run_reply, load_reply, output_reply, replied}
 use Rattle.aud_bench.specs.Loading.{program_of}
-use Rattle.aud_bench.specs.Serving.{Replies, UnderWay, ServesBy}
+use Rattle.aud_bench.specs.Serving.{Holds, Replies, UnderWay, ServesBy}
 use Rattle.aud_bench.proofs.Runs.{run_moves, run_stays, run_full, more_moves, no_moves}
 
 is_none : (n : ℕ) → n ≡ 0 → (n == 0) ≡ true
@@ -61,7 +62,7 @@ costs_some limits request.Quit loaded = omega arith
 costs_some limits (request.Bad why) loaded = omega arith
 
 -- a request that is answered at once
-pub at_once : (limits : Limits) (r : Request) (loaded : Option Loaded) (done units : ℕ) (machine : Option Shown) (a : Answer) → (replied limits loaded r).cost ≡ 1 → done < (replied limits loaded r).cost → Replies a machine (replied limits loaded r) → ServesBy (Some a) limits r loaded done units 1 0 machine
+pub at_once : (limits : Limits) (r : Request) (loaded : Option Loaded) (done units : ℕ) (machine : Option Shown) (a : Answer) → (replied limits loaded r).cost ≡ 1 → done < (replied limits loaded r).cost → Replies limits a machine (replied limits loaded r) → ServesBy (Some a) limits r loaded done units 1 0 machine
 at_once limits r loaded done units machine a one unanswered replies = (replies, omega (arith, one, unanswered), refl)
 
 module _ (limits : Limits) (n p : ℕ) (l : Loaded) (old : Shown) (under : UnderWay limits (request.Run n) (Some l) p (Some old)) where
@@ -82,13 +83,23 @@ module _ (limits : Limits) (n p : ℕ) (l : Loaded) (old : Shown) (under : Under
       let reply : run_reply limits n (Some l) ≡ answers_only (answer.Refused code.StepBudget) (Some l) = reply_spent limits n l none in
       let one : (run_reply limits n (Some l)).cost ≡ 1 = ap (λ r. r.cost) reply in
       let zero_done : p ≡ 0 = omega (arith, one, under.unanswered) in
-      let shows : Shows old l.now = subst (λ k. Shows old (run limits k l.now)) zero_done under.is_behind in
+      let holds : Holds limits old l = subst (λ k. Holds limits old (record l { now = run limits k l.now })) zero_done under.is_behind in
       at_once limits (request.Run n) (Some l) p units (Some old) (answer.Refused code.StepBudget) one under.unanswered
-      (subst (λ r. Replies (answer.Refused code.StepBudget) (Some old) r) (sym reply) (record { answer_is = refl; loaded = shows }))
+      (subst (λ r. Replies limits (answer.Refused code.StepBudget) (Some old) r) (sym reply) (record { answer_is = refl; loaded = holds }))
 
-  module _ (wanted now units : ℕ) (new : Shown) (ran : Ran) (some : 1 ≤ STEPS - here.steps) (is_wanted : wanted ≡ min (n - p) (STEPS - here.steps)) (is_now : now ≡ min wanted units) (did : RunsFrom limits now here new ran) where
+  module _ (wanted now units : ℕ) (new : Shown) (ran : Ran) (some : 1 ≤ STEPS - here.steps) (is_wanted : wanted ≡ min (n - p) (STEPS - here.steps)) (is_now : now ≡ min wanted units) (kept : (new.limits ≡ old.limits) × (new.program ≡ old.program)) (ran_from : RunsFrom old.limits now here new ran) where
     abbrev pub whole : ℕ
     whole = min n (steps_left l.now)
+
+    did : RunsFrom limits now here new ran
+    did = subst (λ bounds. RunsFrom bounds now here new ran) under.is_behind.limits_are ran_from
+
+    holds : Holds limits new (record l { now = run limits now here })
+    holds = record {
+      limits_are = kept.0 ∙ under.is_behind.limits_are;
+      program_is = ap plain_program kept.1 ∙ under.is_behind.program_is;
+      shows = did.shows;
+    }
 
     some_left : 1 ≤ steps_left l.now
     some_left =
@@ -130,7 +141,7 @@ module _ (limits : Limits) (n p : ℕ) (l : Loaded) (old : Shown) (under : Under
         let steps_to : (run limits whole l.now).steps ≡ (run limits on (run limits (p + now) l.now)).steps = ap (λ (c : Configuration). c.steps) to in
         let under_way : UnderWay limits (request.Run n) (Some l) (p + now) (Some new) = record {
           unanswered = omega (arith, costs, steps_to, further, steps_now);
-          is_behind = subst (Shows new) (sym cut) did.shows;
+          is_behind = subst (λ c. Holds limits new (record l { now = c })) (sym cut) holds;
           stepped = record { steps = steps_now; room = inr (omega (arith, whole_is, lt)) };
         } in
         (subst (λ k. UnderWay limits (request.Run n) (Some l) k (Some new)) done under_way, refl, ap (λ k. p + k) (all ∙ used))
@@ -156,8 +167,8 @@ module _ (limits : Limits) (n p : ℕ) (l : Loaded) (old : Shown) (under : Under
         ∙ ap (λ r. record { steps = to.steps - l.now.steps; state = ran.state; raised = r }) raised_is
         ∙ ap (λ s. record { steps = to.steps - l.now.steps; state = s; raised = ended_by s (main_raised to.tasks) }) did.did.state in
         let costs : (run_reply limits n (Some l)).cost ≡ max 1 (to.steps - l.now.steps) = ap (λ r. r.cost) reply in (
-          subst (λ r. Replies (answer.Ran (record { steps = p + ran.steps; state = ran.state; raised = raised })) (Some new) r) (sym reply)
-              (record { answer_is = ap answer.Ran told; loaded = did.shows }),
+          subst (λ r. Replies limits (answer.Ran (record { steps = p + ran.steps; state = ran.state; raised = raised })) (Some new) r) (sym reply)
+              (record { answer_is = ap answer.Ran told; loaded = holds }),
           omega (arith, costs, steps, under.unanswered, cost_is),
           refl,
         )

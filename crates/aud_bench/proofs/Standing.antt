@@ -52,14 +52,14 @@ module _ (limits : Limits) where
   within_cost loaded (r ∷ rest) p machine h = omega (arith, h.unanswered)
 
   -- nothing is done yet of requests before which the machine is loaded
-  pub opens : (loaded : Option Loaded) (rest : List Request) (machine : Option Shown) → IsLoaded machine loaded → AtFirst limits loaded rest 0 machine
+  pub opens : (loaded : Option Loaded) (rest : List Request) (machine : Option Shown) → IsLoaded limits machine loaded → AtFirst limits loaded rest 0 machine
   opens loaded [] machine h = (refl, h)
   opens loaded (r ∷ rest) machine h = by r loaded h
     where
       some : (r : Request) (loaded : Option Loaded) → 0 < (replied limits loaded r).cost
       some r loaded = omega (arith, costs_some limits r loaded)
 
-      by : (r : Request) (loaded : Option Loaded) → IsLoaded machine loaded → UnderWay limits r loaded 0 machine
+      by : (r : Request) (loaded : Option Loaded) → IsLoaded limits machine loaded → UnderWay limits r loaded 0 machine
       by (request.Load source) loaded h = record { unanswered = some (request.Load source) loaded; is_behind = h; stepped = tt }
       by (request.Run n) None h = record { unanswered = some (request.Run n) None; is_behind = h; stepped = tt }
       by (request.Run n) (Some l) h = record { unanswered = some (request.Run n) (Some l); is_behind = h; stepped = record { steps = omega arith; room = inl refl } }

@@ -1,6 +1,7 @@
 -- Work on one request, in one piece or in several.
 use Rattle.std.specs.Prelude.{◌≡◌, ℕ, ◌+◌, ◌<◌, min, ◌⊎◌, Option, Some, None}
 use Rattle.aud_text.specs.declared.limits.Limits.{Limits}
+use Rattle.aud_typed.specs.View.{plain_program}
 use Rattle.aud_meaning.specs.Run.{run}
 use Rattle.aud_machine.specs.Shown.{Shown}
 use Rattle.aud_machine.specs.Shows.{Shows}
@@ -10,17 +11,23 @@ use Rattle.aud_bench.specs.declared.request.Answer.{Answer}
 use Rattle.aud_bench.specs.declared.service.Served.{Served}
 use Rattle.aud_bench.specs.Alone.{Loaded, Reply, steps_left, replied}
 
--- the machine, if there is one, shows how far the program is that is loaded
-abbrev pub IsLoaded : Option Shown → Option Loaded → Type 0
-IsLoaded None None = Unit {0}
-IsLoaded None (Some loaded) = ⊥
-IsLoaded (Some machine) None = ⊥
-IsLoaded (Some machine) (Some loaded) = Shows machine loaded.now
+-- a machine of the loaded program and with these limits, which shows how far the program is
+pub record Holds (limits : Limits) (machine : Shown) (loaded : Loaded) : Type 0 where
+  pub limits_are : machine.limits ≡ limits
+  pub program_is : plain_program machine.program ≡ loaded.program
+  pub shows : Shows machine loaded.now
+
+-- the machine, if there is one, holds the program that is loaded
+abbrev pub IsLoaded : Limits → Option Shown → Option Loaded → Type 0
+IsLoaded limits None None = Unit {0}
+IsLoaded limits None (Some loaded) = ⊥
+IsLoaded limits (Some machine) None = ⊥
+IsLoaded limits (Some machine) (Some loaded) = Holds limits machine loaded
 
 -- an answer, and the machine after it, are those of the reply
-pub record Replies (answer : Answer) (machine : Option Shown) (reply : Reply) : Type 0 where
+pub record Replies (limits : Limits) (answer : Answer) (machine : Option Shown) (reply : Reply) : Type 0 where
   pub answer_is : answer ≡ reply.answer
-  pub loaded : IsLoaded machine reply.loaded
+  pub loaded : IsLoaded limits machine reply.loaded
 
 -- the program so many steps on
 abbrev pub behind_steps : Limits → ℕ → Option Loaded → Option Loaded
@@ -51,14 +58,14 @@ EachStepped limits (request.Bad why) done loaded = Unit {0}
 -- so many units of the request are done, and it is not answered yet; this was loaded before it
 pub record UnderWay (limits : Limits) (r : Request) (loaded : Option Loaded) (done : ℕ) (machine : Option Shown) : Type 0 where
   pub unanswered : done < (replied limits loaded r).cost
-  pub is_behind : IsLoaded machine (behind limits r done loaded)
+  pub is_behind : IsLoaded limits machine (behind limits r done loaded)
   pub stepped : EachStepped limits r done loaded
 
 -- more work on a request of which so many units were done: it is answered, and all that it costs is done; or it goes on, and the units
 -- are used up
 abbrev pub ServesBy : Option Answer → Limits → Request → Option Loaded → (done units cost after : ℕ) → Option Shown → Type 0
 ServesBy (Some answer) limits r loaded done units cost after machine =
-    Replies answer machine (replied limits loaded r) × (done + cost ≡ (replied limits loaded r).cost) × (after ≡ 0)
+    Replies limits answer machine (replied limits loaded r) × (done + cost ≡ (replied limits loaded r).cost) × (after ≡ 0)
 ServesBy None limits r loaded done units cost after machine =
     UnderWay limits r loaded after machine × (cost ≡ units) × (after ≡ done + units)
 

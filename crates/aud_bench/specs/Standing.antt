@@ -25,7 +25,7 @@ units_done limits journal answered progress = cost limits (take answered journal
 
 -- so many units of the first of these requests are done, and it is not answered yet
 abbrev pub AtFirst : Limits → Option Loaded → List Request → ℕ → Option Shown → Type 0
-AtFirst limits loaded [] progress machine = (progress ≡ 0) × IsLoaded machine loaded
+AtFirst limits loaded [] progress machine = (progress ≡ 0) × IsLoaded limits machine loaded
 AtFirst limits loaded (r ∷ rs) progress machine = UnderWay limits r loaded progress machine
 
 -- what is answered where memory was refused

@@ -62,7 +62,7 @@ pub fn answer(
     machine: &mut Option<Machine>,
     request: &Request,
 ) -> Result<Answer, AllocError>
-    ensures { IfOk result (λ answer. (loaded : Option Loaded) → IsLoaded machine.old loaded → Replies answer machine.new (replied limits loaded request.now)) }
+    ensures { IfOk result (λ answer. (loaded : Option Loaded) → IsLoaded limits machine.old loaded → Replies limits answer machine.new (replied limits loaded request.now)) }
 {
     let Served {
         answer,
@@ -92,12 +92,12 @@ fn take(
     machine: &mut Option<Machine>,
     source: &[u8],
 ) -> Result<Answer, AllocError>
-    ensures { IfOk result (λ answer. (loaded : Option Loaded) → IsLoaded machine.old loaded → Replies answer machine.new (load_reply (program_of limits source.now) loaded)) }
+    ensures { IfOk result (λ answer. (loaded : Option Loaded) → IsLoaded limits machine.old loaded → Replies limits answer machine.new (load_reply (program_of limits source.now) loaded)) }
 {
     match load(alloc, limits, source) {
         Ok(program) => {
             let name = program.name.try_clone(alloc)?;
-            *machine = Some(Machine::new(alloc, program)?);
+            *machine = Some(Machine::new(alloc, program, limits)?);
             Ok(Answer::Loaded(name))
         }
         Err(LoadFault::Refused(refusal)) => Ok(refusal),
@@ -106,7 +106,7 @@ fn take(
 }
 
 fn output(alloc: Global, machine: &Option<Machine>) -> Result<Answer, AllocError>
-    ensures { IfOk result (λ answer. (loaded : Option Loaded) → IsLoaded machine.now loaded → answer ≡ (output_reply loaded).answer) }
+    ensures { IfOk result (λ answer. (bounds : Bounds) → (loaded : Option Loaded) → IsLoaded bounds machine.now loaded → answer ≡ (output_reply loaded).answer) }
 {
     match machine {
         None => Ok(Answer::Refused(Code::NoProgram)),

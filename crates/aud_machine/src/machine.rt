@@ -1,7 +1,6 @@
 // A machine and its runs.
 
 ghost use Rattle.std.specs.Prelude.{◌≡◌, ◌+◌, ◌*◌, ◌<◌, ◌≤◌, length, map, min, true, false, slice_get, IfOk, IfSome, OnOk, OnErr, IsErr};
-ghost use Rattle.aud_text.specs.declared.limits.Limits.{Limits};
 ghost use Rattle.aud_typed.specs.View.{plain_program};
 ghost use Rattle.aud_typed.specs.Scoped.{IsScoped};
 ghost use Rattle.aud_meaning.specs.Configuration.{Configuration};
@@ -17,7 +16,7 @@ use crate::run::run;
 use aud_code::sound::SoundCode;
 use aud_gen::generate;
 use aud_meaning::state::State;
-use aud_text::limits::{CLOCK, OUTPUT, STEPS};
+use aud_text::limits::{CHOICES, CLOCK, Limits, OUTPUT, STEPS};
 use aud_text::raise::Raise;
 use aud_typed::program::Program;
 use std::alloc::{AllocError, Global};
@@ -28,6 +27,7 @@ use std::marker::Model;
 pub struct Machine {
     program: Program,
     code: SoundCode,
+    limits: Limits,
     progress: Progress,
     spent: bool,
 }
@@ -45,21 +45,22 @@ impl Model for Machine {
 
     ghost coded = { Prim.hlevel (codes, stmt.the_row.coded) };
 
-    ghost view = { λ m. record { program = m.program; code = m.code; all = m.progress; spent = m.spent } };
+    ghost view = { λ m. record { program = m.program; code = m.code; limits = m.limits; all = m.progress; spent = m.spent } };
 
     ghost invariant = { λ m. (m.code ≡ program_code (plain_program m.program)) × (m.spent ≡ false → AllFit m.code m.progress) };
 }
 
 impl Machine {
-    /// A machine that shows the program before its first step (RM 10.2).
+    /// A machine with these limits, which shows the program before its first step (RM 10.2).
     ///
     /// # Errors
     ///
     /// Memory is refused.
-    pub fn new(alloc: Global, program: Program) -> Result<Machine, AllocError>
+    pub fn new(alloc: Global, program: Program, limits: Limits) -> Result<Machine, AllocError>
         requires { IsScoped (plain_program program) }
         ensures shows { IfOk result (λ m. Shows m (opening (plain_program program))) }
         ensures program { IfOk result (λ m. m.program ≡ program) }
+        ensures limits { IfOk result (λ m. m.limits ≡ limits) }
     {
         let code = generate(alloc, &program)?;
         let progress = Progress::new(alloc)?;
@@ -67,6 +68,7 @@ impl Machine {
         Ok(Machine {
             program,
             code,
+            limits,
             progress,
             spent: false,
         })
@@ -77,6 +79,13 @@ impl Machine {
         ensures { result.now ≡ self.now.program }
     {
         &self.program
+    }
+
+    /// Its limits, which it keeps for good.
+    pub fn limits(&self) -> Limits
+        ensures { result ≡ self.now.limits }
+    {
+        self.limits
     }
 
     /// The output so far (RM A.10.7).
@@ -110,13 +119,15 @@ impl Machine {
 
     /// How many choices wait.
     pub fn choices(&self) -> usize
-        ensures { (c : Configuration) → Shows self.now c → result ≡ length c.choices }
+        ensures value { result ≡ length self.now.all.choices }
+        ensures shown { (c : Configuration) → Shows self.now c → result ≡ length c.choices }
+        ensures within { result ≤ CHOICES }
     {
         self.progress.choices()
     }
 
     /// The time on the clock, in milliseconds.
-    pub fn clock(&self) -> u32
+    pub fn clock(&self) -> u64
         ensures value { result ≡ self.now.all.clock }
         ensures shown { (c : Configuration) → Shows self.now c → result ≡ c.clock }
         ensures within { result ≤ CLOCK }
@@ -148,16 +159,18 @@ impl Machine {
         }
     }
 
-    /// Supplies choices, which wait behind those that wait already.
+    /// Supplies choices, which wait behind those that wait already. At most 10,000 may wait together.
     ///
     /// # Errors
     ///
     /// Memory is refused, or the machine is spent. It is spent then.
     pub fn choose(&mut self, choices: &[u32]) -> Result<(), AllocError>
+        requires { length self.old.all.choices + length choices.now ≤ CHOICES }
         ensures shows { OnOk result ((c : Configuration) → Shows self.old c → Shows self.new (supplied choices.now c)) }
         ensures exact { OnOk result (self.new ≡ record self.old { all = supplied choices.now self.old.all }) }
         ensures code { self.new.code ≡ self.old.code }
         ensures program { self.new.program ≡ self.old.program }
+        ensures limits { self.new.limits ≡ self.old.limits }
         ensures spent { OnErr result (self.new.spent ≡ true) }
         ensures refuses { self.old.spent ≡ true → IsErr result }
     {
@@ -171,7 +184,7 @@ impl Machine {
     }
 
     /// Lets the clock go on by so many milliseconds (RM 9.6). Steps take no time.
-    pub fn advance(&mut self, milliseconds: u32)
+    pub fn advance(&mut self, milliseconds: u64)
         requires { self.old.all.clock + milliseconds ≤ CLOCK }
         ensures shows { (c : Configuration) → Shows self.old c → Shows self.new (advanced milliseconds c) }
         ensures exact { self.new ≡ record self.old { all = advanced milliseconds self.old.all } }
@@ -188,6 +201,7 @@ impl Machine {
         ensures shows { OnOk result (Shows self.new (opening (plain_program self.old.program))) }
         ensures code { self.new.code ≡ self.old.code }
         ensures program { self.new.program ≡ self.old.program }
+        ensures limits { self.new.limits ≡ self.old.limits }
         ensures spent { OnErr result (self.new.spent ≡ true) }
         ensures refuses { self.old.spent ≡ true → IsErr result }
     {
@@ -208,12 +222,13 @@ impl Machine {
     /// Memory is refused, or the machine is spent. It is spent then.
     pub fn slice(&mut self, alloc: Global, n: u32) -> Result<Ran, AllocError>
         requires { self.old.all.steps + n ≤ STEPS }
-        ensures runs { IfOk result (λ ran. (limits : Limits) → (c : Configuration) → Shows self.old c → RunsFrom limits n c self.new ran) }
+        ensures runs { IfOk result (λ ran. (c : Configuration) → Shows self.old c → RunsFrom self.old.limits n c self.new ran) }
         ensures few { IfOk result (λ ran. ran.steps ≤ n) }
         ensures ticks { IfOk result (λ ran. ran.ticks ≡ min (run_ticks self.old.code n self.old.all) u64.MAX) }
         ensures few_ticks { IfOk result (λ ran. ran.ticks ≤ ran.steps * length self.old.code) }
         ensures code { self.new.code ≡ self.old.code }
         ensures program { self.new.program ≡ self.old.program }
+        ensures limits { self.new.limits ≡ self.old.limits }
         ensures spent { OnErr result (self.new.spent ≡ true) }
         ensures refuses { self.old.spent ≡ true → IsErr result }
     {
@@ -234,11 +249,12 @@ impl Machine {
     /// Memory is refused, or the machine is spent. It is spent then.
     pub fn take(&mut self, alloc: Global, nth: usize) -> Result<Option<Ran>, AllocError>
         requires { self.old.all.steps < STEPS }
-        ensures takes { IfOk result (λ taken. (limits : Limits) → (c : Configuration) → Shows self.old c → Takes limits c (slice_get (moves c) nth) self.old self.new taken) }
+        ensures takes { IfOk result (λ taken. (c : Configuration) → Shows self.old c → Takes self.old.limits c (slice_get (moves c) nth) self.old self.new taken) }
         ensures ticks { IfOk result (λ taken. IfSome taken (λ ran. (m : Move) → slice_get (moves self.old.all) nth ≡ Some m → ran.ticks ≡ step_ticks self.old.code m.task self.old.all)) }
         ensures few_ticks { IfOk result (λ taken. IfSome taken (λ ran. ran.ticks ≤ length self.old.code)) }
         ensures code { self.new.code ≡ self.old.code }
         ensures program { self.new.program ≡ self.old.program }
+        ensures limits { self.new.limits ≡ self.old.limits }
         ensures spent { OnErr result (self.new.spent ≡ true) }
         ensures refuses { self.old.spent ≡ true → IsErr result }
     {

@@ -11,7 +11,7 @@ pub struct Parts<'a> {
     /// The tasks that were ever created, by their numbers; the main procedure is the first.
     pub tasks: &'a [Task],
     /// The time on the clock, in milliseconds.
-    pub clock: u32,
+    pub clock: u64,
     /// The steps taken.
     pub steps: u32,
 }

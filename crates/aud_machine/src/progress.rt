@@ -13,7 +13,7 @@ use crate::shared::Shared;
 use crate::task::Task;
 use aud_code::sound::SoundCode;
 use aud_meaning::state::State;
-use aud_text::limits::{CLOCK, OUTPUT, STEPS};
+use aud_text::limits::{CHOICES, CLOCK, OUTPUT, STEPS};
 use aud_text::raise::Raise;
 use std::alloc::{AllocError, Global};
 use std::collections::VecDeque;
@@ -25,20 +25,20 @@ pub struct Progress {
     tasks: Vec<Task>,
     shared: Shared,
     choices: VecDeque<u32>,
-    clock: u32,
+    clock: u64,
     steps: u32,
 }
 
 impl Model for Progress {
-    ghost use Rattle.std.specs.Prelude.{ℕ, ◌≤◌};
-    ghost use Rattle.aud_text.specs.declared.limits.TheConstants.{CLOCK, STEPS};
+    ghost use Rattle.std.specs.Prelude.{ℕ, ◌≤◌, length};
+    ghost use Rattle.aud_text.specs.declared.limits.TheConstants.{CHOICES, CLOCK, STEPS};
     ghost use Rattle.aud_meaning.specs.Configuration.{All as Everything};
 
     ghost Value = { Everything ℕ };
 
     ghost view = { λ p. record { tasks = p.tasks.items; shared = p.shared; choices = p.choices.items; clock = p.clock; steps = p.steps } };
 
-    ghost invariant = { λ p. (p.clock ≤ CLOCK) × (p.steps ≤ STEPS) };
+    ghost invariant = { λ p. (length p.choices.items ≤ CHOICES) × (p.clock ≤ CLOCK) × (p.steps ≤ STEPS) };
 }
 
 impl Progress {
@@ -86,13 +86,14 @@ impl Progress {
 
     /// How many choices wait.
     pub fn choices(&self) -> usize
-        ensures { result ≡ length self.now.choices }
+        ensures value { result ≡ length self.now.choices }
+        ensures within { result ≤ CHOICES }
     {
         self.choices.len()
     }
 
     /// The time on the clock, in milliseconds.
-    pub fn clock(&self) -> u32
+    pub fn clock(&self) -> u64
         ensures value { result ≡ self.now.clock }
         ensures within { result ≤ CLOCK }
     {
@@ -109,13 +110,17 @@ impl Progress {
 
     /// Choices, which wait behind those that wait already.
     pub fn choose(&mut self, choices: &[u32]) -> Result<(), AllocError>
+        requires { length self.old.choices + length choices.now ≤ CHOICES }
         ensures { OnOk result (self.new ≡ supplied choices.now self.old) }
     {
-        self.choices.extend(choices)
+        for choice in choices {
+            self.choices.push_back(*choice)?;
+        }
+        Ok(())
     }
 
     /// So many milliseconds more on the clock.
-    pub fn advance(&mut self, milliseconds: u32)
+    pub fn advance(&mut self, milliseconds: u64)
         requires { self.old.clock + milliseconds ≤ CLOCK }
         ensures { self.new ≡ advanced milliseconds self.old }
     {

@@ -10,20 +10,20 @@ pub returns-then-has_more-clause-serves : goal.returns-then-has_more-clause-serv
 returns-then-has_more-clause-serves c =
     λ bounds loaded under.
     let here : Configuration = run bounds c.args.progress loaded.now in
-    let steps = c.steps.ensures.shown here under.is_behind in
+    let steps = c.steps.ensures.shown here under.is_behind.shows in
     goes_on bounds c.args.steps c.args.progress loaded c.args.machine.now under c.min-wanted.result c.within-now.result c.args.units c.slice.new.self c.in_ok-ran.ran
     (omega (arith, steps, c.saturating_sub-left.ensures, c.if-left-eq0.false)) (omega (arith, steps, c.saturating_sub-left.ensures, c.saturating_sub.ensures, c.min-wanted.ensures)) c.within-now.ensures
-    (c.in_ok-ran.ensures.runs bounds here under.is_behind) c.if-now-wanted.true (c.has_more.ensures.yes c.if-has_more.true)
+    (c.in_ok-ran.ensures.limits, c.in_ok-ran.ensures.program) (c.in_ok-ran.ensures.runs here under.is_behind.shows) c.if-now-wanted.true (c.has_more.ensures.yes c.if-has_more.true)
 
 pub returns-clause-serves : goal.returns-clause-serves
 returns-clause-serves c =
     λ bounds loaded under.
     let here : Configuration = run bounds c.args.progress loaded.now in
-    let steps = c.steps.ensures.shown here under.is_behind in
-    let did = c.in_ok-ran.ensures.runs bounds here under.is_behind in
+    let steps = c.steps.ensures.shown here under.is_behind.shows in
+    let did = c.in_ok-ran.ensures.runs here under.is_behind.shows in
     is_done bounds c.args.steps c.args.progress loaded c.args.machine.now under c.min-wanted.result c.within-now.result c.args.units c.slice.new.self c.in_ok-ran.ran
     (omega (arith, steps, c.saturating_sub-left.ensures, c.if-left-eq0.false)) (omega (arith, steps, c.saturating_sub-left.ensures, c.saturating_sub.ensures, c.min-wanted.ensures)) c.within-now.ensures
-    did
+    (c.in_ok-ran.ensures.limits, c.in_ok-ran.ensures.program) did
     (elim c.else-now-wanted.branch [ else-now-wanted-via-then-now-wanted+else-has_more w ↦ inr (w.has_more.ensures.no w.if-has_more.false) | else-now-wanted-via-else-now-wanted w ↦ inl w.if-now-wanted.false ])
-    c.ended_by.result (c.ended_by.ensures ∙ ap (ended_by c.in_ok-ran.ran.state) (c.raised.ensures (run bounds c.within-now.result here) did.shows))
+    c.ended_by.result (c.ended_by.ensures ∙ ap (ended_by c.in_ok-ran.ran.state) (c.raised.ensures (run c.args.machine.now.limits c.within-now.result here) did.shows))
     c.from.result (omega (arith, c.from.ensures, c.max.ensures))

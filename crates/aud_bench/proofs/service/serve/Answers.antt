@@ -17,7 +17,7 @@ returns-in_ok-take-in-Load-clause-serves c =
     let a = c.in_ok-take-in-Load.field-0 in
     subst (λ (r : Request). UnderWay limits r loaded p c.args.machine.now → Serves limits r loaded p c.args.units c.answered.result c.take.new.machine) (sym c.in-Load.is)
     (λ under.
-    let replies : Replies a c.take.new.machine (load_reply (program_of limits source) loaded) =
-    subst (λ (bytes : List ℕ). Replies a c.take.new.machine (load_reply (program_of limits bytes) loaded)) c.as_bytes.ensures (c.in_ok-take-in-Load.ensures loaded under.is_behind) in
+    let replies : Replies limits a c.take.new.machine (load_reply (program_of limits source) loaded) =
+    subst (λ (bytes : List ℕ). Replies limits a c.take.new.machine (load_reply (program_of limits bytes) loaded)) c.as_bytes.ensures (c.in_ok-take-in-Load.ensures loaded under.is_behind) in
     subst (λ (s : Served). Serves limits (request.Load source) loaded p c.args.units s c.take.new.machine) (sym c.answered.ensures)
     (at_once limits (request.Load source) loaded p c.args.units c.take.new.machine a (load_costs loaded (program_of limits source)) under.unanswered replies))

@@ -7,6 +7,6 @@ use Rattle.aud_bench.proofs.session.answer_all.Given as goal
 
 abbrev pub invariant-requests : goal.invariant-requests
 invariant-requests l =
-    (loaded : Option Loaded) × (some : List Answer) × IsLoaded l.machine loaded × (l.answers.items ≡ l.fn.answers.items ++ some)
+    (loaded : Option Loaded) × (some : List Answer) × IsLoaded l.limits l.machine loaded × (l.answers.items ≡ l.fn.answers.items ++ some)
     × (alone l.limits l.requests ≡ some ++ answers_from l.limits (record { requests = l.kept; bytes = l.bytes; loaded = loaded }) (drop l.request-index l.requests))
     × (l.kept ≤ REQUESTS) × (l.bytes ≤ REQUEST_BYTES)
