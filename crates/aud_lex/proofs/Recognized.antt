@@ -2,6 +2,7 @@
 use Rattle.std.proofs.Common.{◌≡◌, ◌⊎◌, ℕ, List, [], ◌∷◌, ◌++◌, map, Bool, true, false, not, ◌&&◌, ◌||◌, refl, ap, ◌∙◌, sym, subst, inl, inr, ⊎_elim, append_assoc}
 use Rattle.std.proofs.lemmas.Bool.{cases_lt, agree_below_at, true≢false}
 use Rattle.std.specs.Prelude.{codes}
+use Prim.Native.String.{String}
 use Rattle.aud_lex.specs.declared.token.Kind.{Kind}
 use Rattle.aud_lex.specs.declared.token.Kind.TheVariants as kind
 use Rattle.aud_lex.specs.declared.automaton.Class.{Class}
@@ -12,10 +13,11 @@ use Rattle.aud_lex.specs.Bytes as bytes
 use Rattle.aud_lex.specs.Kinds.{Spelled, spelled, reserved, delimiters}
 use Rattle.aud_lex.specs.Tokens.{run, step, from_start, in_word, word_underscore, accepts, is_token, kind_of, kind_in, found, small}
 use Rattle.aud_lex.specs.Manual.{The, Anything, Optional, ◌then◌, ◌or◌, Repeated, never, again, Letter, Digit, Underline, Numeral, StringElement, IsElement, identifier, reserved_word, integer, real, string, delimiter}
+use Rattle.aud_lex.specs.Laws.{TokensAreElements, IsNone, Examples}
 use Rattle.aud_lex.proofs.Fronts.{run_dead}
 use Rattle.aud_lex.proofs.Characters.{is_letter, is_digit, is_plain, of_letter, of_digit, of_plain, letters_agree, digits_agree, plains_agree, control_above, byte_of, of_one, byte_is}
 use Rattle.aud_lex.proofs.Listed.{found_or_not, is_listed, listed}
-use Rattle.aud_lex.proofs.Derived.{Apart, word_state, before, in_delimiter}
+use Rattle.aud_lex.proofs.Derived.{Apart, word_state, before, in_delimiter, element_is_token}
 
 dead_refuses : (x : List ℕ) → accepts (run Dead x) ≡ true → ⊥
 dead_refuses x a = true≢false (sym a ∙ ap accepts (run_dead x))
@@ -27,7 +29,7 @@ digit_of : (b : ℕ) → bytes.class b ≡ class.Digit → is_digit b ≡ true
 digit_of b e = digits_agree b ∙ ap of_digit e
 
 -- one more in front of the repeated ones
-longer : (A B : List ℕ → Type 0) (front x : List ℕ) → A front → (Repeated A then B) x → (Repeated A then B) (front ++ x)
+pub longer : (A B : List ℕ → Type 0) (front x : List ℕ) → A front → (Repeated A then B) x → (Repeated A then B) (front ++ x)
 longer A B front x a h = (front ++ h.0, h.1, ap (λ z. front ++ z) h.2 ∙ sym (append_assoc front h.0 h.1), again front h.0 a h.3, h.4)
 
 -- Numbers
@@ -352,6 +354,43 @@ by_first b x class.Slash e a = delimiter_element b x class.Slash e refl a
 by_first b x class.Star e a = delimiter_element b x class.Star e refl a
 by_first b x class.Single e a = delimiter_element b x class.Single e refl a
 
-pub token_is_element : (text : List ℕ) → is_token text ≡ true → IsElement text (kind_of text)
+token_is_element : (text : List ℕ) → is_token text ≡ true → IsElement text (kind_of text)
 token_is_element [] a = cc
 token_is_element (b ∷ x) a = by_first b x (bytes.class b) refl a
+
+pub tokens_are_elements : TokensAreElements
+tokens_are_elements text k = (λ h. subst (IsElement text) h.1 (token_is_element text h.0), element_is_token text k)
+
+is_none : (text : String) → is_token (codes text) ≡ false → IsNone text
+is_none text e k h = true≢false (sym (element_is_token (codes text) k h).0 ∙ e)
+
+is_one : (text : String) (k : Kind) → is_token (codes text) ≡ true → kind_of (codes text) ≡ k → IsElement (codes text) k
+is_one text k a e = (tokens_are_elements (codes text) k).0 (a, e)
+
+pub examples : Examples
+examples = (
+  is_one "Max_1" kind.Identifier refl refl,
+  is_one "BEGIN" kind.Begin refl refl,
+  is_one "beginning" kind.Identifier refl refl,
+  is_one "12_000" kind.Integer refl refl,
+  is_one "3.14" kind.Real refl refl,
+  is_one "\"\"" kind.Text refl refl,
+  is_one "\"say \"\"hi\"\"\"" kind.Text refl refl,
+  is_one ":=" kind.Becomes refl refl,
+  is_one "'" kind.Apostrophe refl refl,
+  is_none "Max__1" refl,
+  is_none "Max_" refl,
+  is_none "_Max" refl,
+  is_none "1Max" refl,
+  is_none "12_" refl,
+  is_none "3." refl,
+  is_none ".5" refl,
+  is_none "1E3" refl,
+  is_none "16#FF#" refl,
+  is_none "\"hi" refl,
+  is_none "\"a\"b\"" refl,
+  is_none "'a'" refl,
+  is_none "=<" refl,
+  is_none "" refl,
+  is_none " " refl,
+)

@@ -54,14 +54,14 @@ abbrev pub Underline : List ℕ → Type 0
 Underline = The "_"
 
 -- identifier ::= identifier_start {identifier_start | identifier_extend}; two underlines do not follow each other, and none is
--- the last character (RM 2.3(2, 3, 4))
+-- the last character (RM 2.3)
 abbrev pub Identifier : List ℕ → Type 0
 Identifier text =
     (Letter then Repeated (Letter or Digit or Underline)) text
     × ((Anything then The "__" then Anything) text → ⊥)
     × ((Anything then The "_") text → ⊥)
 
--- one of the list, some or all of its letters in upper case (RM 2.9(2, 3))
+-- one of the list, where some or all of its letters may be in upper case (RM 2.9(2, 3))
 abbrev pub ReservedWord : Kind → List ℕ → Type 0
 ReservedWord k text = Contains reserved (spelled (map small text) k)
 
@@ -84,16 +84,41 @@ StringElement = The "\"\"" or One (λ c. between 32 c 126 && not (c == 34))
 abbrev pub StringLiteral : List ℕ → Type 0
 StringLiteral = The "\"" then Repeated StringElement then The "\""
 
--- a delimiter or compound delimiter of the list (RM 2.2(9 to 14))
+-- a delimiter or compound delimiter of the list (RM 2.2)
 abbrev pub Delimiter : Kind → List ℕ → Type 0
 Delimiter k text = Contains delimiters (spelled text k)
 
 -- a lexical element, and its kind (RM 2.2(1))
 pub data IsElement (text : List ℕ) : Kind → Type 0 where
-  -- no identifier is a reserved word (RM 2.3(5.3))
+  -- no identifier is a reserved word (RM 2.3)
   identifier : Identifier text → ((k : Kind) → ReservedWord k text → ⊥) → IsElement text kind.Identifier
   reserved_word : (k : Kind) → ReservedWord k text → IsElement text k
   integer : IntegerLiteral text → IsElement text kind.Integer
   real : RealLiteral text → IsElement text kind.Real
   string : StringLiteral text → IsElement text kind.Text
   delimiter : (k : Kind) → Delimiter k text → IsElement text k
+
+-- Between lexical elements
+
+-- a line feed; a carriage return before it is dropped (RM 2.2(2))
+abbrev pub EndOfLine : List ℕ → Type 0
+EndOfLine = The "\n" or The "\r\n"
+
+-- a space, a tab or the end of a line (RM 2.2(3 to 6))
+abbrev pub Separator : List ℕ → Type 0
+Separator = The " " or The "\t" or EndOfLine
+
+abbrev pub CommentCharacter : List ℕ → Type 0
+CommentCharacter = One (λ c. c == 9 || between 32 c 126)
+
+-- comment ::= --{non_end_of_line_character} (RM 2.7(2))
+abbrev pub Comment : List ℕ → Type 0
+Comment = The "--" then Repeated CommentCharacter
+
+-- between two lexical elements: separators, and comments up to the end of their lines
+abbrev pub Between : List ℕ → Type 0
+Between = Repeated (Separator or Comment then EndOfLine)
+
+-- behind the last one, where the text may end in a comment
+abbrev pub BehindLast : List ℕ → Type 0
+BehindLast = Between then Optional Comment
