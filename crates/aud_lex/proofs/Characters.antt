@@ -1,12 +1,11 @@
 -- What the class of a byte says of it.
-use Rattle.std.proofs.Common.{◌≡◌, ◌⊎◌, ℕ, suc, ◌+◌, ◌<◌, ◌≤◌, Bool, true, false, not, ◌&&◌, ◌||◌, refl, ap, ◌∙◌, sym, subst, arith, ⊎_elim}
-use Rattle.std.proofs.lemmas.Bool.{cases_lt, and_parts, or_cases, or_from, and_left, and_right, lt-leb, leb-true, le-leb, and_from, or_right, ne_eqb, eqb-true, true≢false, agree_below, agree_below_at}
+use Rattle.std.proofs.Common.{◌≡◌, ℕ, ◌+◌, ◌<◌, ◌≤◌, Bool, true, false, not, ◌&&◌, ◌||◌, refl, ap, ◌∙◌, sym, subst, arith, ⊎_elim}
+use Rattle.std.proofs.lemmas.Bool.{cases_lt, and_parts, or_from, and_left, and_right, lt-leb, leb-true, le-leb, and_from, or_right, ne_eqb, eqb-true, agree_below, agree_below_at}
 use Rattle.std.specs.Prelude.{◌==◌, nat_le, if◌then◌else◌}
 use Rattle.aud_lex.specs.declared.automaton.Class.{Class}
-use Rattle.aud_lex.specs.declared.automaton.Class.TheVariants.{Letter, Digit, Underscore, Quote, Point, Colon, Equals, Less, Greater, Slash, Star, Single, Graphic, Control}
+use Rattle.aud_lex.specs.declared.automaton.Class.TheVariants.{Letter, Digit, Underscore, Quote, Point, Colon, Equals, Less, Greater, Slash, Star, Control}
 use Rattle.aud_lex.specs.Bytes.{between, is_single, class}
-use Rattle.aud_lex.specs.Kinds.{Spelled, delimiters}
-use Rattle.aud_lex.specs.Tokens.{small, same_bytes}
+use Rattle.aud_lex.specs.Tokens.{small}
 
 abbrev pub is_letter : ℕ → Bool
 is_letter b = between 65 b 90 || between 97 b 122

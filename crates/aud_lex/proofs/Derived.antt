@@ -1,8 +1,6 @@
 -- Each lexical element of the manual is a token of its kind.
-use Rattle.std.proofs.Common.{◌≡◌, ◌⊎◌, ℕ, List, [], ◌∷◌, ◌++◌, map, Bool, true, false, not, ◌&&◌, ◌||◌, refl, ap, ◌∙◌, sym, subst, inl, inr, ⊎_elim, append_assoc}
-use Rattle.std.proofs.lemmas.Bool.{and_parts}
-use Rattle.std.specs.Prelude.{◌==◌, codes}
-use Rattle.std.specs.List.{list_all, Contains}
+use Rattle.std.proofs.Common.{◌≡◌, ℕ, List, [], ◌∷◌, ◌++◌, map, Bool, true, false, refl, ap, ◌∙◌, sym, subst, ⊎_elim, append_assoc}
+use Rattle.std.specs.Prelude.{codes}
 use Prim.Native.String.{String}
 use Rattle.aud_lex.specs.declared.token.Kind.{Kind}
 use Rattle.aud_lex.specs.declared.token.Kind.TheVariants as kind
@@ -14,7 +12,7 @@ use Rattle.aud_lex.specs.Bytes.{class}
 use Rattle.aud_lex.specs.Kinds.{Spelled, spelled, reserved, delimiters}
 use Rattle.aud_lex.specs.Tokens.{run, step, in_string, accepts, is_token, kind_of, kind_in, found, small}
 use Rattle.aud_lex.specs.Manual.{The, One, Anything, Optional, ◌then◌, ◌or◌, Repeated, never, again, Letter, Digit, Underline, Identifier, ReservedWord, Numeral, RealLiteral, StringElement, StringLiteral, Delimiter, IsElement, identifier, reserved_word, integer, real, string, delimiter}
-use Rattle.aud_lex.proofs.Characters.{is_plain, of_plain, plains_agree, is_letter, is_digit, letter_class, digit_class, small_class}
+use Rattle.aud_lex.proofs.Characters.{is_plain, of_plain, plains_agree, letter_class, digit_class, small_class}
 use Rattle.aud_lex.proofs.Listed.{all_at, found_listed, none_found}
 
 -- the automaton goes over each text of a rule from one state to another

@@ -49,9 +49,12 @@ found_or_not (f ∷ table) text default = under (same_bytes f.bytes text) refl (
     under true e r = inl (subst (λ z. Contains (f ∷ table) (spelled z f.kind)) (same_are f.bytes text e) (first_listed f table))
     under false e r = ⊎_elim
         (λ h. inl (later_listed f (spelled text (found table text default)) table h))
-        (λ h. inr (h.0, λ k l. ⊎_elim
-            (λ g. true≢false (sym (same_itself text) ∙ ap (λ x. same_bytes x.bytes text) (sym g) ∙ e))
-            (h.1 k) (uncons f (spelled text k) table l))) r
+        (λ h. inr (
+          h.0,
+          λ k l. ⊎_elim
+              (λ g. true≢false (sym (same_itself text) ∙ ap (λ x. same_bytes x.bytes text) (sym g) ∙ e))
+              (h.1 k) (uncons f (spelled text k) table l),
+        )) r
 
 -- whether each spelling stands in the table once
 abbrev pub are_distinct : List Spelled → Bool

@@ -1,5 +1,5 @@
 -- Each token is a lexical element of the manual.
-use Rattle.std.proofs.Common.{◌≡◌, ◌⊎◌, ℕ, List, [], ◌∷◌, ◌++◌, map, Bool, true, false, not, ◌&&◌, ◌||◌, refl, ap, ◌∙◌, sym, subst, inl, inr, ⊎_elim, append_assoc}
+use Rattle.std.proofs.Common.{◌≡◌, ◌⊎◌, ℕ, List, [], ◌∷◌, ◌++◌, map, Bool, true, false, not, ◌||◌, refl, ap, ◌∙◌, sym, subst, inl, inr, ⊎_elim, append_assoc}
 use Rattle.std.proofs.lemmas.Bool.{cases_lt, agree_below_at, true≢false}
 use Rattle.std.specs.Prelude.{codes}
 use Prim.Native.String.{String}
@@ -8,11 +8,11 @@ use Rattle.aud_lex.specs.declared.token.Kind.TheVariants as kind
 use Rattle.aud_lex.specs.declared.automaton.Class.{Class}
 use Rattle.aud_lex.specs.declared.automaton.Class.TheVariants as class
 use Rattle.aud_lex.specs.declared.automaton.State.{State}
-use Rattle.aud_lex.specs.declared.automaton.State.TheVariants.{Start, Dead, InWord, WordUnderscore, InNumber, NumberUnderscore, AfterPoint, InDecimals, DecimalsUnderscore, InString, BehindQuote, OnPoint, OnColon, OnEquals, OnLess, OnGreater, OnSlash, OnStar, Whole}
+use Rattle.aud_lex.specs.declared.automaton.State.TheVariants.{Dead, InWord, WordUnderscore, InNumber, NumberUnderscore, AfterPoint, InDecimals, DecimalsUnderscore, InString, BehindQuote, OnPoint, OnColon, OnEquals, OnLess, OnGreater, OnSlash, OnStar, Whole}
 use Rattle.aud_lex.specs.Bytes as bytes
-use Rattle.aud_lex.specs.Kinds.{Spelled, spelled, reserved, delimiters}
+use Rattle.aud_lex.specs.Kinds.{reserved, delimiters}
 use Rattle.aud_lex.specs.Tokens.{run, step, from_start, in_word, word_underscore, accepts, is_token, kind_of, kind_in, found, small}
-use Rattle.aud_lex.specs.Manual.{The, Anything, Optional, ◌then◌, ◌or◌, Repeated, never, again, Letter, Digit, Underline, Numeral, StringElement, IsElement, identifier, reserved_word, integer, real, string, delimiter}
+use Rattle.aud_lex.specs.Manual.{The, Optional, ◌then◌, ◌or◌, Repeated, never, again, Letter, Digit, Underline, Numeral, StringElement, IsElement, identifier, reserved_word, integer, real, string, delimiter}
 use Rattle.aud_lex.specs.Laws.{TokensAreElements, IsNone, Examples}
 use Rattle.aud_lex.proofs.Fronts.{run_dead}
 use Rattle.aud_lex.proofs.Characters.{is_letter, is_digit, is_plain, of_letter, of_digit, of_plain, letters_agree, digits_agree, plains_agree, control_above, byte_of, of_one, byte_is}
@@ -223,8 +223,8 @@ ends_not b x end (c ∷ front) t a h n e =
 apart : (b : ℕ) (x : List ℕ) → is_token (b ∷ x) ≡ true → accepts (run InWord x) ≡ true → Apart (b ∷ x)
 apart b x t a = (
   λ h. let w = h.4 in
-  let e : h.1 ≡ 95 ∷ 95 ∷ w.1 = w.2 ∙ ap (λ z. z ++ w.1) w.3 in
-  ends_not b x (95 ∷ 95 ∷ w.1) h.0 t a (two_refused w.1) (ap accepts (run_dead w.1)) (h.2 ∙ ap (λ z. h.0 ++ z) e),
+      let e : h.1 ≡ 95 ∷ 95 ∷ w.1 = w.2 ∙ ap (λ z. z ++ w.1) w.3 in
+      ends_not b x (95 ∷ 95 ∷ w.1) h.0 t a (two_refused w.1) (ap accepts (run_dead w.1)) (h.2 ∙ ap (λ z. h.0 ++ z) e),
   λ h. ends_not b x (95 ∷ []) h.0 t a last_refused refl (h.2 ∙ ap (λ z. h.0 ++ z) h.4),
 )
 
@@ -388,6 +388,7 @@ examples = (
   is_none "1E3" refl,
   is_none "16#FF#" refl,
   is_none "\"hi" refl,
+  is_none "\"a\tb\"" refl,
   is_none "\"a\"b\"" refl,
   is_none "'a'" refl,
   is_none "=<" refl,

@@ -44,9 +44,11 @@ pub data Repeated (A : List ℕ → Type 0) : List ℕ → Type 0 where
 
 -- Characters (RM 2.1)
 
+-- A to Z and a to z
 abbrev pub Letter : List ℕ → Type 0
 Letter = One (λ c. between 65 c 90 || between 97 c 122)
 
+-- 0 to 9
 abbrev pub Digit : List ℕ → Type 0
 Digit = One (λ c. between 48 c 57)
 
@@ -76,7 +78,7 @@ IntegerLiteral = Numeral
 abbrev pub RealLiteral : List ℕ → Type 0
 RealLiteral = Numeral then The "." then Numeral
 
--- string_element ::= "" | non_quotation_mark_graphic_character (RM 2.6(3))
+-- string_element ::= "" | non_quotation_mark_graphic_character (RM 2.6(3)); graphic characters are the space to the tilde
 abbrev pub StringElement : List ℕ → Type 0
 StringElement = The "\"\"" or One (λ c. between 32 c 126 && not (c == 34))
 
@@ -108,6 +110,7 @@ EndOfLine = The "\n" or The "\r\n"
 abbrev pub Separator : List ℕ → Type 0
 Separator = The " " or The "\t" or EndOfLine
 
+-- a tab, or a graphic character
 abbrev pub CommentCharacter : List ℕ → Type 0
 CommentCharacter = One (λ c. c == 9 || between 32 c 126)
 
