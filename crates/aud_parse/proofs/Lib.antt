@@ -1,6 +1,9 @@
 pub mod Tables
 pub mod Reading
 pub mod Choices
+pub mod Sound
+pub mod Gets
+pub mod Ways
 pub mod Ends
 pub mod Total
 pub mod Spelled
@@ -8,7 +11,8 @@ pub mod Passing
 pub mod Rolls
 pub mod Verdicts
 pub mod Literals
-pub mod Levels
+pub mod OneAnswer
+pub mod Answered
 pub mod Bared
 pub mod Places
 pub mod Canonical

@@ -18,7 +18,7 @@ use Rattle.aud_parse.specs.Values.{number_value, unquoted}
 use Rattle.aud_parse.specs.Parsed.{parsed, Fault}
 use Rattle.aud_parse.specs.Alike.{Alike, AllAlike, stripped}
 use Rattle.aud_parse.specs.Laws.{RoundTrip, OneText}
-use Rattle.aud_parse.proofs.Spelled.{parsed_spells}
+use Rattle.aud_parse.proofs.Answered.{the_spelled}
 use Rattle.aud_parse.proofs.Places.{alike_read}
 use Rattle.aud_parse.proofs.Canonical.{Stays, spelling, written, stays}
 use Rattle.aud_parse.proofs.Worded.{words_of}
@@ -67,7 +67,7 @@ again (Err f) u e = cc
 pub round_trip : RoundTrip
 round_trip source ts u e p =
     let k : Kinds ts = (are_tokens source ts e).1 in
-    let w : unit_words u ≡ map written ts = words_of ts u ((parsed_spells ts u).0 p) in
+    let w : unit_words u ≡ map written ts = words_of ts u ((the_spelled ts u).0 p) in
     let b = read_back (map written ts) (written_tokens ts k) in
     let l : Kinds b.0 = (are_tokens (spaced (map written ts)) b.0 b.1).1 in
     let r = again (parsed b.0) u (ap stripped (sym p) ∙ alike_read ts b.0 (all_alike ts b.0 k l b.2)) in

@@ -12,7 +12,7 @@ use Rattle.aud_parse.proofs.Tables.{rank}
 use Rattle.aud_parse.specs.Parsed.{pick, Ran, budget, read}
 use Rattle.aud_parse.specs.Machine.{Out, o_end, o_rest, o_word, o_token, o_no_word, o_no_token, o_rule, o_level, o_deep, o_shut, o_down, o_this, o_other, o_last, o_yes, o_no, o_more, o_stop}
 use Rattle.aud_parse.proofs.Reading.{is_yes, no_word, no_token, run_down, run_rule, run_level, run_deep, run_shut, run_one, run_yes, run_no, run_more, run_stop, pick_yes, pick_no, none_left, less, and_in, table_rank_some, enough_rule, enough_budget, below, enough}
-use Rattle.aud_parse.proofs.Ends.{Full, full_append, table_full}
+use Rattle.aud_parse.proofs.Gets.{Full, full_append, table_full}
 
 abbrev pub Outs : List Sym → ℕ → List Element → Ran → Type 0
 Outs s r ts x = Out s r ts x.0 x.1

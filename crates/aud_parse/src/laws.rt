@@ -13,19 +13,26 @@ pub fn one_tree_law()
     ensures { laws.OneTree }
 {}
 
-/// A fault stands at the least token with which no program goes on.
+/// A syntax fault stands at the least token with which no program goes on, where no token before it
+/// opens a level too many; and where that is so, it is answered.
 pub fn wrong_place_law()
     ensures { laws.WrongPlace }
 {}
 
-/// A fault of levels stands at a token with which a program goes on, but none within the limit.
+/// A fault of levels stands at the first token that opens a level too many, where a program goes on
+/// with it; and where that is so, it is answered.
+pub fn first_deep_law()
+    ensures { laws.FirstDeep }
+{}
+
+/// No program within the limit goes on with the token of a fault of levels.
 pub fn deep_place_law()
     ensures { laws.DeepPlace }
 {}
 
-/// A fault of levels stands at the first token that opens a level too many.
-pub fn first_deep_law()
-    ensures { laws.FirstDeep }
+/// The answers of `parsed` are right, and those of no other function are.
+pub fn one_parser_law()
+    ensures { laws.OneParser }
 {}
 
 /// What is read of tokens does not depend on their places, on the case of letters, or on how a
