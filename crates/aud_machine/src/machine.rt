@@ -1,9 +1,10 @@
 // A machine and its runs.
 
-ghost use Rattle.std.specs.Prelude.{◌≡◌, ◌+◌, ◌*◌, ◌<◌, ◌≤◌, length, map, min, true, false, slice_get, IfOk, IfSome, OnOk, OnErr, IsErr};
+ghost use Rattle.std.specs.Prelude.{◌≡◌, ◌+◌, ◌*◌, ◌<◌, ◌≤◌, length, map, min, true, false, None, slice_get, slice_index_or, IfOk, IfSome, OnOk, OnErr, IsErr};
 ghost use Rattle.aud_typed.specs.View.{plain_program};
 ghost use Rattle.aud_typed.specs.Scoped.{IsScoped};
 ghost use Rattle.aud_meaning.specs.Configuration.{Configuration};
+ghost use Rattle.aud_meaning.specs.Coming.{coming};
 ghost use Rattle.aud_meaning.specs.Run.{Move, moves, state_of, main_raised, supplied, advanced, opening};
 ghost use Rattle.aud_machine.specs.Shows.{Shows, RunsFrom, Takes};
 ghost use Rattle.aud_machine.specs.Ticks.{step_ticks, run_ticks};
@@ -15,7 +16,7 @@ pub use crate::run::Ran;
 use crate::run::run;
 use aud_code::sound::SoundCode;
 use aud_gen::generate;
-use aud_meaning::state::State;
+use aud_meaning::state::{NextStep, State};
 use aud_text::limits::{CHOICES, CLOCK, Limits, OUTPUT, STEPS};
 use aud_text::raise::Raise;
 use aud_typed::program::Program;
@@ -115,6 +116,15 @@ impl Machine {
         ensures { (c : Configuration) → Shows self.now c → result ≡ main_raised c.tasks }
     {
         self.progress.raised()
+    }
+
+    /// What comes next of the task of this number, counted from 0: the kind of its step, and where that stands in the
+    /// text; while an exception is pending, that is where it was raised. None where there is no such task, or it is
+    /// terminated.
+    pub fn coming(&self, task: usize) -> Option<NextStep>
+        ensures { (c : Configuration) → Shows self.now c → result ≡ slice_index_or (coming c) task None }
+    {
+        self.progress.coming(&self.code, task)
     }
 
     /// How many choices wait.

@@ -1,7 +1,8 @@
 // How far a program is.
 
-ghost use Rattle.std.specs.Prelude.{◌≡◌, ◌<◌, ◌≤◌, ◌+◌, length, OnOk, IfOk, IfSome, slice_get};
+ghost use Rattle.std.specs.Prelude.{◌≡◌, ◌<◌, ◌≤◌, ◌+◌, length, OnOk, IfOk, IfSome, None, slice_get, slice_index_or};
 ghost use Rattle.aud_meaning.specs.Run.{has_ended, moves, moves_from, state_of, main_raised, step_with, own_move, supplied, advanced};
+ghost use Rattle.aud_code.specs.Coming.{coming};
 ghost use Rattle.aud_code.specs.Next.{next};
 ghost use Rattle.aud_gen.specs.Shows.{opening_code};
 ghost use Rattle.aud_machine.specs.Moving.{move_of, Picks, AllFit};
@@ -12,7 +13,7 @@ use crate::operands::Operands;
 use crate::shared::Shared;
 use crate::task::Task;
 use aud_code::sound::SoundCode;
-use aud_meaning::state::State;
+use aud_meaning::state::{NextStep, State};
 use aud_text::limits::{CHOICES, CLOCK, OUTPUT, STEPS};
 use aud_text::raise::Raise;
 use std::alloc::{AllocError, Global};
@@ -134,6 +135,16 @@ impl Progress {
         match self.tasks.first() {
             None => None,
             Some(main) => main.raised(),
+        }
+    }
+
+    /// What comes next of the task of this number: the kind of its step, and where that stands in the text.
+    pub fn coming(&self, code: &SoundCode, task: usize) -> Option<NextStep>
+        ensures { result ≡ slice_index_or (coming code.now self.now) task None }
+    {
+        match self.tasks.get(task) {
+            None => None,
+            Some(task) => task.coming(code),
         }
     }
 

@@ -3,6 +3,8 @@
 ghost use Rattle.std.specs.Prelude.{◌≡◌, ◌<◌, ◌≤◌, ◌+◌, ◌∷◌, [], length, All, OnOk, IfOk};
 ghost use Rattle.aud_meaning.specs.Effects.{raises};
 ghost use Rattle.aud_meaning.specs.Run.{acting, is_terminated};
+ghost use Rattle.aud_meaning.specs.Coming.{coming_of};
+ghost use Rattle.aud_code.specs.Coming.{step_at};
 ghost use Rattle.aud_code.specs.Next.{next, effect};
 ghost use Rattle.aud_machine.specs.Fits.{Fits, Ready};
 ghost use Rattle.aud_machine.specs.Ticks.{task_ticks};
@@ -12,7 +14,7 @@ use crate::operands::Operands;
 use crate::shared::Shared;
 use aud_code::code::Ending;
 use aud_code::sound::SoundCode;
-use aud_meaning::state::Status;
+use aud_meaning::state::{NextStep, Status, StepKind};
 use aud_text::raise::Raise;
 use std::alloc::{AllocError, Global};
 use std::marker::Model;
@@ -71,6 +73,32 @@ impl Task {
         ensures { result ≡ self.now.own.pending }
     {
         self.pending
+    }
+
+    /// The kind of its next step, and where that stands in the text; none where it is terminated.
+    pub fn coming(&self, code: &SoundCode) -> Option<NextStep>
+        ensures { result ≡ coming_of self.now.own (step_at code.now self.now.control) }
+    {
+        if code.len() <= self.place {
+            return None;
+        }
+        let line = code.line(self.place);
+        let here = NextStep {
+            kind: line.kind,
+            at: line.at,
+        };
+        match (self.status, self.pending) {
+            (Status::Running, None) => Some(here),
+            (Status::Running, Some(_)) => Some(NextStep {
+                kind: StepKind::Complete,
+                at: here.at,
+            }),
+            (Status::Completed, _) => Some(NextStep {
+                kind: StepKind::Close,
+                at: here.at,
+            }),
+            (Status::Terminated, _) => None,
+        }
     }
 
     /// The numbers of the frames that it sees, outermost first.
