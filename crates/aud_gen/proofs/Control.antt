@@ -1,5 +1,5 @@
 -- Where tasks go on.
-use Rattle.std.proofs.Common.{◌≡◌, ℕ, ◌+◌, List, [], ◌∷◌, ◌++◌, length, drop, Option, Some, None, Result, Ok, Err, refl, sym, ap, ◌∙◌, subst}
+use Rattle.std.proofs.Common.{◌≡◌, ℕ, ◌+◌, List, [], ◌∷◌, length, drop, None, Result, Ok, Err, refl, sym, ap, ◌∙◌, subst}
 use Rattle.aud_text.specs.declared.raise.Raise.{Raise}
 use Rattle.aud_typed.specs.Tree.{Stmt, sequence, declare, null, assign, put}
 use Rattle.aud_meaning.specs.declared.state.Status.{Status}

@@ -110,7 +110,7 @@ stmt_written others i x last h is old new all at behind next around e k whole =
     let rest = tree.in_sequence (map plain_stmt (drop (i + 1) others ++ last ∷ [])) in
     let n = at + stmt_size (plain_stmt x) in
     let opened : tree.in_sequence (map plain_stmt (drop i others ++ last ∷ [])) ≡ tree.sequence (plain_stmt x) rest =
-        ap (λ z. tree.in_sequence (map plain_stmt (z ++ last ∷ []))) (dropped others i x h is) ∙ followed (plain_stmt x) (drop (i + 1) others) last in
+    ap (λ z. tree.in_sequence (map plain_stmt (z ++ last ∷ []))) (dropped others i x h is) ∙ followed (plain_stmt x) (drop (i + 1) others) last in
     let first : new ≡ old ++ stmt_code (plain_stmt x) at n around = k ∙ ap (λ z. old ++ stmt_code (plain_stmt x) at z around) e in
     ap (λ z. new ++ stmt_code rest z next around) e
     ∙ written_more old new (new ++ stmt_code rest n next around) (stmt_code (plain_stmt x) at n around) (stmt_code rest n next around) first refl

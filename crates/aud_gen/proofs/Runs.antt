@@ -7,7 +7,7 @@ use Rattle.aud_meaning.specs.declared.state.NextStep.{NextStep}
 use Rattle.aud_meaning.specs.Configuration.{Own, Item, Ends, TaskAt, All, Configuration, Acting}
 use Rattle.aud_meaning.specs.Coming.{first_step, next_by, coming_of}
 use Rattle.aud_meaning.specs.Step.{task_step}
-use Rattle.aud_meaning.specs.Run.{Move, moves_by, moves_from, is_terminated, has_ended, moves, main_raised, acting, step_of, step_with, pick, take_picked, run_by, run_with, opening}
+use Rattle.aud_meaning.specs.Run.{Move, moves_by, moves_from, is_terminated, has_ended, moves, main_raised, acting, step_of, step_with, pick, take_picked, run_by, run_with}
 use Rattle.aud_code.specs.declared.code.Line.{Line}
 use Rattle.aud_code.specs.Next.{next}
 use Rattle.aud_code.specs.Coming.{written, step_at}

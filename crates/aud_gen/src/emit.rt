@@ -121,7 +121,13 @@ fn emit_stmts(
     ensures { OnOk result (code.new.items ≡ code.old.items ++ stmt_code (in_sequence (map plain_stmt stmts.now)) at next around) }
 {
     match stmts {
-        [] => emit_stmt(alloc, code, &Stmt::Null(Pos { line: 0, col: 0 }), next, around),
+        [] => emit_stmt(
+            alloc,
+            code,
+            &Stmt::Null(Pos { line: 0, col: 0 }),
+            next,
+            around,
+        ),
         [others @ .., last] => {
             let mut place = at;
             for s in others {

@@ -1,4 +1,4 @@
-use Rattle.std.proofs.Common.{ap, arith, drop, sym, ◌∙◌}
+use Rattle.std.proofs.Common.{ap, arith, sym, ◌∙◌}
 use Rattle.std.specs.Prelude.{map}
 use Rattle.std.proofs.lemmas.List.{drop_all}
 use Rattle.aud_typed.specs.View.{plain_stmt}
