@@ -1,5 +1,5 @@
 -- The items of trees that are built from their parts.
-use Rattle.std.proofs.Common.{◌≡◌, List, [], ◌∷◌, refl, ap, sym, ◌∙◌}
+use Rattle.std.proofs.Common.{◌≡◌, List, [], ◌∷◌, refl, ap, ◌∙◌}
 use Rattle.std.specs.Prelude.{Option, Some, None, Vec}
 use Rattle.std.specs.Global.{Global}
 use Rattle.std.specs.Prelude.{Box}
@@ -21,7 +21,7 @@ use Rattle.aud_syntax.specs.declared.tree.Body.{Body}
 use Rattle.aud_syntax.specs.Plain as m
 use Rattle.aud_syntax.specs.View.{plain_primary, plain_factor, plain_multiplieds, plain_term, plain_added, plain_addeds, plain_simple, plain_maybe, plain_decl, plain_decls, plain_stmts, plain_stmt, plain_body}
 use Rattle.aud_parse.specs.Grammar as g
-use Rattle.aud_parse.specs.Actions.{Item, made, place, an_ident, a_sign, an_operator, a_primary, a_factor, a_decl, a_body, a_unit, the_idents, the_decls, the_stmts, opt_ident, opt_expr, opt_sign, opt_operator, the_multiplieds, the_addeds}
+use Rattle.aud_parse.specs.Actions.{Item, made, place, an_ident, a_sign, an_operator, a_factor, a_decl, a_body, a_unit, the_idents, the_decls, the_stmts, opt_ident, opt_expr, opt_sign, opt_operator, the_multiplieds, the_addeds}
 use Rattle.aud_parse.specs.Items.{list_item, opt_item, attribute_item, factor_item, multiplied_item, primary_item, added_item, expr_item, decl_item, stmt_item, body_item, unit_item}
 
 pub multiplied_rows : (n : _) (row : Row_of-Multiplied n) → plain_multiplieds row ≡ the_multiplieds (list_item multiplied_item (items-the_row-Multiplied n row))
@@ -52,12 +52,9 @@ opt_operator_is (Some x) = refl
 pub factor_items : (s : Option Operator) (p : Primary) (ds : List Item) → made g.Factor (opt_item an_operator s ∷ primary_item p ∷ ds) ≡ factor_item (record { op = s; primary = p }) ∷ ds
 factor_items s p ds = ap (λ z. a_factor (m.factor z (plain_primary p)) ∷ ds) (opt_operator_is s)
 
-pub named_none : (i : Ident) (x : Ident × Option Simple) (ds : List Item) → x.1 ≡ None → made g.Named (an_ident i ∷ attribute_item x ∷ ds) ≡ primary_item (Attribute i x.0 None) ∷ ds
-named_none i x ds e = ap (λ z. a_primary (m.attribute i x.0 (plain_maybe z)) ∷ ds) e
-
-pub named_some : (i : Ident) (x : Ident × Option Simple) (b : Box Simple Global) (e : Simple) (ds : List Item) → x.1 ≡ Some e → b.value ≡ e →
-    made g.Named (an_ident i ∷ attribute_item x ∷ ds) ≡ primary_item (Attribute i x.0 (Some b)) ∷ ds
-named_some i x b e ds h is = ap (λ z. a_primary (m.attribute i x.0 (plain_maybe z)) ∷ ds) h ∙ ap (λ z. a_primary (m.attribute i x.0 (m.a_simple (plain_simple z))) ∷ ds) (sym is)
+pub named_items : (i j : Ident) (e : Option (Box Simple Global)) (ds : List Item) → made g.Named (an_ident i ∷ attribute_item (j, e) ∷ ds) ≡ primary_item (Attribute i j e) ∷ ds
+named_items i j None ds = refl
+named_items i j (Some e) ds = refl
 
 idents_items : (xs : List Ident) → the_idents (list_item an_ident xs) ≡ xs
 idents_items [] = refl

@@ -1,5 +1,6 @@
 -- Trees in memory, as items of the reading.
-use Rattle.std.specs.Prelude.{List, [], ◌∷◌, Option, Some, None}
+use Rattle.std.specs.Prelude.{List, [], ◌∷◌, Option, Some, None, Box}
+use Rattle.std.specs.Global.{Global}
 use Rattle.aud_text.specs.declared.place.Pos.{Pos}
 use Rattle.aud_syntax.specs.declared.tree.Ident.{Ident}
 use Rattle.aud_syntax.specs.declared.tree.Primary.{Primary}
@@ -12,7 +13,8 @@ use Rattle.aud_syntax.specs.declared.tree.Decl.{Decl}
 use Rattle.aud_syntax.specs.declared.tree.Stmt.{Stmt}
 use Rattle.aud_syntax.specs.declared.tree.Body.{Body}
 use Rattle.aud_syntax.specs.declared.tree.Unit as declared
-use Rattle.aud_syntax.specs.View.{plain_primary, plain_factor, plain_multiplied, plain_term, plain_added, plain_simple, plain_maybe, plain_decl, plain_stmt, plain_body, plain_unit}
+use Rattle.aud_syntax.specs.Plain as m
+use Rattle.aud_syntax.specs.View.{plain_primary, plain_factor, plain_multiplied, plain_term, plain_added, plain_simple, plain_decl, plain_stmt, plain_body, plain_unit}
 use Rattle.aud_parse.specs.Actions.{Item, none, cons, in_parens, an_attribute, a_primary, a_factor, a_multiplied, a_term, an_added, a_simple, assigned, called, a_decl, a_stmt, a_body, a_unit}
 
 abbrev pub list_item : {X : Type 0} → (X → Item) → List X → Item
@@ -23,11 +25,15 @@ abbrev pub opt_item : {X : Type 0} → (X → Item) → Option X → Item
 opt_item f None = none
 opt_item f (Some x) = f x
 
-abbrev pub parens_item : Pos × Simple → Item
-parens_item x = in_parens x.0 (plain_simple x.1)
+abbrev pub parens_item : Pos × Box Simple Global → Item
+parens_item x = in_parens x.0 (plain_simple x.1.value)
 
-abbrev pub attribute_item : Ident × Option Simple → Item
-attribute_item x = an_attribute x.0 (plain_maybe x.1)
+abbrev pub boxed_maybe : Option (Box Simple Global) → m.MaybeSimple
+boxed_maybe None = m.no_simple
+boxed_maybe (Some e) = m.a_simple (plain_simple e.value)
+
+abbrev pub attribute_item : Ident × Option (Box Simple Global) → Item
+attribute_item x = an_attribute x.0 (boxed_maybe x.1)
 
 abbrev pub primary_item : Primary → Item
 primary_item x = a_primary (plain_primary x)
@@ -46,6 +52,9 @@ added_item x = an_added (plain_added x)
 
 abbrev pub expr_item : Simple → Item
 expr_item x = a_simple (plain_simple x)
+
+abbrev pub boxed_item : Box Simple Global → Item
+boxed_item x = expr_item x.value
 
 abbrev pub assigned_item : Simple → Item
 assigned_item x = assigned (plain_simple x)

@@ -1,9 +1,10 @@
 -- What a function of the parser promises.
-use Rattle.std.specs.Prelude.{ℕ, List, ◌∷◌, Result, Ok, Err}
+use Rattle.std.specs.Prelude.{◌≡◌, ℕ, ◌+◌, List, [], ◌∷◌, Bool, true, false, if◌then◌else◌, Option, Some, None, Result, Ok, Err}
 use Rattle.std.specs.Borrow.{Bor}
 use Rattle.aud_lex.specs.Element.{Element}
 use Rattle.aud_lex.specs.declared.token.Kind.{Kind}
-use Rattle.aud_parse.specs.Grammar.{Sym, T, P}
+use Rattle.aud_parse.specs.Grammar.{Part, Sym, T, P, N}
+use Rattle.aud_parse.specs.First.{next_in, firsts}
 use Rattle.aud_parse.specs.Actions.{Item, tok}
 use Rattle.aud_parse.specs.Parsed.{Verdict, Wrong, Deep}
 use Rattle.aud_parse.specs.Machine.{Out}
@@ -39,3 +40,18 @@ ReadsWord c ts (Err e) = (r : ℕ) → FailsAt (T c) r ts e
 abbrev pub ReadsToken : Kind → List Element → Result (Bor Element × Rest) Fault → Type 0
 ReadsToken c ts (Ok p) = (r : ℕ) → Passes (P c) r ts (λ ds. tok p.0.now ∷ ds) r p.1.tokens.now
 ReadsToken c ts (Err e) = (r : ℕ) → FailsAt (P c) r ts e
+
+-- the next token, if it is of this kind, and the tokens after it
+abbrev pub Accepts : Kind → List Element → Option (Bor Element × Rest) → Type 0
+Accepts c ts None = next_in (c ∷ []) ts ≡ false
+Accepts c ts (Some p) = (next_in (c ∷ []) ts ≡ true) × (ts ≡ p.0.now ∷ p.1.tokens.now)
+
+-- a tree, if the next token begins the part, and the tokens after it
+abbrev pub Takes : {X : Type 0} → (X → Item) → Part → List Element → Option (X × Rest) → Type 0
+Takes f p ts None = next_in (firsts p) ts ≡ false
+Takes f p ts (Some x) = (next_in (firsts p) ts ≡ true) × ((r : ℕ) → Passes (N p) r ts (λ ds. f x.0 ∷ ds) r x.1.tokens.now)
+
+-- one more level is opened, and so many are left in it; or none is left, and the token is at fault
+abbrev pub Deepens : ℕ → Bool → Rest → Result ℕ Fault → Type 0
+Deepens room begins toks (Ok inside) = room ≡ inside + 1
+Deepens room begins toks (Err e) = (room ≡ 0) × (e ≡ (if begins then fault.Deep toks else fault.Wrong toks))

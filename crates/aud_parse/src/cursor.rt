@@ -1,9 +1,9 @@
 // Looking at the tokens one by one.
 
-ghost use Rattle.std.specs.Prelude.{◌≡◌, ◌∷◌, [], length, ◌<◌, ◌≤◌, IfOk, if◌then◌else◌};
+ghost use Rattle.std.specs.Prelude.{◌≡◌, ◌∷◌, [], length, ◌<◌, ◌≤◌, IfOk, IfSome};
 ghost use Rattle.aud_parse.specs.First.{next_in};
 ghost use Rattle.aud_parse.specs.declared.cursor.Fault.TheVariants as fault;
-ghost use Rattle.aud_parse.specs.Reads.{ReadsWord, ReadsToken};
+ghost use Rattle.aud_parse.specs.Reads.{Accepts, ReadsWord, ReadsToken, Deepens};
 
 use aud_lex::token::{Kind, Token};
 use std::alloc::{AllocError, AllocFailed};
@@ -61,16 +61,29 @@ fn split<'a, 's>(toks: Rest<'a, 's>) -> (&'a Token<'s>, Rest<'a, 's>)
     )
 }
 
+/// The next token, where it is of this kind, and the others.
+pub fn accept<'a, 's>(
+    toks: Rest<'a, 's>,
+    kind: Kind,
+) -> Option<(&'a Token<'s>, Rest<'a, 's>)>
+    ensures reads { Accepts kind toks.entry.tokens.now result }
+    ensures shorter { IfSome result (λ p. length p.1.tokens.now < length toks.entry.tokens.now) }
+{
+    if !is(toks, kind) {
+        return None;
+    }
+    Some(split(toks))
+}
+
 /// Passes a word or a delimiter.
 pub fn word<'a, 's>(toks: Rest<'a, 's>, kind: Kind) -> Result<Rest<'a, 's>, Fault<'a, 's>>
     ensures reads { ReadsWord kind toks.entry.tokens.now result }
     ensures shorter { IfOk result (λ rest. length rest.tokens.now < length toks.entry.tokens.now) }
 {
-    if !is(toks, kind) {
-        return Err(Fault::Wrong(toks));
+    match accept(toks, kind) {
+        Some((_, rest)) => Ok(rest),
+        None => Err(Fault::Wrong(toks)),
     }
-    let (_, rest) = split(toks);
-    Ok(rest)
 }
 
 /// Passes a token of which the tree keeps something.
@@ -81,20 +94,25 @@ pub fn token<'a, 's>(
     ensures reads { ReadsToken kind toks.entry.tokens.now result }
     ensures shorter { IfOk result (λ p. length p.1.tokens.now < length toks.entry.tokens.now) }
 {
-    if !is(toks, kind) {
-        return Err(Fault::Wrong(toks));
+    match accept(toks, kind) {
+        Some(found) => Ok(found),
+        None => Err(Fault::Wrong(toks)),
     }
-    Ok(split(toks))
 }
 
-/// The fault at a place where no level is left: `begins` says whether the token would open one.
-pub fn too_deep<'a, 's>(toks: Rest<'a, 's>, begins: bool) -> Fault<'a, 's>
-    ensures { result ≡ (if begins then fault.Deep toks.entry else fault.Wrong toks.entry) }
+/// The levels that may be opened inside one more level, which the next token opens if it `begins`
+/// what lies there.
+pub fn deeper<'a, 's>(
+    toks: Rest<'a, 's>,
+    room: u32,
+    begins: bool,
+) -> Result<u32, Fault<'a, 's>>
+    ensures { Deepens room begins toks.entry result }
 {
-    if begins {
-        Fault::Deep(toks)
-    } else {
-        Fault::Wrong(toks)
+    match room.checked_sub(1) {
+        Some(inside) => Ok(inside),
+        None if begins => Err(Fault::Deep(toks)),
+        None => Err(Fault::Wrong(toks)),
     }
 }
 

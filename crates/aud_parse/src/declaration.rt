@@ -7,25 +7,12 @@ ghost use Rattle.aud_parse.specs.Actions.{an_ident};
 ghost use Rattle.aud_parse.specs.Items.{list_item, opt_item, expr_item, decl_item};
 ghost use Rattle.aud_parse.specs.Reads.{Reads};
 
-use crate::cursor::{Fault, Rest, is, too_deep, word};
+use crate::cursor::{Fault, Rest, accept, deeper, is, word};
 use crate::expression::expr;
 use crate::leaf::ident;
 use aud_lex::token::Kind;
 use aud_syntax::tree::{Decl, Expr, Ident};
 use std::alloc::Global;
-
-/// A further name.
-fn more_id<'a, 's>(
-    alloc: Global,
-    toks: Rest<'a, 's>,
-) -> Result<(Ident, Rest<'a, 's>), Fault<'a, 's>>
-    ensures reads { (room : ℕ) → Reads an_ident (N g.MoreIds) room toks.entry.tokens.now result }
-    ensures shorter { IfOk result (λ p. length p.1.tokens.now < length toks.entry.tokens.now) }
-{
-    let rest = word(toks, Kind::Comma)?;
-    let (one, rest) = ident(alloc, rest)?;
-    Ok((one, rest))
-}
 
 /// Names (RM 3.3.1(4)).
 fn ids<'a, 's>(
@@ -39,26 +26,12 @@ fn ids<'a, 's>(
     let mut all = Vec::new(alloc);
     all.push(first)?;
     let mut rest = start;
-    'turns: while is(rest, Kind::Comma) {
-        let (one, after) = more_id(alloc, rest)?;
+    'turns: while let Some((_, behind)) = accept(rest, Kind::Comma) {
+        let (one, after) = ident(alloc, behind)?;
         all.push(one)?;
         rest = after;
     }
     Ok((all, rest))
-}
-
-/// The value with which variables begin.
-fn initial<'a, 's>(
-    alloc: Global,
-    toks: Rest<'a, 's>,
-    room: u32,
-) -> Result<(Expr, Rest<'a, 's>), Fault<'a, 's>>
-    ensures reads { Reads expr_item (N g.Initial) room toks.entry.tokens.now result }
-    ensures shorter { IfOk result (λ p. length p.1.tokens.now < length toks.entry.tokens.now) }
-{
-    let rest = word(toks, Kind::Becomes)?;
-    let (value, rest) = expr(alloc, rest, room)?;
-    Ok((value, rest))
 }
 
 /// The value with which variables begin, if there is one.
@@ -70,9 +43,9 @@ fn opt_initial<'a, 's>(
     ensures reads { Reads (opt_item expr_item) (Opt g.Initial) room toks.entry.tokens.now result }
     ensures shorter { IfOk result (λ p. length p.1.tokens.now ≤ length toks.entry.tokens.now) }
 {
-    if is(toks, Kind::Becomes) {
-        let (value, rest) = initial(alloc, toks, room)?;
-        return Ok((Some(value), rest));
+    if let Some((_, behind)) = accept(toks, Kind::Becomes) {
+        let (value, rest) = expr(alloc, behind, room)?;
+        return Ok((Some(Box::into_inner(value)), rest));
     }
     Ok((None, toks))
 }
@@ -124,10 +97,8 @@ fn decls<'a, 's>(
     ensures reads { Reads (λ v. list_item decl_item v.items) (N g.Decls) room toks.entry.tokens.now result }
     ensures shorter { IfOk result (λ p. length p.1.tokens.now < length toks.entry.tokens.now) }
 {
-    if room == 0 {
-        return Err(too_deep(toks, is(toks, Kind::Identifier)));
-    }
-    let (all, rest) = decl_list(alloc, toks, room - 1)?;
+    let inside = deeper(toks, room, is(toks, Kind::Identifier))?;
+    let (all, rest) = decl_list(alloc, toks, inside)?;
     Ok((all, rest))
 }
 
@@ -141,8 +112,7 @@ pub fn opt_decls<'a, 's>(
     ensures shorter { IfOk result (λ p. length p.1.tokens.now ≤ length toks.entry.tokens.now) }
 {
     if is(toks, Kind::Identifier) {
-        let (all, rest) = decls(alloc, toks, room)?;
-        return Ok((all, rest));
+        return decls(alloc, toks, room);
     }
     let none = Vec::new(alloc);
     Ok((none, toks))

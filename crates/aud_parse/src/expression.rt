@@ -1,13 +1,13 @@
 // Expressions (RM 4.4).
 
-ghost use Rattle.std.specs.Prelude.{ℕ, length, ◌<◌, ◌≤◌, IfOk};
+ghost use Rattle.std.specs.Prelude.{ℕ, ◌∷◌, length, ◌<◌, ◌≤◌, IfOk, IfSome};
 ghost use Rattle.aud_parse.specs.Grammar as g;
 ghost use Rattle.aud_parse.specs.Grammar.{N, Opt, Rep};
 ghost use Rattle.aud_parse.specs.Actions.{a_sign, an_adding, a_multiplying, an_operator};
-ghost use Rattle.aud_parse.specs.Items.{list_item, opt_item, parens_item, attribute_item, primary_item, factor_item, multiplied_item, term_item, added_item, expr_item};
-ghost use Rattle.aud_parse.specs.Reads.{Reads};
+ghost use Rattle.aud_parse.specs.Items.{list_item, opt_item, parens_item, attribute_item, primary_item, factor_item, multiplied_item, term_item, added_item, expr_item, boxed_item};
+ghost use Rattle.aud_parse.specs.Reads.{Reads, Takes, Passes};
 
-use crate::cursor::{Fault, Rest, is, is_one_of, token, too_deep, word};
+use crate::cursor::{Fault, Rest, accept, deeper, is, token, word};
 use crate::leaf::{ident, literal};
 use crate::value::number_value;
 use aud_lex::token::Kind;
@@ -18,29 +18,19 @@ use aud_syntax::tree::{
 use aud_text::place::Pos;
 use std::alloc::Global;
 
-const SIGNS: [Kind; 2] = [Kind::Plus, Kind::Minus];
-
-const ADDING: [Kind; 3] = [Kind::Plus, Kind::Minus, Kind::Ampersand];
-
-const MULTIPLYING: [Kind; 4] = [Kind::Star, Kind::Slash, Kind::Mod, Kind::Rem];
-
-const HIGHEST: [Kind; 2] = [Kind::Abs, Kind::Not];
-
 /// An expression in parentheses, which lies one level deeper, and where they open.
 #[cycle(expr)]
 pub fn parens<'a, 's>(
     alloc: Global,
     toks: Rest<'a, 's>,
     room: u32,
-) -> Result<((Pos, Expr), Rest<'a, 's>), Fault<'a, 's>>
+) -> Result<((Pos, Box<Expr>), Rest<'a, 's>), Fault<'a, 's>>
     ensures reads { Reads parens_item (N g.Parens) room toks.entry.tokens.now result }
     ensures shorter { IfOk result (λ p. length p.1.tokens.now < length toks.entry.tokens.now) }
 {
-    if room == 0 {
-        return Err(too_deep(toks, is(toks, Kind::LeftParenthesis)));
-    }
+    let inside = deeper(toks, room, is(toks, Kind::LeftParenthesis))?;
     let (open, rest) = token(toks, Kind::LeftParenthesis)?;
-    let (inner, rest) = expr(alloc, rest, room - 1)?;
+    let (inner, rest) = expr(alloc, rest, inside)?;
     let rest = word(rest, Kind::RightParenthesis)?;
     Ok(((open.at(), inner), rest))
 }
@@ -51,7 +41,7 @@ fn attribute<'a, 's>(
     alloc: Global,
     toks: Rest<'a, 's>,
     room: u32,
-) -> Result<((Ident, Option<Expr>), Rest<'a, 's>), Fault<'a, 's>>
+) -> Result<((Ident, Option<Box<Expr>>), Rest<'a, 's>), Fault<'a, 's>>
     ensures reads { Reads attribute_item (N g.Attribute) room toks.entry.tokens.now result }
     ensures shorter { IfOk result (λ p. length p.1.tokens.now < length toks.entry.tokens.now) }
 {
@@ -78,13 +68,7 @@ fn named<'a, 's>(
     if is(rest, Kind::Apostrophe) {
         let (attribute, rest) = attribute(alloc, rest, room)?;
         let (name, argument) = attribute;
-        match argument {
-            None => return Ok((Primary::Attribute(prefix, name, None), rest)),
-            Some(argument) => {
-                let argument = Box::new(alloc, argument)?;
-                return Ok((Primary::Attribute(prefix, name, Some(argument)), rest));
-            }
-        }
+        return Ok((Primary::Attribute(prefix, name, argument), rest));
     }
     Ok((Primary::Name(prefix), rest))
 }
@@ -109,51 +93,26 @@ fn primary<'a, 's>(
         return Ok((Primary::Text(value), rest));
     }
     if is(toks, Kind::Identifier) {
-        let (name, rest) = named(alloc, toks, room)?;
-        return Ok((name, rest));
+        return named(alloc, toks, room);
     }
     let (group, rest) = parens(alloc, toks, room)?;
-    let inner = Box::new(alloc, group.1)?;
-    Ok((Primary::Group(group.0, inner), rest))
+    Ok((Primary::Group(group.0, group.1), rest))
 }
 
-/// An operator before a primary (RM 4.5.6).
-fn operator<'a, 's>(toks: Rest<'a, 's>) -> Result<(Operator, Rest<'a, 's>), Fault<'a, 's>>
-    ensures reads { (room : ℕ) → Reads an_operator (N g.Operator) room toks.entry.tokens.now result }
-    ensures shorter { IfOk result (λ p. length p.1.tokens.now < length toks.entry.tokens.now) }
+/// An operator before a primary, if there is one (RM 4.5.6).
+fn opt_operator<'a, 's>(toks: Rest<'a, 's>) -> (Option<Operator>, Rest<'a, 's>)
+    ensures reads { (room : ℕ) → Passes (Opt g.Operator) room toks.entry.tokens.now (λ ds. opt_item an_operator result.0 ∷ ds) room result.1.tokens.now }
+    ensures shorter { length result.1.tokens.now ≤ length toks.entry.tokens.now }
 {
-    if is(toks, Kind::Abs) {
-        let (t, rest) = token(toks, Kind::Abs)?;
-        return Ok((
-            Operator {
-                highest: Highest::Magnitude,
-                at: t.at(),
-            },
-            rest,
-        ));
+    if let Some((t, rest)) = accept(toks, Kind::Abs) {
+        let highest = Highest::Magnitude;
+        return (Some(Operator { highest, at: t.at() }), rest);
     }
-    let (t, rest) = token(toks, Kind::Not)?;
-    Ok((
-        Operator {
-            highest: Highest::Not,
-            at: t.at(),
-        },
-        rest,
-    ))
-}
-
-/// An operator before a primary, if there is one.
-fn opt_operator<'a, 's>(
-    toks: Rest<'a, 's>,
-) -> Result<(Option<Operator>, Rest<'a, 's>), Fault<'a, 's>>
-    ensures reads { (room : ℕ) → Reads (opt_item an_operator) (Opt g.Operator) room toks.entry.tokens.now result }
-    ensures shorter { IfOk result (λ p. length p.1.tokens.now ≤ length toks.entry.tokens.now) }
-{
-    if is_one_of(toks, &HIGHEST) {
-        let (op, rest) = operator(toks)?;
-        return Ok((Some(op), rest));
+    if let Some((t, rest)) = accept(toks, Kind::Not) {
+        let highest = Highest::Not;
+        return (Some(Operator { highest, at: t.at() }), rest);
     }
-    Ok((None, toks))
+    (None, toks)
 }
 
 /// A factor (RM 4.4(6)).
@@ -166,48 +125,32 @@ fn factor<'a, 's>(
     ensures reads { Reads factor_item (N g.Factor) room toks.entry.tokens.now result }
     ensures shorter { IfOk result (λ p. length p.1.tokens.now < length toks.entry.tokens.now) }
 {
-    let (op, rest) = opt_operator(toks)?;
+    let (op, rest) = opt_operator(toks);
     let (primary, rest) = primary(alloc, rest, room)?;
     Ok((Factor { op, primary }, rest))
 }
 
-/// A multiplying operator (RM 4.5.5).
-fn multiplying<'a, 's>(toks: Rest<'a, 's>) -> Result<(Multiplying, Rest<'a, 's>), Fault<'a, 's>>
-    ensures reads { (room : ℕ) → Reads a_multiplying (N g.MultiplyingOperator) room toks.entry.tokens.now result }
-    ensures shorter { IfOk result (λ p. length p.1.tokens.now < length toks.entry.tokens.now) }
+/// A multiplying operator, if one comes next (RM 4.5.5).
+fn multiplying<'a, 's>(toks: Rest<'a, 's>) -> Option<(Multiplying, Rest<'a, 's>)>
+    ensures reads { Takes a_multiplying g.MultiplyingOperator toks.entry.tokens.now result }
+    ensures shorter { IfSome result (λ p. length p.1.tokens.now < length toks.entry.tokens.now) }
 {
-    if is(toks, Kind::Star) {
-        let rest = word(toks, Kind::Star)?;
-        return Ok((Multiplying::Times, rest));
+    if let Some((_, rest)) = accept(toks, Kind::Star) {
+        return Some((Multiplying::Times, rest));
     }
-    if is(toks, Kind::Slash) {
-        let rest = word(toks, Kind::Slash)?;
-        return Ok((Multiplying::Divide, rest));
+    if let Some((_, rest)) = accept(toks, Kind::Slash) {
+        return Some((Multiplying::Divide, rest));
     }
-    if is(toks, Kind::Mod) {
-        let rest = word(toks, Kind::Mod)?;
-        return Ok((Multiplying::Modulo, rest));
+    if let Some((_, rest)) = accept(toks, Kind::Mod) {
+        return Some((Multiplying::Modulo, rest));
     }
-    let rest = word(toks, Kind::Rem)?;
-    Ok((Multiplying::Remainder, rest))
+    if let Some((_, rest)) = accept(toks, Kind::Rem) {
+        return Some((Multiplying::Remainder, rest));
+    }
+    None
 }
 
-/// A further factor.
-#[cycle(expr)]
-fn multiplied<'a, 's>(
-    alloc: Global,
-    toks: Rest<'a, 's>,
-    room: u32,
-) -> Result<(Multiplied, Rest<'a, 's>), Fault<'a, 's>>
-    ensures reads { Reads multiplied_item (N g.Multiplied) room toks.entry.tokens.now result }
-    ensures shorter { IfOk result (λ p. length p.1.tokens.now < length toks.entry.tokens.now) }
-{
-    let (op, rest) = multiplying(toks)?;
-    let (factor, rest) = factor(alloc, rest, room)?;
-    Ok((Multiplied { op, factor }, rest))
-}
-
-/// The further factors.
+/// The further factors, each behind its operator.
 #[cycle(expr)]
 fn multiplieds<'a, 's>(
     alloc: Global,
@@ -219,9 +162,9 @@ fn multiplieds<'a, 's>(
 {
     let mut all = Vec::new(alloc);
     let mut rest = toks;
-    'turns: while is_one_of(rest, &MULTIPLYING) {
-        let (one, after) = multiplied(alloc, rest, room)?;
-        all.push(one)?;
+    'turns: while let Some((op, behind)) = multiplying(rest) {
+        let (factor, after) = factor(alloc, behind, room)?;
+        all.push(Multiplied { op, factor })?;
         rest = after;
     }
     Ok((all, rest))
@@ -242,39 +185,24 @@ fn term<'a, 's>(
     Ok((Term { first, rest: more }, rest))
 }
 
-/// A binary adding operator (RM 4.5.3).
-fn adding<'a, 's>(toks: Rest<'a, 's>) -> Result<(Adding, Rest<'a, 's>), Fault<'a, 's>>
-    ensures reads { (room : ℕ) → Reads an_adding (N g.AddingOperator) room toks.entry.tokens.now result }
-    ensures shorter { IfOk result (λ p. length p.1.tokens.now < length toks.entry.tokens.now) }
+/// A binary adding operator, if one comes next (RM 4.5.3).
+fn adding<'a, 's>(toks: Rest<'a, 's>) -> Option<(Adding, Rest<'a, 's>)>
+    ensures reads { Takes an_adding g.AddingOperator toks.entry.tokens.now result }
+    ensures shorter { IfSome result (λ p. length p.1.tokens.now < length toks.entry.tokens.now) }
 {
-    if is(toks, Kind::Plus) {
-        let rest = word(toks, Kind::Plus)?;
-        return Ok((Adding::Plus, rest));
+    if let Some((_, rest)) = accept(toks, Kind::Plus) {
+        return Some((Adding::Plus, rest));
     }
-    if is(toks, Kind::Minus) {
-        let rest = word(toks, Kind::Minus)?;
-        return Ok((Adding::Minus, rest));
+    if let Some((_, rest)) = accept(toks, Kind::Minus) {
+        return Some((Adding::Minus, rest));
     }
-    let rest = word(toks, Kind::Ampersand)?;
-    Ok((Adding::Join, rest))
+    if let Some((_, rest)) = accept(toks, Kind::Ampersand) {
+        return Some((Adding::Join, rest));
+    }
+    None
 }
 
-/// A further term.
-#[cycle(expr)]
-fn added<'a, 's>(
-    alloc: Global,
-    toks: Rest<'a, 's>,
-    room: u32,
-) -> Result<(Added, Rest<'a, 's>), Fault<'a, 's>>
-    ensures reads { Reads added_item (N g.Added) room toks.entry.tokens.now result }
-    ensures shorter { IfOk result (λ p. length p.1.tokens.now < length toks.entry.tokens.now) }
-{
-    let (op, rest) = adding(toks)?;
-    let (term, rest) = term(alloc, rest, room)?;
-    Ok((Added { op, term }, rest))
-}
-
-/// The further terms.
+/// The further terms, each behind its operator.
 #[cycle(expr)]
 fn addeds<'a, 's>(
     alloc: Global,
@@ -286,49 +214,28 @@ fn addeds<'a, 's>(
 {
     let mut all = Vec::new(alloc);
     let mut rest = toks;
-    'turns: while is_one_of(rest, &ADDING) {
-        let (one, after) = added(alloc, rest, room)?;
-        all.push(one)?;
+    'turns: while let Some((op, behind)) = adding(rest) {
+        let (term, after) = term(alloc, behind, room)?;
+        all.push(Added { op, term })?;
         rest = after;
     }
     Ok((all, rest))
 }
 
-/// A sign (RM 4.5.4).
-fn sign<'a, 's>(toks: Rest<'a, 's>) -> Result<(Signed, Rest<'a, 's>), Fault<'a, 's>>
-    ensures reads { (room : ℕ) → Reads a_sign (N g.Sign) room toks.entry.tokens.now result }
-    ensures shorter { IfOk result (λ p. length p.1.tokens.now < length toks.entry.tokens.now) }
+/// A sign, if there is one (RM 4.5.4).
+fn opt_sign<'a, 's>(toks: Rest<'a, 's>) -> (Option<Signed>, Rest<'a, 's>)
+    ensures reads { (room : ℕ) → Passes (Opt g.Sign) room toks.entry.tokens.now (λ ds. opt_item a_sign result.0 ∷ ds) room result.1.tokens.now }
+    ensures shorter { length result.1.tokens.now ≤ length toks.entry.tokens.now }
 {
-    if is(toks, Kind::Plus) {
-        let (t, rest) = token(toks, Kind::Plus)?;
-        return Ok((
-            Signed {
-                sign: Sign::Plus,
-                at: t.at(),
-            },
-            rest,
-        ));
+    if let Some((t, rest)) = accept(toks, Kind::Plus) {
+        let sign = Sign::Plus;
+        return (Some(Signed { sign, at: t.at() }), rest);
     }
-    let (t, rest) = token(toks, Kind::Minus)?;
-    Ok((
-        Signed {
-            sign: Sign::Minus,
-            at: t.at(),
-        },
-        rest,
-    ))
-}
-
-/// A sign, if there is one.
-fn opt_sign<'a, 's>(toks: Rest<'a, 's>) -> Result<(Option<Signed>, Rest<'a, 's>), Fault<'a, 's>>
-    ensures reads { (room : ℕ) → Reads (opt_item a_sign) (Opt g.Sign) room toks.entry.tokens.now result }
-    ensures shorter { IfOk result (λ p. length p.1.tokens.now ≤ length toks.entry.tokens.now) }
-{
-    if is_one_of(toks, &SIGNS) {
-        let (sign, rest) = sign(toks)?;
-        return Ok((Some(sign), rest));
+    if let Some((t, rest)) = accept(toks, Kind::Minus) {
+        let sign = Sign::Minus;
+        return (Some(Signed { sign, at: t.at() }), rest);
     }
-    Ok((None, toks))
+    (None, toks)
 }
 
 /// A simple expression (RM 4.4(4)).
@@ -341,7 +248,7 @@ fn simple<'a, 's>(
     ensures reads { Reads expr_item (N g.Simple) room toks.entry.tokens.now result }
     ensures shorter { IfOk result (λ p. length p.1.tokens.now < length toks.entry.tokens.now) }
 {
-    let (sign, rest) = opt_sign(toks)?;
+    let (sign, rest) = opt_sign(toks);
     let (first, rest) = term(alloc, rest, room)?;
     let (more, rest) = addeds(alloc, rest, room)?;
     Ok((
@@ -360,10 +267,11 @@ pub fn expr<'a, 's>(
     alloc: Global,
     toks: Rest<'a, 's>,
     room: u32,
-) -> Result<(Expr, Rest<'a, 's>), Fault<'a, 's>>
-    ensures reads { Reads expr_item (N g.Expr) room toks.entry.tokens.now result }
+) -> Result<(Box<Expr>, Rest<'a, 's>), Fault<'a, 's>>
+    ensures reads { Reads boxed_item (N g.Expr) room toks.entry.tokens.now result }
     ensures shorter { IfOk result (λ p. length p.1.tokens.now < length toks.entry.tokens.now) }
 {
     let (sum, rest) = simple(alloc, toks, room)?;
-    Ok((sum, rest))
+    let boxed = Box::new(alloc, sum)?;
+    Ok((boxed, rest))
 }

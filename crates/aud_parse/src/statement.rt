@@ -7,7 +7,7 @@ ghost use Rattle.aud_parse.specs.Actions.{an_ident};
 ghost use Rattle.aud_parse.specs.Items.{list_item, opt_item, assigned_item, called_item, stmt_item, body_item};
 ghost use Rattle.aud_parse.specs.Reads.{Reads};
 
-use crate::cursor::{Fault, Rest, is, is_one_of, token, too_deep, word};
+use crate::cursor::{Fault, Rest, deeper, is, is_one_of, token, word};
 use crate::expression::{expr, parens};
 use crate::leaf::ident;
 use aud_lex::token::Kind;
@@ -38,7 +38,7 @@ fn assignment<'a, 's>(
     let rest = word(toks, Kind::Becomes)?;
     let (value, rest) = expr(alloc, rest, room)?;
     let rest = word(rest, Kind::Semicolon)?;
-    Ok((value, rest))
+    Ok((Box::into_inner(value), rest))
 }
 
 /// The argument of a call, behind the name (RM 6.4).
@@ -52,7 +52,7 @@ fn call<'a, 's>(
 {
     let (argument, rest) = parens(alloc, toks, room)?;
     let rest = word(rest, Kind::Semicolon)?;
-    Ok((argument.1, rest))
+    Ok((Box::into_inner(argument.1), rest))
 }
 
 /// A statement that begins with a name.
@@ -83,11 +83,9 @@ fn stmt<'a, 's>(
     ensures shorter { IfOk result (λ p. length p.1.tokens.now < length toks.entry.tokens.now) }
 {
     if is(toks, Kind::Null) {
-        let (one, rest) = null(toks)?;
-        return Ok((one, rest));
+        return null(toks);
     }
-    let (one, rest) = named(alloc, toks, room)?;
-    Ok((one, rest))
+    named(alloc, toks, room)
 }
 
 /// Statements, at least one.
@@ -120,10 +118,8 @@ fn stmts<'a, 's>(
     ensures reads { Reads (λ v. list_item stmt_item v.items) (N g.Stmts) room toks.entry.tokens.now result }
     ensures shorter { IfOk result (λ p. length p.1.tokens.now < length toks.entry.tokens.now) }
 {
-    if room == 0 {
-        return Err(too_deep(toks, is_one_of(toks, &STATEMENTS)));
-    }
-    let (all, rest) = stmt_list(alloc, toks, room - 1)?;
+    let inside = deeper(toks, room, is_one_of(toks, &STATEMENTS))?;
+    let (all, rest) = stmt_list(alloc, toks, inside)?;
     Ok((all, rest))
 }
 

@@ -1,14 +1,11 @@
 use Rattle.std.proofs.Common.{sym, ap, ◌∙◌, ◌∷◌}
 use Rattle.aud_parse.specs.Machine.{o_yes, o_no}
 use Rattle.aud_parse.specs.Items.{list_item, decl_item}
-use Rattle.aud_parse.proofs.Passing.{to, exit}
+use Rattle.aud_parse.proofs.Passing.{to, hand_on}
 use Rattle.aud_parse.proofs.declaration.opt_decls.Goals as goal
 
-pub returns-in_err-all-clause-reads : goal.returns-in_err-all-clause-reads
-returns-in_err-all-clause-reads c = exit _ _ _ _ _ _ _ _ _ _ _ c.from_residual.ensures.1 c.in_err-all.ensures.reads (λ k ds v o. o_yes (sym c.is.ensures ∙ c.if-is.true) o)
-
 pub returns-then-is-clause-reads : goal.returns-then-is-clause-reads
-returns-then-is-clause-reads c k ds v o = o_yes (sym c.is.ensures ∙ c.if-is.true) (c.in_ok-all.ensures.reads _ _ _ o)
+returns-then-is-clause-reads c = hand_on _ _ c.decls.ensures.reads (λ k ds v o. o_yes (sym c.is.ensures ∙ c.if-is.true) o)
 
 pub returns-clause-reads : goal.returns-clause-reads
 returns-clause-reads c k ds v o = to (o_no (sym c.is.ensures ∙ c.if-is.false) o) (ap (λ l. list_item decl_item l ∷ ds) (sym c.new-none.ensures.items))

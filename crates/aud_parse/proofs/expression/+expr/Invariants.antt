@@ -19,17 +19,11 @@ decreases-primary l = 16 * l.room + 3
 abbrev pub decreases-factor : goal.decreases-factor
 decreases-factor l = 16 * l.room + 4
 
-abbrev pub decreases-multiplied : goal.decreases-multiplied
-decreases-multiplied l = 16 * l.room + 5
-
 abbrev pub decreases-multiplieds : goal.decreases-multiplieds
 decreases-multiplieds l = 16 * l.room + 6
 
 abbrev pub decreases-term : goal.decreases-term
 decreases-term l = 16 * l.room + 7
-
-abbrev pub decreases-added : goal.decreases-added
-decreases-added l = 16 * l.room + 8
 
 abbrev pub decreases-addeds : goal.decreases-addeds
 decreases-addeds l = 16 * l.room + 9

@@ -3,13 +3,13 @@ use Rattle.aud_parse.proofs.Passing.{exit}
 use Rattle.aud_parse.proofs.statement.assignment.Goals as goal
 
 pub returns-in_err-rest-clause-reads : goal.returns-in_err-rest-clause-reads
-returns-in_err-rest-clause-reads c = exit _ _ _ _ _ _ _ _ _ _ _ c.from_residual.ensures.1 (c.in_err-rest.ensures.reads c.args.room) (λ k ds v o. o_rule o)
+returns-in_err-rest-clause-reads c = exit _ _ _ c.from_residual.ensures.1 (c.in_err-rest.ensures.reads c.args.room) (λ k ds v o. o_rule o)
 
 pub returns-in_err-value-clause-reads : goal.returns-in_err-value-clause-reads
-returns-in_err-value-clause-reads c = exit _ _ _ _ _ _ _ _ _ _ _ c.from_residual-in_err-value.ensures.1 c.in_err-value.ensures.reads (λ k ds v o. o_rule (c.in_ok-rest.ensures.reads _ _ _ _ o))
+returns-in_err-value-clause-reads c = exit _ _ _ c.from_residual-in_err-value.ensures.1 c.in_err-value.ensures.reads (λ k ds v o. o_rule (c.in_ok-rest.ensures.reads _ _ _ _ o))
 
 pub returns-in_err-rest-2-clause-reads : goal.returns-in_err-rest-2-clause-reads
-returns-in_err-rest-2-clause-reads c = exit _ _ _ _ _ _ _ _ _ _ _ c.from_residual-in_err-rest-2.ensures.1 (c.in_err-rest-2.ensures.reads c.args.room) (λ k ds v o. o_rule (c.in_ok-rest.ensures.reads _ _ _ _ (c.in_ok-value.ensures.reads _ _ _ o)))
+returns-in_err-rest-2-clause-reads c = exit _ _ _ c.from_residual-in_err-rest-2.ensures.1 (c.in_err-rest-2.ensures.reads c.args.room) (λ k ds v o. o_rule (c.in_ok-rest.ensures.reads _ _ _ _ (c.in_ok-value.ensures.reads _ _ _ o)))
 
 pub returns-clause-reads : goal.returns-clause-reads
-returns-clause-reads c k ds v o = o_rule (c.in_ok-rest.ensures.reads _ _ _ _ (c.in_ok-value.ensures.reads _ _ _ (c.in_ok-rest-2.ensures.reads _ _ _ _ o)))
+returns-clause-reads c k ds v o = rw c.into_inner.ensures (o_rule (c.in_ok-rest.ensures.reads _ _ _ _ (c.in_ok-value.ensures.reads _ _ _ (c.in_ok-rest-2.ensures.reads _ _ _ _ o))))
