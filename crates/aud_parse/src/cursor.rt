@@ -62,10 +62,7 @@ fn split<'a, 's>(toks: Rest<'a, 's>) -> (&'a Token<'s>, Rest<'a, 's>)
 }
 
 /// The next token, where it is of this kind, and the others.
-pub fn accept<'a, 's>(
-    toks: Rest<'a, 's>,
-    kind: Kind,
-) -> Option<(&'a Token<'s>, Rest<'a, 's>)>
+pub fn accept<'a, 's>(toks: Rest<'a, 's>, kind: Kind) -> Option<(&'a Token<'s>, Rest<'a, 's>)>
     ensures reads { Accepts kind toks.entry.tokens.now result }
     ensures shorter { IfSome result (λ p. length p.1.tokens.now < length toks.entry.tokens.now) }
 {
@@ -102,11 +99,7 @@ pub fn token<'a, 's>(
 
 /// The levels that may be opened inside one more level, which the next token opens if it `begins`
 /// what lies there.
-pub fn deeper<'a, 's>(
-    toks: Rest<'a, 's>,
-    room: u32,
-    begins: bool,
-) -> Result<u32, Fault<'a, 's>>
+pub fn deeper<'a, 's>(toks: Rest<'a, 's>, room: u32, begins: bool) -> Result<u32, Fault<'a, 's>>
     ensures { Deepens room begins toks.entry result }
 {
     match room.checked_sub(1) {

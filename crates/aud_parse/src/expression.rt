@@ -1,4 +1,7 @@
 // Expressions (RM 4.4).
+//
+// What is not called at each level of parentheses is not inlined, so that its values do not stand in
+// the stack frames of each level.
 
 ghost use Rattle.std.specs.Prelude.{ℕ, ◌∷◌, length, ◌<◌, ◌≤◌, IfOk, IfSome};
 ghost use Rattle.aud_parse.specs.Grammar as g;
@@ -56,6 +59,7 @@ fn attribute<'a, 's>(
 
 /// A name, or an attribute of it (RM 4.1, 4.1.4).
 #[cycle(expr)]
+#[inline(never)]
 fn named<'a, 's>(
     alloc: Global,
     toks: Rest<'a, 's>,
@@ -106,11 +110,23 @@ fn opt_operator<'a, 's>(toks: Rest<'a, 's>) -> (Option<Operator>, Rest<'a, 's>)
 {
     if let Some((t, rest)) = accept(toks, Kind::Abs) {
         let highest = Highest::Magnitude;
-        return (Some(Operator { highest, at: t.at() }), rest);
+        return (
+            Some(Operator {
+                highest,
+                at: t.at(),
+            }),
+            rest,
+        );
     }
     if let Some((t, rest)) = accept(toks, Kind::Not) {
         let highest = Highest::Not;
-        return (Some(Operator { highest, at: t.at() }), rest);
+        return (
+            Some(Operator {
+                highest,
+                at: t.at(),
+            }),
+            rest,
+        );
     }
     (None, toks)
 }
@@ -152,6 +168,7 @@ fn multiplying<'a, 's>(toks: Rest<'a, 's>) -> Option<(Multiplying, Rest<'a, 's>)
 
 /// The further factors, each behind its operator.
 #[cycle(expr)]
+#[inline(never)]
 fn multiplieds<'a, 's>(
     alloc: Global,
     toks: Rest<'a, 's>,
@@ -204,6 +221,7 @@ fn adding<'a, 's>(toks: Rest<'a, 's>) -> Option<(Adding, Rest<'a, 's>)>
 
 /// The further terms, each behind its operator.
 #[cycle(expr)]
+#[inline(never)]
 fn addeds<'a, 's>(
     alloc: Global,
     toks: Rest<'a, 's>,

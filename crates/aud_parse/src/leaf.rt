@@ -27,6 +27,8 @@ pub fn ident<'a, 's>(
 }
 
 /// A string literal (RM 2.6).
+// Not inlined, so that its values do not stand in the stack frames of each nested expression.
+#[inline(never)]
 pub fn literal<'a, 's>(
     alloc: Global,
     toks: Rest<'a, 's>,
