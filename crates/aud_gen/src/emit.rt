@@ -76,7 +76,7 @@ fn emit_text(
     }
 }
 
-// wherever it begins: no statement has others inside it
+// the same wherever it begins: no statement has others inside it
 fn emit_stmt(
     alloc: Global,
     code: &mut Vec<Line>,
@@ -109,7 +109,7 @@ fn emit_stmt(
     }
 }
 
-// behind each but the last stands the one that follows it
+// behind each but the last stands the one that follows it; none are one null statement, at no place
 fn emit_stmts(
     alloc: Global,
     code: &mut Vec<Line>,

@@ -1,13 +1,12 @@
 -- What each task does next, and where that stands in the text.
 use Rattle.std.specs.Prelude.{List, [], ◌∷◌, map, Option, Some, None}
-use Rattle.aud_text.specs.declared.place.Pos.{Pos}
 use Rattle.aud_text.specs.declared.raise.Raise.{Raise}
 use Rattle.aud_typed.specs.Tree.{Stmt, sequence, declare, null, assign, put}
 use Rattle.aud_meaning.specs.declared.state.Status.{Status}
 use Rattle.aud_meaning.specs.declared.state.Status.TheVariants.{Running, Completed, Terminated}
 use Rattle.aud_meaning.specs.declared.state.StepKind.TheVariants as kind
 use Rattle.aud_meaning.specs.declared.state.NextStep.{NextStep}
-use Rattle.aud_meaning.specs.Configuration.{Item, Do, Ends, Own, TaskAt, All}
+use Rattle.aud_meaning.specs.Configuration.{Item, Do, Ends, Own, All}
 
 -- the step of a statement, at its first token
 abbrev pub step_of : Stmt → NextStep
