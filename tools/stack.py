@@ -75,6 +75,10 @@ def shapes():
     yield "operands nested to the right", wrapped(
         f"procedure M is X:Integer;begin X:={right};end M;"
     ), 4
+    inner = "(1+1*" * DEEP + "1" + ")" * DEEP
+    yield "operands of both levels nested to the right", wrapped(
+        f"procedure M is X:Integer;begin X:=1+1*{inner};end M;"
+    ), 4
     left = "(" * DEEP + "1" + "+1)" * DEEP
     yield "operands nested to the left", wrapped(
         f"procedure M is X:Integer;begin X:={left};end M;"

@@ -1,0 +1,7 @@
+#!/bin/sh
+# What the gate costs: user time by crate, for the proof, the tests' proof and the edits, in selftests of the toolchain.
+# It runs `rt selftest` and then `rt ci`, and shows what `rt ci` printed last.
+set -eu
+top=$(cd "$(dirname "$0")/.." && pwd)
+cd "$top"
+exec python3 tools/price.py
