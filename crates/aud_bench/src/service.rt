@@ -1,6 +1,8 @@
 // The work on one request.
 
-ghost use Rattle.std.specs.Prelude.{◌≡◌, ◌≤◌, min, true, false, Option, Some, IfOk, IsSome};
+ghost use Rattle.std.specs.Prelude.{◌≡◌, ◌≤◌, min, true, false, Option, Some, Ok, IfOk, IsSome};
+ghost use Rattle.aud_typed.specs.Scoped.{IsScoped};
+ghost use Rattle.aud_typed.specs.View.{plain_program};
 ghost use Rattle.aud_meaning.specs.declared.state.State.TheVariants as states;
 ghost use Rattle.aud_text.specs.declared.limits.Limits.{Limits as Bounds};
 ghost use Rattle.aud_bench.specs.declared.request.Request.TheVariants as asked;
@@ -16,6 +18,7 @@ use aud_text::code::Code;
 use aud_text::limits::{Limits, STEPS};
 use aud_text::raise::Raise;
 use aud_text::text::Text;
+use aud_typed::program::Program;
 use std::alloc::{AllocError, Global};
 
 /// What some work on a request came to: its answer, if it is done, the steps that a RUN under way has done, and the
@@ -95,14 +98,33 @@ fn take(
     ensures { IfOk result (λ answer. (loaded : Option Loaded) → IsLoaded limits machine.old loaded → Replies limits answer machine.new (load_reply (program_of limits source.now) loaded)) }
 {
     match load(alloc, limits, source) {
-        Ok(program) => {
-            let name = program.name.try_clone(alloc)?;
-            *machine = Some(Machine::new(alloc, program, limits)?);
-            Ok(Answer::Loaded(name))
-        }
+        Ok(program) => begin(alloc, limits, machine, program),
         Err(LoadFault::Refused(refusal)) => Ok(refusal),
         Err(LoadFault::Memory) => Err(AllocError),
     }
+}
+
+// A machine of the program takes the place of the one before.
+fn begin(
+    alloc: Global,
+    limits: Limits,
+    machine: &mut Option<Machine>,
+    program: Program,
+) -> Result<Answer, AllocError>
+    requires { IsScoped (plain_program program) }
+    ensures { IfOk result (λ answer. (loaded : Option Loaded) → IsLoaded limits machine.old loaded → Replies limits answer machine.new (load_reply (Ok (plain_program program)) loaded)) }
+{
+    let name = program.name.try_clone(alloc)?;
+    let new = Machine::new(alloc, program, limits)?;
+    replace(machine, Some(new));
+    Ok(Answer::Loaded(name))
+}
+
+// Drops the machine that was there.
+fn replace(machine: &mut Option<Machine>, new: Option<Machine>)
+    ensures { machine.new ≡ new }
+{
+    *machine = new;
 }
 
 fn output(alloc: Global, machine: &Option<Machine>) -> Result<Answer, AllocError>

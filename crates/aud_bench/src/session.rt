@@ -1,6 +1,6 @@
 // A whole session at once.
 
-ghost use Rattle.std.specs.Prelude.{◌≡◌, ◌++◌, List, OnOk};
+ghost use Rattle.std.specs.Prelude.{◌≡◌, ◌++◌, List, None, OnOk};
 ghost use Rattle.aud_bench.specs.Alone.{alone};
 ghost use Rattle.aud_bench.specs.declared.request.Answer.{Answer};
 
@@ -23,7 +23,23 @@ pub fn answer_all(
     ensures all { OnOk result (answers.new.items ≡ answers.old.items ++ alone limits requests.now) }
     ensures front { (some rest : List Answer) × (answers.new.items ≡ answers.old.items ++ some) × (alone limits requests.now ≡ some ++ rest) }
 {
+    // Dropped here alone: each way out of the loop would prove the drop once more.
     let mut machine: Option<Machine> = None;
+    answer_each(alloc, limits, &mut machine, requests, answers)
+}
+
+// The same, with a place for the machine, where none is loaded yet.
+fn answer_each(
+    alloc: Global,
+    limits: Limits,
+    machine: &mut Option<Machine>,
+    requests: &[Request],
+    answers: &mut Vec<Answer>,
+) -> Result<(), AllocError>
+    requires { machine.old ≡ None }
+    ensures all { OnOk result (answers.new.items ≡ answers.old.items ++ alone limits requests.now) }
+    ensures front { (some rest : List Answer) × (answers.new.items ≡ answers.old.items ++ some) × (alone limits requests.now ≡ some ++ rest) }
+{
     let mut kept: usize = 0;
     let mut bytes: usize = 0;
     'requests: for request in requests {
@@ -31,7 +47,7 @@ pub fn answer_all(
             answers.push(Answer::Refused(Code::JournalFull))?;
             continue;
         }
-        answers.push(answer(alloc, limits, &mut machine, request)?)?;
+        answers.push(answer(alloc, limits, machine, request)?)?;
         if is_quit(request) {
             return Ok(());
         }

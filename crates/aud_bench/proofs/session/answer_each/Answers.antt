@@ -1,12 +1,13 @@
-use Rattle.std.proofs.Common.{◌≡◌, ◌+◌, [], ◌∷◌, ◌++◌, drop, None, refl, sym, ap, ◌∙◌, append-nil, append_assoc, arith}
+use Rattle.std.proofs.Common.{◌≡◌, ◌+◌, [], ◌∷◌, ◌++◌, drop, None, refl, sym, ap, ◌∙◌, subst, append-nil, append_assoc, arith}
 use Rattle.std.proofs.lemmas.List.{drop_more}
 use Rattle.aud_bench.specs.Alone.{Server, answers_from, alone}
+use Rattle.aud_bench.specs.Serving.{IsLoaded}
 use Rattle.aud_bench.proofs.Sessions.{last_one}
-use Rattle.aud_bench.proofs.session.answer_all.Goals as goal
+use Rattle.aud_bench.proofs.session.answer_each.Goals as goal
 
 pub requests-init : goal.requests-init
 unfolding alone
-requests-init c = (None, [], tt, sym (append-nil c.args.answers.now.items), refl, omega arith, omega arith)
+requests-init c = (None, [], subst (λ m. IsLoaded c.args.limits m None) (sym c.requires) tt, sym (append-nil c.args.answers.now.items), refl, omega arith, omega arith)
 
 pub returns-then-is_quit-clause-front : goal.returns-then-is_quit-clause-front
 returns-then-is_quit-clause-front c =

@@ -1,0 +1,16 @@
+use Rattle.std.proofs.Common.{◌≡◌, ap, ◌∙◌, arith}
+use Rattle.aud_bench.specs.Alone.{cost}
+use Rattle.aud_bench.proofs.bench.Bench.slice.Goals as goal
+use Rattle.aud_bench.proofs.bench.Bench.slice.Goals.{then-requests-test+else-left-gt0, else-requests-test}
+
+pub returns-clause-done : goal.returns-clause-done
+returns-clause-done c =
+    λ alive.
+    let inv = c.requests.invariant in
+    let now = c.requests.self in
+    let old = c.args.self.now in
+    let same : cost now.limits now.journal ≡ cost old.limits old.journal = ap (λ limits. cost limits now.journal) inv.2 ∙ ap (cost old.limits) inv.1 in
+    elim c.requests-test.branch [
+      | then-requests-test+else-left-gt0 w ↦ omega (arith, inv.0, inv.4, same, w.left-in-requests.ensures.whole (omega (arith, w.if-left-gt0.false)))
+      | else-requests-test w ↦ omega (arith, inv.0, inv.4, same, w.requests-test.false, c.left-2.ensures.within)
+    ]
