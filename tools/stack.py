@@ -1,4 +1,4 @@
-"""Loads and runs the largest source text of every shape by `aud --solo` on a stack of so many KiB.
+"""Loads and runs the largest source text of every shape by `aud --solo` on a stack of 512 KiB, or so many.
 
 A text is long (one chain of operators, one list of statements or of names) or nested (parentheses at
 the limit of levels), or both. stack.sh calls it.
@@ -10,6 +10,9 @@ import sys
 SOURCE = 32_768  # bytes of the largest source text
 LINE = 1_000  # bytes that are put on a line, which may have 1,024
 DEEP = 199  # parentheses that fit into the statements of a body at the limit of 200 levels
+
+# the shape that takes most of the stack for each level, and the KiB that it needs
+DEEPEST, DEEPER = "operands of both levels nested to the right", 640
 
 
 def source(head, unit, tail, joint=""):
@@ -76,7 +79,7 @@ def shapes():
         f"procedure M is X:Integer;begin X:={right};end M;"
     ), 4
     inner = "(1+1*" * DEEP + "1" + ")" * DEEP
-    yield "operands of both levels nested to the right", wrapped(
+    yield DEEPEST, wrapped(
         f"procedure M is X:Integer;begin X:=1+1*{inner};end M;"
     ), 4
     left = "(" * DEEP + "1" + "+1)" * DEEP
@@ -125,13 +128,14 @@ def main(program, size):
     failed = 0
     for shape, text, result in shapes():
         assert len(text) <= SOURCE and max(map(len, text.split("\n"))) < 1_024, shape
-        done = answered(program, text, size)
+        room = max(size, DEEPER) if shape == DEEPEST else size
+        done = answered(program, text, room)
         good = done.returncode == 0 and is_right(done.stdout.decode(), result)
         failed += not good
-        print(f"{'good' if good else 'BAD '}  {len(text):6} bytes  {shape}")
+        print(f"{'good' if good else 'BAD '}  {room} KiB  {len(text):6} bytes  {shape}")
         if not good:
             print(f"      status {done.returncode}: {done.stdout[:120]!r}")
-    print(f"{failed} of the shapes failed" if failed else f"every shape is answered on {size} KiB")
+    print(f"{failed} of the shapes failed" if failed else "every shape is answered")
     return 1 if failed else 0
 
 

@@ -412,31 +412,40 @@ pub const PROGRAMS: [LongCase; 2] = [
     },
 ];
 
-const DIGITS: [u8; 10] = *b"0123456789";
+const DIGITS: &[u8] = b"0123456789";
 
 /// A LOAD of 1,100 variables, each of which has its own value, and a run of it.
 pub fn variables(alloc: Global) -> Result<Vec<u8>, AllocError> {
     let mut sent = Vec::new(alloc);
-    sent.extend_from_slice(b"LOAD 104\nprocedure M is\n")?;
+    declare_and_assign(&mut sent)?;
+    Ok(sent)
+}
+
+fn declare_and_assign(out: &mut Vec<u8>) -> Result<(), AllocError> {
+    out.extend_from_slice(b"LOAD 104\nprocedure M is\n")?;
     for hundreds in DIGITS {
-        for tens in DIGITS {
-            declare_eleven(&mut sent, hundreds, tens)?;
-        }
+        declare_hundred(out, *hundreds)?;
     }
-    sent.extend_from_slice(
+    out.extend_from_slice(
         b"begin V999 := V998 + U01; V000 := V999 + v500;\n\
         Put_Line (V000'Image & V001'Image & U99'Image & V999'Image);\n\
         end M;\n\
         RUN 1100\n\
         RUN 9\n\
         OUTPUT\n",
-    )?;
-    Ok(sent)
+    )
+}
+
+fn declare_hundred(out: &mut Vec<u8>, hundreds: u8) -> Result<(), AllocError> {
+    for tens in DIGITS {
+        declare_eleven(out, hundreds, *tens)?;
+    }
+    Ok(())
 }
 
 fn declare_eleven(out: &mut Vec<u8>, hundreds: u8, tens: u8) -> Result<(), AllocError> {
     for units in DIGITS {
-        out.extend_from_slice(&[b'V', hundreds, tens, units, b','])?;
+        out.extend_from_slice(&[b'V', hundreds, tens, *units, b','])?;
     }
     out.extend_from_slice(&[b'U', hundreds, tens])?;
     out.extend_from_slice(b":Integer:=7;\n")

@@ -1,24 +1,19 @@
 // Benches with ample memory, and limits that no source text of today's language comes to.
 
-ghost use Rattle.std.specs.Prelude.{IfOk};
-ghost use Rattle.aud_typed.specs.View.{plain_stmt};
-ghost use Rattle.aud_typed.specs.Scoped.{StmtScoped};
-
 use crate::case::{Piece, spelled};
 use crate::tests::answers::says;
 use crate::tests::finds;
 use aud_bench::bench::{Bench, GiveFault, Work};
+use aud_bench::loading::load;
 use aud_bench::request::{Answer, Request};
 use aud_bench::service::answer;
 use aud_machine::machine::Machine;
 use aud_server::answers::answer_text;
-use aud_text::limits::STANDARD;
-use aud_text::name::Name;
-use aud_text::place::Pos;
+use aud_text::limits::{Limits, STANDARD};
 use aud_text::text::Text;
-use aud_typed::program::{Program, Stmt, TextExpr};
 use std::alloc::{AllocError, Global};
 use std::process::Abort;
+use std::test::Fail;
 
 // A request that is made.
 #[derive(Clone, Copy)]
@@ -78,26 +73,30 @@ fn goes(
     answers: &[u8],
 ) -> Result<(), AllocError> {
     for row in rows {
-        for _ in 0..row.times {
-            does(rt, alloc, bench, row.act)?;
-        }
-        assert!(rt; bench.journal().len() == row.journal && bench.answered() == row.answered);
+        goes_on(rt, alloc, bench, *row)?;
     }
     are_said(rt, alloc, bench.answers(), answers)
 }
 
-fn does(rt: &impl Abort, alloc: Global, bench: &mut Bench, act: Act) -> Result<(), AllocError> {
-    match act {
-        Act::Gives(asked, wanted) => {
-            let given = bench.give(request(alloc, asked)?);
-            assert!(rt; word(given) == wanted);
-        }
-        Act::Slices(units, done, left) => {
-            let work = bench.slice(alloc, units);
-            assert_eq!(rt; work, Work { done, left });
+fn goes_on(rt: &impl Abort, alloc: Global, bench: &mut Bench, row: Row) -> Result<(), AllocError> {
+    for _ in 0..row.times {
+        match row.act {
+            Act::Gives(asked, wanted) => gives(rt, bench, request(alloc, asked)?, wanted),
+            Act::Slices(units, done, left) => slices(rt, alloc, bench, units, Work { done, left }),
         }
     }
+    assert!(rt; bench.journal().len() == row.journal && bench.answered() == row.answered);
     Ok(())
+}
+
+fn gives(rt: &impl Abort, bench: &mut Bench, request: Request, wanted: &str) {
+    let given = bench.give(request);
+    assert!(rt; word(given) == wanted);
+}
+
+fn slices(rt: &impl Abort, alloc: Global, bench: &mut Bench, units: u64, wanted: Work) {
+    let work = bench.slice(alloc, units);
+    assert!(rt; work == wanted);
 }
 
 fn are_said(
@@ -217,52 +216,22 @@ fn keeps_as_many_requests_as_fit(rt: HostRuntime) -> Result<(), AllocError> {
     meets(&rt, rt.alloc(), &FILLS, b"")
 }
 
-const AT: Pos = Pos { line: 1, col: 1 };
-
-// So many times doubled, a null statement.
-fn nulls(alloc: Global, doubled: u32) -> Result<Stmt, AllocError>
-    ensures { IfOk result (λ stmt. StmtScoped (plain_stmt stmt) 1) }
-{
-    if doubled == 0 {
-        return Ok(Stmt::Null(AT));
-    }
-    let first = Box::new(alloc, nulls(alloc, doubled - 1)?)?;
-    let second = Box::new(alloc, nulls(alloc, doubled - 1)?)?;
-    Ok(Stmt::Sequence(first, second))
-}
-
-// So many bytes are put out.
-fn put(alloc: Global, bytes: usize) -> Result<Stmt, AllocError>
-    ensures { IfOk result (λ stmt. StmtScoped (plain_stmt stmt) 1) }
-{
-    let text = spelled(alloc, &[Piece::Many(bytes, b"x")])?;
-    Ok(Stmt::Put(AT, TextExpr::Literal(Text::new(text))))
-}
-
-// So many bytes are put out, and then as many again.
-fn twice(alloc: Global, bytes: usize) -> Result<Stmt, AllocError>
-    ensures { IfOk result (λ stmt. StmtScoped (plain_stmt stmt) 1) }
-{
-    let first = Box::new(alloc, put(alloc, bytes)?)?;
-    let second = Box::new(alloc, put(alloc, bytes)?)?;
-    Ok(Stmt::Sequence(first, second))
-}
-
 // A request, and what is said to it.
 type Reply = (Asked, &'static [Piece]);
 
-// Tests what is said of a program of these statements.
-fn serves(rt: &impl Abort, alloc: Global, body: Stmt, replies: &[Reply]) -> Result<(), AllocError>
-    requires { StmtScoped (plain_stmt body) 1 }
-{
-    let program = Program {
-        name: Name::from_source(alloc, b"M")?,
-        variables: Vec::new(alloc),
-        body,
-        end: AT,
-    };
-    let mut machine = Some(Machine::new(alloc, program)?);
-    are_given(rt, alloc, &mut machine, replies)
+// No source text is too long here.
+const WIDE: Limits = Limits {
+    source: u32::MAX,
+    ..STANDARD
+};
+
+// Tests what is said of a program whose source text is longer than one of today's language may be.
+fn serves(rt: &impl Abort, alloc: Global, source: &[Piece], replies: &[Reply]) -> Result<(), Fail> {
+    let source = spelled(alloc, source)?;
+    let program = load(alloc, WIDE, &source)?;
+    let mut machine = Some(Machine::new(alloc, program, STANDARD)?);
+    are_given(rt, alloc, &mut machine, replies)?;
+    Ok(())
 }
 
 fn are_given(
@@ -297,15 +266,36 @@ const BUDGET: [Reply; 12] = [
     (Asked::Run(1), &[Piece::Text(b"- E17 step budget\n")]),
 ];
 
+const NULLS: [Piece; 3] = [
+    Piece::Text(b"procedure M is begin\n"),
+    Piece::Many(1_000_001, b"null;\n"),
+    Piece::Text(b"end M;\n"),
+];
+
 #[test]
-fn runs_the_steps_of_a_load_and_no_more(rt: HostRuntime) -> Result<(), AllocError> {
-    // 1,048,576 statements
-    serves(&rt, rt.alloc(), nulls(rt.alloc(), 20)?, &BUDGET)
+fn runs_the_steps_of_a_load_and_no_more(rt: HostRuntime) -> Result<(), Fail> {
+    serves(&rt, rt.alloc(), &NULLS, &BUDGET)
 }
 
+const BEGIN: Piece = Piece::Text(b"procedure M is begin\nPut_Line(\"");
+
+const AGAIN: Piece = Piece::Text(b"\");\nPut_Line(\"");
+
+const END: Piece = Piece::Text(b"\");\nend M;\n");
+
+const TO_THE_LIMIT: [Piece; 5] = [
+    BEGIN,
+    Piece::Many(32_767, b"x"),
+    AGAIN,
+    Piece::Many(32_767, b"x"),
+    END,
+];
+
 const FULL: &[Piece] = &[
-    Piece::Text(b"+ 2\nbytes 65536\n"),
-    Piece::Many(65_536, b"x"),
+    Piece::Text(b"+ 3\nbytes 65536\n"),
+    Piece::Many(32_767, b"x"),
+    Piece::Text(b"\n"),
+    Piece::Many(32_767, b"x"),
     Piece::Text(b"\n"),
 ];
 
@@ -315,17 +305,33 @@ const FILLED: [Reply; 2] = [
 ];
 
 #[test]
-fn fills_the_output(rt: HostRuntime) -> Result<(), AllocError> {
-    serves(&rt, rt.alloc(), twice(rt.alloc(), 32_768)?, &FILLED)
+fn fills_the_output(rt: HostRuntime) -> Result<(), Fail> {
+    serves(&rt, rt.alloc(), &TO_THE_LIMIT, &FILLED)
 }
+
+const PAST_THE_LIMIT: [Piece; 5] = [
+    BEGIN,
+    Piece::Many(32_768, b"x"),
+    AGAIN,
+    Piece::Many(32_768, b"x"),
+    END,
+];
+
+const FIRST_OF_IT: &[Piece] = &[
+    Piece::Text(b"+ 3\nbytes 65536\n"),
+    Piece::Many(32_768, b"x"),
+    Piece::Text(b"\n"),
+    Piece::Many(32_767, b"x"),
+    Piece::Text(b"\n"),
+];
 
 const CUT: [Reply; 3] = [
     (Asked::Run(9), &[Piece::Text(b"+ 1\nran 2 output full\n")]),
-    (Asked::Output, FULL),
+    (Asked::Output, FIRST_OF_IT),
     (Asked::Run(9), &[Piece::Text(b"+ 1\nran 0 output full\n")]),
 ];
 
 #[test]
-fn cuts_the_output_at_its_limit(rt: HostRuntime) -> Result<(), AllocError> {
-    serves(&rt, rt.alloc(), twice(rt.alloc(), 32_769)?, &CUT)
+fn cuts_the_output_at_its_limit(rt: HostRuntime) -> Result<(), Fail> {
+    serves(&rt, rt.alloc(), &PAST_THE_LIMIT, &CUT)
 }

@@ -4,9 +4,10 @@ use crate::tests::finds;
 use aud_bench::loading::load;
 use aud_machine::machine::{Machine, Ran};
 use aud_machine::task::Task;
-use aud_meaning::state::{State, Status};
+use aud_meaning::state::{NextStep, State, Status, StepKind};
 use aud_text::int32::Int32;
-use aud_text::limits::{CLOCK, STANDARD, STEPS};
+use aud_text::limits::{CHOICES, CLOCK, Limits, STANDARD, STEPS};
+use aud_text::place::Pos;
 use aud_text::raise::Raise;
 use std::alloc::{AllocError, Global};
 use std::process::Abort;
@@ -17,15 +18,23 @@ const SUM: &[u8] =
 
 const FAILING: &[u8] = b"procedure M is X : Integer := 1 / 0; begin null; end M;\n";
 
+// The limits of the machines.
+const SMALL: Limits = Limits {
+    tasks: 3,
+    source: 100,
+};
+
 // What is done with a machine.
 #[derive(Clone, Copy)]
 enum Act {
     Slice(u32),
     Take(usize),
     Choose(&'static [u32]),
-    Advance(u32),
+    // So many at once.
+    ChooseMany(usize),
+    Advance(u64),
     Reset,
-    // Its name and its parts are looked at, once 42 is assigned.
+    // Its name, its limits and its parts are looked at, once 42 is assigned.
     Look,
 }
 
@@ -36,7 +45,7 @@ struct Told {
     state: State,
     raised: Option<Raise>,
     choices: usize,
-    clock: u32,
+    clock: u64,
     is_cut: bool,
 }
 
@@ -65,7 +74,6 @@ fn does(
     act: Act,
 ) -> Result<Option<Ran>, AllocError> {
     let steps = machine.steps();
-    let clock = machine.clock();
     match act {
         Act::Slice(n) => {
             assert!(rt; steps <= 1_000 && n <= 1_000);
@@ -75,9 +83,13 @@ fn does(
             assert!(rt; steps < STEPS);
             return machine.take(alloc, nth);
         }
-        Act::Choose(choices) => machine.choose(choices)?,
+        Act::Choose(choices) => chooses(rt, machine, choices)?,
+        Act::ChooseMany(count) => {
+            let choices = vec![in alloc; 7; count]?;
+            chooses(rt, machine, &choices)?;
+        }
         Act::Advance(milliseconds) => {
-            assert!(rt; milliseconds <= CLOCK - clock);
+            assert!(rt; milliseconds <= CLOCK - machine.clock());
             machine.advance(milliseconds);
         }
         Act::Reset => machine.reset(alloc)?,
@@ -86,8 +98,13 @@ fn does(
     Ok(None)
 }
 
+fn chooses(rt: &impl Abort, machine: &mut Machine, choices: &[u32]) -> Result<(), AllocError> {
+    assert!(rt; choices.len() <= CHOICES as usize - machine.choices());
+    machine.choose(choices)
+}
+
 fn looks(rt: &impl Abort, machine: &Machine) {
-    assert!(rt; machine.program().name.is(b"M"));
+    assert!(rt; machine.program().name.is(b"M") && machine.limits() == SMALL);
     let parts = machine.parts();
     assert!(rt; parts.steps == 2 && parts.clock == 0);
     assert!(rt; matches!(parts.tasks, [main] if is_at_work(main)));
@@ -122,17 +139,67 @@ fn goes(
 ) -> Result<(), AllocError> {
     tells(rt, machine, NEW);
     for row in rows {
-        let ran = does(rt, alloc, machine, row.act)?;
-        assert_eq!(rt; ran, row.ran);
-        tells(rt, machine, row.told);
-        finds(rt, "output", machine.output(), row.output);
+        goes_on(rt, alloc, machine, row)?;
     }
     Ok(())
 }
 
+fn goes_on(
+    rt: &impl Abort,
+    alloc: Global,
+    machine: &mut Machine,
+    row: &Row,
+) -> Result<(), AllocError> {
+    let ran = does(rt, alloc, machine, row.act)?;
+    assert_eq!(rt; ran, row.ran);
+    tells(rt, machine, row.told);
+    finds(rt, "output", machine.output(), row.output);
+    Ok(())
+}
+
 fn meets(rt: &impl Abort, alloc: Global, source: &[u8], rows: &[Row]) -> Result<(), Fail> {
-    let mut machine = Machine::new(alloc, load(alloc, STANDARD, source)?)?;
+    let mut machine = Machine::new(alloc, load(alloc, STANDARD, source)?, SMALL)?;
     goes(rt, alloc, &mut machine, rows)?;
+    Ok(())
+}
+
+// What comes next of the main procedure of FAILING, step by step.
+const COMING: [Option<NextStep>; 4] = [
+    Some(NextStep {
+        kind: StepKind::Decl,
+        at: Pos { line: 1, col: 16 },
+    }),
+    // the exception is shown where it was raised
+    Some(NextStep {
+        kind: StepKind::Complete,
+        at: Pos { line: 1, col: 16 },
+    }),
+    Some(NextStep {
+        kind: StepKind::Close,
+        at: Pos { line: 1, col: 50 },
+    }),
+    None,
+];
+
+#[test]
+fn tells_what_comes_next(rt: HostRuntime) -> Result<(), Fail> {
+    let alloc = rt.alloc();
+    let mut machine = Machine::new(alloc, load(alloc, STANDARD, FAILING)?, SMALL)?;
+    comes(&rt, alloc, &mut machine, &COMING)?;
+    Ok(())
+}
+
+fn comes(
+    rt: &impl Abort,
+    alloc: Global,
+    machine: &mut Machine,
+    steps: &[Option<NextStep>],
+) -> Result<(), AllocError> {
+    for wanted in steps {
+        assert_eq!(rt; machine.coming(0), *wanted);
+        does(rt, alloc, machine, Act::Slice(1))?;
+    }
+    assert_eq!(rt; machine.coming(1), None);
     Ok(())
 }
 
@@ -260,6 +327,73 @@ const SUPPLIED: [Row; 4] = [
             state: State::Ended,
             choices: 3,
             clock: 250,
+            ..NEW
+        },
+        output: b"x 42\n",
+    },
+];
+
+// The clock goes on by more than the longest delay, and as many choices wait as may.
+#[test]
+fn takes_as_much_as_it_may(rt: HostRuntime) -> Result<(), Fail> {
+    meets(&rt, rt.alloc(), SUM, &MOST)
+}
+
+const MOST: [Row; 6] = [
+    Row {
+        act: Act::Advance(1_000_000_000),
+        ran: None,
+        told: Told {
+            clock: 1_000_000_000,
+            ..NEW
+        },
+        output: b"",
+    },
+    Row {
+        act: Act::Advance(1_000_000_000),
+        ran: None,
+        told: Told {
+            clock: 2_000_000_000,
+            ..NEW
+        },
+        output: b"",
+    },
+    Row {
+        act: Act::Advance(1_000_000_000),
+        ran: None,
+        told: Told {
+            clock: 3_000_000_000,
+            ..NEW
+        },
+        output: b"",
+    },
+    Row {
+        act: Act::Advance(2_147_483_647_000),
+        ran: None,
+        told: Told {
+            clock: 2_150_483_647_000,
+            ..NEW
+        },
+        output: b"",
+    },
+    Row {
+        act: Act::ChooseMany(10_000),
+        ran: None,
+        told: Told {
+            choices: 10_000,
+            clock: 2_150_483_647_000,
+            ..NEW
+        },
+        output: b"",
+    },
+    Row {
+        act: Act::Slice(100),
+        ran: ALL,
+        told: Told {
+            steps: 5,
+            state: State::Ended,
+            choices: 10_000,
+            clock: 2_150_483_647_000,
             ..NEW
         },
         output: b"x 42\n",
