@@ -2,13 +2,13 @@
 use Rattle.std.specs.Prelude.{if◌then◌else◌, slice_get, slice_index_or}
 use Rattle.std.proofs.Common.{◌≡◌, ℕ, zero, suc, ◌+◌, ◌%◌, ◌<◌, ◌≤◌, List, [], ◌∷◌, length, Bool, true, false, refl, sym, ap, ◌∙◌, subst, arith}
 use Rattle.std.proofs.lemmas.Option.{slice_get-get_or}
-use Rattle.aud_meaning.specs.declared.state.Status.{Status}
-use Rattle.aud_meaning.specs.declared.state.Status.TheVariants.{Running, Completed, Terminated}
-use Rattle.aud_meaning.specs.declared.state.State.{State}
-use Rattle.aud_meaning.specs.declared.state.State.TheVariants as state
-use Rattle.aud_meaning.specs.Configuration.{TaskAt, Configuration}
-use Rattle.aud_meaning.specs.Configuration as whole
-use Rattle.aud_meaning.specs.Run.{Move, moves_by, moves_from, has_ended, moves, some_move, state_of, step_of, pick, pick_by, take_picked, run_by, run_with}
+use Rattle.aud_meaning.specs.declared.sequential.Status.{Status}
+use Rattle.aud_meaning.specs.declared.sequential.Status.TheVariants.{Running, Completed, Terminated}
+use Rattle.aud_meaning.specs.declared.sequential.State.{State}
+use Rattle.aud_meaning.specs.declared.sequential.State.TheVariants as state
+use Rattle.aud_meaning.specs.Sequential.Configuration.{TaskAt, Configuration}
+use Rattle.aud_meaning.specs.Sequential.Configuration as whole
+use Rattle.aud_meaning.specs.Sequential.Run.{Move, moves_by, moves_from, has_ended, moves, some_move, state_of, step_of, pick, pick_by, take_picked, run_by, run_with}
 
 -- moves of tasks below this number
 abbrev AllOf : ℕ → List Move → Type 0

@@ -5,16 +5,16 @@ use Rattle.aud_text.specs.declared.raise.Raise.{Raise}
 use Rattle.aud_text.specs.declared.code.Code.TheVariants as code
 use Rattle.aud_text.specs.declared.limits.Limits.{Limits}
 use Rattle.aud_text.specs.declared.limits.TheConstants.{STEPS}
-use Rattle.aud_typed.specs.Tree as tree
-use Rattle.aud_typed.specs.View.{plain_program}
-use Rattle.aud_meaning.specs.declared.state.State.TheVariants as state
-use Rattle.aud_meaning.specs.Configuration.{Configuration}
-use Rattle.aud_meaning.specs.Step.{task_step}
-use Rattle.aud_meaning.specs.Run.{moves, run, main_raised}
+use Rattle.aud_typed.specs.Sequential.Tree as tree
+use Rattle.aud_typed.specs.Sequential.View.{plain_program}
+use Rattle.aud_meaning.specs.declared.sequential.State.TheVariants as state
+use Rattle.aud_meaning.specs.Sequential.Configuration.{Configuration}
+use Rattle.aud_meaning.specs.Sequential.Step.{task_step}
+use Rattle.aud_meaning.specs.Sequential.Run.{moves, run, main_raised}
 use Rattle.aud_machine.specs.declared.run.Ran.{Ran}
 use Rattle.aud_machine.specs.Shown.{Shown}
 use Rattle.aud_machine.specs.Shows.{RunsFrom}
-use Rattle.aud_gen.proofs.Runs.{run_cut}
+use Rattle.aud_gen.proofs.Sequential.Runs.{run_cut}
 use Rattle.aud_bench.specs.declared.request.Request.{Request}
 use Rattle.aud_bench.specs.declared.request.Request.TheVariants as request
 use Rattle.aud_bench.specs.declared.request.Answer.{Answer}

@@ -4,11 +4,11 @@ use Rattle.aud_text.specs.declared.raise.Raise.{Raise}
 use Rattle.aud_text.specs.declared.code.Code.TheVariants as code
 use Rattle.aud_text.specs.declared.limits.Limits.{Limits}
 use Rattle.aud_text.specs.declared.limits.TheConstants.{STEPS, REQUESTS, REQUEST_BYTES}
-use Rattle.aud_typed.specs.Tree as tree
-use Rattle.aud_meaning.specs.declared.state.State.{State}
-use Rattle.aud_meaning.specs.declared.state.State.TheVariants as state
-use Rattle.aud_meaning.specs.Configuration.{Configuration}
-use Rattle.aud_meaning.specs.Run.{opening, run, state_of, main_raised}
+use Rattle.aud_typed.specs.Sequential.Tree as tree
+use Rattle.aud_meaning.specs.declared.sequential.State.{State}
+use Rattle.aud_meaning.specs.declared.sequential.State.TheVariants as state
+use Rattle.aud_meaning.specs.Sequential.Configuration.{Configuration}
+use Rattle.aud_meaning.specs.Sequential.Run.{opening, run, state_of, main_raised}
 use Rattle.aud_bench.specs.declared.request.Report.{Report}
 use Rattle.aud_bench.specs.declared.request.Request.{Request}
 use Rattle.aud_bench.specs.declared.request.Request.TheVariants as request

@@ -1,8 +1,8 @@
 // From a source text to a typed program.
 
 ghost use Rattle.std.specs.Prelude.{◌≡◌, IfOk, Result, Err};
-ghost use Rattle.aud_typed.specs.Scoped.{IsScoped};
-ghost use Rattle.aud_typed.specs.View.{plain_program};
+ghost use Rattle.aud_typed.specs.Sequential.Scoped.{IsScoped};
+ghost use Rattle.aud_typed.specs.Sequential.View.{plain_program};
 ghost use Rattle.aud_lex.specs.Lexed.{lexed};
 ghost use Rattle.aud_syntax.specs.View.{plain_unit};
 ghost use Rattle.aud_bench.specs.Loading.{after_checking, after_lexing, after_parsing, place_of, program_of};

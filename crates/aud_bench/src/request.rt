@@ -1,6 +1,6 @@
 // Requests and answers.
 
-use aud_meaning::state::State;
+use aud_meaning::sequential::State;
 use aud_text::code::Code;
 use aud_text::name::Name;
 use aud_text::place::Pos;

@@ -1,9 +1,9 @@
 // The work on one request.
 
 ghost use Rattle.std.specs.Prelude.{◌≡◌, ◌≤◌, min, true, false, Option, Some, Ok, IfOk, IsSome};
-ghost use Rattle.aud_typed.specs.Scoped.{IsScoped};
-ghost use Rattle.aud_typed.specs.View.{plain_program};
-ghost use Rattle.aud_meaning.specs.declared.state.State.TheVariants as states;
+ghost use Rattle.aud_typed.specs.Sequential.Scoped.{IsScoped};
+ghost use Rattle.aud_typed.specs.Sequential.View.{plain_program};
+ghost use Rattle.aud_meaning.specs.declared.sequential.State.TheVariants as states;
 ghost use Rattle.aud_text.specs.declared.limits.Limits.{Limits as Bounds};
 ghost use Rattle.aud_bench.specs.declared.request.Request.TheVariants as asked;
 ghost use Rattle.aud_bench.specs.Loading.{program_of};
@@ -13,7 +13,7 @@ ghost use Rattle.aud_bench.specs.Serving.{IsLoaded, Replies, UnderWay, Serves};
 use crate::loading::{LoadFault, load};
 use crate::request::{Answer, Report, Request};
 use aud_machine::machine::Machine;
-use aud_meaning::state::State;
+use aud_meaning::sequential::State;
 use aud_text::code::Code;
 use aud_text::limits::{Limits, STEPS};
 use aud_text::raise::Raise;

@@ -3,8 +3,8 @@ use Rattle.std.specs.Prelude.{List, [], ◌∷◌, ◌++◌, Option}
 use Rattle.std.proofs.Common.{◌≡◌, ℕ, ◌<◌, length, arith, refl, sym, ◌∙◌, ap, append_assoc}
 use Rattle.aud_text.specs.declared.place.Pos.{Pos}
 use Rattle.aud_typed.specs.declared.program.Stmt as memory
-use Rattle.aud_typed.specs.Tree as tree
-use Rattle.aud_typed.specs.View.{plain_stmt}
+use Rattle.aud_typed.specs.Sequential.Tree as tree
+use Rattle.aud_typed.specs.Sequential.View.{plain_stmt}
 use Rattle.aud_syntax.specs.declared.tree.Stmt as source
 use Rattle.aud_syntax.specs.declared.tree.Decl.{Decl}
 use Rattle.aud_syntax.specs.View.{plain_stmts, plain_decls, plain_decl, plain_stmt as plain_source}

@@ -1,7 +1,7 @@
 -- The fault that is reported is what the faults were noted to.
 use Rattle.std.specs.Prelude.{List, [], ◌∷◌, Some, None, Ok, Err}
 use Rattle.std.proofs.Common.{◌≡◌, refl, sym, ◌∙◌}
-use Rattle.aud_typed.specs.Tree as tree
+use Rattle.aud_typed.specs.Sequential.Tree as tree
 use Rattle.aud_check.specs.declared.fault.Fault.{Fault}
 use Rattle.aud_check.specs.Least.{earlier, least, noted}
 use Rattle.aud_check.specs.Checked.{judged}

@@ -12,7 +12,7 @@ use Rattle.aud_syntax.specs.declared.tree.Multiplying.TheVariants.{Times}
 use Rattle.aud_syntax.specs.Plain.{Simple, simple, no_addeds, more_addeds, added, term, no_multiplieds, more_multiplieds, multiplied, factor, Primary, integer, text, name, attribute, group, no_simple, a_simple, Decl, object, Decls, no_decls, more_decls, Stmt, null, assign, call, Stmts, no_stmts, more_stmts, body, Unit, unit}
 use Rattle.aud_typed.specs.declared.program.Unary.TheVariants.{Negative}
 use Rattle.aud_typed.specs.declared.program.Binary.TheVariants.{Sum, Difference}
-use Rattle.aud_typed.specs.Tree as tree
+use Rattle.aud_typed.specs.Sequential.Tree as tree
 use Rattle.aud_check.specs.declared.fault.Fault.{Fault}
 use Rattle.aud_check.specs.Checked.{faults, checked}
 

@@ -16,8 +16,8 @@ use Rattle.aud_syntax.specs.Plain as plain
 use Rattle.aud_typed.specs.declared.program.Unary.{Unary}
 use Rattle.aud_typed.specs.declared.program.Unary.TheVariants as unary
 use Rattle.aud_typed.specs.declared.program.Binary.{Binary}
-use Rattle.aud_typed.specs.Tree as tree
-use Rattle.aud_typed.specs.Scoped.{Scope, IsElaborated, IntegerScoped, TextScoped, scope_after, StmtScoped, IsScoped}
+use Rattle.aud_typed.specs.Sequential.Tree as tree
+use Rattle.aud_typed.specs.Sequential.Scoped.{Scope, IsElaborated, IntegerScoped, TextScoped, scope_after, StmtScoped, IsScoped}
 use Rattle.aud_check.specs.declared.fault.Fault.{Fault}
 use Rattle.aud_check.specs.declared.names.Meaning.{Meaning}
 use Rattle.aud_check.specs.declared.names.Meaning.TheVariants.{IntegerType, PutLine, MainProcedure, Variable, Faulty}

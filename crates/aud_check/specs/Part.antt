@@ -1,8 +1,8 @@
 -- What is shown by a check of declarations in memory.
 use Rattle.std.specs.Prelude.{◌≡◌, List, ◌++◌, map, Option}
 use Rattle.aud_typed.specs.declared.program.Stmt as memory
-use Rattle.aud_typed.specs.Tree as tree
-use Rattle.aud_typed.specs.View.{plain_stmt}
+use Rattle.aud_typed.specs.Sequential.Tree as tree
+use Rattle.aud_typed.specs.Sequential.View.{plain_stmt}
 use Rattle.aud_check.specs.declared.decl.Part.{Part}
 use Rattle.aud_check.specs.declared.fault.Fault.{Fault}
 use Rattle.aud_check.specs.Least.{noted}

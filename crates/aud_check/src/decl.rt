@@ -2,7 +2,7 @@
 
 ghost use Rattle.std.specs.Prelude.{◌≡◌, ◌++◌, IfOk, OnOk};
 ghost use Rattle.aud_syntax.specs.View.{plain_maybe, plain_decl, plain_decls};
-ghost use Rattle.aud_typed.specs.View.{plain_integer};
+ghost use Rattle.aud_typed.specs.Sequential.View.{plain_integer};
 ghost use Rattle.aud_check.specs.Least.{noted};
 ghost use Rattle.aud_check.specs.Rules.{declared_once};
 ghost use Rattle.aud_check.specs.Declarations.{subtype_faults, is_integer_type, initial_faults, initial_value, integer_or_zero, new_meaning, with_name, declared_names, twice_faults, first_at, elaboration, check_decl, check_decls};

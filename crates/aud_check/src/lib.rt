@@ -3,8 +3,8 @@
 
 ghost use Rattle.std.specs.Prelude.{IfOk};
 ghost use Rattle.aud_syntax.specs.View.{plain_unit};
-ghost use Rattle.aud_typed.specs.Scoped.{IsScoped};
-ghost use Rattle.aud_typed.specs.View.{plain_program};
+ghost use Rattle.aud_typed.specs.Sequential.Scoped.{IsScoped};
+ghost use Rattle.aud_typed.specs.Sequential.View.{plain_program};
 ghost use Rattle.aud_check.specs.Checked.{checked};
 ghost use Rattle.aud_check.specs.Gives.{Gives};
 

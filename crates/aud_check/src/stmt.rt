@@ -2,7 +2,7 @@
 
 ghost use Rattle.std.specs.Prelude.{◌≡◌, ◌++◌, IfOk, OnOk};
 ghost use Rattle.aud_syntax.specs.View.{plain_stmt, plain_stmts};
-ghost use Rattle.aud_typed.specs.View.{plain_stmt as plain_step};
+ghost use Rattle.aud_typed.specs.Sequential.View.{plain_stmt as plain_step};
 ghost use Rattle.aud_check.specs.Least.{noted};
 ghost use Rattle.aud_check.specs.Statements.{target_base, assign_faults, assigned, callee_faults, formal_base, called, stmt_faults, typed_stmt, stmts_faults, typed_stmts};
 ghost use Rattle.aud_check.specs.Typing.{plain_typed};

@@ -2,7 +2,7 @@
 
 ghost use Rattle.std.specs.Prelude.{◌≡◌, ◌++◌, map, IfOk, OnOk};
 ghost use Rattle.aud_syntax.specs.View.{plain_stmts, plain_unit};
-ghost use Rattle.aud_typed.specs.View.{plain_program};
+ghost use Rattle.aud_typed.specs.Sequential.View.{plain_program};
 ghost use Rattle.aud_check.specs.Least.{noted};
 ghost use Rattle.aud_check.specs.Statements.{typed_stmts, stmts_faults};
 ghost use Rattle.aud_check.specs.Part.{plain_steps};

@@ -1,46 +1,142 @@
--- Code that never goes wrong: each instruction finds the operands and the open frames that are written at its place, leaves
--- those written at each place that may follow, and leads to places within the code.
-use Rattle.std.specs.Prelude.{◌≡◌, ℕ, ◌+◌, ◌-◌, ◌<◌, ◌≤◌, List, Some, slice_get}
-use Rattle.aud_code.specs.declared.code.Way.{Way}
-use Rattle.aud_code.specs.declared.code.Ending.{Ending}
-use Rattle.aud_code.specs.declared.code.Ending.TheVariants.{Declare, Null, Assign, Put, Complete}
-use Rattle.aud_code.specs.declared.code.Instr.{Instr}
-use Rattle.aud_code.specs.declared.code.Instr.TheVariants.{Push, Load, Unary, Binary, AppendText, AppendImage, AppendNewLine, End}
-use Rattle.aud_code.specs.declared.code.Line.{Line}
+-- Instructions that never miss an operand: the counts of operands are followed along all ways, as the evaluation would go.
+use Rattle.std.specs.Prelude.{◌≡◌, ℕ, zero, suc, List, [], ◌∷◌, length, Bool, true, false, Option, Some, None, slice_get}
+use Rattle.aud_code.specs.Places.{Way, Guard}
+use Rattle.aud_code.specs.Instr.{Instr, Push, Load, LoadElement, OnOne, OnTwo, Count, Check, Cell, PushTruth, Truth, Negate, Relate, Compare, Combine, PassIfFalse, PassIfTrue, IsCallable, IsTerminated, Find, FindElement, LoadFound, Pass, PassCopy, AppendText, AppendImage, AppendTruth, AppendNewLine, Name, Milliseconds, Seconds, BeginObject, Component, OpensAccept, OpensDelay, OpensTerminate, Mark, PassUnlessNext, SetTime, Ending, Declare, DeclareObject, Assign, If, While, Loop, Exit, ReturnValue, CallTask, Operands, Ended, Reached, Marked, Raised, Lost}
+use Rattle.aud_code.specs.Flat.{Last, Does, Continues, Guards, Ends, Leaves, EndLine, FlatLine, end, Flat, instrs_at, end_at}
 
--- a place of the code, where so many Integers are written as operands and so many frames as open
-pub record Leads (code : List Line) (to ints frames : ℕ) : Type 0 where
-  pub here : Line
-  pub is : slice_get code to ≡ Some here
-  pub ints_are : here.ints ≡ ints
-  pub frames_are : here.frames ≡ frames
+-- how many operands there are, and whether an object is being declared
+pub record Counts : Type 0 where
+  pub ints : ℕ
+  pub bools : ℕ
+  pub targets : ℕ
+  pub names : ℕ
+  pub cells : Bool
 
--- the way of an exception, which may close frames
-pub record Goes (code : List Line) (way : Way) (frames : ℕ) : Type 0 where
-  pub closes : way.frames ≤ frames
-  pub leads : Leads code way.to 0 way.frames
+abbrev pub no_counts : Counts
+no_counts = record { ints = 0; bools = 0; targets = 0; names = 0; cells = false }
 
-abbrev pub EndingFine : List Line → Ending → ℕ → ℕ → Type 0
-EndingFine code (Declare next) ints frames = (ints ≡ 1) × (1 ≤ frames) × Leads code next 0 frames
-EndingFine code (Null next) ints frames = (ints ≡ 0) × Leads code next 0 frames
-EndingFine code (Assign v next) ints frames = (ints ≡ 1) × (v.level < frames) × Leads code next 0 frames
-EndingFine code (Put next) ints frames = (ints ≡ 0) × Leads code next 0 frames
-EndingFine code Complete ints frames = (ints ≡ 0) × (frames ≡ 1)
+abbrev pub is_some : {A : Type 0} → Option A → Bool
+is_some None = false
+is_some (Some x) = true
 
-abbrev pub InstrFine : List Line → ℕ → Instr → ℕ → ℕ → Type 0
-InstrFine code place (Push value) ints frames = Leads code (place + 1) (ints + 1) frames
-InstrFine code place (Load v) ints frames = (v.level < frames) × Leads code (place + 1) (ints + 1) frames
-InstrFine code place (Unary op) ints frames = (1 ≤ ints) × Leads code (place + 1) ints frames
-InstrFine code place (Binary op) ints frames = (2 ≤ ints) × Leads code (place + 1) (ints - 1) frames
-InstrFine code place (AppendText text) ints frames = Leads code (place + 1) ints frames
-InstrFine code place AppendImage ints frames = (1 ≤ ints) × Leads code (place + 1) (ints - 1) frames
-InstrFine code place AppendNewLine ints frames = Leads code (place + 1) ints frames
-InstrFine code place (End ending) ints frames = EndingFine code ending ints frames
+abbrev pub counts_of : Operands → Counts
+counts_of o = record { ints = length o.ints; bools = length o.bools; targets = length o.targets; names = length o.names; cells = is_some o.cells }
 
-pub record IsFine (code : List Line) (place : ℕ) (line : Line) : Type 0 where
-  pub instr_fine : InstrFine code place line.instr line.ints line.frames
-  pub out_fine : Goes code line.out line.frames
+-- there is one; what is left
+abbrev pub Takes : ℕ → (ℕ → Type 0) → Type 0
+Takes zero go = ⊥
+Takes (suc n) go = go n
 
-pub record IsSound (code : List Line) : Type 0 where
-  pub start : Leads code 0 0 1
-  pub each : (place : ℕ) (line : Line) → slice_get code place ≡ Some line → IsFine code place line
+abbrev pub AndThen : Type 1
+AndThen = ℕ → Counts → Type 0
+
+abbrev pub InstrFine : Instr → AndThen → Counts → Type 0
+InstrFine (Push z) go c = go 0 (record c { ints = suc c.ints })
+InstrFine (Load v) go c = go 0 (record c { ints = suc c.ints })
+InstrFine (LoadElement a) go c = Takes c.ints (λ n. go 0 (record c { ints = suc n }))
+InstrFine (OnOne f) go c = Takes c.ints (λ n. go 0 (record c { ints = suc n }))
+InstrFine (OnTwo f) go c = Takes c.ints (λ n. Takes n (λ m. go 0 (record c { ints = suc m })))
+InstrFine (Count v entry) go c = go 0 (record c { ints = suc c.ints })
+InstrFine (Check t) go c = Takes c.ints (λ n. go 0 (record c { ints = suc n }))
+InstrFine Cell go c = Takes c.bools (λ n. go 0 (record c { bools = n; ints = suc c.ints }))
+InstrFine (PushTruth b) go c = go 0 (record c { bools = suc c.bools })
+InstrFine Truth go c = Takes c.ints (λ n. go 0 (record c { ints = n; bools = suc c.bools }))
+InstrFine Negate go c = Takes c.bools (λ n. go 0 (record c { bools = suc n }))
+InstrFine (Relate f) go c = Takes c.ints (λ n. Takes n (λ m. go 0 (record c { ints = m; bools = suc c.bools })))
+InstrFine (Compare f) go c = Takes c.bools (λ n. Takes n (λ m. go 0 (record c { bools = suc m })))
+InstrFine (Combine f) go c = Takes c.bools (λ n. Takes n (λ m. go 0 (record c { bools = suc m })))
+InstrFine (PassIfFalse k) go c = Takes c.bools (λ n. go 0 (record c { bools = n }) × go k (record c { bools = suc n }))
+InstrFine (PassIfTrue k) go c = Takes c.bools (λ n. go 0 (record c { bools = n }) × go k (record c { bools = suc n }))
+InstrFine IsCallable go c = Takes c.ints (λ n. go 0 (record c { ints = n; bools = suc c.bools }))
+InstrFine IsTerminated go c = Takes c.ints (λ n. go 0 (record c { ints = n; bools = suc c.bools }))
+InstrFine (Find v t) go c = go 0 (record c { targets = suc c.targets })
+InstrFine (FindElement a t) go c = Takes c.ints (λ n. go 0 (record c { ints = n; targets = suc c.targets }))
+InstrFine LoadFound go c = Takes c.targets (λ n. go 0 (record c { ints = suc c.ints }))
+InstrFine Pass go c = Takes c.ints (λ n. go 0 (record c { ints = n }))
+InstrFine (PassCopy k) go c = Takes c.ints (λ n. Takes c.targets (λ m. go 0 (record c { ints = n; targets = m })))
+InstrFine (AppendText text) go c = go 0 c
+InstrFine AppendImage go c = Takes c.ints (λ n. go 0 (record c { ints = n }))
+InstrFine AppendTruth go c = Takes c.bools (λ n. go 0 (record c { bools = n }))
+InstrFine AppendNewLine go c = go 0 c
+InstrFine Name go c = Takes c.ints (λ n. go 0 (record c { ints = n; names = suc c.names }))
+InstrFine (Milliseconds ms) go c = go 0 c
+InstrFine Seconds go c = Takes c.ints (λ n. go 0 (record c { ints = n }))
+InstrFine BeginObject go c = go 0 (record c { cells = true })
+InstrFine Component go c = Takes c.ints (λ n. go 0 (record c { ints = n }))
+InstrFine (OpensAccept a) go c = Takes c.bools (λ n. go 0 (record c { bools = n }))
+InstrFine (OpensDelay k) go c = Takes c.bools (λ n. go 0 (record c { bools = n }))
+InstrFine OpensTerminate go c = Takes c.bools (λ n. go 0 (record c { bools = n }))
+InstrFine Mark go c = go 0 c
+InstrFine (PassUnlessNext n k) go c = go 0 c × go k c
+InstrFine (SetTime n) go c = go 0 c
+
+-- up to the ending, which wants its counts
+module _ (End : Counts → Type 0) where
+  abbrev pub AreFine : List Instr → ℕ → Counts → Type 0
+  AreFine [] n c = End c
+  AreFine (i ∷ is) (suc n) c = AreFine is n c
+  AreFine (i ∷ is) zero c = InstrFine i (AreFine is) c
+
+  -- no operand is missing, and the ending has what it wants
+  abbrev pub NotLost : Ended → Type 0
+  NotLost (Reached o) = End (counts_of o)
+  NotLost (Marked o) = Unit {0}
+  NotLost (Raised raise) = Unit {0}
+  NotLost Lost = ⊥
+
+abbrev pub EndingFine : Ending → Counts → Type 0
+EndingFine Declare c = Takes c.ints (λ n. Unit {0})
+EndingFine (DeclareObject k) c = c.cells ≡ true
+EndingFine Assign c = Takes c.targets (λ n. Takes c.ints (λ m. Unit {0}))
+EndingFine If c = Takes c.bools (λ n. Unit {0})
+EndingFine While c = Takes c.bools (λ n. Unit {0})
+EndingFine (Loop f) c = Takes c.ints (λ n. Takes n (λ m. Unit {0}))
+EndingFine Exit c = Takes c.bools (λ n. Unit {0})
+EndingFine ReturnValue c = Takes c.ints (λ n. Unit {0})
+EndingFine (CallTask entry form) c = Takes c.names (λ n. Unit {0})
+EndingFine e c = Unit {0}
+
+abbrev pub LastFine : Last → Counts → Type 0
+LastFine (Does e) c = EndingFine e c
+LastFine (Continues f) c = Unit {0}
+LastFine (Guards gs) c = Unit {0}
+LastFine (Ends con next) c = Unit {0}
+LastFine (Leaves n next) c = Unit {0}
+
+-- a step begins there: an ending stands before it, or nothing
+abbrev pub IsStart : List FlatLine → ℕ → Type 0
+IsStart lines zero = Unit {0}
+IsStart lines (suc n) = (l : EndLine) × (slice_get lines n ≡ Some (end l))
+
+abbrev pub EachStart : List FlatLine → List ℕ → Type 0
+EachStart lines [] = Unit {0}
+EachStart lines (n ∷ ns) = IsStart lines n × EachStart lines ns
+
+abbrev pub WayStart : List FlatLine → Option Way → Type 0
+WayStart lines None = Unit {0}
+WayStart lines (Some w) = IsStart lines w.to
+
+abbrev pub GuardsStart : List FlatLine → List Guard → Type 0
+GuardsStart lines [] = Unit {0}
+GuardsStart lines (g ∷ gs) = IsStart lines g.to × GuardsStart lines gs
+
+-- where a step leads by itself
+abbrev pub LastLeads : List FlatLine → Last → Type 0
+LastLeads lines (Does e) = Unit {0}
+LastLeads lines (Continues f) = Unit {0}
+LastLeads lines (Guards gs) = GuardsStart lines gs
+LastLeads lines (Ends c next) = IsStart lines next
+LastLeads lines (Leaves n next) = IsStart lines next
+
+pub record Leads (lines : List FlatLine) (l : EndLine) : Type 0 where
+  pub out : IsStart lines l.out
+  pub ways : EachStart lines l.ways
+  pub bodies : EachStart lines l.bodies
+  pub exit : WayStart lines l.exit
+  pub last : LastLeads lines l.last
+
+-- Sound code: each step finds its operands, and leads to steps.
+pub record IsSound (code : Flat) : Type 0 where
+  pub operands : (n : ℕ) → IsStart code.lines n → AreFine (LastFine (end_at code n).last) (instrs_at code n) 0 no_counts
+  pub leads : (n : ℕ) (l : EndLine) → slice_get code.lines n ≡ Some (end l) → Leads code.lines l
+  pub starts : EachStart code.lines code.starts × IsStart code.lines code.spare

@@ -1,6 +1,6 @@
 // Instructions, and what is written at each place of a code.
 
-use aud_meaning::state::StepKind;
+use aud_meaning::sequential::StepKind;
 use aud_text::int32::Int32;
 use aud_text::place::Pos;
 use aud_text::text::Text;

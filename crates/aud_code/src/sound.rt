@@ -1,7 +1,7 @@
 // Code that was verified.
 
 ghost use Rattle.std.specs.Prelude.{◌≡◌, ◌↔◌, ℕ, ◌+◌, ◌<◌, List, length, IsTrue, IsSome, IfSome, Some, slice_get};
-ghost use Rattle.aud_code.specs.Sound.{Leads, Goes, EndingFine, InstrFine, IsFine, IsSound};
+ghost use Rattle.aud_code.specs.Sequential.Sound.{Leads, Goes, EndingFine, InstrFine, IsFine, IsSound};
 ghost use Rattle.aud_code.specs.declared.code.Line.{Line};
 
 use crate::code::{Ending, Instr, Line, Way};

@@ -1,113 +1,92 @@
--- The laws that tie the steps of code to the steps of the program that it was made of.
-use Rattle.std.specs.Prelude.{◌≡◌, ℕ, ◌+◌, List, ◌∷◌, Some, None}
-use Rattle.aud_text.specs.declared.place.Pos.{Pos}
-use Rattle.aud_text.specs.declared.raise.Raise.{Raise}
-use Rattle.aud_typed.specs.declared.program.Variable.{Variable}
-use Rattle.aud_typed.specs.Tree.{IntegerExpr, TextExpr, Stmt, declare, null, assign, put, Program}
-use Rattle.aud_meaning.specs.declared.state.Status.TheVariants.{Running, Completed}
-use Rattle.aud_meaning.specs.Configuration.{Item, Do, Ends, All, Configuration, Acting}
-use Rattle.aud_meaning.specs.Step.{task_step}
-use Rattle.aud_meaning.specs.Run.{Move, moves, state_of, main_raised, step_with, run_with, supplied, advanced, opening}
-use Rattle.aud_code.specs.declared.code.Line.{Line}
-use Rattle.aud_meaning.specs.Coming.{coming}
-use Rattle.aud_code.specs.Next.{next}
-use Rattle.aud_code.specs.Coming as placed
-use Rattle.aud_gen.specs.Code.{program_code}
-use Rattle.aud_gen.specs.Shows.{Shows, ShowsAll, opening_code}
+-- The laws that tie the code of a program to its meaning.
+use Rattle.std.specs.Prelude.{◌≡◌, ℕ, ◌<◌, List, [], ◌∷◌, length, map}
+use Rattle.aud_text.specs.declared.limits.Limits.{Limits}
+use Rattle.aud_typed.specs.Tree.{Program}
+use Rattle.aud_meaning.specs.Configuration.{Item, All, Configuration}
+use Rattle.aud_meaning.specs.Control.{Moved, Controls, ordered}
+use Rattle.aud_meaning.specs.Items.{controls}
+use Rattle.aud_meaning.specs.Run.{Move, seen, moves_at, state_at, step_with, run_with, run, step, supplied, advanced, opening, opening_with, main_raised}
+use Rattle.aud_meaning.specs.Agree.{Agrees, ShowsAll}
+use Rattle.aud_code.specs.Places.{Spot}
+use Rattle.aud_code.specs.Flat.{flat_controls}
+use Rattle.aud_code.specs.Sound.{IsStart, IsSound}
+use Rattle.aud_gen.specs.Layout.{Code, code_of, code_controls}
+use Rattle.aud_gen.specs.Shows.{UnitsAt, ShowsControl}
+use Rattle.aud_gen.specs.Assembly.{offset, flat_program}
 
--- where P holds of a task, the step of the code is the task's step
-abbrev pub LawWhere : (Acting (List Item) → Type 0) → Type 0
-LawWhere P = (code : List Line) (m : Acting ℕ) (c : Acting (List Item)) → P c → Shows code m c → Shows code (next code m) (task_step c)
+-- the layout, one line a step: where each body stands where it begins, places agree with statements
+abbrev pub LayoutAgreementLaw : Type 0
+LayoutAgreementLaw = (program : Program) (code : Code) → UnitsAt program code → Agrees Spot (List Item) (ShowsControl code) (code_controls program code) (controls program)
 
--- a statement is next
-pub record IsNext (s : Stmt) (c : Acting (List Item)) : Type 0 where
-  pub running : c.own.status ≡ Running
-  pub none_pending : c.own.pending ≡ None
-  pub rest : List Item
-  pub left : c.control ≡ Do s ∷ rest
+-- where steps begin, and the callers' steps
+abbrev pub spot_at : (ℕ → ℕ) → Spot → Spot
+spot_at f c = record { place = f c.place; returns = map f c.returns }
 
--- the end of the body is next
-pub record IsAtEnd (c : Acting (List Item)) : Type 0 where
-  pub running : c.own.status ≡ Running
-  pub none_pending : c.own.pending ≡ None
-  pub at : Pos
-  pub rest : List Item
-  pub left : c.control ≡ Ends at ∷ rest
+-- a place among instructions shows what is left to do: it is the first of a step's, which shows it
+abbrev pub ShowsFlat : Program → Spot → List Item → Type 0
+ShowsFlat program m items = (c : Spot) × (m ≡ spot_at (offset (code_of program).lines) c) × ShowsControl (code_of program) c items
 
--- an exception is pending
-pub record IsPending (raise : Raise) (c : Acting (List Item)) : Type 0 where
-  pub running : c.own.status ≡ Running
-  pub pending : c.own.pending ≡ Some raise
+-- how the program's code is controlled
+abbrev pub flat : Program → Controls Spot
+flat program = flat_controls program.plan (flat_program program)
 
--- the elaboration of a declaration (RM 3.3.1)
-abbrev pub DeclarationLaw : Type 0
-DeclarationLaw = (at : Pos) (e : IntegerExpr) → LawWhere (IsNext (declare at e))
+-- the code asks what the statements ask, stands where they stand, and each of the eight operations keeps it so
+abbrev pub AgreementLaw : Type 0
+AgreementLaw = (program : Program) → Agrees Spot (List Item) (ShowsFlat program) (flat program) (controls program)
 
--- the null statement (RM 5.1)
-abbrev pub NullLaw : Type 0
-NullLaw = (at : Pos) → LawWhere (IsNext (null at))
+-- code under way shows a program under way
+abbrev pub Shows : Program → All Spot → Configuration → Type 0
+Shows program m c = ShowsAll Spot (List Item) (ShowsFlat program) m c
 
--- assignment (RM 5.2)
-abbrev pub AssignmentLaw : Type 0
-AssignmentLaw = (at : Pos) (v : Variable) (e : IntegerExpr) → LawWhere (IsNext (assign at v e))
+-- what is seen of it is the same, and with it each view
+abbrev pub SeenLaw : Type 0
+SeenLaw = (program : Program) (m : All Spot) (c : Configuration) → Shows program m c → seen program.plan (flat program) m ≡ seen program.plan (controls program) c
 
--- output (RM A.10.7)
-abbrev pub PutLaw : Type 0
-PutLaw = (at : Pos) (t : TextExpr) → LawWhere (IsNext (put at t))
+-- all orders keep it so, whatever they are
+abbrev pub OrderLaw : Type 0
+OrderLaw = (program : Program) (m : All Spot) (c : Configuration) (orders : All Moved → All Moved) → Shows program m c → Shows program (ordered (flat program) m orders) (ordered (controls program) c orders)
 
--- completion at the end of the body (RM 9.3(5))
-abbrev pub CompletionLaw : Type 0
-CompletionLaw = LawWhere IsAtEnd
-
--- completion by an exception (RM 11.4)
-abbrev pub PropagationLaw : Type 0
-PropagationLaw = (raise : Raise) → LawWhere (IsPending raise)
-
--- termination (RM 9.3(5 to 7))
-abbrev pub ClosingLaw : Type 0
-ClosingLaw = LawWhere (λ c. c.own.status ≡ Completed)
-
--- each step
-abbrev pub StepLaw : Type 0
-StepLaw = (code : List Line) (m : Acting ℕ) (c : Acting (List Item)) → Shows code m c → Shows code (next code m) (task_step c)
-
--- a move of one of several tasks
-abbrev pub MoveLaw : Type 0
-MoveLaw = (code : List Line) (m : All ℕ) (c : Configuration) (move : Move) → ShowsAll code m c → ShowsAll code (step_with (next code) m move) (step_with task_step c move)
-
--- the code of a program, before its first step, shows the opening configuration
-abbrev pub OpeningLaw : Type 0
-OpeningLaw = (program : Program) → ShowsAll (program_code program) opening_code (opening program)
-
--- a run
-abbrev pub RunLaw : Type 0
-RunLaw = (code : List Line) (n : ℕ) (m : All ℕ) (c : Configuration) → ShowsAll code m c → ShowsAll code (run_with (next code) n m) (run_with task_step n c)
-
--- the enabled moves are the same
+-- what can happen next is the same
 abbrev pub MovesLaw : Type 0
-MovesLaw = (code : List Line) (m : All ℕ) (c : Configuration) → ShowsAll code m c → moves m ≡ moves c
-
--- the same comes next of each task: the kind of its step, and the place in the text
-abbrev pub ComingLaw : Type 0
-ComingLaw = (code : List Line) (m : All ℕ) (c : Configuration) → ShowsAll code m c → placed.coming code m ≡ coming c
+MovesLaw = (program : Program) (m : All Spot) (c : Configuration) → Shows program m c → moves_at program.plan (flat program) m ≡ moves_at program.plan (controls program) c
 
 abbrev pub StateLaw : Type 0
-StateLaw = (code : List Line) (m : All ℕ) (c : Configuration) → ShowsAll code m c → state_of m ≡ state_of c
+StateLaw = (program : Program) (m : All Spot) (c : Configuration) → Shows program m c → state_at program.plan (flat program) m ≡ state_at program.plan (controls program) c
 
-abbrev pub RaisedLaw : Type 0
-RaisedLaw = (code : List Line) (m : All ℕ) (c : Configuration) → ShowsAll code m c → main_raised m.tasks ≡ main_raised c.tasks
+-- each step of each kind
+abbrev pub StepLaw : Type 0
+StepLaw =
+    (limits : Limits) (program : Program) (m : All Spot) (c : Configuration) (move : Move) → Shows program m c → Shows program (step_with program.plan (flat program) limits m move) (step limits program c move)
 
--- steps take no time: only the user lets the clock go on
-abbrev pub ClockLaw : Type 0 → Type 0
-ClockLaw C = (own_step : Acting C → Acting C) (n : ℕ) (c : All C) → (run_with own_step n c).clock ≡ c.clock
+-- whole runs
+abbrev pub RunLaw : Type 0
+RunLaw =
+    (limits : Limits) (program : Program) (n : ℕ) (m : All Spot) (c : Configuration) → Shows program m c → Shows program (run_with program.plan (flat program) limits n m) (run limits program n c)
 
--- what the user supplies between runs is supplied to both
+-- what the user supplies between runs
 abbrev pub SupplyLaw : Type 0
-SupplyLaw = (code : List Line) (choices : List ℕ) (m : All ℕ) (c : Configuration) → ShowsAll code m c → ShowsAll code (supplied choices m) (supplied choices c)
+SupplyLaw = (program : Program) (choices : List ℕ) (m : All Spot) (c : Configuration) → Shows program m c → Shows program (supplied choices m) (supplied choices c)
 
 abbrev pub AdvanceLaw : Type 0
-AdvanceLaw = (code : List Line) (milliseconds : ℕ) (m : All ℕ) (c : Configuration) → ShowsAll code m c → ShowsAll code (advanced milliseconds m) (advanced milliseconds c)
+AdvanceLaw = (program : Program) (milliseconds : ℕ) (m : All Spot) (c : Configuration) → Shows program m c → Shows program (advanced milliseconds m) (advanced milliseconds c)
 
--- a run may be cut anywhere
-abbrev pub CutLaw : Type 0 → Type 0
-CutLaw C = (own_step : Acting C → Acting C) (n k : ℕ) (c : All C) → run_with own_step (n + k) c ≡ run_with own_step k (run_with own_step n c)
+-- before the first step
+abbrev pub OpeningLaw : Type 0
+OpeningLaw = (program : Program) → Shows program (opening_with program.plan program.name ((flat program).begins 0)) (opening program)
+
+-- an exception that leaves the main procedure is the same
+abbrev pub RaisedLaw : Type 0
+RaisedLaw = (program : Program) (m : All Spot) (c : Configuration) → Shows program m c → main_raised m.tasks ≡ main_raised c.tasks
+
+-- something is left to do
+abbrev pub IsLeft : List Item → Type 0
+IsLeft [] = ⊥
+IsLeft (i ∷ rest) = Unit {0}
+
+-- a task that has something left to do stands where a step begins
+abbrev pub StartLaw : Type 0
+StartLaw = (program : Program) (m : Spot) (items : List Item) → ShowsFlat program m items → IsLeft items → IsStart (flat_program program).lines m.place
+
+-- the code of every program is sound
+abbrev pub SoundLaw : Type 0
+SoundLaw = (program : Program) → IsSound (flat_program program)

@@ -1,80 +1,109 @@
--- How code that runs shows a configuration: tasks stand at places of the code where the statements follow that they have left to do.
-use Rattle.std.specs.Prelude.{◌≡◌, ℕ, List, [], ◌∷◌, ◌++◌, length, drop}
-use Rattle.aud_typed.specs.Tree.{Stmt, sequence, declare, null, assign, put}
-use Rattle.aud_meaning.specs.declared.state.Status.{Status}
-use Rattle.aud_meaning.specs.declared.state.Status.TheVariants.{Running, Completed, Terminated}
-use Rattle.aud_meaning.specs.Configuration.{Own, Item, Do, Ends, TaskAt, All, Configuration, Acting}
-use Rattle.aud_meaning.specs.Run.{opening_with}
-use Rattle.aud_code.specs.declared.code.Line.{Line}
-use Rattle.aud_gen.specs.declared.around.Around.{Around}
-use Rattle.aud_gen.specs.Code.{stmt_code, in_body, end_line}
+-- How a place in code, with the places of callers, shows the items that are left to do.
+use Rattle.std.specs.Prelude.{◌≡◌, ◌⊎◌, ℕ, suc, ◌+◌, List, [], ◌∷◌, ◌++◌, length, drop, slice_index_or}
+use Rattle.aud_text.specs.declared.place.Pos.{Pos}
+use Rattle.aud_typed.specs.Tree.{Stmt, sequence, declare, declare_array, declare_tasks, declare_object, activated, activate, null, assign, put, if_then, plain_loop, while_loop, for_loop, exit, return, return_value, raising, raising_again, block, procedure_call, own_entry_call, operation_call, entry_call, delay, accept, select, abort, Handlers, no_handlers, Body, Program}
+use Rattle.aud_meaning.specs.declared.state.Construct.{Construct}
+use Rattle.aud_meaning.specs.declared.state.Construct.TheVariants as construct
+use Rattle.aud_meaning.specs.Configuration.{Item, Do, InLoop, InFor, Begin, Ends, Leaving}
+use Rattle.aud_meaning.specs.Items.{no_body, body_of}
+use Rattle.aud_code.specs.Places.{Way, Spot}
+use Rattle.aud_gen.specs.Layout.{Line, Around, in_loop, in_for, in_call, around_out, ways_count, main_size, stub_line, stubs, stub_ways, end_line, guard_line, stmt_code, handlers_code, main_code, unit_code, Code, no_line, line_at, start_of}
 
 -- these lines stand in the code from a place on
-pub record HasAt (code : List Line) (place : ℕ) (lines : List Line) : Type 0 where
+pub record HasAt (lines : List Line) (place : ℕ) (part : List Line) : Type 0 where
   pub rest : List Line
-  pub is : drop place code ≡ lines ++ rest
+  pub is : drop place lines ≡ part ++ rest
 
--- the code of the items follows at a place, within what surrounds it
-abbrev pub Stands : List Line → Around → ℕ → List Item → Type 0
-Stands code around place [] = ⊥
-Stands code around place (Ends at ∷ rest) = (around ≡ in_body place) × HasAt code place (end_line place at ∷ [])
-Stands code around place (Do s ∷ rest) = (next : ℕ) × HasAt code place (stmt_code s place next around) × Stands code around next rest
+-- each body stands where it begins
+abbrev pub UnitsAt : Program → Code → Type 0
+UnitsAt program code = (n : ℕ) → HasAt code.lines (start_of code n) (unit_code (body_of program n) (start_of code n))
 
 -- the statement is a step
 abbrev pub IsStep : Stmt → Type 0
 IsStep (sequence a b) = ⊥
+IsStep (plain_loop s) = ⊥
 IsStep (declare at e) = Unit {0}
+IsStep (declare_array at t n) = Unit {0}
+IsStep (declare_tasks at ts) = Unit {0}
+IsStep (declare_object at n es) = Unit {0}
+IsStep (activated at) = Unit {0}
+IsStep (activate at) = Unit {0}
 IsStep (null at) = Unit {0}
-IsStep (assign at v e) = Unit {0}
+IsStep (assign at r e) = Unit {0}
 IsStep (put at t) = Unit {0}
+IsStep (if_then at e s p) = Unit {0}
+IsStep (while_loop at e s) = Unit {0}
+IsStep (for_loop f a b s) = Unit {0}
+IsStep (exit at n e) = Unit {0}
+IsStep (return at) = Unit {0}
+IsStep (return_value at e) = Unit {0}
+IsStep (raising at x) = Unit {0}
+IsStep (raising_again at) = Unit {0}
+IsStep (block at n b) = Unit {0}
+IsStep (procedure_call at c) = Unit {0}
+IsStep (own_entry_call at es f) = Unit {0}
+IsStep (operation_call at v c) = Unit {0}
+IsStep (entry_call at c p q) = Unit {0}
+IsStep (delay at e) = Unit {0}
+IsStep (accept at n d) = Unit {0}
+IsStep (select at offered p) = Unit {0}
+IsStep (abort at ns) = Unit {0}
 
 -- what comes next is a step
 abbrev pub IsSettled : List Item → Type 0
 IsSettled [] = Unit {0}
 IsSettled (Do s ∷ rest) = IsStep s
-IsSettled (Ends at ∷ rest) = Unit {0}
+IsSettled (InLoop s ∷ rest) = ⊥
+IsSettled (InFor s ∷ rest) = Unit {0}
+IsSettled (Begin c s h end ∷ rest) = ⊥
+IsSettled (Ends c h end ∷ rest) = Unit {0}
+IsSettled (Leaving m end ∷ rest) = Unit {0}
 
--- a task that stands at a place has these items left, and its next step begins there; while an exception is pending, that is the
--- step that raised it
-pub record IsPlaced (code : List Line) (place : ℕ) (own : Own) (items : List Item) : Type 0 where
+abbrev pub IsFor : Stmt → Type 0
+IsFor (for_loop f a b s) = Unit {0}
+IsFor s = ⊥
+
+-- where the exceptions go of what a construct guards, whose end is at the place: to the line before its handlers, or to its end
+abbrev pub HandlersAt : Code → Around → ℕ → Pos → Handlers → Type 0
+HandlersAt code around place end h =
+    ((h ≡ no_handlers) × (around.out ≡ place))
+    ⊎ HasAt code.lines around.out (guard_line h end (suc around.out) place (ways_count around) ∷ handlers_code h (suc around.out) place (around_out place around))
+
+-- the caller's items stand at the place of the statement that entered the body; a task's outermost body has no caller
+abbrev pub Callers : (Around → ℕ → List ℕ → Type 0) → List ℕ → List Item → Type 0
+Callers stand [] rest = rest ≡ []
+Callers stand (r ∷ rs) rest = (outer : Around) × stand outer r rs × IsSettled rest
+
+-- the end of a construct is at the place, and what is left to do behind it stands where it leads
+abbrev pub EndsAt : Construct → (Around → ℕ → List ℕ → Type 0) → Code → Pos → List Way → Way → ℕ → List ℕ → List Item → Type 0
+EndsAt construct.Block stand code end exits back place returns rest =
+    (next : ℕ) × (outer : Around) × (exits ≡ stub_ways outer.exits (suc place)) × (back ≡ record { to = suc place + length outer.exits; loops = 0 })
+    × HasAt code.lines place (end_line construct.Block end next outer.out ∷ stubs (outer.exits ++ outer.back ∷ []) end (suc place)) × stand outer next returns
+EndsAt construct.Accept stand code end exits back place returns rest =
+    (next : ℕ) × (outer : Around) × (exits ≡ []) × (back ≡ record { to = place; loops = 0 })
+    × HasAt code.lines place (end_line construct.Accept end next outer.out ∷ []) × stand outer next returns
+EndsAt construct.Unit stand code end exits back place returns rest =
+    (exits ≡ []) × (back ≡ record { to = place; loops = 0 }) × HasAt code.lines place (end_line construct.Unit end 0 place ∷ []) × Callers stand returns rest
+
+-- The code of the items follows at a place, within what surrounds it; so does that of the callers' items, at the places of the
+-- statements that entered the bodies.
+abbrev pub Stands : Code → Around → ℕ → List ℕ → List Item → Type 0
+Stands code around place returns [] = (line_at code place ≡ no_line place) × (returns ≡ []) × (around ≡ in_call place)
+Stands code around place returns (Do s ∷ rest) = (next : ℕ) × HasAt code.lines place (stmt_code s place next around) × Stands code around next returns rest
+Stands code around place returns (InLoop s ∷ rest) =
+    (next : ℕ) × (outer : Around) × (around ≡ in_loop next outer) × HasAt code.lines place (stmt_code s place next outer) × Stands code outer next returns rest
+Stands code around place returns (InFor s ∷ rest) =
+    (next : ℕ) × (outer : Around) × (at : ℕ) × (place ≡ suc at) × (around ≡ in_for next outer) × IsFor s × HasAt code.lines at (stmt_code s at next outer) × Stands code outer next returns rest
+Stands code around place returns (Begin c s h end ∷ rest) =
+    (next : ℕ) × (out : ℕ) × (around.out ≡ place + main_size s h (ways_count around)) × HasAt code.lines place (main_code c s h end place next out around)
+    × EndsAt c (λ a p rs. Stands code a p rs rest) code end around.exits around.back around.out returns rest
+Stands code around place returns (Ends c h end ∷ rest) =
+    HandlersAt code around place end h × EndsAt c (λ a p rs. Stands code a p rs rest) code end around.exits around.back place returns rest
+Stands code around place returns (Leaving m end ∷ rest) =
+    (to : ℕ) × (outer : Around) × (around ≡ in_call place) × HasAt code.lines place (stub_line m to end place ∷ []) × Stands code outer to returns rest
+
+-- a place shows what is left to do: the next item is a step and stands there
+pub record ShowsControl (code : Code) (spot : Spot) (items : List Item) : Type 0 where
   pub around : Around
-  pub stands : Stands code around place items
-  pub frames : length own.display ≡ around.frames
+  pub stands : Stands code around spot.place spot.returns items
   pub settled : IsSettled items
-
--- a terminated task does nothing any more, wherever it stands
-abbrev pub PlacedBy : Status → List Line → ℕ → Own → List Item → Type 0
-PlacedBy Running code place own items = IsPlaced code place own items
-PlacedBy Completed code place own items = IsPlaced code place own items
-PlacedBy Terminated code place own items = Unit {0}
-
--- a task, but for what all share
-pub record ShowsTask (code : List Line) (m : TaskAt ℕ) (c : TaskAt (List Item)) : Type 0 where
-  pub own : m.own ≡ c.own
-  pub placed : PlacedBy c.own.status code m.control c.own c.control
-
-abbrev pub task_of : {C : Type 0} → Acting C → TaskAt C
-task_of t = record { control = t.control; own = t.own }
-
--- a task and what all share
-pub record Shows (code : List Line) (m : Acting ℕ) (c : Acting (List Item)) : Type 0 where
-  pub task : ShowsTask code (task_of m) (task_of c)
-  pub shared : m.shared ≡ c.shared
-
--- task by task
-abbrev pub ShowsTasks : List Line → List (TaskAt ℕ) → List (TaskAt (List Item)) → Type 0
-ShowsTasks code [] [] = Unit {0}
-ShowsTasks code [] (c ∷ cs) = ⊥
-ShowsTasks code (m ∷ ms) [] = ⊥
-ShowsTasks code (m ∷ ms) (c ∷ cs) = ShowsTask code m c × ShowsTasks code ms cs
-
-pub record ShowsAll (code : List Line) (m : All ℕ) (c : Configuration) : Type 0 where
-  pub tasks : ShowsTasks code m.tasks c.tasks
-  pub shared : m.shared ≡ c.shared
-  pub choices : m.choices ≡ c.choices
-  pub clock : m.clock ≡ c.clock
-  pub steps : m.steps ≡ c.steps
-
--- code before its first step (RM 10.2)
-abbrev pub opening_code : All ℕ
-opening_code = opening_with 0

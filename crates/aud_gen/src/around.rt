@@ -1,10 +1,10 @@
 // What surrounds statements and steps.
 
 ghost use Rattle.std.specs.Prelude.{◌≡◌};
-ghost use Rattle.aud_gen.specs.Code.{line, step_of, in_body};
+ghost use Rattle.aud_gen.specs.Sequential.Code.{line, step_of, in_body};
 
 use aud_code::code::{Instr, Line, Way};
-use aud_meaning::state::StepKind;
+use aud_meaning::sequential::StepKind;
 use aud_text::place::Pos;
 
 /// What surrounds a statement: where an exception goes, and how many frames are open.

@@ -1,16 +1,16 @@
 // The instructions of each part of a program.
 
 ghost use Rattle.std.specs.Prelude.{◌≡◌, ℕ, [], ◌∷◌, ◌++◌, map, OnOk, IfOk};
-ghost use Rattle.aud_typed.specs.Tree.{in_sequence};
-ghost use Rattle.aud_typed.specs.View.{plain_integer, plain_text, plain_stmt, plain_program};
-ghost use Rattle.aud_typed.specs.Scoped.{IsScoped};
-ghost use Rattle.aud_gen.specs.Code.{integer_code, text_code, stmt_code, program_code};
+ghost use Rattle.aud_typed.specs.Sequential.Tree.{in_sequence};
+ghost use Rattle.aud_typed.specs.Sequential.View.{plain_integer, plain_text, plain_stmt, plain_program};
+ghost use Rattle.aud_typed.specs.Sequential.Scoped.{IsScoped};
+ghost use Rattle.aud_gen.specs.Sequential.Code.{integer_code, text_code, stmt_code, program_code};
 
 use crate::around::{Around, Step};
 use crate::sizes::{stmt_size, stmts_size, sum};
 use aud_code::code::{Ending, Instr, Line};
 use aud_code::sound::{SoundCode, verify};
-use aud_meaning::state::StepKind;
+use aud_meaning::sequential::StepKind;
 use aud_text::place::Pos;
 use aud_typed::program::{IntegerExpr, Program, Stmt, TextExpr};
 use std::alloc::{AllocError, Global};

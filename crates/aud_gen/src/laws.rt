@@ -1,42 +1,69 @@
-// The laws that tie code to the program that it was made of. Each function does nothing: its contract is the law.
+// The laws that tie the code of a program to its meaning, for the whole language. Each function does nothing: its contract is
+// the law.
 
-ghost use Rattle.std.specs.Prelude.{ℕ, List};
-ghost use Rattle.aud_meaning.specs.Configuration.{Item};
-ghost use Rattle.aud_gen.specs.Law.{DeclarationLaw, NullLaw, AssignmentLaw, PutLaw, CompletionLaw, PropagationLaw, ClosingLaw, StepLaw, MoveLaw, OpeningLaw, RunLaw, MovesLaw, ComingLaw, StateLaw, RaisedLaw, SupplyLaw, AdvanceLaw, ClockLaw, CutLaw};
+ghost use Rattle.aud_gen.specs.Asking.{DeclarationLaw, NullLaw, AssignmentLaw, PutLaw, AskedLaw, ComingLaw, BarrierLaw};
+ghost use Rattle.aud_gen.specs.Law.{LayoutAgreementLaw, AgreementLaw, SeenLaw, OrderLaw, MovesLaw, StateLaw, RaisedLaw, StepLaw, RunLaw, OpeningLaw, SupplyLaw, AdvanceLaw, StartLaw, SoundLaw};
 
-/// The code of a declaration evaluates its initial value and makes the variable (RM 3.3.1).
+/// The instructions of a declaration ask for the variable with its initial value (RM 3.3.1).
 pub fn declaration_law()
     ensures { DeclarationLaw }
 {}
 
-/// The code of a null statement has no effect (RM 5.1).
+/// A null statement asks for nothing but to go on (RM 5.1).
 pub fn null_law()
     ensures { NullLaw }
 {}
 
-/// The code of an assignment evaluates its expression and gives the variable the value (RM 5.2).
+/// The instructions of an assignment find its target, then the value, and ask for the one in the other (RM 5.2).
 pub fn assignment_law()
     ensures { AssignmentLaw }
 {}
 
-/// The code of a put statement evaluates its text and puts it out (RM A.10.7).
+/// The instructions of a put statement make its text (RM A.10.7).
 pub fn put_law()
     ensures { PutLaw }
 {}
 
-/// The code at the end of a body completes the task (RM 9.3(5)).
-pub fn completion_law()
-    ensures { CompletionLaw }
+/// The instructions of every statement ask for what the statement asks for.
+pub fn asked_law()
+    ensures { AskedLaw }
 {}
 
-/// A pending exception completes the task whose body it leaves (RM 11.4).
-pub fn propagation_law()
-    ensures { PropagationLaw }
+/// Those before the mark tell what comes next, as the statement does.
+pub fn coming_law()
+    ensures { ComingLaw }
 {}
 
-/// A completed task becomes terminated (RM 9.3(5 to 7)).
-pub fn closing_law()
-    ensures { ClosingLaw }
+/// The instructions of a barrier give its value (RM 9.5.2(7)).
+pub fn barrier_law()
+    ensures { BarrierLaw }
+{}
+
+/// Places of code, one a step, agree with statements, wherever a task stands and whatever is ordered.
+pub fn layout_agreement_law()
+    ensures { LayoutAgreementLaw }
+{}
+
+/// Code as instructions agrees with statements.
+pub fn agreement_law()
+    ensures { AgreementLaw }
+{}
+
+/// What is seen of the tasks is the same, and with it each view.
+pub fn seen_law()
+    ensures { SeenLaw }
+{}
+
+/// Whatever is ordered, code and statements stay together.
+pub fn order_law()
+    ensures { OrderLaw }
+{}
+
+/// What can happen next is the same: the enabled moves, the state, and the exception that left the main procedure.
+pub fn moves_law()
+    ensures moves { MovesLaw }
+    ensures state { StateLaw }
+    ensures raised { RaisedLaw }
 {}
 
 /// A step of the code is the step of the program, of whatever kind.
@@ -44,31 +71,14 @@ pub fn step_law()
     ensures { StepLaw }
 {}
 
-/// A move of the code is the move of the program.
-pub fn move_law()
-    ensures { MoveLaw }
-{}
-
-/// The code of a program begins as the program does (RM 10.2).
-pub fn opening_law()
-    ensures { OpeningLaw }
-{}
-
 /// A run of the code is the run of the program.
 pub fn run_law()
     ensures { RunLaw }
 {}
 
-/// The code has the moves of the program.
-pub fn moves_law()
-    ensures moves { MovesLaw }
-    ensures state { StateLaw }
-    ensures raised { RaisedLaw }
-{}
-
-/// What comes next of each task stands in the code as in the program: the kind of its step, and its place in the text.
-pub fn coming_law()
-    ensures { ComingLaw }
+/// The code of a program begins as the program does (RM 10.2).
+pub fn opening_law()
+    ensures { OpeningLaw }
 {}
 
 /// Choices, and time on the clock, are supplied to the code as to the program (RM 9.6).
@@ -77,14 +87,12 @@ pub fn supply_law()
     ensures time { AdvanceLaw }
 {}
 
-/// Steps take no time.
-pub fn clock_law()
-    ensures code { ClockLaw ℕ }
-    ensures program { ClockLaw (List Item) }
+/// A task that has something left to do stands where a step begins.
+pub fn start_law()
+    ensures { StartLaw }
 {}
 
-/// A run may be cut anywhere.
-pub fn cut_law()
-    ensures code { CutLaw ℕ }
-    ensures program { CutLaw (List Item) }
+/// The code of every program is sound.
+pub fn sound_law()
+    ensures { SoundLaw }
 {}

@@ -4,6 +4,7 @@
 mod around;
 mod emit;
 pub mod laws;
+pub mod sequential_laws;
 mod sizes;
 
 pub use emit::generate;

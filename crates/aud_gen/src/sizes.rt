@@ -1,9 +1,9 @@
 // How many instructions each part of a program becomes.
 
 ghost use Rattle.std.specs.Prelude.{◌≡◌, ◌+◌, map, IfOk};
-ghost use Rattle.aud_typed.specs.Tree.{in_sequence};
-ghost use Rattle.aud_typed.specs.View.{plain_integer, plain_text, plain_stmt};
-ghost use Rattle.aud_gen.specs.Code.{integer_size, text_size, stmt_size};
+ghost use Rattle.aud_typed.specs.Sequential.Tree.{in_sequence};
+ghost use Rattle.aud_typed.specs.Sequential.View.{plain_integer, plain_text, plain_stmt};
+ghost use Rattle.aud_gen.specs.Sequential.Code.{integer_size, text_size, stmt_size};
 
 use aud_typed::program::{IntegerExpr, Stmt, TextExpr};
 use std::alloc::AllocError;

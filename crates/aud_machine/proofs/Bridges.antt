@@ -2,13 +2,13 @@
 use Rattle.std.proofs.Common.{◌≡◌, ℕ, ◌+◌, List, map, sym, [], ◌∷◌, ap, ◌∙◌, Some, None, subst, refl, arith}
 use Rattle.std.specs.Prelude.{if◌then◌else◌, slice_get}
 use Rattle.aud_text.specs.declared.limits.Limits.{Limits}
-use Rattle.aud_meaning.specs.declared.state.State.TheVariants as state
-use Rattle.aud_meaning.specs.Configuration.{Item, TaskAt, All, Configuration}
-use Rattle.aud_meaning.specs.Run.{has_ended, is_terminated, moves, some_move, state_of, own_move, step_with, step, run}
+use Rattle.aud_meaning.specs.declared.sequential.State.TheVariants as state
+use Rattle.aud_meaning.specs.Sequential.Configuration.{Item, TaskAt, All, Configuration}
+use Rattle.aud_meaning.specs.Sequential.Run.{has_ended, is_terminated, moves, some_move, state_of, own_move, step_with, step, run}
 use Rattle.aud_code.specs.declared.code.Line.{Line}
-use Rattle.aud_code.specs.Next.{next}
-use Rattle.aud_gen.specs.Shows.{ShowsTasks, ShowsAll}
-use Rattle.aud_gen.proofs.Runs.{run_law, moves_law, move_law}
+use Rattle.aud_code.specs.Sequential.Next.{next}
+use Rattle.aud_gen.specs.Sequential.Shows.{ShowsTasks, ShowsAll}
+use Rattle.aud_gen.proofs.Sequential.Runs.{run_law, moves_law, move_law}
 use Rattle.aud_machine.specs.declared.run.Ran.{Ran}
 use Rattle.aud_machine.specs.Running.{RunsTo}
 use Rattle.aud_machine.specs.Moving.{move_of}

@@ -3,10 +3,10 @@ use Rattle.std.proofs.Common.{◌≡◌, ℕ, suc, ◌+◌, ◌<◌, List, ◌�
 use Rattle.std.specs.Prelude.{ℤ, slice_get}
 use Rattle.std.proofs.lemmas.List.{drop_more}
 use Rattle.std.proofs.lemmas.Option.{slice_get_within, get_or_from_slice_get}
-use Rattle.aud_meaning.specs.Configuration.{Frame}
+use Rattle.aud_meaning.specs.Sequential.Configuration.{Frame}
 use Rattle.aud_code.specs.declared.code.Line.{Line}
-use Rattle.aud_code.specs.Eval.{Ended, Reached, Raised, Then, act, eval, ticks_of}
-use Rattle.aud_code.specs.Sound.{Leads, InstrFine, IsFine}
+use Rattle.aud_code.specs.Sequential.Eval.{Ended, Reached, Raised, Then, act, eval, ticks_of}
+use Rattle.aud_code.specs.Sequential.Sound.{Leads, InstrFine, IsFine}
 use Rattle.aud_machine.specs.declared.evaluate.Flow.{Flow}
 use Rattle.aud_machine.specs.declared.evaluate.Flow.TheVariants.{On, Ends, Raises}
 use Rattle.aud_machine.specs.Held.{Held}

@@ -2,10 +2,10 @@
 use Rattle.std.proofs.Common.{◌≡◌, ℕ, suc, ◌+◌, List, [], ◌∷◌, length, Bool, cond, refl, sym, ◌∙◌, arith}
 use Rattle.std.specs.Prelude.{count_by, not}
 use Rattle.std.proofs.lemmas.List.Sums.{sum_by-cons}
-use Rattle.aud_meaning.specs.declared.state.Status.{Status}
-use Rattle.aud_meaning.specs.declared.state.Status.TheVariants.{Running, Completed, Terminated}
-use Rattle.aud_meaning.specs.Configuration.{TaskAt}
-use Rattle.aud_meaning.specs.Run.{moves_by, moves_from, is_terminated}
+use Rattle.aud_meaning.specs.declared.sequential.Status.{Status}
+use Rattle.aud_meaning.specs.declared.sequential.Status.TheVariants.{Running, Completed, Terminated}
+use Rattle.aud_meaning.specs.Sequential.Configuration.{TaskAt}
+use Rattle.aud_meaning.specs.Sequential.Run.{moves_by, moves_from, is_terminated}
 
 abbrev pub can_move : TaskAt ℕ → Bool
 can_move t = not (is_terminated t.own.status)

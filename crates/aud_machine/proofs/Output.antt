@@ -3,8 +3,8 @@ use Rattle.std.proofs.Common.{◌≡◌, ℕ, ◌+◌, ◌-◌, ◌<◌, ◌≤�
 use Rattle.std.proofs.Math.Seq.{take-append-add}
 use Rattle.std.specs.Prelude.{nat_le}
 use Rattle.aud_text.specs.declared.limits.TheConstants.{OUTPUT}
-use Rattle.aud_meaning.specs.Configuration.{Shared}
-use Rattle.aud_meaning.specs.Effects.{put_out}
+use Rattle.aud_meaning.specs.Sequential.Configuration.{Shared}
+use Rattle.aud_meaning.specs.Sequential.Effects.{put_out}
 
 cut_at : (limit : ℕ) (out text : List ℕ) → length out ≤ limit → take limit (out ++ text) ≡ out ++ take (limit - length out) text
 cut_at limit out text le =

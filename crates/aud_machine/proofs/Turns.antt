@@ -1,10 +1,10 @@
 -- The steps of a run, one after the other, and their ticks.
 use Rattle.std.proofs.Common.{◌≡◌, ℕ, zero, suc, ◌+◌, ◌-◌, ◌<◌, List, [], ◌∷◌, Some, None, refl, sym, ap, ◌∙◌, arith}
 use Rattle.std.specs.Prelude.{slice_get}
-use Rattle.aud_meaning.specs.Configuration.{All, Acting}
-use Rattle.aud_meaning.specs.Run.{Move, own_move, moves, pick, step_of, step_with, run_by, run_with}
+use Rattle.aud_meaning.specs.Sequential.Configuration.{All, Acting}
+use Rattle.aud_meaning.specs.Sequential.Run.{Move, own_move, moves, pick, step_of, step_with, run_by, run_with}
 use Rattle.aud_code.specs.declared.code.Line.{Line}
-use Rattle.aud_code.specs.Next.{next}
+use Rattle.aud_code.specs.Sequential.Next.{next}
 use Rattle.aud_machine.specs.Moving.{Picks}
 use Rattle.aud_machine.specs.Ticks.{step_ticks, moved_ticks, run_ticks}
 

@@ -1,11 +1,11 @@
 -- What the code's soundness gives to a task's step.
 use Rattle.std.specs.Prelude.{◌≡◌, ℕ, ◌<◌, ◌≤◌, List, length, All}
-use Rattle.aud_meaning.specs.declared.state.Status.TheVariants.{Running}
-use Rattle.aud_meaning.specs.Configuration.{TaskAt}
+use Rattle.aud_meaning.specs.declared.sequential.Status.TheVariants.{Running}
+use Rattle.aud_meaning.specs.Sequential.Configuration.{TaskAt}
 use Rattle.aud_code.specs.declared.code.Ending.{Ending}
 use Rattle.aud_code.specs.declared.code.Ending.TheVariants.{Declare, Null, Assign, Put, Complete}
 use Rattle.aud_code.specs.declared.code.Line.{Line}
-use Rattle.aud_code.specs.Sound.{Leads}
+use Rattle.aud_code.specs.Sequential.Sound.{Leads}
 
 -- the task stands where a step begins, with the open frames that are written there, and each is among the first so many
 pub record Fits (code : List Line) (frames : ℕ) (t : TaskAt ℕ) : Type 0 where

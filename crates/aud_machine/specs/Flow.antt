@@ -4,8 +4,8 @@ use Rattle.aud_text.specs.declared.raise.Raise.{Raise}
 use Rattle.aud_code.specs.declared.code.Instr.{Instr}
 use Rattle.aud_code.specs.declared.code.Instr.TheVariants.{Push, Load, Unary, Binary, AppendText, AppendImage, AppendNewLine, End}
 use Rattle.aud_code.specs.declared.code.Line.{Line}
-use Rattle.aud_code.specs.Eval.{Ended, Reached, Raised, Then}
-use Rattle.aud_code.specs.Sound.{Leads, EndingFine}
+use Rattle.aud_code.specs.Sequential.Eval.{Ended, Reached, Raised, Then}
+use Rattle.aud_code.specs.Sequential.Sound.{Leads, EndingFine}
 use Rattle.aud_machine.specs.declared.evaluate.Flow.{Flow}
 use Rattle.aud_machine.specs.declared.evaluate.Flow.TheVariants.{On, Ends, Raises}
 use Rattle.aud_machine.specs.declared.evaluate.Outcome.{Outcome}

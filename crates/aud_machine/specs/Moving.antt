@@ -1,7 +1,7 @@
 -- How a machine takes moves, and what it did.
 use Rattle.std.specs.Prelude.{◌≡◌, ℕ, List, [], ◌∷◌, length, Option, Some, None, All}
-use Rattle.aud_meaning.specs.Configuration.{All as Everything}
-use Rattle.aud_meaning.specs.Run.{Move, own_move, pick}
+use Rattle.aud_meaning.specs.Sequential.Configuration.{All as Everything}
+use Rattle.aud_meaning.specs.Sequential.Run.{Move, own_move, pick}
 use Rattle.aud_code.specs.declared.code.Line.{Line}
 use Rattle.aud_machine.specs.Fits.{Fits}
 

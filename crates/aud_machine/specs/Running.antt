@@ -1,9 +1,9 @@
 -- What a run of a program under way does.
 use Rattle.std.specs.Prelude.{◌≡◌, ℕ, ◌+◌, ◌-◌, ◌*◌, ◌^◌, ◌≤◌, min, List, length}
-use Rattle.aud_meaning.specs.Configuration.{All}
-use Rattle.aud_meaning.specs.Run.{run_with, state_of}
+use Rattle.aud_meaning.specs.Sequential.Configuration.{All}
+use Rattle.aud_meaning.specs.Sequential.Run.{run_with, state_of}
 use Rattle.aud_code.specs.declared.code.Line.{Line}
-use Rattle.aud_code.specs.Next.{next}
+use Rattle.aud_code.specs.Sequential.Next.{next}
 use Rattle.aud_machine.specs.declared.run.Ran.{Ran}
 use Rattle.aud_machine.specs.Ticks.{run_ticks}
 

@@ -1,9 +1,9 @@
 -- What a machine shows, and what its calls do to it.
 use Rattle.std.specs.Prelude.{◌≡◌, ℕ, ◌+◌, Option, Some, None, false}
 use Rattle.aud_text.specs.declared.limits.Limits.{Limits}
-use Rattle.aud_meaning.specs.Configuration.{Configuration}
-use Rattle.aud_meaning.specs.Run.{Move, state_of, step, run}
-use Rattle.aud_gen.specs.Shows.{ShowsAll}
+use Rattle.aud_meaning.specs.Sequential.Configuration.{Configuration}
+use Rattle.aud_meaning.specs.Sequential.Run.{Move, state_of, step, run}
+use Rattle.aud_gen.specs.Sequential.Shows.{ShowsAll}
 use Rattle.aud_machine.specs.declared.run.Ran.{Ran}
 use Rattle.aud_machine.specs.Shown.{Shown}
 

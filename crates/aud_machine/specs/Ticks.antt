@@ -1,13 +1,13 @@
 -- How many instructions steps take. Each is a tick.
 use Rattle.std.specs.Prelude.{ℕ, zero, suc, ◌+◌, List, [], ◌∷◌, drop, Option, Some, None, slice_get}
 use Rattle.aud_text.specs.declared.raise.Raise.{Raise}
-use Rattle.aud_meaning.specs.declared.state.Status.{Status}
-use Rattle.aud_meaning.specs.declared.state.Status.TheVariants.{Running, Completed, Terminated}
-use Rattle.aud_meaning.specs.Configuration.{Shared, TaskAt, All, Acting}
-use Rattle.aud_meaning.specs.Run.{Move, acting, moves, Picked, pick, take_picked}
+use Rattle.aud_meaning.specs.declared.sequential.Status.{Status}
+use Rattle.aud_meaning.specs.declared.sequential.Status.TheVariants.{Running, Completed, Terminated}
+use Rattle.aud_meaning.specs.Sequential.Configuration.{Shared, TaskAt, All, Acting}
+use Rattle.aud_meaning.specs.Sequential.Run.{Move, acting, moves, Picked, pick, take_picked}
 use Rattle.aud_code.specs.declared.code.Line.{Line}
-use Rattle.aud_code.specs.Eval.{ticks_of}
-use Rattle.aud_code.specs.Next.{next}
+use Rattle.aud_code.specs.Sequential.Eval.{ticks_of}
+use Rattle.aud_code.specs.Sequential.Next.{next}
 
 -- a step evaluates, unless an exception is pending or the body has ended
 abbrev pub ticks_pending : List Line → Option Raise → Acting ℕ → ℕ

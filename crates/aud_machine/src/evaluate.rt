@@ -2,9 +2,9 @@
 
 ghost use Rattle.std.specs.Prelude.{◌≡◌, ℕ, ◌+◌, ◌-◌, ◌^◌, ◌<◌, ◌≤◌, List, [], length, drop, IfOk, All};
 ghost use Rattle.aud_code.specs.declared.code.Line.{Line};
-ghost use Rattle.aud_code.specs.Eval.{Ended, Then, act, eval, ticks_of};
-ghost use Rattle.aud_code.specs.Sound.{Leads, InstrFine};
-ghost use Rattle.aud_meaning.specs.Evaluation.{unary_of, binary_of};
+ghost use Rattle.aud_code.specs.Sequential.Eval.{Ended, Then, act, eval, ticks_of};
+ghost use Rattle.aud_code.specs.Sequential.Sound.{Leads, InstrFine};
+ghost use Rattle.aud_meaning.specs.Sequential.Evaluation.{unary_of, binary_of};
 ghost use Rattle.aud_machine.specs.Flow.{Needs, followed, FlowFits, LeftBy, ended, OutcomeFits};
 
 use crate::frames::Frames;

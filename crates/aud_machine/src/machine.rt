@@ -1,11 +1,11 @@
 // A machine and its runs.
 
 ghost use Rattle.std.specs.Prelude.{◌≡◌, ◌+◌, ◌*◌, ◌<◌, ◌≤◌, length, map, min, true, false, None, slice_get, slice_index_or, IfOk, IfSome, OnOk, OnErr, IsErr};
-ghost use Rattle.aud_typed.specs.View.{plain_program};
-ghost use Rattle.aud_typed.specs.Scoped.{IsScoped};
-ghost use Rattle.aud_meaning.specs.Configuration.{Configuration};
-ghost use Rattle.aud_meaning.specs.Coming.{coming};
-ghost use Rattle.aud_meaning.specs.Run.{Move, moves, state_of, main_raised, supplied, advanced, opening};
+ghost use Rattle.aud_typed.specs.Sequential.View.{plain_program};
+ghost use Rattle.aud_typed.specs.Sequential.Scoped.{IsScoped};
+ghost use Rattle.aud_meaning.specs.Sequential.Configuration.{Configuration};
+ghost use Rattle.aud_meaning.specs.Sequential.Coming.{coming};
+ghost use Rattle.aud_meaning.specs.Sequential.Run.{Move, moves, state_of, main_raised, supplied, advanced, opening};
 ghost use Rattle.aud_machine.specs.Shows.{Shows, RunsFrom, Takes};
 ghost use Rattle.aud_machine.specs.Ticks.{step_ticks, run_ticks};
 
@@ -16,7 +16,7 @@ pub use crate::run::Ran;
 use crate::run::run;
 use aud_code::sound::SoundCode;
 use aud_gen::generate;
-use aud_meaning::state::{NextStep, State};
+use aud_meaning::sequential::{NextStep, State};
 use aud_text::limits::{CHOICES, CLOCK, Limits, OUTPUT, STEPS};
 use aud_text::raise::Raise;
 use aud_typed::program::Program;
@@ -35,8 +35,8 @@ pub struct Machine {
 
 impl Model for Machine {
     ghost use Rattle.std.specs.Prelude.{◌≡◌, false};
-    ghost use Rattle.aud_typed.specs.View.{plain_program};
-    ghost use Rattle.aud_gen.specs.Code.{program_code};
+    ghost use Rattle.aud_typed.specs.Sequential.View.{plain_program};
+    ghost use Rattle.aud_gen.specs.Sequential.Code.{program_code};
     ghost use Rattle.aud_machine.specs.Moving.{AllFit};
     ghost use Rattle.aud_machine.specs.Shown.{Shown};
     ghost use Rattle.std.specs.Coded.{codes};

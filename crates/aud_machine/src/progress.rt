@@ -1,10 +1,10 @@
 // How far a program is.
 
 ghost use Rattle.std.specs.Prelude.{◌≡◌, ◌<◌, ◌≤◌, ◌+◌, length, OnOk, IfOk, IfSome, None, slice_get, slice_index_or};
-ghost use Rattle.aud_meaning.specs.Run.{has_ended, moves, moves_from, state_of, main_raised, step_with, own_move, supplied, advanced};
-ghost use Rattle.aud_code.specs.Coming.{coming};
-ghost use Rattle.aud_code.specs.Next.{next};
-ghost use Rattle.aud_gen.specs.Shows.{opening_code};
+ghost use Rattle.aud_meaning.specs.Sequential.Run.{has_ended, moves, moves_from, state_of, main_raised, step_with, own_move, supplied, advanced};
+ghost use Rattle.aud_code.specs.Sequential.Coming.{coming};
+ghost use Rattle.aud_code.specs.Sequential.Next.{next};
+ghost use Rattle.aud_gen.specs.Sequential.Shows.{opening_code};
 ghost use Rattle.aud_machine.specs.Moving.{move_of, Picks, AllFit};
 ghost use Rattle.aud_machine.specs.Ticks.{step_ticks};
 
@@ -13,7 +13,7 @@ use crate::operands::Operands;
 use crate::shared::Shared;
 use crate::task::Task;
 use aud_code::sound::SoundCode;
-use aud_meaning::state::{NextStep, State};
+use aud_meaning::sequential::{NextStep, State};
 use aud_text::limits::{CHOICES, CLOCK, OUTPUT, STEPS};
 use aud_text::raise::Raise;
 use std::alloc::{AllocError, Global};
@@ -33,7 +33,7 @@ pub struct Progress {
 impl Model for Progress {
     ghost use Rattle.std.specs.Prelude.{ℕ, ◌≤◌, length};
     ghost use Rattle.aud_text.specs.declared.limits.TheConstants.{CHOICES, CLOCK, STEPS};
-    ghost use Rattle.aud_meaning.specs.Configuration.{All as Everything};
+    ghost use Rattle.aud_meaning.specs.Sequential.Configuration.{All as Everything};
 
     ghost Value = { Everything ℕ };
 

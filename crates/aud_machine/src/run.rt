@@ -7,7 +7,7 @@ ghost use Rattle.aud_machine.specs.Running.{RunsTo};
 use crate::operands::Operands;
 use crate::progress::Progress;
 use aud_code::sound::SoundCode;
-use aud_meaning::state::State;
+use aud_meaning::sequential::State;
 use aud_text::limits::STEPS;
 use std::alloc::AllocError;
 

@@ -1,7 +1,7 @@
 // What all tasks of a program share.
 
 ghost use Rattle.std.specs.Prelude.{◌≡◌, ◌<◌, ◌≤◌, [], ◌∷◌, ◌++◌, length, false, OnOk, IfOk, slice_index_or, slice_set};
-ghost use Rattle.aud_meaning.specs.Effects.{put_out};
+ghost use Rattle.aud_meaning.specs.Sequential.Effects.{put_out};
 
 use crate::frames::Frames;
 use aud_text::int32::Int32;
@@ -20,7 +20,7 @@ pub struct Shared {
 impl Model for Shared {
     ghost use Rattle.std.specs.Prelude.{◌≤◌, length};
     ghost use Rattle.aud_text.specs.declared.limits.TheConstants.{OUTPUT};
-    ghost use Rattle.aud_meaning.specs.Configuration.{Shared as SharedParts};
+    ghost use Rattle.aud_meaning.specs.Sequential.Configuration.{Shared as SharedParts};
 
     ghost Value = { SharedParts };
 

@@ -1,11 +1,11 @@
 // A task, and its steps.
 
 ghost use Rattle.std.specs.Prelude.{◌≡◌, ◌<◌, ◌≤◌, ◌+◌, ◌∷◌, [], length, All, OnOk, IfOk};
-ghost use Rattle.aud_meaning.specs.Effects.{raises};
-ghost use Rattle.aud_meaning.specs.Run.{acting, is_terminated};
-ghost use Rattle.aud_meaning.specs.Coming.{coming_of};
-ghost use Rattle.aud_code.specs.Coming.{step_at};
-ghost use Rattle.aud_code.specs.Next.{next, effect};
+ghost use Rattle.aud_meaning.specs.Sequential.Effects.{raises};
+ghost use Rattle.aud_meaning.specs.Sequential.Run.{acting, is_terminated};
+ghost use Rattle.aud_meaning.specs.Sequential.Coming.{coming_of};
+ghost use Rattle.aud_code.specs.Sequential.Coming.{step_at};
+ghost use Rattle.aud_code.specs.Sequential.Next.{next, effect};
 ghost use Rattle.aud_machine.specs.Fits.{Fits, Ready};
 ghost use Rattle.aud_machine.specs.Ticks.{task_ticks};
 
@@ -14,7 +14,7 @@ use crate::operands::Operands;
 use crate::shared::Shared;
 use aud_code::code::Ending;
 use aud_code::sound::SoundCode;
-use aud_meaning::state::{NextStep, Status, StepKind};
+use aud_meaning::sequential::{NextStep, Status, StepKind};
 use aud_text::raise::Raise;
 use std::alloc::{AllocError, Global};
 use std::marker::Model;
@@ -31,7 +31,7 @@ pub struct Task {
 
 impl Model for Task {
     ghost use Rattle.std.specs.Prelude.{ℕ};
-    ghost use Rattle.aud_meaning.specs.Configuration.{TaskAt};
+    ghost use Rattle.aud_meaning.specs.Sequential.Configuration.{TaskAt};
 
     ghost Value = { TaskAt ℕ };
 

@@ -1,1 +1,4 @@
 pub mod Sessions
+pub mod Asking
+pub mod Programs
+pub mod Worked

@@ -1,6 +1,7 @@
 // Sessions whose answers follow from the definitions by computing.
 
 ghost use Rattle.aud_rows.specs.Sessions.{NullProgram, NoProgram, Sum, ZeroDivision};
+ghost use Rattle.aud_rows.specs.Worked.{RowsHold};
 
 /// A program of one null statement ends in three steps.
 pub fn null_program()
@@ -20,4 +21,10 @@ pub fn sum()
 /// A division by zero ends the program.
 pub fn zero_division()
     ensures { ZeroDivision }
+{}
+
+/// Programs of the whole language, with tasks, entries, protected objects and abort among them, answer what was worked out by
+/// hand, by their statements and by their code.
+pub fn programs()
+    ensures { RowsHold }
 {}

@@ -5,8 +5,8 @@ use Rattle.aud_text.specs.declared.raise.Raise.{Raise}
 use Rattle.aud_text.specs.declared.code.Code.{Code}
 use Rattle.aud_text.specs.Code.{number, words}
 use Rattle.aud_text.specs.Raise.{raise_name}
-use Rattle.aud_meaning.specs.declared.state.State.{State}
-use Rattle.aud_meaning.specs.declared.state.State.TheVariants as state
+use Rattle.aud_meaning.specs.declared.sequential.State.{State}
+use Rattle.aud_meaning.specs.declared.sequential.State.TheVariants as state
 use Rattle.aud_bench.specs.declared.request.Report.{Report}
 use Rattle.aud_bench.specs.declared.request.Answer.{Answer}
 use Rattle.aud_bench.specs.declared.request.Answer.TheVariants as answer

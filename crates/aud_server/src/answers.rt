@@ -6,7 +6,7 @@ ghost use Rattle.aud_text.specs.Code.{words};
 ghost use Rattle.aud_server.specs.Text.{line_end, head, state_words, ran_line, report_text, is_open, output_lines, output_text, refusal, answer_text};
 
 use aud_bench::request::{Answer, Report};
-use aud_meaning::state::State;
+use aud_meaning::sequential::State;
 use aud_text::code::Code;
 use aud_text::digits::push_decimal;
 use aud_text::place::Pos;

@@ -9,8 +9,8 @@ use Rattle.aud_typed.specs.declared.program.IntegerExpr.TheBlock.{hidden-the_row
 use Rattle.aud_typed.specs.declared.program.TextExpr.{TextExpr, Row_of-TextExpr, end_of-TextExpr, more_of-TextExpr, items-the_row-TextExpr, items_hidden-the_row-TextExpr-0}
 use Rattle.aud_typed.specs.declared.program.TextExpr.TheVariants.{Join}
 use Rattle.aud_typed.specs.declared.program.TextExpr.TheBlock.{hidden-the_row-TextExpr-0}
-use Rattle.aud_typed.specs.View.{plain_integer, plain_operations, plain_text, plain_texts}
-use Rattle.aud_typed.specs.Tree as tree
+use Rattle.aud_typed.specs.Sequential.View.{plain_integer, plain_operations, plain_text, plain_texts}
+use Rattle.aud_typed.specs.Sequential.Tree as tree
 
 -- an operation in memory as plain data
 abbrev pub plain_operation : Operation → tree.Operation

@@ -4,6 +4,7 @@
 use aud_text::int32::Int32;
 use aud_text::name::Name;
 use aud_text::place::Pos;
+use aud_text::raise::Raise;
 use aud_text::text::Text;
 
 /// A variable: the level of its frame, the body's being 0, and its number there, by declaration.
@@ -11,6 +12,23 @@ use aud_text::text::Text;
 pub struct Variable {
     pub level: usize,
     pub index: usize,
+}
+
+/// A one-dimensional array: the cell of its first element, its lower bound and its length (RM 3.6).
+#[derive(Clone, Copy, PartialEq, Eq, Debug)]
+pub struct ArrayAt {
+    pub first: Variable,
+    pub low: i32,
+    pub length: usize,
+}
+
+/// A scalar subtype (RM 3.5).
+#[derive(Clone, Copy, PartialEq, Eq, Debug)]
+pub enum Subtype {
+    Integer,
+    Natural,
+    Positive,
+    Boolean,
 }
 
 /// An operator on one Integer.
@@ -29,6 +47,32 @@ pub enum Binary {
     Quotient,
     Modulus,
     Remainder,
+}
+
+/// A relation (RM 4.5.2).
+#[derive(Clone, Copy, PartialEq, Eq, Debug)]
+pub enum Relation {
+    Equal,
+    Unequal,
+    Less,
+    AtMost,
+    Greater,
+    AtLeast,
+}
+
+/// A logical operator that evaluates both sides (RM 4.5.1).
+#[derive(Clone, Copy, PartialEq, Eq, Debug)]
+pub enum Logical {
+    And,
+    Or,
+    Xor,
+}
+
+/// An exception: a predefined one, or a declared one by its number (RM 11.1).
+#[derive(Clone, Copy, PartialEq, Eq, Debug)]
+pub enum Exception {
+    Predefined(Raise),
+    Declared(usize),
 }
 
 /// An expression of type Integer.

@@ -6,7 +6,7 @@ use Rattle.aud_check.specs.declared.fault.Fault.{Fault}
 use Rattle.aud_check.specs.Least.{noted}
 use Rattle.aud_check.specs.Checked.{faults, typed}
 use Rattle.aud_check.proofs.Judged.{none_noted, judged_fine, judged_wrong}
-use Rattle.aud_typed.specs.Scoped.{IsScoped}
+use Rattle.aud_typed.specs.Sequential.Scoped.{IsScoped}
 use Rattle.aud_check.proofs.Scoping.{typed_scoped}
 use Rattle.aud_check.proofs.check.Goals as goal
 

@@ -2,7 +2,7 @@
 
 use crate::tests::finds;
 use aud_bench::request::{Answer, Report};
-use aud_meaning::state::State;
+use aud_meaning::sequential::State;
 use aud_server::answers::answer_text;
 use aud_text::code::Code;
 use aud_text::name::Name;

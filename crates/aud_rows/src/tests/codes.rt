@@ -1,7 +1,7 @@
 // The code of a program.
 
-ghost use Rattle.aud_typed.specs.View.{plain_program};
-ghost use Rattle.aud_typed.specs.Scoped.{IsScoped};
+ghost use Rattle.aud_typed.specs.Sequential.View.{plain_program};
+ghost use Rattle.aud_typed.specs.Sequential.Scoped.{IsScoped};
 
 use crate::tests::finds;
 use aud_bench::loading::load;

@@ -4,7 +4,7 @@ use crate::tests::finds;
 use aud_bench::loading::load;
 use aud_machine::machine::{Machine, Ran};
 use aud_machine::task::Task;
-use aud_meaning::state::{NextStep, State, Status, StepKind};
+use aud_meaning::sequential::{NextStep, State, Status, StepKind};
 use aud_text::int32::Int32;
 use aud_text::limits::{CHOICES, CLOCK, Limits, STANDARD, STEPS};
 use aud_text::place::Pos;

@@ -1,6 +1,6 @@
 use Rattle.std.proofs.Common.{inl, inr, ap, ◌∙◌, arith}
-use Rattle.aud_meaning.specs.Configuration.{Configuration}
-use Rattle.aud_meaning.specs.Run.{run}
+use Rattle.aud_meaning.specs.Sequential.Configuration.{Configuration}
+use Rattle.aud_meaning.specs.Sequential.Run.{run}
 use Rattle.aud_bench.specs.Alone.{ended_by}
 use Rattle.aud_bench.proofs.Serving.{goes_on, is_done}
 use Rattle.aud_bench.proofs.service.run.Goals as goal

@@ -1,5 +1,5 @@
 use Rattle.std.proofs.Common.{◌≡◌, ◌++◌, drop}
-use Rattle.aud_typed.specs.View.{plain_integer}
+use Rattle.aud_typed.specs.Sequential.View.{plain_integer}
 use Rattle.aud_check.specs.Declarations.{elaboration}
 use Rattle.aud_check.specs.Part.{plain_steps}
 use Rattle.aud_check.proofs.decl.elaborate.Given as goal

@@ -2,7 +2,7 @@ use Rattle.std.proofs.Common.{◌≡◌, ℕ, Some, List, sym, ◌∙◌, subst,
 use Rattle.std.proofs.lemmas.Bool.{false≢true}
 use Rattle.std.proofs.lemmas.Option.{slice_get_within}
 use Rattle.std.specs.Prelude.{slice_get}
-use Rattle.aud_code.specs.Sound.{IsFine, IsSound}
+use Rattle.aud_code.specs.Sequential.Sound.{IsFine, IsSound}
 use Rattle.aud_code.specs.declared.code.Line.{Line}
 use Rattle.aud_code.proofs.sound.verify.Goals as goal
 

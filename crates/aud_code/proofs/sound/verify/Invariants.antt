@@ -1,6 +1,6 @@
 use Rattle.std.proofs.Common.{◌≡◌, ℕ, ◌<◌, Some}
 use Rattle.std.specs.Prelude.{slice_get}
-use Rattle.aud_code.specs.Sound.{IsFine}
+use Rattle.aud_code.specs.Sequential.Sound.{IsFine}
 use Rattle.aud_code.specs.declared.code.Line.{Line}
 use Rattle.aud_code.proofs.sound.verify.Given as goal
 

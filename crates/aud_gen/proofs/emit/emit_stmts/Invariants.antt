@@ -1,8 +1,8 @@
 use Rattle.std.proofs.Common.{◌≡◌, ◌∷◌, [], ◌++◌, drop}
 use Rattle.std.specs.Prelude.{map}
-use Rattle.aud_typed.specs.Tree.{in_sequence}
-use Rattle.aud_typed.specs.View.{plain_stmt}
-use Rattle.aud_gen.specs.Code.{stmt_code}
+use Rattle.aud_typed.specs.Sequential.Tree.{in_sequence}
+use Rattle.aud_typed.specs.Sequential.View.{plain_stmt}
+use Rattle.aud_gen.specs.Sequential.Code.{stmt_code}
 use Rattle.aud_gen.proofs.emit.emit_stmts.Given as goal
 
 abbrev pub invariant-loop-s : goal.invariant-loop-s

@@ -1,8 +1,8 @@
 use Rattle.std.proofs.Common.{sym, subst}
 use Rattle.std.proofs.lemmas.Bool.{false≢true}
-use Rattle.aud_typed.specs.View.{plain_program}
-use Rattle.aud_code.specs.Sound.{IsSound}
-use Rattle.aud_gen.proofs.Soundness.{generated_sound}
+use Rattle.aud_typed.specs.Sequential.View.{plain_program}
+use Rattle.aud_code.specs.Sequential.Sound.{IsSound}
+use Rattle.aud_gen.proofs.Sequential.Soundness.{generated_sound}
 use Rattle.aud_gen.proofs.emit.generate.Goals as goal
 
 pub unreachable-requires : goal.unreachable-requires

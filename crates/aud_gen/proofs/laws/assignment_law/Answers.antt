@@ -1,4 +1,4 @@
-use Rattle.aud_gen.proofs.Assigning.{assignment_law}
+use Rattle.aud_gen.proofs.ByKind.Assigning.{assignment_law}
 use Rattle.aud_gen.proofs.laws.assignment_law.Goals as goal
 
 pub returns : goal.returns

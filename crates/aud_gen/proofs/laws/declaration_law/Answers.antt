@@ -1,4 +1,4 @@
-use Rattle.aud_gen.proofs.Declaring.{declaration_law}
+use Rattle.aud_gen.proofs.ByKind.Declaring.{declaration_law}
 use Rattle.aud_gen.proofs.laws.declaration_law.Goals as goal
 
 pub returns : goal.returns

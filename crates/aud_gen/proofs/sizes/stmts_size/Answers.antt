@@ -1,8 +1,8 @@
 use Rattle.std.proofs.Common.{ap, arith, sym, ◌∙◌}
 use Rattle.std.specs.Prelude.{map}
 use Rattle.std.proofs.lemmas.List.{drop_all}
-use Rattle.aud_typed.specs.View.{plain_stmt}
-use Rattle.aud_gen.proofs.Loops.{sizes, size_in_sequence, next_size}
+use Rattle.aud_typed.specs.Sequential.View.{plain_stmt}
+use Rattle.aud_gen.proofs.Sequential.Loops.{sizes, size_in_sequence, next_size}
 use Rattle.aud_gen.proofs.sizes.stmts_size.Goals as goal
 
 pub loop-s-init : goal.loop-s-init

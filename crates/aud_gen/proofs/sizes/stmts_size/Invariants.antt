@@ -1,7 +1,7 @@
 use Rattle.std.proofs.Common.{◌≡◌, ◌+◌, drop}
 use Rattle.std.specs.Prelude.{map}
-use Rattle.aud_typed.specs.View.{plain_stmt}
-use Rattle.aud_gen.proofs.Loops.{sizes}
+use Rattle.aud_typed.specs.Sequential.View.{plain_stmt}
+use Rattle.aud_gen.proofs.Sequential.Loops.{sizes}
 use Rattle.aud_gen.proofs.sizes.stmts_size.Given as goal
 
 abbrev pub invariant-loop-s : goal.invariant-loop-s

@@ -1,5 +1,5 @@
 use Rattle.std.proofs.Common.{◌≡◌, ◌+◌, suc, [], length, drop, arith}
-use Rattle.aud_code.specs.Eval.{eval, ticks_of}
+use Rattle.aud_code.specs.Sequential.Eval.{eval, ticks_of}
 use Rattle.aud_machine.specs.Flow.{followed, FlowFits}
 use Rattle.aud_machine.proofs.Instructions.{Turned, turned, ticked, fine_here, leads_within}
 use Rattle.aud_machine.proofs.evaluate.evaluate.Goals as goal

@@ -1,6 +1,6 @@
 use Rattle.std.proofs.Common.{◌≡◌, ◌+◌, [], length, drop}
-use Rattle.aud_code.specs.Eval.{eval, ticks_of}
-use Rattle.aud_code.specs.Sound.{Leads}
+use Rattle.aud_code.specs.Sequential.Eval.{eval, ticks_of}
+use Rattle.aud_code.specs.Sequential.Sound.{Leads}
 use Rattle.aud_machine.proofs.evaluate.evaluate.Given as goal
 
 abbrev pub invariant-loop-at : goal.invariant-loop-at

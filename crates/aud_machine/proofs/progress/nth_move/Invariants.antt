@@ -1,6 +1,6 @@
 use Rattle.std.proofs.Common.{◌≡◌, drop}
 use Rattle.std.specs.Prelude.{slice_get}
-use Rattle.aud_meaning.specs.Run.{moves_from}
+use Rattle.aud_meaning.specs.Sequential.Run.{moves_from}
 use Rattle.aud_machine.proofs.progress.nth_move.Given as goal
 
 abbrev pub invariant-loop-number : goal.invariant-loop-number

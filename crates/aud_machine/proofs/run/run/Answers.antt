@@ -1,6 +1,6 @@
 use Rattle.std.proofs.Common.{◌≡◌, ◌+◌, ◌-◌, ap, ◌∙◌, sym, arith}
-use Rattle.aud_meaning.specs.Run.{run_with}
-use Rattle.aud_code.specs.Next.{next}
+use Rattle.aud_meaning.specs.Sequential.Run.{run_with}
+use Rattle.aud_code.specs.Sequential.Next.{next}
 use Rattle.aud_machine.specs.Ticks.{run_ticks}
 use Rattle.aud_machine.proofs.Turns.{turns, ends, ticks_turn, no_ticks}
 use Rattle.aud_machine.proofs.run.run.Goals as goal

@@ -1,7 +1,7 @@
 use Rattle.std.proofs.Common.{◌≡◌, ◌+◌, ◌-◌, ◌*◌, ◌^◌, ◌≤◌, length}
 use Rattle.std.specs.Prelude.{min}
-use Rattle.aud_meaning.specs.Run.{run_with}
-use Rattle.aud_code.specs.Next.{next}
+use Rattle.aud_meaning.specs.Sequential.Run.{run_with}
+use Rattle.aud_code.specs.Sequential.Next.{next}
 use Rattle.aud_machine.specs.Moving.{AllFit}
 use Rattle.aud_machine.specs.Ticks.{run_ticks}
 use Rattle.aud_machine.proofs.run.run.Given as goal

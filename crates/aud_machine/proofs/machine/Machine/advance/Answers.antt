@@ -1,6 +1,6 @@
 use Rattle.std.proofs.Common.{◌≡◌, false, sym, subst}
-use Rattle.aud_gen.specs.Shows.{ShowsAll}
-use Rattle.aud_gen.proofs.Runs.{advance_law}
+use Rattle.aud_gen.specs.Sequential.Shows.{ShowsAll}
+use Rattle.aud_gen.proofs.Sequential.Runs.{advance_law}
 use Rattle.aud_machine.proofs.machine.Machine.advance.Goals as goal
 
 pub returns-clause-shows : goal.returns-clause-shows

@@ -1,6 +1,6 @@
 use Rattle.std.proofs.Common.{refl, sym, subst}
-use Rattle.aud_gen.specs.Shows.{ShowsAll}
-use Rattle.aud_gen.proofs.Runs.{supply_law}
+use Rattle.aud_gen.specs.Sequential.Shows.{ShowsAll}
+use Rattle.aud_gen.proofs.Sequential.Runs.{supply_law}
 use Rattle.aud_machine.proofs.machine.Machine.choose.Goals as goal
 
 pub returns-clause-shows : goal.returns-clause-shows

@@ -1,7 +1,7 @@
 use Rattle.std.proofs.Common.{ap, sym, subst, ◌∙◌}
 use Rattle.std.specs.Prelude.{None, slice_index_or}
-use Rattle.aud_gen.specs.Shows.{ShowsAll}
-use Rattle.aud_gen.proofs.Runs.{coming_law}
+use Rattle.aud_gen.specs.Sequential.Shows.{ShowsAll}
+use Rattle.aud_gen.proofs.Sequential.Runs.{coming_law}
 use Rattle.aud_machine.proofs.machine.Machine.coming.Goals as goal
 
 pub returns : goal.returns

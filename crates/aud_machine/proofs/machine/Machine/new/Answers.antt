@@ -1,6 +1,6 @@
 use Rattle.std.proofs.Common.{refl}
-use Rattle.aud_typed.specs.View.{plain_program}
-use Rattle.aud_gen.proofs.Runs.{opening_law}
+use Rattle.aud_typed.specs.Sequential.View.{plain_program}
+use Rattle.aud_gen.proofs.Sequential.Runs.{opening_law}
 use Rattle.aud_machine.proofs.machine.Machine.new.Goals as goal
 
 pub returns-clause-shows : goal.returns-clause-shows

@@ -1,6 +1,6 @@
 use Rattle.std.proofs.Common.{◌≡◌, ℕ, List, map, sym, subst}
-use Rattle.aud_meaning.specs.Configuration.{TaskAt}
-use Rattle.aud_gen.specs.Shows.{ShowsAll}
+use Rattle.aud_meaning.specs.Sequential.Configuration.{TaskAt}
+use Rattle.aud_gen.specs.Sequential.Shows.{ShowsAll}
 use Rattle.aud_machine.proofs.Bridges.{same_owns}
 use Rattle.aud_machine.proofs.machine.Machine.parts.Goals as goal
 

@@ -1,7 +1,7 @@
 use Rattle.std.proofs.Common.{◌≡◌, refl, ap, ◌∙◌}
-use Rattle.aud_typed.specs.View.{plain_program}
-use Rattle.aud_gen.specs.Code.{program_code}
-use Rattle.aud_gen.proofs.Runs.{opening_law}
+use Rattle.aud_typed.specs.Sequential.View.{plain_program}
+use Rattle.aud_gen.specs.Sequential.Code.{program_code}
+use Rattle.aud_gen.proofs.Sequential.Runs.{opening_law}
 use Rattle.aud_machine.proofs.machine.Machine.reset.Goals as goal
 
 pub returns-clause-shows : goal.returns-clause-shows

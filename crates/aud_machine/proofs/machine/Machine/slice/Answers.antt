@@ -1,5 +1,5 @@
 use Rattle.std.proofs.Common.{refl, sym, subst}
-use Rattle.aud_gen.specs.Shows.{ShowsAll}
+use Rattle.aud_gen.specs.Sequential.Shows.{ShowsAll}
 use Rattle.aud_machine.proofs.Bridges.{run_shown, run_did}
 use Rattle.aud_machine.proofs.machine.Machine.slice.Goals as goal
 

@@ -1,7 +1,7 @@
 use Rattle.std.proofs.Common.{◌≡◌, ℕ, Some, refl, sym, ap, ◌∙◌, subst}
 use Rattle.std.specs.Prelude.{slice_get}
-use Rattle.aud_meaning.specs.Run.{own_move, moves}
-use Rattle.aud_gen.specs.Shows.{ShowsAll}
+use Rattle.aud_meaning.specs.Sequential.Run.{own_move, moves}
+use Rattle.aud_gen.specs.Sequential.Shows.{ShowsAll}
 use Rattle.aud_machine.specs.Ticks.{step_ticks}
 use Rattle.aud_machine.proofs.Bridges.{none_taken, move_taken}
 use Rattle.aud_machine.proofs.machine.Machine.take.Goals as goal

@@ -1,0 +1,4 @@
+pub mod Eval
+pub mod Next
+pub mod Coming
+pub mod Sound

@@ -1,0 +1,5 @@
+pub mod Evals
+pub mod Lists
+pub mod Statements
+pub mod Delays
+pub mod Steps

@@ -1,0 +1,4 @@
+pub mod Declaring
+pub mod Idling
+pub mod Assigning
+pub mod Putting

@@ -1,0 +1,9 @@
+pub mod Assembly
+pub mod Ats
+pub mod Places
+pub mod Within
+pub mod Beginning
+pub mod Made
+pub mod Starting
+pub mod Sound
+pub mod Laws

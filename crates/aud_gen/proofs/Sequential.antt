@@ -1,0 +1,14 @@
+pub mod Loops
+pub mod Places
+pub mod Evals
+pub mod Told
+pub mod Control
+pub mod Starts
+pub mod Declaring
+pub mod Idling
+pub mod Assigning
+pub mod Putting
+pub mod Completing
+pub mod Steps
+pub mod Runs
+pub mod Soundness

@@ -1,0 +1,215 @@
+-- What is read and ordered at each item.
+use Rattle.std.proofs.Common.{◌≡◌, ℕ, zero, suc, ◌+◌, ◌≤◌, List, [], ◌∷◌, ◌++◌, length, get_or, le_refl, inl, inr, refl, sym, ap, ◌∙◌, subst, arith, append_assoc, append-nil, slice_get, Option, Some, None, Bool, true, false}
+use Rattle.aud_text.specs.declared.place.Pos.{Pos}
+use Rattle.aud_typed.specs.declared.program.Exception.{Exception}
+use Rattle.aud_typed.specs.Tree.{IntegerExpr, For, Stmt, sequence, declare, declare_array, declare_tasks, declare_object, activated, activate, null, assign, put, if_then, plain_loop, while_loop, for_loop, exit, return, return_value, raising, raising_again, block, procedure_call, own_entry_call, operation_call, entry_call, delay, accept, select, abort, Part, nothing, some, Handlers, no_handlers, handler, Body, body, Doing, without_do, with_do, Alternatives, no_alternatives, accepting, delaying, terminating, Program}
+use Rattle.aud_meaning.specs.declared.state.Construct.{Construct}
+use Rattle.aud_meaning.specs.declared.state.Construct.TheVariants as construct
+use Rattle.aud_meaning.specs.Configuration.{Item, Do, InLoop, InFor, Begin, Ends, Leaving}
+use Rattle.aud_meaning.specs.Evaluation.{Sight}
+use Rattle.aud_meaning.specs.Control.{Scene, next_of_loop}
+use Rattle.aud_meaning.specs.Items.{entered, resumed, before, body_before, doing_by, ended, takes, takes_by, takes_next, follows, part_of, one_part, accepts, accepts_by, accepts_offer, part_in, offer_at, place, body_of, nowhere, next_at, loops_out, out_from, asked_stmt, next_asked, asked_item, coming_item}
+use Rattle.aud_gen.specs.Layout.{does, continues, asked_by, coming_by, Line, Around, in_loop, in_for, in_block, in_call, around_out, ways_count, stmt_size, part_size, handlers_size, body_size, doing_size, offered_size, main_size, end_place, end_line, stub_line, stubs, stubs_of, stub_ways, guard_line, line, stmt_code, part_code, part_place, doing_place, parts_from, bodies_from, handlers_code, body_code, main_code, doing_code, offered_code, unit_code, Code, no_line, line_at, back_to, ended_by, start_of}
+use Rattle.aud_code.specs.Places.{Way, Spot, goes, goes_there}
+use Rattle.aud_gen.specs.Shows.{HasAt, UnitsAt, IsStep, IsSettled, IsFor, HandlersAt, Callers, EndsAt, Stands, ShowsControl}
+use Rattle.aud_gen.proofs.Standing.Places.{has_front, has_back, has_line, has_tail, has_moved, has_same, line_is, length-stmt, length-part, length-handlers, length-body, length-doing, length-offered, count-block}
+use Rattle.aud_gen.proofs.Standing.Orders.{step_line, block_stands, Leads, offers, offers_do, takes_do}
+use Rattle.aud_gen.proofs.Standing.Control.{First, first, at_place, shown_none, enters, main_stands, resumes, body_stands, before_stands, part_stands, has_end, doing_stands}
+
+-- the end of a for loop's statements is that of a for loop
+pub for_by : (P : Stmt → Type 0) → ((f : For) (x y : IntegerExpr) (b : Stmt) → P (for_loop f x y b)) → (s : Stmt) → IsFor s → P s
+for_by P go (sequence x y) is = absurd is
+for_by P go (plain_loop x) is = absurd is
+for_by P go (declare pos e) is = absurd is
+for_by P go (declare_array pos t n) is = absurd is
+for_by P go (declare_tasks pos ts) is = absurd is
+for_by P go (declare_object pos n es) is = absurd is
+for_by P go (activated pos) is = absurd is
+for_by P go (activate pos) is = absurd is
+for_by P go (null pos) is = absurd is
+for_by P go (assign pos r e) is = absurd is
+for_by P go (put pos t) is = absurd is
+for_by P go (if_then pos c x p) is = absurd is
+for_by P go (while_loop pos c x) is = absurd is
+for_by P go (for_loop f x y b) is = go f x y b
+for_by P go (exit pos n e) is = absurd is
+for_by P go (return pos) is = absurd is
+for_by P go (return_value pos e) is = absurd is
+for_by P go (raising pos x) is = absurd is
+for_by P go (raising_again pos) is = absurd is
+for_by P go (block pos n b) is = absurd is
+for_by P go (procedure_call pos c) is = absurd is
+for_by P go (own_entry_call pos es f) is = absurd is
+for_by P go (operation_call pos v c) is = absurd is
+for_by P go (entry_call pos c p q) is = absurd is
+for_by P go (delay pos e) is = absurd is
+for_by P go (accept pos m d) is = absurd is
+for_by P go (select pos offered p) is = absurd is
+for_by P go (abort pos ns) is = absurd is
+
+abbrev pub no_for : For
+no_for = record { at = nowhere; next_at = nowhere; region = 0; backward = false }
+
+abbrev pub for_of : Stmt → For
+for_of (for_loop f x y b) = f
+for_of s = no_for
+
+next_asked_is : (s : Stmt) → IsFor s → next_asked s ≡ next_of_loop (for_of s)
+next_asked_is s is = for_by (λ s. next_asked s ≡ next_of_loop (for_of s)) (λ f x y b. refl) s is
+
+next_at_is : (s : Stmt) → IsFor s → next_at s ≡ (for_of s).next_at
+next_at_is s is = for_by (λ s. next_at s ≡ (for_of s).next_at) (λ f x y b. refl) s is
+
+module _ (code : Code) where
+  -- the line where the next value of a for loop is taken
+  abbrev pub next_line : For → ℕ → ℕ → Around → Line
+  next_line f at next outer = record { what = continues f; at = f.next_at; out = outer.out; ways = next ∷ suc (suc at) ∷ []; bodies = []; exit = None }
+
+  pub for_is : (s : Stmt) (at next : ℕ) (outer : Around) → IsFor s → HasAt code.lines at (stmt_code s at next outer) → (f : For) × (line_at code (suc at) ≡ next_line f at next outer) × (f ≡ for_of s)
+  for_is s at next outer is has =
+      for_by (λ s. HasAt code.lines at (stmt_code s at next outer) → (f : For) × (line_at code (suc at) ≡ next_line f at next outer) × (f ≡ for_of s))
+      (λ f x y b h. (f, line_is code (suc at) _ _ (has_tail code.lines at _ _ h), refl)) s is has
+
+  module _ (returns : List ℕ) where
+    with_line : (P : Line → Type 0) (place : ℕ) (l : Line) → line_at code place ≡ l → P l → P (line_at code place)
+    with_line P place l e h = subst P (sym e) h
+
+    takes_for : (f : For) (x y : IntegerExpr) (b : Stmt) (at next : ℕ) (outer : Around) (rest : List Item) → HasAt code.lines at (stmt_code (for_loop f x y b) at next outer) → Stands code outer next returns rest → (n : ℕ) → Leads code returns (suc at) (line_at code (suc at)).ways n (takes_next (for_loop f x y b) n rest)
+    takes_for f x y b at next outer rest has st zero =
+        with_line (λ l. Leads code returns (suc at) l.ways zero (resumed rest)) (suc at) _ (line_is code (suc at) _ _ (has_tail code.lines at _ _ has)) (resumes code returns rest outer next st)
+    takes_for f x y b at next outer rest has st (suc zero) =
+        with_line (λ l. Leads code returns (suc at) l.ways 1 (entered b (InFor (for_loop f x y b) ∷ rest))) (suc at) _ (line_is code (suc at) _ _ (has_tail code.lines at _ _ has))
+        (enters code returns b (in_for next outer) (suc (suc at)) (suc at) (InFor (for_loop f x y b) ∷ rest) (has_tail code.lines (suc at) _ _ (has_tail code.lines at _ _ has)) (next, outer, at, refl, refl, tt, has, st))
+    takes_for f x y b at next outer rest has st (suc (suc n)) =
+        with_line (λ l. Leads code returns (suc at) l.ways (suc (suc n)) (InFor (for_loop f x y b) ∷ rest)) (suc at) _ (line_is code (suc at) _ _ (has_tail code.lines at _ _ has))
+        (record { around = in_for next outer; stands = (next, outer, at, refl, refl, tt, has, st); settled = tt })
+
+    -- the line where a construct ends
+    pub end_is : (c : Construct) (end : Pos) (exits : List Way) (back : Way) (place : ℕ) (rest : List Item) → EndsAt c (λ a p rs. Stands code a p rs rest) code end exits back place returns rest → (next : ℕ) × (out : ℕ) × (line_at code place ≡ end_line c end next out)
+    end_is construct.Block end exits back place rest es = (es.0, es.1.out, line_is code place _ _ es.4)
+    end_is construct.Accept end exits back place rest es = (es.0, es.1.out, line_is code place _ _ es.4)
+    end_is construct.Unit end exits back place rest es = (0, place, line_is code place _ _ es.2)
+
+    pub takes_at : (items : List Item) (around : Around) (place : ℕ) → Stands code around place returns items → IsSettled items → (n : ℕ) → Leads code returns place (line_at code place).ways n (takes n items)
+    takes_at [] around place st is n = with_line (λ l. Leads code returns place l.ways n []) place _ st.0 (record { around = around; stands = st; settled = tt })
+    takes_at (Do s ∷ rest) around place st is n = takes_do code returns s around place st.0 rest is st.1 st.2 n
+    takes_at (InLoop s ∷ rest) around place st is n = absurd is
+    takes_at (InFor s ∷ rest) around place st is n =
+        for_by (λ s. HasAt code.lines st.2 (stmt_code s st.2 st.0 st.1) → Leads code returns place (line_at code place).ways n (takes_next s n rest))
+        (λ f x y b has. subst (λ p. Leads code returns p (line_at code p).ways n (takes_next (for_loop f x y b) n rest)) (sym st.3) (takes_for f x y b st.2 st.0 st.1 rest has st.7 n)) s st.5 st.6
+    takes_at (Begin c s h end ∷ rest) around place st is n = absurd is
+    takes_at (Ends c h end ∷ rest) around place st is n =
+        let l = end_is c end around.exits around.back place rest st.1 in
+        with_line (λ l. Leads code returns place l.ways n (Ends c h end ∷ rest)) place _ l.2 (record { around = around; stands = st; settled = tt })
+    takes_at (Leaving m end ∷ rest) around place st is n = with_line (λ l. Leads code returns place l.ways n (Leaving m end ∷ rest)) place _ (line_is code place _ _ st.3) (record { around = around; stands = st; settled = tt })
+
+    accepts_do : (s : Stmt) (around : Around) (place next : ℕ) (rest : List Item) → IsStep s → HasAt code.lines place (stmt_code s place next around) → Stands code around next returns rest → (k : ℕ) → Leads code returns place (line_at code place).bodies k (accepts_by s k rest)
+    accepts_do (sequence x y) around place next rest is has st k = absurd is
+    accepts_do (plain_loop x) around place next rest is has st k = absurd is
+    accepts_do (declare pos e) around place next rest is has st k = with_line (λ l. Leads code returns place l.bodies k (Do (declare pos e) ∷ rest)) place _ (line_is code place _ _ has) (record { around = around; stands = (next, has, st); settled = tt })
+    accepts_do (declare_array pos t n) around place next rest is has st k = with_line (λ l. Leads code returns place l.bodies k (Do (declare_array pos t n) ∷ rest)) place _ (line_is code place _ _ has) (record { around = around; stands = (next, has, st); settled = tt })
+    accepts_do (declare_tasks pos ts) around place next rest is has st k = with_line (λ l. Leads code returns place l.bodies k (Do (declare_tasks pos ts) ∷ rest)) place _ (line_is code place _ _ has) (record { around = around; stands = (next, has, st); settled = tt })
+    accepts_do (declare_object pos n es) around place next rest is has st k = with_line (λ l. Leads code returns place l.bodies k (Do (declare_object pos n es) ∷ rest)) place _ (line_is code place _ _ has) (record { around = around; stands = (next, has, st); settled = tt })
+    accepts_do (activated pos) around place next rest is has st k = with_line (λ l. Leads code returns place l.bodies k (Do (activated pos) ∷ rest)) place _ (line_is code place _ _ has) (record { around = around; stands = (next, has, st); settled = tt })
+    accepts_do (activate pos) around place next rest is has st k = with_line (λ l. Leads code returns place l.bodies k (Do (activate pos) ∷ rest)) place _ (line_is code place _ _ has) (record { around = around; stands = (next, has, st); settled = tt })
+    accepts_do (null pos) around place next rest is has st k = with_line (λ l. Leads code returns place l.bodies k (Do (null pos) ∷ rest)) place _ (line_is code place _ _ has) (record { around = around; stands = (next, has, st); settled = tt })
+    accepts_do (assign pos r e) around place next rest is has st k = with_line (λ l. Leads code returns place l.bodies k (Do (assign pos r e) ∷ rest)) place _ (line_is code place _ _ has) (record { around = around; stands = (next, has, st); settled = tt })
+    accepts_do (put pos t) around place next rest is has st k = with_line (λ l. Leads code returns place l.bodies k (Do (put pos t) ∷ rest)) place _ (line_is code place _ _ has) (record { around = around; stands = (next, has, st); settled = tt })
+    accepts_do (if_then pos c x p) around place next rest is has st k = with_line (λ l. Leads code returns place l.bodies k (Do (if_then pos c x p) ∷ rest)) place _ (line_is code place _ _ has) (record { around = around; stands = (next, has, st); settled = tt })
+    accepts_do (while_loop pos c x) around place next rest is has st k = with_line (λ l. Leads code returns place l.bodies k (Do (while_loop pos c x) ∷ rest)) place _ (line_is code place _ _ has) (record { around = around; stands = (next, has, st); settled = tt })
+    accepts_do (for_loop f x y b) around place next rest is has st k = with_line (λ l. Leads code returns place l.bodies k (Do (for_loop f x y b) ∷ rest)) place _ (line_is code place _ _ has) (record { around = around; stands = (next, has, st); settled = tt })
+    accepts_do (exit pos n e) around place next rest is has st k = with_line (λ l. Leads code returns place l.bodies k (Do (exit pos n e) ∷ rest)) place _ (line_is code place _ _ has) (record { around = around; stands = (next, has, st); settled = tt })
+    accepts_do (return pos) around place next rest is has st k = with_line (λ l. Leads code returns place l.bodies k (Do (return pos) ∷ rest)) place _ (line_is code place _ _ has) (record { around = around; stands = (next, has, st); settled = tt })
+    accepts_do (return_value pos e) around place next rest is has st k = with_line (λ l. Leads code returns place l.bodies k (Do (return_value pos e) ∷ rest)) place _ (line_is code place _ _ has) (record { around = around; stands = (next, has, st); settled = tt })
+    accepts_do (raising pos x) around place next rest is has st k = with_line (λ l. Leads code returns place l.bodies k (Do (raising pos x) ∷ rest)) place _ (line_is code place _ _ has) (record { around = around; stands = (next, has, st); settled = tt })
+    accepts_do (raising_again pos) around place next rest is has st k = with_line (λ l. Leads code returns place l.bodies k (Do (raising_again pos) ∷ rest)) place _ (line_is code place _ _ has) (record { around = around; stands = (next, has, st); settled = tt })
+    accepts_do (block pos n b) around place next rest is has st k = with_line (λ l. Leads code returns place l.bodies k (Do (block pos n b) ∷ rest)) place _ (line_is code place _ _ has) (record { around = around; stands = (next, has, st); settled = tt })
+    accepts_do (procedure_call pos c) around place next rest is has st k = with_line (λ l. Leads code returns place l.bodies k (Do (procedure_call pos c) ∷ rest)) place _ (line_is code place _ _ has) (record { around = around; stands = (next, has, st); settled = tt })
+    accepts_do (own_entry_call pos es f) around place next rest is has st k = with_line (λ l. Leads code returns place l.bodies k (Do (own_entry_call pos es f) ∷ rest)) place _ (line_is code place _ _ has) (record { around = around; stands = (next, has, st); settled = tt })
+    accepts_do (operation_call pos v c) around place next rest is has st k = with_line (λ l. Leads code returns place l.bodies k (Do (operation_call pos v c) ∷ rest)) place _ (line_is code place _ _ has) (record { around = around; stands = (next, has, st); settled = tt })
+    accepts_do (entry_call pos c p q) around place next rest is has st k = with_line (λ l. Leads code returns place l.bodies k (Do (entry_call pos c p q) ∷ rest)) place _ (line_is code place _ _ has) (record { around = around; stands = (next, has, st); settled = tt })
+    accepts_do (delay pos e) around place next rest is has st k = with_line (λ l. Leads code returns place l.bodies k (Do (delay pos e) ∷ rest)) place _ (line_is code place _ _ has) (record { around = around; stands = (next, has, st); settled = tt })
+    accepts_do (accept pos m d) around place next rest is has st zero = with_line (λ l. Leads code returns place l.bodies zero (doing_by d rest)) place _ (line_is code place _ _ has) (doing_stands code returns d around (suc place) next rest (has_tail code.lines place _ _ has) st)
+    accepts_do (accept pos m d) around place next rest is has st (suc k) = with_line (λ l. Leads code returns place l.bodies (suc k) (Do (accept pos m d) ∷ rest)) place _ (line_is code place _ _ has) (record { around = around; stands = (next, has, st); settled = tt })
+    accepts_do (select pos offered p) around place next rest is has st zero = with_line (λ l. Leads code returns place l.bodies zero (Do (select pos offered p) ∷ rest)) place _ (line_is code place _ _ has) (record { around = around; stands = (next, has, st); settled = tt })
+    accepts_do (select pos offered p) around place next rest is has st (suc k) =
+        let second = suc place + offered_size offered (ways_count around) in
+        let co = offered_code offered (suc place) next around in
+        let cp = part_code p second next around in
+        let all : ShowsControl code (at_place code place returns) (Do (select pos offered p) ∷ rest) = record { around = around; stands = (next, has, st); settled = tt } in
+        with_line (λ l. Leads code returns place l.bodies (suc k) (accepts_offer (offer_at offered k) (select pos offered p) rest)) place _ (line_is code place _ _ has) (offers_do code returns offered (select pos offered p) around place (suc place) next rest all (has_front code.lines (suc place) co cp (has_tail code.lines place _ (co ++ cp) has)) st k)
+    accepts_do (abort pos ns) around place next rest is has st k = with_line (λ l. Leads code returns place l.bodies k (Do (abort pos ns) ∷ rest)) place _ (line_is code place _ _ has) (record { around = around; stands = (next, has, st); settled = tt })
+
+    pub accepts_at : (items : List Item) (around : Around) (place : ℕ) → Stands code around place returns items → IsSettled items → (n : ℕ) → Leads code returns place (line_at code place).bodies n (accepts n items)
+    accepts_at [] around place st is n = with_line (λ l. Leads code returns place l.bodies n []) place _ st.0 (record { around = around; stands = st; settled = tt })
+    accepts_at (Do s ∷ rest) around place st is n = accepts_do s around place st.0 rest is st.1 st.2 n
+    accepts_at (InLoop s ∷ rest) around place st is n = absurd is
+    accepts_at (InFor s ∷ rest) around place st is n =
+        let whole : ShowsControl code (at_place code place returns) (InFor s ∷ rest) = record { around = around; stands = st; settled = tt } in
+        let l = for_is s st.2 st.0 st.1 st.5 st.6 in
+        with_line (λ l. Leads code returns place l.bodies n (InFor s ∷ rest)) place _ (ap (line_at code) st.3 ∙ l.1) whole
+    accepts_at (Begin c s h end ∷ rest) around place st is n = absurd is
+    accepts_at (Ends c h end ∷ rest) around place st is n =
+        let l = end_is c end around.exits around.back place rest st.1 in
+        with_line (λ l. Leads code returns place l.bodies n (Ends c h end ∷ rest)) place _ l.2 (record { around = around; stands = st; settled = tt })
+    accepts_at (Leaving m end ∷ rest) around place st is n = with_line (λ l. Leads code returns place l.bodies n (Leaving m end ∷ rest)) place _ (line_is code place _ _ st.3) (record { around = around; stands = st; settled = tt })
+
+    -- behind the end of a construct, or out of a body
+    pub callers_shown : (rest : List Item) (rs : List ℕ) → Callers (λ a p rs. Stands code a p rs rest) rs rest → ShowsControl code (back_to code rs) rest
+    callers_shown rest [] e = subst (ShowsControl code (back_to code [])) (sym e) (shown_none code)
+    callers_shown rest (r ∷ rs) cs = record { around = cs.0; stands = cs.1; settled = cs.2 }
+
+    behind_end : (c : Construct) (h : Handlers) (end : Pos) (exits : List Way) (back : Way) (place : ℕ) (rest : List Item) → EndsAt c (λ a p rs. Stands code a p rs rest) code end exits back place returns rest → ShowsControl code (ended_by code (line_at code place).what (at_place code place returns)) (ended (Ends c h end ∷ rest))
+    behind_end construct.Block h end exits back place rest es =
+        with_line (λ l. ShowsControl code (ended_by code l.what (at_place code place returns)) (resumed rest)) place _ (line_is code place _ _ es.4) (resumes code returns rest es.1 es.0 es.5)
+    behind_end construct.Accept h end exits back place rest es =
+        with_line (λ l. ShowsControl code (ended_by code l.what (at_place code place returns)) (resumed rest)) place _ (line_is code place _ _ es.4) (resumes code returns rest es.1 es.0 es.5)
+    behind_end construct.Unit h end exits back place rest es =
+        with_line (λ l. ShowsControl code (ended_by code l.what (at_place code place returns)) rest) place _ (line_is code place _ _ es.2) (callers_shown rest returns es.3)
+
+    pub behind_at : (items : List Item) (around : Around) (place : ℕ) → Stands code around place returns items → IsSettled items → ShowsControl code (ended_by code (line_at code place).what (at_place code place returns)) (ended items)
+    behind_at [] around place st is =
+        with_line (λ l. ShowsControl code (ended_by code l.what (at_place code place returns)) []) place _ st.0 (subst (λ rs. ShowsControl code (back_to code rs) []) (sym st.1) (shown_none code))
+    behind_at (Do s ∷ rest) around place st is =
+        with_line (λ l. ShowsControl code (ended_by code l.what (at_place code place returns)) (Do s ∷ rest)) place _ (step_line code s around place st.0 is st.1 (first s place st.0 around is)) (record { around = around; stands = st; settled = is })
+    behind_at (InLoop s ∷ rest) around place st is = absurd is
+    behind_at (InFor s ∷ rest) around place st is =
+        let l = for_is s st.2 st.0 st.1 st.5 st.6 in
+        with_line (λ l. ShowsControl code (ended_by code l.what (at_place code place returns)) (InFor s ∷ rest)) place _ (ap (line_at code) st.3 ∙ l.1) (record { around = around; stands = st; settled = tt })
+    behind_at (Begin c s h end ∷ rest) around place st is = absurd is
+    behind_at (Ends c h end ∷ rest) around place st is = behind_end c h end around.exits around.back place rest st.1
+    behind_at (Leaving m end ∷ rest) around place st is =
+        with_line (λ l. ShowsControl code (ended_by code l.what (at_place code place returns)) (resumed rest)) place _ (line_is code place _ _ st.3) (resumes code returns rest st.1 st.0 st.4)
+
+    -- What is read.
+
+    pub reads_coming : (program : Program) (s : Sight) (items : List Item) (around : Around) (place : ℕ) → Stands code around place returns items → IsSettled items → coming_by program (line_at code place).what s ≡ coming_item program.plan items s
+    reads_coming program s [] around place st is = ap (λ (l : Line). coming_by program l.what s) st.0
+    reads_coming program s (Do a ∷ rest) around place st is = ap (λ (l : Line). coming_by program l.what s) (step_line code a around place st.0 is st.1 (first a place st.0 around is))
+    reads_coming program s (InLoop a ∷ rest) around place st is = absurd is
+    reads_coming program s (InFor a ∷ rest) around place st is = let l = for_is a st.2 st.0 st.1 st.5 st.6 in ap (λ (l : Line). coming_by program l.what s) (ap (line_at code) st.3 ∙ l.1)
+    reads_coming program s (Begin c a h end ∷ rest) around place st is = absurd is
+    reads_coming program s (Ends c h end ∷ rest) around place st is = let l = end_is c end around.exits around.back place rest st.1 in ap (λ (l : Line). coming_by program l.what s) l.2
+    reads_coming program s (Leaving m end ∷ rest) around place st is = ap (λ (l : Line). coming_by program l.what s) (line_is code place _ _ st.3)
+
+    -- with the loops that are left at once
+    pub reads_asked : (s : Scene) (n : ℕ) (items : List Item) (around : Around) (place : ℕ) → Stands code around place returns items → IsSettled items → n ≡ loops_out (out_from items) → asked_by (line_at code place).what n s ≡ asked_item items s
+    reads_asked s n [] around place st is e = ap (λ (l : Line). asked_by l.what n s) st.0
+    reads_asked s n (Do a ∷ rest) around place st is e =
+        ap (λ (l : Line). asked_by l.what n s) (step_line code a around place st.0 is st.1 (first a place st.0 around is)) ∙ ap (λ k. asked_stmt a k s) e
+    reads_asked s n (InLoop a ∷ rest) around place st is e = absurd is
+    reads_asked s n (InFor a ∷ rest) around place st is e =
+        let l = for_is a st.2 st.0 st.1 st.5 st.6 in
+        ap (λ (l : Line). asked_by l.what n s) (ap (line_at code) st.3 ∙ l.1) ∙ ap next_of_loop l.2 ∙ sym (next_asked_is a st.5)
+    reads_asked s n (Begin c a h end ∷ rest) around place st is e = absurd is
+    reads_asked s n (Ends c h end ∷ rest) around place st is e = let l = end_is c end around.exits around.back place rest st.1 in ap (λ (l : Line). asked_by l.what n s) l.2
+    reads_asked s n (Leaving m end ∷ rest) around place st is e = ap (λ (l : Line). asked_by l.what n s) (line_is code place _ _ st.3)
+
+    pub reads_place : (items : List Item) (around : Around) (spot : ℕ) → Stands code around spot returns items → IsSettled items → (line_at code spot).at ≡ place items
+    reads_place [] around spot st is = ap (λ l. l.at) st.0
+    reads_place (Do s ∷ rest) around spot st is = ap (λ l. l.at) (step_line code s around spot st.0 is st.1 (first s spot st.0 around is))
+    reads_place (InLoop s ∷ rest) around spot st is = absurd is
+    reads_place (InFor s ∷ rest) around spot st is = let l = for_is s st.2 st.0 st.1 st.5 st.6 in ap (λ l. l.at) (ap (line_at code) st.3 ∙ l.1) ∙ ap (λ (f : For). f.next_at) l.2 ∙ sym (next_at_is s st.5)
+    reads_place (Begin c s h end ∷ rest) around spot st is = absurd is
+    reads_place (Ends c h end ∷ rest) around spot st is = let l = end_is c end around.exits around.back spot rest st.1 in ap (λ l. l.at) l.2
+    reads_place (Leaving m end ∷ rest) around spot st is = ap (λ l. l.at) (line_is code spot _ _ st.3)

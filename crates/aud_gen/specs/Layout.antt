@@ -1,0 +1,366 @@
+-- Code as a list of lines, one for each step: what its expressions become is left out here. A task's control is a place, and the
+-- places of the statements that entered the bodies under way.
+use Rattle.std.specs.Prelude.{true, false, ℕ, suc, ◌+◌, List, [], ◌∷◌, ◌++◌, length, map, Option, Some, None, Bool, ◌||◌, if◌then◌else◌, slice_get, slice_index_or}
+use Rattle.aud_text.specs.declared.place.Pos.{Pos}
+use Rattle.aud_typed.specs.declared.program.Exception.{Exception}
+use Rattle.aud_typed.specs.Tree.{For, truth, Stmt, sequence, if_then, plain_loop, while_loop, for_loop, exit, return, return_value, block, entry_call, accept, select, Part, nothing, some, Handlers, no_handlers, handler, Body, body, Doing, without_do, with_do, Alternatives, no_alternatives, accepting, delaying, terminating, Program}
+use Rattle.aud_meaning.specs.declared.state.Construct.{Construct}
+use Rattle.aud_meaning.specs.declared.state.Construct.TheVariants as construct
+use Rattle.aud_meaning.specs.Evaluation.{decided}
+use Rattle.aud_meaning.specs.Items.{no_body, stmt_at, names_it, asked_stmt, coming_stmt, coming_raised, handled_or_left}
+use Rattle.aud_meaning.specs.Configuration.{Pending}
+use Rattle.aud_meaning.specs.Evaluation.{Sight}
+use Rattle.aud_meaning.specs.Control.{Coming, simply, ending, Asked, goes_on, next_of_loop, Scene, Controls}
+use Rattle.aud_meaning.specs.Control as asked
+use Rattle.aud_meaning.specs.declared.state.StepKind.TheVariants as kind
+use Rattle.aud_code.specs.Places.{Way, Guard, Spot, goes, goes_there, goes_way, loops_of, guarded, is_there}
+
+pub data What : Type 0 where
+  -- a statement's step; here its expressions stand for the code that they become
+  does : Stmt → What
+  -- the step next
+  continues : For → What
+  -- where exceptions go that are pending in guarded statements
+  guards : List Guard → What
+  -- before a place; for a body there is none
+  ends : Construct → ℕ → What
+  -- leaves a block and so many loops around it, before a place
+  leaves : ℕ → ℕ → What
+
+pub record Line : Type 0 where
+  pub what : What
+  pub at : Pos
+  -- where an exception goes that is pending here
+  pub out : ℕ
+  -- the places of its parts, by their numbers
+  pub ways : List ℕ
+  -- those of what accepts do, by the alternatives' numbers
+  pub bodies : List ℕ
+  -- for exit and return
+  pub exit : Option Way
+
+-- what surrounds a statement
+pub record Around : Type 0 where
+  pub out : ℕ
+  pub exits : List Way
+  pub back : Way
+
+abbrev pub one_more : Way → Way
+one_more w = record w { loops = suc w.loops }
+
+abbrev pub in_loop : ℕ → Around → Around
+in_loop next a = record a { exits = record { to = next; loops = 0 } ∷ a.exits }
+
+abbrev pub in_for : ℕ → Around → Around
+in_for next a = record a { exits = record { to = next; loops = 1 } ∷ map one_more a.exits; back = one_more a.back }
+
+-- How many lines; e ways lead out.
+
+abbrev mutual
+  pub stmt_size : Stmt → ℕ → ℕ
+  stmt_size (sequence a b) e = stmt_size a e + stmt_size b e
+  stmt_size (plain_loop a) e = stmt_size a (suc e)
+  stmt_size (if_then at c a p) e = 1 + (stmt_size a e + part_size p e)
+  stmt_size (while_loop at c a) e = 1 + stmt_size a (suc e)
+  stmt_size (for_loop f x y a) e = 2 + stmt_size a (suc e)
+  stmt_size (block at n b) e = 1 + (body_size b e + e)
+  stmt_size (entry_call at c p q) e = 1 + (part_size p e + part_size q e)
+  stmt_size (accept at n d) e = 1 + doing_size d
+  stmt_size (select at offered p) e = 1 + (offered_size offered e + part_size p e)
+  stmt_size s e = 1
+
+  pub part_size : Part → ℕ → ℕ
+  part_size nothing e = 0
+  part_size (some s) e = stmt_size s e
+
+  pub handlers_size : Handlers → ℕ → ℕ
+  handlers_size no_handlers e = 0
+  handlers_size (handler others choices s more) e = stmt_size s e + handlers_size more e
+
+  -- declarations, statements, the line that guards them, handlers, end
+  pub body_size : Body → ℕ → ℕ
+  body_size (body d begin s h end) e = part_size d e + (stmt_size s e + suc (handlers_size h e + 1))
+
+  pub doing_size : Doing → ℕ
+  doing_size without_do = 0
+  doing_size (with_do n b) = body_size b 1
+
+  pub offered_size : Alternatives → ℕ → ℕ
+  offered_size no_alternatives e = 0
+  offered_size (accepting g at n d p more) e = doing_size d + (part_size p e + offered_size more e)
+  offered_size (delaying g x p more) e = part_size p e + offered_size more e
+  offered_size (terminating g more) e = offered_size more e
+
+abbrev pub ways_count : Around → ℕ
+ways_count a = suc (length a.exits)
+
+-- where a part begins that is laid out at a place, before the place next
+abbrev pub part_place : Part → ℕ → ℕ → ℕ
+part_place nothing at next = next
+part_place (some s) at next = at
+
+abbrev pub doing_place : Doing → ℕ → ℕ → ℕ
+doing_place without_do at next = next
+doing_place (with_do n b) at next = at
+
+abbrev pub guards_of : Handlers → ℕ → ℕ → List Guard
+guards_of no_handlers at e = []
+guards_of (handler others choices s more) at e = record { others = others; choices = choices; to = at } ∷ guards_of more (at + stmt_size s e) e
+
+-- the places of what follows the alternatives, and of what their accepts do
+abbrev pub parts_from : Alternatives → ℕ → ℕ → ℕ → List ℕ
+parts_from no_alternatives at next e = []
+parts_from (accepting g pos n d p more) at next e =
+    part_place p (at + doing_size d) next ∷ parts_from more (at + doing_size d + part_size p e) next e
+parts_from (delaying g x p more) at next e = part_place p at next ∷ parts_from more (at + part_size p e) next e
+parts_from (terminating g more) at next e = next ∷ parts_from more at next e
+
+abbrev pub bodies_from : Alternatives → ℕ → ℕ → ℕ → List ℕ
+bodies_from no_alternatives at next e = []
+bodies_from (accepting g pos n d p more) at next e =
+    doing_place d at (part_place p (at + doing_size d) next) ∷ bodies_from more (at + doing_size d + part_size p e) next e
+bodies_from (delaying g x p more) at next e = part_place p at next ∷ bodies_from more (at + part_size p e) next e
+bodies_from (terminating g more) at next e = next ∷ bodies_from more at next e
+
+abbrev pub line : Stmt → List ℕ → List ℕ → Option Way → Around → Line
+line s ways bodies w a = record { what = does s; at = stmt_at s; out = a.out; ways = ways; bodies = bodies; exit = w }
+
+-- a block is left on the way out, and so many loops around it; nothing is raised there
+abbrev pub stub_line : ℕ → ℕ → Pos → ℕ → Line
+stub_line loops to end at = record { what = leaves loops to; at = end; out = at; ways = []; bodies = []; exit = None }
+
+abbrev pub stubs : List Way → Pos → ℕ → List Line
+stubs [] end at = []
+stubs (w ∷ ws) end at = stub_line w.loops w.to end at ∷ stubs ws end (suc at)
+
+abbrev pub stub_ways : List Way → ℕ → List Way
+stub_ways [] at = []
+stub_ways (w ∷ ws) at = record { to = at; loops = 0 } ∷ stub_ways ws (suc at)
+
+-- a block with its end at the place last, behind which it is left on other ways
+abbrev pub in_block : ℕ → Around → Around
+in_block last a = record { out = last; exits = stub_ways a.exits (suc last); back = record { to = suc last + length a.exits; loops = 0 } }
+
+-- a body with its end at the place last
+abbrev pub in_call : ℕ → Around
+in_call last = record { out = last; exits = []; back = record { to = last; loops = 0 } }
+
+abbrev pub end_line : Construct → Pos → ℕ → ℕ → Line
+end_line c end next out = record { what = ends c next; at = end; out = out; ways = []; bodies = []; exit = None }
+
+abbrev pub guard_line : Handlers → Pos → ℕ → ℕ → ℕ → Line
+guard_line h end handling last e = record { what = guards (guards_of h handling e); at = end; out = last; ways = []; bodies = []; exit = None }
+
+-- statements, the line that guards them, handlers
+abbrev pub main_size : Stmt → Handlers → ℕ → ℕ
+main_size s h e = stmt_size s e + suc (handlers_size h e)
+
+abbrev pub end_place : Body → ℕ → ℕ → ℕ
+end_place (body d begin s h end) at e = at + part_size d e + main_size s h e
+
+abbrev pub around_out : ℕ → Around → Around
+around_out out a = record a { out = out }
+
+abbrev mutual
+  -- a statement from the place at on, before the place next
+  pub stmt_code : Stmt → ℕ → ℕ → Around → List Line
+  stmt_code (sequence x y) at next a =
+      let middle = at + stmt_size x (ways_count a) in
+      stmt_code x at middle a ++ stmt_code y middle next a
+  stmt_code (plain_loop x) at next a = stmt_code x at at (in_loop next a)
+  stmt_code (if_then pos c x p) at next a =
+      let second = suc at + stmt_size x (ways_count a) in
+      line (if_then pos c x p) (part_place p second next ∷ suc at ∷ []) [] None a ∷ (stmt_code x (suc at) next a ++ part_code p second next a)
+  stmt_code (while_loop pos c x) at next a =
+      line (while_loop pos c x) (next ∷ suc at ∷ []) [] None a ∷ stmt_code x (suc at) at (in_loop next a)
+  stmt_code (for_loop f x y s) at next a =
+      line (for_loop f x y s) (next ∷ suc (suc at) ∷ []) [] None a
+      ∷ record { what = continues f; at = f.next_at; out = a.out; ways = next ∷ suc (suc at) ∷ []; bodies = []; exit = None }
+      ∷ stmt_code s (suc (suc at)) (suc at) (in_for next a)
+  stmt_code (exit pos n c) at next a = line (exit pos n c) (next ∷ []) [] (Some (slice_index_or a.exits n (record { to = next; loops = 0 }))) a ∷ []
+  stmt_code (return pos) at next a = line (return pos) (next ∷ []) [] (Some a.back) a ∷ []
+  stmt_code (return_value pos x) at next a = line (return_value pos x) (next ∷ []) [] (Some a.back) a ∷ []
+  stmt_code (block pos n b) at next a =
+      let end = end_place b (suc at) (ways_count a) in
+      line (block pos n b) (next ∷ suc at ∷ []) [] None a
+      ∷ (body_code construct.Block b (suc at) next a.out (in_block end a) ++ stubs_of b (a.exits ++ a.back ∷ []) (suc end))
+  stmt_code (entry_call pos c p q) at next a =
+      let second = suc at + part_size p (ways_count a) in
+      line (entry_call pos c p q) (part_place p (suc at) next ∷ part_place q second next ∷ []) [] None a
+      ∷ (part_code p (suc at) next a ++ part_code q second next a)
+  stmt_code (accept pos n d) at next a = line (accept pos n d) (next ∷ []) (doing_place d (suc at) next ∷ []) None a ∷ doing_code d (suc at) next a.out
+  stmt_code (select pos offered p) at next a =
+      let second = suc at + offered_size offered (ways_count a) in
+      line (select pos offered p) (part_place p second next ∷ parts_from offered (suc at) next (ways_count a)) (at ∷ bodies_from offered (suc at) next (ways_count a)) None a
+      ∷ (offered_code offered (suc at) next a ++ part_code p second next a)
+  stmt_code s at next a = line s (next ∷ []) [] None a ∷ []
+
+  pub stubs_of : Body → List Way → ℕ → List Line
+  stubs_of (body d begin s h end) ws at = stubs ws end at
+
+  pub part_code : Part → ℕ → ℕ → Around → List Line
+  part_code nothing at next a = []
+  part_code (some s) at next a = stmt_code s at next a
+
+  pub handlers_code : Handlers → ℕ → ℕ → Around → List Line
+  handlers_code no_handlers at next a = []
+  handlers_code (handler others choices s more) at next a =
+      stmt_code s at next a ++ handlers_code more (at + stmt_size s (ways_count a)) next a
+
+  -- The last place is its end, whose exceptions go to out.
+  pub body_code : Construct → Body → ℕ → ℕ → ℕ → Around → List Line
+  body_code c (body d begin s h end) at next out a =
+      let first = at + part_size d (ways_count a) in
+      let guard = first + stmt_size s (ways_count a) in
+      let last = first + main_size s h (ways_count a) in
+      part_code d at first (around_out last a)
+      ++ (stmt_code s first last (around_out guard a)
+      ++ (guard_line h end (suc guard) last (ways_count a) ∷ (handlers_code h (suc guard) last (around_out last a) ++ end_line c end next out ∷ [])))
+
+  pub doing_code : Doing → ℕ → ℕ → ℕ → List Line
+  doing_code without_do at next out = []
+  doing_code (with_do n b) at next out =
+      let end = end_place b at 1 in
+      body_code construct.Accept b at next out (in_call end)
+
+  pub offered_code : Alternatives → ℕ → ℕ → Around → List Line
+  offered_code no_alternatives at next a = []
+  offered_code (accepting g pos n d p more) at next a =
+      let after = at + doing_size d in
+      doing_code d at (part_place p after next) a.out
+      ++ (part_code p after next a ++ offered_code more (after + part_size p (ways_count a)) next a)
+  offered_code (delaying g x p more) at next a = part_code p at next a ++ offered_code more (at + part_size p (ways_count a)) next a
+  offered_code (terminating g more) at next a = offered_code more at next a
+
+-- of a body, from the place first of its statements on
+abbrev pub main_code : Construct → Stmt → Handlers → Pos → ℕ → ℕ → ℕ → Around → List Line
+main_code c s h end first next out a =
+    let guard = first + stmt_size s (ways_count a) in
+    let last = first + main_size s h (ways_count a) in
+    stmt_code s first last (around_out guard a)
+    ++ (guard_line h end (suc guard) last (ways_count a) ∷ (handlers_code h (suc guard) last (around_out last a) ++ end_line c end next out ∷ []))
+
+-- A program: its bodies one after the other.
+
+abbrev pub unit_code : Body → ℕ → List Line
+unit_code b at = let end = end_place b at 1 in body_code construct.Unit b at 0 end (in_call end)
+
+-- and at last one that no program has, for numbers that no body has
+abbrev pub units_code : List Body → ℕ → List Line
+units_code [] at = unit_code no_body at
+units_code (b ∷ bs) at = unit_code b at ++ units_code bs (at + body_size b 1)
+
+abbrev pub starts_from : List Body → ℕ → List ℕ
+starts_from [] at = []
+starts_from (b ∷ bs) at = at ∷ starts_from bs (at + body_size b 1)
+
+abbrev pub spare_from : List Body → ℕ → ℕ
+spare_from [] at = at
+spare_from (b ∷ bs) at = spare_from bs (at + body_size b 1)
+
+pub record Code : Type 0 where
+  pub lines : List Line
+  pub starts : List ℕ
+  pub spare : ℕ
+
+abbrev pub code_of : Program → Code
+code_of program = record { lines = units_code program.bodies 0; starts = starts_from program.bodies 0; spare = spare_from program.bodies 0 }
+
+-- Control.
+
+-- a place behind all lines is that of a task that has nothing left to do
+abbrev pub no_line : ℕ → Line
+no_line n = record { what = ends construct.Unit 0; at = record { line = 0; col = 0 }; out = n; ways = []; bodies = []; exit = None }
+
+abbrev pub line_at : Code → ℕ → Line
+line_at code n = slice_index_or code.lines n (no_line n)
+
+abbrev pub start_of : Code → ℕ → ℕ
+start_of code n = slice_index_or code.starts n code.spare
+
+abbrev pub asked_by : What → ℕ → Scene → Asked
+asked_by (does a) loops s = asked_stmt a loops s
+asked_by (continues f) loops s = next_of_loop f
+asked_by (guards gs) loops s = goes_on 0
+asked_by (ends c next) loops s = asked.ends 0
+asked_by (leaves n next) loops s = asked.ends n
+
+abbrev pub coming_by : Program → What → Sight → Coming
+coming_by program (does a) s = coming_stmt program.plan a s
+coming_by program (continues f) s = simply kind.Next
+coming_by program (guards gs) s = ending
+coming_by program (ends c next) s = ending
+coming_by program (leaves n next) s = ending
+
+abbrev pub handler_by : What → Exception → Option ℕ
+handler_by (does a) x = None
+handler_by (continues f) x = None
+handler_by (guards gs) x = guarded x gs
+handler_by (ends c next) x = None
+handler_by (leaves n next) x = None
+
+module _ (code : Code) where
+  abbrev pub back_to : List ℕ → Spot
+  back_to [] = record { place = length code.lines; returns = [] }
+  back_to (r ∷ rs) = record { place = r; returns = rs }
+
+  abbrev pub ended_by : What → Spot → Spot
+  ended_by (does a) s = s
+  ended_by (continues f) s = s
+  ended_by (guards gs) s = s
+  ended_by (ends construct.Unit next) s = back_to s.returns
+  ended_by (ends construct.Block next) s = goes next s
+  ended_by (ends construct.Accept next) s = goes next s
+  ended_by (leaves n next) s = goes next s
+
+  -- out of the construct whose end is at the place, with an exception pending
+  abbrev pub out_of_end : What → ℕ → Spot → Spot
+  out_of_end (does a) end s = s
+  out_of_end (continues f) end s = s
+  out_of_end (guards gs) end s = s
+  out_of_end (ends construct.Unit next) end s = back_to s.returns
+  out_of_end (ends construct.Block next) end s = goes end s
+  out_of_end (ends construct.Accept next) end s = goes end s
+  out_of_end (leaves n next) end s = goes end s
+
+  -- the end of the innermost construct, from where its exceptions go
+  abbrev pub end_by : What → ℕ → ℕ
+  end_by (does a) out = out
+  end_by (continues f) out = out
+  end_by (guards gs) out = (line_at code out).out
+  end_by (ends c next) out = out
+  end_by (leaves n next) out = out
+
+  -- out of the construct whose exceptions go to the place out
+  abbrev pub left_by : ℕ → Spot → Spot
+  left_by out s =
+      let end = end_by (line_at code out).what out in
+      out_of_end (line_at code end).what end s
+
+module _ (program : Program) (code : Code) where
+  abbrev pub handler_at : Exception → Spot → Option ℕ
+  handler_at x s = handler_by (line_at code (line_at code s.place).out).what x
+
+  abbrev pub coming_at : Option Pending → Sight → Spot → Coming
+  coming_at None s t = coming_by program (line_at code t.place).what s
+  coming_at (Some p) s t = coming_raised (is_there (handler_at p.exception t))
+
+  abbrev pub asked_at : Option Pending → Scene → Spot → Asked
+  asked_at None s t = asked_by (line_at code t.place).what (loops_of (line_at code t.place).exit) s
+  asked_at (Some p) s t = handled_or_left (is_there (handler_at p.exception t)) p
+
+abbrev pub code_controls : Program → Code → Controls Spot
+code_controls program code = record {
+  coming = coming_at program code;
+  asks = asked_at program code;
+  place = λ s. (line_at code s.place).at;
+  takes = λ n s. goes_there (slice_get (line_at code s.place).ways n) s;
+  accepts = λ n s. goes_there (slice_get (line_at code s.place).bodies n) s;
+  enters = λ n s. record { place = start_of code n; returns = s.place ∷ s.returns };
+  begins = λ n. record { place = start_of code n; returns = [] };
+  out = λ s. goes_way (line_at code s.place).exit s;
+  behind = λ s. ended_by code (line_at code s.place).what s;
+  handling = λ x s. goes_there (handler_by (line_at code (line_at code s.place).out).what x) s;
+  left = λ x s. left_by code (line_at code s.place).out s;
+  barrier = λ n s. decided (slice_index_or program.barriers n (truth true)) s;
+}

@@ -1,0 +1,39 @@
+-- The plain program of a program in memory.
+use Rattle.std.specs.Prelude.{List, [], ◌∷◌, map}
+use Rattle.aud_typed.specs.declared.program.IntegerExpr.{IntegerExpr, Number, Variable, Unary', Chain', Row_of-Operation, end_of-Operation, more_of-Operation}
+use Rattle.aud_typed.specs.declared.program.TextExpr.{TextExpr, Literal, Image, Join', NewLine, Row_of-TextExpr, end_of-TextExpr, more_of-TextExpr}
+use Rattle.aud_typed.specs.declared.program.Stmt.{Stmt}
+use Rattle.aud_typed.specs.declared.program.Stmt.TheVariants.{Declare, Null, Assign, Put}
+use Rattle.aud_typed.specs.declared.program.Program.{Program}
+use Rattle.aud_typed.specs.Sequential.Tree as tree
+
+abbrev mutual
+  pub plain_integer : IntegerExpr → tree.IntegerExpr
+  plain_integer (Number value) = tree.number value
+  plain_integer (Variable v) = tree.variable v
+  plain_integer (Unary' op _ x) = tree.unary op (plain_integer x)
+  plain_integer (Chain' _ x _ rest) = tree.chained (plain_integer x) (plain_operations rest)
+
+  pub plain_operations : {n : _} → Row_of-Operation n → List tree.Operation
+  plain_operations end_of-Operation = []
+  plain_operations (more_of-Operation op right rest) = record { op = op; right = plain_integer right } ∷ plain_operations rest
+
+abbrev mutual
+  pub plain_text : TextExpr → tree.TextExpr
+  plain_text (Literal text) = tree.literal text
+  plain_text (Image e) = tree.image (plain_integer e)
+  plain_text (Join' _ x _ rest) = tree.joined (plain_text x) (plain_texts rest)
+  plain_text NewLine = tree.new_line
+
+  pub plain_texts : {n : _} → Row_of-TextExpr n → List tree.TextExpr
+  plain_texts end_of-TextExpr = []
+  plain_texts (more_of-TextExpr x rest) = plain_text x ∷ plain_texts rest
+
+abbrev pub plain_stmt : Stmt → tree.Stmt
+plain_stmt (Declare at e) = tree.declare at (plain_integer e)
+plain_stmt (Null at) = tree.null at
+plain_stmt (Assign at v e) = tree.assign at v (plain_integer e)
+plain_stmt (Put at t) = tree.put at (plain_text t)
+
+abbrev pub plain_program : Program → tree.Program
+plain_program p = record { name = p.name; variables = p.variables.items; body = tree.in_sequence (map plain_stmt p.body.items); end = p.end }
