@@ -1,4 +1,3 @@
-pub mod Writes
 pub mod Instructions
 pub mod Output
 pub mod MoveLists

@@ -7,7 +7,7 @@ ghost use Rattle.aud_code.specs.Sequential.Sound.{Leads, InstrFine};
 ghost use Rattle.aud_meaning.specs.Sequential.Evaluation.{unary_of, binary_of};
 ghost use Rattle.aud_machine.specs.Flow.{Needs, followed, FlowFits, LeftBy, ended, OutcomeFits};
 
-use crate::frames::Frames;
+use aud_store::frames::Frames;
 use crate::operands::Operands;
 use aud_code::code::{Ending, Instr};
 use aud_code::sound::SoundCode;

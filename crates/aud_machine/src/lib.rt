@@ -2,7 +2,6 @@
 #![tactic(auto)]
 
 pub mod evaluate;
-pub mod frames;
 pub mod machine;
 pub mod operands;
 pub mod parts;

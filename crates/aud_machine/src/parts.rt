@@ -1,6 +1,6 @@
 // What a machine has at a moment.
 
-use crate::frames::Frames;
+use aud_store::frames::Frames;
 use crate::task::Task;
 
 /// What a machine has at a moment, lent to whoever looks at it.

@@ -8,7 +8,7 @@ ghost use Rattle.aud_gen.specs.Sequential.Shows.{opening_code};
 ghost use Rattle.aud_machine.specs.Moving.{move_of, Picks, AllFit};
 ghost use Rattle.aud_machine.specs.Ticks.{step_ticks};
 
-use crate::frames::Frames;
+use aud_store::frames::Frames;
 use crate::operands::Operands;
 use crate::shared::Shared;
 use crate::task::Task;

@@ -3,7 +3,7 @@
 ghost use Rattle.std.specs.Prelude.{◌≡◌, ◌<◌, ◌≤◌, [], ◌∷◌, ◌++◌, length, false, OnOk, IfOk, slice_index_or, slice_set};
 ghost use Rattle.aud_meaning.specs.Sequential.Effects.{put_out};
 
-use crate::frames::Frames;
+use aud_store::frames::Frames;
 use aud_text::int32::Int32;
 use aud_text::limits::OUTPUT;
 use std::alloc::{AllocError, Global};

@@ -1,7 +1,7 @@
 use Rattle.std.proofs.Common.{◌<◌, ◌∷◌, [], ◌++◌, length, ap, arith}
 use Rattle.std.proofs.lemmas.List.{length-map}
-use Rattle.aud_machine.proofs.Writes.{write_frame}
-use Rattle.aud_machine.proofs.frames.Frames.declare.Goals as goal
+use Rattle.aud_store.proofs.Writes.{write_frame}
+use Rattle.aud_store.proofs.frames.Frames.declare.Goals as goal
 
 pub returns : goal.returns
 returns c =

@@ -2,9 +2,9 @@ use Rattle.std.proofs.Common.{◌<◌, length, ap, arith, sym, refl}
 use Rattle.std.proofs.lemmas.List.{length-map, set_past}
 use Rattle.std.specs.Prelude.{slice_set}
 use Rattle.std.specs.Vec.{with_item}
-use Rattle.aud_machine.proofs.Writes.{write_frame}
-use Rattle.aud_machine.proofs.frames.Frames.assign.Goals as goal
-use Rattle.aud_machine.proofs.frames.Frames.assign.Goals.{then-index-len, else-index-len}
+use Rattle.aud_store.proofs.Writes.{write_frame}
+use Rattle.aud_store.proofs.frames.Frames.assign.Goals as goal
+use Rattle.aud_store.proofs.frames.Frames.assign.Goals.{then-index-len, else-index-len}
 
 pub returns : goal.returns
 returns c =

@@ -1,0 +1,4 @@
+// What a running program keeps: its frames.
+#![tactic(auto)]
+
+pub mod frames;
