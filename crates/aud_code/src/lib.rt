@@ -2,4 +2,6 @@
 #![tactic(auto)]
 
 pub mod code;
+pub mod instr;
+pub mod line;
 pub mod sound;

@@ -1,0 +1,51 @@
+// Code: a list of lines. Each step of a task is some instructions and the ending behind them. A place counts lines from 0.
+
+use crate::instr::Instr;
+use aud_text::place::Pos;
+
+/// What a statement's step does with its operands.
+#[derive(Clone, Copy, PartialEq, Eq, Debug)]
+pub enum Ending {
+    /// The next variable of the innermost frame has the newest Integer.
+    Declare,
+    Null,
+    /// The newest target has the newest Integer.
+    Assign,
+    /// The text goes to the output.
+    Put,
+}
+
+/// How a step ends.
+#[derive(Clone, Copy, PartialEq, Eq, Debug)]
+pub enum Last {
+    /// A statement's step, and the place where the next one begins.
+    Does(Ending, usize),
+    /// Behind the statements of a body, where its handlers are found; it has none yet.
+    Guards,
+    /// The end of a body.
+    Ends,
+}
+
+/// The ending of a step: where the step stands in the text, and the place where an exception goes that is pending here.
+#[derive(Clone, Copy, PartialEq, Eq, Debug)]
+pub struct EndLine {
+    pub last: Last,
+    pub at: Pos,
+    pub out: usize,
+}
+
+/// What stands at a place. The ending of the step that begins at a place is the first one from there on.
+#[derive(Drop, Debug)]
+pub enum Line {
+    Op(Instr),
+    End(EndLine),
+}
+
+/// A program's code: its lines, the place where each body begins, by the bodies' numbers, and the place for a number that
+/// no body has.
+#[derive(Drop, Debug)]
+pub struct Code {
+    pub lines: Vec<Line>,
+    pub starts: Vec<usize>,
+    pub spare: usize,
+}
