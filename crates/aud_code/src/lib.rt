@@ -5,3 +5,4 @@ pub mod code;
 pub mod instr;
 pub mod line;
 pub mod sound;
+pub mod sound_code;
