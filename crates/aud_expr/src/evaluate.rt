@@ -1,0 +1,1 @@
+// One instruction after the other, up to the ending of the step.

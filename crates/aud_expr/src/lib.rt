@@ -1,0 +1,7 @@
+// The evaluation of a step's expressions, by its instructions.
+#![tactic(auto)]
+
+pub mod evaluate;
+pub mod operands;
+mod operators;
+pub mod target;

@@ -1,0 +1,110 @@
+// What the instructions of a step work on: Integers, targets, and a text that grows.
+
+ghost use Rattle.std.specs.Prelude.{◌≡◌, ◌<◌, [], ◌∷◌, ◌++◌, None, reverse, length, OnOk};
+ghost use Rattle.aud_text.specs.Integer.{image};
+ghost use Rattle.aud_meaning.specs.Tasks.{no_waits};
+ghost use Rattle.aud_code.specs.Instr.{Operands as Plain, no_operands};
+
+use crate::target::Target;
+use aud_text::int32::Int32;
+use smallvec::SmallVec;
+use std::alloc::{AllocError, Global};
+use std::marker::Model;
+
+/// The operands of a step. Few steps have more than eight Integers at once.
+#[derive(Drop)]
+pub struct Operands {
+    ints: SmallVec<i32, 8>,
+    targets: Vec<Target>,
+    text: Vec<u8>,
+}
+
+impl Model for Operands {
+    ghost Value = { Plain };
+
+    ghost view = { λ o. record { ints = reverse o.ints.items; bools = []; targets = reverse o.targets.items; text = o.text.items; values = []; backs = []; names = []; delay = 0; cells = None; waits = no_waits; timed = [] } };
+}
+
+impl Operands {
+    /// No operands.
+    pub fn new(alloc: Global) -> Self
+        ensures { result ≡ no_operands }
+    {
+        Operands {
+            ints: SmallVec::new(alloc),
+            targets: Vec::new(alloc),
+            text: Vec::new(alloc),
+        }
+    }
+
+    /// Lets all operands go, before the next step.
+    pub fn clear(&mut self)
+        ensures { self.new ≡ no_operands }
+    {
+        self.ints.clear();
+        self.targets.clear();
+        self.text.clear();
+    }
+
+    /// One more Integer. No object is being declared, as yet.
+    pub fn push(&mut self, value: Int32) -> Result<(), AllocError>
+        ensures pushed { OnOk result (self.new ≡ record self.old { ints = value ∷ self.old.ints }) }
+        ensures no_object { self.old.cells ≡ None }
+    {
+        self.ints.push(value.get())?;
+        Ok(())
+    }
+
+    /// Takes the newest Integer.
+    pub fn pop(&mut self) -> Int32
+        requires { 0 < length self.old.ints }
+        ensures { self.old ≡ record self.new { ints = result ∷ self.new.ints } }
+    {
+        match self.ints.pop() {
+            Some(value) => Int32::new(value),
+            None => unreachable!(),
+        }
+    }
+
+    /// One more target. No object is being declared, as yet.
+    pub fn push_target(&mut self, target: Target) -> Result<(), AllocError>
+        ensures pushed { OnOk result (self.new ≡ record self.old { targets = target ∷ self.old.targets }) }
+        ensures no_object { self.old.cells ≡ None }
+    {
+        self.targets.push(target)?;
+        Ok(())
+    }
+
+    /// Takes the newest target.
+    pub fn pop_target(&mut self) -> Target
+        requires { 0 < length self.old.targets }
+        ensures { self.old ≡ record self.new { targets = result ∷ self.new.targets } }
+    {
+        match self.targets.pop() {
+            Some(target) => target,
+            None => unreachable!(),
+        }
+    }
+
+    /// Puts bytes at the end of the text.
+    pub fn append(&mut self, bytes: &[u8]) -> Result<(), AllocError>
+        ensures { OnOk result (self.new ≡ record self.old { text = self.old.text ++ bytes.now }) }
+    {
+        self.text.extend_from_slice(bytes)?;
+        Ok(())
+    }
+
+    /// Puts the image of a value at the end of the text (RM 3.5(35 to 39)).
+    pub fn append_image(&mut self, value: Int32) -> Result<(), AllocError>
+        ensures { OnOk result (self.new ≡ record self.old { text = self.old.text ++ image value }) }
+    {
+        value.push_image(&mut self.text)
+    }
+
+    /// The text so far.
+    pub fn text(&self) -> &[u8]
+        ensures { result.now ≡ self.now.text }
+    {
+        &self.text
+    }
+}

@@ -1,0 +1,55 @@
+// Variables that were found.
+
+ghost use Rattle.std.specs.Prelude.{◌≡◌};
+ghost use Rattle.aud_meaning.specs.Configuration.{Target as Plain};
+
+use aud_typed::program::Subtype;
+use std::marker::Model;
+
+/// A variable that was found: the number of its frame, its cell there, and its subtype.
+#[derive(Clone, Copy, PartialEq, Eq, Debug)]
+pub struct Target {
+    frame: usize,
+    index: usize,
+    subtype: Subtype,
+}
+
+impl Model for Target {
+    ghost Value = { Plain };
+
+    ghost view = { λ t. record { frame = t.frame; index = t.index; subtype = t.subtype } };
+
+    ghost inverse = { λ t. record { frame = t.frame; index = t.index; subtype = t.subtype } };
+}
+
+impl Target {
+    /// The cell of a frame, both by their numbers, with the variable's subtype.
+    pub fn new(frame: usize, index: usize, subtype: Subtype) -> Self
+        ensures { result ≡ record { frame = frame; index = index; subtype = subtype } }
+    {
+        Target {
+            frame,
+            index,
+            subtype,
+        }
+    }
+
+    pub fn frame(self) -> usize
+        ensures { result ≡ self.frame }
+    {
+        self.frame
+    }
+
+    /// The number of the cell in its frame.
+    pub fn index(self) -> usize
+        ensures { result ≡ self.index }
+    {
+        self.index
+    }
+
+    pub fn subtype(self) -> Subtype
+        ensures { result ≡ self.subtype }
+    {
+        self.subtype
+    }
+}
