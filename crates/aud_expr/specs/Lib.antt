@@ -1,0 +1,2 @@
+pub mod Flow
+pub mod Ticks
