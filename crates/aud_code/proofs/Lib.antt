@@ -1,1 +1,3 @@
+pub mod Counting
 pub mod Fine
+pub mod Verifying

@@ -2,6 +2,7 @@
 #![tactic(auto)]
 
 pub mod code;
+mod counts;
 pub mod instr;
 pub mod line;
 pub mod sound;
