@@ -5,6 +5,7 @@ mod answers;
 mod benches;
 mod checks;
 mod codes;
+mod evaluations;
 mod machines;
 mod requests;
 mod serving;
