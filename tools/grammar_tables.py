@@ -15,7 +15,7 @@ END = 999
 # the parts that may come last in a list of tokens
 LAST = ["Unit", "Expr"]
 
-SYMBOL = r"A \([^()]*\)|T kind\.\w+|P kind\.\w+|N \w+|L \w+|Down|Opt \w+|Rep \w+"
+SYMBOL = r"A \([^()]*\)|T kind\.\w+|P kind\.\w+|W \w+|N \w+|L \w+|Down|Opt \w+|Rep \w+"
 
 
 def read_codes():
@@ -57,6 +57,8 @@ def main():
         for place, (shape, name) in enumerate(symbols):
             if shape in "TP":
                 return {codes[name]}
+            if shape == "W":
+                return {codes["Identifier"]}
             if shape in ("N", "L"):
                 return set(first[name])
             if shape == "A":
@@ -97,7 +99,7 @@ def main():
         if part not in ranks:
             most = 0
             for shape, name in rules[part]:
-                if shape in "TP":
+                if shape in "TPW":
                     break
                 if shape == "Down":
                     continue

@@ -1,21 +1,21 @@
 -- Where the machine ends, the grammar ends: at the first token that no derivation has.
-use Rattle.std.specs.Prelude.{◌≡◌, ℕ, suc, List, [], ◌∷◌, ◌++◌, Bool, true, false, ◌==◌, refl}
+use Rattle.std.specs.Prelude.{Option, Some, None, ◌≡◌, ℕ, suc, List, [], ◌∷◌, ◌++◌, Bool, true, false, ◌==◌, refl}
 use Rattle.std.proofs.Common.{sym, ap, ◌∙◌, subst, ⊎_elim, ◌≤◌, arith}
 use Rattle.std.proofs.lemmas.Bool.{eqb-true, eq-eqb}
 use Rattle.aud_lex.specs.declared.token.Kind.{Kind}
 use Rattle.aud_lex.specs.Element.{Element}
 use Rattle.aud_lex.specs.Kinds.{code}
-use Rattle.aud_parse.specs.Grammar.{Part, Sym, T, P, N, L, rule}
-use Rattle.aud_parse.specs.First.{next_in, firsts}
+use Rattle.aud_parse.specs.Grammar.{Word, Part, Sym, T, P, W, N, L, rule}
+use Rattle.aud_parse.specs.First.{next_in, is_word, next_word, firsts}
 use Rattle.aud_parse.specs.Parsed.{Verdict, Good, Wrong, Deep}
 use Rattle.aud_parse.specs.Actions.{Item}
-use Rattle.aud_parse.specs.Machine.{Out, o_end, o_rest, o_word, o_token, o_no_word, o_no_token, o_rule, o_level, o_deep, o_shut, o_down, o_this, o_other, o_last, o_yes, o_no, o_more, o_stop}
+use Rattle.aud_parse.specs.Machine.{Out, o_end, o_rest, o_word, o_token, o_no_word, o_no_token, o_spelled, o_misspelled, o_rule, o_level, o_deep, o_shut, o_down, o_this, o_other, o_last, o_yes, o_no, o_more, o_stop}
 use Rattle.aud_parse.specs.Derives.{here}
-use Rattle.aud_parse.specs.Begun.{Begun, b_stop, b_word, b_token, b_rule, b_level, b_down, b_one, b_yes, b_no, b_more, b_last}
+use Rattle.aud_parse.specs.Begun.{Begun, b_stop, b_word, b_token, b_spelled, b_rule, b_level, b_down, b_one, b_yes, b_no, b_more, b_last}
 use Rattle.aud_parse.proofs.Tables.{follow}
 use Rattle.aud_parse.proofs.Choices.{mem, next_code, or_in, not_both, not_the_end, next_is, first_seq, Clean, clean_rule, fin}
-use Rattle.aud_parse.proofs.Gets.{Gets, gets_word, gets_token, gets_rule, gets_level, gets_down, gets_one, gets_other, gets_yes, gets_no, gets_more, gets_stop, Full, full_append, table_full, can, reach_of, deep_gets}
-use Rattle.aud_parse.proofs.Ways.{Goes, Says, says_more, step, begins, behind, begun_other, yes_not, no_not, this_way, other_way, last_way}
+use Rattle.aud_parse.proofs.Gets.{Gets, gets_word, gets_token, gets_spelled, gets_rule, gets_level, gets_down, gets_one, gets_other, gets_yes, gets_no, gets_more, gets_stop, Full, full_append, table_full, can, reach_of, deep_gets}
+use Rattle.aud_parse.proofs.Ways.{next_of, next_codes, Goes, Says, says_more, step, begins, behind, begun_other, yes_not, no_not, this_way, other_way, last_way}
 
 abbrev pub rest_of : Verdict → List Element
 rest_of Good = []
@@ -47,9 +47,9 @@ stands : (p : Part) (ts : List Element) → next_in (firsts p) ts ≡ true → S
 stands p [] h = cc
 stands p (t ∷ ts) h = tt
 
--- derivations that go on with a token of the same kind as the run did
+-- derivations that go on with the token with which the run did
 abbrev pub Only : List Sym → ℕ → List Element → Verdict → Type 0
-Only s r front v = (b : Bool) (us : List Element) (q : ℕ) → r ≤ q → Says b us → next_code (rest_of v) ≡ next_code us → Goes b s q (front ++ us) → Tells v r q
+Only s r front v = (b : Bool) (us : List Element) (q : ℕ) → r ≤ q → Says b us → next_of (rest_of v) ≡ next_of us → Goes b s q (front ++ us) → Tells v r q
 
 pub record Ends (s : List Sym) (r : ℕ) (ts : List Element) (v : Verdict) : Type 0 where
   pub front : List Element
@@ -59,18 +59,29 @@ pub record Ends (s : List Sym) (r : ℕ) (ts : List Element) (v : Verdict) : Typ
   pub only : Only s r front v
   pub stood : Stands v
 
-same_next : (front ts us : List Element) → next_code ts ≡ next_code us → next_code (front ++ ts) ≡ next_code (front ++ us)
+same_next : (front ts us : List Element) → next_of ts ≡ next_of us → next_of (front ++ ts) ≡ next_of (front ++ us)
 same_next [] ts us h = h
 same_next (t ∷ front) ts us h = refl
 
-next_same : (ts front rest us : List Element) → ts ≡ front ++ rest → next_code rest ≡ next_code us → next_code ts ≡ next_code (front ++ us)
-next_same ts front rest us e n = ap next_code e ∙ same_next front rest us n
+next_same : (ts front rest us : List Element) → ts ≡ front ++ rest → next_of rest ≡ next_of us → next_of ts ≡ next_of (front ++ us)
+next_same ts front rest us e n = ap next_of e ∙ same_next front rest us n
 
 end_code : (t : Element) → 999 ≡ code t.kind → ⊥
 end_code t e = not_both (999 == code t.kind) (eq-eqb 999 (code t.kind) e) (not_the_end t.kind)
 
-wrong_next : (c : Kind) (ts us : List Element) → next_in (c ∷ []) ts ≡ false → next_code ts ≡ next_code us → mem (code c ∷ []) (next_code us) ≡ true → ⊥
-wrong_next c ts us e n m = not_both _ m (ap (λ x. mem (code c ∷ []) x) (sym n) ∙ sym (next_is (c ∷ []) ts) ∙ e)
+wrong_next : (c : Kind) (ts us : List Element) → next_in (c ∷ []) ts ≡ false → next_of ts ≡ next_of us → mem (code c ∷ []) (next_code us) ≡ true → ⊥
+wrong_next c ts us e n m = not_both _ m (ap (λ x. mem (code c ∷ []) x) (sym (next_codes ts us n)) ∙ sym (next_is (c ∷ []) ts) ∙ e)
+
+abbrev word_of : Word → Option Element → Bool
+word_of w None = false
+word_of w (Some t) = is_word w t
+
+is_word_of : (w : Word) (ts : List Element) → next_word w ts ≡ word_of w (next_of ts)
+is_word_of w [] = refl
+is_word_of w (t ∷ ts) = refl
+
+wrong_word : (w : Word) (ts us : List Element) (t : Element) (vs : List Element) → next_word w ts ≡ false → next_of ts ≡ next_of us → us ≡ t ∷ vs → is_word w t ≡ true → ⊥
+wrong_word w ts us t vs h n e i = not_both (is_word w t) i (sym (is_word_of w ts ∙ ap (word_of w) (n ∙ ap next_of e)) ∙ h)
 
 -- the run ends at once
 ends_here : {s : List Sym} {r : ℕ} {ts : List Element} (v : Verdict) → ts ≡ rest_of v → Gets s (reach_of v) → Only s r [] v → Stands v → Ends s r ts v
@@ -93,7 +104,7 @@ pass_ends t e gets held past = record {
 
 step_ends : {s k : List Sym} {r r' : ℕ} {ts : List Element} {v : Verdict} → Ends k r' ts v → ((l : List Element) → Gets k l → Gets s l) →
     ((l : List Element) → Begun k r' l → Begun s r l) →
-    ((b : Bool) (us : List Element) (q : ℕ) → r ≤ q → Says b us → next_code ts ≡ next_code us → Goes b s q us →
+    ((b : Bool) (us : List Element) (q : ℕ) → r ≤ q → Says b us → next_of ts ≡ next_of us → Goes b s q us →
     ((q' : ℕ) → r' ≤ q' → Goes b k q' us → Tells v r' q') → Tells v r q) → Ends s r ts v
 step_ends {ts = ts} {v = v} e gets held tell = record {
   front = e.front;
@@ -107,15 +118,17 @@ step_ends {ts = ts} {v = v} e gets held tell = record {
 
 pub ends : {s : List Sym} {r : ℕ} {ts : List Element} {ds : List Item} {v : Verdict} → Out s r ts ds v → Clean s fin → Full s → Ends s r ts v
 ends o_end c u = ends_here Good refl (can [] u) (λ b us q le h n d. tt) tt
-ends (o_rest {t = t} {ts = ts}) c u = ends_here (Wrong (t ∷ ts)) refl (can [] u) (λ b us q le h n d. end_code t (sym (n ∙ ap next_code (step d h)))) tt
+ends (o_rest {t = t} {ts = ts}) c u = ends_here (Wrong (t ∷ ts)) refl (can [] u) (λ b us q le h n d. end_code t (sym (next_codes (t ∷ ts) us n ∙ ap next_code (step d h)))) tt
 ends (o_word {c = c'} {k = k} {t = t} e o) c u = pass_ends t (ends o c u) (λ l i. gets_word c' t k l e i) (λ l i. b_word e i) (λ b us q d h. behind t us (step d h))
 ends (o_token {c = c'} {k = k} {t = t} e o) c u = pass_ends t (ends o c u) (λ l i. gets_token c' t k l e i) (λ l i. b_token e i) (λ b us q d h. behind t us (step d h))
 ends (o_no_word {c = c'} {k = k} {ts = ts} e) c u = ends_here (Wrong ts) refl (can (T c' ∷ k) u) (λ b us q le h n d. wrong_next c' ts us e n (begins d h)) tt
 ends (o_no_token {c = c'} {k = k} {ts = ts} e) c u = ends_here (Wrong ts) refl (can (P c' ∷ k) u) (λ b us q le h n d. wrong_next c' ts us e n (begins d h)) tt
+ends (o_spelled {w = c'} {k = k} {t = t} e o) c u = pass_ends t (ends o c u) (λ l i. gets_spelled c' t k l e i) (λ l i. b_spelled e i) (λ b us q d h. let w = step d h in behind t us (w.0, w.1, w.2, w.3))
+ends (o_misspelled {w = c'} {k = k} {ts = ts} e) c u = ends_here (Wrong ts) refl (can (W c' ∷ k) u) (λ b us q le h n d. let w = step d h in wrong_word c' ts us w.0 w.1 e n w.3 w.4) tt
 ends (o_rule {p} {k} o) c u =
     step_ends (ends o (clean_rule p k fin c) (full_append (rule p) k (table_full p) u)) (λ l i. gets_rule p k l i) (λ l i. b_rule i) (λ b us q le h n d go. go q le (step d h))
 ends (o_level {p} {k} {r} {v = v} o) c u =
-    step_ends (ends o c u) (λ l i. gets_level p k l i) (λ l i. b_level i)
+    step_ends (ends o c u.1) (λ l i. gets_level p k l i) (λ l i. b_level i)
     (λ b us q le h n d go.
     let w = step d h in
     let i : r ≤ w.0 = omega (arith, w.1) in

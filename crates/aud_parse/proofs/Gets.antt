@@ -3,14 +3,15 @@ use Rattle.std.specs.Prelude.{◌≡◌, ◌⊎◌, ℕ, zero, suc, List, [], �
 use Rattle.std.proofs.Common.{inl, inr, ⊎_elim, ◌≤◌, arith}
 use Rattle.std.proofs.lemmas.Bool.{eq-eqb}
 use Rattle.aud_lex.specs.declared.token.Kind.{Kind}
+use Rattle.aud_lex.specs.declared.token.Kind.TheVariants as kind
 use Rattle.aud_lex.specs.Element.{Element}
 use Rattle.aud_lex.specs.Kinds.{code}
 use Rattle.aud_parse.specs.Grammar as g
-use Rattle.aud_parse.specs.Grammar.{Part, Sym, T, P, N, L, Down, A, Opt, Rep, rule}
-use Rattle.aud_parse.specs.First.{among, next_in, firsts, first_of, first_of_all, first_within}
+use Rattle.aud_parse.specs.Grammar.{Word, Part, Sym, T, P, W, N, L, Down, A, Opt, Rep, rule}
+use Rattle.aud_parse.specs.First.{spelling, among, is_word, next_in, firsts, first_of, first_of_all, first_within}
 use Rattle.aud_parse.specs.Parsed.{Verdict, Good, Wrong, Deep}
 use Rattle.aud_parse.specs.Actions.{Item, tok, none, listed, made}
-use Rattle.aud_parse.specs.Derives.{Member, here, Derives, d_end, d_word, d_token, d_rule, d_level, d_down, d_one, d_yes, d_no, d_more, d_stop}
+use Rattle.aud_parse.specs.Derives.{Member, here, Derives, d_end, d_word, d_token, d_spelled, d_rule, d_level, d_down, d_one, d_yes, d_no, d_more, d_stop}
 use Rattle.aud_parse.proofs.Choices.{or_in, or_left, or_right, and_in, both}
 use Rattle.aud_parse.proofs.Sound.{push_one}
 
@@ -24,6 +25,7 @@ pub more_room : {s : List Sym} {r : ℕ} {ds : List Item} {ts : List Element} �
 more_room d_end q le = d_end
 more_room (d_word h d) q le = d_word h (more_room d q le)
 more_room (d_token h d) q le = d_token h (more_room d q le)
+more_room (d_spelled h d) q le = d_spelled h (more_room d q le)
 more_room (d_rule d) q le = d_rule (more_room d q le)
 more_room (d_level d) q le = level_more (λ x i. more_room d x i) q le
 more_room (d_down d) q le = d_down (more_room d (suc q) (omega arith))
@@ -38,15 +40,40 @@ more_room (d_stop d) q le = d_stop (more_room d q le)
 abbrev pub Gets : List Sym → List Element → Type 0
 Gets k front = (r : ℕ) × (es : List Item) × (us : List Element) × Derives k r es (front ++ us)
 
--- no choice is empty
+-- a test that symbols, looked at so many rules deep, begin with no identifier that the grammar names: then each kind with which they can begin does begin some tokens
+abbrev all_of : (Part → Bool) → List Part → Bool
+all_of f [] = true
+all_of f (p ∷ ps) = both (f p) (all_of f ps)
+
+abbrev exact_seq : (Part → Bool) → List Sym → Bool
+exact_seq f [] = true
+exact_seq f (T c ∷ s) = true
+exact_seq f (P c ∷ s) = true
+exact_seq f (W w ∷ s) = false
+exact_seq f (N p ∷ s) = f p
+exact_seq f (L p ∷ s) = f p
+exact_seq f (Down ∷ s) = exact_seq f s
+exact_seq f (A ps ∷ s) = all_of f ps
+exact_seq f (Opt p ∷ s) = both (f p) (exact_seq f s)
+exact_seq f (Rep p ∷ s) = both (f p) (exact_seq f s)
+
+abbrev exact_within : ℕ → Part → Bool
+exact_within zero p = false
+exact_within (suc n) p = exact_seq (exact_within n) (rule p)
+
+abbrev pub exact : Part → Bool
+exact = exact_within 12
+
+-- no choice is empty, and what opens a level is exact
 abbrev pub Full : List Sym → Type 0
 Full [] = Unit {0}
 Full (A [] ∷ s) = ⊥
 Full (A (p ∷ ps) ∷ s) = Full s
 Full (T c ∷ s) = Full s
 Full (P c ∷ s) = Full s
+Full (W w ∷ s) = Full s
 Full (N p ∷ s) = Full s
-Full (L p ∷ s) = Full s
+Full (L p ∷ s) = (exact p ≡ true) × Full s
 Full (Down ∷ s) = Full s
 Full (Opt p ∷ s) = Full s
 Full (Rep p ∷ s) = Full s
@@ -57,15 +84,46 @@ full_append (A [] ∷ s) k h i = absurd h
 full_append (A (p ∷ ps) ∷ s) k h i = full_append s k h i
 full_append (T c ∷ s) k h i = full_append s k h i
 full_append (P c ∷ s) k h i = full_append s k h i
+full_append (W w ∷ s) k h i = full_append s k h i
 full_append (N p ∷ s) k h i = full_append s k h i
-full_append (L p ∷ s) k h i = full_append s k h i
+full_append (L p ∷ s) k h i = (h.0, full_append s k h.1 i)
 full_append (Down ∷ s) k h i = full_append s k h i
 full_append (Opt p ∷ s) k h i = full_append s k h i
 full_append (Rep p ∷ s) k h i = full_append s k h i
 
+-- the same as a test
+abbrev full_test : List Sym → Bool
+full_test [] = true
+full_test (T c ∷ s) = full_test s
+full_test (P c ∷ s) = full_test s
+full_test (W w ∷ s) = full_test s
+full_test (N p ∷ s) = full_test s
+full_test (L p ∷ s) = both (exact p) (full_test s)
+full_test (Down ∷ s) = full_test s
+full_test (A [] ∷ s) = false
+full_test (A (p ∷ ps) ∷ s) = full_test s
+full_test (Opt p ∷ s) = full_test s
+full_test (Rep p ∷ s) = full_test s
+
+full_tests : (s : List Sym) → full_test s ≡ true → Full s
+full_tests [] h = tt
+full_tests (T c ∷ s) h = full_tests s h
+full_tests (P c ∷ s) h = full_tests s h
+full_tests (W w ∷ s) h = full_tests s h
+full_tests (N p ∷ s) h = full_tests s h
+full_tests (L p ∷ s) h = let t = and_in (exact p) (full_test s) h in (t.0, full_tests s t.1)
+full_tests (Down ∷ s) h = full_tests s h
+full_tests (A [] ∷ s) h = cc
+full_tests (A (p ∷ ps) ∷ s) h = full_tests s h
+full_tests (Opt p ∷ s) h = full_tests s h
+full_tests (Rep p ∷ s) h = full_tests s h
+
+table_full_test : (p : Part) → full_test (rule p) ≡ true
+table_full_test g.Expr = refl
+table_full_test _ = refl
+
 pub table_full : (p : Part) → Full (rule p)
-table_full g.Expr = tt
-table_full _ = tt
+table_full p = full_tests (rule p) (table_full_test p)
 
 same_code : (c : Kind) → among (c ∷ []) (code c) ≡ true
 same_code c = or_left (code c == code c) false (eq-eqb (code c) (code c) refl)
@@ -75,6 +133,9 @@ gets_word c t k front e h = (h.0, h.1, h.2, d_word e h.3)
 
 pub gets_token : (c : Kind) (t : Element) (k : List Sym) (front : List Element) → among (c ∷ []) (code t.kind) ≡ true → Gets k front → Gets (P c ∷ k) (t ∷ front)
 gets_token c t k front e h = (h.0, tok t ∷ h.1, h.2, d_token e h.3)
+
+pub gets_spelled : (w : Word) (t : Element) (k : List Sym) (front : List Element) → is_word w t ≡ true → Gets k front → Gets (W w ∷ k) (t ∷ front)
+gets_spelled w t k front e h = (h.0, h.1, h.2, d_spelled e h.3)
 
 -- its first token forgotten
 gets_less : (k : List Sym) (t : Element) → Gets k (t ∷ []) → Gets k []
@@ -116,6 +177,7 @@ abbrev ends_seq : (Part → Bool) → List Sym → Bool
 ends_seq f [] = true
 ends_seq f (T c ∷ s) = ends_seq f s
 ends_seq f (P c ∷ s) = ends_seq f s
+ends_seq f (W w ∷ s) = ends_seq f s
 ends_seq f (N p ∷ s) = both (f p) (ends_seq f s)
 ends_seq f (L p ∷ s) = both (f p) (ends_seq f s)
 ends_seq f (Down ∷ s) = ends_seq f s
@@ -140,6 +202,18 @@ can_word c k h = gets_less (T c ∷ k) _ (gets_word c (any_token c) k [] (same_c
 can_token : (c : Kind) (k : List Sym) → Gets k [] → Gets (P c ∷ k) []
 can_token c k h = gets_less (P c ∷ k) _ (gets_token c (any_token c) k [] (same_code c) h)
 
+-- the identifier itself
+abbrev the_word : Word → Element
+the_word w = record { kind = kind.Identifier; text = spelling w; at = record { line = 1; col = 1 } }
+
+same_word : (w : Word) → is_word w (the_word w) ≡ true
+same_word g.Ada = refl
+same_word g.TextIo = refl
+same_word g.Duration = refl
+
+can_spelled : (w : Word) (k : List Sym) → Gets k [] → Gets (W w ∷ k) []
+can_spelled w k h = gets_less (W w ∷ k) _ (gets_spelled w (the_word w) k [] (same_word w) h)
+
 can_some : (f : Part → Bool) → Extends f → (ps : List Part) (k : List Sym) → some_of f ps ≡ true → Gets k [] → Gets (A ps ∷ k) []
 can_some f ext [] k e h = cc
 can_some f ext (p ∷ ps) k e h = ⊎_elim (λ i. gets_one p (p ∷ ps) k [] here (ext p i k h)) (λ i. gets_other p ps k [] (can_some f ext ps k i h)) (or_in (f p) (some_of f ps) e)
@@ -148,6 +222,7 @@ can_seq : (f : Part → Bool) → Extends f → (s k : List Sym) → ends_seq f 
 can_seq f ext [] k e h = h
 can_seq f ext (T c ∷ s) k e h = can_word c (s ++ k) (can_seq f ext s k e h)
 can_seq f ext (P c ∷ s) k e h = can_token c (s ++ k) (can_seq f ext s k e h)
+can_seq f ext (W w ∷ s) k e h = can_spelled w (s ++ k) (can_seq f ext s k e h)
 can_seq f ext (N p ∷ s) k e h = let t = and_in (f p) (ends_seq f s) e in ext p t.0 (s ++ k) (can_seq f ext s k t.1 h)
 can_seq f ext (L p ∷ s) k e h = let t = and_in (f p) (ends_seq f s) e in gets_level p (s ++ k) [] (ext p t.0 (s ++ k) (can_seq f ext s k t.1 h))
 can_seq f ext (Down ∷ s) k e h = gets_down (s ++ k) [] (can_seq f ext s k e h)
@@ -170,8 +245,9 @@ pub can : (s : List Sym) → Full s → Gets s []
 can [] f = (0, [], [], d_end)
 can (T c ∷ s) f = can_word c s (can s f)
 can (P c ∷ s) f = can_token c s (can s f)
+can (W w ∷ s) f = can_spelled w s (can s f)
 can (N p ∷ s) f = can_part p s (can s f)
-can (L p ∷ s) f = gets_level p s [] (can_part p s (can s f))
+can (L p ∷ s) f = gets_level p s [] (can_part p s (can s f.1))
 can (Down ∷ s) f = gets_down s [] (can s f)
 can (A [] ∷ s) f = absurd f
 can (A (p ∷ ps) ∷ s) f = gets_one p (p ∷ ps) s [] here (can_part p s (can s f))
@@ -184,28 +260,35 @@ among_either : (F G : List Kind) (c : ℕ) → among (F ++ G) c ≡ true → (am
 among_either [] G c h = inr h
 among_either (x ∷ F) G c h = ⊎_elim (λ e. inl (or_left (c == code x) _ e)) (λ e. ⊎_elim (λ i. inl (or_right (c == code x) _ i)) (λ i. inr i) (among_either F G c e)) (or_in (c == code x) (among (F ++ G) c) h)
 
-abbrev Starts : Element → (Part → List Kind) → Type 0
-Starts t f = (p : Part) → among (f p) (code t.kind) ≡ true → (k : List Sym) → Full k → Gets (N p ∷ k) (t ∷ [])
+abbrev Starts : Element → (Part → List Kind) → (Part → Bool) → Type 0
+Starts t f x = (p : Part) → x p ≡ true → among (f p) (code t.kind) ≡ true → (k : List Sym) → Full k → Gets (N p ∷ k) (t ∷ [])
 
-start_all : (t : Element) (f : Part → List Kind) → Starts t f → (ps : List Part) (k : List Sym) → Full k → among (first_of_all f ps) (code t.kind) ≡ true → Gets (A ps ∷ k) (t ∷ [])
-start_all t f st [] k u e = cc
-start_all t f st (p ∷ ps) k u e = ⊎_elim (λ i. gets_one p (p ∷ ps) k (t ∷ []) here (st p i k u)) (λ i. gets_other p ps k (t ∷ []) (start_all t f st ps k u i)) (among_either (f p) (first_of_all f ps) (code t.kind) e)
+start_all : (t : Element) (f : Part → List Kind) (x : Part → Bool) → Starts t f x → (ps : List Part) (k : List Sym) → Full k → all_of x ps ≡ true → among (first_of_all f ps) (code t.kind) ≡ true → Gets (A ps ∷ k) (t ∷ [])
+start_all t f x st [] k u y e = cc
+start_all t f x st (p ∷ ps) k u y e =
+    let z = and_in (x p) (all_of x ps) y in
+    ⊎_elim (λ i. gets_one p (p ∷ ps) k (t ∷ []) here (st p z.0 i k u)) (λ i. gets_other p ps k (t ∷ []) (start_all t f x st ps k u z.1 i)) (among_either (f p) (first_of_all f ps) (code t.kind) e)
 
-start_seq : (t : Element) (f : Part → List Kind) → Starts t f → (s k : List Sym) → Full s → Full k → among (first_of f s) (code t.kind) ≡ true → Gets (s ++ k) (t ∷ [])
-start_seq t f st [] k u w e = cc
-start_seq t f st (T c ∷ s) k u w e = gets_word c t (s ++ k) [] e (can (s ++ k) (full_append s k u w))
-start_seq t f st (P c ∷ s) k u w e = gets_token c t (s ++ k) [] e (can (s ++ k) (full_append s k u w))
-start_seq t f st (N p ∷ s) k u w e = st p e (s ++ k) (full_append s k u w)
-start_seq t f st (L p ∷ s) k u w e = gets_level p (s ++ k) (t ∷ []) (st p e (s ++ k) (full_append s k u w))
-start_seq t f st (Down ∷ s) k u w e = gets_down (s ++ k) (t ∷ []) (start_seq t f st s k u w e)
-start_seq t f st (A [] ∷ s) k u w e = absurd u
-start_seq t f st (A (p ∷ ps) ∷ s) k u w e = start_all t f st (p ∷ ps) (s ++ k) (full_append s k u w) e
-start_seq t f st (Opt p ∷ s) k u w e = ⊎_elim (λ i. gets_yes p (s ++ k) (t ∷ []) (st p i (s ++ k) (full_append s k u w))) (λ i. gets_no p (s ++ k) (t ∷ []) (start_seq t f st s k u w i)) (among_either (f p) (first_of f s) (code t.kind) e)
-start_seq t f st (Rep p ∷ s) k u w e = ⊎_elim (λ i. gets_more p (s ++ k) (t ∷ []) (st p i (Rep p ∷ (s ++ k)) (full_append s k u w))) (λ i. gets_stop p (s ++ k) (t ∷ []) (start_seq t f st s k u w i)) (among_either (f p) (first_of f s) (code t.kind) e)
+start_seq : (t : Element) (f : Part → List Kind) (x : Part → Bool) → Starts t f x → (s k : List Sym) → Full s → Full k → exact_seq x s ≡ true → among (first_of f s) (code t.kind) ≡ true → Gets (s ++ k) (t ∷ [])
+start_seq t f x st [] k u w y e = cc
+start_seq t f x st (T c ∷ s) k u w y e = gets_word c t (s ++ k) [] e (can (s ++ k) (full_append s k u w))
+start_seq t f x st (P c ∷ s) k u w y e = gets_token c t (s ++ k) [] e (can (s ++ k) (full_append s k u w))
+start_seq t f x st (W c ∷ s) k u w y e = cc
+start_seq t f x st (N p ∷ s) k u w y e = st p y e (s ++ k) (full_append s k u w)
+start_seq t f x st (L p ∷ s) k u w y e = gets_level p (s ++ k) (t ∷ []) (st p y e (s ++ k) (full_append s k u.1 w))
+start_seq t f x st (Down ∷ s) k u w y e = gets_down (s ++ k) (t ∷ []) (start_seq t f x st s k u w y e)
+start_seq t f x st (A [] ∷ s) k u w y e = absurd u
+start_seq t f x st (A (p ∷ ps) ∷ s) k u w y e = start_all t f x st (p ∷ ps) (s ++ k) (full_append s k u w) y e
+start_seq t f x st (Opt p ∷ s) k u w y e =
+    let z = and_in (x p) (exact_seq x s) y in
+    ⊎_elim (λ i. gets_yes p (s ++ k) (t ∷ []) (st p z.0 i (s ++ k) (full_append s k u w))) (λ i. gets_no p (s ++ k) (t ∷ []) (start_seq t f x st s k u w z.1 i)) (among_either (f p) (first_of f s) (code t.kind) e)
+start_seq t f x st (Rep p ∷ s) k u w y e =
+    let z = and_in (x p) (exact_seq x s) y in
+    ⊎_elim (λ i. gets_more p (s ++ k) (t ∷ []) (st p z.0 i (Rep p ∷ (s ++ k)) (full_append s k u w))) (λ i. gets_stop p (s ++ k) (t ∷ []) (start_seq t f x st s k u w z.1 i)) (among_either (f p) (first_of f s) (code t.kind) e)
 
-start_within : (t : Element) (n : ℕ) → Starts t (first_within n)
-start_within t zero p e k u = cc
-start_within t (suc n) p e k u = gets_rule p k (t ∷ []) (start_seq t (first_within n) (start_within t n) (rule p) k (table_full p) u e)
+start_within : (t : Element) (n : ℕ) → Starts t (first_within n) (exact_within n)
+start_within t zero p y e k u = cc
+start_within t (suc n) p y e k u = gets_rule p k (t ∷ []) (start_seq t (first_within n) (exact_within n) (start_within t n) (rule p) k (table_full p) u y e)
 
 -- the token that opens one level too many
 abbrev pub reach_of : Verdict → List Element
@@ -214,6 +297,6 @@ reach_of (Wrong ts) = []
 reach_of (Deep []) = []
 reach_of (Deep (t ∷ ts)) = t ∷ []
 
-pub deep_gets : (p : Part) (k : List Sym) (ts : List Element) → next_in (firsts p) ts ≡ true → Full k → Gets (L p ∷ k) (reach_of (Deep ts))
+pub deep_gets : (p : Part) (k : List Sym) (ts : List Element) → next_in (firsts p) ts ≡ true → Full (L p ∷ k) → Gets (L p ∷ k) (reach_of (Deep ts))
 deep_gets p k [] e u = cc
-deep_gets p k (t ∷ ts) e u = gets_level p k (t ∷ []) (start_within t 12 p e k u)
+deep_gets p k (t ∷ ts) e u = gets_level p k (t ∷ []) (start_within t 12 p u.0 e k u.1)

@@ -7,14 +7,15 @@ use Rattle.aud_lex.specs.declared.token.Kind.{Kind}
 use Rattle.aud_lex.specs.declared.token.Kind.TheVariants as kind
 use Rattle.aud_lex.specs.Element.{Element}
 use Rattle.aud_lex.specs.Kinds.{code}
+use Rattle.aud_text.specs.Name.{capitals}
 use Rattle.aud_syntax.specs.Bare.{nowhere, bare}
 use Rattle.aud_parse.specs.Grammar as g
-use Rattle.aud_parse.specs.Grammar.{Part, Sym, T, P, N, L, Down, A, Opt, Rep, rule}
-use Rattle.aud_parse.specs.First.{among, next_in, firsts}
+use Rattle.aud_parse.specs.Grammar.{Word, Part, Sym, T, P, W, N, L, Down, A, Opt, Rep, rule}
+use Rattle.aud_parse.specs.First.{spelling, among, same_text, is_word, next_word, next_in, firsts}
 use Rattle.aud_parse.specs.Actions as a
 use Rattle.aud_parse.specs.Actions.{Item, tok, none, top, listed, made, the_unit}
 use Rattle.aud_parse.specs.Parsed.{Verdict, Good, Wrong, Deep, budget, parsed, judged}
-use Rattle.aud_parse.specs.Machine.{Out, o_end, o_rest, o_word, o_token, o_no_word, o_no_token, o_rule, o_level, o_deep, o_shut, o_down, o_this, o_other, o_last, o_yes, o_no, o_more, o_stop}
+use Rattle.aud_parse.specs.Machine.{Out, o_end, o_rest, o_word, o_token, o_no_word, o_no_token, o_spelled, o_misspelled, o_rule, o_level, o_deep, o_shut, o_down, o_this, o_other, o_last, o_yes, o_no, o_more, o_stop}
 use Rattle.aud_parse.specs.Alike.{Alike, AllAlike, stripped}
 use Rattle.aud_parse.specs.Laws.{AlikeRead}
 use Rattle.aud_parse.proofs.Reading.{enough_budget}
@@ -90,6 +91,24 @@ is_code c n e = eqb-true n (code c) (tested (n == code c) e)
 alike_among : (c : Kind) (t u : Element) → Alike t u → among (c ∷ []) (code t.kind) ≡ true → among (c ∷ []) (code u.kind) ≡ true
 alike_among c t u h e = subst (λ n. among (c ∷ []) n ≡ true) h.kind e
 
+word_in : (w : Word) (t u : Element) → Alike t u → (b : Bool) → (code u.kind == code kind.Identifier) ≡ b →
+    (if (if b then true else false) then same_text (capitals t.text) (spelling w) else false) ≡ (if (if b then true else false) then same_text (capitals u.text) (spelling w) else false)
+word_in w t u h true e =
+    let i : code u.kind ≡ code kind.Identifier = eqb-true (code u.kind) (code kind.Identifier) e in
+    ap (λ (z : List ℕ). same_text z (spelling w)) (h.name (h.kind ∙ i))
+word_in w t u h false e = refl
+
+word_alike : (w : Word) (t u : Element) → Alike t u → is_word w t ≡ is_word w u
+word_alike w t u h =
+    ap (λ n. if among (kind.Identifier ∷ []) n then same_text (capitals t.text) (spelling w) else false) h.kind
+    ∙ word_in w t u h (code u.kind == code kind.Identifier) refl
+
+next_word_alike : (w : Word) (ts us : List Element) → AllAlike ts us → next_word w us ≡ next_word w ts
+next_word_alike w [] [] h = refl
+next_word_alike w [] (u ∷ us) h = absurd h
+next_word_alike w (t ∷ ts) [] h = absurd h
+next_word_alike w (t ∷ ts) (u ∷ us) h = sym (word_alike w t u h.0)
+
 fault_follows : {s : List Sym} {r : ℕ} {us : List Element} (items : List Item) (v w : Verdict) → Out s r us items w → Matches v w → Follows s r us items v
 fault_follows items v w o e = record { items = items; end = w; reads = o; bared = refl; ended = e }
 
@@ -104,6 +123,9 @@ follows (o_token e o) [] h = absurd h
 follows (o_token {c} {k} {r} {t} {ts} {ds} {v} e o) (u ∷ us) h = token_follows u us (alike_among c t u h.0 e) (follows o us h.1)
 follows (o_no_word {c} {k} {r} {ts} e) us h = fault_follows [] (Wrong ts) (Wrong us) (o_no_word (next_alike (c ∷ []) ts us h ∙ e)) (length_alike ts us h)
 follows (o_no_token {c} {k} {r} {ts} e) us h = fault_follows [] (Wrong ts) (Wrong us) (o_no_token (next_alike (c ∷ []) ts us h ∙ e)) (length_alike ts us h)
+follows (o_spelled e o) [] h = absurd h
+follows (o_spelled {w} {k} {r} {t} {ts} {ds} {v} e o) (u ∷ us) h = same_items (follows o us h.1) (λ es w' x. o_spelled (sym (word_alike w t u h.0) ∙ e) x)
+follows (o_misspelled {w} {k} {r} {ts} e) us h = fault_follows [] (Wrong ts) (Wrong us) (o_misspelled (next_word_alike w ts us h ∙ e)) (length_alike ts us h)
 follows (o_rule {p = g.Id} (o_token e o)) [] h = absurd h
 follows (o_rule {p = g.Id} (o_token {c} {k} {r} {t} {ts} {ds} {v} e o)) (u ∷ us) h =
     leaf_follows g.Id kind.Identifier (λ x. a.an_ident (a.ident_of x)) t u us (λ es w x. o_rule x)

@@ -4,14 +4,14 @@ use Rattle.std.proofs.Common.{sym, ap, ◌∙◌, arith, leb-true, le-leb}
 use Rattle.aud_lex.specs.declared.token.Kind.{Kind}
 use Rattle.aud_lex.specs.Element.{Element}
 use Rattle.aud_parse.specs.Grammar as g
-use Rattle.aud_parse.specs.Grammar.{Part, Sym, T, P, N, L, Down, A, Opt, Rep, rule}
+use Rattle.aud_parse.specs.Grammar.{Word, Part, Sym, T, P, W, N, L, Down, A, Opt, Rep, rule}
 use Rattle.aud_lex.specs.Kinds.{code}
-use Rattle.aud_parse.specs.First.{among, next_in, firsts}
+use Rattle.aud_parse.specs.First.{among, next_in, is_word, next_word, firsts}
 use Rattle.aud_parse.specs.Parsed.{Verdict, Wrong, Deep}
 use Rattle.aud_parse.specs.Actions.{Item, tok, none, listed, made}
 use Rattle.aud_parse.proofs.Tables.{rank}
 use Rattle.aud_parse.specs.Parsed.{pick, Ran, onto, budget, read}
-use Rattle.aud_parse.specs.Machine.{Out, o_end, o_rest, o_word, o_token, o_no_word, o_no_token, o_rule, o_level, o_deep, o_shut, o_down, o_this, o_other, o_last, o_yes, o_no, o_more, o_stop}
+use Rattle.aud_parse.specs.Machine.{Out, o_end, o_rest, o_word, o_token, o_no_word, o_no_token, o_spelled, o_misspelled, o_rule, o_level, o_deep, o_shut, o_down, o_this, o_other, o_last, o_yes, o_no, o_more, o_stop}
 
 -- how many rules are entered before the next token is passed
 
@@ -23,6 +23,7 @@ abbrev pub enough : ℕ → List Sym → Bool
 enough n [] = true
 enough n (T c ∷ s) = true
 enough n (P c ∷ s) = true
+enough n (W w ∷ s) = true
 enough n (N p ∷ s) = nat_le (rank p) n
 enough n (L p ∷ s) = nat_le (suc (rank p)) n
 enough n (Down ∷ s) = enough n s
@@ -63,6 +64,7 @@ enough_up : (s : List Sym) (m n : ℕ) → enough m s ≡ true → m ≤ n → e
 enough_up [] m n h le = refl
 enough_up (T c ∷ s) m n h le = refl
 enough_up (P c ∷ s) m n h le = refl
+enough_up (W w ∷ s) m n h le = refl
 enough_up (N p ∷ s) m n h le = up _ m n h le
 enough_up (L p ∷ s) m n h le = up _ m n h le
 enough_up (Down ∷ s) m n h le = enough_up s m n h le
@@ -84,6 +86,7 @@ pub enough_budget : (s : List Sym) → enough budget s ≡ true
 enough_budget [] = refl
 enough_budget (T c ∷ s) = refl
 enough_budget (P c ∷ s) = refl
+enough_budget (W w ∷ s) = refl
 enough_budget (N p ∷ s) = let i : suc (rank p) ≤ budget = leb-true _ _ (table_budget p) in let j : rank p ≤ budget = omega arith in le-leb _ _ j
 enough_budget (L p ∷ s) = table_budget p
 enough_budget (Down ∷ s) = enough_budget s
@@ -114,6 +117,10 @@ no_word c k r n (t ∷ ts) h = is_no (code t.kind == code c) _ _ (none_of _ h)
 pub no_token : (c : Kind) (k : List Sym) (r n : ℕ) (ts : List Element) → next_in (c ∷ []) ts ≡ false → read ts n (P c ∷ k) r ≡ ([], Wrong ts)
 no_token c k r n [] h = refl
 no_token c k r n (t ∷ ts) h = is_no (code t.kind == code c) _ _ (none_of _ h)
+
+pub no_spelled : (w : Word) (k : List Sym) (r n : ℕ) (ts : List Element) → next_word w ts ≡ false → read ts n (W w ∷ k) r ≡ ([], Wrong ts)
+no_spelled w k r n [] h = refl
+no_spelled w k r n (t ∷ ts) h = is_no (is_word w t) _ _ h
 
 pub run_down : (k : List Sym) (r n : ℕ) (ts : List Element) → read ts n (Down ∷ k) r ≡ read ts n k (suc r)
 run_down k r n [] = refl
@@ -231,6 +238,9 @@ by_word c k r t ts ds v h i n e = is_yes (code t.kind == code c) _ _ (one_of _ h
 by_token : (c : Kind) (k : List Sym) (r : ℕ) (t : Element) (ts : List Element) (ds : List Item) (v : Verdict) → among (c ∷ []) (code t.kind) ≡ true → Same k r ts ds v → Same (P c ∷ k) r (t ∷ ts) (tok t ∷ ds) v
 by_token c k r t ts ds v h i n e = is_yes (code t.kind == code c) _ _ (one_of _ h) ∙ ap (onto (λ st. tok t ∷ st)) (i budget (enough_budget k))
 
+by_spelled : (w : Word) (k : List Sym) (r : ℕ) (t : Element) (ts : List Element) (ds : List Item) (v : Verdict) → is_word w t ≡ true → Same k r ts ds v → Same (W w ∷ k) r (t ∷ ts) ds v
+by_spelled w k r t ts ds v h i n e = is_yes (is_word w t) _ _ h ∙ i budget (enough_budget k)
+
 pub same : {s : List Sym} {r : ℕ} {ts : List Element} {ds : List Item} {v : Verdict} → Out s r ts ds v → Same s r ts ds v
 same o_end n e = refl
 same o_rest n e = refl
@@ -238,6 +248,8 @@ same (o_word {c} {k} {r} {t} {ts} {ds} {v} h o) n e = by_word c k r t ts ds v h 
 same (o_token {c} {k} {r} {t} {ts} {ds} {v} h o) n e = by_token c k r t ts ds v h (same o) n e
 same (o_no_word {c} {k} {r} {ts} h) n e = no_word c k r n ts h
 same (o_no_token {c} {k} {r} {ts} h) n e = no_token c k r n ts h
+same (o_spelled {w} {k} {r} {t} {ts} {ds} {v} h o) n e = by_spelled w k r t ts ds v h (same o) n e
+same (o_misspelled {w} {k} {r} {ts} h) n e = no_spelled w k r n ts h
 same (o_rule {p} {k} {r} {ts} {ds} {v} o) n e = by_rule p k r ts ds v (same o) n e
 same (o_level {p} {k} {r} {ts} {ds} {v} o) n e = by_level p k r ts ds v (same o) n e
 same (o_deep {p} {k} {ts} h) n e = by_deep p k ts h n e

@@ -6,10 +6,10 @@ use Rattle.aud_parse.specs.Grammar.{Part, Sym, N, A}
 use Rattle.aud_parse.specs.First.{next_in, firsts}
 use Rattle.aud_parse.specs.Parsed.{Verdict, Good}
 use Rattle.aud_parse.specs.Actions.{Item}
-use Rattle.aud_parse.specs.Machine.{Out, o_end, o_rest, o_word, o_token, o_no_word, o_no_token, o_rule, o_level, o_deep, o_shut, o_down, o_this, o_other, o_last, o_yes, o_no, o_more, o_stop}
-use Rattle.aud_parse.specs.Derives.{Member, here, later, Derives, d_end, d_word, d_token, d_rule, d_level, d_down, d_one, d_yes, d_no, d_more, d_stop}
+use Rattle.aud_parse.specs.Machine.{Out, o_end, o_rest, o_word, o_token, o_no_word, o_no_token, o_spelled, o_misspelled, o_rule, o_level, o_deep, o_shut, o_down, o_this, o_other, o_last, o_yes, o_no, o_more, o_stop}
+use Rattle.aud_parse.specs.Derives.{Member, here, later, Derives, d_end, d_word, d_token, d_spelled, d_rule, d_level, d_down, d_one, d_yes, d_no, d_more, d_stop}
 use Rattle.aud_parse.proofs.Tables.{follow}
-use Rattle.aud_parse.proofs.Choices.{mem, next_code, next_is, is_false, Sub, Apart, fs, first_seq, AllFollow, Distinct, Clean, clean_rule, fin, member_first, starts}
+use Rattle.aud_parse.proofs.Choices.{mem, next_code, next_is, is_false, Sub, Apart, fs, fs_all, first_seq, AllFollow, Distinct, Clean, clean_rule, fin, member_first, starts}
 
 -- what the machine reads is derived
 
@@ -23,6 +23,8 @@ sound (o_word h o) e = d_word h (sound o e)
 sound (o_token h o) e = d_token h (sound o e)
 sound (o_no_word h) e = cc
 sound (o_no_token h) e = cc
+sound (o_spelled h o) e = d_spelled h (sound o e)
+sound (o_misspelled h) e = cc
 sound (o_rule o) e = d_rule (sound o e)
 sound (o_level o) e = d_level (sound o e)
 sound (o_deep h) e = cc
@@ -51,15 +53,16 @@ member_follow (later m) G h = member_follow m G h.1
 choose : {p : Part} {ps : List Part} (m : Member p ps) (k : List Sym) (r : ℕ) (ds : List Item) (ts : List Element) (v : Verdict) → Distinct ps → mem (fs p) (next_code ts) ≡ true →
     Out (N p ∷ k) r ts ds v → Out (A ps ∷ k) r ts ds v
 choose (here {ps = []}) k r ds ts v dis h o = o_last o
-choose (here {ps = q ∷ ps}) k r ds ts v dis h o = o_this (next_yes _ ts h) o
+choose {p} (here {ps = q ∷ ps}) k r ds ts v dis h o = o_this (next_yes p ts h) o
 choose {p} (later {q} {ps = []} m) k r ds ts v dis h o = elim m [ ]
 choose {p} (later {q} {ps = x ∷ ps} m) k r ds ts v dis h o =
-    o_other (next_no q _ ts dis.0 (member_first m _ h)) (choose m k r ds ts v dis.1 h o)
+    o_other (next_no q (fs_all (x ∷ ps)) ts dis.0 (member_first m (next_code ts) h)) (choose m k r ds ts v dis.1 h o)
 
 pub complete : {s : List Sym} {r : ℕ} {ds : List Item} {ts : List Element} → Derives s r ds ts → Clean s fin → Out s r ts ds Good
 complete d_end c = o_end
 complete (d_word h d) c = o_word h (complete d c)
 complete (d_token h d) c = o_token h (complete d c)
+complete (d_spelled h d) c = o_spelled h (complete d c)
 complete (d_rule {p} {k} d) c = o_rule (complete d (clean_rule p k fin c))
 complete (d_level d) c = o_level (complete d c)
 complete (d_down d) c = o_down (complete d c)

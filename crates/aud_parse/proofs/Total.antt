@@ -3,15 +3,15 @@ use Rattle.std.specs.Prelude.{◌≡◌, ℕ, zero, suc, ◌≤◌, List, [], �
 use Rattle.std.proofs.Common.{sym, ap, subst, arith, leb-true}
 use Rattle.aud_lex.specs.declared.token.Kind.{Kind}
 use Rattle.aud_lex.specs.Element.{Element}
-use Rattle.aud_parse.specs.Grammar.{Part, Sym, T, P, N, L, Down, A, Opt, Rep, rule}
+use Rattle.aud_parse.specs.Grammar.{Word, Part, Sym, T, P, W, N, L, Down, A, Opt, Rep, rule}
 use Rattle.aud_lex.specs.Kinds.{code}
-use Rattle.aud_parse.specs.First.{next_in, firsts}
+use Rattle.aud_parse.specs.First.{next_in, is_word, firsts}
 use Rattle.aud_parse.specs.Parsed.{Verdict}
 use Rattle.aud_parse.specs.Actions.{Item}
 use Rattle.aud_parse.proofs.Tables.{rank}
 use Rattle.aud_parse.specs.Parsed.{pick, Ran, budget, read}
-use Rattle.aud_parse.specs.Machine.{Out, o_end, o_rest, o_word, o_token, o_no_word, o_no_token, o_rule, o_level, o_deep, o_shut, o_down, o_this, o_other, o_last, o_yes, o_no, o_more, o_stop}
-use Rattle.aud_parse.proofs.Reading.{is_yes, no_word, no_token, run_down, run_rule, run_level, run_deep, run_shut, run_one, run_yes, run_no, run_more, run_stop, pick_yes, pick_no, none_left, less, and_in, table_rank_some, enough_rule, enough_budget, below, enough}
+use Rattle.aud_parse.specs.Machine.{Out, o_end, o_rest, o_word, o_token, o_no_word, o_no_token, o_spelled, o_misspelled, o_rule, o_level, o_deep, o_shut, o_down, o_this, o_other, o_last, o_yes, o_no, o_more, o_stop}
+use Rattle.aud_parse.proofs.Reading.{is_yes, no_word, no_token, no_spelled, run_down, run_rule, run_level, run_deep, run_shut, run_one, run_yes, run_no, run_more, run_stop, pick_yes, pick_no, none_left, less, and_in, table_rank_some, enough_rule, enough_budget, below, enough}
 use Rattle.aud_parse.proofs.Gets.{Full, full_append, table_full}
 
 abbrev pub Outs : List Sym → ℕ → List Element → Ran → Type 0
@@ -27,6 +27,10 @@ word_out c k r t ts n o false h = let i : next_in (c ∷ []) (t ∷ ts) ≡ fals
 token_out : (c : Kind) (k : List Sym) (r : ℕ) (t : Element) (ts : List Element) (n : ℕ) → Outs k r ts (read ts budget k r) → (b : Bool) → (code t.kind == code c) ≡ b → Outs (P c ∷ k) r (t ∷ ts) (read (t ∷ ts) n (P c ∷ k) r)
 token_out c k r t ts n o true h = move (P c ∷ k) r (t ∷ ts) _ _ (is_yes (code t.kind == code c) _ _ h) (o_token (ap (λ b. if b then true else false) h) o)
 token_out c k r t ts n o false h = let i : next_in (c ∷ []) (t ∷ ts) ≡ false = ap (λ b. if b then true else false) h in move (P c ∷ k) r (t ∷ ts) _ _ (no_token c k r n (t ∷ ts) i) (o_no_token i)
+
+spelled_out : (w : Word) (k : List Sym) (r : ℕ) (t : Element) (ts : List Element) (n : ℕ) → Outs k r ts (read ts budget k r) → (b : Bool) → is_word w t ≡ b → Outs (W w ∷ k) r (t ∷ ts) (read (t ∷ ts) n (W w ∷ k) r)
+spelled_out w k r t ts n o true h = move (W w ∷ k) r (t ∷ ts) _ _ (is_yes (is_word w t) _ _ h) (o_spelled h o)
+spelled_out w k r t ts n o false h = move (W w ∷ k) r (t ∷ ts) _ _ (no_spelled w k r n (t ∷ ts) h) (o_misspelled h)
 
 level_out : (p : Part) (k : List Sym) (ts : List Element) (n : ℕ) (b : Bool) → next_in (firsts p) ts ≡ b → Outs (L p ∷ k) 0 ts (read ts (suc n) (L p ∷ k) 0)
 level_out p k ts n true h = move (L p ∷ k) 0 ts _ _ (run_deep p k n ts h) (o_deep h)
@@ -67,12 +71,14 @@ out [] n (T c ∷ k) r u e = o_no_word refl
 out (t ∷ ts) n (T c ∷ k) r u e = word_out c k r t ts n (out ts budget k r u (enough_budget k)) (code t.kind == code c) refl
 out [] n (P c ∷ k) r u e = o_no_token refl
 out (t ∷ ts) n (P c ∷ k) r u e = token_out c k r t ts n (out ts budget k r u (enough_budget k)) (code t.kind == code c) refl
+out [] n (W w ∷ k) r u e = o_misspelled refl
+out (t ∷ ts) n (W w ∷ k) r u e = spelled_out w k r t ts n (out ts budget k r u (enough_budget k)) (is_word w t) refl
 out ts n (Down ∷ k) r u e = move (Down ∷ k) r ts _ _ (run_down k r n ts) (o_down (out ts n k (suc r) u e))
 out ts zero (N p ∷ k) r u e = absurd (no_rule p e)
 out ts (suc n) (N p ∷ k) r u e = move (N p ∷ k) r ts _ _ (run_rule p k r n ts) (o_rule (out ts n (rule p ++ k) r (full_append (rule p) k (table_full p) u) (enough_rule p k n e)))
 out ts zero (L p ∷ k) r u e = absurd (none_left (rank p) e)
 out ts (suc n) (L p ∷ k) zero u e = level_out p k ts n (next_in (firsts p) ts) refl
-out ts (suc n) (L p ∷ k) (suc r) u e = move (L p ∷ k) (suc r) ts _ _ (run_level p k r n ts) (o_level (out ts n (N p ∷ k) r u (less (rank p) n e)))
+out ts (suc n) (L p ∷ k) (suc r) u e = move (L p ∷ k) (suc r) ts _ _ (run_level p k r n ts) (o_level (out ts n (N p ∷ k) r u.1 (less (rank p) n e)))
 out ts n (A [] ∷ k) r u e = absurd u
 out ts zero (A (p ∷ ps) ∷ k) r u e = absurd (none_left (rank p) (and_in (nat_le (suc (rank p)) 0) _ e).0)
 out ts (suc n) (A (p ∷ ps) ∷ k) r u e = move (A (p ∷ ps) ∷ k) r ts _ _ (run_one p ps k r n ts) (pick_out ps p k r ts _ _ (out ts n (N (pick p ps ts) ∷ k) r u (pick_enough ps p ts n e)))

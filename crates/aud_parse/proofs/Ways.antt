@@ -1,13 +1,14 @@
 -- The first step of a derivation, whole or begun: the first symbol decides it, and the next token says which.
-use Rattle.std.specs.Prelude.{◌≡◌, ◌⊎◌, ℕ, zero, suc, List, [], ◌∷◌, ◌++◌, take, Bool, true, false, refl}
+use Rattle.std.specs.Prelude.{Option, Some, None, ◌≡◌, ◌⊎◌, ℕ, zero, suc, List, [], ◌∷◌, ◌++◌, take, Bool, true, false, refl}
 use Rattle.std.proofs.Common.{sym, ap, ◌∙◌, subst, inl, inr}
 use Rattle.aud_lex.specs.Element.{Element}
-use Rattle.aud_parse.specs.Grammar.{Part, Sym, T, P, N, L, Down, A, Opt, Rep, rule}
-use Rattle.aud_parse.specs.First.{next_in, firsts}
+use Rattle.aud_lex.specs.Kinds.{code}
+use Rattle.aud_parse.specs.Grammar.{Part, Sym, T, P, W, N, L, Down, A, Opt, Rep, rule}
+use Rattle.aud_parse.specs.First.{is_word, next_in, firsts}
 use Rattle.aud_parse.specs.Actions.{Item}
-use Rattle.aud_parse.specs.Derives.{Member, here, later, Derives, d_end, d_word, d_token, d_rule, d_level, d_down, d_one, d_yes, d_no, d_more, d_stop}
-use Rattle.aud_parse.specs.Begun.{Begun, b_stop, b_word, b_token, b_rule, b_level, b_down, b_one, b_yes, b_no, b_more, b_last}
-use Rattle.aud_parse.proofs.Choices.{mem, mem_left, mem_right, fs, fs_all, fin, first_seq, first_append, table_first, member_first, next_code, next_is, not_both, Apart, starts}
+use Rattle.aud_parse.specs.Derives.{Member, here, later, Derives, d_end, d_word, d_token, d_spelled, d_rule, d_level, d_down, d_one, d_yes, d_no, d_more, d_stop}
+use Rattle.aud_parse.specs.Begun.{Begun, b_stop, b_word, b_token, b_spelled, b_rule, b_level, b_down, b_one, b_yes, b_no, b_more, b_last}
+use Rattle.aud_parse.proofs.Choices.{and_in, mem, mem_left, mem_right, fs, fs_all, fin, first_seq, first_append, table_first, member_first, next_code, next_is, not_both, Apart, starts}
 
 -- a whole derivation of the tokens, or one that has come so far
 pub data Goes : Bool → List Sym → ℕ → List Element → Type 0 where
@@ -28,6 +29,7 @@ abbrev pub Step : Bool → List Sym → ℕ → List Element → Type 0
 Step b [] r ts = ts ≡ []
 Step b (T c ∷ k) r ts = (t : Element) × (us : List Element) × Goes b k r us × (ts ≡ t ∷ us)
 Step b (P c ∷ k) r ts = (t : Element) × (us : List Element) × Goes b k r us × (ts ≡ t ∷ us)
+Step b (W w ∷ k) r ts = (t : Element) × (us : List Element) × Goes b k r us × (ts ≡ t ∷ us) × (is_word w t ≡ true)
 Step b (N p ∷ k) r ts = Goes b (rule p ++ k) r ts
 Step b (L p ∷ k) r ts = (q : ℕ) × (r ≡ suc q) × Goes b (N p ∷ k) q ts
 Step b (Down ∷ k) r ts = Goes b k (suc r) ts
@@ -39,6 +41,7 @@ pub step : {b : Bool} {s : List Sym} {r : ℕ} {ts : List Element} → Goes b s 
 step (whole d_end) n = refl
 step (whole (d_word {t = t} {ts = ts} h d)) n = (t, ts, whole d, refl)
 step (whole (d_token {t = t} {ts = ts} h d)) n = (t, ts, whole d, refl)
+step (whole (d_spelled {t = t} {ts = ts} h d)) n = (t, ts, whole d, refl, h)
 step (whole (d_rule d)) n = whole d
 step (whole (d_level {r = r} d)) n = (r, refl, whole d)
 step (whole (d_down d)) n = whole d
@@ -50,6 +53,7 @@ step (whole (d_stop d)) n = inr (whole d)
 step (begun b_stop) n = absurd (n refl)
 step (begun (b_word {t = t} {ts = ts} h d)) n = (t, ts, begun d, refl)
 step (begun (b_token {t = t} {ts = ts} h d)) n = (t, ts, begun d, refl)
+step (begun (b_spelled {t = t} {ts = ts} h d)) n = (t, ts, begun d, refl, h)
 step (begun (b_rule d)) n = begun d
 step (begun (b_level {r = r} d)) n = (r, refl, begun d)
 step (begun (b_down d)) n = begun d
@@ -64,6 +68,7 @@ begun_starts : {s : List Sym} {r : ℕ} {ts : List Element} → Begun s r ts →
 begun_starts b_stop n = absurd (n refl)
 begun_starts (b_word h d) n = h
 begun_starts (b_token h d) n = h
+begun_starts (b_spelled h d) n = (and_in _ _ h).0
 begun_starts (b_rule {p} {k} {ts = ts} d) n = table_first p (first_seq k fin) (next_code ts) (subst (λ z. mem z (next_code ts) ≡ true) (first_append (rule p) k fin) (begun_starts d n))
 begun_starts (b_level d) n = begun_starts d n
 begun_starts (b_down d) n = begun_starts d n
@@ -89,21 +94,37 @@ begun_other p (b_one m d) = b_one (later m) d
 pub behind : {b : Bool} {k : List Sym} {r : ℕ} (x : Element) (us : List Element) → (t : Element) × (ws : List Element) × Goes b k r ws × (x ∷ us ≡ t ∷ ws) → Goes b k r us
 behind {b} {k} {r} x us w = let i : w.1 ≡ us = cc (w.3) in subst (λ z. Goes b k r z) i w.2
 
+-- the next token, if there is one
+abbrev pub next_of : List Element → Option Element
+next_of [] = None
+next_of (t ∷ ts) = Some t
+
+abbrev code_of : Option Element → ℕ
+code_of None = 999
+code_of (Some t) = code t.kind
+
+is_code_of : (ts : List Element) → next_code ts ≡ code_of (next_of ts)
+is_code_of [] = refl
+is_code_of (t ∷ ts) = refl
+
+pub next_codes : (ts us : List Element) → next_of ts ≡ next_of us → next_code ts ≡ next_code us
+next_codes ts us n = is_code_of ts ∙ ap code_of n ∙ sym (is_code_of us)
+
 -- a test of the next token leaves one way
 
-pub yes_not : {X : Type 0} (p : Part) (F : List ℕ) (ts us : List Element) → Apart (fs p) F → next_in (firsts p) ts ≡ true → next_code ts ≡ next_code us → mem F (next_code us) ≡ true → X
-yes_not p F ts us h e n m = absurd (h (next_code us) (subst (λ c. mem (fs p) c ≡ true) n (sym (next_is (firsts p) ts) ∙ e)) m)
+pub yes_not : {X : Type 0} (p : Part) (F : List ℕ) (ts us : List Element) → Apart (fs p) F → next_in (firsts p) ts ≡ true → next_of ts ≡ next_of us → mem F (next_code us) ≡ true → X
+yes_not p F ts us h e n m = absurd (h (next_code us) (subst (λ c. mem (fs p) c ≡ true) (next_codes ts us n) (sym (next_is (firsts p) ts) ∙ e)) m)
 
-pub no_not : {X : Type 0} (p : Part) (ts us : List Element) → next_in (firsts p) ts ≡ false → next_code ts ≡ next_code us → mem (fs p) (next_code us) ≡ true → X
-no_not p ts us e n m = absurd (not_both _ m (ap (λ c. mem (fs p) c) (sym n) ∙ sym (next_is (firsts p) ts) ∙ e))
+pub no_not : {X : Type 0} (p : Part) (ts us : List Element) → next_in (firsts p) ts ≡ false → next_of ts ≡ next_of us → mem (fs p) (next_code us) ≡ true → X
+no_not p ts us e n m = absurd (not_both _ m (ap (λ c. mem (fs p) c) (sym (next_codes ts us n)) ∙ sym (next_is (firsts p) ts) ∙ e))
 
 pub this_way : {X : Type 0} {b : Bool} {p q : Part} {ps : List Part} (k : List Sym) (r : ℕ) (ts us : List Element) → Member q (p ∷ ps) → Goes b (N q ∷ k) r us → Says b us →
-    Apart (fs p) (fs_all ps) → next_in (firsts p) ts ≡ true → next_code ts ≡ next_code us → (Goes b (N p ∷ k) r us → X) → X
+    Apart (fs p) (fs_all ps) → next_in (firsts p) ts ≡ true → next_of ts ≡ next_of us → (Goes b (N p ∷ k) r us → X) → X
 this_way k r ts us here d s apart h n go = go d
 this_way {p = p} {ps = ps} k r ts us (later m) d s apart h n go = yes_not p (fs_all ps) ts us apart h n (member_first m (next_code us) (begins d s))
 
 pub other_way : {b : Bool} {p q : Part} {ps : List Part} (k : List Sym) (r : ℕ) (ts us : List Element) → Member q (p ∷ ps) → Goes b (N q ∷ k) r us → Says b us →
-    next_in (firsts p) ts ≡ false → next_code ts ≡ next_code us → Goes b (A ps ∷ k) r us
+    next_in (firsts p) ts ≡ false → next_of ts ≡ next_of us → Goes b (A ps ∷ k) r us
 other_way {p = p} k r ts us here d s h n = no_not p ts us h n (begins d s)
 other_way k r ts us (later m) d s h n = goes_one m d
 
@@ -119,6 +140,8 @@ begun_take (b_word h d) zero = b_stop
 begun_take (b_word h d) (suc n) = b_word h (begun_take d n)
 begun_take (b_token h d) zero = b_stop
 begun_take (b_token h d) (suc n) = b_token h (begun_take d n)
+begun_take (b_spelled h d) zero = b_stop
+begun_take (b_spelled h d) (suc n) = b_spelled h (begun_take d n)
 begun_take (b_rule d) n = b_rule (begun_take d n)
 begun_take (b_level d) n = b_level (begun_take d n)
 begun_take (b_down d) n = b_down (begun_take d n)
@@ -133,6 +156,7 @@ pub derives_begun : {s : List Sym} {r : ℕ} {ds : List Item} {ts : List Element
 derives_begun d_end = b_stop
 derives_begun (d_word h d) = b_word h (derives_begun d)
 derives_begun (d_token h d) = b_token h (derives_begun d)
+derives_begun (d_spelled h d) = b_spelled h (derives_begun d)
 derives_begun (d_rule d) = b_rule (derives_begun d)
 derives_begun (d_level d) = b_level (derives_begun d)
 derives_begun (d_down d) = b_down (derives_begun d)

@@ -1,10 +1,13 @@
 -- The words of a tree are the tokens that spell it, each written canonically.
 use Rattle.std.proofs.Common.{append-nil, ◌≡◌, ℕ, List, [], ◌∷◌, ◌++◌, map, refl, sym, ap, ◌∙◌, subst, append_assoc}
-use Rattle.std.specs.Prelude.{Some, None, codes}
+use Rattle.std.specs.Prelude.{Some, None, codes, true, ◌==◌}
+use Rattle.std.proofs.lemmas.Bool.{eqb-true}
 use Rattle.aud_lex.specs.declared.token.Kind.{Kind}
+use Rattle.aud_lex.specs.declared.token.Kind.TheVariants as kind
 use Rattle.aud_lex.specs.Element.{Element}
 use Rattle.aud_lex.specs.Kinds.{code}
 use Rattle.aud_lex.specs.Spaced.{Word, word, last_word}
+use Rattle.aud_text.specs.Name.{capitals}
 use Rattle.aud_text.specs.declared.place.Pos.{Pos}
 use Rattle.aud_syntax.specs.declared.tree.Ident.{Ident}
 use Rattle.aud_syntax.specs.declared.tree.Number.{Number}
@@ -20,12 +23,14 @@ use Rattle.aud_syntax.specs.declared.tree.Highest.TheVariants as highest
 use Rattle.aud_syntax.specs.Plain as m
 use Rattle.aud_syntax.specs.Printed as w
 use Rattle.aud_parse.specs.Grammar as g
-use Rattle.aud_parse.specs.Grammar.{Part, Sym, T, P, N, L, Down, A, Opt, Rep, rule}
+use Rattle.aud_parse.specs.Grammar.{Part, Sym, T, P, W, N, L, Down, A, Opt, Rep, rule}
+use Rattle.aud_parse.specs.First as f
 use Rattle.aud_parse.specs.Actions as a
 use Rattle.aud_parse.specs.Actions.{Item, tok, none, cons, made, listed, top, the_unit}
 use Rattle.aud_parse.specs.Spells.{Spells}
-use Rattle.aud_parse.specs.Derives.{Member, here, later, Derives, d_end, d_word, d_token, d_rule, d_level, d_down, d_one, d_yes, d_no, d_more, d_stop}
+use Rattle.aud_parse.specs.Derives.{Member, here, later, Derives, d_end, d_word, d_token, d_spelled, d_rule, d_level, d_down, d_one, d_yes, d_no, d_more, d_stop}
 use Rattle.aud_parse.proofs.Canonical.{written_as, written}
+use Rattle.aud_parse.proofs.Choices.{and_in}
 use Rattle.aud_parse.proofs.Places.{is_code}
 
 -- the sorts of trees
@@ -129,6 +134,7 @@ data Told : List Sym → List Item → List Word → Type 0 where
   t_end : Told [] [] []
   t_word : {c : Kind} {k : List Sym} {ds : List Item} {ws : List Word} (text : List ℕ) → Told k ds ws → Told (T c ∷ k) ds (written_as (code c) text ∷ ws)
   t_token : {c : Kind} {k : List Sym} {ds : List Item} {ws : List Word} (t : Element) → Told k ds ws → Told (P c ∷ k) (tok t ∷ ds) (written_as (code c) t.text ∷ ws)
+  t_spelled : {n : g.Word} {k : List Sym} {ds : List Item} {ws : List Word} → Told k ds ws → Told (W n ∷ k) ds (word (f.spelling n) ∷ ws)
   t_part : {p : Part} {k : List Sym} {x : Item} {ds : List Item} {us ws : List Word} → Says (sort p) x us → Told k ds ws → Told (N p ∷ k) (x ∷ ds) (us ++ ws)
   t_level : {p : Part} {k : List Sym} {x : Item} {ds : List Item} {us ws : List Word} → Says (sort p) x us → Told k ds ws → Told (L p ∷ k) (x ∷ ds) (us ++ ws)
   t_down : {k : List Sym} {ds : List Item} {ws : List Word} → Told k ds ws → Told (Down ∷ k) ds ws
@@ -278,10 +284,22 @@ told_some (t_part s r) = t_some s r
 told_more : {p : Part} {k : List Sym} {ds : List Item} {ws : List Word} → Told (N p ∷ Rep p ∷ k) ds ws → Told (Rep p ∷ k) (listed ds) ws
 told_more (t_part {us = us} s (t_row {us = vs} {ws = ws} row r)) = so (t_row (row_more s row) r) (append_assoc us vs ws)
 
+same_is : (xs ys : List ℕ) → f.same_text xs ys ≡ true → xs ≡ ys
+same_is [] [] h = refl
+same_is [] (y ∷ ys) h = cc
+same_is (x ∷ xs) [] h = cc
+same_is (x ∷ xs) (y ∷ ys) h = let b = and_in (x == y) (f.same_text xs ys) h in let e : x ≡ y = eqb-true x y b.0 in cc (e, same_is xs ys b.1)
+
+spelled_written : (n : g.Word) (t : Element) → f.is_word n t ≡ true → written t ≡ word (f.spelling n)
+spelled_written n t h =
+    let b = and_in (f.among (kind.Identifier ∷ []) (code t.kind)) (f.same_text (capitals t.text) (f.spelling n)) h in
+    ap (λ c. written_as c t.text) (is_code kind.Identifier (code t.kind) b.0) ∙ ap word (same_is _ _ b.1)
+
 told : {s : List Sym} {r : ℕ} {ds : List Item} {ts : List Element} → Derives s r ds ts → Told s ds (map written ts)
 told d_end = t_end
 told (d_word {c} {k} {r} {ds} {t} {ts} h d) = so (t_word t.text (told d)) (ap (λ n. written_as n t.text ∷ map written ts) (sym (is_code c (code t.kind) h)))
 told (d_token {c} {k} {r} {ds} {t} {ts} h d) = so (t_token t (told d)) (ap (λ n. written_as n t.text ∷ map written ts) (sym (is_code c (code t.kind) h)))
+told (d_spelled {w = n} {k} {r} {ds} {t} {ts} h d) = so (t_spelled (told d)) (ap (λ z. z ∷ map written ts) (sym (spelled_written n t h)))
 told (d_rule {p} d) = told_rule p (told d)
 told (d_level d) = told_level (told d)
 told (d_down d) = t_down (told d)

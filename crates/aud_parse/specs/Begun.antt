@@ -4,8 +4,8 @@ use Rattle.aud_lex.specs.declared.token.Kind.{Kind}
 use Rattle.aud_lex.specs.Element.{Element}
 use Rattle.aud_lex.specs.Kinds.{code}
 use Rattle.aud_parse.specs.Grammar as g
-use Rattle.aud_parse.specs.Grammar.{Part, Sym, T, P, N, L, Down, A, Opt, Rep, rule}
-use Rattle.aud_parse.specs.First.{among}
+use Rattle.aud_parse.specs.Grammar.{Word, Part, Sym, T, P, W, N, L, Down, A, Opt, Rep, rule}
+use Rattle.aud_parse.specs.First.{among, is_word}
 use Rattle.aud_parse.specs.Derives.{Member}
 
 -- Begun s room tokens: the symbols derive the tokens so far, with room for so many levels. The rules are those of Derives, and one may stop anywhere
@@ -15,6 +15,8 @@ pub data Begun : List Sym → ℕ → List Element → Type 0 where
       among (c ∷ []) (code t.kind) ≡ true → Begun k r ts → Begun (T c ∷ k) r (t ∷ ts)
   b_token : {c : Kind} {k : List Sym} {r : ℕ} {t : Element} {ts : List Element} →
       among (c ∷ []) (code t.kind) ≡ true → Begun k r ts → Begun (P c ∷ k) r (t ∷ ts)
+  b_spelled : {w : Word} {k : List Sym} {r : ℕ} {t : Element} {ts : List Element} →
+      is_word w t ≡ true → Begun k r ts → Begun (W w ∷ k) r (t ∷ ts)
   b_rule : {p : Part} {k : List Sym} {r : ℕ} {ts : List Element} →
       Begun (rule p ++ k) r ts → Begun (N p ∷ k) r ts
   b_level : {p : Part} {k : List Sym} {r : ℕ} {ts : List Element} →

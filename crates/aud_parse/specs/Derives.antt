@@ -2,9 +2,9 @@
 use Rattle.std.specs.Prelude.{◌≡◌, ℕ, suc, List, [], ◌∷◌, ◌++◌, true}
 use Rattle.aud_lex.specs.declared.token.Kind.{Kind}
 use Rattle.aud_lex.specs.Element.{Element}
-use Rattle.aud_parse.specs.Grammar.{Part, Sym, T, P, N, L, Down, A, Opt, Rep, rule}
+use Rattle.aud_parse.specs.Grammar.{Word, Part, Sym, T, P, W, N, L, Down, A, Opt, Rep, rule}
 use Rattle.aud_lex.specs.Kinds.{code}
-use Rattle.aud_parse.specs.First.{among}
+use Rattle.aud_parse.specs.First.{among, is_word}
 use Rattle.aud_parse.specs.Actions.{Item, tok, none, listed, made}
 
 -- a member of a list of parts
@@ -19,6 +19,8 @@ pub data Derives : List Sym → ℕ → List Item → List Element → Type 0 wh
       among (c ∷ []) (code t.kind) ≡ true → Derives k r ds ts → Derives (T c ∷ k) r ds (t ∷ ts)
   d_token : {c : Kind} {k : List Sym} {r : ℕ} {ds : List Item} {t : Element} {ts : List Element} →
       among (c ∷ []) (code t.kind) ≡ true → Derives k r ds ts → Derives (P c ∷ k) r (tok t ∷ ds) (t ∷ ts)
+  d_spelled : {w : Word} {k : List Sym} {r : ℕ} {ds : List Item} {t : Element} {ts : List Element} →
+      is_word w t ≡ true → Derives k r ds ts → Derives (W w ∷ k) r ds (t ∷ ts)
   d_rule : {p : Part} {k : List Sym} {r : ℕ} {ds : List Item} {ts : List Element} →
       Derives (rule p ++ k) r ds ts → Derives (N p ∷ k) r (made p ds) ts
   d_level : {p : Part} {k : List Sym} {r : ℕ} {ds : List Item} {ts : List Element} →

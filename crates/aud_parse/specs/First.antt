@@ -1,9 +1,12 @@
 -- The tokens with which a part begins.
-use Rattle.std.specs.Prelude.{ℕ, zero, suc, List, [], ◌∷◌, ◌++◌, Bool, true, false, ◌==◌, if◌then◌else◌}
+use Rattle.std.specs.Prelude.{codes, ℕ, zero, suc, List, [], ◌∷◌, ◌++◌, Bool, true, false, ◌==◌, if◌then◌else◌}
+use Rattle.aud_text.specs.Name.{capitals}
 use Rattle.aud_lex.specs.declared.token.Kind.{Kind}
+use Rattle.aud_lex.specs.declared.token.Kind.TheVariants as kind
 use Rattle.aud_lex.specs.Element.{Element}
 use Rattle.aud_lex.specs.Kinds.{code}
-use Rattle.aud_parse.specs.Grammar.{Part, Sym, T, P, N, L, Down, A, Opt, Rep, rule}
+use Rattle.aud_parse.specs.Grammar as g
+use Rattle.aud_parse.specs.Grammar.{Word, Part, Sym, T, P, W, N, L, Down, A, Opt, Rep, rule}
 
 -- the kind with this number is one of these
 abbrev pub among : List Kind → ℕ → Bool
@@ -15,6 +18,27 @@ abbrev pub next_in : List Kind → List Element → Bool
 next_in ks [] = false
 next_in ks (t ∷ ts) = among ks (code t.kind)
 
+-- how the identifiers are spelled that the grammar names, in capitals, as names are compared (RM 2.3(5))
+abbrev pub spelling : Word → List ℕ
+spelling g.Ada = codes "ADA"
+spelling g.TextIo = codes "TEXT_IO"
+spelling g.Duration = codes "DURATION"
+
+-- two texts are the same
+abbrev pub same_text : List ℕ → List ℕ → Bool
+same_text [] [] = true
+same_text [] (y ∷ ys) = false
+same_text (x ∷ xs) [] = false
+same_text (x ∷ xs) (y ∷ ys) = if x == y then same_text xs ys else false
+
+-- a token is this identifier (RM 2.3(5))
+abbrev pub is_word : Word → Element → Bool
+is_word w t = if among (kind.Identifier ∷ []) (code t.kind) then same_text (capitals t.text) (spelling w) else false
+
+abbrev pub next_word : Word → List Element → Bool
+next_word w [] = false
+next_word w (t ∷ ts) = is_word w t
+
 -- the kinds with which symbols can begin, given those of the parts
 abbrev pub first_of_all : (Part → List Kind) → List Part → List Kind
 first_of_all first [] = []
@@ -24,6 +48,7 @@ abbrev pub first_of : (Part → List Kind) → List Sym → List Kind
 first_of first [] = []
 first_of first (T k ∷ s) = k ∷ []
 first_of first (P k ∷ s) = k ∷ []
+first_of first (W w ∷ s) = kind.Identifier ∷ []
 first_of first (N p ∷ s) = first p
 first_of first (L p ∷ s) = first p
 first_of first (Down ∷ s) = first_of first s

@@ -13,12 +13,18 @@ pub data Part : Type 0 where
   Primary Integer String Named Attribute Group Parens InParens : Part
   Id Number Literal : Part
 
+-- identifiers that the grammar itself names (RM A.10.1, 9.6)
+pub data Word : Type 0 where
+  Ada TextIo Duration : Word
+
 -- a symbol of a rule
 pub data Sym : Type 0 where
   -- a word or a delimiter
   T : Kind → Sym
   -- a token of which the tree keeps something
   P : Kind → Sym
+  -- an identifier that the grammar names
+  W : Word → Sym
   -- a part
   N : Part → Sym
   -- a part that lies one level deeper, and the end of a level

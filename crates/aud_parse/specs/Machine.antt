@@ -3,8 +3,8 @@ use Rattle.std.specs.Prelude.{◌≡◌, ℕ, suc, List, [], ◌∷◌, ◌++◌
 use Rattle.aud_lex.specs.declared.token.Kind.{Kind}
 use Rattle.aud_lex.specs.Element.{Element}
 use Rattle.aud_lex.specs.Kinds.{code}
-use Rattle.aud_parse.specs.Grammar.{Part, Sym, T, P, N, L, Down, A, Opt, Rep, rule}
-use Rattle.aud_parse.specs.First.{among, next_in, firsts}
+use Rattle.aud_parse.specs.Grammar.{Word, Part, Sym, T, P, W, N, L, Down, A, Opt, Rep, rule}
+use Rattle.aud_parse.specs.First.{among, next_in, is_word, next_word, firsts}
 use Rattle.aud_parse.specs.Actions.{Item, tok, none, listed, made}
 use Rattle.aud_parse.specs.Parsed.{Verdict, Good, Wrong, Deep}
 
@@ -20,6 +20,10 @@ pub data Out : List Sym → ℕ → List Element → List Item → Verdict → T
       next_in (c ∷ []) ts ≡ false → Out (T c ∷ k) r ts [] (Wrong ts)
   o_no_token : {c : Kind} {k : List Sym} {r : ℕ} {ts : List Element} →
       next_in (c ∷ []) ts ≡ false → Out (P c ∷ k) r ts [] (Wrong ts)
+  o_spelled : {w : Word} {k : List Sym} {r : ℕ} {t : Element} {ts : List Element} {ds : List Item} {v : Verdict} →
+      is_word w t ≡ true → Out k r ts ds v → Out (W w ∷ k) r (t ∷ ts) ds v
+  o_misspelled : {w : Word} {k : List Sym} {r : ℕ} {ts : List Element} →
+      next_word w ts ≡ false → Out (W w ∷ k) r ts [] (Wrong ts)
   o_rule : {p : Part} {k : List Sym} {r : ℕ} {ts : List Element} {ds : List Item} {v : Verdict} →
       Out (rule p ++ k) r ts ds v → Out (N p ∷ k) r ts (made p ds) v
   o_level : {p : Part} {k : List Sym} {r : ℕ} {ts : List Element} {ds : List Item} {v : Verdict} →
