@@ -1,7 +1,7 @@
 -- Chains in memory that begin, go on, and are copied.
 use Rattle.std.specs.Prelude.{Vec, Box, List, [], ◌∷◌, ◌++◌, map}
 use Rattle.std.specs.Global.{Global}
-use Rattle.std.proofs.Common.{◌≡◌, ℕ, ◌<◌, ◌+◌, length, get_or, take, arith, refl, sym, ◌∙◌, ap}
+use Rattle.std.proofs.Common.{◌≡◌, ℕ, ◌<◌, ◌+◌, length, get_or, take, sym, ◌∙◌, ap}
 use Rattle.std.proofs.lemmas.List.{map-append, take_more}
 use Rattle.aud_typed.specs.declared.program.Operation.{Operation, out-Operation}
 use Rattle.aud_typed.specs.declared.program.IntegerExpr.{IntegerExpr}

@@ -1,5 +1,5 @@
 -- Where there are no faults, each variable of the typed program has been elaborated where it is read or assigned.
-use Rattle.std.proofs.Common.{◌≡◌, ℕ, zero, suc, ℤ, ◌<◌, Bool, true, false, List, [], ◌∷◌, ◌++◌, length, Option, Some, None, if◌then◌else◌, arith, codes, map, not, refl, sym, ◌∙◌, ap, subst}
+use Rattle.std.proofs.Common.{◌≡◌, ℕ, zero, suc, ℤ, ◌+◌, ◌<◌, Bool, true, false, List, [], ◌∷◌, ◌++◌, length, Option, Some, None, if◌then◌else◌, arith, codes, not, refl, sym, ◌∙◌, ap, subst}
 use Rattle.std.specs.Prelude.{slice_index}
 use Rattle.std.specs.Str.{bytes_eq}
 use Rattle.std.proofs.lemmas.List.{length-map}
@@ -21,8 +21,8 @@ use Rattle.aud_typed.specs.Sequential.Scoped.{Scope, IsElaborated, IntegerScoped
 use Rattle.aud_check.specs.declared.fault.Fault.{Fault}
 use Rattle.aud_check.specs.declared.names.Meaning.{Meaning}
 use Rattle.aud_check.specs.declared.names.Meaning.TheVariants.{IntegerType, PutLine, MainProcedure, Variable, Faulty}
-use Rattle.aud_check.specs.Visible as names
-use Rattle.aud_check.specs.Visible.{Symbol, Names}
+use Rattle.aud_check.specs.Names as names
+use Rattle.aud_check.specs.Names.{Symbol, Region, Place}
 use Rattle.aud_check.specs.Rules as rules
 use Rattle.aud_check.specs.Expressions as e
 use Rattle.aud_check.specs.Expressions.{Typed, number, string, unknown}
@@ -61,7 +61,7 @@ visible_if : (k : ℕ) → (b : Bool) (x y : Option Meaning) → VisibleScoped k
 visible_if k true x y h i = h
 visible_if k false x y h i = i
 
-found_scoped : (k : ℕ) → (name : List ℕ) (xs : List Symbol) → SymbolsScoped k xs → VisibleScoped k (names.found name xs)
+found_scoped : (k : ℕ) → (name : List ℕ) (xs : List Symbol) → SymbolsScoped k xs → VisibleScoped k (names.named_in name xs)
 found_scoped k name [] h = tt
 found_scoped k name (x ∷ xs) h = visible_if k (bytes_eq name x.0) _ _ h.0 (found_scoped k name xs h.1)
 
@@ -69,16 +69,16 @@ or_scoped : (k : ℕ) → (x y : Option Meaning) → VisibleScoped k x → Visib
 or_scoped k None y h i = i
 or_scoped k (Some m) y h i = h
 
-predefined_scoped : (k : ℕ) → (name : List ℕ) → VisibleScoped k (names.predefined name)
-predefined_scoped k name =
-    visible_if k (bytes_eq name (codes "INTEGER")) (Some IntegerType) (if bytes_eq name (codes "PUT_LINE") then Some PutLine else None) tt
-    (visible_if k (bytes_eq name (codes "PUT_LINE")) (Some PutLine) None tt tt)
+abbrev pub RegionsScoped : ℕ → List Region → Type 0
+RegionsScoped k [] = Unit {0}
+RegionsScoped k (r ∷ rs) = SymbolsScoped k r.symbols × RegionsScoped k rs
 
-outside_scoped : (k : ℕ) → (main name : List ℕ) → VisibleScoped k (names.outside main name)
-outside_scoped k main name = visible_if k (bytes_eq name main) (Some MainProcedure) (names.predefined name) tt (predefined_scoped k name)
+declared_scoped : (k : ℕ) → (name : List ℕ) (rs : List Region) → RegionsScoped k rs → VisibleScoped k (names.declared name rs)
+declared_scoped k name [] h = tt
+declared_scoped k name (r ∷ rs) h = or_scoped k (names.named_in name r.symbols) (names.declared name rs) (found_scoped k name r.symbols h.0) (declared_scoped k name rs h.1)
 
-visible_scoped : (k : ℕ) → (name : List ℕ) (n : Names) → SymbolsScoped k n.symbols → VisibleScoped k (names.visible name n)
-visible_scoped k name n h = visible_if k (names.is_hidden name n.hidden) _ _ tt (or_scoped k (names.found name n.symbols) _ (found_scoped k name n.symbols h) (outside_scoped k n.main name))
+visible_scoped : (k : ℕ) → (name : List ℕ) (n : Place) → RegionsScoped k n.regions → VisibleScoped k (names.visible name n)
+visible_scoped k name n h = visible_if k (names.is_hidden name n.hidden) _ _ tt (declared_scoped k name n.regions h)
 
 -- expressions
 
@@ -172,38 +172,38 @@ attribute_scoped k (Some m) prefix designator a h i =
     checked_if k (bytes_eq designator.name (codes "IMAGE")) (e.image m prefix designator a) (e.faulty (rules.wrong_kind_of_name designator.at)) (any_image_scoped k m prefix designator a h i) tt
 
 mutual
-  simple_scoped : (k : ℕ) → (x : plain.Simple) (n : Names) → SymbolsScoped k n.symbols → TypedScoped k (e.check_simple x n).typed
+  simple_scoped : (k : ℕ) → (x : plain.Simple) (n : Place) → RegionsScoped k n.regions → TypedScoped k (e.check_simple x n).typed
   simple_scoped k (plain.simple x t rest) n h = addeds_scoped k rest n _ _ h (signed_scoped k x _ _ (term_scoped k t n h))
 
-  addeds_scoped : (k : ℕ) → (x : plain.Addeds) (n : Names) (at : Pos) (left : Typed) → SymbolsScoped k n.symbols → TypedScoped k left → TypedScoped k (e.check_addeds x n at left).typed
+  addeds_scoped : (k : ℕ) → (x : plain.Addeds) (n : Place) (at : Pos) (left : Typed) → RegionsScoped k n.regions → TypedScoped k left → TypedScoped k (e.check_addeds x n at left).typed
   addeds_scoped k plain.no_addeds n at left h i = i
   addeds_scoped k (plain.more_addeds x rest) n at left h i = addeds_scoped k rest n at _ h (added_scoped k x n at left h i)
 
-  added_scoped : (k : ℕ) → (x : plain.Added) (n : Names) (at : Pos) (left : Typed) → SymbolsScoped k n.symbols → TypedScoped k left → TypedScoped k (e.check_added x n at left).typed
+  added_scoped : (k : ℕ) → (x : plain.Added) (n : Place) (at : Pos) (left : Typed) → RegionsScoped k n.regions → TypedScoped k left → TypedScoped k (e.check_added x n at left).typed
   added_scoped k (plain.added op t) n at left h i = adding_scoped k op at left _ _ i (term_scoped k t n h)
 
-  term_scoped : (k : ℕ) → (x : plain.Term) (n : Names) → SymbolsScoped k n.symbols → TypedScoped k (e.check_term x n).typed
+  term_scoped : (k : ℕ) → (x : plain.Term) (n : Place) → RegionsScoped k n.regions → TypedScoped k (e.check_term x n).typed
   term_scoped k (plain.term f rest) n h = multiplieds_scoped k rest n _ _ h (factor_scoped k f n h)
 
-  multiplieds_scoped : (k : ℕ) → (x : plain.Multiplieds) (n : Names) (at : Pos) (left : Typed) → SymbolsScoped k n.symbols → TypedScoped k left → TypedScoped k (e.check_multiplieds x n at left).typed
+  multiplieds_scoped : (k : ℕ) → (x : plain.Multiplieds) (n : Place) (at : Pos) (left : Typed) → RegionsScoped k n.regions → TypedScoped k left → TypedScoped k (e.check_multiplieds x n at left).typed
   multiplieds_scoped k plain.no_multiplieds n at left h i = i
   multiplieds_scoped k (plain.more_multiplieds x rest) n at left h i = multiplieds_scoped k rest n at _ h (multiplied_scoped k x n at left h i)
 
-  multiplied_scoped : (k : ℕ) → (x : plain.Multiplied) (n : Names) (at : Pos) (left : Typed) → SymbolsScoped k n.symbols → TypedScoped k left → TypedScoped k (e.check_multiplied x n at left).typed
+  multiplied_scoped : (k : ℕ) → (x : plain.Multiplied) (n : Place) (at : Pos) (left : Typed) → RegionsScoped k n.regions → TypedScoped k left → TypedScoped k (e.check_multiplied x n at left).typed
   multiplied_scoped k (plain.multiplied op f) n at left h i = combined_scoped k _ left _ i (factor_scoped k f n h)
 
-  factor_scoped : (k : ℕ) → (x : plain.Factor) (n : Names) → SymbolsScoped k n.symbols → TypedScoped k (e.check_factor x n).typed
+  factor_scoped : (k : ℕ) → (x : plain.Factor) (n : Place) → RegionsScoped k n.regions → TypedScoped k (e.check_factor x n).typed
   factor_scoped k (plain.factor None p) n h = primary_scoped k p n h
   factor_scoped k (plain.factor (Some op) p) n h = highest_scoped k op.highest _ _ (primary_scoped k p n h)
 
-  primary_scoped : (k : ℕ) → (x : plain.Primary) (n : Names) → SymbolsScoped k n.symbols → TypedScoped k (e.check_primary x n).typed
+  primary_scoped : (k : ℕ) → (x : plain.Primary) (n : Place) → RegionsScoped k n.regions → TypedScoped k (e.check_primary x n).typed
   primary_scoped k (plain.integer x) n h = number_scoped k x.value x.at
   primary_scoped k (plain.text x) n h = tt
   primary_scoped k (plain.name i) n h = read_scoped k (names.visible i.name n) (visible_scoped k i.name n h)
   primary_scoped k (plain.attribute prefix designator argument) n h = argument_scoped k argument n prefix designator h
   primary_scoped k (plain.group at x) n h = simple_scoped k x n h
 
-  argument_scoped : (k : ℕ) → (x : plain.MaybeSimple) (n : Names) (prefix designator : Ident) → SymbolsScoped k n.symbols → TypedScoped k (e.check_image x n prefix designator).typed
+  argument_scoped : (k : ℕ) → (x : plain.MaybeSimple) (n : Place) (prefix designator : Ident) → RegionsScoped k n.regions → TypedScoped k (e.check_image x n prefix designator).typed
   argument_scoped k plain.no_simple n prefix designator h = attribute_scoped k (names.visible prefix.name n) prefix designator None (visible_scoped k prefix.name n h) tt
   argument_scoped k (plain.a_simple x) n prefix designator h =
       attribute_scoped k (names.visible prefix.name n) prefix designator (Some (e.simple_at x, (e.check_simple x n).typed)) (visible_scoped k prefix.name n h) (simple_scoped k x n h)
@@ -249,11 +249,16 @@ abbrev pub scope_behind : List tree.Stmt → Scope → Scope
 scope_behind [] scope = scope
 scope_behind (x ∷ xs) scope = scope_behind xs (scope_after x scope)
 
--- where so many variables have been elaborated, these steps elaborate one for each further symbol
-pub record Elaborates (k : ℕ) (xs : List Symbol) (ys : List tree.Stmt) : Type 0 where
-  pub symbols : SymbolsScoped (length xs) xs
+-- each cell of the region is the variable of a symbol
+pub record RegionScoped (r : Region) : Type 0 where
+  pub symbols : SymbolsScoped r.cells r.symbols
+  pub counted : length r.symbols ≡ r.cells
+
+-- where so many variables have been elaborated, these steps elaborate one for each further cell
+pub record Elaborates (k : ℕ) (r : Region) (ys : List tree.Stmt) : Type 0 where
+  pub region : RegionScoped r
   pub steps : StepsScoped ys (only k)
-  pub behind : scope_behind ys (only k) ≡ only (length xs)
+  pub behind : scope_behind ys (only k) ≡ only r.cells
 
 no_first : {A : Type 0} (xs ys : List A) → xs ++ ys ≡ [] → xs ≡ []
 no_first [] ys h = refl
@@ -271,28 +276,59 @@ new_at false f h = refl
 new_name : (i : Ident) (xs : List Symbol) → rules.declared_once i.name i.at xs ≡ [] → names.is_declared i.name xs ≡ false
 new_name i xs h = new_at (names.is_declared i.name xs) _ h
 
-names_scoped : (is : List Ident) (good : Bool) (at : Pos) (x : tree.IntegerExpr) (k : ℕ) (xs : List Symbol) → length xs ≡ k → d.twice_faults is good xs ≡ [] → SymbolsScoped k xs → IntegerScoped x (only k) → Elaborates k (d.declared_names is good xs) (d.elaboration is at x)
-names_scoped [] good at x k xs p q h i = record { symbols = subst (λ n. SymbolsScoped n xs) (sym p) h; steps = tt; behind = ap only (sym p) }
-names_scoped (i ∷ is) good at x k xs p q h y =
-    let new : names.is_declared i.name xs ≡ false = new_name i xs (no_first _ _ q) in
-    let added : List Symbol = xs ++ (i.name, d.new_meaning good (length xs)) ∷ [] in
-    let none : d.twice_faults is good (d.with_name i good xs) ≡ [] = no_second (rules.declared_once i.name i.at xs) _ q in
-    let fresh : d.twice_faults is good added ≡ [] = rw new at none in
-    let rest : Elaborates (suc k) (d.declared_names is good added) (d.elaboration is at x) = names_scoped is good at x (suc k) added (length_more xs _ ∙ ap suc p) fresh (symbols_more k xs _ h (rw p (new_scoped good k))) (integer_more k x y) in
-    rw new (record { symbols = rest.symbols; steps = (y, rest.steps); behind = rest.behind })
+variable_scoped : (name : List ℕ) (good : Bool) (r : Region) → RegionScoped r → RegionScoped (d.with_variable name good r)
+variable_scoped name good r h =
+    let e : r.cells + 1 ≡ suc r.cells = omega arith in
+    record {
+      symbols = rw e (symbols_more r.cells r.symbols _ h.symbols (new_scoped good r.cells));
+      counted = length_more r.symbols _ ∙ ap suc h.counted ∙ sym e;
+    }
+
+names_scoped : (is : List Ident) (good : Bool) (at : Pos) (x : tree.IntegerExpr) (r : Region) → d.twice_faults is good r ≡ [] → RegionScoped r → IntegerScoped x (only r.cells) → Elaborates r.cells (d.declared_names is good r) (d.elaboration is at x)
+names_scoped [] good at x r q h i = record { region = h; steps = tt; behind = refl }
+names_scoped (i ∷ is) good at x r q h y =
+    let new : names.is_declared i.name r.symbols ≡ false = new_name i r.symbols (no_first _ _ q) in
+    let none : d.twice_faults is good (d.with_name i good r) ≡ [] = no_second (rules.declared_once i.name i.at r.symbols) _ q in
+    let fresh : d.twice_faults is good (d.with_variable i.name good r) ≡ [] = rw new at none in
+    let e : r.cells + 1 ≡ suc r.cells = omega arith in
+    let rest : Elaborates (r.cells + 1) (d.declared_names is good (d.with_variable i.name good r)) (d.elaboration is at x) = names_scoped is good at x (d.with_variable i.name good r) fresh (variable_scoped i.name good r h) (rw e (integer_more r.cells x y)) in
+    rw new (record {
+      region = rest.region;
+      steps = (y, subst (λ z. StepsScoped (d.elaboration is at x) (only z)) e rest.steps);
+      behind = ap (λ z. scope_behind (d.elaboration is at x) (only z)) (sym e) ∙ rest.behind;
+    })
 
 zero_scoped : (k : ℕ) → (t : Typed) → TypedScoped k t → IntegerScoped (d.integer_or_zero t) (only k)
 zero_scoped k (number x) h = h
 zero_scoped k (string x) h = tt
 zero_scoped k unknown h = tt
 
-initial_scoped : (k : ℕ) → (x : plain.MaybeSimple) (n : Names) → SymbolsScoped k n.symbols → IntegerScoped (d.initial_value x n) (only k)
+initial_scoped : (k : ℕ) → (x : plain.MaybeSimple) (n : Place) → RegionsScoped k n.regions → IntegerScoped (d.initial_value x n) (only k)
 initial_scoped k plain.no_simple n h = tt
 initial_scoped k (plain.a_simple x) n h = zero_scoped k (e.check_simple x n).typed (simple_scoped k x n h)
 
-decl_scoped : (x : plain.Decl) (main : List ℕ) (xs : List Symbol) → (d.check_decl x main xs).faults ≡ [] → SymbolsScoped (length xs) xs → Elaborates (length xs) (d.check_decl x main xs).symbols (d.check_decl x main xs).steps
-decl_scoped (plain.object ids subtype initial) main xs q h =
-    names_scoped ids _ _ _ (length xs) xs refl (no_second _ _ (no_second _ _ q)) h (initial_scoped (length xs) initial _ h)
+-- a place in the main procedure's body: no variable is declared further out
+pub record InBody (n : Place) : Type 0 where
+  pub innermost : RegionScoped (names.innermost n)
+  pub others : (k : ℕ) → RegionsScoped k (names.others_of n.regions)
+
+regions_scoped : (k : ℕ) (rs : List Region) → SymbolsScoped k (names.innermost_of rs).symbols → RegionsScoped k (names.others_of rs) → RegionsScoped k rs
+regions_scoped k [] h i = tt
+regions_scoped k (r ∷ rs) h i = (h, i)
+
+place_scoped : (n : Place) → InBody n → RegionsScoped (names.innermost n).cells n.regions
+place_scoped n h = regions_scoped (names.innermost n).cells n.regions h.innermost.symbols (h.others (names.innermost n).cells)
+
+-- the same of declarations
+pub record ElaboratesIn (k : ℕ) (n : Place) (ys : List tree.Stmt) : Type 0 where
+  pub place : InBody n
+  pub steps : StepsScoped ys (only k)
+  pub behind : scope_behind ys (only k) ≡ only (names.innermost n).cells
+
+decl_scoped : (x : plain.Decl) (n : Place) → (d.check_decl x n).faults ≡ [] → InBody n → ElaboratesIn (names.innermost n).cells (d.check_decl x n).place (d.check_decl x n).steps
+decl_scoped (plain.object ids subtype initial) n q h =
+    let all = names_scoped ids _ (d.first_at ids) _ (names.innermost n) (no_second _ _ (no_second _ _ q)) h.innermost (initial_scoped (names.innermost n).cells initial (names.hiding ids n) (place_scoped n h)) in
+    record { place = record { innermost = all.region; others = h.others }; steps = all.steps; behind = all.behind }
 
 steps_append : (xs ys : List tree.Stmt) (scope : Scope) → StepsScoped xs scope → StepsScoped ys (scope_behind xs scope) → StepsScoped (xs ++ ys) scope
 steps_append [] ys scope h i = i
@@ -302,16 +338,16 @@ behind_append : (xs ys : List tree.Stmt) (scope : Scope) → scope_behind (xs ++
 behind_append [] ys scope = refl
 behind_append (x ∷ xs) ys scope = behind_append xs ys (scope_after x scope)
 
-decls_scoped : (x : plain.Decls) (main : List ℕ) (xs : List Symbol) → (d.check_decls x main xs).faults ≡ [] → SymbolsScoped (length xs) xs → Elaborates (length xs) (d.check_decls x main xs).symbols (d.check_decls x main xs).steps
-decls_scoped plain.no_decls main xs q h = record { symbols = h; steps = tt; behind = refl }
-decls_scoped (plain.more_decls x rest) main xs q h =
-    let one : d.Declared = d.check_decl x main xs in
-    let first : Elaborates (length xs) one.symbols one.steps = decl_scoped x main xs (no_first _ _ q) h in
-    let others : Elaborates (length one.symbols) (d.check_decls rest main one.symbols).symbols (d.check_decls rest main one.symbols).steps = decls_scoped rest main one.symbols (no_second one.faults _ q) first.symbols in
+decls_scoped : (x : plain.Decls) (n : Place) → (d.check_decls x n).faults ≡ [] → InBody n → ElaboratesIn (names.innermost n).cells (d.check_decls x n).place (d.check_decls x n).steps
+decls_scoped plain.no_decls n q h = record { place = h; steps = tt; behind = refl }
+decls_scoped (plain.more_decls x rest) n q h =
+    let one : d.Declared = d.check_decl x n in
+    let first : ElaboratesIn (names.innermost n).cells one.place one.steps = decl_scoped x n (no_first _ _ q) h in
+    let others : ElaboratesIn (names.innermost one.place).cells (d.check_decls rest one.place).place (d.check_decls rest one.place).steps = decls_scoped rest one.place (no_second one.faults _ q) first.place in
     record {
-      symbols = others.symbols;
+      place = others.place;
       steps = steps_append one.steps _ _ first.steps (rw first.behind others.steps);
-      behind = behind_append one.steps _ _ ∙ ap (scope_behind (d.check_decls rest main one.symbols).steps) first.behind ∙ others.behind;
+      behind = behind_append one.steps _ _ ∙ ap (scope_behind (d.check_decls rest one.place).steps) first.behind ∙ others.behind;
     }
 
 -- statements, which elaborate nothing
@@ -343,7 +379,7 @@ called_scoped (Some MainProcedure) at t i = null_scoped at
 called_scoped (Some Faulty) at t i = null_scoped at
 called_scoped None at t i = null_scoped at
 
-stmt_scoped : (k : ℕ) → (x : plain.Stmt) (n : Names) → SymbolsScoped k n.symbols → IsStatement k (s.typed_stmt x n)
+stmt_scoped : (k : ℕ) → (x : plain.Stmt) (n : Place) → RegionsScoped k n.regions → IsStatement k (s.typed_stmt x n)
 stmt_scoped k (plain.null at) n h = null_scoped at
 stmt_scoped k (plain.assign target value) n h = assigned_scoped (names.visible target.name n) target.at _ (visible_scoped k target.name n h) (simple_scoped k value n h)
 stmt_scoped k (plain.call name argument) n h = called_scoped (names.visible name.name n) name.at _ (simple_scoped k argument n h)
@@ -352,7 +388,7 @@ abbrev AreStatements : ℕ → List tree.Stmt → Type 0
 AreStatements k [] = Unit {0}
 AreStatements k (x ∷ xs) = IsStatement k x × AreStatements k xs
 
-stmts_scoped : (k : ℕ) → (x : plain.Stmts) (n : Names) → SymbolsScoped k n.symbols → AreStatements k (s.typed_stmts x n)
+stmts_scoped : (k : ℕ) → (x : plain.Stmts) (n : Place) → RegionsScoped k n.regions → AreStatements k (s.typed_stmts x n)
 stmts_scoped k plain.no_stmts n h = tt
 stmts_scoped k (plain.more_stmts x xs) n h = (stmt_scoped k x n h, stmts_scoped k xs n h)
 
@@ -386,14 +422,18 @@ sequence_behind : (xs : List tree.Stmt) (scope : Scope) → scope_after (tree.in
 sequence_behind [] scope = refl
 sequence_behind (x ∷ xs) scope = before_behind x xs scope
 
-body_scoped : (main : Ident) (x : d.Declared) (b : plain.Body) → Elaborates 0 x.symbols x.steps → IsScoped (c.unit_program main x b)
+body_scoped : (main : Ident) (x : d.Declared) (b : plain.Body) → ElaboratesIn 0 x.place x.steps → IsScoped (c.unit_program main x b)
 body_scoped main x (plain.body begin xs end last) h =
-    let stmts : List tree.Stmt = c.or_null begin (s.typed_stmts xs (c.all_names main.name x)) in
-    let are : AreStatements (length x.symbols) stmts = or_null_scoped (length x.symbols) begin _ (stmts_scoped (length x.symbols) xs _ h.symbols) in
+    let r : Region = names.innermost x.place in
+    let stmts : List tree.Stmt = c.or_null begin (s.typed_stmts xs x.place) in
+    let are : AreStatements r.cells stmts = or_null_scoped r.cells begin _ (stmts_scoped r.cells xs _ (place_scoped x.place h.place)) in
     record {
-      body = sequence_scoped (x.steps ++ stmts) (only 0) (steps_append x.steps stmts (only 0) h.steps (rw h.behind (statements_scoped (length x.symbols) stmts are)));
-      variables = sequence_behind (x.steps ++ stmts) (only 0) ∙ behind_append x.steps stmts (only 0) ∙ ap (scope_behind stmts) h.behind ∙ statements_behind (length x.symbols) stmts are ∙ ap only (sym (length-map x.symbols (λ z. z.0)));
+      body = sequence_scoped (x.steps ++ stmts) (only 0) (steps_append x.steps stmts (only 0) h.steps (rw h.behind (statements_scoped r.cells stmts are)));
+      variables = sequence_behind (x.steps ++ stmts) (only 0) ∙ behind_append x.steps stmts (only 0) ∙ ap (scope_behind stmts) h.behind ∙ statements_behind r.cells stmts are ∙ ap only (sym (length-map r.symbols (λ z. z.0) ∙ h.place.innermost.counted));
     }
 
+in_main : (name : List ℕ) → InBody (names.main_place name)
+in_main name = record { innermost = record { symbols = tt; counted = refl }; others = λ k. ((tt, tt), ((tt, (tt, tt)), tt)) }
+
 pub typed_scoped : (u : plain.Unit) → c.faults u ≡ [] → IsScoped (c.typed u)
-typed_scoped (plain.unit name decls (plain.body begin xs end last)) q = body_scoped name (d.check_decls decls name.name []) (plain.body begin xs end last) (decls_scoped decls name.name [] (no_first _ _ q) tt)
+typed_scoped (plain.unit name decls (plain.body begin xs end last)) q = body_scoped name (d.check_decls decls (names.main_place name.name)) (plain.body begin xs end last) (decls_scoped decls (names.main_place name.name) (no_first _ _ q) (in_main name.name))

@@ -1,22 +1,19 @@
 -- Programs: their faults, and the typed program of one without faults (RM 6.3, 10.1.1).
-use Rattle.std.specs.Prelude.{ℕ, List, [], ◌∷◌, ◌++◌, map, Result, Ok, Err}
+use Rattle.std.specs.Prelude.{List, [], ◌∷◌, ◌++◌, map, Result, Ok, Err}
 use Rattle.aud_text.specs.declared.place.Pos.{Pos}
 use Rattle.aud_syntax.specs.declared.tree.Ident.{Ident}
 use Rattle.aud_syntax.specs.Plain.{Body, body, Unit, unit}
 use Rattle.aud_typed.specs.Sequential.Tree as tree
 use Rattle.aud_check.specs.declared.fault.Fault.{Fault}
 use Rattle.aud_check.specs.Least.{least}
-use Rattle.aud_check.specs.Visible.{Names}
+use Rattle.aud_check.specs.Names.{innermost, main_place}
 use Rattle.aud_check.specs.Rules.{right_name_at_end}
 use Rattle.aud_check.specs.Declarations.{Declared, check_decls}
 use Rattle.aud_check.specs.Statements.{stmts_faults, typed_stmts}
 
--- what the statements see: all that the body declares
-abbrev pub all_names : List ℕ → Declared → Names
-all_names main d = record { main = main; symbols = d.symbols; hidden = [] }
-
+-- the statements see all that the body declares
 abbrev pub unit_faults : Ident → Declared → Body → List Fault
-unit_faults main d (body begin stmts end last) = d.faults ++ (stmts_faults stmts (all_names main.name d) ++ right_name_at_end main.name last)
+unit_faults main d (body begin stmts end last) = d.faults ++ (stmts_faults stmts d.place ++ right_name_at_end main.name last)
 
 -- no statements are a null statement where they would begin
 abbrev pub or_null : Pos → List tree.Stmt → List tree.Stmt
@@ -26,18 +23,18 @@ or_null at (s ∷ ss) = s ∷ ss
 abbrev pub unit_program : Ident → Declared → Body → tree.Program
 unit_program main d (body begin stmts end last) = record {
   name = main.name;
-  variables = map (λ s. s.0) d.symbols;
-  body = tree.in_sequence (d.steps ++ or_null begin (typed_stmts stmts (all_names main.name d)));
+  variables = map (λ s. s.0) (innermost d.place).symbols;
+  body = tree.in_sequence (d.steps ++ or_null begin (typed_stmts stmts d.place));
   end = end;
 }
 
 -- every fault of a program; the name after the end must be its own
 abbrev pub faults : Unit → List Fault
-faults (unit name decls b) = unit_faults name (check_decls decls name.name []) b
+faults (unit name decls b) = unit_faults name (check_decls decls (main_place name.name)) b
 
 -- the typed program, which means something only where there are no faults
 abbrev pub typed : Unit → tree.Program
-typed (unit name decls b) = unit_program name (check_decls decls name.name []) b
+typed (unit name decls b) = unit_program name (check_decls decls (main_place name.name)) b
 
 abbrev pub judged : List Fault → tree.Program → Result tree.Program Fault
 judged [] program = Ok program

@@ -1,5 +1,5 @@
 -- Expressions: their faults, their types, and what is left of them once their names are resolved (RM 4).
-use Rattle.std.specs.Prelude.{ℤ, List, [], ◌∷◌, ◌++◌, Option, Some, None, codes, if◌then◌else◌}
+use Rattle.std.specs.Prelude.{ℤ, List, [], ◌++◌, Option, Some, None, codes, if◌then◌else◌}
 use Rattle.std.specs.Str.{bytes_eq}
 use Rattle.aud_text.specs.declared.place.Pos.{Pos}
 use Rattle.aud_syntax.specs.declared.tree.Ident.{Ident}
@@ -22,7 +22,7 @@ use Rattle.aud_check.specs.declared.names.Meaning.{Meaning}
 use Rattle.aud_check.specs.declared.names.Meaning.TheVariants.{IntegerType, PutLine, MainProcedure, Variable, Faulty}
 use Rattle.aud_check.specs.declared.rules.Base.{Base}
 use Rattle.aud_check.specs.declared.rules.Base.TheVariants.{Whole, Truth, Text}
-use Rattle.aud_check.specs.Visible.{Names, visible}
+use Rattle.aud_check.specs.Names.{Place, visible}
 use Rattle.aud_check.specs.Rules.{name_not_declared, wrong_kind_of_name, right_type, wrong_number_of_arguments, number_too_large}
 
 -- an expression with its type, unknown where the expression is faulty
@@ -187,41 +187,41 @@ check_attribute (Some m) prefix designator argument = if bytes_eq designator.nam
 
 abbrev mutual
   -- RM 4.4(4): the sign belongs to the first term
-  pub check_simple : Simple → Names → Checked
-  check_simple (simple s t rest) names = with (check_term t names) (λ x. with (signed s (term_at t) x) (λ left. check_addeds rest names (signed_at s (term_at t)) left))
+  pub check_simple : Simple → Place → Checked
+  check_simple (simple s t rest) place = with (check_term t place) (λ x. with (signed s (term_at t) x) (λ left. check_addeds rest place (signed_at s (term_at t)) left))
 
   -- the operators are taken from left to right (RM 4.5(8)); what stands before them begins at a place
-  pub check_addeds : Addeds → Names → Pos → Typed → Checked
-  check_addeds no_addeds names at left = fine left
-  check_addeds (more_addeds x rest) names at left = with (check_added x names at left) (λ t. check_addeds rest names at t)
+  pub check_addeds : Addeds → Place → Pos → Typed → Checked
+  check_addeds no_addeds place at left = fine left
+  check_addeds (more_addeds x rest) place at left = with (check_added x place at left) (λ t. check_addeds rest place at t)
 
-  pub check_added : Added → Names → Pos → Typed → Checked
-  check_added (added op t) names at left = with (check_term t names) (λ right. adding_operator op at left (term_at t) right)
+  pub check_added : Added → Place → Pos → Typed → Checked
+  check_added (added op t) place at left = with (check_term t place) (λ right. adding_operator op at left (term_at t) right)
 
   -- RM 4.4(5)
-  pub check_term : Term → Names → Checked
-  check_term (term f rest) names = with (check_factor f names) (λ left. check_multiplieds rest names (factor_at f) left)
+  pub check_term : Term → Place → Checked
+  check_term (term f rest) place = with (check_factor f place) (λ left. check_multiplieds rest place (factor_at f) left)
 
-  pub check_multiplieds : Multiplieds → Names → Pos → Typed → Checked
-  check_multiplieds no_multiplieds names at left = fine left
-  check_multiplieds (more_multiplieds x rest) names at left = with (check_multiplied x names at left) (λ t. check_multiplieds rest names at t)
+  pub check_multiplieds : Multiplieds → Place → Pos → Typed → Checked
+  check_multiplieds no_multiplieds place at left = fine left
+  check_multiplieds (more_multiplieds x rest) place at left = with (check_multiplied x place at left) (λ t. check_multiplieds rest place at t)
 
-  pub check_multiplied : Multiplied → Names → Pos → Typed → Checked
-  check_multiplied (multiplied op f) names at left = with (check_factor f names) (λ right. arithmetic (multiplying op) at left (factor_at f) right)
+  pub check_multiplied : Multiplied → Place → Pos → Typed → Checked
+  check_multiplied (multiplied op f) place at left = with (check_factor f place) (λ right. arithmetic (multiplying op) at left (factor_at f) right)
 
   -- RM 4.4(6)
-  pub check_factor : Factor → Names → Checked
-  check_factor (factor None p) names = check_primary p names
-  check_factor (factor (Some op) p) names = with (check_primary p names) (λ t. highest op.highest (primary_at p) t)
+  pub check_factor : Factor → Place → Checked
+  check_factor (factor None p) place = check_primary p place
+  check_factor (factor (Some op) p) place = with (check_primary p place) (λ t. highest op.highest (primary_at p) t)
 
   -- RM 4.4(7)
-  pub check_primary : Primary → Names → Checked
-  check_primary (integer n) names = check_number n.value n.at
-  check_primary (text l) names = fine (string (tree.literal l.text))
-  check_primary (name i) names = check_name (visible i.name names) i.at
-  check_primary (attribute prefix designator argument) names = check_image argument names prefix designator
-  check_primary (group at e) names = check_simple e names
+  pub check_primary : Primary → Place → Checked
+  check_primary (integer n) place = check_number n.value n.at
+  check_primary (text l) place = fine (string (tree.literal l.text))
+  check_primary (name i) place = check_name (visible i.name place) i.at
+  check_primary (attribute prefix designator argument) place = check_image argument place prefix designator
+  check_primary (group at e) place = check_simple e place
 
-  pub check_image : MaybeSimple → Names → Ident → Ident → Checked
-  check_image no_simple names prefix designator = check_attribute (visible prefix.name names) prefix designator None
-  check_image (a_simple e) names prefix designator = with (check_simple e names) (λ t. check_attribute (visible prefix.name names) prefix designator (Some (simple_at e, t)))
+  pub check_image : MaybeSimple → Place → Ident → Ident → Checked
+  check_image no_simple place prefix designator = check_attribute (visible prefix.name place) prefix designator None
+  check_image (a_simple e) place prefix designator = with (check_simple e place) (λ t. check_attribute (visible prefix.name place) prefix designator (Some (simple_at e, t)))

@@ -1,5 +1,6 @@
 pub mod Least
-pub mod Visible
+pub mod Names
+pub mod Regions
 pub mod Rules
 pub mod Expressions
 pub mod Typing

@@ -8,7 +8,7 @@ use Rattle.aud_syntax.specs.declared.tree.Ident.{Ident}
 use Rattle.aud_check.specs.declared.fault.Fault.{Fault}
 use Rattle.aud_check.specs.declared.rules.Base.{Base}
 use Rattle.aud_check.specs.declared.rules.Base.TheVariants.{Whole, Truth, Text}
-use Rattle.aud_check.specs.Visible.{Symbol, is_declared}
+use Rattle.aud_check.specs.Names.{Symbol, is_declared}
 
 abbrev pub unless : Bool → Fault → List Fault
 unless good f = if good then [] else f ∷ []

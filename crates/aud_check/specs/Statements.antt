@@ -8,7 +8,7 @@ use Rattle.aud_check.specs.declared.names.Meaning.{Meaning}
 use Rattle.aud_check.specs.declared.names.Meaning.TheVariants.{IntegerType, PutLine, MainProcedure, Variable, Faulty}
 use Rattle.aud_check.specs.declared.rules.Base.{Base}
 use Rattle.aud_check.specs.declared.rules.Base.TheVariants.{Whole, Text}
-use Rattle.aud_check.specs.Visible.{Names, visible}
+use Rattle.aud_check.specs.Names.{Place, visible}
 use Rattle.aud_check.specs.Rules.{name_not_declared, wrong_kind_of_name, right_type, wrong_number_of_arguments}
 use Rattle.aud_check.specs.Expressions.{Typed, number, string, check_simple, simple_at, base_of, variable_faults}
 
@@ -50,21 +50,21 @@ called (Some PutLine) at (string t) = tree.put at (tree.join t tree.new_line)
 called _ at _ = tree.null at
 
 -- RM 5.1
-abbrev pub stmt_faults : Stmt → Names → List Fault
-stmt_faults (null at) names = []
-stmt_faults (assign target value) names = (check_simple value names).faults ++ assign_faults (visible target.name names) target.at (simple_at value) (check_simple value names).typed
-stmt_faults (call name argument) names = (check_simple argument names).faults ++ call_faults (visible name.name names) name.at (simple_at argument) (check_simple argument names).typed
+abbrev pub stmt_faults : Stmt → Place → List Fault
+stmt_faults (null at) place = []
+stmt_faults (assign target value) place = (check_simple value place).faults ++ assign_faults (visible target.name place) target.at (simple_at value) (check_simple value place).typed
+stmt_faults (call name argument) place = (check_simple argument place).faults ++ call_faults (visible name.name place) name.at (simple_at argument) (check_simple argument place).typed
 
-abbrev pub typed_stmt : Stmt → Names → tree.Stmt
-typed_stmt (null at) names = tree.null at
-typed_stmt (assign target value) names = assigned (visible target.name names) target.at (check_simple value names).typed
-typed_stmt (call name argument) names = called (visible name.name names) name.at (check_simple argument names).typed
+abbrev pub typed_stmt : Stmt → Place → tree.Stmt
+typed_stmt (null at) place = tree.null at
+typed_stmt (assign target value) place = assigned (visible target.name place) target.at (check_simple value place).typed
+typed_stmt (call name argument) place = called (visible name.name place) name.at (check_simple argument place).typed
 
 -- a sequence of statements (RM 5.1(2))
-abbrev pub stmts_faults : Stmts → Names → List Fault
-stmts_faults no_stmts names = []
-stmts_faults (more_stmts s ss) names = stmt_faults s names ++ stmts_faults ss names
+abbrev pub stmts_faults : Stmts → Place → List Fault
+stmts_faults no_stmts place = []
+stmts_faults (more_stmts s ss) place = stmt_faults s place ++ stmts_faults ss place
 
-abbrev pub typed_stmts : Stmts → Names → List tree.Stmt
-typed_stmts no_stmts names = []
-typed_stmts (more_stmts s ss) names = typed_stmt s names ∷ typed_stmts ss names
+abbrev pub typed_stmts : Stmts → Place → List tree.Stmt
+typed_stmts no_stmts place = []
+typed_stmts (more_stmts s ss) place = typed_stmt s place ∷ typed_stmts ss place

@@ -8,10 +8,11 @@ ghost use Rattle.aud_check.specs.Rules.{declared_once};
 ghost use Rattle.aud_check.specs.Declarations.{subtype_faults, is_integer_type, initial_faults, initial_value, integer_or_zero, new_meaning, with_name, declared_names, twice_faults, first_at, elaboration, check_decl, check_decls};
 ghost use Rattle.aud_check.specs.Typing.{plain_typed};
 ghost use Rattle.aud_check.specs.Part.{plain_steps, Declares};
+ghost use Rattle.aud_check.specs.Regions.{plain_region, plain_place};
 
 use crate::expr::{expr, simple_at};
 use crate::fault::Least;
-use crate::names::{Meaning, Scope, Symbols};
+use crate::names::{Meaning, Place, Region, Scope};
 use crate::rules::{declared_once, name_not_declared, wrong_kind_of_name};
 use crate::typed::{Typed, wants_integer};
 use aud_syntax::tree::{Decl, Expr, Ident};
@@ -21,10 +22,10 @@ use aud_text::place::Pos;
 use aud_typed::program::{IntegerExpr, Operation, Stmt, Variable};
 use std::alloc::{AllocError, Global};
 
-/// What a declarative part declares, and its elaboration (RM 3.11).
-#[derive(Drop, Debug)]
+/// The place after a declarative part, and its elaboration (RM 3.11).
+#[derive(Drop)]
 pub struct Part {
-    pub symbols: Symbols,
+    pub place: Place,
     pub steps: Vec<Stmt>,
 }
 
@@ -110,21 +111,23 @@ fn new_meaning(good: bool, index: usize) -> Meaning
     }
 }
 
-// Declares one name more.
+// Declares one name more, a variable with a cell of its own.
 fn declare_name(
     alloc: Global,
     ident: &Ident,
     good: bool,
-    symbols: &mut Symbols,
+    region: &mut Region,
     faults: &mut Least,
 ) -> Result<(), AllocError>
-    ensures symbols { OnOk result (symbols.new.entries ≡ with_name ident.now good symbols.old.entries) }
-    ensures noted { OnOk result (faults.new ≡ noted faults.old (declared_once ident.now.name ident.now.at symbols.old.entries)) }
+    ensures region { OnOk result (plain_region region.new ≡ with_name ident.now good (plain_region region.old)) }
+    ensures noted { OnOk result (faults.new ≡ noted faults.old (declared_once ident.now.name ident.now.at region.old.symbols.entries)) }
 {
-    if declared_once(ident, symbols, faults) {
+    if declared_once(ident, &region.symbols, faults) {
+        let cells = region.cells.checked_add(1).ok_or(AllocError)?;
         let name = ident.name.try_clone(alloc)?;
-        let meaning = new_meaning(good, symbols.len());
-        symbols.insert(name, meaning)?;
+        let meaning = new_meaning(good, region.cells);
+        region.symbols.insert(name, meaning)?;
+        region.cells = cells;
     }
     Ok(())
 }
@@ -134,14 +137,14 @@ fn declare(
     alloc: Global,
     names: &[Ident],
     good: bool,
-    symbols: &mut Symbols,
+    region: &mut Region,
     faults: &mut Least,
 ) -> Result<(), AllocError>
-    ensures symbols { OnOk result (symbols.new.entries ≡ declared_names names.now good symbols.old.entries) }
-    ensures noted { OnOk result (faults.new ≡ noted faults.old (twice_faults names.now good symbols.old.entries)) }
+    ensures region { OnOk result (plain_region region.new ≡ declared_names names.now good (plain_region region.old)) }
+    ensures noted { OnOk result (faults.new ≡ noted faults.old (twice_faults names.now good (plain_region region.old))) }
 {
     for ident in names {
-        declare_name(alloc, ident, good, symbols, faults)?;
+        declare_name(alloc, ident, good, region, faults)?;
     }
     Ok(())
 }
@@ -177,14 +180,13 @@ fn elaborate(
 pub fn decl(
     alloc: Global,
     decl: &Decl,
-    main: &Name,
     part: &mut Part,
     faults: &mut Least,
 ) -> Result<(), AllocError>
-    ensures { OnOk result (Declares faults.old faults.new part.old part.new (check_decl (plain_decl decl.now) main.now part.old.symbols.entries)) }
+    ensures { OnOk result (Declares faults.old faults.new part.old part.new (check_decl (plain_decl decl.now) (plain_place part.old.place))) }
 {
     let Decl::Object(names, subtype, initial) = decl;
-    let scope = Scope::new(main, &part.symbols, names);
+    let scope = Scope::new(&part.place, names);
     let meaning = scope.visible(&subtype.name);
     check_subtype(meaning, subtype.at, faults);
     let value = initial_value(alloc, initial, &scope, faults)?;
@@ -192,7 +194,7 @@ pub fn decl(
         alloc,
         names,
         is_integer_type(meaning),
-        &mut part.symbols,
+        &mut part.place.innermost,
         faults,
     )?;
     elaborate(alloc, names, &value, &mut part.steps)
@@ -202,14 +204,13 @@ pub fn decl(
 pub fn decls(
     alloc: Global,
     decls: &[Decl],
-    main: &Name,
     part: &mut Part,
     faults: &mut Least,
 ) -> Result<(), AllocError>
-    ensures { OnOk result (Declares faults.old faults.new part.old part.new (check_decls (plain_decls decls.now) main.now part.old.symbols.entries)) }
+    ensures { OnOk result (Declares faults.old faults.new part.old part.new (check_decls (plain_decls decls.now) (plain_place part.old.place))) }
 {
     for next in decls {
-        decl(alloc, next, main, part, faults)?;
+        decl(alloc, next, part, faults)?;
     }
     Ok(())
 }

@@ -1,12 +1,14 @@
 // Names, and what they stand for.
 
-ghost use Rattle.std.specs.Prelude.{◌≡◌, codes};
-ghost use Rattle.aud_check.specs.Visible.{Names, visible, outside, is_hidden};
+ghost use Rattle.std.specs.Prelude.{◌≡◌, IfOk};
+ghost use Rattle.aud_check.specs.Names.{Place as Plain, empty_region, named_in, predefined, declared, hiding, is_hidden, visible, main_place};
+ghost use Rattle.aud_check.specs.Regions.{plain_region, plain_regions, plain_place};
 
 use aud_syntax::tree::Ident;
 use aud_text::name::Name;
 use aud_typed::program::Variable;
 use indexmap::IndexMap;
+use std::alloc::{AllocError, Global};
 use std::marker::Model;
 
 const INTEGER: &[u8] = b"INTEGER";
@@ -27,33 +29,71 @@ pub enum Meaning {
     Faulty,
 }
 
-/// The names that the body declares, in the order of their declarations, and what they stand for.
+/// The names that a region declares, in the order of their declarations, and what they stand for.
 pub type Symbols = IndexMap<Name, Meaning>;
 
-/// What is declared at a place of the body.
-#[derive(Drop, Debug)]
+/// A region of declarations (RM 8.1): its names, and the cells that its frame has so far.
+#[derive(Drop)]
+pub struct Region {
+    pub symbols: Symbols,
+    pub cells: usize,
+}
+
+/// The regions around a place: the innermost one, and those further out, the next one last. The
+/// predefined names are further out still.
+#[derive(Drop)]
+pub struct Place {
+    pub innermost: Region,
+    pub outer: Vec<Region>,
+}
+
+impl Region {
+    fn new(alloc: Global) -> Self
+        ensures { plain_region result ≡ empty_region }
+    {
+        Region {
+            symbols: Symbols::new(alloc),
+            cells: 0,
+        }
+    }
+}
+
+impl Place {
+    /// The place of a main procedure's declarations (RM 10.1.1).
+    pub fn in_main(alloc: Global, main: &Name) -> Result<Self, AllocError>
+        ensures { IfOk result (λ place. plain_place place ≡ main_place main.now) }
+    {
+        let mut library = Region::new(alloc);
+        let name = main.try_clone(alloc)?;
+        library.symbols.insert(name, Meaning::MainProcedure)?;
+        let mut outer = Vec::new(alloc);
+        outer.push(library)?;
+        Ok(Place {
+            innermost: Region::new(alloc),
+            outer,
+        })
+    }
+}
+
+/// What is visible at a place within a declaration.
+#[derive(Drop)]
 pub struct Scope<'a> {
-    main: &'a Name,
-    symbols: &'a Symbols,
+    place: &'a Place,
     hidden: &'a [Ident],
 }
 
 impl<'a> Model for Scope<'a> {
-    ghost Value = { Names };
+    ghost Value = { Plain };
 
-    ghost view = { λ scope. record { main = scope.main.now; symbols = scope.symbols.now.entries; hidden = scope.hidden.now } };
+    ghost view = { λ scope. hiding scope.hidden.now (plain_place scope.place.now) };
 }
 
 impl<'a> Scope<'a> {
-    /// The place behind the symbols' declarations, within the declaration of the names that are hidden.
-    pub fn new(main: &'a Name, symbols: &'a Symbols, hidden: &'a [Ident]) -> Self
-        ensures { result ≡ record { main = main.now; symbols = symbols.now.entries; hidden = hidden.now } }
+    /// The place within the declaration of the names that are hidden.
+    pub fn new(place: &'a Place, hidden: &'a [Ident]) -> Self
+        ensures { result ≡ hiding hidden.now (plain_place place.now) }
     {
-        Scope {
-            main,
-            symbols,
-            hidden,
-        }
+        Scope { place, hidden }
     }
 
     /// What a name stands for, none where no declaration of it is visible (RM 8.3).
@@ -63,9 +103,9 @@ impl<'a> Scope<'a> {
         if is_hidden(name, self.hidden) {
             return None;
         }
-        match self.symbols.get(name) {
+        match self.place.innermost.symbols.get(name) {
             Some(meaning) => Some(*meaning),
-            None => outside(self.main, name),
+            None => declared(&self.place.outer, name),
         }
     }
 }
@@ -76,13 +116,23 @@ fn is_hidden(name: &Name, hidden: &[Ident]) -> bool
     hidden.iter().any(|ident| *name == ident.name)
 }
 
-// What a name stands for outside the body.
-fn outside(main: &Name, name: &Name) -> Option<Meaning>
-    ensures { result ≡ outside main.now name.now }
+// What regions declare a name to be.
+fn declared(regions: &[Region], name: &Name) -> Option<Meaning>
+    ensures { result ≡ declared name.now (plain_regions regions.now) }
 {
-    if *name == *main {
-        return Some(Meaning::MainProcedure);
+    match regions.split_last() {
+        None => predefined(name),
+        Some((region, further_out)) => match region.symbols.get(name) {
+            Some(meaning) => Some(*meaning),
+            None => declared(further_out, name),
+        },
     }
+}
+
+// What the outermost region declares a name to be.
+fn predefined(name: &Name) -> Option<Meaning>
+    ensures { result ≡ named_in name.now predefined }
+{
     if name.as_bytes() == INTEGER {
         return Some(Meaning::IntegerType);
     }

@@ -2,7 +2,7 @@
 
 ghost use Rattle.std.specs.Prelude.{◌≡◌, not};
 ghost use Rattle.aud_check.specs.Least.{noted};
-ghost use Rattle.aud_check.specs.Visible.{is_declared};
+ghost use Rattle.aud_check.specs.Names.{is_declared};
 ghost use Rattle.aud_check.specs.Rules.{name_not_declared, declared_once, wrong_kind_of_name, fits, right_type, wrong_number_of_arguments, right_name_at_end, number_too_large};
 
 use crate::fault::Least;

@@ -10,7 +10,7 @@ ghost use Rattle.aud_check.specs.Checked.{or_null, faults as program_faults, typ
 
 use crate::decl::{Part, decls};
 use crate::fault::Least;
-use crate::names::{Scope, Symbols};
+use crate::names::{Place, Scope, Symbols};
 use crate::rules::right_name_at_end;
 use crate::stmt::stmts;
 use aud_syntax::tree::{Body, Unit};
@@ -51,16 +51,15 @@ pub fn typed(alloc: Global, unit: &Unit, faults: &mut Least) -> Result<Program, 
     ensures noted { OnOk result (faults.new ≡ noted faults.old (program_faults (plain_unit unit.now))) }
 {
     let main = &unit.name.name;
-    let mut part = Part {
-        symbols: Symbols::new(alloc),
-        steps: Vec::new(alloc),
-    };
-    decls(alloc, &unit.decls, main, &mut part, faults)?;
-    let Part { symbols, mut steps } = part;
-    let scope = Scope::new(main, &symbols, &[]);
+    let place = Place::in_main(alloc, main)?;
+    let steps = Vec::new(alloc);
+    let mut part = Part { place, steps };
+    decls(alloc, &unit.decls, &mut part, faults)?;
+    let Part { place, mut steps } = part;
+    let scope = Scope::new(&place, &[]);
     statements(alloc, &unit.body, &scope, &mut steps, faults)?;
     right_name_at_end(main, &unit.body.name, faults);
-    let variables = names_of(alloc, symbols)?;
+    let variables = names_of(alloc, place.innermost.symbols)?;
     let name = main.try_clone(alloc)?;
     Ok(Program {
         name,

@@ -1,6 +1,6 @@
 use Rattle.std.proofs.Common.{◌+◌, drop, arith}
 use Rattle.std.specs.Prelude.{Some}
-use Rattle.aud_check.specs.Visible.{visible}
+use Rattle.aud_check.specs.Names.{visible}
 use Rattle.aud_syntax.specs.declared.tree.Added.{out-Added}
 use Rattle.aud_syntax.specs.View.{plain_simple, plain_term, plain_primary, plain_factor}
 use Rattle.aud_check.specs.Expressions.{check_simple, check_term, check_factor, check_primary, adding_operator, arithmetic, multiplying, highest, check_attribute, simple_at, term_at, factor_at, primary_at}

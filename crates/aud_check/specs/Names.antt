@@ -1,0 +1,81 @@
+-- What names stand for, where they are visible, and what a construct knows of its place (RM 8.1, 8.2, 8.3).
+use Rattle.std.specs.Prelude.{ℕ, Bool, List, [], ◌∷◌, Option, Some, None, is_some, codes, if◌then◌else◌}
+use Rattle.std.specs.Str.{bytes_eq}
+use Rattle.std.specs.List.{list_any}
+use Rattle.std.specs.Map.{lookup}
+use Rattle.aud_syntax.specs.declared.tree.Ident.{Ident}
+use Rattle.aud_check.specs.declared.names.Meaning.{Meaning}
+use Rattle.aud_check.specs.declared.names.Meaning.TheVariants.{IntegerType, PutLine, MainProcedure}
+
+-- a name that a region declares, and what it stands for
+abbrev pub Symbol : Type 0
+Symbol = List ℕ × Meaning
+
+-- a region of declarations (RM 8.1): its names in the order of their declarations, and the cells taken in its frame
+pub record Region : Type 0 where
+  pub symbols : List Symbol
+  pub cells : ℕ
+
+abbrev pub empty_region : Region
+empty_region = record { symbols = []; cells = 0 }
+
+-- what a region declares a name to be: the first symbol of that name decides
+abbrev pub named_in : List ℕ → List Symbol → Option Meaning
+named_in name symbols = lookup (bytes_eq name) symbols
+
+abbrev pub or_outside : Option Meaning → Option Meaning → Option Meaning
+or_outside (Some m) other = Some m
+or_outside None other = other
+
+-- an inner declaration hides those of its name further out (RM 8.3(15))
+abbrev pub declared : List ℕ → List Region → Option Meaning
+declared name [] = None
+declared name (r ∷ rs) = or_outside (named_in name r.symbols) (declared name rs)
+
+-- what a construct knows of its place: the regions around it, innermost first, and the names of the declaration that lasts
+pub record Place : Type 0 where
+  pub regions : List Region
+  pub hidden : List Ident
+
+abbrev pub innermost_of : List Region → Region
+innermost_of [] = empty_region
+innermost_of (r ∷ rs) = r
+
+abbrev pub innermost : Place → Region
+innermost place = innermost_of place.regions
+
+abbrev pub others_of : List Region → List Region
+others_of [] = []
+others_of (r ∷ rs) = rs
+
+-- the place with another innermost region
+abbrev pub in_region : Region → Place → Place
+in_region r place = record place { regions = r ∷ others_of place.regions }
+
+-- the place within a declaration of these names
+abbrev pub hiding : List Ident → Place → Place
+hiding ids place = record place { hidden = ids }
+
+-- a declaration is hidden from all visibility until it ends (RM 8.3(16, 17))
+abbrev pub is_hidden : List ℕ → List Ident → Bool
+is_hidden name hidden = list_any (λ i. bytes_eq name i.name) hidden
+
+-- what a name stands for, where it is visible (RM 4.1, 8.3)
+abbrev pub visible : List ℕ → Place → Option Meaning
+visible name place = if is_hidden name place.hidden then None else declared name place.regions
+
+-- whether a region has declared a name (RM 8.3(26): no two homographs in one region)
+abbrev pub is_declared : List ℕ → List Symbol → Bool
+is_declared name symbols = is_some (named_in name symbols)
+
+-- the predefined names (RM 8.6(2), A.1)
+abbrev pub predefined : List Symbol
+predefined = (codes "INTEGER", IntegerType) ∷ (codes "PUT_LINE", PutLine) ∷ []
+
+-- the outermost region
+abbrev pub outermost : List Region
+outermost = (record { symbols = predefined; cells = 0 }) ∷ []
+
+-- the place of a main procedure's declarations: its body's region, that of the library, and the predefined one (RM 10.1.1)
+abbrev pub main_place : List ℕ → Place
+main_place name = record { regions = empty_region ∷ (record { symbols = (name, MainProcedure) ∷ []; cells = 0 }) ∷ outermost; hidden = [] }

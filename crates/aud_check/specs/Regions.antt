@@ -1,0 +1,15 @@
+-- The plain data of a place in memory.
+use Rattle.std.specs.Prelude.{List, [], ◌∷◌, ◌++◌, map, reverse}
+use Rattle.aud_check.specs.declared.names.Region as memory
+use Rattle.aud_check.specs.declared.names.Place as memory_place
+use Rattle.aud_check.specs.Names.{Region, Place, outermost}
+
+abbrev pub plain_region : memory.Region → Region
+plain_region r = record { symbols = r.symbols.entries; cells = r.cells }
+
+-- in memory the regions are a stack, and the outermost one is not on it
+abbrev pub plain_regions : List memory.Region → List Region
+plain_regions rs = map plain_region (reverse rs) ++ outermost
+
+abbrev pub plain_place : memory_place.Place → Place
+plain_place p = record { regions = plain_region p.innermost ∷ plain_regions p.outer.items; hidden = [] }
