@@ -172,6 +172,12 @@ attribute_scoped k (Some m) prefix designator a h i =
     checked_if k (bytes_eq designator.name (codes "IMAGE")) (e.image m prefix designator a) (e.faulty (rules.wrong_kind_of_name designator.at)) (any_image_scoped k m prefix designator a h i) tt
 
 mutual
+  expr_scoped : (k : ℕ) → (x : plain.Expr) (n : Place) → RegionsScoped k n.regions → TypedScoped k (e.check_expr x n).typed
+  expr_scoped k (plain.alone x) n h = rel_scoped k x n h
+
+  rel_scoped : (k : ℕ) → (x : plain.Rel) (n : Place) → RegionsScoped k n.regions → TypedScoped k (e.check_rel x n).typed
+  rel_scoped k (plain.unrelated x) n h = simple_scoped k x n h
+
   simple_scoped : (k : ℕ) → (x : plain.Simple) (n : Place) → RegionsScoped k n.regions → TypedScoped k (e.check_simple x n).typed
   simple_scoped k (plain.simple x t rest) n h = addeds_scoped k rest n _ _ h (signed_scoped k x _ _ (term_scoped k t n h))
 
@@ -199,14 +205,14 @@ mutual
   primary_scoped : (k : ℕ) → (x : plain.Primary) (n : Place) → RegionsScoped k n.regions → TypedScoped k (e.check_primary x n).typed
   primary_scoped k (plain.integer x) n h = number_scoped k x.value x.at
   primary_scoped k (plain.text x) n h = tt
-  primary_scoped k (plain.name i) n h = read_scoped k (names.visible i.name n) (visible_scoped k i.name n h)
-  primary_scoped k (plain.attribute prefix designator argument) n h = argument_scoped k argument n prefix designator h
-  primary_scoped k (plain.group at x) n h = simple_scoped k x n h
+  primary_scoped k (plain.name x) n h = read_scoped k (names.visible (e.name_ident x).name n) (visible_scoped k (e.name_ident x).name n h)
+  primary_scoped k (plain.attribute x designator argument) n h = argument_scoped k argument n (e.name_ident x) designator h
+  primary_scoped k (plain.group at x) n h = expr_scoped k x n h
 
-  argument_scoped : (k : ℕ) → (x : plain.MaybeSimple) (n : Place) (prefix designator : Ident) → RegionsScoped k n.regions → TypedScoped k (e.check_image x n prefix designator).typed
-  argument_scoped k plain.no_simple n prefix designator h = attribute_scoped k (names.visible prefix.name n) prefix designator None (visible_scoped k prefix.name n h) tt
-  argument_scoped k (plain.a_simple x) n prefix designator h =
-      attribute_scoped k (names.visible prefix.name n) prefix designator (Some (e.simple_at x, (e.check_simple x n).typed)) (visible_scoped k prefix.name n h) (simple_scoped k x n h)
+  argument_scoped : (k : ℕ) → (x : plain.MaybeExpr) (n : Place) (prefix designator : Ident) → RegionsScoped k n.regions → TypedScoped k (e.check_image x n prefix designator).typed
+  argument_scoped k plain.no_expr n prefix designator h = attribute_scoped k (names.visible prefix.name n) prefix designator None (visible_scoped k prefix.name n h) tt
+  argument_scoped k (plain.an_expr x) n prefix designator h =
+      attribute_scoped k (names.visible prefix.name n) prefix designator (Some (e.expr_at x, (e.check_expr x n).typed)) (visible_scoped k prefix.name n h) (expr_scoped k x n h)
 
 -- declarations
 
@@ -303,9 +309,9 @@ zero_scoped k (number x) h = h
 zero_scoped k (string x) h = tt
 zero_scoped k unknown h = tt
 
-initial_scoped : (k : ℕ) → (x : plain.MaybeSimple) (n : Place) → RegionsScoped k n.regions → IntegerScoped (d.initial_value x n) (only k)
-initial_scoped k plain.no_simple n h = tt
-initial_scoped k (plain.a_simple x) n h = zero_scoped k (e.check_simple x n).typed (simple_scoped k x n h)
+initial_scoped : (k : ℕ) → (x : plain.MaybeExpr) (n : Place) → RegionsScoped k n.regions → IntegerScoped (d.initial_value x n) (only k)
+initial_scoped k plain.no_expr n h = tt
+initial_scoped k (plain.an_expr x) n h = zero_scoped k (e.check_expr x n).typed (expr_scoped k x n h)
 
 -- a place in the main procedure's body: no variable is declared further out
 pub record InBody (n : Place) : Type 0 where
@@ -379,10 +385,15 @@ called_scoped (Some MainProcedure) at t i = null_scoped at
 called_scoped (Some Faulty) at t i = null_scoped at
 called_scoped None at t i = null_scoped at
 
+called_with_scoped : (k : ℕ) → (xs : plain.Args) (i : Ident) (n : Place) → RegionsScoped k n.regions → IsStatement k (s.called_with xs i n)
+called_with_scoped k plain.no_args i n h = null_scoped i.at
+called_with_scoped k (plain.more_args x plain.no_args) i n h = called_scoped (names.visible i.name n) i.at _ (expr_scoped k x n h)
+called_with_scoped k (plain.more_args x (plain.more_args y ys)) i n h = null_scoped i.at
+
 stmt_scoped : (k : ℕ) → (x : plain.Stmt) (n : Place) → RegionsScoped k n.regions → IsStatement k (s.typed_stmt x n)
 stmt_scoped k (plain.null at) n h = null_scoped at
-stmt_scoped k (plain.assign target value) n h = assigned_scoped (names.visible target.name n) target.at _ (visible_scoped k target.name n h) (simple_scoped k value n h)
-stmt_scoped k (plain.call name argument) n h = called_scoped (names.visible name.name n) name.at _ (simple_scoped k argument n h)
+stmt_scoped k (plain.assign x value) n h = assigned_scoped (names.visible (e.name_ident x).name n) (e.name_ident x).at _ (visible_scoped k (e.name_ident x).name n h) (expr_scoped k value n h)
+stmt_scoped k (plain.call x) n h = called_with_scoped k (s.name_args x) (e.name_ident x) n h
 
 abbrev AreStatements : ℕ → List tree.Stmt → Type 0
 AreStatements k [] = Unit {0}

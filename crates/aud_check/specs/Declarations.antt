@@ -2,14 +2,14 @@
 use Rattle.std.specs.Prelude.{ℕ, ◌+◌, Bool, true, false, List, [], ◌∷◌, ◌++◌, map, Option, Some, None, pos, if◌then◌else◌}
 use Rattle.aud_text.specs.declared.place.Pos.{Pos}
 use Rattle.aud_syntax.specs.declared.tree.Ident.{Ident}
-use Rattle.aud_syntax.specs.Plain.{Decl, object, Decls, no_decls, more_decls, MaybeSimple, no_simple, a_simple}
+use Rattle.aud_syntax.specs.Plain.{Decl, object, Decls, no_decls, more_decls, MaybeExpr, no_expr, an_expr}
 use Rattle.aud_typed.specs.Sequential.Tree as tree
 use Rattle.aud_check.specs.declared.fault.Fault.{Fault}
 use Rattle.aud_check.specs.declared.names.Meaning.{Meaning}
 use Rattle.aud_check.specs.declared.names.Meaning.TheVariants.{IntegerType, PutLine, MainProcedure, Variable, Faulty}
 use Rattle.aud_check.specs.Names.{Region, Place, visible, is_declared, innermost, in_region, hiding}
 use Rattle.aud_check.specs.Rules.{name_not_declared, declared_once, wrong_kind_of_name}
-use Rattle.aud_check.specs.Expressions.{Typed, number, check_simple, simple_at, not_integer}
+use Rattle.aud_check.specs.Expressions.{Typed, number, check_expr, expr_at, not_integer}
 
 -- the faults of declarations, the place after them, and their elaboration, name by name (RM 3.11)
 pub record Declared : Type 0 where
@@ -31,18 +31,18 @@ is_integer_type (Some IntegerType) = true
 is_integer_type _ = false
 
 -- the initial value must be of type Integer (RM 3.3.1(4), 5.2)
-abbrev pub initial_faults : MaybeSimple → Place → List Fault
-initial_faults no_simple place = []
-initial_faults (a_simple e) place = (check_simple e place).faults ++ not_integer (simple_at e) (check_simple e place).typed
+abbrev pub initial_faults : MaybeExpr → Place → List Fault
+initial_faults no_expr place = []
+initial_faults (an_expr e) place = (check_expr e place).faults ++ not_integer (expr_at e) (check_expr e place).typed
 
 abbrev pub integer_or_zero : Typed → tree.IntegerExpr
 integer_or_zero (number e) = e
 integer_or_zero _ = tree.number (pos 0)
 
 -- a variable without an initial value starts with 0 (RM 3.3.1(21): any value; profile choice)
-abbrev pub initial_value : MaybeSimple → Place → tree.IntegerExpr
-initial_value no_simple place = tree.number (pos 0)
-initial_value (a_simple e) place = integer_or_zero (check_simple e place).typed
+abbrev pub initial_value : MaybeExpr → Place → tree.IntegerExpr
+initial_value no_expr place = tree.number (pos 0)
+initial_value (an_expr e) place = integer_or_zero (check_expr e place).typed
 
 -- the variable of the next cell
 abbrev pub new_meaning : Bool → ℕ → Meaning
@@ -75,7 +75,7 @@ abbrev pub elaboration : List Ident → Pos → tree.IntegerExpr → List tree.S
 elaboration names at e = map (λ i. tree.declare at e) names
 
 -- within the declaration its names are hidden from all visibility (RM 8.3(16))
-abbrev pub check_object : List Ident → Ident → MaybeSimple → Place → Declared
+abbrev pub check_object : List Ident → Ident → MaybeExpr → Place → Declared
 check_object ids subtype initial place = record {
   faults = subtype_faults (visible subtype.name (hiding ids place)) subtype.at ++ (initial_faults initial (hiding ids place) ++ twice_faults ids (is_integer_type (visible subtype.name (hiding ids place))) (innermost place));
   place = in_region (declared_names ids (is_integer_type (visible subtype.name (hiding ids place))) (innermost place)) place;

@@ -11,7 +11,7 @@ use Rattle.aud_syntax.specs.declared.tree.Multiplying.{Multiplying}
 use Rattle.aud_syntax.specs.declared.tree.Multiplying.TheVariants.{Times, Divide, Modulo, Remainder}
 use Rattle.aud_syntax.specs.declared.tree.Highest.{Highest}
 use Rattle.aud_syntax.specs.declared.tree.Highest.TheVariants.{Magnitude, Not}
-use Rattle.aud_syntax.specs.Plain.{Simple, simple, Addeds, no_addeds, more_addeds, Added, added, Term, term, Multiplieds, no_multiplieds, more_multiplieds, Multiplied, multiplied, Factor, factor, Primary, integer, text, name, attribute, group, MaybeSimple, no_simple, a_simple}
+use Rattle.aud_syntax.specs.Plain.{Expr, alone, Rel, unrelated, Simple, simple, Addeds, no_addeds, more_addeds, Added, added, Term, term, Multiplieds, no_multiplieds, more_multiplieds, Multiplied, multiplied, Factor, factor, Primary, integer, text, name, attribute, group, MaybeExpr, no_expr, an_expr, Name, named, Part, part}
 use Rattle.aud_typed.specs.declared.program.Unary.{Unary}
 use Rattle.aud_typed.specs.declared.program.Unary.TheVariants as unary
 use Rattle.aud_typed.specs.declared.program.Binary.{Binary}
@@ -48,12 +48,19 @@ after faults c = record { faults = faults ++ c.faults; typed = c.typed }
 abbrev pub with : Checked → (Typed → Checked) → Checked
 with c further = after c.faults (further c.typed)
 
+-- the identifier with which a name begins (RM 4.1); where a name is an operand, a prefix or a target, the grammar gives it no more
+abbrev pub part_ident : Part → Ident
+part_ident (part i xs) = i
+
+abbrev pub name_ident : Name → Ident
+name_ident (named p ps) = part_ident p
+
 -- where an expression begins: its first token (RM 4.4)
 abbrev pub primary_at : Primary → Pos
 primary_at (integer n) = n.at
 primary_at (text l) = l.at
-primary_at (name i) = i.at
-primary_at (attribute prefix designator argument) = prefix.at
+primary_at (name n) = (name_ident n).at
+primary_at (attribute n designator argument) = (name_ident n).at
 primary_at (group at e) = at
 
 abbrev pub factor_at : Factor → Pos
@@ -69,6 +76,12 @@ signed_at (Some s) at = s.at
 
 abbrev pub simple_at : Simple → Pos
 simple_at (simple s t rest) = signed_at s (term_at t)
+
+abbrev pub rel_at : Rel → Pos
+rel_at (unrelated s) = simple_at s
+
+abbrev pub expr_at : Expr → Pos
+expr_at (alone r) = rel_at r
 
 -- the type of an expression, where it is known
 abbrev pub base_of : Typed → Option Base
@@ -186,6 +199,14 @@ check_attribute None prefix designator argument = faulty (name_not_declared pref
 check_attribute (Some m) prefix designator argument = if bytes_eq designator.name (codes "IMAGE") then image m prefix designator argument else faulty (wrong_kind_of_name designator.at)
 
 abbrev mutual
+  -- RM 4.4(2)
+  pub check_expr : Expr → Place → Checked
+  check_expr (alone r) place = check_rel r place
+
+  -- RM 4.4(3)
+  pub check_rel : Rel → Place → Checked
+  check_rel (unrelated s) place = check_simple s place
+
   -- RM 4.4(4): the sign belongs to the first term
   pub check_simple : Simple → Place → Checked
   check_simple (simple s t rest) place = with (check_term t place) (λ x. with (signed s (term_at t) x) (λ left. check_addeds rest place (signed_at s (term_at t)) left))
@@ -218,10 +239,10 @@ abbrev mutual
   pub check_primary : Primary → Place → Checked
   check_primary (integer n) place = check_number n.value n.at
   check_primary (text l) place = fine (string (tree.literal l.text))
-  check_primary (name i) place = check_name (visible i.name place) i.at
-  check_primary (attribute prefix designator argument) place = check_image argument place prefix designator
-  check_primary (group at e) place = check_simple e place
+  check_primary (name n) place = check_name (visible (name_ident n).name place) (name_ident n).at
+  check_primary (attribute n designator argument) place = check_image argument place (name_ident n) designator
+  check_primary (group at e) place = check_expr e place
 
-  pub check_image : MaybeSimple → Place → Ident → Ident → Checked
-  check_image no_simple place prefix designator = check_attribute (visible prefix.name place) prefix designator None
-  check_image (a_simple e) place prefix designator = with (check_simple e place) (λ t. check_attribute (visible prefix.name place) prefix designator (Some (simple_at e, t)))
+  pub check_image : MaybeExpr → Place → Ident → Ident → Checked
+  check_image no_expr place prefix designator = check_attribute (visible prefix.name place) prefix designator None
+  check_image (an_expr e) place prefix designator = with (check_expr e place) (λ t. check_attribute (visible prefix.name place) prefix designator (Some (expr_at e, t)))

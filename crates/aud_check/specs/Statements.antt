@@ -1,7 +1,8 @@
 -- Statements (RM 5).
 use Rattle.std.specs.Prelude.{List, [], ◌∷◌, ◌++◌, Option, Some, None}
 use Rattle.aud_text.specs.declared.place.Pos.{Pos}
-use Rattle.aud_syntax.specs.Plain.{Stmt, null, assign, call, Stmts, no_stmts, more_stmts}
+use Rattle.aud_syntax.specs.declared.tree.Ident.{Ident}
+use Rattle.aud_syntax.specs.Plain.{Name, named, Part, part, Args, no_args, more_args, Stmt, null, assign, call, Stmts, no_stmts, more_stmts}
 use Rattle.aud_typed.specs.Sequential.Tree as tree
 use Rattle.aud_check.specs.declared.fault.Fault.{Fault}
 use Rattle.aud_check.specs.declared.names.Meaning.{Meaning}
@@ -10,7 +11,7 @@ use Rattle.aud_check.specs.declared.rules.Base.{Base}
 use Rattle.aud_check.specs.declared.rules.Base.TheVariants.{Whole, Text}
 use Rattle.aud_check.specs.Names.{Place, visible}
 use Rattle.aud_check.specs.Rules.{name_not_declared, wrong_kind_of_name, right_type, wrong_number_of_arguments}
-use Rattle.aud_check.specs.Expressions.{Typed, number, string, check_simple, simple_at, base_of, variable_faults}
+use Rattle.aud_check.specs.Expressions.{Typed, number, string, name_ident, check_expr, expr_at, base_of, variable_faults}
 
 -- the type of what is assigned to, where it is known
 abbrev pub target_base : Option Meaning → Option Base
@@ -49,16 +50,32 @@ abbrev pub called : Option Meaning → Pos → Typed → tree.Stmt
 called (Some PutLine) at (string t) = tree.put at (tree.join t tree.new_line)
 called _ at _ = tree.null at
 
+-- each procedure that may be called has one formal parameter, so that there is one argument (RM 6.4.1)
+abbrev pub args_faults : Args → Ident → Place → List Fault
+args_faults (more_args e no_args) i place = (check_expr e place).faults ++ call_faults (visible i.name place) i.at (expr_at e) (check_expr e place).typed
+args_faults _ i place = wrong_number_of_arguments i.at
+
+abbrev pub called_with : Args → Ident → Place → tree.Stmt
+called_with (more_args e no_args) i place = called (visible i.name place) i.at (check_expr e place).typed
+called_with _ i place = tree.null i.at
+
+-- the arguments of a call are those of its name
+abbrev pub part_args : Part → Args
+part_args (part i xs) = xs
+
+abbrev pub name_args : Name → Args
+name_args (named p ps) = part_args p
+
 -- RM 5.1
 abbrev pub stmt_faults : Stmt → Place → List Fault
 stmt_faults (null at) place = []
-stmt_faults (assign target value) place = (check_simple value place).faults ++ assign_faults (visible target.name place) target.at (simple_at value) (check_simple value place).typed
-stmt_faults (call name argument) place = (check_simple argument place).faults ++ call_faults (visible name.name place) name.at (simple_at argument) (check_simple argument place).typed
+stmt_faults (assign n value) place = (check_expr value place).faults ++ assign_faults (visible (name_ident n).name place) (name_ident n).at (expr_at value) (check_expr value place).typed
+stmt_faults (call n) place = args_faults (name_args n) (name_ident n) place
 
 abbrev pub typed_stmt : Stmt → Place → tree.Stmt
 typed_stmt (null at) place = tree.null at
-typed_stmt (assign target value) place = assigned (visible target.name place) target.at (check_simple value place).typed
-typed_stmt (call name argument) place = called (visible name.name place) name.at (check_simple argument place).typed
+typed_stmt (assign n value) place = assigned (visible (name_ident n).name place) (name_ident n).at (check_expr value place).typed
+typed_stmt (call n) place = called_with (name_args n) (name_ident n) place
 
 -- a sequence of statements (RM 5.1(2))
 abbrev pub stmts_faults : Stmts → Place → List Fault

@@ -10,7 +10,7 @@ ghost use Rattle.aud_check.specs.Typing.{plain_typed};
 ghost use Rattle.aud_check.specs.Part.{plain_steps, Declares};
 ghost use Rattle.aud_check.specs.Regions.{plain_region, plain_place};
 
-use crate::expr::{expr, simple_at};
+use crate::expr::{expr, expr_at};
 use crate::fault::Least;
 use crate::names::{Meaning, Place, Region, Scope};
 use crate::rules::{declared_once, name_not_declared, wrong_kind_of_name};
@@ -73,7 +73,7 @@ fn initial_value(
         None => Ok(IntegerExpr::Number(Int32::new(0))),
         Some(e) => {
             let typed = expr(alloc, e, scope, faults)?;
-            wants_integer(simple_at(e), &typed, faults);
+            wants_integer(expr_at(e), &typed, faults);
             Ok(integer_or_zero(typed))
         }
     }

@@ -1,8 +1,8 @@
 // Expressions.
 
 ghost use Rattle.std.specs.Prelude.{◌≡◌, option_map};
-ghost use Rattle.aud_syntax.specs.View.{plain_simple, plain_added, plain_term, plain_multiplied, plain_factor, plain_primary, plain_maybe};
-ghost use Rattle.aud_check.specs.Expressions.{simple_at, term_at, factor_at, primary_at, multiplying, check_number, check_name, check_simple, check_added, check_term, check_multiplied, check_factor, check_primary, check_image, check_attribute, image_alone, image_with, variable_faults};
+ghost use Rattle.aud_syntax.specs.View.{plain_expr, plain_relation, plain_simple, plain_added, plain_term, plain_multiplied, plain_factor, plain_primary, plain_maybe};
+ghost use Rattle.aud_check.specs.Expressions.{expr_at, rel_at, simple_at, term_at, factor_at, primary_at, multiplying, check_number, check_name, check_expr, check_rel, check_simple, check_added, check_term, check_multiplied, check_factor, check_primary, check_image, check_attribute, image_alone, image_with, variable_faults};
 ghost use Rattle.aud_check.specs.Least.{noted};
 ghost use Rattle.aud_check.specs.Typing.{plain_typed, Shows};
 
@@ -13,7 +13,7 @@ use crate::rules::{
 };
 use crate::typed::{Typed, adding_operator, arithmetic, highest, image_of, signed, wants_integer};
 use aud_syntax::tree::{
-    Added, Expr, Factor, Ident, Multiplied, Multiplying, Number, Primary, Simple, Term,
+    Added, Expr, Factor, Ident, Multiplied, Multiplying, Number, Primary, Relation, Simple, Term,
 };
 use aud_text::place::Pos;
 use aud_typed::program::{Binary, IntegerExpr, TextExpr};
@@ -28,8 +28,8 @@ fn primary_at(primary: &Primary) -> Pos
     match primary {
         Primary::Integer(number) => number.at,
         Primary::Text(literal) => literal.at,
-        Primary::Name(name) => name.at,
-        Primary::Attribute(prefix, _, _) => prefix.at,
+        Primary::Name(name) => name.first.ident.at,
+        Primary::Attribute(prefix, _, _) => prefix.first.ident.at,
         Primary::Group(at, _) => *at,
     }
 }
@@ -49,14 +49,28 @@ fn term_at(term: &Term) -> Pos
     factor_at(&term.first)
 }
 
-/// Where an expression begins: its first token.
-pub fn simple_at(simple: &Simple) -> Pos
+fn simple_at(simple: &Simple) -> Pos
     ensures { result ≡ simple_at (plain_simple simple.now) }
 {
     match &simple.sign {
         Some(sign) => sign.at,
         None => term_at(&simple.first),
     }
+}
+
+fn relation_at(relation: &Relation) -> Pos
+    ensures { result ≡ rel_at (plain_relation relation.now) }
+{
+    let Relation::Unrelated(simple) = relation;
+    simple_at(simple)
+}
+
+/// Where an expression begins: its first token.
+pub fn expr_at(expr: &Expr) -> Pos
+    ensures { result ≡ expr_at (plain_expr expr.now) }
+{
+    let Expr::Alone(relation) = expr;
+    relation_at(relation)
 }
 
 // The operator of RM 4.5.5.
@@ -196,14 +210,18 @@ fn primary(
             let text = literal.text.try_clone(alloc)?;
             Ok(Typed::Text(TextExpr::Literal(text)))
         }
-        Primary::Name(name) => check_name(scope.visible(&name.name), name.at, faults),
+        Primary::Name(name) => {
+            let ident = &name.first.ident;
+            check_name(scope.visible(&ident.name), ident.at, faults)
+        }
         Primary::Attribute(prefix, designator, argument) => {
+            let prefix = &prefix.first.ident;
             let meaning = scope.visible(&prefix.name);
             match argument {
                 None => attribute(meaning, prefix, designator, None, faults),
                 Some(e) => {
                     let typed = expr(alloc, e, scope, faults)?;
-                    let argument = Some((simple_at(e), typed));
+                    let argument = Some((expr_at(e), typed));
                     attribute(meaning, prefix, designator, argument, faults)
                 }
             }
@@ -298,11 +316,10 @@ fn added(
     )
 }
 
-/// Checks an expression (RM 4.4): notes its faults, and answers with its type what is left of it.
 #[cycle(expr)]
-pub fn expr(
+fn simple(
     alloc: Global,
-    e: &Expr,
+    e: &Simple,
     scope: &Scope<'_>,
     faults: &mut Least,
 ) -> Result<Typed, AllocError>
@@ -315,4 +332,31 @@ pub fn expr(
         left = added(alloc, next, scope, at, left, faults)?;
     }
     Ok(left)
+}
+
+#[cycle(expr)]
+fn relation(
+    alloc: Global,
+    relation: &Relation,
+    scope: &Scope<'_>,
+    faults: &mut Least,
+) -> Result<Typed, AllocError>
+    ensures { Shows faults.old faults.new (check_rel (plain_relation relation.now) scope.now) result }
+{
+    let Relation::Unrelated(e) = relation;
+    simple(alloc, e, scope, faults)
+}
+
+/// Checks an expression (RM 4.4): notes its faults, and answers with its type what is left of it.
+#[cycle(expr)]
+pub fn expr(
+    alloc: Global,
+    e: &Expr,
+    scope: &Scope<'_>,
+    faults: &mut Least,
+) -> Result<Typed, AllocError>
+    ensures { Shows faults.old faults.new (check_expr (plain_expr e.now) scope.now) result }
+{
+    let Expr::Alone(alone) = e;
+    relation(alloc, alone, scope, faults)
 }

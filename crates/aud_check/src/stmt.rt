@@ -1,21 +1,22 @@
 // Statements.
 
 ghost use Rattle.std.specs.Prelude.{◌≡◌, ◌++◌, IfOk, OnOk};
-ghost use Rattle.aud_syntax.specs.View.{plain_stmt, plain_stmts};
+ghost use Rattle.aud_syntax.specs.View.{plain_expr, plain_exprs, plain_stmt, plain_stmts};
+ghost use Rattle.aud_syntax.specs.Plain.{no_args, more_args};
 ghost use Rattle.aud_typed.specs.Sequential.View.{plain_stmt as plain_step};
 ghost use Rattle.aud_check.specs.Least.{noted};
-ghost use Rattle.aud_check.specs.Statements.{target_base, assign_faults, assigned, callee_faults, formal_base, called, stmt_faults, typed_stmt, stmts_faults, typed_stmts};
+ghost use Rattle.aud_check.specs.Statements.{target_base, assign_faults, assigned, callee_faults, formal_base, called, args_faults, called_with, stmt_faults, typed_stmt, stmts_faults, typed_stmts};
 ghost use Rattle.aud_check.specs.Typing.{plain_typed};
 ghost use Rattle.aud_check.specs.Part.{plain_steps};
 
-use crate::expr::{check_variable, expr, simple_at};
+use crate::expr::{check_variable, expr, expr_at};
 use crate::fault::Least;
 use crate::names::{Meaning, Scope};
 use crate::rules::{
     Base, name_not_declared, right_type, wrong_kind_of_name, wrong_number_of_arguments,
 };
 use crate::typed::{Typed, base_of, with_text};
-use aud_syntax::tree::Stmt;
+use aud_syntax::tree::{Expr, Ident, Stmt};
 use aud_text::place::Pos;
 use aud_typed::program::{Stmt as Step, TextExpr};
 use std::alloc::{AllocError, Global};
@@ -90,6 +91,48 @@ fn called(
     }
 }
 
+// A call with one argument.
+#[tactic(auto, using(crate::proofs::Notes::noted_append))]
+fn one_argument(
+    alloc: Global,
+    ident: &Ident,
+    argument: &Expr,
+    scope: &Scope<'_>,
+    faults: &mut Least,
+) -> Result<Step, AllocError>
+    ensures step { IfOk result (λ step. plain_step step ≡ called_with (more_args (plain_expr argument.now) no_args) ident.now scope.now) }
+    ensures noted { OnOk result (faults.new ≡ noted faults.old (args_faults (more_args (plain_expr argument.now) no_args) ident.now scope.now)) }
+{
+    let typed = expr(alloc, argument, scope, faults)?;
+    let meaning = scope.visible(&ident.name);
+    check_callee(meaning, ident.at, faults);
+    right_type(
+        formal_base(meaning),
+        expr_at(argument),
+        base_of(&typed),
+        faults,
+    );
+    called(alloc, meaning, ident.at, typed)
+}
+
+// A call: each procedure that may be called has one formal parameter, so that there is one argument.
+fn call(
+    alloc: Global,
+    ident: &Ident,
+    args: &[Expr],
+    scope: &Scope<'_>,
+    faults: &mut Least,
+) -> Result<Step, AllocError>
+    ensures step { IfOk result (λ step. plain_step step ≡ called_with (plain_exprs args.now) ident.now scope.now) }
+    ensures noted { OnOk result (faults.new ≡ noted faults.old (args_faults (plain_exprs args.now) ident.now scope.now)) }
+{
+    if args.len() != 1 {
+        wrong_number_of_arguments(ident.at, faults);
+        return Ok(Step::Null(ident.at));
+    }
+    one_argument(alloc, ident, &args[0], scope, faults)
+}
+
 /// Checks a statement (RM 5.1): notes its faults, and answers what is left of it.
 #[tactic(auto, using(crate::proofs::Notes::noted_append))]
 pub fn stmt(
@@ -105,21 +148,11 @@ pub fn stmt(
         Stmt::Null(at) => Ok(Step::Null(*at)),
         Stmt::Assign(target, value) => {
             let typed = expr(alloc, value, scope, faults)?;
+            let target = &target.first.ident;
             let meaning = scope.visible(&target.name);
-            Ok(assigned(meaning, target.at, simple_at(value), typed, faults))
+            Ok(assigned(meaning, target.at, expr_at(value), typed, faults))
         }
-        Stmt::Call(name, argument) => {
-            let typed = expr(alloc, argument, scope, faults)?;
-            let meaning = scope.visible(&name.name);
-            check_callee(meaning, name.at, faults);
-            right_type(
-                formal_base(meaning),
-                simple_at(argument),
-                base_of(&typed),
-                faults,
-            );
-            called(alloc, meaning, name.at, typed)
-        }
+        Stmt::Call(name) => call(alloc, &name.first.ident, &name.first.args, scope, faults),
     }
 }
 

@@ -7,7 +7,7 @@ use Rattle.aud_syntax.specs.declared.tree.Ident.{Ident}
 use Rattle.aud_syntax.specs.declared.tree.Sign.TheVariants as sign
 use Rattle.aud_syntax.specs.declared.tree.Highest.TheVariants as highest
 use Rattle.aud_syntax.specs.Plain as m
-use Rattle.aud_syntax.specs.Bare.{nowhere, bare_ident, bare_number, bare_literal, bare_signed, bare_operator, bare_sign, bare_highest, bare_name, bare_simple, bare_addeds, bare_added, bare_term, bare_multiplieds, bare_multiplied, bare_factor, bare_primary, bare_maybe, bare_decl, bare_decls, bare_stmt, bare_stmts, bare_body, bare}
+use Rattle.aud_syntax.specs.Bare.{nowhere, bare_ident, bare_number, bare_literal, bare_signed, bare_operator, bare_sign, bare_highest, bare_end, bare_expr, bare_rel, bare_name, bare_part, bare_args, bare_simple, bare_addeds, bare_added, bare_term, bare_multiplieds, bare_multiplied, bare_factor, bare_primary, bare_maybe, bare_decl, bare_decls, bare_stmt, bare_stmts, bare_body, bare}
 use Rattle.aud_parse.specs.Grammar as g
 use Rattle.aud_parse.specs.Grammar.{Part, Sym, T, P, N, L, Down, A, Opt, Rep, rule}
 use Rattle.aud_parse.specs.Actions as a
@@ -28,16 +28,21 @@ bare_item (a.a_sign x) = a.a_sign (bare_signed x)
 bare_item (a.an_adding x) = a.an_adding x
 bare_item (a.a_multiplying x) = a.a_multiplying x
 bare_item (a.an_operator x) = a.an_operator (bare_operator x)
-bare_item (a.in_parens at x) = a.in_parens nowhere (bare_simple x)
+bare_item (a.in_parens at x) = a.in_parens nowhere (bare_expr x)
 bare_item (a.an_attribute x e) = a.an_attribute (bare_ident x) (bare_maybe e)
+bare_item (a.some_args x) = a.some_args (bare_args x)
+bare_item (a.a_part x) = a.a_part (bare_part x)
+bare_item (a.a_name x) = a.a_name (bare_name x)
 bare_item (a.a_primary x) = a.a_primary (bare_primary x)
 bare_item (a.a_factor x) = a.a_factor (bare_factor x)
 bare_item (a.a_multiplied x) = a.a_multiplied (bare_multiplied x)
 bare_item (a.a_term x) = a.a_term (bare_term x)
 bare_item (a.an_added x) = a.an_added (bare_added x)
 bare_item (a.a_simple x) = a.a_simple (bare_simple x)
-bare_item (a.assigned x) = a.assigned (bare_simple x)
-bare_item (a.called x) = a.called (bare_simple x)
+bare_item (a.a_rel x) = a.a_rel (bare_rel x)
+bare_item (a.an_expr x) = a.an_expr (bare_expr x)
+bare_item (a.assigned x) = a.assigned (bare_expr x)
+bare_item (a.called x) = a.called (bare_args x)
 bare_item (a.a_stmt x) = a.a_stmt (bare_stmt x)
 bare_item (a.a_body x) = a.a_body (bare_body x)
 bare_item (a.a_decl x) = a.a_decl (bare_decl x)
@@ -60,7 +65,7 @@ bare_the_ident : (x : Item) → a.the_ident (bare_item x) ≡ bare_ident (a.the_
 bare_the_ident (a.an_ident y) = refl
 bare_the_ident _ = refl
 
-bare_opt_ident : (x : Item) → a.opt_ident (bare_item x) ≡ bare_name (a.opt_ident x)
+bare_opt_ident : (x : Item) → a.opt_ident (bare_item x) ≡ bare_end (a.opt_ident x)
 bare_opt_ident (a.an_ident y) = refl
 bare_opt_ident _ = refl
 
@@ -88,7 +93,7 @@ bare_the_literal : (x : Item) → a.the_literal (bare_item x) ≡ bare_literal (
 bare_the_literal (a.a_literal y) = refl
 bare_the_literal _ = refl
 
-bare_inside : (x : Item) → a.inside (bare_item x) ≡ bare_simple (a.inside x)
+bare_inside : (x : Item) → a.inside (bare_item x) ≡ bare_expr (a.inside x)
 bare_inside (a.in_parens at e) = refl
 bare_inside _ = refl
 
@@ -116,12 +121,32 @@ bare_the_added : (x : Item) → a.the_added (bare_item x) ≡ bare_added (a.the_
 bare_the_added (a.an_added y) = refl
 bare_the_added _ = refl
 
-bare_the_expr : (x : Item) → a.the_expr (bare_item x) ≡ bare_simple (a.the_expr x)
-bare_the_expr (a.a_simple y) = refl
+bare_the_simple : (x : Item) → a.the_simple (bare_item x) ≡ bare_simple (a.the_simple x)
+bare_the_simple (a.a_simple y) = refl
+bare_the_simple _ = refl
+
+bare_the_rel : (x : Item) → a.the_rel (bare_item x) ≡ bare_rel (a.the_rel x)
+bare_the_rel (a.a_rel y) = refl
+bare_the_rel _ = refl
+
+bare_the_expr : (x : Item) → a.the_expr (bare_item x) ≡ bare_expr (a.the_expr x)
+bare_the_expr (a.an_expr y) = refl
 bare_the_expr _ = refl
 
+bare_the_args : (x : Item) → a.the_args (bare_item x) ≡ bare_args (a.the_args x)
+bare_the_args (a.some_args y) = refl
+bare_the_args _ = refl
+
+bare_the_part : (x : Item) → a.the_part (bare_item x) ≡ bare_part (a.the_part x)
+bare_the_part (a.a_part y) = refl
+bare_the_part _ = refl
+
+bare_the_name : (x : Item) → a.the_name (bare_item x) ≡ bare_name (a.the_name x)
+bare_the_name (a.a_name y) = refl
+bare_the_name _ = refl
+
 bare_opt_expr : (x : Item) → a.opt_expr (bare_item x) ≡ bare_maybe (a.opt_expr x)
-bare_opt_expr (a.a_simple y) = refl
+bare_opt_expr (a.an_expr y) = refl
 bare_opt_expr _ = refl
 
 bare_the_stmt : (x : Item) → a.the_stmt (bare_item x) ≡ bare_stmt (a.the_stmt x)
@@ -160,9 +185,9 @@ bare_the_decls : (x : Item) → a.the_decls (bare_item x) ≡ bare_decls (a.the_
 bare_the_decls (cons x y) = cc (bare_the_decl x, bare_the_decls y)
 bare_the_decls _ = refl
 
-bare_named : (i : Ident) (x : Item) → a.named (bare_ident i) (bare_item x) ≡ bare_primary (a.named i x)
-bare_named i (a.an_attribute j e) = refl
-bare_named i _ = refl
+bare_with_attribute : (n : m.Name) (x : Item) → a.with_attribute (bare_name n) (bare_item x) ≡ bare_primary (a.with_attribute n x)
+bare_with_attribute n (a.an_attribute j e) = refl
+bare_with_attribute n _ = refl
 
 bare_begun : (i : Ident) (x : Item) → a.begun (bare_ident i) (bare_item x) ≡ bare_stmt (a.begun i x)
 bare_begun i (a.assigned e) = refl
@@ -222,7 +247,9 @@ bare_made g.StmtList e = bare_listed
 bare_made g.NullStmt e = made_1 (λ x. a.a_stmt (m.null (a.place x))) (λ x. cc (bare_place x))
 bare_made g.NameStmt e = made_2 (λ x y. a.a_stmt (a.begun (a.the_ident x) y)) (λ x y. cc (bare_the_ident x, bare_begun (a.the_ident x) y))
 bare_made g.Assignment e = made_1 (λ x. a.assigned (a.the_expr x)) (λ x. cc (bare_the_expr x))
-bare_made g.Call e = made_1 (λ x. a.called (a.inside x)) (λ x. cc (bare_inside x))
+bare_made g.Call e = made_1 (λ x. a.called (a.the_args x)) (λ x. cc (bare_the_args x))
+bare_made g.Expr e = made_1 (λ x. a.an_expr (m.alone (a.the_rel x))) (λ x. cc (bare_the_rel x))
+bare_made g.Rel e = made_1 (λ x. a.a_rel (m.unrelated (a.the_simple x))) (λ x. cc (bare_the_simple x))
 bare_made g.Simple e = made_3 (λ x y z. a.a_simple (m.simple (a.opt_sign x) (a.the_term y) (a.the_addeds z))) (λ x y z. cc (bare_opt_sign x, bare_the_term y, bare_the_addeds z))
 bare_made g.Positive e = made_1 (λ x. a.a_sign (record { sign = sign.Plus; at = a.place x })) (λ x. ap (λ (z : Pos). a.a_sign (record { sign = sign.Plus; at = z })) (bare_place x))
 bare_made g.Negative e = made_1 (λ x. a.a_sign (record { sign = sign.Minus; at = a.place x })) (λ x. ap (λ (z : Pos). a.a_sign (record { sign = sign.Minus; at = z })) (bare_place x))
@@ -241,10 +268,13 @@ bare_made g.Magnitude e = made_1 (λ x. a.an_operator (record { highest = highes
 bare_made g.Not e = made_1 (λ x. a.an_operator (record { highest = highest.Not; at = a.place x })) (λ x. ap (λ (z : Pos). a.an_operator (record { highest = highest.Not; at = z })) (bare_place x))
 bare_made g.Integer e = made_1 (λ x. a.a_primary (m.integer (a.the_number x))) (λ x. cc (bare_the_number x))
 bare_made g.String e = made_1 (λ x. a.a_primary (m.text (a.the_literal x))) (λ x. cc (bare_the_literal x))
-bare_made g.Named e = made_2 (λ x y. a.a_primary (a.named (a.the_ident x) y)) (λ x y. cc (bare_the_ident x, bare_named (a.the_ident x) y))
+bare_made g.Named e = made_2 (λ x y. a.a_primary (a.with_attribute (a.the_name x) y)) (λ x y. cc (bare_the_name x, bare_with_attribute (a.the_name x) y))
 bare_made g.Attribute e = made_2 (λ x y. a.an_attribute (a.the_ident x) (a.opt_inside y)) (λ x y. cc (bare_the_ident x, bare_opt_inside y))
 bare_made g.Group e = made_1 (λ x. a.a_primary (m.group (a.opening x) (a.inside x))) (λ x. cc (bare_opening x, bare_inside x))
 bare_made g.InParens e = made_2 (λ x y. a.in_parens (a.place x) (a.the_expr y)) (λ x y. cc (bare_place x, bare_the_expr y))
+bare_made g.Name e = made_1 (λ x. a.a_name (m.named (a.the_part x) m.no_parts)) (λ x. cc (bare_the_part x))
+bare_made g.NamePart e = made_1 (λ x. a.a_part (m.part (a.the_ident x) m.no_args)) (λ x. cc (bare_the_ident x))
+bare_made g.InArgs e = made_1 (λ x. a.some_args (m.more_args (a.the_expr x) m.no_args)) (λ x. cc (bare_the_expr x))
 bare_made g.Id e = λ st. cc
 bare_made g.Number e = λ st. cc
 bare_made g.Literal e = λ st. cc

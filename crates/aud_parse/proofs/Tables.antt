@@ -1,6 +1,6 @@
 -- What the laws need to know of each part. Written by tools/grammar_tables.py, and checked in Reading and Ends.
 use Rattle.std.specs.Prelude.{ℕ, List, [], ◌∷◌}
-use Rattle.aud_parse.specs.Grammar.{Part, Unit, Decls, DeclList, Decl, Ids, MoreIds, Initial, Body, Stmts, StmtList, Stmt, NullStmt, NameStmt, NameRest, Assignment, Call, Expr, Simple, Sign, Positive, Negative, Added, AddingOperator, Plus, Minus, Join, Term, Multiplied, MultiplyingOperator, Times, Divide, Modulo, Remainder, Factor, Operator, Magnitude, Not, Primary, Integer, String, Named, Attribute, Group, Parens, InParens, Id, Number, Literal}
+use Rattle.aud_parse.specs.Grammar.{Part, Unit, Decls, DeclList, Decl, Ids, MoreIds, Initial, Body, Stmts, StmtList, Stmt, NullStmt, NameStmt, NameRest, Assignment, Call, Expr, Rel, Simple, Sign, Positive, Negative, Added, AddingOperator, Plus, Minus, Join, Term, Multiplied, MultiplyingOperator, Times, Divide, Modulo, Remainder, Factor, Operator, Magnitude, Not, Primary, Integer, String, Named, Attribute, Group, Parens, InParens, Name, NamePart, Args, InArgs, Id, Number, Literal}
 
 -- how many rules may be entered before a token of the part is passed, its own among them
 abbrev pub rank : Part → ℕ
@@ -20,7 +20,8 @@ rank NameStmt = 2
 rank NameRest = 6
 rank Assignment = 1
 rank Call = 4
-rank Expr = 10
+rank Expr = 11
+rank Rel = 10
 rank Simple = 9
 rank Sign = 3
 rank Positive = 1
@@ -44,11 +45,15 @@ rank Not = 1
 rank Primary = 6
 rank Integer = 2
 rank String = 2
-rank Named = 2
+rank Named = 4
 rank Attribute = 1
 rank Group = 4
 rank Parens = 3
 rank InParens = 1
+rank Name = 3
+rank NamePart = 2
+rank Args = 3
+rank InArgs = 1
 rank Id = 1
 rank Number = 1
 rank Literal = 1
@@ -72,6 +77,7 @@ follow NameRest = 21 ∷ 38 ∷ 100 ∷ []
 follow Assignment = 21 ∷ 38 ∷ 100 ∷ []
 follow Call = 21 ∷ 38 ∷ 100 ∷ []
 follow Expr = 77 ∷ 85 ∷ 999 ∷ []
+follow Rel = 77 ∷ 85 ∷ 999 ∷ []
 follow Simple = 77 ∷ 85 ∷ 999 ∷ []
 follow Sign = 1 ∷ 37 ∷ 76 ∷ 100 ∷ 101 ∷ 103 ∷ []
 follow Positive = 1 ∷ 37 ∷ 76 ∷ 100 ∷ 101 ∷ 103 ∷ []
@@ -100,6 +106,10 @@ follow Attribute = 35 ∷ 53 ∷ 74 ∷ 77 ∷ 78 ∷ 79 ∷ 81 ∷ 83 ∷ 85 �
 follow Group = 35 ∷ 53 ∷ 74 ∷ 77 ∷ 78 ∷ 79 ∷ 81 ∷ 83 ∷ 85 ∷ 999 ∷ []
 follow Parens = 35 ∷ 53 ∷ 74 ∷ 77 ∷ 78 ∷ 79 ∷ 81 ∷ 83 ∷ 85 ∷ 999 ∷ []
 follow InParens = 35 ∷ 53 ∷ 74 ∷ 77 ∷ 78 ∷ 79 ∷ 81 ∷ 83 ∷ 85 ∷ 999 ∷ []
+follow Name = 35 ∷ 53 ∷ 74 ∷ 75 ∷ 77 ∷ 78 ∷ 79 ∷ 81 ∷ 83 ∷ 85 ∷ 999 ∷ []
+follow NamePart = 35 ∷ 53 ∷ 74 ∷ 75 ∷ 77 ∷ 78 ∷ 79 ∷ 81 ∷ 83 ∷ 85 ∷ 999 ∷ []
+follow Args = 85 ∷ []
+follow InArgs = 85 ∷ []
 follow Id = 32 ∷ 35 ∷ 53 ∷ 74 ∷ 75 ∷ 76 ∷ 77 ∷ 78 ∷ 79 ∷ 80 ∷ 81 ∷ 83 ∷ 84 ∷ 85 ∷ 92 ∷ 999 ∷ []
 follow Number = 35 ∷ 53 ∷ 74 ∷ 77 ∷ 78 ∷ 79 ∷ 81 ∷ 83 ∷ 85 ∷ 999 ∷ []
 follow Literal = 35 ∷ 53 ∷ 74 ∷ 77 ∷ 78 ∷ 79 ∷ 81 ∷ 83 ∷ 85 ∷ 999 ∷ []

@@ -36,8 +36,8 @@ use Rattle.aud_parse.proofs.Places.{is_code}
 -- the sorts of trees
 data Sort : Type 0 where
   s_unit s_decls s_decl s_idents s_more_ident s_initial s_body s_stmts s_stmt s_rest : Sort
-  s_expr s_sign s_added s_adding s_term s_multiplied s_multiplying s_factor s_operator : Sort
-  s_primary s_attribute s_parens s_ident s_number s_literal : Sort
+  s_expr s_rel s_simple s_sign s_added s_adding s_term s_multiplied s_multiplying s_factor s_operator : Sort
+  s_primary s_attribute s_parens s_name s_part s_args s_ident s_number s_literal : Sort
 
 abbrev sort : Part → Sort
 sort g.Unit = s_unit
@@ -57,7 +57,8 @@ sort g.NameRest = s_rest
 sort g.Assignment = s_rest
 sort g.Call = s_rest
 sort g.Expr = s_expr
-sort g.Simple = s_expr
+sort g.Rel = s_rel
+sort g.Simple = s_simple
 sort g.Sign = s_sign
 sort g.Positive = s_sign
 sort g.Negative = s_sign
@@ -85,15 +86,19 @@ sort g.Attribute = s_attribute
 sort g.Group = s_primary
 sort g.Parens = s_parens
 sort g.InParens = s_parens
+sort g.Name = s_name
+sort g.NamePart = s_part
+sort g.Args = s_args
+sort g.InArgs = s_args
 sort g.Id = s_ident
 sort g.Number = s_number
 sort g.Literal = s_literal
 
-abbrev attribute_words : Ident → m.MaybeSimple → List Word
+abbrev attribute_words : Ident → m.MaybeExpr → List Word
 attribute_words x e = word (codes "'") ∷ w.ident_word x ∷ w.argument_words e
 
-abbrev expr_words : m.Simple → List Word
-expr_words e = w.simple_words e
+abbrev expr_words : m.Expr → List Word
+expr_words e = w.expr_words e
 
 -- an item of a sort, and its words
 data Says : Sort → Item → List Word → Type 0 where
@@ -102,13 +107,15 @@ data Says : Sort → Item → List Word → Type 0 where
   says_decl : (d : m.Decl) → Says s_decl (a.a_decl d) (w.decl_words d)
   says_idents : (x : Item) → Says s_idents x (w.idents_words (a.the_idents x))
   says_more_ident : (i : Ident) → Says s_more_ident (a.an_ident i) (word (codes ",") ∷ w.ident_word i ∷ [])
-  says_initial : (e : m.Simple) → Says s_initial (a.a_simple e) (word (codes ":=") ∷ expr_words e)
+  says_initial : (e : m.Expr) → Says s_initial (a.an_expr e) (word (codes ":=") ∷ expr_words e)
   says_body : (b : m.Body) → Says s_body (a.a_body b) (w.body_words b)
   says_stmts : (x : Item) → Says s_stmts x (w.stmts_words (a.the_stmts x))
   says_stmt : (s : m.Stmt) → Says s_stmt (a.a_stmt s) (w.stmt_words s)
-  says_assigned : (e : m.Simple) → Says s_rest (a.assigned e) (word (codes ":=") ∷ (expr_words e ++ (last_word (codes ";") ∷ [])))
-  says_called : (e : m.Simple) → Says s_rest (a.called e) (w.in_parentheses (expr_words e) ++ (last_word (codes ";") ∷ []))
-  says_expr : (e : m.Simple) → Says s_expr (a.a_simple e) (expr_words e)
+  says_assigned : (e : m.Expr) → Says s_rest (a.assigned e) (word (codes ":=") ∷ (expr_words e ++ (last_word (codes ";") ∷ [])))
+  says_called : (xs : m.Args) → Says s_rest (a.called xs) (w.args_words xs ++ (last_word (codes ";") ∷ []))
+  says_expr : (e : m.Expr) → Says s_expr (a.an_expr e) (expr_words e)
+  says_rel : (x : m.Rel) → Says s_rel (a.a_rel x) (w.rel_words x)
+  says_simple : (x : m.Simple) → Says s_simple (a.a_simple x) (w.simple_words x)
   says_sign : (s : Signed) → Says s_sign (a.a_sign s) (w.sign_words (Some s))
   says_added : (x : m.Added) → Says s_added (a.an_added x) (w.added_words x)
   says_adding : (x : Adding) → Says s_adding (a.an_adding x) (word (w.adding_spelling x) ∷ [])
@@ -118,8 +125,11 @@ data Says : Sort → Item → List Word → Type 0 where
   says_factor : (x : m.Factor) → Says s_factor (a.a_factor x) (w.factor_words x)
   says_operator : (x : Operator) → Says s_operator (a.an_operator x) (w.operator_words (Some x))
   says_primary : (x : m.Primary) → Says s_primary (a.a_primary x) (w.primary_words x)
-  says_attribute : (i : Ident) (e : m.MaybeSimple) → Says s_attribute (a.an_attribute i e) (attribute_words i e)
-  says_parens : (at : Pos) (e : m.Simple) → Says s_parens (a.in_parens at e) (w.in_parentheses (expr_words e))
+  says_attribute : (i : Ident) (e : m.MaybeExpr) → Says s_attribute (a.an_attribute i e) (attribute_words i e)
+  says_parens : (at : Pos) (e : m.Expr) → Says s_parens (a.in_parens at e) (w.in_parentheses (expr_words e))
+  says_name : (x : m.Name) → Says s_name (a.a_name x) (w.name_words x)
+  says_part : (x : m.Part) → Says s_part (a.a_part x) (w.part_words x)
+  says_args : (x : m.Args) → Says s_args (a.some_args x) (w.args_words x)
   says_ident : (i : Ident) → Says s_ident (a.an_ident i) (w.ident_word i ∷ [])
   says_number : (n : Number) → Says s_number (a.a_number n) (w.number_word n ∷ [])
   says_literal : (l : Literal) → Says s_literal (a.a_literal l) (w.literal_word l ∷ [])
@@ -185,11 +195,11 @@ told_rule g.Decls (t_level s (t_down r)) = t_part s r
 told_rule g.DeclList (t_part (says_decl d) (t_row {x = x} {us = us} {ws = ws} row r)) =
     so (t_part (says_decls (cons (a.a_decl d) x)) r) (two (w.decl_words d) (w.decls_words (a.the_decls x)) us ws (decls_row row))
 told_rule g.Decl (t_part (says_idents x) (t_word c (t_part (says_ident i) (t_some (says_initial e) (t_word {ws = ws} s r))))) =
-    so (t_part (says_decl (m.object (a.the_idents x) i (m.a_simple e))) r)
+    so (t_part (says_decl (m.object (a.the_idents x) i (m.an_expr e))) r)
     (append_assoc (w.idents_words (a.the_idents x)) (word (codes ":") ∷ w.ident_word i ∷ word (codes ":=") ∷ (expr_words e ++ (last_word (codes ";") ∷ []))) ws
     ∙ ap (λ z. w.idents_words (a.the_idents x) ++ (word (codes ":") ∷ w.ident_word i ∷ word (codes ":=") ∷ z)) (append_assoc (expr_words e) (last_word (codes ";") ∷ []) ws))
 told_rule g.Decl (t_part (says_idents x) (t_word c (t_part (says_ident i) (t_none (t_word {ws = ws} s r))))) =
-    so (t_part (says_decl (m.object (a.the_idents x) i m.no_simple)) r) (append_assoc (w.idents_words (a.the_idents x)) (word (codes ":") ∷ w.ident_word i ∷ last_word (codes ";") ∷ []) ws)
+    so (t_part (says_decl (m.object (a.the_idents x) i m.no_expr)) r) (append_assoc (w.idents_words (a.the_idents x)) (word (codes ":") ∷ w.ident_word i ∷ last_word (codes ";") ∷ []) ws)
 told_rule g.Ids (t_part (says_ident i) (t_row {x = x} {us = us} {ws = ws} row r)) =
     so (t_part (says_idents (cons (a.an_ident i) x)) r) (ap (λ z. w.ident_word i ∷ (z ++ ws)) (sym (idents_row row)))
 told_rule g.MoreIds (t_word c (t_part (says_ident i) r)) = t_part (says_more_ident i) r
@@ -207,20 +217,21 @@ told_rule g.Stmt (t_one here s r) = t_part s r
 told_rule g.Stmt (t_one (later here) s r) = t_part s r
 told_rule g.Stmt (t_one (later (later h)) s r) = absurd (no_member h)
 told_rule g.NullStmt (t_token n (t_word s r)) = t_part (says_stmt (m.null n.at)) r
-told_rule g.NameStmt (t_part (says_ident i) (t_part (says_assigned e) r)) = t_part (says_stmt (m.assign i e)) r
-told_rule g.NameStmt (t_part (says_ident i) (t_part (says_called e) r)) = t_part (says_stmt (m.call i e)) r
+told_rule g.NameStmt (t_part (says_ident i) (t_part (says_assigned e) r)) = t_part (says_stmt (m.assign (a.one_part i m.no_args) e)) r
+told_rule g.NameStmt (t_part (says_ident i) (t_part (says_called xs) r)) = t_part (says_stmt (m.call (a.one_part i xs))) r
 told_rule g.NameRest (t_one here s r) = t_part s r
 told_rule g.NameRest (t_one (later here) s r) = t_part s r
 told_rule g.NameRest (t_one (later (later h)) s r) = absurd (no_member h)
 told_rule g.Assignment (t_word b (t_part (says_expr e) (t_word {ws = ws} s r))) =
     so (t_part (says_assigned e) r) (ap (λ z. word (codes ":=") ∷ z) (append_assoc (expr_words e) (last_word (codes ";") ∷ []) ws))
-told_rule g.Call (t_part (says_parens at e) (t_word {ws = ws} s r)) =
-    so (t_part (says_called e) r) (append_assoc (w.in_parentheses (expr_words e)) (last_word (codes ";") ∷ []) ws)
-told_rule g.Expr (t_part s r) = t_part s r
+told_rule g.Call (t_part (says_args x) (t_word {ws = ws} s r)) =
+    so (t_part (says_called x) r) (append_assoc (w.args_words x) (last_word (codes ";") ∷ []) ws)
+told_rule g.Expr (t_part (says_rel x) r) = t_part (says_expr (m.alone x)) r
+told_rule g.Rel (t_part (says_simple x) r) = t_part (says_rel (m.unrelated x)) r
 told_rule g.Simple (t_some (says_sign s) (t_part (says_term t) (t_row {x = x} {us = us} {ws = ws} row r))) =
-    so (t_part (says_expr (m.simple (Some s) t (a.the_addeds x))) r) (three (w.sign_words (Some s)) (w.term_words t) (w.addeds_words (a.the_addeds x)) us ws (addeds_row row))
+    so (t_part (says_simple (m.simple (Some s) t (a.the_addeds x))) r) (three (w.sign_words (Some s)) (w.term_words t) (w.addeds_words (a.the_addeds x)) us ws (addeds_row row))
 told_rule g.Simple (t_none (t_part (says_term t) (t_row {x = x} {us = us} {ws = ws} row r))) =
-    so (t_part (says_expr (m.simple None t (a.the_addeds x))) r) (two (w.term_words t) (w.addeds_words (a.the_addeds x)) us ws (addeds_row row))
+    so (t_part (says_simple (m.simple None t (a.the_addeds x))) r) (two (w.term_words t) (w.addeds_words (a.the_addeds x)) us ws (addeds_row row))
 told_rule g.Sign (t_one here s r) = t_part s r
 told_rule g.Sign (t_one (later here) s r) = t_part s r
 told_rule g.Sign (t_one (later (later h)) s r) = absurd (no_member h)
@@ -260,14 +271,20 @@ told_rule g.Primary (t_one (later (later (later here))) s r) = t_part s r
 told_rule g.Primary (t_one (later (later (later (later h)))) s r) = absurd (no_member h)
 told_rule g.Integer (t_part (says_number n) r) = t_part (says_primary (m.integer n)) r
 told_rule g.String (t_part (says_literal l) r) = t_part (says_primary (m.text l)) r
-told_rule g.Named (t_part (says_ident i) (t_some (says_attribute j e) r)) = t_part (says_primary (m.attribute i j e)) r
-told_rule g.Named (t_part (says_ident i) (t_none r)) = t_part (says_primary (m.name i)) r
-told_rule g.Attribute (t_word x (t_part (says_ident i) (t_some (says_parens at e) r))) = t_part (says_attribute i (m.a_simple e)) r
-told_rule g.Attribute (t_word x (t_part (says_ident i) (t_none r))) = t_part (says_attribute i m.no_simple) r
+told_rule g.Named (t_part (says_name x) (t_some {ws = ws} (says_attribute j e) r)) = so (t_part (says_primary (m.attribute x j e)) r) (append_assoc (w.name_words x) (attribute_words j e) ws)
+told_rule g.Named (t_part (says_name x) (t_none r)) = t_part (says_primary (m.name x)) r
+told_rule g.Attribute (t_word x (t_part (says_ident i) (t_some (says_parens at e) r))) = t_part (says_attribute i (m.an_expr e)) r
+told_rule g.Attribute (t_word x (t_part (says_ident i) (t_none r))) = t_part (says_attribute i m.no_expr) r
 told_rule g.Group (t_part (says_parens at e) r) = t_part (says_primary (m.group at e)) r
 told_rule g.Parens (t_level s (t_down r)) = t_part s r
 told_rule g.InParens (t_token t (t_part (says_expr e) (t_word {ws = ws} x r))) =
     so (t_part (says_parens t.at e) r) (ap (λ z. word (codes "(") ∷ z) (append_assoc (expr_words e) (word (codes ")") ∷ []) ws))
+told_rule g.Name (t_part (says_part x) r) = t_part (says_name (m.named x m.no_parts)) r
+told_rule g.NamePart (t_part (says_ident i) r) = t_part (says_part (m.part i m.no_args)) r
+told_rule g.Args (t_level s (t_down r)) = t_part s r
+told_rule g.InArgs (t_word o (t_part (says_expr e) (t_word {ws = ws} x r))) =
+    so (t_part (says_args (m.more_args e m.no_args)) r)
+    (ap (λ z. word (codes "(") ∷ z) (ap (λ z. (z ++ (word (codes ")") ∷ [])) ++ ws) (append-nil (expr_words e)) ∙ append_assoc (expr_words e) (word (codes ")") ∷ []) ws))
 told_rule g.Id (t_token t r) = t_part (says_ident (a.ident_of (tok t))) r
 told_rule g.Number (t_token t r) = t_part (says_number (a.number_of (tok t))) r
 told_rule g.Literal (t_token t r) = t_part (says_literal (a.literal_of (tok t))) r

@@ -31,18 +31,23 @@ pub data Item : Type 0 where
   a_multiplying : Multiplying → Item
   an_operator : Operator → Item
   -- an expression in parentheses, and where they open
-  in_parens : Pos → m.Simple → Item
+  in_parens : Pos → m.Expr → Item
   -- an attribute's name and its argument
-  an_attribute : Ident → m.MaybeSimple → Item
+  an_attribute : Ident → m.MaybeExpr → Item
+  some_args : m.Args → Item
+  a_part : m.Part → Item
+  a_name : m.Name → Item
   a_primary : m.Primary → Item
   a_factor : m.Factor → Item
   a_multiplied : m.Multiplied → Item
   a_term : m.Term → Item
   an_added : m.Added → Item
   a_simple : m.Simple → Item
-  -- what follows the name with which a statement begins
-  assigned : m.Simple → Item
-  called : m.Simple → Item
+  a_rel : m.Rel → Item
+  an_expr : m.Expr → Item
+  -- what follows the name with which a statement begins: what is assigned, and the arguments of a call
+  assigned : m.Expr → Item
+  called : m.Args → Item
   a_stmt : m.Stmt → Item
   a_body : m.Body → Item
   a_decl : m.Decl → Item
@@ -108,8 +113,13 @@ abbrev pub opt_operator : Item → Option Operator
 opt_operator (an_operator x) = Some x
 opt_operator _ = None
 
+-- names and expressions
+
+abbrev no_name : m.Name
+no_name = m.named (m.part no_ident m.no_args) m.no_parts
+
 abbrev no_primary : m.Primary
-no_primary = m.name no_ident
+no_primary = m.name no_name
 
 abbrev no_factor : m.Factor
 no_factor = m.factor None no_primary
@@ -117,20 +127,38 @@ no_factor = m.factor None no_primary
 abbrev no_term : m.Term
 no_term = m.term no_factor m.no_multiplieds
 
-abbrev pub no_expr : m.Simple
-no_expr = m.simple None no_term m.no_addeds
+abbrev no_simple : m.Simple
+no_simple = m.simple None no_term m.no_addeds
+
+abbrev no_rel : m.Rel
+no_rel = m.unrelated no_simple
+
+abbrev pub nothing : m.Expr
+nothing = m.alone no_rel
 
 abbrev pub opening : Item → Pos
 opening (in_parens at x) = at
 opening _ = no_place
 
-abbrev pub inside : Item → m.Simple
+abbrev pub inside : Item → m.Expr
 inside (in_parens at x) = x
-inside _ = no_expr
+inside _ = nothing
 
-abbrev pub opt_inside : Item → m.MaybeSimple
-opt_inside (in_parens at x) = m.a_simple x
-opt_inside _ = m.no_simple
+abbrev pub opt_inside : Item → m.MaybeExpr
+opt_inside (in_parens at x) = m.an_expr x
+opt_inside _ = m.no_expr
+
+abbrev pub the_args : Item → m.Args
+the_args (some_args x) = x
+the_args _ = m.no_args
+
+abbrev pub the_part : Item → m.Part
+the_part (a_part x) = x
+the_part _ = m.part no_ident m.no_args
+
+abbrev pub the_name : Item → m.Name
+the_name (a_name x) = x
+the_name _ = no_name
 
 abbrev pub the_primary : Item → m.Primary
 the_primary (a_primary x) = x
@@ -160,13 +188,21 @@ abbrev pub the_addeds : Item → m.Addeds
 the_addeds (cons x xs) = m.more_addeds (the_added x) (the_addeds xs)
 the_addeds _ = m.no_addeds
 
-abbrev pub the_expr : Item → m.Simple
-the_expr (a_simple x) = x
-the_expr _ = no_expr
+abbrev pub the_simple : Item → m.Simple
+the_simple (a_simple x) = x
+the_simple _ = no_simple
 
-abbrev pub opt_expr : Item → m.MaybeSimple
-opt_expr (a_simple x) = m.a_simple x
-opt_expr _ = m.no_simple
+abbrev pub the_rel : Item → m.Rel
+the_rel (a_rel x) = x
+the_rel _ = no_rel
+
+abbrev pub the_expr : Item → m.Expr
+the_expr (an_expr x) = x
+the_expr _ = nothing
+
+abbrev pub opt_expr : Item → m.MaybeExpr
+opt_expr (an_expr x) = m.an_expr x
+opt_expr _ = m.no_expr
 
 abbrev no_stmt : m.Stmt
 no_stmt = m.null no_place
@@ -181,7 +217,7 @@ the_stmts _ = m.no_stmts
 
 abbrev pub the_decl : Item → m.Decl
 the_decl (a_decl x) = x
-the_decl _ = m.object [] no_ident m.no_simple
+the_decl _ = m.object [] no_ident m.no_expr
 
 abbrev pub the_decls : Item → m.Decls
 the_decls (cons x xs) = m.more_decls (the_decl x) (the_decls xs)
@@ -199,14 +235,18 @@ the_unit (a_unit x) = x
 the_unit _ = m.unit no_ident m.no_decls no_body
 
 -- the primary that begins with a name, by what follows the name (RM 4.1, 4.1.4)
-abbrev pub named : Ident → Item → m.Primary
-named i (an_attribute j e) = m.attribute i j e
-named i _ = m.name i
+abbrev pub with_attribute : m.Name → Item → m.Primary
+with_attribute n (an_attribute j e) = m.attribute n j e
+with_attribute n _ = m.name n
 
--- the statement that begins with a name, by what follows the name (RM 5.2, 6.4)
+-- a name of one part
+abbrev pub one_part : Ident → m.Args → m.Name
+one_part i xs = m.named (m.part i xs) m.no_parts
+
+-- the statement that begins with an identifier, by what follows it (RM 5.2, 6.4)
 abbrev pub begun : Ident → Item → m.Stmt
-begun i (assigned e) = m.assign i e
-begun i (called e) = m.call i e
+begun i (assigned e) = m.assign (one_part i m.no_args) e
+begun i (called xs) = m.call (one_part i xs)
 begun i _ = no_stmt
 
 -- an identifier's letters are kept as capitals (RM 2.3(5))
@@ -234,7 +274,9 @@ made g.StmtList st = listed st
 made g.NullStmt st = a_stmt (m.null (place (top st))) ∷ pop st
 made g.NameStmt st = a_stmt (begun (the_ident (top st)) (top (pop st))) ∷ pop (pop st)
 made g.Assignment st = assigned (the_expr (top st)) ∷ pop st
-made g.Call st = called (inside (top st)) ∷ pop st
+made g.Call st = called (the_args (top st)) ∷ pop st
+made g.Expr st = an_expr (m.alone (the_rel (top st))) ∷ pop st
+made g.Rel st = a_rel (m.unrelated (the_simple (top st))) ∷ pop st
 made g.Simple st = a_simple (m.simple (opt_sign (top st)) (the_term (top (pop st))) (the_addeds (top (pop (pop st))))) ∷ pop (pop (pop st))
 made g.Positive st = a_sign (record { sign = sign.Plus; at = place (top st) }) ∷ pop st
 made g.Negative st = a_sign (record { sign = sign.Minus; at = place (top st) }) ∷ pop st
@@ -253,10 +295,13 @@ made g.Magnitude st = an_operator (record { highest = highest.Magnitude; at = pl
 made g.Not st = an_operator (record { highest = highest.Not; at = place (top st) }) ∷ pop st
 made g.Integer st = a_primary (m.integer (the_number (top st))) ∷ pop st
 made g.String st = a_primary (m.text (the_literal (top st))) ∷ pop st
-made g.Named st = a_primary (named (the_ident (top st)) (top (pop st))) ∷ pop (pop st)
+made g.Named st = a_primary (with_attribute (the_name (top st)) (top (pop st))) ∷ pop (pop st)
 made g.Attribute st = an_attribute (the_ident (top st)) (opt_inside (top (pop st))) ∷ pop (pop st)
 made g.Group st = a_primary (m.group (opening (top st)) (inside (top st))) ∷ pop st
 made g.InParens st = in_parens (place (top st)) (the_expr (top (pop st))) ∷ pop (pop st)
+made g.Name st = a_name (m.named (the_part (top st)) m.no_parts) ∷ pop st
+made g.NamePart st = a_part (m.part (the_ident (top st)) m.no_args) ∷ pop st
+made g.InArgs st = some_args (m.more_args (the_expr (top st)) m.no_args) ∷ pop st
 made g.Id st = an_ident (ident_of (top st)) ∷ pop st
 made g.Number st = a_number (number_of (top st)) ∷ pop st
 made g.Literal st = a_literal (literal_of (top st)) ∷ pop st

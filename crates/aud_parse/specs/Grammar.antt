@@ -7,10 +7,11 @@ use Rattle.aud_lex.specs.declared.token.Kind.TheVariants as kind
 pub data Part : Type 0 where
   Unit Decls DeclList Decl Ids MoreIds Initial Body : Part
   Stmts StmtList Stmt NullStmt NameStmt NameRest Assignment Call : Part
-  Expr Simple Sign Positive Negative Added AddingOperator Plus Minus Join : Part
+  Expr Rel Simple Sign Positive Negative Added AddingOperator Plus Minus Join : Part
   Term Multiplied MultiplyingOperator Times Divide Modulo Remainder : Part
   Factor Operator Magnitude Not : Part
   Primary Integer String Named Attribute Group Parens InParens : Part
+  Name NamePart Args InArgs : Part
   Id Number Literal : Part
 
 -- identifiers that the grammar itself names (RM A.10.1, 9.6)
@@ -58,9 +59,10 @@ rule NullStmt = P kind.Null ∷ T kind.Semicolon ∷ []
 rule NameStmt = N Id ∷ N NameRest ∷ []
 rule NameRest = A (Assignment ∷ Call ∷ []) ∷ []
 rule Assignment = T kind.Becomes ∷ N Expr ∷ T kind.Semicolon ∷ []
-rule Call = N Parens ∷ T kind.Semicolon ∷ []
+rule Call = N Args ∷ T kind.Semicolon ∷ []
 -- RM 4.4
-rule Expr = N Simple ∷ []
+rule Expr = N Rel ∷ []
+rule Rel = N Simple ∷ []
 rule Simple = Opt Sign ∷ N Term ∷ Rep Added ∷ []
 rule Sign = A (Positive ∷ Negative ∷ []) ∷ []
 rule Positive = P kind.Plus ∷ []
@@ -85,12 +87,17 @@ rule Primary = A (Integer ∷ String ∷ Named ∷ Group ∷ []) ∷ []
 rule Integer = N Number ∷ []
 rule String = N Literal ∷ []
 -- a name, or an attribute (RM 4.1.4)
-rule Named = N Id ∷ Opt Attribute ∷ []
+rule Named = N Name ∷ Opt Attribute ∷ []
 rule Attribute = T kind.Apostrophe ∷ N Id ∷ Opt Parens ∷ []
 rule Group = N Parens ∷ []
--- an expression in parentheses lies one level deeper
+-- what stands in parentheses lies one level deeper
 rule Parens = L InParens ∷ Down ∷ []
 rule InParens = P kind.LeftParenthesis ∷ N Expr ∷ T kind.RightParenthesis ∷ []
+-- RM 4.1: a name has one part; what is called has arguments, and no other name (RM 6.4)
+rule Name = N NamePart ∷ []
+rule NamePart = N Id ∷ []
+rule Args = L InArgs ∷ Down ∷ []
+rule InArgs = T kind.LeftParenthesis ∷ N Expr ∷ T kind.RightParenthesis ∷ []
 rule Id = P kind.Identifier ∷ []
 rule Number = P kind.Integer ∷ []
 rule Literal = P kind.Text ∷ []

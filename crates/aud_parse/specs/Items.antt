@@ -9,13 +9,14 @@ use Rattle.aud_syntax.specs.declared.tree.Multiplied.{Multiplied}
 use Rattle.aud_syntax.specs.declared.tree.Term.{Term}
 use Rattle.aud_syntax.specs.declared.tree.Added.{Added}
 use Rattle.aud_syntax.specs.declared.tree.Simple.{Simple}
+use Rattle.aud_syntax.specs.declared.tree.Expr.{Expr}
+use Rattle.aud_syntax.specs.declared.tree.Name.{Name}
 use Rattle.aud_syntax.specs.declared.tree.Decl.{Decl}
 use Rattle.aud_syntax.specs.declared.tree.Stmt.{Stmt}
 use Rattle.aud_syntax.specs.declared.tree.Body.{Body}
 use Rattle.aud_syntax.specs.declared.tree.Unit as declared
-use Rattle.aud_syntax.specs.Plain as m
-use Rattle.aud_syntax.specs.View.{plain_primary, plain_factor, plain_multiplied, plain_term, plain_added, plain_simple, plain_decl, plain_stmt, plain_body, plain_unit}
-use Rattle.aud_parse.specs.Actions.{Item, none, cons, in_parens, an_attribute, a_primary, a_factor, a_multiplied, a_term, an_added, a_simple, assigned, called, a_decl, a_stmt, a_body, a_unit}
+use Rattle.aud_syntax.specs.View.{plain_expr, plain_boxed, plain_exprs, plain_name, plain_primary, plain_factor, plain_multiplied, plain_term, plain_added, plain_simple, plain_decl, plain_stmt, plain_body, plain_unit}
+use Rattle.aud_parse.specs.Actions.{Item, none, cons, in_parens, an_attribute, some_args, a_name, a_primary, a_factor, a_multiplied, a_term, an_added, a_simple, an_expr, assigned, called, a_decl, a_stmt, a_body, a_unit}
 
 abbrev pub list_item : {X : Type 0} → (X → Item) → List X → Item
 list_item f [] = none
@@ -25,15 +26,17 @@ abbrev pub opt_item : {X : Type 0} → (X → Item) → Option X → Item
 opt_item f None = none
 opt_item f (Some x) = f x
 
-abbrev pub parens_item : Pos × Box Simple Global → Item
-parens_item x = in_parens x.0 (plain_simple x.1.value)
+abbrev pub parens_item : Pos × Box Expr Global → Item
+parens_item x = in_parens x.0 (plain_expr x.1.value)
 
-abbrev pub boxed_maybe : Option (Box Simple Global) → m.MaybeSimple
-boxed_maybe None = m.no_simple
-boxed_maybe (Some e) = m.a_simple (plain_simple e.value)
+abbrev pub attribute_item : Ident × Option (Box Expr Global) → Item
+attribute_item x = an_attribute x.0 (plain_boxed x.1)
 
-abbrev pub attribute_item : Ident × Option (Box Simple Global) → Item
-attribute_item x = an_attribute x.0 (boxed_maybe x.1)
+abbrev pub name_item : Name → Item
+name_item x = a_name (plain_name x)
+
+abbrev pub args_item : List Expr → Item
+args_item xs = some_args (plain_exprs xs)
 
 abbrev pub primary_item : Primary → Item
 primary_item x = a_primary (plain_primary x)
@@ -50,17 +53,20 @@ term_item x = a_term (plain_term x)
 abbrev pub added_item : Added → Item
 added_item x = an_added (plain_added x)
 
-abbrev pub expr_item : Simple → Item
-expr_item x = a_simple (plain_simple x)
+abbrev pub simple_item : Simple → Item
+simple_item x = a_simple (plain_simple x)
 
-abbrev pub boxed_item : Box Simple Global → Item
+abbrev pub expr_item : Expr → Item
+expr_item x = an_expr (plain_expr x)
+
+abbrev pub boxed_item : Box Expr Global → Item
 boxed_item x = expr_item x.value
 
-abbrev pub assigned_item : Simple → Item
-assigned_item x = assigned (plain_simple x)
+abbrev pub assigned_item : Expr → Item
+assigned_item x = assigned (plain_expr x)
 
-abbrev pub called_item : Simple → Item
-called_item x = called (plain_simple x)
+abbrev pub called_item : List Expr → Item
+called_item xs = called (plain_exprs xs)
 
 abbrev pub decl_item : Decl → Item
 decl_item x = a_decl (plain_decl x)

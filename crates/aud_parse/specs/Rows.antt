@@ -5,11 +5,11 @@ use Rattle.aud_lex.specs.Element.{Element}
 use Rattle.aud_lex.specs.Lexed.{lexed}
 use Rattle.aud_syntax.specs.declared.tree.Adding.TheVariants.{Plus, Minus, Join}
 use Rattle.aud_syntax.specs.declared.tree.Multiplying.TheVariants.{Times, Divide, Modulo, Remainder}
-use Rattle.aud_syntax.specs.Plain.{Simple, added, multiplied, Primary, attribute, group, no_simple, a_simple, Decl, object, Stmt, null, assign, call, Body, body, Unit, unit}
+use Rattle.aud_syntax.specs.Plain.{Expr, added, multiplied, Primary, attribute, group, no_expr, an_expr, Decl, object, Stmt, null, assign, Body, body, Unit, unit}
 use Rattle.aud_parse.specs.Grammar as g
 use Rattle.aud_parse.specs.Actions.{the_unit}
 use Rattle.aud_parse.specs.Parsed.{Fault, wrong_at, deep_at, parsed, parsed_as}
-use Rattle.aud_parse.specs.Shorthand.{at, id, num, too_large, str, var, just, magnitude, opposite, product, multiplying, one, sum, adding, only, only_term, positive, negative, decls, stmts}
+use Rattle.aud_parse.specs.Shorthand.{at, id, var_at, called, num, too_large, str, var, just, magnitude, opposite, product, multiplying, one, sum, adding, only, only_term, positive, negative, decls, stmts}
 
 -- how tokens are read, where there are tokens
 abbrev pub read_by : (List Element → Result Unit Fault) → Result (List Element) Pos → Option (Result Unit Fault)
@@ -41,8 +41,8 @@ DeclsAre source ds = IsRead (with_decls source) (Ok (program ds (body (at 3 1) (
 abbrev pub StmtsAre : List ℕ → List Stmt → Type 0
 StmtsAre source ss = IsRead (with_stmts source) (Ok (program [] (body (at 1 16) (stmts ss) (at 3 1) None)))
 
-abbrev pub ExprIs : List ℕ → Simple → Type 0
-ExprIs source e = IsRead (with_expr source) (Ok (program [] (body (at 1 16) (stmts (assign (id (codes "X") (at 1 22)) e ∷ [])) (at 3 3) None)))
+abbrev pub ExprIs : List ℕ → Expr → Type 0
+ExprIs source e = IsRead (with_expr source) (Ok (program [] (body (at 1 16) (stmts (assign (var_at (codes "X") (at 1 22)) e ∷ [])) (at 3 3) None)))
 
 abbrev pub col : ℕ → Pos
 col n = at 2 n
@@ -70,16 +70,16 @@ example =
     ++ codes "end Sum;\n"
 
 abbrev pub example_decl : Decl
-example_decl = object (id (codes "X") (at 2 4) ∷ []) (id (codes "INTEGER") (at 2 8)) (a_simple (only (num 40 (at 2 19))))
+example_decl = object (id (codes "X") (at 2 4) ∷ []) (id (codes "INTEGER") (at 2 8)) (an_expr (only (num 40 (at 2 19))))
 
 abbrev pub example_assign : Stmt
-example_assign = assign (id (codes "X") (at 4 4)) (sum (one (var (codes "X") (at 4 9))) (adding Plus (num 2 (at 4 13)) ∷ []))
+example_assign = assign (var_at (codes "X") (at 4 4)) (sum (one (var (codes "X") (at 4 9))) (adding Plus (num 2 (at 4 13)) ∷ []))
 
 abbrev pub example_image : Primary
-example_image = attribute (id (codes "X") (at 5 20)) (id (codes "IMAGE") (at 5 22)) no_simple
+example_image = attribute (var_at (codes "X") (at 5 20)) (id (codes "IMAGE") (at 5 22)) no_expr
 
 abbrev pub example_call : Stmt
-example_call = call (id (codes "PUT_LINE") (at 5 4)) (sum (one (str (codes "x") (at 5 14))) (adding Join example_image ∷ []))
+example_call = called (id (codes "PUT_LINE") (at 5 4)) (sum (one (str (codes "x") (at 5 14))) (adding Join example_image ∷ []))
 
 abbrev pub example_body : Body
 example_body = body (at 3 1) (stmts (example_assign ∷ example_call ∷ [])) (at 6 1) (Some (id (codes "SUM") (at 6 5)))
@@ -99,15 +99,15 @@ Programs =
 abbrev pub Declarations : Type 0
 Declarations =
     DeclsAre (codes "X : Integer;")
-    (object (id (codes "X") (col 1) ∷ []) (id (codes "INTEGER") (col 5)) no_simple ∷ [])
+    (object (id (codes "X") (col 1) ∷ []) (id (codes "INTEGER") (col 5)) no_expr ∷ [])
     × DeclsAre (codes "X : T := 1;")
-    (object (id (codes "X") (col 1) ∷ []) (id (codes "T") (col 5)) (a_simple (only (num 1 (col 10)))) ∷ [])
+    (object (id (codes "X") (col 1) ∷ []) (id (codes "T") (col 5)) (an_expr (only (num 1 (col 10)))) ∷ [])
     × DeclsAre (codes "A, B, C : T;")
-    (object (id (codes "A") (col 1) ∷ id (codes "B") (col 4) ∷ id (codes "C") (col 7) ∷ []) (id (codes "T") (col 11)) no_simple ∷ [])
+    (object (id (codes "A") (col 1) ∷ id (codes "B") (col 4) ∷ id (codes "C") (col 7) ∷ []) (id (codes "T") (col 11)) no_expr ∷ [])
     × DeclsAre (codes "A : T; B, C : U := -1; D : V;")
-    (object (id (codes "A") (col 1) ∷ []) (id (codes "T") (col 5)) no_simple
-    ∷ object (id (codes "B") (col 8) ∷ id (codes "C") (col 11) ∷ []) (id (codes "U") (col 15)) (a_simple (negative (col 20) (one (num 1 (col 21))) []))
-    ∷ object (id (codes "D") (col 24) ∷ []) (id (codes "V") (col 28)) no_simple
+    (object (id (codes "A") (col 1) ∷ []) (id (codes "T") (col 5)) no_expr
+    ∷ object (id (codes "B") (col 8) ∷ id (codes "C") (col 11) ∷ []) (id (codes "U") (col 15)) (an_expr (negative (col 20) (one (num 1 (col 21))) []))
+    ∷ object (id (codes "D") (col 24) ∷ []) (id (codes "V") (col 28)) no_expr
     ∷ [])
 
 -- statements (RM 5.1, 5.2, 6.4)
@@ -116,13 +116,13 @@ Statements =
     StmtsAre (codes "null;")
     (null (col 1) ∷ [])
     × StmtsAre (codes "X := 1;")
-    (assign (id (codes "X") (col 1)) (only (num 1 (col 6))) ∷ [])
+    (assign (var_at (codes "X") (col 1)) (only (num 1 (col 6))) ∷ [])
     × StmtsAre (codes "Put_Line (\"x\");")
-    (call (id (codes "PUT_LINE") (col 1)) (only (str (codes "x") (col 11))) ∷ [])
+    (called (id (codes "PUT_LINE") (col 1)) (only (str (codes "x") (col 11))) ∷ [])
     × StmtsAre (codes "null; X := 1; P (X); null;")
     (null (col 1)
-    ∷ assign (id (codes "X") (col 7)) (only (num 1 (col 12)))
-    ∷ call (id (codes "P") (col 15)) (only (var (codes "X") (col 18)))
+    ∷ assign (var_at (codes "X") (col 7)) (only (num 1 (col 12)))
+    ∷ called (id (codes "P") (col 15)) (only (var (codes "X") (col 18)))
     ∷ null (col 22)
     ∷ [])
 
@@ -136,8 +136,8 @@ Primaries =
     × ExprIs (codes "\"say \"\"hi\"\"\"") (only (str (codes "say \"hi\"") (col 1)))
     × ExprIs (codes "\"\"") (only (str [] (col 1)))
     × ExprIs (codes "Some_Name") (only (var (codes "SOME_NAME") (col 1)))
-    × ExprIs (codes "X'Image") (only (attribute (id (codes "X") (col 1)) (id (codes "IMAGE") (col 3)) no_simple))
-    × ExprIs (codes "T'Image (X)") (only (attribute (id (codes "T") (col 1)) (id (codes "IMAGE") (col 3)) (a_simple (only (var (codes "X") (col 10))))))
+    × ExprIs (codes "X'Image") (only (attribute (var_at (codes "X") (col 1)) (id (codes "IMAGE") (col 3)) no_expr))
+    × ExprIs (codes "T'Image (X)") (only (attribute (var_at (codes "T") (col 1)) (id (codes "IMAGE") (col 3)) (an_expr (only (var (codes "X") (col 10))))))
     × ExprIs (codes "(X)") (only (group (col 1) (only (var (codes "X") (col 2)))))
     × ExprIs (codes "((1))") (only (group (col 1) (only (group (col 2) (only (num 1 (col 3)))))))
 
@@ -256,10 +256,10 @@ IsReadWithin limit source what = read_by (parsed_as the_unit g.Unit limit) (lexe
 -- a program with two levels open at a time, and no more
 
 abbrev pub closed_decl : Decl
-closed_decl = object (id (codes "X") (at 1 16) ∷ []) (id (codes "T") (at 1 20)) (a_simple (only (group (at 1 25) (only (num 1 (at 1 26))))))
+closed_decl = object (id (codes "X") (at 1 16) ∷ []) (id (codes "T") (at 1 20)) (an_expr (only (group (at 1 25) (only (num 1 (at 1 26))))))
 
 abbrev pub closed_calls : List Stmt
-closed_calls = call (id (codes "P") (at 1 36)) (only (num 2 (at 1 39))) ∷ call (id (codes "P") (at 1 43)) (only (num 3 (at 1 46))) ∷ []
+closed_calls = called (id (codes "P") (at 1 36)) (only (num 2 (at 1 39))) ∷ called (id (codes "P") (at 1 43)) (only (num 3 (at 1 46))) ∷ []
 
 -- declarations, statements and parentheses open a level each, and close it; and the first fault counts
 abbrev pub FewLevels : Type 0
@@ -279,7 +279,7 @@ FewLevels =
     (Ok (program (closed_decl ∷ []) (body (at 1 30) (stmts closed_calls) (at 1 50) None)))
 
 -- an expression in so many parentheses, of which the first opens at this column of the second line
-abbrev pub nested : ℕ → ℕ → Simple
+abbrev pub nested : ℕ → ℕ → Expr
 nested zero n = only (num 1 (col n))
 nested (suc deep) n = only (group (col n) (nested deep (n + 1)))
 

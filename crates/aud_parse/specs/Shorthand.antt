@@ -6,13 +6,24 @@ use Rattle.aud_syntax.specs.declared.tree.Sign.TheVariants as sign
 use Rattle.aud_syntax.specs.declared.tree.Adding.{Adding}
 use Rattle.aud_syntax.specs.declared.tree.Multiplying.{Multiplying}
 use Rattle.aud_syntax.specs.declared.tree.Highest.TheVariants as highest
-use Rattle.aud_syntax.specs.Plain.{Simple, simple, Addeds, no_addeds, more_addeds, Added, added, Term, term, Multiplieds, no_multiplieds, more_multiplieds, Multiplied, multiplied, Factor, factor, Primary, integer, text, name, Decl, Decls, no_decls, more_decls, Stmt, Stmts, no_stmts, more_stmts}
+use Rattle.aud_syntax.specs.Plain.{Expr, alone, unrelated, simple, Addeds, no_addeds, more_addeds, Added, added, Term, term, Multiplieds, no_multiplieds, more_multiplieds, Multiplied, multiplied, Factor, factor, Primary, integer, text, name, Name, named, no_parts, part, no_args, more_args, Decl, Decls, no_decls, more_decls, Stmt, call, Stmts, no_stmts, more_stmts}
 
 abbrev pub at : ℕ → ℕ → Pos
 at line col = record { line = line; col = col }
 
 abbrev pub id : List ℕ → Pos → Ident
 id spelling place = record { name = spelling; at = place }
+
+-- names, without and with an argument
+
+abbrev pub named_as : Ident → Name
+named_as i = named (part i no_args) no_parts
+
+abbrev pub var_at : List ℕ → Pos → Name
+var_at spelling place = named_as (id spelling place)
+
+abbrev pub called : Ident → Expr → Stmt
+called i e = call (named (part i (more_args e no_args)) no_parts)
 
 -- primaries
 
@@ -27,7 +38,7 @@ abbrev pub str : List ℕ → Pos → Primary
 str characters place = text (record { text = characters; at = place })
 
 abbrev pub var : List ℕ → Pos → Primary
-var spelling place = name (id spelling place)
+var spelling place = name (var_at spelling place)
 
 -- factors: without an operator, and behind `abs` and `not`
 
@@ -61,23 +72,23 @@ abbrev pub addeds : List Added → Addeds
 addeds [] = no_addeds
 addeds (x ∷ xs) = more_addeds x (addeds xs)
 
-abbrev pub sum : Term → List Added → Simple
-sum first further = simple None first (addeds further)
+abbrev pub sum : Term → List Added → Expr
+sum first further = alone (unrelated (simple None first (addeds further)))
 
 abbrev pub adding : Adding → Primary → Added
 adding op p = added op (one p)
 
-abbrev pub only_term : Term → Simple
+abbrev pub only_term : Term → Expr
 only_term t = sum t []
 
-abbrev pub only : Primary → Simple
+abbrev pub only : Primary → Expr
 only p = only_term (one p)
 
-abbrev pub positive : Pos → Term → List Added → Simple
-positive place first further = simple (Some (record { sign = sign.Plus; at = place })) first (addeds further)
+abbrev pub positive : Pos → Term → List Added → Expr
+positive place first further = alone (unrelated (simple (Some (record { sign = sign.Plus; at = place })) first (addeds further)))
 
-abbrev pub negative : Pos → Term → List Added → Simple
-negative place first further = simple (Some (record { sign = sign.Minus; at = place })) first (addeds further)
+abbrev pub negative : Pos → Term → List Added → Expr
+negative place first further = alone (unrelated (simple (Some (record { sign = sign.Minus; at = place })) first (addeds further)))
 
 -- lists
 

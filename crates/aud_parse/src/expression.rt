@@ -7,7 +7,7 @@ ghost use Rattle.std.specs.Prelude.{ℕ, ◌∷◌, length, ◌<◌, ◌≤◌, 
 ghost use Rattle.aud_parse.specs.Grammar as g;
 ghost use Rattle.aud_parse.specs.Grammar.{N, Opt, Rep};
 ghost use Rattle.aud_parse.specs.Actions.{a_sign, an_adding, a_multiplying, an_operator};
-ghost use Rattle.aud_parse.specs.Items.{list_item, opt_item, parens_item, attribute_item, primary_item, factor_item, multiplied_item, term_item, added_item, expr_item, boxed_item};
+ghost use Rattle.aud_parse.specs.Items.{list_item, opt_item, parens_item, name_item, args_item, attribute_item, primary_item, factor_item, multiplied_item, term_item, added_item, simple_item, boxed_item};
 ghost use Rattle.aud_parse.specs.Reads.{Reads, Takes, Passes};
 
 use crate::cursor::{Fault, Rest, accept, deeper, is, token, word};
@@ -15,8 +15,8 @@ use crate::leaf::{ident, literal};
 use crate::value::number_value;
 use aud_lex::token::Kind;
 use aud_syntax::tree::{
-    Added, Adding, Expr, Factor, Highest, Ident, Multiplied, Multiplying, Number, Operator,
-    Primary, Sign, Signed, Simple, Term,
+    Added, Adding, Expr, Factor, Highest, Ident, Multiplied, Multiplying, Name, NamePart, Number,
+    Operator, Primary, Relation, Sign, Signed, Simple, Term,
 };
 use aud_text::place::Pos;
 use std::alloc::Global;
@@ -57,6 +57,17 @@ fn attribute<'a, 's>(
     Ok(((name, None), rest))
 }
 
+/// A name without arguments (RM 4.1).
+fn name<'a, 's>(alloc: Global, toks: Rest<'a, 's>) -> Result<(Name, Rest<'a, 's>), Fault<'a, 's>>
+    ensures reads { (room : ℕ) → Reads name_item (N g.Name) room toks.entry.tokens.now result }
+    ensures shorter { IfOk result (λ p. length p.1.tokens.now < length toks.entry.tokens.now) }
+{
+    let (ident, rest) = ident(alloc, toks)?;
+    let args = Vec::new(alloc);
+    let first = NamePart { ident, args };
+    Ok((Name { first }, rest))
+}
+
 /// A name, or an attribute of it (RM 4.1, 4.1.4).
 #[cycle(expr)]
 #[inline(never)]
@@ -68,11 +79,11 @@ fn named<'a, 's>(
     ensures reads { Reads primary_item (N g.Named) room toks.entry.tokens.now result }
     ensures shorter { IfOk result (λ p. length p.1.tokens.now < length toks.entry.tokens.now) }
 {
-    let (prefix, rest) = ident(alloc, toks)?;
+    let (prefix, rest) = name(alloc, toks)?;
     if is(rest, Kind::Apostrophe) {
         let (attribute, rest) = attribute(alloc, rest, room)?;
-        let (name, argument) = attribute;
-        return Ok((Primary::Attribute(prefix, name, argument), rest));
+        let (designator, argument) = attribute;
+        return Ok((Primary::Attribute(prefix, designator, argument), rest));
     }
     Ok((Primary::Name(prefix), rest))
 }
@@ -263,7 +274,7 @@ fn simple<'a, 's>(
     toks: Rest<'a, 's>,
     room: u32,
 ) -> Result<(Simple, Rest<'a, 's>), Fault<'a, 's>>
-    ensures reads { Reads expr_item (N g.Simple) room toks.entry.tokens.now result }
+    ensures reads { Reads simple_item (N g.Simple) room toks.entry.tokens.now result }
     ensures shorter { IfOk result (λ p. length p.1.tokens.now < length toks.entry.tokens.now) }
 {
     let (sign, rest) = opt_sign(toks);
@@ -290,6 +301,24 @@ pub fn expr<'a, 's>(
     ensures shorter { IfOk result (λ p. length p.1.tokens.now < length toks.entry.tokens.now) }
 {
     let (sum, rest) = simple(alloc, toks, room)?;
-    let boxed = Box::new(alloc, sum)?;
+    let boxed = Box::new(alloc, Expr::Alone(Relation::Unrelated(sum)))?;
     Ok((boxed, rest))
+}
+
+/// The arguments of a call, which lie one level deeper (RM 6.4).
+pub fn args<'a, 's>(
+    alloc: Global,
+    toks: Rest<'a, 's>,
+    room: u32,
+) -> Result<(Vec<Expr>, Rest<'a, 's>), Fault<'a, 's>>
+    ensures reads { Reads (λ v. args_item v.items) (N g.Args) room toks.entry.tokens.now result }
+    ensures shorter { IfOk result (λ p. length p.1.tokens.now < length toks.entry.tokens.now) }
+{
+    let inside = deeper(toks, room, is(toks, Kind::LeftParenthesis))?;
+    let rest = word(toks, Kind::LeftParenthesis)?;
+    let (argument, rest) = expr(alloc, rest, inside)?;
+    let rest = word(rest, Kind::RightParenthesis)?;
+    let mut all = Vec::new(alloc);
+    all.push(Box::into_inner(argument))?;
+    Ok((all, rest))
 }

@@ -8,10 +8,10 @@ ghost use Rattle.aud_parse.specs.Items.{list_item, opt_item, assigned_item, call
 ghost use Rattle.aud_parse.specs.Reads.{Reads};
 
 use crate::cursor::{Fault, Rest, deeper, is, is_one_of, token, word};
-use crate::expression::{expr, parens};
+use crate::expression::{args, expr};
 use crate::leaf::ident;
 use aud_lex::token::Kind;
-use aud_syntax::tree::{Body, Expr, Ident, Stmt};
+use aud_syntax::tree::{Body, Expr, Ident, Name, NamePart, Stmt};
 use std::alloc::Global;
 
 const STATEMENTS: [Kind; 2] = [Kind::Null, Kind::Identifier];
@@ -41,18 +41,18 @@ fn assignment<'a, 's>(
     Ok((Box::into_inner(value), rest))
 }
 
-/// The argument of a call, behind the name (RM 6.4).
+/// The arguments of a call, behind the name (RM 6.4).
 fn call<'a, 's>(
     alloc: Global,
     toks: Rest<'a, 's>,
     room: u32,
-) -> Result<(Expr, Rest<'a, 's>), Fault<'a, 's>>
-    ensures reads { Reads called_item (N g.Call) room toks.entry.tokens.now result }
+) -> Result<(Vec<Expr>, Rest<'a, 's>), Fault<'a, 's>>
+    ensures reads { Reads (λ v. called_item v.items) (N g.Call) room toks.entry.tokens.now result }
     ensures shorter { IfOk result (λ p. length p.1.tokens.now < length toks.entry.tokens.now) }
 {
-    let (argument, rest) = parens(alloc, toks, room)?;
+    let (all, rest) = args(alloc, toks, room)?;
     let rest = word(rest, Kind::Semicolon)?;
-    Ok((Box::into_inner(argument.1), rest))
+    Ok((all, rest))
 }
 
 /// A statement that begins with a name.
@@ -64,13 +64,16 @@ fn named<'a, 's>(
     ensures reads { Reads stmt_item (N g.NameStmt) room toks.entry.tokens.now result }
     ensures shorter { IfOk result (λ p. length p.1.tokens.now < length toks.entry.tokens.now) }
 {
-    let (name, rest) = ident(alloc, toks)?;
+    let (ident, rest) = ident(alloc, toks)?;
     if is(rest, Kind::Becomes) {
         let (value, rest) = assignment(alloc, rest, room)?;
-        return Ok((Stmt::Assign(name, value), rest));
+        let args = Vec::new(alloc);
+        let first = NamePart { ident, args };
+        return Ok((Stmt::Assign(Name { first }, value), rest));
     }
-    let (argument, rest) = call(alloc, rest, room)?;
-    Ok((Stmt::Call(name, argument), rest))
+    let (args, rest) = call(alloc, rest, room)?;
+    let first = NamePart { ident, args };
+    Ok((Stmt::Call(Name { first }), rest))
 }
 
 /// A statement.

@@ -1,16 +1,21 @@
 -- Trees by their parts.
 use Rattle.std.proofs.Common.{◌≡◌, List, [], ◌∷◌, refl, ap, sym, ◌∙◌}
-use Rattle.std.specs.Prelude.{Option, Vec}
+use Rattle.std.specs.Prelude.{Option, Some, None, Vec, Box}
 use Rattle.std.specs.Global.{Global}
 use Rattle.aud_syntax.specs.declared.tree.Signed.{Signed}
 use Rattle.aud_syntax.specs.declared.tree.Adding.{Adding}
 use Rattle.aud_syntax.specs.declared.tree.Factor.{Factor}
 use Rattle.aud_syntax.specs.declared.tree.Multiplied.{Multiplied}
-use Rattle.aud_syntax.specs.declared.tree.Simple.{Simple, out-Simple, roll-Simple, roll-out-Simple, rolls-Simple', Row_of-Added, end_of-Added, more_of-Added, items-the_row-Added, items_hidden-the_row-Added-0}
+use Rattle.aud_syntax.specs.declared.tree.Simple.{Simple, out-Simple, roll-Simple, roll-out-Simple, rolls-Simple', Row_of-Added, end_of-Added, more_of-Added, items-the_row-Added, items_hidden-the_row-Added-1}
 use Rattle.aud_syntax.specs.declared.tree.Added.{Added, out-Added, roll-Added, roll-out-Added, rolls-Added'}
-use Rattle.aud_syntax.specs.declared.tree.Term.{Term, out-Term, roll-Term, roll-out-Term, rolls-Term', Row_of-Multiplied, end_of-Multiplied, more_of-Multiplied, items-the_row-Multiplied, items_hidden-the_row-Multiplied-1}
-use Rattle.aud_syntax.specs.declared.tree.Primary.TheBlock.{hidden-the_row-Multiplied-1, hidden-the_row-Added-0}
-use Rattle.aud_syntax.specs.View.{plain_simple, plain_addeds, plain_added, plain_term, plain_multiplieds, plain_multiplied, plain_factor}
+use Rattle.aud_syntax.specs.declared.tree.Term.{Term, out-Term, roll-Term, roll-out-Term, rolls-Term', Row_of-Multiplied, end_of-Multiplied, more_of-Multiplied, items-the_row-Multiplied, items_hidden-the_row-Multiplied-2}
+use Rattle.aud_syntax.specs.declared.tree.Expr.TheBlock.{hidden-the_row-Expr-0, hidden-the_row-Added-1, hidden-the_row-Multiplied-2}
+use Rattle.aud_syntax.specs.declared.tree.Expr.{Expr}
+use Rattle.aud_syntax.specs.declared.tree.NamePart.{Row_of-Expr, end_of-Expr, more_of-Expr, items-the_row-Expr, items_hidden-the_row-Expr-0}
+use Rattle.aud_syntax.specs.declared.tree.Ident.{Ident}
+use Rattle.aud_syntax.specs.declared.tree.Name as name
+use Rattle.aud_syntax.specs.declared.tree.Primary as primary
+use Rattle.aud_syntax.specs.View.{plain_expr, plain_boxed, plain_exprs, plain_args, plain_name, plain_primary, plain_simple, plain_addeds, plain_added, plain_term, plain_multiplieds, plain_multiplied, plain_factor}
 use Rattle.aud_syntax.specs.Plain as m
 
 abbrev pub multiplied_list : List Multiplied → m.Multiplieds
@@ -36,13 +41,27 @@ pub added_open : (x : Added) → plain_added x ≡ m.added (out-Added x).op (pla
 added_open x = ap plain_added (sym (roll-out-Added x)) ∙ added_roll (out-Added x).op (out-Added x).term
 
 term_roll : (f : Factor) (v : Vec Multiplied Global) → plain_term (roll-Term (record { first = f; rest = v })) ≡ m.term (plain_factor f) (multiplied_list v.items)
-term_roll f v = ap plain_term (rolls-Term' _) ∙ ap (λ z. m.term (plain_factor f) z) (multiplied_rows _ (hidden-the_row-Multiplied-1 v) ∙ ap multiplied_list (items_hidden-the_row-Multiplied-1 v))
+term_roll f v = ap plain_term (rolls-Term' _) ∙ ap (λ z. m.term (plain_factor f) z) (multiplied_rows _ (hidden-the_row-Multiplied-2 v) ∙ ap multiplied_list (items_hidden-the_row-Multiplied-2 v))
 
 pub term_open : (t : Term) → plain_term t ≡ m.term (plain_factor (out-Term t).first) (multiplied_list (out-Term t).rest.items)
 term_open t = ap plain_term (sym (roll-out-Term t)) ∙ term_roll (out-Term t).first (out-Term t).rest
 
 simple_roll : (s : Option Signed) (t : Term) (v : Vec Added Global) → plain_simple (roll-Simple (record { sign = s; first = t; rest = v })) ≡ m.simple s (plain_term t) (added_list v.items)
-simple_roll s t v = ap plain_simple (rolls-Simple' _) ∙ ap (λ z. m.simple s (plain_term t) z) (added_rows _ (hidden-the_row-Added-0 v) ∙ ap added_list (items_hidden-the_row-Added-0 v))
+simple_roll s t v = ap plain_simple (rolls-Simple' _) ∙ ap (λ z. m.simple s (plain_term t) z) (added_rows _ (hidden-the_row-Added-1 v) ∙ ap added_list (items_hidden-the_row-Added-1 v))
 
 pub simple_open : (e : Simple) → plain_simple e ≡ m.simple (out-Simple e).sign (plain_term (out-Simple e).first) (added_list (out-Simple e).rest.items)
 simple_open e = ap plain_simple (sym (roll-out-Simple e)) ∙ simple_roll (out-Simple e).sign (out-Simple e).first (out-Simple e).rest
+
+expr_rows : (n : _) (row : Row_of-Expr n) → plain_args row ≡ plain_exprs (items-the_row-Expr n row)
+expr_rows n end_of-Expr = refl
+expr_rows n (more_of-Expr x row) = ap (λ z. m.more_args (plain_expr x) z) (expr_rows _ row)
+
+arguments : (v : Vec Expr Global) → plain_args (hidden-the_row-Expr-0 v) ≡ plain_exprs v.items
+arguments v = expr_rows _ (hidden-the_row-Expr-0 v) ∙ ap plain_exprs (items_hidden-the_row-Expr-0 v)
+
+pub name_open : (x : name.Name) → plain_primary (primary.Name x) ≡ m.name (plain_name x)
+name_open x = ap (λ z. m.name (m.named (m.part x.first.ident z) m.no_parts)) (arguments x.first.args)
+
+pub attribute_open : (x : name.Name) (i : Ident) (e : Option (Box Expr Global)) → plain_primary (primary.Attribute x i e) ≡ m.attribute (plain_name x) i (plain_boxed e)
+attribute_open x i None = ap (λ z. m.attribute (m.named (m.part x.first.ident z) m.no_parts) i m.no_expr) (arguments x.first.args)
+attribute_open x i (Some e) = ap (λ z. m.attribute (m.named (m.part x.first.ident z) m.no_parts) i (m.an_expr (plain_expr e.value))) (arguments x.first.args)

@@ -6,7 +6,7 @@ use Rattle.aud_syntax.specs.declared.tree.Ident.{Ident}
 use Rattle.aud_syntax.specs.declared.tree.Signed.{Signed}
 use Rattle.aud_syntax.specs.declared.tree.Operator.{Operator}
 use Rattle.aud_syntax.specs.Plain as m
-use Rattle.aud_syntax.specs.Bare.{bare_ident, bare_sign, bare_highest, bare_name, bare_simple, bare_addeds, bare_added, bare_term, bare_multiplieds, bare_multiplied, bare_factor, bare_primary, bare_maybe, bare_decl, bare_decls, bare_stmt, bare_stmts, bare_body, bare}
+use Rattle.aud_syntax.specs.Bare.{bare_ident, bare_sign, bare_highest, bare_end, bare_expr, bare_rel, bare_name, bare_part, bare_args, bare_simple, bare_addeds, bare_added, bare_term, bare_multiplieds, bare_multiplied, bare_factor, bare_primary, bare_maybe, bare_decl, bare_decls, bare_stmt, bare_stmts, bare_body, bare}
 use Rattle.aud_syntax.specs.Printed as w
 use Rattle.aud_syntax.specs.Laws.{WithoutPlaces}
 
@@ -18,11 +18,17 @@ operator_same : (s : Option Operator) → w.operator_words (bare_highest s) ≡ 
 operator_same None = refl
 operator_same (Some x) = refl
 
-end_same : (s : Option Ident) → w.end_words (bare_name s) ≡ w.end_words s
+end_same : (s : Option Ident) → w.end_words (bare_end s) ≡ w.end_words s
 end_same None = refl
 end_same (Some x) = refl
 
 mutual
+  expr_same : (e : m.Expr) → w.expr_words (bare_expr e) ≡ w.expr_words e
+  expr_same (m.alone x) = rel_same x
+
+  rel_same : (e : m.Rel) → w.rel_words (bare_rel e) ≡ w.rel_words e
+  rel_same (m.unrelated x) = simple_same x
+
   simple_same : (e : m.Simple) → w.simple_words (bare_simple e) ≡ w.simple_words e
   simple_same (m.simple s t rest) = cc (sign_same s, term_same t, addeds_same rest)
 
@@ -49,17 +55,31 @@ mutual
   primary_same : (x : m.Primary) → w.primary_words (bare_primary x) ≡ w.primary_words x
   primary_same (m.integer x) = refl
   primary_same (m.text x) = refl
-  primary_same (m.name x) = refl
-  primary_same (m.attribute x y e) = cc (maybe_same e)
-  primary_same (m.group at e) = cc (simple_same e)
+  primary_same (m.name x) = name_same x
+  primary_same (m.attribute x y e) = cc (name_same x, maybe_same e)
+  primary_same (m.group at e) = cc (expr_same e)
 
-  maybe_same : (e : m.MaybeSimple) → w.argument_words (bare_maybe e) ≡ w.argument_words e
-  maybe_same m.no_simple = refl
-  maybe_same (m.a_simple e) = cc (simple_same e)
+  maybe_same : (e : m.MaybeExpr) → w.argument_words (bare_maybe e) ≡ w.argument_words e
+  maybe_same m.no_expr = refl
+  maybe_same (m.an_expr e) = cc (expr_same e)
 
-initial_same : (e : m.MaybeSimple) → w.initial_words (bare_maybe e) ≡ w.initial_words e
-initial_same m.no_simple = refl
-initial_same (m.a_simple e) = cc (simple_same e)
+  name_same : (x : m.Name) → w.name_words (bare_name x) ≡ w.name_words x
+  name_same (m.named x m.no_parts) = part_same x
+
+  part_same : (x : m.Part) → w.part_words (bare_part x) ≡ w.part_words x
+  part_same (m.part i xs) = cc (args_same xs)
+
+  args_same : (xs : m.Args) → w.args_words (bare_args xs) ≡ w.args_words xs
+  args_same m.no_args = refl
+  args_same (m.more_args e xs) = cc (expr_same e, more_args_same xs)
+
+  more_args_same : (xs : m.Args) → w.more_args_words (bare_args xs) ≡ w.more_args_words xs
+  more_args_same m.no_args = refl
+  more_args_same (m.more_args e xs) = cc (expr_same e, more_args_same xs)
+
+initial_same : (e : m.MaybeExpr) → w.initial_words (bare_maybe e) ≡ w.initial_words e
+initial_same m.no_expr = refl
+initial_same (m.an_expr e) = cc (expr_same e)
 
 more_idents_same : (xs : List Ident) → w.more_ident_words (map bare_ident xs) ≡ w.more_ident_words xs
 more_idents_same [] = refl
@@ -78,8 +98,8 @@ decls_same (m.more_decls x xs) = cc (decl_same x, decls_same xs)
 
 stmt_same : (x : m.Stmt) → w.stmt_words (bare_stmt x) ≡ w.stmt_words x
 stmt_same (m.null at) = refl
-stmt_same (m.assign x e) = cc (simple_same e)
-stmt_same (m.call x e) = cc (simple_same e)
+stmt_same (m.assign x e) = cc (name_same x, expr_same e)
+stmt_same (m.call x) = cc (name_same x)
 
 stmts_same : (xs : m.Stmts) → w.stmts_words (bare_stmts xs) ≡ w.stmts_words xs
 stmts_same m.no_stmts = refl

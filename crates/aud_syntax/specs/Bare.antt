@@ -6,7 +6,7 @@ use Rattle.aud_syntax.specs.declared.tree.Number.{Number}
 use Rattle.aud_syntax.specs.declared.tree.Literal.{Literal}
 use Rattle.aud_syntax.specs.declared.tree.Signed.{Signed}
 use Rattle.aud_syntax.specs.declared.tree.Operator.{Operator}
-use Rattle.aud_syntax.specs.Plain.{Simple, simple, Addeds, no_addeds, more_addeds, Added, added, Term, term, Multiplieds, no_multiplieds, more_multiplieds, Multiplied, multiplied, Factor, factor, Primary, integer, text, name, attribute, group, MaybeSimple, no_simple, a_simple, Decl, object, Decls, no_decls, more_decls, Stmt, null, assign, call, Stmts, no_stmts, more_stmts, Body, body, Unit, unit}
+use Rattle.aud_syntax.specs.Plain.{Expr, alone, Rel, unrelated, Simple, simple, Addeds, no_addeds, more_addeds, Added, added, Term, term, Multiplieds, no_multiplieds, more_multiplieds, Multiplied, multiplied, Factor, factor, Primary, integer, text, name, attribute, group, MaybeExpr, no_expr, an_expr, Name, named, Parts, no_parts, Part, part, Args, no_args, more_args, Decl, object, Decls, no_decls, more_decls, Stmt, null, assign, call, Stmts, no_stmts, more_stmts, Body, body, Unit, unit}
 
 abbrev pub nowhere : Pos
 nowhere = record { line = 1; col = 1 }
@@ -34,11 +34,17 @@ abbrev pub bare_highest : Option Operator → Option Operator
 bare_highest None = None
 bare_highest (Some x) = Some (bare_operator x)
 
-abbrev pub bare_name : Option Ident → Option Ident
-bare_name None = None
-bare_name (Some x) = Some (bare_ident x)
+abbrev pub bare_end : Option Ident → Option Ident
+bare_end None = None
+bare_end (Some x) = Some (bare_ident x)
 
 abbrev mutual
+  pub bare_expr : Expr → Expr
+  bare_expr (alone x) = alone (bare_rel x)
+
+  pub bare_rel : Rel → Rel
+  bare_rel (unrelated x) = unrelated (bare_simple x)
+
   pub bare_simple : Simple → Simple
   bare_simple (simple s t rest) = simple (bare_sign s) (bare_term t) (bare_addeds rest)
 
@@ -65,13 +71,26 @@ abbrev mutual
   pub bare_primary : Primary → Primary
   bare_primary (integer x) = integer (bare_number x)
   bare_primary (text x) = text (bare_literal x)
-  bare_primary (name x) = name (bare_ident x)
-  bare_primary (attribute x y e) = attribute (bare_ident x) (bare_ident y) (bare_maybe e)
-  bare_primary (group at e) = group nowhere (bare_simple e)
+  bare_primary (name x) = name (bare_name x)
+  bare_primary (attribute x y e) = attribute (bare_name x) (bare_ident y) (bare_maybe e)
+  bare_primary (group at e) = group nowhere (bare_expr e)
 
-  pub bare_maybe : MaybeSimple → MaybeSimple
-  bare_maybe no_simple = no_simple
-  bare_maybe (a_simple e) = a_simple (bare_simple e)
+  pub bare_maybe : MaybeExpr → MaybeExpr
+  bare_maybe no_expr = no_expr
+  bare_maybe (an_expr e) = an_expr (bare_expr e)
+
+  pub bare_name : Name → Name
+  bare_name (named x xs) = named (bare_part x) (bare_parts xs)
+
+  pub bare_parts : Parts → Parts
+  bare_parts no_parts = no_parts
+
+  pub bare_part : Part → Part
+  bare_part (part i xs) = part (bare_ident i) (bare_args xs)
+
+  pub bare_args : Args → Args
+  bare_args no_args = no_args
+  bare_args (more_args e xs) = more_args (bare_expr e) (bare_args xs)
 
 abbrev pub bare_decl : Decl → Decl
 bare_decl (object names subtype value) = object (map bare_ident names) (bare_ident subtype) (bare_maybe value)
@@ -82,15 +101,15 @@ bare_decls (more_decls x xs) = more_decls (bare_decl x) (bare_decls xs)
 
 abbrev pub bare_stmt : Stmt → Stmt
 bare_stmt (null at) = null nowhere
-bare_stmt (assign x e) = assign (bare_ident x) (bare_simple e)
-bare_stmt (call x e) = call (bare_ident x) (bare_simple e)
+bare_stmt (assign x e) = assign (bare_name x) (bare_expr e)
+bare_stmt (call x) = call (bare_name x)
 
 abbrev pub bare_stmts : Stmts → Stmts
 bare_stmts no_stmts = no_stmts
 bare_stmts (more_stmts x xs) = more_stmts (bare_stmt x) (bare_stmts xs)
 
 abbrev pub bare_body : Body → Body
-bare_body (body begin stmts end last) = body nowhere (bare_stmts stmts) nowhere (bare_name last)
+bare_body (body begin stmts end last) = body nowhere (bare_stmts stmts) nowhere (bare_end last)
 
 abbrev pub bare : Unit → Unit
 bare (unit x decls rest) = unit (bare_ident x) (bare_decls decls) (bare_body rest)

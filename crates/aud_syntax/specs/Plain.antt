@@ -9,8 +9,15 @@ use Rattle.aud_syntax.specs.declared.tree.Adding.{Adding}
 use Rattle.aud_syntax.specs.declared.tree.Multiplying.{Multiplying}
 use Rattle.aud_syntax.specs.declared.tree.Operator.{Operator}
 
--- expressions (RM 4.4)
+-- expressions and names (RM 4.1, 4.4)
 mutual
+  -- one relation
+  pub data Expr : Type 0 where
+    alone : Rel → Expr
+
+  pub data Rel : Type 0 where
+    unrelated : Simple → Rel
+
   pub data Simple : Type 0 where
     simple : Option Signed → Term → Addeds → Simple
 
@@ -37,18 +44,34 @@ mutual
   pub data Primary : Type 0 where
     integer : Number → Primary
     text : Literal → Primary
-    name : Ident → Primary
-    attribute : Ident → Ident → MaybeSimple → Primary
-    group : Pos → Simple → Primary
+    name : Name → Primary
+    attribute : Name → Ident → MaybeExpr → Primary
+    -- in parentheses, which open at a place
+    group : Pos → Expr → Primary
 
-  pub data MaybeSimple : Type 0 where
-    no_simple : MaybeSimple
-    a_simple : Simple → MaybeSimple
+  pub data MaybeExpr : Type 0 where
+    no_expr : MaybeExpr
+    an_expr : Expr → MaybeExpr
+
+  -- the first part, and those after points
+  pub data Name : Type 0 where
+    named : Part → Parts → Name
+
+  pub data Parts : Type 0 where
+    no_parts : Parts
+
+  pub data Part : Type 0 where
+    part : Ident → Args → Part
+
+  -- no arguments: no parentheses
+  pub data Args : Type 0 where
+    no_args : Args
+    more_args : Expr → Args → Args
 
 mutual
   -- RM 3.1, 3.3.1
   pub data Decl : Type 0 where
-    object : List Ident → Ident → MaybeSimple → Decl
+    object : List Ident → Ident → MaybeExpr → Decl
 
   pub data Decls : Type 0 where
     no_decls : Decls
@@ -57,8 +80,9 @@ mutual
   -- RM 5.1
   pub data Stmt : Type 0 where
     null : Pos → Stmt
-    assign : Ident → Simple → Stmt
-    call : Ident → Simple → Stmt
+    assign : Name → Expr → Stmt
+    -- its arguments are those of the name
+    call : Name → Stmt
 
   pub data Stmts : Type 0 where
     no_stmts : Stmts

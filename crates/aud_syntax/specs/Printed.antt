@@ -15,7 +15,7 @@ use Rattle.aud_syntax.specs.declared.tree.Multiplying.TheVariants as multiplying
 use Rattle.aud_syntax.specs.declared.tree.Highest.{Highest}
 use Rattle.aud_syntax.specs.declared.tree.Highest.TheVariants as highest
 use Rattle.aud_syntax.specs.declared.tree.Operator.{Operator}
-use Rattle.aud_syntax.specs.Plain.{Simple, simple, Addeds, no_addeds, more_addeds, Added, added, Term, term, Multiplieds, no_multiplieds, more_multiplieds, Multiplied, multiplied, Factor, factor, Primary, integer, text, name, attribute, group, MaybeSimple, no_simple, a_simple, Decl, object, Decls, no_decls, more_decls, Stmt, null, assign, call, Stmts, no_stmts, more_stmts, Body, body, Unit, unit}
+use Rattle.aud_syntax.specs.Plain.{Expr, alone, Rel, unrelated, Simple, simple, Addeds, no_addeds, more_addeds, Added, added, Term, term, Multiplieds, no_multiplieds, more_multiplieds, Multiplied, multiplied, Factor, factor, Primary, integer, text, name, attribute, group, MaybeExpr, no_expr, an_expr, Name, named, no_parts, Part, part, Args, no_args, more_args, Decl, object, Decls, no_decls, more_decls, Stmt, null, assign, call, Stmts, no_stmts, more_stmts, Body, body, Unit, unit}
 
 -- a name as the tree has it, in capitals (RM 2.3)
 abbrev pub ident_word : Ident → Word
@@ -72,8 +72,14 @@ operator_words (Some x) = word (highest_spelling x.highest) ∷ []
 abbrev pub in_parentheses : List Word → List Word
 in_parentheses ws = word (codes "(") ∷ (ws ++ (word (codes ")") ∷ []))
 
--- RM 4.4
+-- RM 4.1, 4.4
 abbrev mutual
+  pub expr_words : Expr → List Word
+  expr_words (alone x) = rel_words x
+
+  pub rel_words : Rel → List Word
+  rel_words (unrelated x) = simple_words x
+
   pub simple_words : Simple → List Word
   simple_words (simple s t rest) = sign_words s ++ term_words t ++ addeds_words rest
 
@@ -100,14 +106,30 @@ abbrev mutual
   pub primary_words : Primary → List Word
   primary_words (integer x) = number_word x ∷ []
   primary_words (text x) = literal_word x ∷ []
-  primary_words (name x) = ident_word x ∷ []
-  primary_words (attribute x y e) = ident_word x ∷ word (codes "'") ∷ ident_word y ∷ argument_words e
-  primary_words (group at e) = in_parentheses (simple_words e)
+  primary_words (name x) = name_words x
+  primary_words (attribute x y e) = name_words x ++ (word (codes "'") ∷ ident_word y ∷ argument_words e)
+  primary_words (group at e) = in_parentheses (expr_words e)
 
   -- an attribute's argument (RM 4.1.4)
-  pub argument_words : MaybeSimple → List Word
-  argument_words no_simple = []
-  argument_words (a_simple e) = in_parentheses (simple_words e)
+  pub argument_words : MaybeExpr → List Word
+  argument_words no_expr = []
+  argument_words (an_expr e) = in_parentheses (expr_words e)
+
+  -- RM 4.1
+  pub name_words : Name → List Word
+  name_words (named x no_parts) = part_words x
+
+  pub part_words : Part → List Word
+  part_words (part i xs) = ident_word i ∷ args_words xs
+
+  -- RM 6.4
+  pub args_words : Args → List Word
+  args_words no_args = []
+  args_words (more_args e xs) = in_parentheses (expr_words e ++ more_args_words xs)
+
+  pub more_args_words : Args → List Word
+  more_args_words no_args = []
+  more_args_words (more_args e xs) = word (codes ",") ∷ (expr_words e ++ more_args_words xs)
 
 -- RM 3.3.1
 abbrev pub more_ident_words : List Ident → List Word
@@ -118,11 +140,11 @@ abbrev pub idents_words : List Ident → List Word
 idents_words [] = []
 idents_words (x ∷ xs) = ident_word x ∷ more_ident_words xs
 
-abbrev pub initial_words : MaybeSimple → List Word
-initial_words no_simple = []
-initial_words (a_simple e) = word (codes ":=") ∷ simple_words e
+abbrev pub initial_words : MaybeExpr → List Word
+initial_words no_expr = []
+initial_words (an_expr e) = word (codes ":=") ∷ expr_words e
 
-abbrev pub object_words : List Ident → Ident → MaybeSimple → List Word
+abbrev pub object_words : List Ident → Ident → MaybeExpr → List Word
 object_words names subtype value = idents_words names ++ (word (codes ":") ∷ ident_word subtype ∷ (initial_words value ++ (last_word (codes ";") ∷ [])))
 
 abbrev pub decl_words : Decl → List Word
@@ -137,18 +159,18 @@ abbrev pub null_words : List Word
 null_words = word (codes "null") ∷ last_word (codes ";") ∷ []
 
 -- RM 5.2
-abbrev pub assignment_words : Ident → Simple → List Word
-assignment_words x e = ident_word x ∷ word (codes ":=") ∷ (simple_words e ++ (last_word (codes ";") ∷ []))
+abbrev pub assignment_words : Name → Expr → List Word
+assignment_words x e = name_words x ++ (word (codes ":=") ∷ (expr_words e ++ (last_word (codes ";") ∷ [])))
 
 -- RM 6.4
-abbrev pub call_words : Ident → Simple → List Word
-call_words x e = ident_word x ∷ (in_parentheses (simple_words e) ++ (last_word (codes ";") ∷ []))
+abbrev pub call_words : Name → List Word
+call_words x = name_words x ++ (last_word (codes ";") ∷ [])
 
 -- RM 5.1
 abbrev pub stmt_words : Stmt → List Word
 stmt_words (null at) = null_words
 stmt_words (assign x e) = assignment_words x e
-stmt_words (call x e) = call_words x e
+stmt_words (call x) = call_words x
 
 abbrev pub stmts_words : Stmts → List Word
 stmts_words no_stmts = []

@@ -3,12 +3,12 @@
 
 ghost use Rattle.std.specs.Prelude.{◌≡◌, ◌++◌, ◌∷◌, [], IfOk, OnOk};
 ghost use Rattle.aud_lex.specs.Spaced.{word, last_word, spaced};
-ghost use Rattle.aud_syntax.specs.View.{plain_simple, plain_added, plain_term, plain_multiplied, plain_factor, plain_primary, plain_maybe, plain_decl, plain_decls, plain_stmt, plain_stmts, plain_body, plain_unit};
-ghost use Rattle.aud_syntax.specs.Printed.{ident_word, number_word, doubled, literal_word, sign_words, adding_spelling, multiplying_spelling, operator_words, simple_words, added_words, term_words, multiplied_words, factor_words, primary_words, in_parentheses, more_ident_words, idents_words, initial_words, object_words, decl_words, decls_words, null_words, assignment_words, call_words, stmt_words, stmts_words, end_words, body_words, unit_words, printed};
+ghost use Rattle.aud_syntax.specs.View.{plain_expr, plain_relation, plain_name, plain_part, plain_exprs, plain_simple, plain_added, plain_term, plain_multiplied, plain_factor, plain_primary, plain_maybe, plain_decl, plain_decls, plain_stmt, plain_stmts, plain_body, plain_unit};
+ghost use Rattle.aud_syntax.specs.Printed.{ident_word, number_word, doubled, literal_word, sign_words, adding_spelling, multiplying_spelling, operator_words, expr_words, rel_words, name_words, part_words, args_words, simple_words, added_words, term_words, multiplied_words, factor_words, primary_words, in_parentheses, more_ident_words, idents_words, initial_words, object_words, decl_words, decls_words, null_words, assignment_words, call_words, stmt_words, stmts_words, end_words, body_words, unit_words, printed};
 
 use crate::tree::{
     Added, Adding, Body, Decl, Expr, Factor, Highest, Ident, Literal, Multiplied, Multiplying,
-    Number, Operator, Primary, Sign, Signed, Stmt, Term, Unit,
+    Name, NamePart, Number, Operator, Primary, Relation, Sign, Signed, Simple, Stmt, Term, Unit,
 };
 use aud_text::digits::push_decimal;
 use aud_text::text::Text;
@@ -79,7 +79,7 @@ fn push_stmt(out: &mut Vec<u8>, stmt: &Stmt) -> Result<(), AllocError>
     match stmt {
         Stmt::Null(_) => push_null(out),
         Stmt::Assign(target, value) => push_assignment(out, target, value),
-        Stmt::Call(name, argument) => push_call(out, name, argument),
+        Stmt::Call(name) => push_call(out, name),
     }
 }
 
@@ -91,21 +91,20 @@ fn push_null(out: &mut Vec<u8>) -> Result<(), AllocError>
 }
 
 // RM 5.2
-fn push_assignment(out: &mut Vec<u8>, target: &Ident, value: &Expr) -> Result<(), AllocError>
-    ensures { OnOk result (out.new.items ≡ out.old.items ++ spaced (assignment_words target.now (plain_simple value.now))) }
+fn push_assignment(out: &mut Vec<u8>, target: &Name, value: &Expr) -> Result<(), AllocError>
+    ensures { OnOk result (out.new.items ≡ out.old.items ++ spaced (assignment_words (plain_name target.now) (plain_expr value.now))) }
 {
-    push_ident(out, target)?;
+    push_name(out, target)?;
     push_word(out, b":=")?;
     push_expr(out, value)?;
     push_last_word(out, b";")
 }
 
 // RM 6.4
-fn push_call(out: &mut Vec<u8>, name: &Ident, argument: &Expr) -> Result<(), AllocError>
-    ensures { OnOk result (out.new.items ≡ out.old.items ++ spaced (call_words name.now (plain_simple argument.now))) }
+fn push_call(out: &mut Vec<u8>, name: &Name) -> Result<(), AllocError>
+    ensures { OnOk result (out.new.items ≡ out.old.items ++ spaced (call_words (plain_name name.now))) }
 {
-    push_ident(out, name)?;
-    push_in_parentheses(out, argument)?;
+    push_name(out, name)?;
     push_last_word(out, b";")
 }
 
@@ -177,7 +176,7 @@ fn push_more_idents(out: &mut Vec<u8>, names: &[Ident]) -> Result<(), AllocError
 
 #[cycle(print)]
 fn push_in_parentheses(out: &mut Vec<u8>, inner: &Expr) -> Result<(), AllocError>
-    ensures { OnOk result (out.new.items ≡ out.old.items ++ spaced (in_parentheses (simple_words (plain_simple inner.now)))) }
+    ensures { OnOk result (out.new.items ≡ out.old.items ++ spaced (in_parentheses (expr_words (plain_expr inner.now)))) }
 {
     push_word(out, b"(")?;
     push_expr(out, inner)?;
@@ -187,11 +186,27 @@ fn push_in_parentheses(out: &mut Vec<u8>, inner: &Expr) -> Result<(), AllocError
 // RM 4.4
 #[cycle(print)]
 fn push_expr(out: &mut Vec<u8>, expr: &Expr) -> Result<(), AllocError>
-    ensures { OnOk result (out.new.items ≡ out.old.items ++ spaced (simple_words (plain_simple expr.now))) }
+    ensures { OnOk result (out.new.items ≡ out.old.items ++ spaced (expr_words (plain_expr expr.now))) }
 {
-    push_sign(out, expr.sign)?;
-    push_term(out, &expr.first)?;
-    for next in &expr.rest {
+    let Expr::Alone(relation) = expr;
+    push_relation(out, relation)
+}
+
+#[cycle(print)]
+fn push_relation(out: &mut Vec<u8>, relation: &Relation) -> Result<(), AllocError>
+    ensures { OnOk result (out.new.items ≡ out.old.items ++ spaced (rel_words (plain_relation relation.now))) }
+{
+    let Relation::Unrelated(simple) = relation;
+    push_simple(out, simple)
+}
+
+#[cycle(print)]
+fn push_simple(out: &mut Vec<u8>, simple: &Simple) -> Result<(), AllocError>
+    ensures { OnOk result (out.new.items ≡ out.old.items ++ spaced (simple_words (plain_simple simple.now))) }
+{
+    push_sign(out, simple.sign)?;
+    push_term(out, &simple.first)?;
+    for next in &simple.rest {
         push_added(out, next)?;
     }
     Ok(())
@@ -239,9 +254,9 @@ fn push_primary(out: &mut Vec<u8>, primary: &Primary) -> Result<(), AllocError>
     match primary {
         Primary::Integer(number) => push_number(out, *number),
         Primary::Text(literal) => push_literal(out, literal),
-        Primary::Name(name) => push_ident(out, name),
+        Primary::Name(name) => push_name(out, name),
         Primary::Attribute(prefix, designator, argument) => {
-            push_ident(out, prefix)?;
+            push_name(out, prefix)?;
             push_word(out, b"'")?;
             push_ident(out, designator)?;
             match argument {
@@ -251,6 +266,39 @@ fn push_primary(out: &mut Vec<u8>, primary: &Primary) -> Result<(), AllocError>
         }
         Primary::Group(_, inner) => push_in_parentheses(out, inner),
     }
+}
+
+// RM 4.1
+#[cycle(print)]
+fn push_name(out: &mut Vec<u8>, name: &Name) -> Result<(), AllocError>
+    ensures { OnOk result (out.new.items ≡ out.old.items ++ spaced (name_words (plain_name name.now))) }
+{
+    push_part(out, &name.first)
+}
+
+#[cycle(print)]
+fn push_part(out: &mut Vec<u8>, part: &NamePart) -> Result<(), AllocError>
+    ensures { OnOk result (out.new.items ≡ out.old.items ++ spaced (part_words (plain_part part.now))) }
+{
+    push_ident(out, &part.ident)?;
+    push_args(out, &part.args)
+}
+
+// The arguments of a part, if it has any (RM 6.4).
+#[cycle(print)]
+fn push_args(out: &mut Vec<u8>, args: &[Expr]) -> Result<(), AllocError>
+    ensures { OnOk result (out.new.items ≡ out.old.items ++ spaced (args_words (plain_exprs args.now))) }
+{
+    let mut before: &[u8] = b"(";
+    for next in args {
+        push_word(out, before)?;
+        push_expr(out, next)?;
+        before = b",";
+    }
+    if args.is_empty() {
+        return Ok(());
+    }
+    push_word(out, b")")
 }
 
 // RM 4.5.4

@@ -1,14 +1,14 @@
 // Syntax trees. A list that is never empty is its first element and the others.
 
 use aud_text::int32::Int32;
-use aud_text::name::Name;
+use aud_text::name::Name as Spelling;
 use aud_text::place::Pos;
 use aud_text::text::Text;
 
-/// An occurrence of a name (RM 2.3, 4.1).
-#[derive(Drop, Debug)]
+/// An occurrence of an identifier (RM 2.3).
+#[derive(Drop)]
 pub struct Ident {
-    pub name: Name,
+    pub name: Spelling,
     pub at: Pos,
 }
 
@@ -20,7 +20,7 @@ pub struct Number {
 }
 
 /// A string literal (RM 2.6): its characters, and where it stands.
-#[derive(Drop, Debug)]
+#[derive(Drop)]
 pub struct Literal {
     pub text: Text,
     pub at: Pos,
@@ -72,10 +72,23 @@ pub struct Operator {
 }
 
 /// An expression (RM 4.4).
-pub type Expr = Simple;
+#[derive(Drop)]
+#[cycle(expr)]
+pub enum Expr {
+    /// One relation, with no logical operator.
+    Alone(Relation),
+}
+
+/// A relation (RM 4.4(3)).
+#[derive(Drop)]
+#[cycle(expr)]
+pub enum Relation {
+    /// What is compared with nothing.
+    Unrelated(Simple),
+}
 
 /// Terms that are added (RM 4.4(4)).
-#[derive(Drop, Debug)]
+#[derive(Drop)]
 #[cycle(expr)]
 pub struct Simple {
     pub sign: Option<Signed>,
@@ -84,7 +97,7 @@ pub struct Simple {
 }
 
 /// A further term.
-#[derive(Drop, Debug)]
+#[derive(Drop)]
 #[cycle(expr)]
 pub struct Added {
     pub op: Adding,
@@ -92,7 +105,7 @@ pub struct Added {
 }
 
 /// Factors that are multiplied (RM 4.4(5)).
-#[derive(Drop, Debug)]
+#[derive(Drop)]
 #[cycle(expr)]
 pub struct Term {
     pub first: Factor,
@@ -100,7 +113,7 @@ pub struct Term {
 }
 
 /// A further factor.
-#[derive(Drop, Debug)]
+#[derive(Drop)]
 #[cycle(expr)]
 pub struct Multiplied {
     pub op: Multiplying,
@@ -108,7 +121,7 @@ pub struct Multiplied {
 }
 
 /// A primary with the operator before it (RM 4.4(6)).
-#[derive(Drop, Debug)]
+#[derive(Drop)]
 #[cycle(expr)]
 pub struct Factor {
     pub op: Option<Operator>,
@@ -116,37 +129,52 @@ pub struct Factor {
 }
 
 /// A primary (RM 4.4(7)).
-#[derive(Drop, Debug)]
+#[derive(Drop)]
 #[cycle(expr)]
 pub enum Primary {
     Integer(Number),
     Text(Literal),
-    Name(Ident),
+    Name(Name),
     /// The prefix, the attribute's name and its argument (RM 4.1.4).
-    Attribute(Ident, Ident, Option<Box<Expr>>),
+    Attribute(Name, Ident, Option<Box<Expr>>),
     /// An expression in parentheses, and where they open.
     Group(Pos, Box<Expr>),
 }
 
+/// A name (RM 4.1).
+#[derive(Drop)]
+#[cycle(expr)]
+pub struct Name {
+    pub first: NamePart,
+}
+
+/// An identifier of a name, and the arguments in the parentheses behind it.
+#[derive(Drop)]
+#[cycle(expr)]
+pub struct NamePart {
+    pub ident: Ident,
+    pub args: Vec<Expr>,
+}
+
 /// A declaration (RM 3.1).
-#[derive(Drop, Debug)]
+#[derive(Drop)]
 pub enum Decl {
     /// Variables, their subtype and their initial value (RM 3.3.1).
     Object(Vec<Ident>, Ident, Option<Expr>),
 }
 
 /// A statement (RM 5.1).
-#[derive(Drop, Debug)]
+#[derive(Drop)]
 pub enum Stmt {
     /// A null statement, and where it stands.
     Null(Pos),
-    Assign(Ident, Expr),
-    /// A call with one argument.
-    Call(Ident, Expr),
+    Assign(Name, Expr),
+    /// What is called; the arguments are those of the name.
+    Call(Name),
 }
 
 /// A body's statements (RM 11.2(2)), where they begin and end, and the name after `end`.
-#[derive(Drop, Debug)]
+#[derive(Drop)]
 pub struct Body {
     pub begin: Pos,
     pub stmts: Vec<Stmt>,
@@ -155,7 +183,7 @@ pub struct Body {
 }
 
 /// A program: its main procedure (RM 10.1.1).
-#[derive(Drop, Debug)]
+#[derive(Drop)]
 pub struct Unit {
     pub name: Ident,
     pub decls: Vec<Decl>,

@@ -2,12 +2,12 @@ use Rattle.std.proofs.Common.{◌+◌, drop, arith}
 use Rattle.std.specs.Prelude.{Some}
 use Rattle.aud_check.specs.Names.{visible}
 use Rattle.aud_syntax.specs.declared.tree.Added.{out-Added}
-use Rattle.aud_syntax.specs.View.{plain_simple, plain_term, plain_primary, plain_factor}
-use Rattle.aud_check.specs.Expressions.{check_simple, check_term, check_factor, check_primary, adding_operator, arithmetic, multiplying, highest, check_attribute, simple_at, term_at, factor_at, primary_at}
+use Rattle.aud_syntax.specs.View.{plain_expr, plain_simple, plain_term, plain_primary, plain_factor}
+use Rattle.aud_check.specs.Expressions.{check_expr, expr_at, check_simple, check_term, check_factor, check_primary, adding_operator, arithmetic, multiplying, highest, check_attribute, term_at, factor_at, primary_at}
 use Rattle.aud_check.specs.Typing.{plain_typed}
 use Rattle.aud_syntax.proofs.Opened.{added_open}
 use Rattle.aud_syntax.proofs.Written.{dropped}
-use Rattle.aud_check.proofs.Opened.{term_ahead, multiplied_ahead, simple_ahead, added_ahead}
+use Rattle.aud_check.proofs.Opened.{term_ahead, multiplied_ahead, simple_ahead, added_ahead, name_shown, image_shown, image_of_shown}
 use Rattle.aud_check.proofs.Notes.{shows_with}
 use Rattle.aud_check.proofs.expr.+expr.Goals as goal
 
@@ -20,11 +20,11 @@ multiplied-returns t c = shows_with c.args.faults.now c.factor.new.faults c.arit
 pub factor-returns-in-Some : goal.factor-returns-in-Some
 factor-returns-in-Some t c = rw c.in-Some.is (shows_with c.args.faults.now c.primary.new.faults c.highest.new.faults (check_primary (plain_primary c.args.factor.now.primary) c.args.scope.now) (λ x. highest c.in-Some.op.highest (primary_at (plain_primary c.args.factor.now.primary)) x) c.in_ok-operand.operand c.highest.result c.in_ok-operand.ensures (rw c.primary_at.ensures at c.highest.ensures))
 
-pub expr-loop-next-init : goal.expr-loop-next-init
-expr-loop-next-init t c = simple_ahead c.args.e.now c.args.scope.now c.args.faults.now c.term.new.faults c.signed.new.faults c.in_ok-first.first c.in_ok-left.left c.simple_at-at.result c.deref-next-items.result.now c.simple_at-at.ensures c.deref-next-items.ensures.value c.in_ok-first.ensures (rw c.term_at.ensures at c.in_ok-left.ensures)
+pub simple-loop-next-init : goal.simple-loop-next-init
+simple-loop-next-init t c = simple_ahead c.args.e.now c.args.scope.now c.args.faults.now c.term.new.faults c.signed.new.faults c.in_ok-first.first c.in_ok-left.left c.simple_at-at.result c.deref-next-items.result.now c.simple_at-at.ensures c.deref-next-items.ensures.value c.in_ok-first.ensures (rw c.term_at.ensures at c.in_ok-left.ensures)
 
-pub expr-loop-next-preserved : goal.expr-loop-next-preserved
-expr-loop-next-preserved t c = added_ahead c.args.scope.now c.args.faults.now c.loop-next.faults c.added.new.faults (check_simple (plain_simple c.args.e.now) c.args.scope.now) c.next-item.result (drop c.loop-next.next-index c.deref-next-items.result.now) (drop (c.loop-next.next-index + 1) c.deref-next-items.result.now) c.simple_at-at.result (plain_typed c.loop-next.left) c.in_ok-left-2.left (dropped c.deref-next-items.result.now c.loop-next.next-index c.next-item.result (omega arith) c.next-item.is) c.loop-next.invariant c.in_ok-left-2.ensures
+pub simple-loop-next-preserved : goal.simple-loop-next-preserved
+simple-loop-next-preserved t c = added_ahead c.args.scope.now c.args.faults.now c.loop-next.faults c.added.new.faults (check_simple (plain_simple c.args.e.now) c.args.scope.now) c.next-item.result (drop c.loop-next.next-index c.deref-next-items.result.now) (drop (c.loop-next.next-index + 1) c.deref-next-items.result.now) c.simple_at-at.result (plain_typed c.loop-next.left) c.in_ok-left-2.left (dropped c.deref-next-items.result.now c.loop-next.next-index c.next-item.result (omega arith) c.next-item.is) c.loop-next.invariant c.in_ok-left-2.ensures
 
 pub term-loop-next-init : goal.term-loop-next-init
 term-loop-next-init t c = term_ahead c.args.term.now c.args.scope.now c.args.faults.now c.factor.new.faults c.in_ok-left.left c.term_at-at.result c.deref-next-items.result.now c.term_at-at.ensures c.deref-next-items.ensures.value c.in_ok-left.ensures
@@ -32,5 +32,11 @@ term-loop-next-init t c = term_ahead c.args.term.now c.args.scope.now c.args.fau
 pub term-loop-next-preserved : goal.term-loop-next-preserved
 term-loop-next-preserved t c = multiplied_ahead c.args.scope.now c.args.faults.now c.loop-next.faults c.multiplied.new.faults (check_term (plain_term c.args.term.now) c.args.scope.now) c.next-item.result (drop c.loop-next.next-index c.deref-next-items.result.now) (drop (c.loop-next.next-index + 1) c.deref-next-items.result.now) c.term_at-at.result (plain_typed c.loop-next.left) c.in_ok-left-2.left (dropped c.deref-next-items.result.now c.loop-next.next-index c.next-item.result (omega arith) c.next-item.is) c.loop-next.invariant c.in_ok-left-2.ensures
 
+pub primary-returns-in-Name : goal.primary-returns-in-Name
+primary-returns-in-Name t c = rw c.in-Name.is (name_shown c.args.faults.now c.check_name.new.faults c.in-Name.name c.args.scope.now c.check_name.result (rw c.visible.ensures at c.check_name.ensures))
+
+pub primary-returns-in-None : goal.primary-returns-in-None
+primary-returns-in-None t c = rw (c.in-Attribute.is, c.in-None.is) (image_shown c.args.faults.now c.attribute.new.faults c.in-Attribute.prefix c.in-Attribute.designator c.args.scope.now c.attribute.result (rw c.visible-meaning.ensures at c.attribute.ensures))
+
 pub primary-returns-in_ok-typed-in-Some : goal.primary-returns-in_ok-typed-in-Some
-primary-returns-in_ok-typed-in-Some t c = rw (c.in-Attribute.is, c.in-Some.is) (shows_with c.args.faults.now c.expr.new.faults c.attribute-in-Some.new.faults (check_simple (plain_simple c.in-Some.e.value) c.args.scope.now) (λ x. check_attribute (visible c.in-Attribute.prefix.name c.args.scope.now) c.in-Attribute.prefix c.in-Attribute.designator (Some (simple_at (plain_simple c.in-Some.e.value), x))) c.in_ok-typed-in-Some.typed c.attribute-in-Some.result (rw c.deref.ensures at c.in_ok-typed-in-Some.ensures) (rw (c.visible-meaning.ensures, c.simple_at.ensures, c.deref-in-Some.ensures) at c.attribute-in-Some.ensures))
+primary-returns-in_ok-typed-in-Some t c = rw (c.in-Attribute.is, c.in-Some.is) (image_of_shown c.args.faults.now c.attribute-in-Some.new.faults c.in-Attribute.prefix c.in-Attribute.designator c.in-Some.e c.args.scope.now c.attribute-in-Some.result (shows_with c.args.faults.now c.expr.new.faults c.attribute-in-Some.new.faults (check_expr (plain_expr c.in-Some.e.value) c.args.scope.now) (λ x. check_attribute (visible c.in-Attribute.prefix.first.ident.name c.args.scope.now) c.in-Attribute.prefix.first.ident c.in-Attribute.designator (Some (expr_at (plain_expr c.in-Some.e.value), x))) c.in_ok-typed-in-Some.typed c.attribute-in-Some.result (rw c.deref.ensures at c.in_ok-typed-in-Some.ensures) (rw (c.visible-meaning.ensures, c.expr_at.ensures, c.deref-in-Some.ensures) at c.attribute-in-Some.ensures)))

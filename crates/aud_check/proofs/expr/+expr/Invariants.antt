@@ -6,8 +6,8 @@ use Rattle.aud_check.proofs.Notes.{Ahead}
 use Rattle.aud_syntax.proofs.Opened.{added_list, multiplied_list}
 use Rattle.aud_check.proofs.expr.+expr.Given as goal
 
-abbrev pub invariant-expr-loop-next : goal.invariant-expr-loop-next
-invariant-expr-loop-next l = Ahead l.faults (check_addeds (added_list (drop l.next-index l.next-items)) l.scope l.at (plain_typed l.left)) l.fn.faults (check_simple (plain_simple l.fn.e) l.fn.scope)
+abbrev pub invariant-simple-loop-next : goal.invariant-simple-loop-next
+invariant-simple-loop-next l = Ahead l.faults (check_addeds (added_list (drop l.next-index l.next-items)) l.scope l.at (plain_typed l.left)) l.fn.faults (check_simple (plain_simple l.fn.e) l.fn.scope)
 
 abbrev pub invariant-term-loop-next : goal.invariant-term-loop-next
 invariant-term-loop-next l = Ahead l.faults (check_multiplieds (multiplied_list (drop l.next-index l.next-items)) l.scope l.at (plain_typed l.left)) l.fn.faults (check_term (plain_term l.fn.term) l.fn.scope)

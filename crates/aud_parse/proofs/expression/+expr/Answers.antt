@@ -2,7 +2,7 @@ use Rattle.aud_parse.specs.Grammar as g
 use Rattle.std.proofs.Common.{sym, ◌∙◌, refl, rules}
 use Rattle.aud_parse.specs.Machine.{o_rule, o_this, o_other, o_last, o_yes, o_no, o_more}
 use Rattle.aud_parse.proofs.Passing.{to, exit, hand_on, level_in, level_out, turns_push, turns_end, no_level}
-use Rattle.aud_parse.proofs.Rolls.{term_roll, added_roll, simple_roll, factor_items, named_items}
+use Rattle.aud_parse.proofs.Rolls.{term_roll, added_roll, simple_roll, factor_items, name_items, named_items}
 use Rattle.aud_parse.proofs.expression.+expr.Goals as goal
 
 pub parens-returns-in_err-inside-clause-reads : goal.parens-returns-in_err-inside-clause-reads
@@ -45,7 +45,7 @@ pub named-returns-then-is-clause-reads : goal.named-returns-then-is-clause-reads
 named-returns-then-is-clause-reads t c k ds v o = to (o_rule (c.in_ok-prefix.ensures.reads _ _ _ _ (o_yes (sym c.is.ensures ∙ c.if-is.true) (c.in_ok-attribute.ensures.reads _ _ _ o)))) (named_items _ _ _ _)
 
 pub named-returns-clause-reads : goal.named-returns-clause-reads
-named-returns-clause-reads t c k ds v o = o_rule (c.in_ok-prefix.ensures.reads _ _ _ _ (o_no (sym c.is.ensures ∙ c.if-is.false) o))
+named-returns-clause-reads t c k ds v o = to (o_rule (c.in_ok-prefix.ensures.reads _ _ _ _ (o_no (sym c.is.ensures ∙ c.if-is.false) o))) (name_items _ _)
 
 pub primary-returns-in_err-t-clause-reads : goal.primary-returns-in_err-t-clause-reads
 primary-returns-in_err-t-clause-reads t c = exit _ _ _ c.from_residual.ensures.1 (c.in_err-t.ensures.reads c.args.room) (λ k ds v o. o_rule (o_this (sym c.is.ensures ∙ c.if-is.true) (o_rule (o_rule o))))
@@ -93,10 +93,10 @@ pub simple-returns-clause-reads : goal.simple-returns-clause-reads
 simple-returns-clause-reads t c k ds v o = rw simple_roll (o_rule (c.opt_sign-sign.ensures.reads _ _ _ _ (c.in_ok-first.ensures.reads _ _ _ (c.in_ok-more.ensures.reads _ _ _ o))))
 
 pub expr-returns-in_err-sum-clause-reads : goal.expr-returns-in_err-sum-clause-reads
-expr-returns-in_err-sum-clause-reads t c = exit _ _ _ c.from_residual.ensures.1 c.in_err-sum.ensures.reads (λ k ds v o. o_rule o)
+expr-returns-in_err-sum-clause-reads t c = exit _ _ _ c.from_residual.ensures.1 c.in_err-sum.ensures.reads (λ k ds v o. o_rule (o_rule o))
 
 pub expr-returns-clause-reads : goal.expr-returns-clause-reads
-expr-returns-clause-reads t c k ds v o = rw c.in_ok-boxed.ensures.ok (o_rule (c.in_ok-sum.ensures.reads _ _ _ o))
+expr-returns-clause-reads t c k ds v o = rw c.in_ok-boxed.ensures.ok (o_rule (o_rule (c.in_ok-sum.ensures.reads _ _ _ o)))
 
 pub multiplieds-returns-in_err-factor-clause-reads : goal.multiplieds-returns-in_err-factor-clause-reads
 multiplieds-returns-in_err-factor-clause-reads t c = exit _ _ _ c.from_residual.ensures.1 c.in_err-factor.ensures.reads (λ k ds v o. c.turns.invariant.turns.by _ _ _ (o_more c.in-Some.ensures.reads.0 (o_rule (c.in-Some.ensures.reads.1 _ _ _ _ o))))

@@ -1,29 +1,30 @@
-use Rattle.std.proofs.Common.{◌++◌, ◌∷◌, [], ap, refl, arith}
-use Rattle.std.specs.Prelude.{codes}
+use Rattle.std.proofs.Common.{◌+◌, ◌++◌, ◌∷◌, [], ◌∙◌, sym, ap, refl, drop, arith}
+use Rattle.std.specs.Prelude.{Some, codes}
+use Rattle.std.proofs.lemmas.List.{drop_all}
 use Rattle.aud_lex.specs.Spaced.{word}
 use Rattle.aud_syntax.specs.declared.tree.Simple.{out-Simple}
 use Rattle.aud_syntax.specs.declared.tree.Term.{out-Term}
-use Rattle.aud_syntax.specs.View.{plain_simple, plain_added, plain_term, plain_multiplied, plain_factor}
-use Rattle.aud_syntax.specs.Printed.{sign_words, simple_words, addeds_words, added_words, term_words, multiplieds_words, multiplied_words, factor_words}
+use Rattle.aud_syntax.specs.View.{plain_expr, plain_simple, plain_added, plain_term, plain_multiplied, plain_factor}
+use Rattle.aud_syntax.specs.Printed.{expr_words, sign_words, simple_words, addeds_words, added_words, term_words, multiplieds_words, multiplied_words, factor_words}
 use Rattle.aud_syntax.proofs.Opened.{added_list, multiplied_list, simple_open, term_open}
-use Rattle.aud_syntax.proofs.Written.{both_written, all_written, next_written, loop_begins}
+use Rattle.aud_syntax.proofs.Written.{both_written, all_written, next_written, loop_begins, dropped, argument_written, arguments_end, name_written, attribute_written, attribute_alone}
 use Rattle.aud_syntax.proofs.print.+print.Goals as goal
 
-pub push_expr-loop-next-init : goal.push_expr-loop-next-init
-push_expr-loop-next-init t c =
-    loop_begins c.args.out.now.items c.push_term.new.out.items (sign_words (out-Simple c.args.expr.now).sign ++ term_words (plain_term (out-Simple c.args.expr.now).first)) (addeds_words (added_list (out-Simple c.args.expr.now).rest.items)) (addeds_words (added_list c.deref-next-items.result.now)) (simple_words (plain_simple c.args.expr.now))
+pub push_simple-loop-next-init : goal.push_simple-loop-next-init
+push_simple-loop-next-init t c =
+    loop_begins c.args.out.now.items c.push_term.new.out.items (sign_words (out-Simple c.args.simple.now).sign ++ term_words (plain_term (out-Simple c.args.simple.now).first)) (addeds_words (added_list (out-Simple c.args.simple.now).rest.items)) (addeds_words (added_list c.deref-next-items.result.now)) (simple_words (plain_simple c.args.simple.now))
     (ap (λ z. addeds_words (added_list z)) c.deref-next-items.ensures.value)
-    (ap simple_words (simple_open c.args.expr.now))
-    (both_written c.args.out.now.items c.push_sign.new.out.items c.push_term.new.out.items (sign_words (out-Simple c.args.expr.now).sign) (term_words (plain_term (out-Simple c.args.expr.now).first)) c.in_ok-push_sign.ensures c.in_ok-push_term.ensures)
+    (ap simple_words (simple_open c.args.simple.now))
+    (both_written c.args.out.now.items c.push_sign.new.out.items c.push_term.new.out.items (sign_words (out-Simple c.args.simple.now).sign) (term_words (plain_term (out-Simple c.args.simple.now).first)) c.in_ok-push_sign.ensures c.in_ok-push_term.ensures)
 
-pub push_expr-loop-next-preserved : goal.push_expr-loop-next-preserved
-push_expr-loop-next-preserved t c =
+pub push_simple-loop-next-preserved : goal.push_simple-loop-next-preserved
+push_simple-loop-next-preserved t c =
     next_written (λ xs. addeds_words (added_list xs)) (λ x. added_words (plain_added x)) (λ x xs. refl) c.deref-next-items.result.now c.loop-next.next-index c.next-item.result (omega arith) c.next-item.is c.loop-next.out.items c.push_added.new.out.items _ c.loop-next.invariant c.in_ok-push_added.ensures
 
 pub push_in_parentheses-returns : goal.push_in_parentheses-returns
 push_in_parentheses-returns t c =
-    all_written c.push_word-2.result c.args.out.now.items c.push_word.new.out.items c.push_word-2.new.out.items (word (codes "(") ∷ []) (simple_words (plain_simple c.args.inner.now) ++ (word (codes ")") ∷ [])) c.in_ok-push_word.ensures
-    (all_written c.push_word-2.result c.push_word.new.out.items c.push_expr.new.out.items c.push_word-2.new.out.items (simple_words (plain_simple c.args.inner.now)) (word (codes ")") ∷ []) c.in_ok-push_expr.ensures c.push_word-2.ensures)
+    all_written c.push_word-2.result c.args.out.now.items c.push_word.new.out.items c.push_word-2.new.out.items (word (codes "(") ∷ []) (expr_words (plain_expr c.args.inner.now) ++ (word (codes ")") ∷ [])) c.in_ok-push_word.ensures
+    (all_written c.push_word-2.result c.push_word.new.out.items c.push_expr.new.out.items c.push_word-2.new.out.items (expr_words (plain_expr c.args.inner.now)) (word (codes ")") ∷ []) c.in_ok-push_expr.ensures c.push_word-2.ensures)
 
 pub push_term-loop-next-init : goal.push_term-loop-next-init
 push_term-loop-next-init t c =
@@ -35,3 +36,23 @@ push_term-loop-next-init t c =
 pub push_term-loop-next-preserved : goal.push_term-loop-next-preserved
 push_term-loop-next-preserved t c =
     next_written (λ xs. multiplieds_words (multiplied_list xs)) (λ x. multiplied_words (plain_multiplied x)) (λ x xs. refl) c.deref-next-items.result.now c.loop-next.next-index c.next-item.result (omega arith) c.next-item.is c.loop-next.out.items c.push_multiplied.new.out.items _ c.loop-next.invariant c.in_ok-push_multiplied.ensures
+
+pub push_args-loop-next-preserved : goal.push_args-loop-next-preserved
+push_args-loop-next-preserved t c =
+    argument_written c.loop-next.out.items c.push_word.new.out.items c.push_expr.new.out.items _ c.loop-next.before.now c.next-item.result (drop c.loop-next.next-index c.args.args.now) (drop (c.loop-next.next-index + 1) c.args.args.now)
+    (dropped c.args.args.now c.loop-next.next-index c.next-item.result (omega arith) c.next-item.is) c.loop-next.invariant c.in_ok-push_word.ensures c.in_ok-push_expr.ensures
+
+pub push_args-returns : goal.push_args-returns
+push_args-returns t c =
+    arguments_end c.push_word-2.result c.args.out.now.items c.loop-next.out.items c.push_word-2.new.out.items c.loop-next.before.now c.args.args.now (drop c.loop-next.next-index c.args.args.now) (drop_all _ _ c.loop-next-test.false) c.loop-next.invariant (sym c.is_empty.ensures ∙ c.if-is_empty.false) c.push_word-2.ensures
+
+pub push_primary-returns-in-Name : goal.push_primary-returns-in-Name
+push_primary-returns-in-Name t c = rw c.in-Name.is (name_written c.push_name.result c.args.out.now.items c.push_name.new.out.items c.in-Name.name c.push_name.ensures)
+
+pub push_primary-returns-in-None : goal.push_primary-returns-in-None
+push_primary-returns-in-None t c = rw (c.in-Attribute.is, c.in-None.is)
+    (attribute_alone c.args.out.now.items c.push_name-in-Attribute.new.out.items c.push_word.new.out.items c.push_ident.new.out.items c.in-Attribute.prefix c.in-Attribute.designator c.in_ok-push_name-in-Attribute.ensures c.in_ok-push_word-in-Attribute.ensures c.in_ok-push_ident-in-Attribute.ensures)
+
+pub push_primary-returns-in-Some : goal.push_primary-returns-in-Some
+push_primary-returns-in-Some t c = rw (c.in-Attribute.is, c.in-Some.is)
+    (attribute_written c.push_in_parentheses.result c.args.out.now.items c.push_name-in-Attribute.new.out.items c.push_word.new.out.items c.push_ident.new.out.items c.push_in_parentheses.new.out.items c.in-Attribute.prefix c.in-Attribute.designator (Some c.in-Some.argument) c.in_ok-push_name-in-Attribute.ensures c.in_ok-push_word-in-Attribute.ensures c.in_ok-push_ident-in-Attribute.ensures (rw c.deref.ensures at c.push_in_parentheses.ensures))

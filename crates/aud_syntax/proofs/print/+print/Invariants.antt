@@ -1,12 +1,17 @@
 use Rattle.std.proofs.Common.{◌≡◌, ◌++◌, drop}
 use Rattle.aud_lex.specs.Spaced.{spaced}
-use Rattle.aud_syntax.specs.View.{plain_simple, plain_term}
+use Rattle.aud_syntax.specs.View.{plain_simple, plain_term, plain_exprs}
 use Rattle.aud_syntax.specs.Printed.{simple_words, addeds_words, term_words, multiplieds_words}
 use Rattle.aud_syntax.proofs.Opened.{added_list, multiplied_list}
+use Rattle.std.specs.Prelude.{codes}
+use Rattle.aud_syntax.proofs.Written.{listed}
 use Rattle.aud_syntax.proofs.print.+print.Given as goal
 
-abbrev pub invariant-push_expr-loop-next : goal.invariant-push_expr-loop-next
-invariant-push_expr-loop-next l = l.out.items ++ spaced (addeds_words (added_list (drop l.next-index l.next-items))) ≡ l.fn.out.items ++ spaced (simple_words (plain_simple l.fn.expr))
+abbrev pub invariant-push_simple-loop-next : goal.invariant-push_simple-loop-next
+invariant-push_simple-loop-next l = l.out.items ++ spaced (addeds_words (added_list (drop l.next-index l.next-items))) ≡ l.fn.out.items ++ spaced (simple_words (plain_simple l.fn.simple))
 
 abbrev pub invariant-push_term-loop-next : goal.invariant-push_term-loop-next
 invariant-push_term-loop-next l = l.out.items ++ spaced (multiplieds_words (multiplied_list (drop l.next-index l.next-items))) ≡ l.fn.out.items ++ spaced (term_words (plain_term l.fn.term))
+
+abbrev pub invariant-push_args-loop-next : goal.invariant-push_args-loop-next
+invariant-push_args-loop-next l = l.out.items ++ spaced (listed l.before (plain_exprs (drop l.next-index l.args))) ≡ l.fn.out.items ++ spaced (listed (codes "(") (plain_exprs l.fn.args))
