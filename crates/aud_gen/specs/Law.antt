@@ -1,5 +1,5 @@
 -- The laws that tie the code of a program to its meaning.
-use Rattle.std.specs.Prelude.{◌≡◌, ℕ, ◌<◌, List, [], ◌∷◌, length, map}
+use Rattle.std.specs.Prelude.{◌≡◌, ℕ, List, [], ◌∷◌, map}
 use Rattle.aud_text.specs.declared.limits.Limits.{Limits}
 use Rattle.aud_typed.specs.Tree.{Program}
 use Rattle.aud_meaning.specs.Configuration.{Item, All, Configuration}

@@ -1,13 +1,13 @@
 -- Code as a list of lines, one for each step: what its expressions become is left out here. A task's control is a place, and the
 -- places of the statements that entered the bodies under way.
-use Rattle.std.specs.Prelude.{true, false, ℕ, suc, ◌+◌, List, [], ◌∷◌, ◌++◌, length, map, Option, Some, None, Bool, ◌||◌, if◌then◌else◌, slice_get, slice_index_or}
+use Rattle.std.specs.Prelude.{true, ℕ, suc, ◌+◌, List, [], ◌∷◌, ◌++◌, length, map, Option, Some, None, slice_get, slice_index_or}
 use Rattle.aud_text.specs.declared.place.Pos.{Pos}
 use Rattle.aud_typed.specs.declared.program.Exception.{Exception}
 use Rattle.aud_typed.specs.Tree.{For, truth, Stmt, sequence, if_then, plain_loop, while_loop, for_loop, exit, return, return_value, block, entry_call, accept, select, Part, nothing, some, Handlers, no_handlers, handler, Body, body, Doing, without_do, with_do, Alternatives, no_alternatives, accepting, delaying, terminating, Program}
 use Rattle.aud_meaning.specs.declared.state.Construct.{Construct}
 use Rattle.aud_meaning.specs.declared.state.Construct.TheVariants as construct
 use Rattle.aud_meaning.specs.Evaluation.{decided}
-use Rattle.aud_meaning.specs.Items.{no_body, stmt_at, names_it, asked_stmt, coming_stmt, coming_raised, handled_or_left}
+use Rattle.aud_meaning.specs.Items.{no_body, stmt_at, asked_stmt, coming_stmt, coming_raised, handled_or_left}
 use Rattle.aud_meaning.specs.Configuration.{Pending}
 use Rattle.aud_meaning.specs.Evaluation.{Sight}
 use Rattle.aud_meaning.specs.Control.{Coming, simply, ending, Asked, goes_on, next_of_loop, Scene, Controls}

@@ -1,11 +1,11 @@
 -- How a place in code, with the places of callers, shows the items that are left to do.
-use Rattle.std.specs.Prelude.{◌≡◌, ◌⊎◌, ℕ, suc, ◌+◌, List, [], ◌∷◌, ◌++◌, length, drop, slice_index_or}
+use Rattle.std.specs.Prelude.{◌≡◌, ◌⊎◌, ℕ, suc, ◌+◌, List, [], ◌∷◌, ◌++◌, length, drop}
 use Rattle.aud_text.specs.declared.place.Pos.{Pos}
-use Rattle.aud_typed.specs.Tree.{Stmt, sequence, declare, declare_array, declare_tasks, declare_object, activated, activate, null, assign, put, if_then, plain_loop, while_loop, for_loop, exit, return, return_value, raising, raising_again, block, procedure_call, own_entry_call, operation_call, entry_call, delay, accept, select, abort, Handlers, no_handlers, Body, Program}
+use Rattle.aud_typed.specs.Tree.{Stmt, sequence, declare, declare_array, declare_tasks, declare_object, activated, activate, null, assign, put, if_then, plain_loop, while_loop, for_loop, exit, return, return_value, raising, raising_again, block, procedure_call, own_entry_call, operation_call, entry_call, delay, accept, select, abort, Handlers, no_handlers, Program}
 use Rattle.aud_meaning.specs.declared.state.Construct.{Construct}
 use Rattle.aud_meaning.specs.declared.state.Construct.TheVariants as construct
 use Rattle.aud_meaning.specs.Configuration.{Item, Do, InLoop, InFor, Begin, Ends, Leaving}
-use Rattle.aud_meaning.specs.Items.{no_body, body_of}
+use Rattle.aud_meaning.specs.Items.{body_of}
 use Rattle.aud_code.specs.Places.{Way, Spot}
 use Rattle.aud_gen.specs.Layout.{Line, Around, in_loop, in_for, in_call, around_out, ways_count, main_size, stub_line, stubs, stub_ways, end_line, guard_line, stmt_code, handlers_code, main_code, unit_code, Code, no_line, line_at, start_of}
 

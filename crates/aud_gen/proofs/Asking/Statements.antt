@@ -7,14 +7,14 @@ use Rattle.aud_typed.specs.Tree as tree
 use Rattle.aud_typed.specs.Tree.{Reference, ValueExpr, Argument, CallForm, plainly, conditionally, timed, Callee, of_task, of_object, TaskName, Stmt, sequence, declare, declare_array, declare_tasks, declare_object, activated, activate, null, assign, put, if_then, plain_loop, while_loop, for_loop, exit, return, return_value, raising, raising_again, block, procedure_call, own_entry_call, operation_call, entry_call, delay, accept, select, abort, Part, Alternatives}
 use Rattle.aud_meaning.specs.Configuration.{Target, timed_to}
 use Rattle.aud_meaning.specs.declared.state.Owner.TheVariants as owner
-use Rattle.aud_meaning.specs.Evaluation.{with_value, evaluated, decided, value_of, text_of, delay_of, task_named, number_in, target_of, option_target, passed, Passed}
+use Rattle.aud_meaning.specs.Evaluation.{with_value, evaluated, decided, value_of, delay_of, task_named, number_in, option_target, passed, Passed}
 use Rattle.aud_meaning.specs.Control.{Scene, Asked, Called}
 use Rattle.aud_meaning.specs.Control as asked
 use Rattle.aud_meaning.specs.Items.{or_raises, or_raises_in_part, branch, both, components, names_tasks, called, Entered, entered_with, asked_stmt, asked_call}
-use Rattle.aud_code.specs.Instr.{Instr, Name, Mark, Ending, Declare, DeclareObject, Assign, Put, If, While, Loop, Exit, ReturnValue, Proc, OwnCall, Operation, CallTask, CallObject, Delay, Abort, Operands, no_operands, Ended}
+use Rattle.aud_code.specs.Instr.{Instr, Name, Mark, Ending, DeclareObject, If, While, Loop, Exit, ReturnValue, Proc, OwnCall, Operation, CallTask, CallObject, Delay, Abort, Operands, no_operands, Ended}
 use Rattle.aud_code.specs.Eval.{on_result, eval, form_in, asked_end, raised_by, asked_ended}
-use Rattle.aud_gen.specs.Instructions.{value_code, integer_code, condition_code, text_code, delay_code, arguments_code, names_code, components_code, form_kind, called_code, call_code, call_end, entered_code, instrs_of, ending_of}
-use Rattle.aud_gen.proofs.Asking.Evals.{Ends, with_assoc, with_into, with_passed, eval_integer, eval_condition, eval_value, eval_text, eval_reference, eval_into, eval_delay, eval_arguments, eval_task}
+use Rattle.aud_gen.specs.Instructions.{value_code, integer_code, condition_code, delay_code, arguments_code, names_code, components_code, form_kind, called_code, call_code, call_end, entered_code, instrs_of, ending_of}
+use Rattle.aud_gen.proofs.Asking.Evals.{Ends, with_assoc, with_into, with_passed, eval_integer, eval_condition, eval_value, eval_into, eval_delay, eval_arguments, eval_task}
 use Rattle.aud_gen.proofs.Asking.Lists.{eval_names, eval_components}
 
 -- code that ends a step

@@ -1,5 +1,5 @@
 -- A put statement: its text (RM A.10.7).
-use Rattle.std.proofs.Common.{[], ◌∷◌, false, refl, ◌∙◌}
+use Rattle.std.proofs.Common.{[], false, refl, ◌∙◌}
 use Rattle.aud_meaning.specs.Evaluation.{text_of}
 use Rattle.aud_meaning.specs.Control as asked
 use Rattle.aud_code.specs.Instr.{Put, no_operands}

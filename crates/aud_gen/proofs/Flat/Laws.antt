@@ -1,5 +1,5 @@
 -- The laws.
-use Rattle.std.proofs.Common.{◌≡◌, ℕ, ◌≤◌, List, [], ◌∷◌, map, ap, sym, subst, ◌∙◌, slice_get, arith}
+use Rattle.std.proofs.Common.{◌≡◌, ℕ, List, [], ◌∷◌, map, ap, sym, subst, ◌∙◌, slice_get, arith}
 use Rattle.aud_typed.specs.Tree.{Program, BooleanExpr}
 use Rattle.aud_meaning.specs.Configuration.{Item}
 use Rattle.aud_meaning.specs.Control.{Controls}

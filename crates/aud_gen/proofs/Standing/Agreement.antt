@@ -1,15 +1,15 @@
 -- Code agrees with the statements that it was made of.
 use Rattle.aud_typed.specs.declared.program.Exception.{Exception}
-use Rattle.aud_typed.specs.Tree.{Part, nothing, some, Body, body, Program}
+use Rattle.aud_typed.specs.Tree.{Body, body, Program}
 use Rattle.aud_meaning.specs.declared.state.Construct.TheVariants as construct
-use Rattle.std.proofs.Common.{◌≡◌, ℕ, List, [], ◌∷◌, ◌++◌, Option, Some, None, refl, sym, ap, append-nil}
-use Rattle.aud_meaning.specs.Configuration.{Pending, Item, Ends}
+use Rattle.std.proofs.Common.{◌≡◌, ℕ, List, [], ◌∷◌, Option, Some, None, refl, sym, ap, append-nil}
+use Rattle.aud_meaning.specs.Configuration.{Pending, Item}
 use Rattle.aud_meaning.specs.Evaluation.{Sight}
 use Rattle.aud_meaning.specs.Control.{Scene}
-use Rattle.aud_meaning.specs.Items.{controls, body_before, body_of, reached_at, is_some_part, out_from, coming, coming_raised, asks, handled_or_left}
-use Rattle.aud_gen.specs.Layout.{in_call, end_place, unit_code, body_code, Code, line_at, start_of, handler_by, handler_at, coming_at, asked_at, code_controls}
+use Rattle.aud_meaning.specs.Items.{body_before, body_of, reached_at, is_some_part, out_from, coming, coming_raised, asks, handled_or_left}
+use Rattle.aud_gen.specs.Layout.{in_call, end_place, unit_code, body_code, Code, line_at, start_of, handler_by, handler_at, coming_at, asked_at}
 use Rattle.aud_code.specs.Places.{Spot, is_there, loops_of}
-use Rattle.aud_gen.specs.Shows.{HasAt, UnitsAt, Callers, EndsAt, Stands, ShowsControl}
+use Rattle.aud_gen.specs.Shows.{HasAt, Callers, Stands, ShowsControl}
 use Rattle.aud_gen.specs.Law.{LayoutAgreementLaw}
 use Rattle.aud_gen.proofs.Standing.Places.{has_same}
 use Rattle.aud_gen.proofs.Standing.Control.{at_place, body_stands, has_end}

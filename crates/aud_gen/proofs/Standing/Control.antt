@@ -1,16 +1,16 @@
 -- Where tasks go on.
-use Rattle.std.proofs.Common.{◌≡◌, ℕ, zero, suc, ◌+◌, ◌≤◌, List, [], ◌∷◌, ◌++◌, length, get_or, le_refl, inl, inr, refl, sym, ap, ◌∙◌, subst, arith, append_assoc, append-nil, slice_get, Option, Some, None}
+use Rattle.std.proofs.Common.{◌≡◌, ℕ, suc, ◌+◌, List, [], ◌∷◌, ◌++◌, length, le_refl, inr, refl, sym, subst, arith, append_assoc, append-nil, Option}
 use Rattle.std.proofs.lemmas.List.{get_or_past}
 use Rattle.aud_text.specs.declared.place.Pos.{Pos}
-use Rattle.aud_typed.specs.Tree.{Stmt, sequence, declare, declare_array, declare_tasks, declare_object, activated, activate, null, assign, put, if_then, plain_loop, while_loop, for_loop, exit, return, return_value, raising, raising_again, block, procedure_call, own_entry_call, operation_call, entry_call, delay, accept, select, abort, Part, nothing, some, Handlers, no_handlers, handler, Body, body, Doing, without_do, with_do, Alternatives, no_alternatives, accepting, delaying, terminating}
+use Rattle.aud_typed.specs.Tree.{Stmt, sequence, declare, declare_array, declare_tasks, declare_object, activated, activate, null, assign, put, if_then, plain_loop, while_loop, for_loop, exit, return, return_value, raising, raising_again, block, procedure_call, own_entry_call, operation_call, entry_call, delay, accept, select, abort, Part, nothing, some, Handlers, Body, body, Doing, without_do, with_do}
 use Rattle.aud_meaning.specs.declared.state.Construct.{Construct}
 use Rattle.aud_meaning.specs.declared.state.Construct.TheVariants as construct
 use Rattle.aud_meaning.specs.Configuration.{Item, Do, InLoop, InFor, Begin, Ends, Leaving}
-use Rattle.aud_meaning.specs.Items.{entered, resumed, before, body_before, doing_by, ended}
-use Rattle.aud_code.specs.Places.{Way, Spot, goes}
-use Rattle.aud_gen.specs.Layout.{Line, Around, in_loop, in_for, in_block, in_call, around_out, ways_count, stmt_size, part_size, handlers_size, body_size, main_size, end_place, end_line, guard_line, line, stmt_code, part_code, part_place, doing_place, handlers_code, body_code, main_code, doing_code, Code, no_line, line_at, back_to, ended_by}
-use Rattle.aud_gen.specs.Shows.{HasAt, IsStep, IsSettled, IsFor, HandlersAt, Callers, EndsAt, Stands, ShowsControl}
-use Rattle.aud_gen.proofs.Standing.Places.{has_front, has_back, has_line, has_tail, has_moved, has_same, line_is, length-stmt, length-part, length-handlers}
+use Rattle.aud_meaning.specs.Items.{entered, resumed, before, body_before, doing_by}
+use Rattle.aud_code.specs.Places.{Way, Spot}
+use Rattle.aud_gen.specs.Layout.{Line, Around, in_loop, in_call, around_out, ways_count, stmt_size, part_size, handlers_size, main_size, end_place, end_line, guard_line, line, stmt_code, part_code, part_place, doing_place, handlers_code, body_code, main_code, doing_code, Code, no_line}
+use Rattle.aud_gen.specs.Shows.{HasAt, IsStep, EndsAt, Stands, ShowsControl}
+use Rattle.aud_gen.proofs.Standing.Places.{has_front, has_back, has_tail, has_moved, has_same, length-stmt, length-part, length-handlers}
 
 -- the line of a step says what it is and where its exceptions go
 pub record First (s : Stmt) (place next : ℕ) (a : Around) : Type 0 where

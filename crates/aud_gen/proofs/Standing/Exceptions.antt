@@ -1,20 +1,19 @@
 -- Where exceptions go.
-use Rattle.std.proofs.Common.{◌≡◌, ℕ, zero, suc, ◌+◌, ◌≤◌, List, [], ◌∷◌, ◌++◌, length, get_or, le_refl, inl, inr, refl, sym, ap, ◌∙◌, subst, arith, append_assoc, append-nil, slice_get, slice_index_or, unwrap_or, map, Option, Some, None, Bool, true, false, ◌||◌, if◌then◌else◌}
-use Rattle.std.proofs.lemmas.Option.{unwrap_or-slice_get}
+use Rattle.std.proofs.Common.{◌≡◌, ℕ, suc, ◌+◌, List, [], ◌∷◌, inl, inr, refl, sym, ap, ◌∙◌, subst, Option, Some, None, Bool, true, false, ◌||◌, if◌then◌else◌}
 use Rattle.aud_text.specs.declared.place.Pos.{Pos}
 use Rattle.aud_typed.specs.declared.program.Exception.{Exception}
-use Rattle.aud_typed.specs.Tree.{IntegerExpr, For, Stmt, sequence, declare, declare_array, declare_tasks, declare_object, activated, activate, null, assign, put, if_then, plain_loop, while_loop, for_loop, exit, return, return_value, raising, raising_again, block, procedure_call, own_entry_call, operation_call, entry_call, delay, accept, select, abort, Part, nothing, some, Handlers, no_handlers, handler, Body, body, Doing, without_do, with_do, Alternatives, no_alternatives, accepting, delaying, terminating, Program}
+use Rattle.aud_typed.specs.Tree.{Stmt, Part, nothing, some, Handlers, no_handlers, handler}
 use Rattle.aud_meaning.specs.declared.state.Construct.{Construct}
 use Rattle.aud_meaning.specs.declared.state.Construct.TheVariants as construct
 use Rattle.aud_meaning.specs.Configuration.{Item, Do, InLoop, InFor, Begin, Ends, Leaving}
-use Rattle.aud_meaning.specs.Items.{entered, resumed, before, body_before, doing_by, ended, takes, takes_by, takes_next, follows, part_of, one_part, accepts, accepts_by, accepts_offer, part_in, offer_at, place, body_of, nowhere, next_at, Out, one_loop_more, through_block, if_out, out_through, out_of_loop, call_through, out_of_call, exits_to, out_by, out_from, loops_out, goes_out_to, names_it, handler_for, Reached, reached, reached_behind, reached_at, is_some_part, handling_by, left_from}
-use Rattle.aud_gen.specs.Layout.{does, ends, guards, one_more, What, guards_of, handler_by, end_by, out_of_end, left_by, Line, Around, in_loop, in_for, in_block, in_call, around_out, ways_count, stmt_size, part_size, handlers_size, body_size, doing_size, offered_size, main_size, end_place, end_line, stub_line, stubs, stubs_of, stub_ways, guard_line, line, stmt_code, part_code, part_place, doing_place, parts_from, bodies_from, handlers_code, body_code, main_code, doing_code, offered_code, unit_code, Code, no_line, line_at, back_to, ended_by, start_of}
-use Rattle.aud_code.specs.Places.{loops_of, goes_way, Guard, guarded, is_there, Way, Spot, goes, goes_there}
-use Rattle.aud_gen.specs.Shows.{HasAt, UnitsAt, IsStep, IsSettled, IsFor, HandlersAt, Callers, EndsAt, Stands, ShowsControl}
-use Rattle.aud_gen.proofs.Standing.Places.{has_front, has_back, has_line, has_tail, has_moved, has_same, line_is, length-stmt, length-part, length-handlers, length-body, length-doing, length-offered, count-block}
-use Rattle.aud_gen.proofs.Standing.Orders.{step_line, block_stands, Leads, offers, offers_do, takes_do}
-use Rattle.aud_gen.proofs.Standing.Items.{end_is, for_is, next_line, callers_shown}
-use Rattle.aud_gen.proofs.Standing.Control.{First, first, at_place, shown_none, enters, main_stands, resumes, body_stands, before_stands, part_stands, has_end, doing_stands}
+use Rattle.aud_meaning.specs.Items.{entered, place, nowhere, names_it, handler_for, Reached, reached, reached_behind, reached_at, is_some_part, handling_by, left_from}
+use Rattle.aud_gen.specs.Layout.{ends, guards_of, handler_by, end_by, out_of_end, left_by, Line, Around, around_out, ways_count, stmt_size, end_line, stub_line, guard_line, stmt_code, handlers_code, Code, no_line, line_at, back_to}
+use Rattle.aud_code.specs.Places.{guarded, is_there, Way, Spot, goes, goes_there}
+use Rattle.aud_gen.specs.Shows.{HasAt, IsSettled, HandlersAt, EndsAt, Stands, ShowsControl}
+use Rattle.aud_gen.proofs.Standing.Places.{has_front, has_back, has_tail, line_is, length-stmt}
+use Rattle.aud_gen.proofs.Standing.Orders.{step_line}
+use Rattle.aud_gen.proofs.Standing.Items.{end_is, for_is, callers_shown}
+use Rattle.aud_gen.proofs.Standing.Control.{first, at_place, shown_none, enters}
 
 module _ (code : Code) where
   -- from the line where a construct ends, and from the line before its handlers

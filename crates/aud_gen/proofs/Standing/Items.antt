@@ -1,20 +1,19 @@
 -- What is read and ordered at each item.
-use Rattle.std.proofs.Common.{◌≡◌, ℕ, zero, suc, ◌+◌, ◌≤◌, List, [], ◌∷◌, ◌++◌, length, get_or, le_refl, inl, inr, refl, sym, ap, ◌∙◌, subst, arith, append_assoc, append-nil, slice_get, Option, Some, None, Bool, true, false}
+use Rattle.std.proofs.Common.{◌≡◌, ℕ, zero, suc, ◌+◌, List, [], ◌∷◌, ◌++◌, refl, sym, ap, ◌∙◌, subst, None, false}
 use Rattle.aud_text.specs.declared.place.Pos.{Pos}
-use Rattle.aud_typed.specs.declared.program.Exception.{Exception}
-use Rattle.aud_typed.specs.Tree.{IntegerExpr, For, Stmt, sequence, declare, declare_array, declare_tasks, declare_object, activated, activate, null, assign, put, if_then, plain_loop, while_loop, for_loop, exit, return, return_value, raising, raising_again, block, procedure_call, own_entry_call, operation_call, entry_call, delay, accept, select, abort, Part, nothing, some, Handlers, no_handlers, handler, Body, body, Doing, without_do, with_do, Alternatives, no_alternatives, accepting, delaying, terminating, Program}
+use Rattle.aud_typed.specs.Tree.{IntegerExpr, For, Stmt, sequence, declare, declare_array, declare_tasks, declare_object, activated, activate, null, assign, put, if_then, plain_loop, while_loop, for_loop, exit, return, return_value, raising, raising_again, block, procedure_call, own_entry_call, operation_call, entry_call, delay, accept, select, abort, Handlers, Program}
 use Rattle.aud_meaning.specs.declared.state.Construct.{Construct}
 use Rattle.aud_meaning.specs.declared.state.Construct.TheVariants as construct
 use Rattle.aud_meaning.specs.Configuration.{Item, Do, InLoop, InFor, Begin, Ends, Leaving}
 use Rattle.aud_meaning.specs.Evaluation.{Sight}
 use Rattle.aud_meaning.specs.Control.{Scene, next_of_loop}
-use Rattle.aud_meaning.specs.Items.{entered, resumed, before, body_before, doing_by, ended, takes, takes_by, takes_next, follows, part_of, one_part, accepts, accepts_by, accepts_offer, part_in, offer_at, place, body_of, nowhere, next_at, loops_out, out_from, asked_stmt, next_asked, asked_item, coming_item}
-use Rattle.aud_gen.specs.Layout.{does, continues, asked_by, coming_by, Line, Around, in_loop, in_for, in_block, in_call, around_out, ways_count, stmt_size, part_size, handlers_size, body_size, doing_size, offered_size, main_size, end_place, end_line, stub_line, stubs, stubs_of, stub_ways, guard_line, line, stmt_code, part_code, part_place, doing_place, parts_from, bodies_from, handlers_code, body_code, main_code, doing_code, offered_code, unit_code, Code, no_line, line_at, back_to, ended_by, start_of}
-use Rattle.aud_code.specs.Places.{Way, Spot, goes, goes_there}
-use Rattle.aud_gen.specs.Shows.{HasAt, UnitsAt, IsStep, IsSettled, IsFor, HandlersAt, Callers, EndsAt, Stands, ShowsControl}
-use Rattle.aud_gen.proofs.Standing.Places.{has_front, has_back, has_line, has_tail, has_moved, has_same, line_is, length-stmt, length-part, length-handlers, length-body, length-doing, length-offered, count-block}
-use Rattle.aud_gen.proofs.Standing.Orders.{step_line, block_stands, Leads, offers, offers_do, takes_do}
-use Rattle.aud_gen.proofs.Standing.Control.{First, first, at_place, shown_none, enters, main_stands, resumes, body_stands, before_stands, part_stands, has_end, doing_stands}
+use Rattle.aud_meaning.specs.Items.{entered, resumed, doing_by, ended, takes, takes_next, accepts, accepts_by, accepts_offer, offer_at, place, nowhere, next_at, loops_out, out_from, asked_stmt, next_asked, asked_item, coming_item}
+use Rattle.aud_gen.specs.Layout.{continues, asked_by, coming_by, Line, Around, in_for, ways_count, offered_size, end_line, stmt_code, part_code, offered_code, Code, line_at, back_to, ended_by}
+use Rattle.aud_code.specs.Places.{Way}
+use Rattle.aud_gen.specs.Shows.{HasAt, IsStep, IsSettled, IsFor, Callers, EndsAt, Stands, ShowsControl}
+use Rattle.aud_gen.proofs.Standing.Places.{has_front, has_tail, line_is}
+use Rattle.aud_gen.proofs.Standing.Orders.{step_line, Leads, offers_do, takes_do}
+use Rattle.aud_gen.proofs.Standing.Control.{first, at_place, shown_none, enters, resumes, doing_stands}
 
 -- the end of a for loop's statements is that of a for loop
 pub for_by : (P : Stmt → Type 0) → ((f : For) (x y : IntegerExpr) (b : Stmt) → P (for_loop f x y b)) → (s : Stmt) → IsFor s → P s

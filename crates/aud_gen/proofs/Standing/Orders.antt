@@ -1,17 +1,14 @@
 -- What orders do: wherever a task stands, its place in code and what it has left to do stay together.
-use Rattle.std.proofs.Common.{◌≡◌, ℕ, zero, suc, ◌+◌, ◌≤◌, List, [], ◌∷◌, ◌++◌, length, get_or, le_refl, inl, inr, refl, sym, ap, ◌∙◌, subst, arith, append_assoc, append-nil, slice_get, Option, Some, None, Bool, true, false}
-use Rattle.aud_text.specs.declared.place.Pos.{Pos}
-use Rattle.aud_typed.specs.declared.program.Exception.{Exception}
-use Rattle.aud_typed.specs.Tree.{Stmt, sequence, declare, declare_array, declare_tasks, declare_object, activated, activate, null, assign, put, if_then, plain_loop, while_loop, for_loop, exit, return, return_value, raising, raising_again, block, procedure_call, own_entry_call, operation_call, entry_call, delay, accept, select, abort, Part, nothing, some, Handlers, no_handlers, handler, Body, body, Doing, without_do, with_do, Alternatives, no_alternatives, accepting, delaying, terminating, Program}
-use Rattle.aud_meaning.specs.declared.state.Construct.{Construct}
+use Rattle.std.proofs.Common.{◌≡◌, ℕ, zero, suc, ◌+◌, List, [], ◌∷◌, ◌++◌, refl, sym, ap, subst, slice_get}
+use Rattle.aud_typed.specs.Tree.{Stmt, sequence, declare, declare_array, declare_tasks, declare_object, activated, activate, null, assign, put, if_then, plain_loop, while_loop, for_loop, exit, return, return_value, raising, raising_again, block, procedure_call, own_entry_call, operation_call, entry_call, delay, accept, select, abort, Body, body, Alternatives, no_alternatives, accepting, delaying, terminating}
 use Rattle.aud_meaning.specs.declared.state.Construct.TheVariants as construct
-use Rattle.aud_meaning.specs.Configuration.{Item, Do, InLoop, InFor, Begin, Ends, Leaving}
-use Rattle.aud_meaning.specs.Items.{entered, resumed, before, body_before, doing_by, ended, takes, takes_by, takes_next, follows, part_of, one_part, accepts, accepts_by, accepts_offer, part_in, offer_at, place, body_of}
-use Rattle.aud_code.specs.Places.{Way, Spot, goes, goes_there}
-use Rattle.aud_gen.specs.Layout.{Line, Around, in_loop, in_for, in_block, in_call, around_out, ways_count, stmt_size, part_size, handlers_size, body_size, doing_size, offered_size, main_size, end_place, end_line, stub_line, stubs, stubs_of, stub_ways, guard_line, line, stmt_code, part_code, part_place, doing_place, parts_from, bodies_from, handlers_code, body_code, main_code, doing_code, offered_code, unit_code, Code, no_line, line_at, back_to, ended_by, start_of}
-use Rattle.aud_gen.specs.Shows.{HasAt, UnitsAt, IsStep, IsSettled, IsFor, HandlersAt, Callers, EndsAt, Stands, ShowsControl}
-use Rattle.aud_gen.proofs.Standing.Places.{has_front, has_back, has_line, has_tail, has_moved, has_same, line_is, length-stmt, length-part, length-handlers, length-body, length-doing, length-offered, count-block}
-use Rattle.aud_gen.proofs.Standing.Control.{First, first, at_place, shown_none, enters, main_stands, resumes, body_stands, before_stands, part_stands, has_end, doing_stands}
+use Rattle.aud_meaning.specs.Configuration.{Item, Do, InLoop, InFor}
+use Rattle.aud_meaning.specs.Items.{before, body_before, takes_by, follows, one_part, accepts_offer, part_in, offer_at, place}
+use Rattle.aud_code.specs.Places.{goes_there}
+use Rattle.aud_gen.specs.Layout.{Line, Around, in_loop, in_for, in_block, ways_count, stmt_size, part_size, doing_size, offered_size, end_place, end_line, stubs, stubs_of, line, stmt_code, part_code, part_place, parts_from, bodies_from, body_code, doing_code, offered_code, Code, line_at}
+use Rattle.aud_gen.specs.Shows.{HasAt, IsStep, EndsAt, Stands, ShowsControl}
+use Rattle.aud_gen.proofs.Standing.Places.{has_front, has_back, has_tail, has_moved, has_same, line_is, length-stmt, length-part, length-doing, length-offered, count-block}
+use Rattle.aud_gen.proofs.Standing.Control.{First, at_place, enters, resumes, body_stands, before_stands, part_stands, has_end, doing_stands}
 
 module _ (code : Code) where
   -- the line where the next item stands

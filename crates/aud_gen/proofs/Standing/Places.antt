@@ -1,5 +1,5 @@
 -- Where the code of each part stands.
-use Rattle.std.proofs.Common.{◌≡◌, ℕ, zero, suc, ◌+◌, ◌≤◌, List, [], ◌∷◌, ◌++◌, length, drop, get_or, map, refl, sym, ap, ◌∙◌, subst, arith, append_assoc, append-nil, length-append}
+use Rattle.std.proofs.Common.{◌≡◌, ℕ, zero, suc, ◌+◌, List, [], ◌∷◌, ◌++◌, length, drop, get_or, map, refl, sym, ap, ◌∙◌, subst, arith, append_assoc, append-nil, length-append}
 use Rattle.std.proofs.lemmas.List.{drop-drop, drop_at, get_or-drop}
 use Rattle.aud_text.specs.declared.place.Pos.{Pos}
 use Rattle.aud_typed.specs.Tree.{Stmt, sequence, declare, declare_array, declare_tasks, declare_object, activated, activate, null, assign, put, if_then, plain_loop, while_loop, for_loop, exit, return, return_value, raising, raising_again, block, procedure_call, own_entry_call, operation_call, entry_call, delay, accept, select, abort, Part, nothing, some, Handlers, no_handlers, handler, Body, body, Doing, without_do, with_do, Alternatives, no_alternatives, accepting, delaying, terminating, Program}
@@ -7,7 +7,7 @@ use Rattle.aud_meaning.specs.declared.state.Construct.{Construct}
 use Rattle.aud_meaning.specs.declared.state.Construct.TheVariants as construct
 use Rattle.aud_meaning.specs.Items.{no_body}
 use Rattle.aud_code.specs.Places.{Way}
-use Rattle.aud_gen.specs.Layout.{Line, Around, in_loop, in_for, in_block, in_call, one_more, around_out, ways_count, stmt_size, part_size, handlers_size, body_size, doing_size, offered_size, main_size, end_place, stub_line, stubs, stub_ways, stubs_of, end_line, guard_line, stmt_code, part_code, part_place, handlers_code, body_code, main_code, doing_code, offered_code, unit_code, units_code, starts_from, spare_from, Code, no_line, line_at, start_of, code_of}
+use Rattle.aud_gen.specs.Layout.{Line, Around, in_loop, in_for, in_block, in_call, one_more, around_out, ways_count, stmt_size, part_size, handlers_size, body_size, doing_size, offered_size, main_size, end_place, stubs, stub_ways, stubs_of, end_line, guard_line, stmt_code, part_code, part_place, handlers_code, body_code, doing_code, offered_code, unit_code, units_code, starts_from, spare_from, Code, no_line, line_at, code_of}
 use Rattle.aud_gen.specs.Shows.{HasAt, UnitsAt}
 
 pub has_front : (lines : List Line) (place : ℕ) (a b : List Line) → HasAt lines place (a ++ b) → HasAt lines place a
