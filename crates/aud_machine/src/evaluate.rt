@@ -7,10 +7,10 @@ ghost use Rattle.aud_code.specs.Sequential.Sound.{Leads, InstrFine};
 ghost use Rattle.aud_meaning.specs.Sequential.Evaluation.{unary_of, binary_of};
 ghost use Rattle.aud_machine.specs.Flow.{Needs, followed, FlowFits, LeftBy, ended, OutcomeFits};
 
-use aud_store::frames::Frames;
 use crate::operands::Operands;
 use aud_code::code::{Ending, Instr};
 use aud_code::sound::SoundCode;
+use aud_store::frames::Frames;
 use aud_text::int32::Int32;
 use aud_text::raise::Raise;
 use aud_typed::program::{Binary, Unary};

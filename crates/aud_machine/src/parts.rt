@@ -1,7 +1,7 @@
 // What a machine has at a moment.
 
-use aud_store::frames::Frames;
 use crate::task::Task;
+use aud_store::frames::Frames;
 
 /// What a machine has at a moment, lent to whoever looks at it.
 #[derive(Clone, Copy)]

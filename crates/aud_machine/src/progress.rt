@@ -8,12 +8,12 @@ ghost use Rattle.aud_gen.specs.Sequential.Shows.{opening_code};
 ghost use Rattle.aud_machine.specs.Moving.{move_of, Picks, AllFit};
 ghost use Rattle.aud_machine.specs.Ticks.{step_ticks};
 
-use aud_store::frames::Frames;
 use crate::operands::Operands;
 use crate::shared::Shared;
 use crate::task::Task;
 use aud_code::sound::SoundCode;
 use aud_meaning::sequential::{NextStep, State};
+use aud_store::frames::Frames;
 use aud_text::limits::{CHOICES, CLOCK, OUTPUT, STEPS};
 use aud_text::raise::Raise;
 use std::alloc::{AllocError, Global};

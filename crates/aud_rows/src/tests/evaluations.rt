@@ -18,7 +18,7 @@ use std::test::Fail;
 
 const X: Variable = Variable { level: 0, index: 0 };
 
-const UNSEEN: Variable = Variable { level: 7, index: 0 };
+const MISSING: Variable = Variable { level: 0, index: 7 };
 
 // Where a step begins, and what its evaluation comes to where X is 42.
 #[derive(Clone, Copy)]
@@ -88,7 +88,7 @@ fn push_lines(lines: &mut Vec<Line>, alloc: Global) -> Result<(), AllocError> {
     lines.push(Line::Op(Instr::AppendNewLine))?;
     lines.push(end(Last::Does(Ending::Put, 9)))?;
     lines.push(Line::Op(Instr::Find(X, Subtype::Integer)))?;
-    lines.push(Line::Op(Instr::Load(UNSEEN)))?;
+    lines.push(Line::Op(Instr::Load(MISSING)))?;
     lines.push(Line::Op(Instr::AppendImage))?;
     lines.push(end(Last::Does(Ending::Null, 13)))?;
     push_failing(lines)
