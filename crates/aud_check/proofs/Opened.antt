@@ -1,25 +1,19 @@
 -- Trees by their parts.
-use Rattle.std.proofs.Common.{◌≡◌, List, ◌∷◌, ap, sym, subst}
-use Rattle.std.specs.Prelude.{Option, Some, None, Box, Result}
-use Rattle.std.specs.Global.{Global}
-use Rattle.std.specs.declared.alloc.AllocError.{AllocError}
-use Rattle.aud_syntax.specs.declared.tree.Ident.{Ident}
-use Rattle.aud_syntax.specs.declared.tree.Expr.{Expr}
-use Rattle.aud_syntax.specs.declared.tree.Name.{Name}
-use Rattle.aud_syntax.specs.declared.tree.Primary as primary
+use Rattle.std.proofs.Common.{◌≡◌, List, ◌∷◌, ap}
+use Rattle.std.specs.Prelude.{Option}
 use Rattle.aud_text.specs.declared.place.Pos.{Pos}
 use Rattle.aud_syntax.specs.declared.tree.Multiplied.{Multiplied}
 use Rattle.aud_syntax.specs.declared.tree.Simple.{Simple, out-Simple}
 use Rattle.aud_syntax.specs.declared.tree.Added.{Added}
 use Rattle.aud_syntax.specs.declared.tree.Term.{Term, out-Term}
-use Rattle.aud_syntax.specs.View.{plain_expr, plain_primary, plain_simple, plain_added, plain_term, plain_multiplied, plain_factor}
-use Rattle.aud_syntax.proofs.Opened.{multiplied_list, added_list, term_open, simple_open, name_open, attribute_open}
+use Rattle.aud_syntax.specs.View.{plain_simple, plain_added, plain_term, plain_multiplied, plain_factor}
+use Rattle.aud_syntax.proofs.Opened.{multiplied_list, added_list, term_open, simple_open}
 use Rattle.aud_syntax.specs.Plain as m
 use Rattle.std.specs.Prelude.{Ok}
 use Rattle.aud_check.specs.declared.fault.Fault.{Fault}
 use Rattle.aud_check.specs.declared.typed.Typed as memory
-use Rattle.aud_check.specs.Names.{Place, visible}
-use Rattle.aud_check.specs.Expressions.{Typed, Checked, with, simple_at, term_at, signed_at, factor_at, signed, check_simple, check_addeds, check_added, check_term, check_multiplieds, check_multiplied, check_factor, primary_at, check_name, check_primary, check_attribute, check_image}
+use Rattle.aud_check.specs.Names.{Place}
+use Rattle.aud_check.specs.Expressions.{Typed, Checked, with, simple_at, term_at, signed_at, factor_at, signed, check_simple, check_addeds, check_added, check_term, check_multiplieds, check_multiplied, check_factor}
 use Rattle.aud_check.specs.Typing.{plain_typed, Shows}
 use Rattle.aud_check.proofs.Notes.{Ahead, ahead_all, ahead_with}
 
@@ -46,19 +40,3 @@ simple_ahead e place old mid new x y at items p q h k =
 pub added_ahead : (place : Place) (old mid new : Option Fault) (all : Checked) (x : Added) (xs ys : List Added) (at : Pos) (left : Typed) (t : memory.Typed) → xs ≡ x ∷ ys → Ahead mid (check_addeds (added_list xs) place at left) old all → Shows mid new (check_added (plain_added x) place at left) (Ok t) → Ahead new (check_addeds (added_list ys) place at (plain_typed t)) old all
 added_ahead place old mid new all x xs ys at left t p a h =
     ahead_with old mid new all (check_added (plain_added x) place at left) (λ z. check_addeds (added_list ys) place at z) t (rw p at a) h
-
--- a name, and an attribute, as primaries
-pub name_begins : (x : Name) → primary_at (plain_primary (primary.Name x)) ≡ x.first.ident.at
-name_begins x = ap primary_at (name_open x)
-
-pub attribute_begins : (x : Name) (i : Ident) (e : Option (Box Expr Global)) → primary_at (plain_primary (primary.Attribute x i e)) ≡ x.first.ident.at
-attribute_begins x i e = ap primary_at (attribute_open x i e)
-
-pub name_shown : (old new : Option Fault) (x : Name) (place : Place) (r : Result memory.Typed AllocError) → Shows old new (check_name (visible x.first.ident.name place) x.first.ident.at) r → Shows old new (check_primary (plain_primary (primary.Name x)) place) r
-name_shown old new x place r h = subst (λ z. Shows old new (check_primary z place) r) (sym (name_open x)) h
-
-pub image_shown : (old new : Option Fault) (x : Name) (i : Ident) (place : Place) (r : Result memory.Typed AllocError) → Shows old new (check_attribute (visible x.first.ident.name place) x.first.ident i None) r → Shows old new (check_primary (plain_primary (primary.Attribute x i None)) place) r
-image_shown old new x i place r h = subst (λ z. Shows old new (check_primary z place) r) (sym (attribute_open x i None)) h
-
-pub image_of_shown : (old new : Option Fault) (x : Name) (i : Ident) (e : Box Expr Global) (place : Place) (r : Result memory.Typed AllocError) → Shows old new (check_image (m.an_expr (plain_expr e.value)) place x.first.ident i) r → Shows old new (check_primary (plain_primary (primary.Attribute x i (Some e))) place) r
-image_of_shown old new x i e place r h = subst (λ z. Shows old new (check_primary z place) r) (sym (attribute_open x i (Some e))) h

@@ -121,6 +121,10 @@ arguments_row = refl
 itself_row : checked (main (two ∷ []) (calling (id (codes "P") (at 7 1)) (only (num 1 (at 7 4))) ∷ [])) ≡ Err (fault (at 7 1) WrongNumberOfArguments)
 itself_row = refl
 
+-- the grammar makes no call without arguments
+alone_row : checked (main [] (call (var (codes "PUT_LINE") (at 7 1)) ∷ [])) ≡ Err (fault (at 7 1) WrongNumberOfArguments)
+alone_row = refl
+
 end_row : checked (unit (id (codes "P") (at 1 11)) no_decls (body (at 2 1) (more_stmts (null (at 3 1)) no_stmts) (at 4 1) (Some (id (codes "Q") (at 4 5))))) ≡ Err (fault (at 4 5) WrongNameAtEnd)
 end_row = refl
 

@@ -56,14 +56,11 @@ opt_operator_is (Some x) = refl
 pub factor_items : (s : Option Operator) (p : Primary) (ds : List Item) → made g.Factor (opt_item an_operator s ∷ primary_item p ∷ ds) ≡ factor_item (record { op = s; primary = p }) ∷ ds
 factor_items s p ds = ap (λ z. a_factor (m.factor z (plain_primary p)) ∷ ds) (opt_operator_is s)
 
-pub name_items : (x : Name) (ds : List Item) → made g.Named (name_item x ∷ none ∷ ds) ≡ primary_item (primary.Name x) ∷ ds
-name_items x ds = ap (λ z. a_primary z ∷ ds) (sym (name_open x))
+pub name_items : (b : Box Name Global) (x : Name) (ds : List Item) → b.value ≡ x → made g.Named (name_item x ∷ none ∷ ds) ≡ primary_item (primary.Name b) ∷ ds
+name_items b x ds h = ap (λ z. a_primary (m.name (plain_name z)) ∷ ds) (sym h) ∙ ap (λ z. a_primary z ∷ ds) (sym (name_open b))
 
-with_attribute_is : (x : Name) (j : Ident) (e : Option (Box Expr Global)) → with_attribute (plain_name x) (attribute_item (j, e)) ≡ plain_primary (primary.Attribute x j e)
-with_attribute_is x j e = sym (attribute_open x j e)
-
-pub named_items : (x : Name) (j : Ident) (e : Option (Box Expr Global)) (ds : List Item) → made g.Named (name_item x ∷ attribute_item (j, e) ∷ ds) ≡ primary_item (primary.Attribute x j e) ∷ ds
-named_items x j e ds = ap (λ z. a_primary z ∷ ds) (with_attribute_is x j e)
+pub named_items : (b : Box Name Global) (x : Name) (j : Ident) (e : Option (Box Expr Global)) (ds : List Item) → b.value ≡ x → made g.Named (name_item x ∷ attribute_item (j, e) ∷ ds) ≡ primary_item (primary.Attribute b j e) ∷ ds
+named_items b x j e ds h = ap (λ z. a_primary (with_attribute (plain_name z) (attribute_item (j, e))) ∷ ds) (sym h) ∙ ap (λ z. a_primary z ∷ ds) (sym (attribute_open b j e))
 
 idents_items : (xs : List Ident) → the_idents (list_item an_ident xs) ≡ xs
 idents_items [] = refl

@@ -79,7 +79,8 @@ fn named<'a, 's>(
     ensures reads { Reads primary_item (N g.Named) room toks.entry.tokens.now result }
     ensures shorter { IfOk result (λ p. length p.1.tokens.now < length toks.entry.tokens.now) }
 {
-    let (prefix, rest) = name(alloc, toks)?;
+    let (name, rest) = name(alloc, toks)?;
+    let prefix = Box::new(alloc, name)?;
     if is(rest, Kind::Apostrophe) {
         let (attribute, rest) = attribute(alloc, rest, room)?;
         let (designator, argument) = attribute;

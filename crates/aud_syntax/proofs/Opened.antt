@@ -59,9 +59,9 @@ expr_rows n (more_of-Expr x row) = ap (λ z. m.more_args (plain_expr x) z) (expr
 arguments : (v : Vec Expr Global) → plain_args (hidden-the_row-Expr-0 v) ≡ plain_exprs v.items
 arguments v = expr_rows _ (hidden-the_row-Expr-0 v) ∙ ap plain_exprs (items_hidden-the_row-Expr-0 v)
 
-pub name_open : (x : name.Name) → plain_primary (primary.Name x) ≡ m.name (plain_name x)
-name_open x = ap (λ z. m.name (m.named (m.part x.first.ident z) m.no_parts)) (arguments x.first.args)
+pub name_open : (x : Box name.Name Global) → plain_primary (primary.Name x) ≡ m.name (plain_name x.value)
+name_open x = ap (λ z. m.name (m.named (m.part x.value.first.ident z) m.no_parts)) (arguments x.value.first.args)
 
-pub attribute_open : (x : name.Name) (i : Ident) (e : Option (Box Expr Global)) → plain_primary (primary.Attribute x i e) ≡ m.attribute (plain_name x) i (plain_boxed e)
-attribute_open x i None = ap (λ z. m.attribute (m.named (m.part x.first.ident z) m.no_parts) i m.no_expr) (arguments x.first.args)
-attribute_open x i (Some e) = ap (λ z. m.attribute (m.named (m.part x.first.ident z) m.no_parts) i (m.an_expr (plain_expr e.value))) (arguments x.first.args)
+pub attribute_open : (x : Box name.Name Global) (i : Ident) (e : Option (Box Expr Global)) → plain_primary (primary.Attribute x i e) ≡ m.attribute (plain_name x.value) i (plain_boxed e)
+attribute_open x i None = ap (λ z. m.attribute (m.named (m.part x.value.first.ident z) m.no_parts) i m.no_expr) (arguments x.value.first.args)
+attribute_open x i (Some e) = ap (λ z. m.attribute (m.named (m.part x.value.first.ident z) m.no_parts) i (m.an_expr (plain_expr e.value))) (arguments x.value.first.args)

@@ -76,17 +76,17 @@ arguments_end r old out new before xs ys e h n k =
     subst (λ z. OnOk r (new ≡ old ++ spaced z)) (some_arguments xs n) (all_written r old out new (listed (codes "(") (plain_exprs xs)) (word (codes ")") ∷ []) all k)
 
 -- a name, and an attribute, as primaries
-pub name_written : {X E : Type 0} (r : Result X E) (old new : List ℕ) (x : name.Name) → OnOk r (new ≡ old ++ spaced (name_words (plain_name x))) → OnOk r (new ≡ old ++ spaced (primary_words (plain_primary (primary.Name x))))
+pub name_written : {X E : Type 0} (r : Result X E) (old new : List ℕ) (x : Box name.Name Global) → OnOk r (new ≡ old ++ spaced (name_words (plain_name x.value))) → OnOk r (new ≡ old ++ spaced (primary_words (plain_primary (primary.Name x))))
 name_written r old new x h = subst (λ z. OnOk r (new ≡ old ++ spaced (primary_words z))) (sym (name_open x)) h
 
-pub attribute_written : {X E : Type 0} (r : Result X E) (old a b c new : List ℕ) (x : name.Name) (i : Ident) (e : Option (Box Expr Global)) → a ≡ old ++ spaced (name_words (plain_name x)) → b ≡ a ++ spaced (word (codes "'") ∷ []) →
+pub attribute_written : {X E : Type 0} (r : Result X E) (old a b c new : List ℕ) (x : Box name.Name Global) (i : Ident) (e : Option (Box Expr Global)) → a ≡ old ++ spaced (name_words (plain_name x.value)) → b ≡ a ++ spaced (word (codes "'") ∷ []) →
     c ≡ b ++ spaced (ident_word i ∷ []) → OnOk r (new ≡ c ++ spaced (argument_words (plain_boxed e))) → OnOk r (new ≡ old ++ spaced (primary_words (plain_primary (primary.Attribute x i e))))
 attribute_written r old a b c new x i e h k l n =
     subst (λ z. OnOk r (new ≡ old ++ spaced (primary_words z))) (sym (attribute_open x i e))
-    (all_written r old a new (name_words (plain_name x)) (word (codes "'") ∷ ident_word i ∷ argument_words (plain_boxed e)) h
+    (all_written r old a new (name_words (plain_name x.value)) (word (codes "'") ∷ ident_word i ∷ argument_words (plain_boxed e)) h
     (all_written r a b new (word (codes "'") ∷ []) (ident_word i ∷ argument_words (plain_boxed e)) k
     (all_written r b c new (ident_word i ∷ []) (argument_words (plain_boxed e)) l n)))
 
-pub attribute_alone : (old a b c : List ℕ) (x : name.Name) (i : Ident) → a ≡ old ++ spaced (name_words (plain_name x)) → b ≡ a ++ spaced (word (codes "'") ∷ []) → c ≡ b ++ spaced (ident_word i ∷ []) →
+pub attribute_alone : (old a b c : List ℕ) (x : Box name.Name Global) (i : Ident) → a ≡ old ++ spaced (name_words (plain_name x.value)) → b ≡ a ++ spaced (word (codes "'") ∷ []) → c ≡ b ++ spaced (ident_word i ∷ []) →
     c ≡ old ++ spaced (primary_words (plain_primary (primary.Attribute x i None)))
 attribute_alone old a b c x i h k l = attribute_written {X = ℕ} {E = ℕ} (Ok 0) old a b c c x i None h k l (sym (append-nil c))

@@ -47,8 +47,8 @@ abbrev mutual
   pub plain_primary : Primary → m.Primary
   plain_primary (Integer x) = m.integer x
   plain_primary (Text x) = m.text x
-  plain_primary (Name' i _ xs) = m.name (m.named (m.part i (plain_args xs)) m.no_parts)
-  plain_primary (Attribute' i _ xs y e) = m.attribute (m.named (m.part i (plain_args xs)) m.no_parts) y (plain_argument e)
+  plain_primary (Name' _ i _ xs) = m.name (m.named (m.part i (plain_args xs)) m.no_parts)
+  plain_primary (Attribute' _ i _ xs y e) = m.attribute (m.named (m.part i (plain_args xs)) m.no_parts) y (plain_argument e)
   plain_primary (Group' at _ e) = m.group at (plain_expr e)
 
   pub plain_argument : Held-Primary-Attribute-2 → m.MaybeExpr

@@ -134,9 +134,9 @@ pub struct Factor {
 pub enum Primary {
     Integer(Number),
     Text(Literal),
-    Name(Name),
+    Name(Box<Name>),
     /// The prefix, the attribute's name and its argument (RM 4.1.4).
-    Attribute(Name, Ident, Option<Box<Expr>>),
+    Attribute(Box<Name>, Ident, Option<Box<Expr>>),
     /// An expression in parentheses, and where they open.
     Group(Pos, Box<Expr>),
 }

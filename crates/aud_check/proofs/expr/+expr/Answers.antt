@@ -7,7 +7,7 @@ use Rattle.aud_check.specs.Expressions.{check_expr, expr_at, check_simple, check
 use Rattle.aud_check.specs.Typing.{plain_typed}
 use Rattle.aud_syntax.proofs.Opened.{added_open}
 use Rattle.aud_syntax.proofs.Written.{dropped}
-use Rattle.aud_check.proofs.Opened.{term_ahead, multiplied_ahead, simple_ahead, added_ahead, name_shown, image_shown, image_of_shown}
+use Rattle.aud_check.proofs.Opened.{term_ahead, multiplied_ahead, simple_ahead, added_ahead}
 use Rattle.aud_check.proofs.Notes.{shows_with}
 use Rattle.aud_check.proofs.expr.+expr.Goals as goal
 
@@ -32,11 +32,5 @@ term-loop-next-init t c = term_ahead c.args.term.now c.args.scope.now c.args.fau
 pub term-loop-next-preserved : goal.term-loop-next-preserved
 term-loop-next-preserved t c = multiplied_ahead c.args.scope.now c.args.faults.now c.loop-next.faults c.multiplied.new.faults (check_term (plain_term c.args.term.now) c.args.scope.now) c.next-item.result (drop c.loop-next.next-index c.deref-next-items.result.now) (drop (c.loop-next.next-index + 1) c.deref-next-items.result.now) c.term_at-at.result (plain_typed c.loop-next.left) c.in_ok-left-2.left (dropped c.deref-next-items.result.now c.loop-next.next-index c.next-item.result (omega arith) c.next-item.is) c.loop-next.invariant c.in_ok-left-2.ensures
 
-pub primary-returns-in-Name : goal.primary-returns-in-Name
-primary-returns-in-Name t c = rw c.in-Name.is (name_shown c.args.faults.now c.check_name.new.faults c.in-Name.name c.args.scope.now c.check_name.result (rw c.visible.ensures at c.check_name.ensures))
-
-pub primary-returns-in-None : goal.primary-returns-in-None
-primary-returns-in-None t c = rw (c.in-Attribute.is, c.in-None.is) (image_shown c.args.faults.now c.attribute.new.faults c.in-Attribute.prefix c.in-Attribute.designator c.args.scope.now c.attribute.result (rw c.visible-meaning.ensures at c.attribute.ensures))
-
 pub primary-returns-in_ok-typed-in-Some : goal.primary-returns-in_ok-typed-in-Some
-primary-returns-in_ok-typed-in-Some t c = rw (c.in-Attribute.is, c.in-Some.is) (image_of_shown c.args.faults.now c.attribute-in-Some.new.faults c.in-Attribute.prefix c.in-Attribute.designator c.in-Some.e c.args.scope.now c.attribute-in-Some.result (shows_with c.args.faults.now c.expr.new.faults c.attribute-in-Some.new.faults (check_expr (plain_expr c.in-Some.e.value) c.args.scope.now) (λ x. check_attribute (visible c.in-Attribute.prefix.first.ident.name c.args.scope.now) c.in-Attribute.prefix.first.ident c.in-Attribute.designator (Some (expr_at (plain_expr c.in-Some.e.value), x))) c.in_ok-typed-in-Some.typed c.attribute-in-Some.result (rw c.deref.ensures at c.in_ok-typed-in-Some.ensures) (rw (c.visible-meaning.ensures, c.expr_at.ensures, c.deref-in-Some.ensures) at c.attribute-in-Some.ensures)))
+primary-returns-in_ok-typed-in-Some t c = rw (c.in-Attribute.is, c.in-Some.is) (shows_with c.args.faults.now c.expr.new.faults c.attribute-in-Some.new.faults (check_expr (plain_expr c.in-Some.e.value) c.args.scope.now) (λ x. check_attribute (visible c.in-Attribute.prefix.value.first.ident.name c.args.scope.now) c.in-Attribute.prefix.value.first.ident c.in-Attribute.designator (Some (expr_at (plain_expr c.in-Some.e.value), x))) c.in_ok-typed-in-Some.typed c.attribute-in-Some.result (rw c.deref-in-Some.ensures at c.in_ok-typed-in-Some.ensures) (rw (c.visible-meaning.ensures, c.deref-in-Attribute.ensures, c.expr_at.ensures, c.deref-in-Some-2.ensures) at c.attribute-in-Some.ensures))

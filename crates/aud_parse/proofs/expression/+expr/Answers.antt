@@ -35,17 +35,17 @@ attribute-returns-then-is-clause-reads t c k ds v o = o_rule (c.in_ok-rest.ensur
 pub attribute-returns-clause-reads : goal.attribute-returns-clause-reads
 attribute-returns-clause-reads t c k ds v o = o_rule (c.in_ok-rest.ensures.reads _ _ _ _ (c.in_ok-name.ensures.reads _ _ _ _ (o_no (sym c.is.ensures ∙ c.if-is.false) o)))
 
-pub named-returns-in_err-prefix-clause-reads : goal.named-returns-in_err-prefix-clause-reads
-named-returns-in_err-prefix-clause-reads t c = exit _ _ _ c.from_residual.ensures.1 (c.in_err-prefix.ensures.reads c.args.room) (λ k ds v o. o_rule o)
+pub named-returns-in_err-name-clause-reads : goal.named-returns-in_err-name-clause-reads
+named-returns-in_err-name-clause-reads t c = exit _ _ _ c.from_residual.ensures.1 (c.in_err-name.ensures.reads c.args.room) (λ k ds v o. o_rule o)
 
 pub named-returns-in_err-attribute-clause-reads : goal.named-returns-in_err-attribute-clause-reads
-named-returns-in_err-attribute-clause-reads t c = exit _ _ _ c.from_residual-in_err-attribute.ensures.1 c.in_err-attribute.ensures.reads (λ k ds v o. o_rule (c.in_ok-prefix.ensures.reads _ _ _ _ (o_yes (sym c.is.ensures ∙ c.if-is.true) o)))
+named-returns-in_err-attribute-clause-reads t c = exit _ _ _ c.from_residual-in_err-attribute.ensures.1 c.in_err-attribute.ensures.reads (λ k ds v o. o_rule (c.in_ok-name.ensures.reads _ _ _ _ (o_yes (sym c.is.ensures ∙ c.if-is.true) o)))
 
 pub named-returns-then-is-clause-reads : goal.named-returns-then-is-clause-reads
-named-returns-then-is-clause-reads t c k ds v o = to (o_rule (c.in_ok-prefix.ensures.reads _ _ _ _ (o_yes (sym c.is.ensures ∙ c.if-is.true) (c.in_ok-attribute.ensures.reads _ _ _ o)))) (named_items _ _ _ _)
+named-returns-then-is-clause-reads t c k ds v o = to (o_rule (c.in_ok-name.ensures.reads _ _ _ _ (o_yes (sym c.is.ensures ∙ c.if-is.true) (c.in_ok-attribute.ensures.reads _ _ _ o)))) (named_items c.in_ok-prefix.prefix c.in_ok-name.name _ _ _ c.in_ok-prefix.ensures.ok)
 
 pub named-returns-clause-reads : goal.named-returns-clause-reads
-named-returns-clause-reads t c k ds v o = to (o_rule (c.in_ok-prefix.ensures.reads _ _ _ _ (o_no (sym c.is.ensures ∙ c.if-is.false) o))) (name_items _ _)
+named-returns-clause-reads t c k ds v o = to (o_rule (c.in_ok-name.ensures.reads _ _ _ _ (o_no (sym c.is.ensures ∙ c.if-is.false) o))) (name_items c.in_ok-prefix.prefix c.in_ok-name.name _ c.in_ok-prefix.ensures.ok)
 
 pub primary-returns-in_err-t-clause-reads : goal.primary-returns-in_err-t-clause-reads
 primary-returns-in_err-t-clause-reads t c = exit _ _ _ c.from_residual.ensures.1 (c.in_err-t.ensures.reads c.args.room) (λ k ds v o. o_rule (o_this (sym c.is.ensures ∙ c.if-is.true) (o_rule (o_rule o))))

@@ -47,12 +47,12 @@ push_args-returns t c =
     arguments_end c.push_word-2.result c.args.out.now.items c.loop-next.out.items c.push_word-2.new.out.items c.loop-next.before.now c.args.args.now (drop c.loop-next.next-index c.args.args.now) (drop_all _ _ c.loop-next-test.false) c.loop-next.invariant (sym c.is_empty.ensures ∙ c.if-is_empty.false) c.push_word-2.ensures
 
 pub push_primary-returns-in-Name : goal.push_primary-returns-in-Name
-push_primary-returns-in-Name t c = rw c.in-Name.is (name_written c.push_name.result c.args.out.now.items c.push_name.new.out.items c.in-Name.name c.push_name.ensures)
+push_primary-returns-in-Name t c = rw c.in-Name.is (name_written c.push_name.result c.args.out.now.items c.push_name.new.out.items c.in-Name.name (rw c.deref.ensures at c.push_name.ensures))
 
 pub push_primary-returns-in-None : goal.push_primary-returns-in-None
 push_primary-returns-in-None t c = rw (c.in-Attribute.is, c.in-None.is)
-    (attribute_alone c.args.out.now.items c.push_name-in-Attribute.new.out.items c.push_word.new.out.items c.push_ident.new.out.items c.in-Attribute.prefix c.in-Attribute.designator c.in_ok-push_name-in-Attribute.ensures c.in_ok-push_word-in-Attribute.ensures c.in_ok-push_ident-in-Attribute.ensures)
+    (attribute_alone c.args.out.now.items c.push_name-in-Attribute.new.out.items c.push_word.new.out.items c.push_ident.new.out.items c.in-Attribute.prefix c.in-Attribute.designator (rw c.deref-in-Attribute.ensures at c.in_ok-push_name-in-Attribute.ensures) c.in_ok-push_word-in-Attribute.ensures c.in_ok-push_ident-in-Attribute.ensures)
 
 pub push_primary-returns-in-Some : goal.push_primary-returns-in-Some
 push_primary-returns-in-Some t c = rw (c.in-Attribute.is, c.in-Some.is)
-    (attribute_written c.push_in_parentheses.result c.args.out.now.items c.push_name-in-Attribute.new.out.items c.push_word.new.out.items c.push_ident.new.out.items c.push_in_parentheses.new.out.items c.in-Attribute.prefix c.in-Attribute.designator (Some c.in-Some.argument) c.in_ok-push_name-in-Attribute.ensures c.in_ok-push_word-in-Attribute.ensures c.in_ok-push_ident-in-Attribute.ensures (rw c.deref.ensures at c.push_in_parentheses.ensures))
+    (attribute_written c.push_in_parentheses.result c.args.out.now.items c.push_name-in-Attribute.new.out.items c.push_word.new.out.items c.push_ident.new.out.items c.push_in_parentheses.new.out.items c.in-Attribute.prefix c.in-Attribute.designator (Some c.in-Some.argument) (rw c.deref-in-Attribute.ensures at c.in_ok-push_name-in-Attribute.ensures) c.in_ok-push_word-in-Attribute.ensures c.in_ok-push_ident-in-Attribute.ensures (rw c.deref-in-Some.ensures at c.push_in_parentheses.ensures))
