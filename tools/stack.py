@@ -11,9 +11,6 @@ SOURCE = 32_768  # bytes of the largest source text
 LINE = 1_000  # bytes that are put on a line, which may have 1,024
 DEEP = 199  # parentheses that fit into the statements of a body at the limit of 200 levels
 
-# the shape that takes most of the stack for each level, and the KiB that it needs
-DEEPEST, DEEPER = "operands of both levels nested to the right", 640
-
 
 def source(head, unit, tail, joint=""):
     """As many of the same units as fit into a source text, the line feeds between them counted."""
@@ -79,7 +76,7 @@ def shapes():
         f"procedure M is X:Integer;begin X:={right};end M;"
     ), 4
     inner = "(1+1*" * DEEP + "1" + ")" * DEEP
-    yield DEEPEST, wrapped(
+    yield "operands of both levels nested to the right", wrapped(
         f"procedure M is X:Integer;begin X:=1+1*{inner};end M;"
     ), 4
     left = "(" * DEEP + "1" + "+1)" * DEEP
@@ -128,11 +125,10 @@ def main(program, size):
     failed = 0
     for shape, text, result in shapes():
         assert len(text) <= SOURCE and max(map(len, text.split("\n"))) < 1_024, shape
-        room = max(size, DEEPER) if shape == DEEPEST else size
-        done = answered(program, text, room)
+        done = answered(program, text, size)
         good = done.returncode == 0 and is_right(done.stdout.decode(), result)
         failed += not good
-        print(f"{'good' if good else 'BAD '}  {room} KiB  {len(text):6} bytes  {shape}")
+        print(f"{'good' if good else 'BAD '}  {size} KiB  {len(text):6} bytes  {shape}")
         if not good:
             print(f"      status {done.returncode}: {done.stdout[:120]!r}")
     print(f"{failed} of the shapes failed" if failed else "every shape is answered")
