@@ -7,3 +7,4 @@ pub mod Made
 pub mod Starting
 pub mod Sound
 pub mod Laws
+pub mod Simple
