@@ -1,3 +1,5 @@
+pub mod Loops
+pub mod Writing
 pub mod Asking
 pub mod ByKind
 pub mod Standing

@@ -7,7 +7,8 @@ ghost use Rattle.aud_typed.specs.Sequential.Scoped.{IsScoped};
 ghost use Rattle.aud_gen.specs.Sequential.Code.{integer_code, text_code, stmt_code, program_code};
 
 use crate::around::{Around, Step};
-use crate::sizes::{stmt_size, stmts_size, sum};
+use crate::lengths::sum;
+use crate::sizes::{stmt_size, stmts_size};
 use aud_code::code::{Ending, Instr, Line};
 use aud_code::sound::{SoundCode, verify};
 use aud_meaning::sequential::StepKind;

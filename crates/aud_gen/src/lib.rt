@@ -4,6 +4,7 @@
 mod around;
 mod emit;
 pub mod laws;
+mod lengths;
 pub mod sequential_laws;
 mod sizes;
 

@@ -1,19 +1,13 @@
 // How many instructions each part of a program becomes.
 
-ghost use Rattle.std.specs.Prelude.{◌≡◌, ◌+◌, map, IfOk};
+ghost use Rattle.std.specs.Prelude.{◌≡◌, map, IfOk};
 ghost use Rattle.aud_typed.specs.Sequential.Tree.{in_sequence};
 ghost use Rattle.aud_typed.specs.Sequential.View.{plain_integer, plain_text, plain_stmt};
 ghost use Rattle.aud_gen.specs.Sequential.Code.{integer_size, text_size, stmt_size};
 
+use crate::lengths::sum;
 use aud_typed::program::{IntegerExpr, Stmt, TextExpr};
 use std::alloc::AllocError;
-
-/// A sum of sizes, or want of memory where it passes the type: no memory holds such code.
-pub fn sum(a: usize, b: usize) -> Result<usize, AllocError>
-    ensures { IfOk result (λ n. n ≡ a + b) }
-{
-    a.checked_add(b).ok_or(AllocError)
-}
 
 /// Of an expression of type Integer.
 pub fn integer_size(e: &IntegerExpr) -> Result<usize, AllocError>

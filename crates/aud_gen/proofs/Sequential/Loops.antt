@@ -1,9 +1,7 @@
 -- Loops over the lists of a program.
-use Rattle.std.proofs.Common.{◌≡◌, ℕ, suc, ◌+◌, ◌-◌, ◌<◌, ◌≤◌, List, [], ◌∷◌, ◌++◌, length, take, drop, get_or, add-one, refl, ap, sym, ◌∙◌, subst, arith, append_assoc}
-use Rattle.std.specs.Prelude.{◌==◌, false, Vec, Box, map, Result, Ok, Err, OnOk}
+use Rattle.std.proofs.Common.{◌≡◌, ℕ, ◌+◌, ◌<◌, List, [], ◌∷◌, ◌++◌, length, drop, get_or, refl, ap, sym, ◌∙◌, arith}
+use Rattle.std.specs.Prelude.{◌==◌, false, Vec, Box, map}
 use Rattle.std.specs.Global.{Global}
-use Rattle.std.proofs.Math.Seq.{drop-cons}
-use Rattle.std.proofs.lemmas.List.{take_more, take_all, drop_all}
 use Rattle.aud_typed.specs.declared.program.IntegerExpr.{IntegerExpr}
 use Rattle.aud_typed.specs.declared.program.IntegerExpr.TheVariants.{Chain}
 use Rattle.aud_typed.specs.declared.program.Operation.{Operation}
@@ -18,33 +16,7 @@ use Rattle.aud_code.specs.declared.code.Line.{Line}
 use Rattle.aud_gen.specs.declared.around.Around.{Around}
 use Rattle.aud_gen.specs.declared.around.Step.{Step}
 use Rattle.aud_gen.specs.Sequential.Code.{stmt_size, line, integer_code, stmt_code}
-
--- what a loop over a list has before it
-pub dropped : {A : Type 0} (xs : List A) (i : ℕ) (x : A) → i < length xs → x ≡ get_or xs i x → drop i xs ≡ x ∷ drop (i + 1) xs
-dropped xs i x h e = rw (add-one, drop-cons xs i x) (ap (λ z. z ∷ drop (suc i) xs) (sym e))
-
--- Trees that go on with a list, each item on what stands before it.
-module _ {T X Y : Type 0} (all : T → List Y → T) (plain : X → Y) where
-  -- a loop over the list has come to an index: something holds of the tree so far, of which the other items make the whole
-  pub record SoFar (items : List X) (i : ℕ) (whole : T) (Holds : T → Type 0) : Type 0 where
-    pub done : T
-    pub holds : Holds done
-    pub left : all done (map plain (drop i items)) ≡ whole
-
-  pub loop_begins : (items : List X) (whole done : T) (Holds : T → Type 0) → Holds done → all done (map plain items) ≡ whole → SoFar items 0 whole Holds
-  loop_begins items whole done Holds h e = record { done = done; holds = h; left = e }
-
-  pub loop_goes_on : (more : T → Y → T) → ((d : T) (y : Y) (ys : List Y) → all d (y ∷ ys) ≡ all (more d y) ys) → (items : List X) (i : ℕ) (x : X) → i < length items → x ≡ get_or items i x → (whole : T) (Holds Next : T → Type 0) → ((d : T) → Holds d → Next (more d (plain x))) → SoFar items i whole Holds → SoFar items (i + 1) whole Next
-  loop_goes_on more opens items i x h e whole Holds Next step s =
-      record {
-        done = more s.done (plain x);
-        holds = step s.done s.holds;
-        left = sym (opens s.done (plain x) (map plain (drop (i + 1) items))) ∙ ap (λ z. all s.done (map plain z)) (sym (dropped items i x h e)) ∙ s.left;
-      }
-
-  pub loop_ends : ((d : T) → all d [] ≡ d) → (items : List X) (i : ℕ) (whole : T) (Holds : T → Type 0) → length items ≤ i → SoFar items i whole Holds → Holds whole
-  loop_ends ends items i whole Holds h s =
-      subst Holds (sym (ends s.done) ∙ ap (λ z. all s.done (map plain z)) (sym (drop_all i items h)) ∙ s.left) s.holds
+use Rattle.aud_gen.proofs.Loops.{dropped, written_more}
 
 -- what a loop over a chain, or over joined texts, makes whole
 pub whole_chain : (e first : IntegerExpr) (items : List Operation) (x : Box IntegerExpr Global) (v : Vec Operation Global) → e ≡ Chain x v → first ≡ x.value → items ≡ v.items → tree.chained (plain_integer first) (map plain_operation items) ≡ plain_integer e
@@ -54,15 +26,6 @@ whole_chain e first items x v is h k =
 pub whole_join : (t first : TextExpr) (items : List TextExpr) (x : Box TextExpr Global) (v : Vec TextExpr Global) → t ≡ Join x v → first ≡ x.value → items ≡ v.items → tree.joined (plain_text first) (map plain_text items) ≡ plain_text t
 whole_join t first items x v is h k =
     ap (λ z. tree.joined (plain_text z) (map plain_text items)) h ∙ ap (λ z. tree.joined (plain_text x.value) (map plain_text z)) k ∙ sym (join_open x v) ∙ ap plain_text (sym is)
-
--- what holds where there was no error, of what held there
-pub on_ok : {X E A B : Type 0} (r : Result X E) → (A → B) → OnOk r A → OnOk r B
-on_ok (Ok x) f h = f h
-on_ok (Err e) f h = tt
-
--- some lines are written behind others
-pub written_more : (old now new a b : List Line) → now ≡ old ++ a → new ≡ now ++ b → new ≡ old ++ (a ++ b)
-written_more old now new a b h k = k ∙ ap (λ z. z ++ b) h ∙ append_assoc old a b
 
 -- one operation more is written
 pub chain_written : (old now mid new : List Line) (d : tree.IntegerExpr) (o : tree.Operation) (step : Step) (ints one two : ℕ) (last : Line) → one ≡ ints + 1 → two ≡ ints + 2 → last ≡ line step two (Binary o.op) → now ≡ old ++ integer_code d step ints → mid ≡ now ++ integer_code o.right step one → new ≡ mid ++ last ∷ [] → new ≡ old ++ integer_code (tree.binary o.op d o.right) step ints
@@ -87,16 +50,6 @@ size_in_sequence (x ∷ stmts) h = size_before (plain_stmt x) (map plain_stmt st
 
 pub next_size : (stmts : List Stmt) (i : ℕ) (x : Stmt) → i < length stmts → x ≡ get_or stmts i x → sizes (map plain_stmt (drop i stmts)) ≡ stmt_size (plain_stmt x) + sizes (map plain_stmt (drop (i + 1) stmts))
 next_size stmts i x h e = ap (λ z. sizes (map plain_stmt z)) (dropped stmts i x h e)
-
-pub none_at_all : {A : Type 0} (xs : List A) → length xs < 1 → xs ≡ []
-none_at_all [] h = refl
-none_at_all (x ∷ xs) h = absurd (omega (arith, h))
-
-pub all_but_last : {A : Type 0} (xs : List A) (x : A) → 1 ≤ length xs → x ≡ get_or xs (length xs - 1) x → take (length xs - 1) xs ++ x ∷ [] ≡ xs
-all_but_last xs x h e =
-    let within : length xs - 1 < length xs = omega (arith, h) in
-    let all : length xs ≤ length xs - 1 + 1 = omega (arith, h) in
-    ap (λ z. take (length xs - 1) xs ++ z ∷ []) e ∙ sym (take_more xs (length xs - 1) x within) ∙ take_all (length xs - 1 + 1) xs all
 
 -- a statement that others follow, the last of them among these
 followed : (s : tree.Stmt) (ss : List Stmt) (last : Stmt) → tree.in_sequence (s ∷ map plain_stmt (ss ++ last ∷ [])) ≡ tree.sequence s (tree.in_sequence (map plain_stmt (ss ++ last ∷ [])))

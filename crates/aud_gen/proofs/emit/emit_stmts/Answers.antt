@@ -4,7 +4,8 @@ use Rattle.std.proofs.lemmas.List.{drop_all}
 use Rattle.aud_typed.specs.Sequential.Tree.{in_sequence}
 use Rattle.aud_typed.specs.Sequential.View.{plain_stmt}
 use Rattle.aud_gen.specs.Sequential.Code.{stmt_code}
-use Rattle.aud_gen.proofs.Sequential.Loops.{on_ok, none_at_all, all_but_last, stmt_written}
+use Rattle.aud_gen.proofs.Loops.{on_ok, none_at_all, all_but_last}
+use Rattle.aud_gen.proofs.Sequential.Loops.{stmt_written}
 use Rattle.aud_gen.proofs.emit.emit_stmts.Goals as goal
 
 pub returns-in-empty : goal.returns-in-empty

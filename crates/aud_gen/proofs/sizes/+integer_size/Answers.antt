@@ -3,7 +3,8 @@ use Rattle.aud_typed.specs.Sequential.Tree.{chained, binary}
 use Rattle.aud_typed.specs.Sequential.View.{plain_integer}
 use Rattle.aud_typed.proofs.Opened.{plain_operation}
 use Rattle.aud_gen.specs.Sequential.Code.{integer_size}
-use Rattle.aud_gen.proofs.Sequential.Loops.{loop_begins, loop_goes_on, loop_ends, whole_chain}
+use Rattle.aud_gen.proofs.Loops.{loop_begins, loop_goes_on, loop_ends}
+use Rattle.aud_gen.proofs.Sequential.Loops.{whole_chain}
 use Rattle.aud_gen.proofs.sizes.+integer_size.Goals as goal
 
 pub loop-next-init : goal.loop-next-init

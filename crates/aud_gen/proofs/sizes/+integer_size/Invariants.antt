@@ -3,7 +3,7 @@ use Rattle.aud_typed.specs.Sequential.Tree.{chained}
 use Rattle.aud_typed.specs.Sequential.View.{plain_integer}
 use Rattle.aud_typed.proofs.Opened.{plain_operation}
 use Rattle.aud_gen.specs.Sequential.Code.{integer_size}
-use Rattle.aud_gen.proofs.Sequential.Loops.{SoFar}
+use Rattle.aud_gen.proofs.Loops.{SoFar}
 use Rattle.aud_gen.proofs.sizes.+integer_size.Given as goal
 
 abbrev pub invariant-loop-next : goal.invariant-loop-next

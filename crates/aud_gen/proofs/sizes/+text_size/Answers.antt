@@ -2,7 +2,8 @@ use Rattle.std.proofs.Common.{◌≡◌, refl, arith}
 use Rattle.aud_typed.specs.Sequential.Tree.{joined, join}
 use Rattle.aud_typed.specs.Sequential.View.{plain_text}
 use Rattle.aud_gen.specs.Sequential.Code.{text_size}
-use Rattle.aud_gen.proofs.Sequential.Loops.{loop_begins, loop_goes_on, loop_ends, whole_join}
+use Rattle.aud_gen.proofs.Loops.{loop_begins, loop_goes_on, loop_ends}
+use Rattle.aud_gen.proofs.Sequential.Loops.{whole_join}
 use Rattle.aud_gen.proofs.sizes.+text_size.Goals as goal
 
 pub loop-next-init : goal.loop-next-init

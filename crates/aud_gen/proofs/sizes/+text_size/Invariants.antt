@@ -2,7 +2,7 @@ use Rattle.std.proofs.Common.{◌≡◌}
 use Rattle.aud_typed.specs.Sequential.Tree.{joined}
 use Rattle.aud_typed.specs.Sequential.View.{plain_text}
 use Rattle.aud_gen.specs.Sequential.Code.{text_size}
-use Rattle.aud_gen.proofs.Sequential.Loops.{SoFar}
+use Rattle.aud_gen.proofs.Loops.{SoFar}
 use Rattle.aud_gen.proofs.sizes.+text_size.Given as goal
 
 abbrev pub invariant-loop-next : goal.invariant-loop-next

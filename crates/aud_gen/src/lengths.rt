@@ -1,0 +1,76 @@
+// How many lines each part of a program becomes.
+
+ghost use Rattle.std.specs.Prelude.{◌≡◌, ◌+◌, length, map, IfOk};
+ghost use Rattle.aud_typed.specs.View.{plain_integer, plain_text};
+ghost use Rattle.aud_gen.specs.Instructions.{integer_code, text_code};
+ghost use Rattle.aud_gen.specs.Simple.{step_size, steps_size};
+ghost use Rattle.aud_gen.specs.Written.{simple_of};
+
+use aud_typed::program::{IntegerExpr, Stmt, TextExpr};
+use std::alloc::AllocError;
+
+/// A sum of lengths, or want of memory where it passes the type: no memory holds such code.
+pub fn sum(a: usize, b: usize) -> Result<usize, AllocError>
+    ensures { IfOk result (λ n. n ≡ a + b) }
+{
+    a.checked_add(b).ok_or(AllocError)
+}
+
+/// Of an expression of type Integer.
+pub fn integer_length(e: &IntegerExpr) -> Result<usize, AllocError>
+    ensures { IfOk result (λ n. n ≡ length (integer_code (plain_integer e.now))) }
+{
+    match e {
+        IntegerExpr::Number(_) => Ok(1),
+        IntegerExpr::Variable(_) => Ok(1),
+        IntegerExpr::Unary(_, x) => sum(integer_length(x)?, 1),
+        IntegerExpr::Chain(first, rest) => {
+            let mut total = integer_length(first)?;
+            for next in rest {
+                total = sum(sum(total, integer_length(&next.right)?)?, 1)?;
+            }
+            Ok(total)
+        }
+    }
+}
+
+/// Of a text.
+pub fn text_length(t: &TextExpr) -> Result<usize, AllocError>
+    ensures { IfOk result (λ n. n ≡ length (text_code (plain_text t.now))) }
+{
+    match t {
+        TextExpr::Literal(_) => Ok(1),
+        TextExpr::Image(e) => sum(integer_length(e)?, 1),
+        TextExpr::Join(first, rest) => {
+            let mut total = text_length(first)?;
+            for next in rest {
+                total = sum(total, text_length(next)?)?;
+            }
+            Ok(total)
+        }
+        TextExpr::NewLine => Ok(1),
+    }
+}
+
+/// Of a step: its instructions and its ending.
+pub fn step_length(s: &Stmt) -> Result<usize, AllocError>
+    ensures { IfOk result (λ n. n ≡ step_size (simple_of s.now)) }
+{
+    match s {
+        Stmt::Declare(_, e) => sum(integer_length(e)?, 2),
+        Stmt::Null(_) => Ok(1),
+        Stmt::Assign(_, _, e) => sum(integer_length(e)?, 3),
+        Stmt::Put(_, t) => sum(text_length(t)?, 1),
+    }
+}
+
+/// Of steps one after the other.
+pub fn steps_length(steps: &[Stmt]) -> Result<usize, AllocError>
+    ensures { IfOk result (λ n. n ≡ steps_size (map simple_of steps.now)) }
+{
+    let mut total = 0;
+    for s in steps {
+        total = sum(total, step_length(s)?)?;
+    }
+    Ok(total)
+}
