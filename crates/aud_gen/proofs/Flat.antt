@@ -8,3 +8,4 @@ pub mod Starting
 pub mod Sound
 pub mod Laws
 pub mod Simple
+pub mod Bodies

@@ -7,5 +7,7 @@ pub mod laws;
 mod lengths;
 pub mod sequential_laws;
 mod sizes;
+mod write;
 
 pub use emit::generate;
+pub use write::{generate_sound, write_code};

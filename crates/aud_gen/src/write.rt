@@ -1,0 +1,261 @@
+// The lines of a program's code, from its first to its last.
+
+ghost use Rattle.std.specs.Prelude.{◌≡◌, List, [], ◌∷◌, ◌++◌, ◌+◌, map, OnOk, IfOk};
+ghost use Rattle.aud_typed.specs.declared.program.Subtype.TheVariants.{Integer};
+ghost use Rattle.aud_typed.specs.Tree.{whole};
+ghost use Rattle.aud_typed.specs.View.{plain_integer, plain_text};
+ghost use Rattle.aud_meaning.specs.Items.{stmt_at, nowhere};
+ghost use Rattle.aud_code.specs.Flat.{op, end};
+ghost use Rattle.aud_code.specs.View.{plain_instr, plain_ending, plain_line, plain_code};
+ghost use Rattle.aud_gen.specs.Instructions.{integer_code, value_code, text_code, instrs_of, ending_of};
+ghost use Rattle.aud_gen.specs.Simple.{Simple, stmt_of, step_to, steps_at, guard_end, unit_end, body_at, size_of};
+ghost use Rattle.aud_gen.specs.Written.{simple_of, body_lines, body_size, body_code};
+
+use crate::lengths::{step_length, steps_length, sum};
+use aud_code::instr::Instr;
+use aud_code::line::{Code, EndLine, Ending, Last, Line};
+use aud_code::sound_code::{SoundCode, verify};
+use aud_text::place::Pos;
+use aud_typed::program::{IntegerExpr, Stmt, Subtype, TextExpr};
+use std::alloc::{AllocError, Global};
+
+const NOWHERE: Pos = Pos { line: 0, col: 0 };
+
+fn append(lines: &mut Vec<Line>, line: Line) -> Result<(), AllocError>
+    ensures { OnOk result (map plain_line lines.new.items ≡ map plain_line lines.old.items ++ plain_line line ∷ []) }
+{
+    lines.push(line)?;
+    Ok(())
+}
+
+fn append_instr(lines: &mut Vec<Line>, instr: Instr) -> Result<(), AllocError>
+    ensures { OnOk result (map plain_line lines.new.items ≡ map plain_line lines.old.items ++ op (plain_instr instr) ∷ []) }
+{
+    append(lines, Line::Op(instr))
+}
+
+fn write_integer(lines: &mut Vec<Line>, e: &IntegerExpr) -> Result<(), AllocError>
+    ensures { OnOk result (map plain_line lines.new.items ≡ map plain_line lines.old.items ++ map op (integer_code (plain_integer e.now))) }
+{
+    match e {
+        IntegerExpr::Number(value) => append_instr(lines, Instr::Push(*value)),
+        IntegerExpr::Variable(v) => append_instr(lines, Instr::Load(*v)),
+        IntegerExpr::Unary(op, x) => {
+            write_integer(lines, x)?;
+            append_instr(lines, Instr::OnOne(*op))
+        }
+        IntegerExpr::Chain(first, rest) => {
+            write_integer(lines, first)?;
+            for next in rest {
+                write_integer(lines, &next.right)?;
+                append_instr(lines, Instr::OnTwo(next.op))?;
+            }
+            Ok(())
+        }
+    }
+}
+
+fn write_value(lines: &mut Vec<Line>, e: &IntegerExpr) -> Result<(), AllocError>
+    ensures { OnOk result (map plain_line lines.new.items ≡ map plain_line lines.old.items ++ map op (value_code (whole Integer (plain_integer e.now)))) }
+{
+    write_integer(lines, e)?;
+    append_instr(lines, Instr::Check(Subtype::Integer))
+}
+
+fn write_text(alloc: Global, lines: &mut Vec<Line>, t: &TextExpr) -> Result<(), AllocError>
+    ensures { OnOk result (map plain_line lines.new.items ≡ map plain_line lines.old.items ++ map op (text_code (plain_text t.now))) }
+{
+    match t {
+        TextExpr::Literal(text) => {
+            append_instr(lines, Instr::AppendText(text.try_clone(alloc)?))
+        }
+        TextExpr::Image(e) => {
+            write_integer(lines, e)?;
+            append_instr(lines, Instr::AppendImage)
+        }
+        TextExpr::Join(first, rest) => {
+            write_text(alloc, lines, first)?;
+            for next in rest {
+                write_text(alloc, lines, next)?;
+            }
+            Ok(())
+        }
+        TextExpr::NewLine => append_instr(lines, Instr::AppendNewLine),
+    }
+}
+
+// the instructions of a step
+fn write_instrs(alloc: Global, lines: &mut Vec<Line>, s: &Stmt) -> Result<(), AllocError>
+    ensures { OnOk result (map plain_line lines.new.items ≡ map plain_line lines.old.items ++ map op (instrs_of (stmt_of (simple_of s.now)))) }
+{
+    match s {
+        Stmt::Declare(_, e) => write_value(lines, e),
+        Stmt::Null(_) => Ok(()),
+        Stmt::Assign(_, v, e) => {
+            append_instr(lines, Instr::Find(*v, Subtype::Integer))?;
+            write_value(lines, e)
+        }
+        Stmt::Put(_, t) => write_text(alloc, lines, t),
+    }
+}
+
+fn ending(s: &Stmt) -> Ending
+    ensures { plain_ending result ≡ ending_of (stmt_of (simple_of s.now)) }
+{
+    match s {
+        Stmt::Declare(_, _) => Ending::Declare,
+        Stmt::Null(_) => Ending::Null,
+        Stmt::Assign(_, _, _) => Ending::Assign,
+        Stmt::Put(_, _) => Ending::Put,
+    }
+}
+
+fn place_in_text(s: &Stmt) -> Pos
+    ensures { result ≡ stmt_at (stmt_of (simple_of s.now)) }
+{
+    match s {
+        Stmt::Declare(at, _) => *at,
+        Stmt::Null(at) => *at,
+        Stmt::Assign(at, _, _) => *at,
+        Stmt::Put(at, _) => *at,
+    }
+}
+
+fn write_step(
+    alloc: Global,
+    lines: &mut Vec<Line>,
+    s: &Stmt,
+    out: usize,
+    next: usize,
+) -> Result<(), AllocError>
+    ensures { OnOk result (map plain_line lines.new.items ≡ map plain_line lines.old.items ++ step_to (simple_of s.now) out next) }
+{
+    write_instrs(alloc, lines, s)?;
+    let last = Last::Does(ending(s), next);
+    let at = place_in_text(s);
+    append(lines, Line::End(EndLine { last, at, out }))
+}
+
+// behind each but the last stands the one that follows it
+fn write_steps(
+    alloc: Global,
+    lines: &mut Vec<Line>,
+    steps: &[Stmt],
+    out: usize,
+    next: usize,
+    place: usize,
+) -> Result<(), AllocError>
+    ensures { OnOk result (map plain_line lines.new.items ≡ map plain_line lines.old.items ++ steps_at (map simple_of steps.now) out next place) }
+{
+    match steps {
+        [] => Ok(()),
+        [others @ .., last] => {
+            let mut begin = place;
+            for s in others {
+                let behind = sum(begin, step_length(s)?)?;
+                write_step(alloc, lines, s, out, behind)?;
+                begin = behind;
+            }
+            write_step(alloc, lines, last, out, next)
+        }
+    }
+}
+
+// behind the statements: where its handlers would be looked for, and its end
+fn write_end(lines: &mut Vec<Line>, at: Pos, out: usize) -> Result<(), AllocError>
+    ensures { OnOk result (map plain_line lines.new.items ≡ map plain_line lines.old.items ++ (end (guard_end at out) ∷ end (unit_end at 0 out) ∷ [])) }
+{
+    append(
+        lines,
+        Line::End(EndLine {
+            last: Last::Guards,
+            at,
+            out,
+        }),
+    )?;
+    append(
+        lines,
+        Line::End(EndLine {
+            last: Last::Ends,
+            at,
+            out,
+        }),
+    )
+}
+
+// a body that has statements; the place behind it
+fn write_some(
+    alloc: Global,
+    lines: &mut Vec<Line>,
+    declarations: &[Stmt],
+    statements: &[Stmt],
+    end: Pos,
+    place: usize,
+) -> Result<usize, AllocError>
+    ensures lines { OnOk result ((s : Simple) (ss : List Simple) → map simple_of statements.now ≡ s ∷ ss → map plain_line lines.new.items ≡ map plain_line lines.old.items ++ body_at (map simple_of declarations.now) s ss nowhere end place) }
+    ensures behind { IfOk result (λ behind. (s : Simple) (ss : List Simple) → map simple_of statements.now ≡ s ∷ ss → behind ≡ place + size_of (map simple_of declarations.now) s ss) }
+{
+    let first = sum(place, steps_length(declarations)?)?;
+    let guard = sum(first, steps_length(statements)?)?;
+    let last = sum(guard, 1)?;
+    write_steps(alloc, lines, declarations, last, first, place)?;
+    write_steps(alloc, lines, statements, guard, last, first)?;
+    write_end(lines, end, last)?;
+    sum(last, 1)
+}
+
+// a body, with or without statements; the place behind it
+fn write_body(
+    alloc: Global,
+    lines: &mut Vec<Line>,
+    declarations: &[Stmt],
+    statements: &[Stmt],
+    end: Pos,
+    place: usize,
+) -> Result<usize, AllocError>
+    ensures lines { OnOk result (map plain_line lines.new.items ≡ map plain_line lines.old.items ++ body_lines (map simple_of declarations.now) (map simple_of statements.now) end place) }
+    ensures behind { IfOk result (λ behind. behind ≡ place + body_size (map simple_of declarations.now) (map simple_of statements.now)) }
+{
+    if statements.is_empty() {
+        let idle = [Stmt::Null(NOWHERE)];
+        return write_some(alloc, lines, declarations, &idle, end, place);
+    }
+    write_some(alloc, lines, declarations, statements, end, place)
+}
+
+/// The code of a body, from its declarations, its statements and the place of its `end`. Behind it stands what is run for a
+/// number that no body has: one null statement.
+pub fn write_code(
+    alloc: Global,
+    declarations: &[Stmt],
+    statements: &[Stmt],
+    end: Pos,
+) -> Result<Code, AllocError>
+    ensures { IfOk result (λ code. plain_code code ≡ body_code (map simple_of declarations.now) (map simple_of statements.now) end) }
+{
+    let mut lines = Vec::new(alloc);
+    let spare = write_body(alloc, &mut lines, declarations, statements, end, 0)?;
+    write_body(alloc, &mut lines, &[], &[], NOWHERE, spare)?;
+    let starts = vec![in alloc; 0; 1]?;
+    Ok(Code {
+        lines,
+        starts,
+        spare,
+    })
+}
+
+/// The same, verified. Its only refusal is want of memory.
+pub fn generate_sound(
+    alloc: Global,
+    declarations: &[Stmt],
+    statements: &[Stmt],
+    end: Pos,
+) -> Result<SoundCode, AllocError>
+    ensures { IfOk result (λ code. code ≡ body_code (map simple_of declarations.now) (map simple_of statements.now) end) }
+{
+    let code = write_code(alloc, declarations, statements, end)?;
+    match verify(code) {
+        Some(sound) => Ok(sound),
+        None => unreachable!(),
+    }
+}
