@@ -6,6 +6,7 @@ mod benches;
 mod checks;
 mod codes;
 mod evaluations;
+mod lines;
 mod machines;
 mod requests;
 mod serving;
