@@ -1,3 +1,4 @@
 pub mod Counting
 pub mod Fine
 pub mod Verifying
+pub mod Plainly
