@@ -66,7 +66,8 @@ impl Frames {
     /// One more variable of a frame, with its initial value.
     pub fn declare(&mut self, frame: usize, value: Int32) -> Result<(), AllocError>
         requires { frame < length self.old }
-        ensures { OnOk result (self.new ≡ slice_set self.old frame (slice_index_or self.old frame [] ++ value ∷ [])) }
+        ensures declared { OnOk result (self.new ≡ slice_set self.old frame (slice_index_or self.old frame [] ++ value ∷ [])) }
+        ensures kept { length self.new ≡ length self.old }
     {
         let variables = &mut self.frames[frame];
         variables.push(value)?;

@@ -1,0 +1,2 @@
+pub mod Output
+pub mod Steps

@@ -1,0 +1,236 @@
+-- What a step of a program in memory does is the step of its code.
+use Rattle.std.proofs.Common.{◌≡◌, ℕ, zero, suc, ℤ, List, [], ◌∷◌, ◌++◌, Option, Some, None, false, length, drop, refl, sym, ap, ◌∙◌, subst, slice_index_or, slice_set}
+use Rattle.std.specs.Prelude.{slice_get}
+use Rattle.aud_text.specs.declared.limits.Limits.{Limits}
+use Rattle.aud_text.specs.declared.raise.Raise.{Raise}
+use Rattle.aud_text.specs.declared.place.Pos.{Pos}
+use Rattle.aud_typed.specs.declared.program.Exception.{Exception}
+use Rattle.aud_typed.specs.Tree.{Plan}
+use Rattle.aud_meaning.specs.Configuration.{Target, Pending, All}
+use Rattle.aud_meaning.specs.Control.{Scene}
+use Rattle.aud_meaning.specs.Run.{own_move, step_with}
+use Rattle.aud_meaning.specs.Items.{handled_or_left}
+use Rattle.aud_meaning.specs.Effects.{assigned, put_out}
+use Rattle.aud_meaning.specs.Single.{Stage, Single, runs, completed, terminated, all_of, scene_in}
+use Rattle.aud_meaning.proofs.Single.{declares_step, goes_on_step, assigns_step, puts_step, raises_step, raises_in_part_step, ends_step, left_step}
+use Rattle.aud_code.specs.declared.line.EndLine.{EndLine}
+use Rattle.aud_code.specs.declared.line.Ending.{Ending}
+use Rattle.aud_code.specs.declared.line.Ending.TheVariants.{Declare, Null, Assign, Put}
+use Rattle.aud_code.specs.declared.line.Last.{Last}
+use Rattle.aud_code.specs.declared.line.Last.TheVariants.{Does, Guards, Ends}
+use Rattle.aud_code.specs.Places.{Spot, goes, goes_there, loops_of, is_there}
+use Rattle.aud_code.specs.Instr.{Operands, Ended, Reached, Raised, no_operands}
+use Rattle.aud_code.specs.Eval.{eval}
+use Rattle.aud_code.specs.Flat.{FlatLine, Flat, flat_controls, instrs_at, end_at, end_from, no_end, op, end, asked_last, left_by, handler_in, handler_at}
+use Rattle.aud_code.specs.Flat as flat
+use Rattle.aud_code.specs.Sound.{IsStart, IsSound, LastFine, counts_of}
+use Rattle.aud_code.specs.View.{plain_end, plain_last, ways_of}
+use Rattle.aud_expr.specs.Flow.{EndsWith}
+use Rattle.aud_single.specs.Steps.{StepsTo, Stands, StandsIn, does, ends_by, raises_by}
+
+-- a place where this ending of a step stands
+abbrev EndsAs : Flat → ℕ → EndLine → Type 0
+EndsAs code place l = plain_end l ≡ end_at code place
+
+-- what its evaluation leads to, in every scene that sees the frames
+abbrev LeadsTo : Flat → Single Spot → Ended → Type 0
+LeadsTo code q o = (s : Scene) → s.sight.display ≡ 0 ∷ [] → s.sight.frames ≡ q.frames → o ≡ eval false s (instrs_at code q.control.place) 0 no_operands
+
+module _ (plan : Plan) (name : List ℕ) (limits : Limits) (code : Flat) (q : Single Spot) where
+  abbrev In : Single Spot → All Spot
+  In p = all_of plan name p
+
+  abbrev Stepped : Single Spot → All Spot
+  Stepped p = step_with plan (flat_controls plan code) limits (In p) (own_move 0)
+
+  abbrev now : Single Spot
+  now = record q { stage = runs None }
+
+  abbrev scene : Scene
+  scene = scene_in plan name now
+
+  module _ (l : EndLine) (is_end : EndsAs code q.control.place l) (o : Ended) (evaluated : LeadsTo code q o) where
+    asks_so : (flat_controls plan code).asks None scene q.control ≡ asked_last (plain_last l.last) 0 l.at scene o
+    asks_so =
+        ap (λ (e : flat.EndLine). asked_last e.last (loops_of e.exit) e.at scene (eval false scene (instrs_at code q.control.place) 0 no_operands)) (sym is_end)
+        ∙ ap (asked_last (plain_last l.last) 0 l.at scene) (sym (evaluated scene refl refl))
+
+    takes_so : (flat_controls plan code).takes 0 q.control ≡ goes_there (slice_get (ways_of l.last) 0) q.control
+    takes_so = ap (λ (e : flat.EndLine). goes_there (slice_get e.ways 0) q.control) (sym is_end)
+
+    behind_so : (flat_controls plan code).behind q.control ≡ flat.ended_in code (plain_last l.last) q.control
+    behind_so = ap (λ (e : flat.EndLine). flat.ended_in code e.last q.control) (sym is_end)
+
+  -- where nothing is evaluated
+  stays : (at : Pos) (out : ℕ) (o : Ended) → EndsAs code q.control.place (record { last = Guards; at = at; out = out }) → LeadsTo code q o → In (record now { steps = suc q.steps }) ≡ Stepped now
+  stays at out o is_end evaluated =
+      let l : EndLine = record { last = Guards; at = at; out = out } in
+      let done = goes_on_step plan name (flat_controls plan code) limits q (asks_so l is_end o evaluated) in
+      sym (done ∙ ap (λ (t : Spot). In (record now { control = t; steps = suc q.steps })) (takes_so l is_end o evaluated))
+
+  closes : (at : Pos) (out : ℕ) (o : Ended) → EndsAs code q.control.place (record { last = Ends; at = at; out = out }) → LeadsTo code q o → q.control.returns ≡ [] → In (record now { control = goes (length code.lines) q.control; stage = completed None; steps = suc q.steps }) ≡ Stepped now
+  closes at out o is_end evaluated alone =
+      let l : EndLine = record { last = Ends; at = at; out = out } in
+      let done = ends_step plan name (flat_controls plan code) limits q (asks_so l is_end o evaluated) in
+      let there = behind_so l is_end o evaluated ∙ ap (λ rs. flat.back_to code rs) alone ∙ ap (λ (rs : List ℕ). record { place = length code.lines; returns = rs }) (sym alone) in
+      sym (done ∙ ap (λ (t : Spot). In (record now { control = t; stage = completed None; steps = suc q.steps })) there)
+
+  -- each ending
+  ended_by : (last : Last) (at : Pos) (out : ℕ) (o : Operands) → EndsAs code q.control.place (record { last = last; at = at; out = out }) → LeadsTo code q (Reached o) → LastFine (plain_last last) (counts_of o) → q.control.returns ≡ [] → In (ends_by last (length code.lines) o now) ≡ Stepped now
+  ended_by (Does Declare next) at out o is_end evaluated fine alone = by o.ints refl
+    where
+      by : (zs : List ℤ) → o.ints ≡ zs → In (ends_by (Does Declare next) (length code.lines) o now) ≡ Stepped now
+      by [] e = absurd (rw e at fine)
+      by (z ∷ zs) e =
+          let l : EndLine = record { last = Does Declare next; at = at; out = out } in
+          let asks = asks_so l is_end (Reached o) evaluated ∙ ap (λ ints. asked_last (plain_last (Does Declare next)) 0 at scene (Reached (record o { ints = ints }))) e in
+          let done = declares_step plan name (flat_controls plan code) limits q z asks in
+          let there = ap (λ (t : Spot). In (record now { control = t; elaborated = suc q.elaborated; frames = slice_set q.frames 0 (slice_index_or q.frames 0 [] ++ z ∷ []); steps = suc q.steps })) (takes_so l is_end (Reached o) evaluated) in
+          ap (λ ints. In (ends_by (Does Declare next) (length code.lines) (record o { ints = ints }) now)) e ∙ sym (done ∙ there)
+  ended_by (Does Null next) at out o is_end evaluated fine alone =
+      let l : EndLine = record { last = Does Null next; at = at; out = out } in
+      let done = goes_on_step plan name (flat_controls plan code) limits q (asks_so l is_end (Reached o) evaluated) in
+      sym (done ∙ ap (λ (t : Spot). In (record now { control = t; steps = suc q.steps })) (takes_so l is_end (Reached o) evaluated))
+  ended_by (Does Assign next) at out o is_end evaluated fine alone = by o.targets o.ints refl refl
+    where
+      by : (ts : List Target) (zs : List ℤ) → o.targets ≡ ts → o.ints ≡ zs → In (ends_by (Does Assign next) (length code.lines) o now) ≡ Stepped now
+      by [] zs d e = absurd (rw d at fine)
+      by (t ∷ ts) [] d e = absurd (rw (d, e) at fine)
+      by (t ∷ ts) (z ∷ zs) d e =
+          let l : EndLine = record { last = Does Assign next; at = at; out = out } in
+          let asks = asks_so l is_end (Reached o) evaluated ∙ ap (λ targets. asked_last (plain_last (Does Assign next)) 0 at scene (Reached (record o { targets = targets }))) d ∙ ap (λ ints. asked_last (plain_last (Does Assign next)) 0 at scene (Reached (record o { targets = t ∷ ts; ints = ints }))) e in
+          let done = assigns_step plan name (flat_controls plan code) limits q t z asks in
+          let there = ap (λ (c : Spot). In (record now { control = c; frames = assigned t.frame t.index z q.frames; steps = suc q.steps })) (takes_so l is_end (Reached o) evaluated) in
+          ap (λ targets. In (ends_by (Does Assign next) (length code.lines) (record o { targets = targets }) now)) d
+          ∙ ap (λ ints. In (ends_by (Does Assign next) (length code.lines) (record o { targets = t ∷ ts; ints = ints }) now)) e
+          ∙ sym (done ∙ there)
+  ended_by (Does Put next) at out o is_end evaluated fine alone =
+      let l : EndLine = record { last = Does Put next; at = at; out = out } in
+      let done = puts_step plan name (flat_controls plan code) limits q o.text (asks_so l is_end (Reached o) evaluated) in
+      let shared = put_out o.text (record { frames = q.frames; output = q.output; cut = q.cut; calls = []; arrivals = 0; objects = [] }) in
+      sym (done ∙ ap (λ (t : Spot). In (record now { control = t; output = shared.output; cut = shared.cut; steps = suc q.steps })) (takes_so l is_end (Reached o) evaluated))
+  ended_by Guards at out o is_end evaluated fine alone = stays at out (Reached o) is_end evaluated
+  ended_by Ends at out o is_end evaluated fine alone = closes at out (Reached o) is_end evaluated alone
+
+  -- an evaluation that raises
+  raised_by : (last : Last) (at : Pos) (out : ℕ) (raise : Raise) → EndsAs code q.control.place (record { last = last; at = at; out = out }) → LeadsTo code q (Raised raise) → q.control.returns ≡ [] → In (raises_by last raise at (length code.lines) now) ≡ Stepped now
+  raised_by (Does Declare next) at out raise is_end evaluated alone =
+      sym (raises_in_part_step plan name (flat_controls plan code) limits q raise at (asks_so (record { last = Does Declare next; at = at; out = out }) is_end (Raised raise) evaluated))
+  raised_by (Does Null next) at out raise is_end evaluated alone =
+      sym (raises_step plan name (flat_controls plan code) limits q raise at (asks_so (record { last = Does Null next; at = at; out = out }) is_end (Raised raise) evaluated))
+  raised_by (Does Assign next) at out raise is_end evaluated alone =
+      sym (raises_step plan name (flat_controls plan code) limits q raise at (asks_so (record { last = Does Assign next; at = at; out = out }) is_end (Raised raise) evaluated))
+  raised_by (Does Put next) at out raise is_end evaluated alone =
+      sym (raises_step plan name (flat_controls plan code) limits q raise at (asks_so (record { last = Does Put next; at = at; out = out }) is_end (Raised raise) evaluated))
+  raised_by Guards at out raise is_end evaluated alone = stays at out (Raised raise) is_end evaluated
+  raised_by Ends at out raise is_end evaluated alone = closes at out (Raised raise) is_end evaluated alone
+
+-- The program as it stands, before the step and after it.
+
+pub acts : (code : Flat) (q new : Single Spot) (last : Last) (at : Pos) (out behind : ℕ) (o : Operands) → q.stage ≡ runs None → q.control.returns ≡ [] → EndsAs code q.control.place (record { last = last; at = at; out = out }) → LeadsTo code q (Reached o) → LastFine (plain_last last) (counts_of o) → behind ≡ length code.lines → new ≡ ends_by last behind o q → StepsTo code q new
+acts code q new last at out behind o stage alone is_end evaluated fine all is plan name limits =
+    ap (all_of plan name) (is ∙ ap (λ n. ends_by last n o q) all)
+    ∙ subst (λ s. In plan name limits code q (ends_by last (length code.lines) o (record q { stage = s })) ≡ Stepped plan name limits code q (record q { stage = s })) (sym stage) (ended_by plan name limits code q last at out o is_end evaluated fine alone)
+
+pub fails : (code : Flat) (q new : Single Spot) (l : EndLine) (behind : ℕ) (raise : Raise) → q.stage ≡ runs None → q.control.returns ≡ [] → EndsAs code q.control.place l → LeadsTo code q (Raised raise) → behind ≡ length code.lines → new ≡ raises_by l.last raise l.at behind q → StepsTo code q new
+fails code q new l behind raise stage alone is_end evaluated all is plan name limits =
+    ap (all_of plan name) (is ∙ ap (λ n. raises_by l.last raise l.at n q) all)
+    ∙ subst (λ s. In plan name limits code q (raises_by l.last raise l.at (length code.lines) (record q { stage = s })) ≡ Stepped plan name limits code q (record q { stage = s })) (sym stage) (raised_by plan name limits code q l.last l.at l.out raise is_end evaluated alone)
+
+pub no_handler : (code : Flat) (place : ℕ) (l : EndLine) (x : Exception) → plain_end l ≡ end_at code (end_at code place).out → handler_at code x (record { place = place; returns = [] }) ≡ None
+no_handler code place l x is_end = sym (ap (λ (e : flat.EndLine). handler_in e.last x) is_end) ∙ by l.last
+  where
+    by : (last : Last) → handler_in (plain_last last) x ≡ None
+    by (Does e next) = refl
+    by Guards = refl
+    by Ends = refl
+
+pub leaves : (code : Flat) (q new : Single Spot) (p : Pending) (place : ℕ) → q.stage ≡ runs (Some p) → q.control.returns ≡ [] → handler_at code p.exception (record { place = q.control.place; returns = [] }) ≡ None → record { place = place; returns = [] } ≡ left_by code (end_at code q.control.place).out (record { place = q.control.place; returns = [] }) → new ≡ record q { control = goes place q.control; stage = completed (Some p.exception); steps = suc q.steps } → StepsTo code q new
+leaves code q new p place stage alone unhandled landed is plan name limits =
+    let asks = ap (λ h. handled_or_left (is_there h) p) unhandled in
+    let done = left_step plan name (flat_controls plan code) limits q p asks in
+    let there : goes place q.control ≡ left_by code (end_at code q.control.place).out q.control = ap (λ (rs : List ℕ). record { place = place; returns = rs }) alone ∙ landed ∙ ap (λ (rs : List ℕ). left_by code (end_at code q.control.place).out (record { place = q.control.place; returns = rs })) (sym alone) in
+    ap (all_of plan name) (is ∙ ap (λ (t : Spot). record q { control = t; stage = completed (Some p.exception); steps = suc q.steps }) there)
+    ∙ sym done
+    ∙ ap (λ s. Stepped plan name limits code q (record q { stage = s })) (sym stage)
+
+-- The ending that an evaluation reached.
+
+end_none : (lines : List FlatLine) (at n : ℕ) → slice_get lines at ≡ None → end_from (drop at lines) n ≡ no_end n
+end_none [] zero n e = refl
+end_none [] (suc at) n e = refl
+end_none (x ∷ lines) zero n e = absurd (cc)
+end_none (x ∷ lines) (suc at) n e = end_none lines at n e
+
+end_some : (lines : List FlatLine) (at n : ℕ) (l : flat.EndLine) → slice_get lines at ≡ Some (end l) → end_from (drop at lines) n ≡ l
+end_some [] at n l e = absurd (cc)
+end_some (x ∷ lines) zero n l e =
+    let is : x ≡ end l = cc in
+    ap (λ y. end_from (y ∷ lines) n) is
+end_some (x ∷ lines) (suc at) n l e = end_some lines at n l e
+
+module _ (code : Flat) (place at : ℕ) (l : EndLine) (is_end : plain_end l ≡ end_at code at) where
+  pub same_end : EndsWith (slice_get code.lines at) (end_at code place) place → plain_end (record l { out = (end_at code place).out }) ≡ end_at code place
+  same_end = by (slice_get code.lines at) refl
+    where
+      by : (x : Option FlatLine) → slice_get code.lines at ≡ x → EndsWith x (end_at code place) place → plain_end (record l { out = (end_at code place).out }) ≡ end_at code place
+      by None e h =
+          ap (λ n. plain_end (record l { out = n })) (ap (λ (x : flat.EndLine). x.out) h)
+          ∙ ap (λ (x : flat.EndLine). record x { out = place }) (is_end ∙ end_none code.lines at at e)
+          ∙ sym h
+      by (Some (op i)) e h = absurd h
+      by (Some (end x)) e h =
+          let same : plain_end l ≡ end_at code place = is_end ∙ end_some code.lines at at x e ∙ sym h in
+          ap (λ n. plain_end (record l { out = n })) (sym (ap (λ (y : flat.EndLine). y.out) same)) ∙ same
+
+  pub fits_here : EndsWith (slice_get code.lines at) (end_at code place) place → (o : Operands) → LastFine (end_at code place).last (counts_of o) → LastFine (plain_last l.last) (counts_of o)
+  fits_here h o fine = subst (λ (e : flat.EndLine). LastFine e.last (counts_of o)) (sym (same_end h)) fine
+
+  pub leads_on : IsSound code → EndsWith (slice_get code.lines at) (end_at code place) place → (e : Ending) (next : ℕ) → l.last ≡ Does e next → IsStart code.lines next
+  leads_on sound = by (slice_get code.lines at) refl
+    where
+      by : (x : Option FlatLine) → slice_get code.lines at ≡ x → EndsWith x (end_at code place) place → (e : Ending) (next : ℕ) → l.last ≡ Does e next → IsStart code.lines next
+      by None e h ending next is =
+          let last = ap (λ (y : flat.EndLine). y.last) (is_end ∙ end_none code.lines at at e) in
+          let other = ap plain_last is in
+          absurd (cc)
+      by (Some (op i)) e h ending next is = absurd h
+      by (Some (end x)) e h ending next is =
+          let ways : x.ways ≡ next ∷ [] = sym (ap (λ (y : flat.EndLine). y.ways) (is_end ∙ end_some code.lines at at x e)) ∙ ap ways_of is in
+          (rw ways at (sound.leads at x e).ways).0
+
+-- Where it stands afterwards.
+
+standing : (lines : List FlatLine) (place : ℕ) (s : Stage) → IsStart lines place → StandsIn lines place s
+standing lines place (runs pending) h = h
+standing lines place (completed raised) h = tt
+standing lines place (terminated raised) h = tt
+
+module _ (lines : List FlatLine) (q : Single Spot) (here : IsStart lines q.control.place) where
+  stands_ended : (last : Last) (behind : ℕ) (o : Operands) → ((e : Ending) (next : ℕ) → last ≡ Does e next → IsStart lines next) → Stands lines (ends_by last behind o q)
+  stands_ended (Does Declare next) behind o leads = by o.ints
+    where
+      by : (zs : List ℤ) → Stands lines (does Declare next (record o { ints = zs }) q)
+      by [] = standing lines q.control.place q.stage here
+      by (z ∷ zs) = standing lines next q.stage (leads Declare next refl)
+  stands_ended (Does Null next) behind o leads = standing lines next q.stage (leads Null next refl)
+  stands_ended (Does Assign next) behind o leads = by o.targets o.ints
+    where
+      by : (ts : List Target) (zs : List ℤ) → Stands lines (does Assign next (record o { targets = ts; ints = zs }) q)
+      by [] zs = standing lines q.control.place q.stage here
+      by (t ∷ ts) [] = standing lines q.control.place q.stage here
+      by (t ∷ ts) (z ∷ zs) = standing lines next q.stage (leads Assign next refl)
+  stands_ended (Does Put next) behind o leads = standing lines next q.stage (leads Put next refl)
+  stands_ended Guards behind o leads = standing lines q.control.place q.stage here
+  stands_ended Ends behind o leads = tt
+
+  stands_raised : (last : Last) (raise : Raise) (at : Pos) (behind : ℕ) → Stands lines (raises_by last raise at behind q)
+  stands_raised (Does e next) raise at behind = here
+  stands_raised Guards raise at behind = standing lines q.control.place q.stage here
+  stands_raised Ends raise at behind = tt
+
+  pub stands_on : (new : Single Spot) (last : Last) (behind : ℕ) (o : Operands) → ((e : Ending) (next : ℕ) → last ≡ Does e next → IsStart lines next) → new ≡ ends_by last behind o q → Stands lines new
+  stands_on new last behind o leads is = subst (Stands lines) (sym is) (stands_ended last behind o leads)
+
+  pub stands_still : (new : Single Spot) (last : Last) (raise : Raise) (at : Pos) (behind : ℕ) → new ≡ raises_by last raise at behind q → Stands lines new
+  stands_still new last raise at behind is = subst (Stands lines) (sym is) (stands_raised last raise at behind)

@@ -1,0 +1,5 @@
+// Machines of one procedure: compiled programs under way that are their main procedure alone.
+#![tactic(auto)]
+
+pub mod progress;
+mod step;

@@ -1,0 +1,224 @@
+// How far a program is that is its main procedure alone.
+
+ghost use Rattle.std.specs.Prelude.{◌≡◌, ◌<◌, ◌≤◌, ◌+◌, suc, [], ◌∷◌, ◌++◌, length, OnOk, IfOk, slice_index_or, slice_set};
+ghost use Rattle.aud_meaning.specs.Effects.{assigned, put_out};
+ghost use Rattle.aud_code.specs.Places.{goes};
+ghost use Rattle.aud_single.specs.Shown.{plain_stage, shared_in};
+
+use aud_expr::target::Target;
+use aud_store::frames::Frames;
+use aud_text::int32::Int32;
+use aud_text::limits::{CHOICES, CLOCK, OUTPUT, STEPS};
+use aud_text::place::Pos;
+use aud_typed::program::Exception;
+use std::alloc::{AllocError, Global};
+use std::collections::VecDeque;
+use std::marker::Model;
+
+/// An exception that is raised and not yet handled, and the place that is shown for it (RM 11.4).
+#[derive(Clone, Copy, PartialEq, Eq, Debug)]
+pub struct Pending {
+    exception: Exception,
+    at: Pos,
+}
+
+impl Model for Pending {
+    ghost use Rattle.aud_meaning.specs.Configuration.{Pending as Plain};
+
+    ghost Value = { Plain };
+
+    ghost view = { λ p. record { exception = p.exception; at = p.at } };
+
+    ghost inverse = { λ p. record { exception = p.exception; at = p.at } };
+}
+
+impl Pending {
+    pub fn new(exception: Exception, at: Pos) -> Self
+        ensures { result ≡ record { exception = exception; at = at } }
+    {
+        Pending { exception, at }
+    }
+
+    pub fn exception(self) -> Exception
+        ensures { result ≡ self.exception }
+    {
+        self.exception
+    }
+
+    /// The place where it was raised.
+    pub fn at(self) -> Pos
+        ensures { result ≡ self.at }
+    {
+        self.at
+    }
+}
+
+/// How far the main procedure is.
+#[derive(Clone, Copy, PartialEq, Eq, Debug)]
+pub enum Stage {
+    /// It does its declarations and statements, with this exception pending.
+    Runs(Option<Pending>),
+    /// Its body has ended, by this exception.
+    Completed(Option<Exception>),
+    Terminated(Option<Exception>),
+}
+
+/// Where the program stands in its code and how far it is, with how many variables are elaborated; all frames, the output,
+/// the choices that wait, the time on its clock, and the steps taken.
+#[derive(Drop)]
+pub struct Progress {
+    place: usize,
+    stage: Stage,
+    elaborated: usize,
+    frames: Frames,
+    output: Vec<u8>,
+    cut: bool,
+    choices: VecDeque<u32>,
+    clock: u64,
+    steps: u32,
+}
+
+impl Model for Progress {
+    ghost use Rattle.std.specs.Prelude.{ℕ, [], ◌≤◌, length};
+    ghost use Rattle.aud_text.specs.declared.limits.TheConstants.{CHOICES, CLOCK, OUTPUT, STEPS};
+    ghost use Rattle.aud_meaning.specs.Single.{Single};
+    ghost use Rattle.aud_code.specs.Places.{Spot};
+    ghost use Rattle.aud_single.specs.Shown.{plain_stage};
+
+    ghost Value = { Single Spot };
+
+    ghost view = { λ p. record { control = record { place = p.place; returns = [] }; stage = plain_stage p.stage; elaborated = p.elaborated; frames = p.frames; output = p.output.items; cut = p.cut; choices = p.choices.items; clock = p.clock; steps = p.steps } };
+
+    ghost invariant = { λ p. (1 ≤ length p.frames) × (p.elaborated ≤ p.steps) × (length p.output.items ≤ OUTPUT) × (length p.choices.items ≤ CHOICES) × (p.clock ≤ CLOCK) × (p.steps ≤ STEPS) };
+}
+
+impl Progress {
+    /// The place of its next step. No procedure is under way that it would go back to.
+    pub fn place(&self) -> usize
+        ensures value { result ≡ self.now.control.place }
+        ensures alone { self.now.control.returns ≡ [] }
+    {
+        self.place
+    }
+
+    /// How far it is.
+    pub fn stage(&self) -> Stage
+        ensures { plain_stage result ≡ self.now.stage }
+    {
+        self.stage
+    }
+
+    /// All frames ever made, by their numbers.
+    pub fn frames(&self) -> &Frames
+        ensures { result.now ≡ self.now.frames }
+    {
+        &self.frames
+    }
+
+    pub fn output(&self) -> &[u8]
+        ensures value { result.now ≡ self.now.output }
+        ensures within { length result.now ≤ OUTPUT }
+    {
+        &self.output
+    }
+
+    /// Whether a text was cut at the output's limit.
+    pub fn is_cut(&self) -> bool
+        ensures { result ≡ self.now.cut }
+    {
+        self.cut
+    }
+
+    /// How many choices wait.
+    pub fn choices(&self) -> usize
+        ensures value { result ≡ length self.now.choices }
+        ensures within { result ≤ CHOICES }
+    {
+        self.choices.len()
+    }
+
+    /// The time on the clock, in milliseconds.
+    pub fn clock(&self) -> u64
+        ensures value { result ≡ self.now.clock }
+        ensures within { result ≤ CLOCK }
+    {
+        self.clock
+    }
+
+    /// The steps taken.
+    pub fn steps(&self) -> u32
+        ensures value { result ≡ self.now.steps }
+        ensures within { result ≤ STEPS }
+    {
+        self.steps
+    }
+
+    /// One step to a place, with which the program is this far.
+    pub(crate) fn turn(&mut self, stage: Stage, place: usize)
+        requires { self.old.steps < STEPS }
+        ensures { self.new ≡ record self.old { control = goes place self.old.control; stage = plain_stage stage; steps = suc self.old.steps } }
+    {
+        self.place = place;
+        self.stage = stage;
+        self.steps += 1;
+    }
+
+    /// One step to a place, where nothing else changes.
+    pub(crate) fn go(&mut self, place: usize)
+        requires { self.old.steps < STEPS }
+        ensures { self.new ≡ record self.old { control = goes place self.old.control; steps = suc self.old.steps } }
+    {
+        self.place = place;
+        self.steps += 1;
+    }
+
+    /// One more variable of the body, and one step to a place (RM 3.3.1).
+    pub(crate) fn declare(&mut self, value: Int32, place: usize) -> Result<(), AllocError>
+        requires { self.old.steps < STEPS }
+        ensures { OnOk result (self.new ≡ record self.old { control = goes place self.old.control; elaborated = suc self.old.elaborated; frames = slice_set self.old.frames 0 (slice_index_or self.old.frames 0 [] ++ value ∷ []); steps = suc self.old.steps }) }
+    {
+        self.frames.declare(0, value)?;
+        self.elaborated += 1;
+        self.place = place;
+        self.steps += 1;
+        Ok(())
+    }
+
+    /// Another value of a variable, and one step to a place (RM 5.2).
+    pub(crate) fn assign(&mut self, target: Target, value: Int32, place: usize)
+        requires { self.old.steps < STEPS }
+        ensures { self.new ≡ record self.old { control = goes place self.old.control; frames = assigned target.frame target.index value self.old.frames; steps = suc self.old.steps } }
+    {
+        let frame = target.frame();
+        if frame < self.frames.len() {
+            self.frames.assign(frame, target.index(), value);
+        }
+        self.place = place;
+        self.steps += 1;
+    }
+
+    /// A text at the end of the output, and one step to a place.
+    pub(crate) fn put(&mut self, text: &[u8], place: usize) -> Result<(), AllocError>
+        requires { self.old.steps < STEPS }
+        ensures { OnOk result (self.new ≡ record self.old { control = goes place self.old.control; output = (put_out text.now (shared_in self.old)).output; cut = (put_out text.now (shared_in self.old)).cut; steps = suc self.old.steps }) }
+    {
+        self.append(text)?;
+        self.go(place);
+        Ok(())
+    }
+
+    // A text at the end of the output (RM A.10.7); one that does not fit is cut.
+    fn append(&mut self, text: &[u8]) -> Result<(), AllocError>
+        ensures put { OnOk result (self.new ≡ record self.old { output = (put_out text.now (shared_in self.old)).output; cut = (put_out text.now (shared_in self.old)).cut }) }
+        ensures steps { self.new.steps ≡ self.old.steps }
+    {
+        let room = OUTPUT as usize - self.output.len();
+        if text.len() <= room {
+            self.output.extend_from_slice(text)?;
+            return Ok(());
+        }
+        self.output.extend_from_slice(&text[..room])?;
+        self.cut = true;
+        Ok(())
+    }
+}
