@@ -1,3 +1,4 @@
 pub mod Shown
 pub mod Steps
 pub mod Ticks
+pub mod Moving

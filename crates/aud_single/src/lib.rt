@@ -1,5 +1,6 @@
 // Machines of one procedure: compiled programs under way that are their main procedure alone.
 #![tactic(auto)]
 
+mod moves;
 pub mod progress;
 mod step;

@@ -1,10 +1,17 @@
 // How far a program is that is its main procedure alone.
 
-ghost use Rattle.std.specs.Prelude.{◌≡◌, ◌<◌, ◌≤◌, ◌+◌, suc, [], ◌∷◌, ◌++◌, length, OnOk, IfOk, slice_index_or, slice_set};
+ghost use Rattle.std.specs.Prelude.{◌≡◌, ℕ, ◌<◌, ◌≤◌, ◌+◌, suc, List, [], ◌∷◌, ◌++◌, length, OnOk, IfOk, slice_index_or, slice_set};
 ghost use Rattle.aud_meaning.specs.Effects.{assigned, put_out};
+ghost use Rattle.aud_typed.specs.Tree.{Plan};
+ghost use Rattle.aud_meaning.specs.Run.{main_raised, supplied, advanced, opening_with};
+ghost use Rattle.aud_meaning.specs.Single.{all_of};
 ghost use Rattle.aud_code.specs.Places.{goes};
+ghost use Rattle.aud_code.specs.Flat.{flat_controls, start_at};
+ghost use Rattle.aud_code.specs.Sound.{IsStart};
+ghost use Rattle.aud_single.specs.Steps.{Stands};
 ghost use Rattle.aud_single.specs.Shown.{plain_stage, shared_in};
 
+use aud_code::sound_code::SoundCode;
 use aud_expr::target::Target;
 use aud_store::frames::Frames;
 use aud_text::int32::Int32;
@@ -93,6 +100,26 @@ impl Model for Progress {
 }
 
 impl Progress {
+    /// The main procedure before its first step (RM 10.2).
+    pub fn new(code: &SoundCode, alloc: Global) -> Result<Self, AllocError>
+        ensures opening { IfOk result (λ p. (plan : Plan) → (name : List ℕ) → all_of plan name p ≡ opening_with plan name ((flat_controls plan code.now).begins 0)) }
+        ensures stands { IfOk result (λ p. Stands code.now.lines p) }
+    {
+        let mut frames = Frames::new(alloc);
+        frames.enter(alloc)?;
+        Ok(Progress {
+            place: first_place(code),
+            stage: Stage::Runs(None),
+            elaborated: 0,
+            frames,
+            output: Vec::new(alloc),
+            cut: false,
+            choices: VecDeque::new(alloc),
+            clock: 0,
+            steps: 0,
+        })
+    }
+
     /// The place of its next step. No procedure is under way that it would go back to.
     pub fn place(&self) -> usize
         ensures value { result ≡ self.now.control.place }
@@ -151,6 +178,37 @@ impl Progress {
         ensures within { result ≤ STEPS }
     {
         self.steps
+    }
+
+    /// The exception that left the main procedure.
+    pub fn raised(&self) -> Option<Exception>
+        ensures { (plan : Plan) → (name : List ℕ) → result ≡ main_raised (all_of plan name self.now).tasks }
+    {
+        match self.stage {
+            Stage::Runs(_) => None,
+            Stage::Completed(raised) | Stage::Terminated(raised) => raised,
+        }
+    }
+
+    /// Choices, which wait behind those that wait already.
+    pub fn choose(&mut self, choices: &[u32]) -> Result<(), AllocError>
+        requires { length self.old.choices + length choices.now ≤ CHOICES }
+        ensures supplied { OnOk result ((plan : Plan) → (name : List ℕ) → all_of plan name self.new ≡ supplied choices.now (all_of plan name self.old)) }
+        ensures kept { OnOk result (self.new ≡ record self.old { choices = self.new.choices }) }
+    {
+        for choice in choices {
+            self.choices.push_back(*choice)?;
+        }
+        Ok(())
+    }
+
+    /// So many milliseconds more on the clock.
+    pub fn advance(&mut self, milliseconds: u64)
+        requires { self.old.clock + milliseconds ≤ CLOCK }
+        ensures advanced { (plan : Plan) → (name : List ℕ) → all_of plan name self.new ≡ advanced milliseconds (all_of plan name self.old) }
+        ensures kept { self.new ≡ record self.old { clock = self.new.clock } }
+    {
+        self.clock += milliseconds;
     }
 
     /// One step to a place, with which the program is this far.
@@ -220,5 +278,17 @@ impl Progress {
         self.output.extend_from_slice(&text[..room])?;
         self.cut = true;
         Ok(())
+    }
+}
+
+// Where the main procedure begins.
+fn first_place(code: &SoundCode) -> usize
+    ensures place { result ≡ start_at code.now 0 }
+    ensures begins { IsStart code.now.lines result }
+{
+    let _ = code.len();
+    match code.starts().first() {
+        Some(place) => *place,
+        None => code.spare(),
     }
 }
