@@ -1,3 +1,4 @@
 pub mod Output
 pub mod Steps
 pub mod Moving
+pub mod Running

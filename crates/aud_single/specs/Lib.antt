@@ -2,3 +2,4 @@ pub mod Shown
 pub mod Steps
 pub mod Ticks
 pub mod Moving
+pub mod Running

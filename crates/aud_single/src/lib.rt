@@ -3,4 +3,5 @@
 
 mod moves;
 pub mod progress;
+pub mod run;
 mod step;

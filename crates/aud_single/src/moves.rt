@@ -1,6 +1,6 @@
 // What can happen next to a program that is its main procedure alone.
 
-ghost use Rattle.std.specs.Prelude.{◌≡◌};
+ghost use Rattle.std.specs.Prelude.{◌≡◌, ◌≤◌};
 ghost use Rattle.aud_single.specs.Moving.{Enables, IsIn, moves_of, state_of};
 
 use crate::progress::{Progress, Stage};
@@ -10,7 +10,8 @@ use aud_meaning::state::State;
 impl Progress {
     /// How many moves are enabled: its next step, or none.
     pub fn moves(&self, code: &SoundCode) -> usize
-        ensures { Enables code.now self.now result }
+        ensures enabled { Enables code.now self.now result }
+        ensures one { result ≤ 1 }
     {
         // code in memory ends no step with more than one move
         let _ = code.len();
@@ -27,7 +28,8 @@ impl Progress {
     }
 
     fn count(&self) -> usize
-        ensures { result ≡ moves_of self.now.stage self.now.cut }
+        ensures value { result ≡ moves_of self.now.stage self.now.cut }
+        ensures one { result ≤ 1 }
     {
         match self.stage() {
             Stage::Runs(_) | Stage::Completed(_) if self.is_cut() => 0,

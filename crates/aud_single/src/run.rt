@@ -1,0 +1,56 @@
+// Runs of several steps.
+
+ghost use Rattle.std.specs.Prelude.{◌≡◌, ◌+◌, ◌≤◌, IfOk};
+ghost use Rattle.aud_single.specs.Steps.{Stands};
+ghost use Rattle.aud_single.specs.Running.{RunsTo};
+
+use crate::progress::Progress;
+use aud_code::sound_code::SoundCode;
+use aud_expr::operands::Operands;
+use aud_meaning::state::State;
+use aud_text::limits::STEPS;
+use std::alloc::AllocError;
+
+/// What a run did: its steps, the instructions that they took, and what can happen next.
+#[derive(Clone, Copy, PartialEq, Eq, Debug)]
+pub struct Ran {
+    pub steps: u32,
+    pub ticks: u64,
+    pub state: State,
+}
+
+/// So many steps, or until no move is enabled.
+pub fn run(
+    progress: &mut Progress,
+    code: &SoundCode,
+    operands: &mut Operands,
+    n: u32,
+) -> Result<Ran, AllocError>
+    requires stands { Stands code.now.lines progress.old }
+    requires budget { progress.old.steps + n ≤ STEPS }
+    ensures runs { IfOk result (λ ran. RunsTo code.now n progress.old progress.new ran) }
+    ensures stands { IfOk result (λ _. Stands code.now.lines progress.new) }
+    ensures few { IfOk result (λ ran. ran.steps ≤ n) }
+{
+    let mut ticks: u64 = 0;
+    let mut steps = 0;
+    while steps < n {
+        if progress.moves(code) == 0 {
+            let state = progress.state(code);
+            return Ok(Ran {
+                steps,
+                ticks,
+                state,
+            });
+        }
+        let executed = progress.step(code, operands)?;
+        ticks = ticks.saturating_add(executed);
+        steps += 1;
+    }
+    let state = progress.state(code);
+    Ok(Ran {
+        steps,
+        ticks,
+        state,
+    })
+}
