@@ -35,8 +35,9 @@ impl Progress {
         match self.stage() {
             Stage::Runs(None) => return self.act(code, operands),
             Stage::Runs(Some(pending)) => self.leave(code, pending),
-            Stage::Completed(raised) => self.turn(Stage::Terminated(raised), place),
-            Stage::Terminated(raised) => self.turn(Stage::Terminated(raised), place),
+            Stage::Completed(raised) | Stage::Terminated(raised) => {
+                self.turn(Stage::Terminated(raised), place)
+            }
         }
         Ok(0)
     }

@@ -1,4 +1,4 @@
-use Rattle.aud_single.proofs.Steps.{acts, same_end, fits_here, leads_on, stands_on}
+use Rattle.aud_single.proofs.Steps.{acts, fails, same_end, fits_here, leads_on, stands_on, stands_still}
 use Rattle.aud_single.proofs.progress.Progress.act.Goals as goal
 
 pub end-requires-clause-fine : goal.end-requires-clause-fine
@@ -23,3 +23,15 @@ returns-in_ok-end-in-Reaches-clause-stands c =
     stands_on c.args.code.now.lines c.args.self.now here c.end.new.self c.ending.result.last c.len.result c.evaluate.new.operands
     (leads_on c.args.code.now c.place-place.result c.in-Reaches.at c.ending.result c.ending.ensures c.len.ensures.sound reaches)
     c.in_ok-end-in-Reaches.ensures.does
+
+pub returns-in-Fails-clause-next : goal.returns-in-Fails-clause-next
+returns-in-Fails-clause-next c =
+    fails c.args.code.now c.args.self.now c.fail.new.self c.ending-in-Fails.result c.len-in-Fails.result c.in-Fails.raise c.requires.runs c.place-place.ensures.alone
+    (rw c.place-place.ensures.value at c.ending-in-Fails.ensures)
+    (rw (c.in-Fails.is, c.place-place.ensures.value, c.frames.ensures) at c.in_ok-outcome.ensures.ends)
+    c.len-in-Fails.ensures.lines c.fail.ensures
+
+pub returns-in-Fails-clause-stands : goal.returns-in-Fails-clause-stands
+returns-in-Fails-clause-stands c =
+    let here = rw c.requires.runs at c.requires.stands in
+    stands_still c.args.code.now.lines c.args.self.now here c.fail.new.self c.ending-in-Fails.result.last c.in-Fails.raise c.ending-in-Fails.result.at c.len-in-Fails.result c.fail.ensures
