@@ -9,6 +9,7 @@ mod evaluations;
 mod lines;
 mod machines;
 mod requests;
+mod runs;
 mod serving;
 mod sessions;
 mod texts;
