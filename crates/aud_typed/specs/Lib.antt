@@ -1,3 +1,2 @@
 pub mod Tree
 pub mod View
-pub mod Sequential

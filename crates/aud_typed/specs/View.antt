@@ -1,7 +1,11 @@
--- The plain expressions and texts of those in memory, which are as yet of type Integer and without elements.
-use Rattle.std.specs.Prelude.{List, [], ◌∷◌}
+-- The plain program of a program in memory. Its expressions are as yet of type Integer and without elements.
+use Rattle.std.specs.Prelude.{List, [], ◌∷◌, map}
 use Rattle.aud_typed.specs.declared.program.IntegerExpr.{IntegerExpr, Number, Variable, Unary', Chain', Row_of-Operation, end_of-Operation, more_of-Operation}
 use Rattle.aud_typed.specs.declared.program.TextExpr.{TextExpr, Literal, Image, Join', NewLine, Row_of-TextExpr, end_of-TextExpr, more_of-TextExpr}
+use Rattle.aud_typed.specs.declared.program.Stmt.{Stmt}
+use Rattle.aud_typed.specs.declared.program.Stmt.TheVariants.{Declare, Null, Assign, Put}
+use Rattle.aud_typed.specs.declared.program.Subtype.TheVariants.{Integer}
+use Rattle.aud_typed.specs.declared.program.Program.{Program}
 use Rattle.aud_typed.specs.Tree as tree
 
 abbrev mutual
@@ -25,3 +29,23 @@ abbrev mutual
   pub plain_texts : {n : _} → Row_of-TextExpr n → List tree.TextExpr
   plain_texts end_of-TextExpr = []
   plain_texts (more_of-TextExpr x rest) = plain_text x ∷ plain_texts rest
+
+abbrev pub plain_stmt : Stmt → tree.Stmt
+plain_stmt (Declare at e) = tree.declare at (tree.whole Integer (plain_integer e))
+plain_stmt (Null at) = tree.null at
+plain_stmt (Assign at v e) = tree.assign at (tree.scalar v Integer) (tree.whole Integer (plain_integer e))
+plain_stmt (Put at t) = tree.put at (plain_text t)
+
+abbrev pub plain_stmts : List Stmt → List tree.Stmt
+plain_stmts ss = map plain_stmt ss
+
+abbrev pub plain_program : Program → tree.Program
+plain_program p = tree.program_of_main (record {
+  name = p.name;
+  at = p.at;
+  variables = p.variables.items;
+  declarations = plain_stmts p.declarations.items;
+  begin = p.begin;
+  statements = plain_stmts p.statements.items;
+  end = p.end;
+})

@@ -116,14 +116,20 @@ pub enum Stmt {
     Put(Pos, TextExpr),
 }
 
-/// A typed program: its main procedure.
+/// A typed program: its main procedure, whose variables are Integers.
 #[derive(Drop, Debug)]
 pub struct Program {
     pub name: Name,
+    /// Where its first word stands.
+    pub at: Pos,
     /// The names of its variables, in the order of their declarations.
     pub variables: Vec<Name>,
-    /// Its declarations and statements, in their order; there is at least one.
-    pub body: Vec<Stmt>,
+    /// Its declarations, name by name, in their order.
+    pub declarations: Vec<Stmt>,
+    /// Where the `begin` of its body stands.
+    pub begin: Pos,
+    /// Its statements, in their order; there is at least one.
+    pub statements: Vec<Stmt>,
     /// Where the `end` of its body stands.
     pub end: Pos,
 }

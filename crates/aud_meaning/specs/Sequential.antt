@@ -1,6 +1,0 @@
-pub mod Configuration
-pub mod Evaluation
-pub mod Effects
-pub mod Step
-pub mod Run
-pub mod Coming

@@ -1,3 +1,0 @@
-pub mod Tree
-pub mod View
-pub mod Scoped
