@@ -1,9 +1,7 @@
 // Bytecode. Each step of a task is some instructions that evaluate and one that ends the step.
 #![tactic(auto)]
 
-pub mod code;
 mod counts;
 pub mod instr;
 pub mod line;
-pub mod sound;
 pub mod sound_code;

@@ -4,4 +4,3 @@ pub mod Asking
 pub mod ByKind
 pub mod Standing
 pub mod Flat
-pub mod Sequential

@@ -2,7 +2,7 @@
 -- which is one step.
 use Rattle.std.specs.Prelude.{◌≡◌, ℕ, suc, ◌+◌, List, [], ◌∷◌, ◌++◌, length, map, None}
 use Rattle.aud_text.specs.declared.place.Pos.{Pos}
-use Rattle.aud_typed.specs.Tree.{ValueExpr, Reference, TextExpr, Stmt, sequence, declare, null, assign, put, Part, nothing, some, no_handlers, Body, body, Program}
+use Rattle.aud_typed.specs.Tree.{ValueExpr, Reference, TextExpr, Stmt, declare, null, assign, put, before, Part, part_of, no_handlers, Body, body, Program}
 use Rattle.aud_meaning.specs.declared.state.Construct.TheVariants as construct
 use Rattle.aud_meaning.specs.Items.{stmt_at, nowhere}
 use Rattle.aud_code.specs.Flat.{Does, Guards, Ends, EndLine, FlatLine, op, end, Flat}
@@ -22,17 +22,18 @@ stmt_of (idles at) = null at
 stmt_of (assigns at r e) = assign at r e
 stmt_of (puts at t) = put at t
 
+abbrev pub stmts_of : List Simple → List Stmt
+stmts_of ss = map stmt_of ss
+
 -- one, and those behind it
 abbrev pub in_order : Simple → List Simple → Stmt
-in_order s [] = stmt_of s
-in_order s (t ∷ ts) = sequence (stmt_of s) (in_order t ts)
+in_order s ss = before (stmt_of s) (stmts_of ss)
 
 abbrev pub step_size : Simple → ℕ
 step_size s = suc (length (instrs_of (stmt_of s)))
 
 abbrev pub part_in : List Simple → Part
-part_in [] = nothing
-part_in (s ∷ ss) = some (in_order s ss)
+part_in ss = part_of (stmts_of ss)
 
 abbrev pub steps_size : List Simple → ℕ
 steps_size [] = 0

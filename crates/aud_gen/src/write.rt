@@ -3,11 +3,12 @@
 ghost use Rattle.std.specs.Prelude.{◌≡◌, List, [], ◌∷◌, ◌++◌, ◌+◌, map, OnOk, IfOk};
 ghost use Rattle.aud_typed.specs.declared.program.Subtype.TheVariants.{Integer};
 ghost use Rattle.aud_typed.specs.Tree.{whole};
-ghost use Rattle.aud_typed.specs.View.{plain_integer, plain_text};
+ghost use Rattle.aud_typed.specs.View.{plain_integer, plain_text, plain_program};
 ghost use Rattle.aud_meaning.specs.Items.{stmt_at, nowhere};
 ghost use Rattle.aud_code.specs.Flat.{op, end};
 ghost use Rattle.aud_code.specs.View.{plain_instr, plain_ending, plain_line, plain_code};
 ghost use Rattle.aud_gen.specs.Instructions.{integer_code, value_code, text_code, instrs_of, ending_of};
+ghost use Rattle.aud_gen.specs.Assembly.{flat_program};
 ghost use Rattle.aud_gen.specs.Simple.{Simple, stmt_of, step_to, steps_at, guard_end, unit_end, body_at, size_of};
 ghost use Rattle.aud_gen.specs.Written.{simple_of, body_lines, body_size, body_code};
 
@@ -16,7 +17,7 @@ use aud_code::instr::Instr;
 use aud_code::line::{Code, EndLine, Ending, Last, Line};
 use aud_code::sound_code::{SoundCode, verify};
 use aud_text::place::Pos;
-use aud_typed::program::{IntegerExpr, Stmt, Subtype, TextExpr};
+use aud_typed::program::{IntegerExpr, Program, Stmt, Subtype, TextExpr};
 use std::alloc::{AllocError, Global};
 
 const NOWHERE: Pos = Pos { line: 0, col: 0 };
@@ -223,9 +224,9 @@ fn write_body(
     write_some(alloc, lines, declarations, statements, end, place)
 }
 
-/// The code of a body, from its declarations, its statements and the place of its `end`. Behind it stands what is run for a
-/// number that no body has: one null statement.
-pub fn write_code(
+// The code of a body, from its declarations, its statements and the place of its `end`. Behind it stands what is run for a
+// number that no body has: one null statement.
+fn write_code(
     alloc: Global,
     declarations: &[Stmt],
     statements: &[Stmt],
@@ -244,16 +245,17 @@ pub fn write_code(
     })
 }
 
-/// The same, verified. Its only refusal is want of memory.
-pub fn generate_sound(
-    alloc: Global,
-    declarations: &[Stmt],
-    statements: &[Stmt],
-    end: Pos,
-) -> Result<SoundCode, AllocError>
-    ensures { IfOk result (λ code. code ≡ body_code (map simple_of declarations.now) (map simple_of statements.now) end) }
+/// The code of a program. Its only refusal is want of memory.
+pub fn generate(alloc: Global, program: &Program) -> Result<SoundCode, AllocError>
+    ensures { IfOk result (λ code. code ≡ flat_program (plain_program program.now)) }
 {
-    let code = write_code(alloc, declarations, statements, end)?;
+    let Program {
+        declarations,
+        statements,
+        end,
+        ..
+    } = program;
+    let code = write_code(alloc, declarations, statements, *end)?;
     match verify(code) {
         Some(sound) => Ok(sound),
         None => unreachable!(),

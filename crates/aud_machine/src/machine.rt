@@ -1,25 +1,26 @@
 // A machine and its runs.
 
-ghost use Rattle.std.specs.Prelude.{◌≡◌, ◌+◌, ◌*◌, ◌<◌, ◌≤◌, length, map, min, true, false, None, slice_get, slice_index_or, IfOk, IfSome, OnOk, OnErr, IsErr};
-ghost use Rattle.aud_typed.specs.Sequential.View.{plain_program};
-ghost use Rattle.aud_typed.specs.Sequential.Scoped.{IsScoped};
-ghost use Rattle.aud_meaning.specs.Sequential.Configuration.{Configuration};
-ghost use Rattle.aud_meaning.specs.Sequential.Coming.{coming};
-ghost use Rattle.aud_meaning.specs.Sequential.Run.{Move, moves, state_of, main_raised, supplied, advanced, opening};
+ghost use Rattle.std.specs.Prelude.{◌≡◌, ◌+◌, ◌*◌, ◌<◌, ◌≤◌, [], ◌∷◌, length, map, min, true, slice_get, IfOk, IfSome, OnOk, OnErr, IsErr};
+ghost use Rattle.aud_typed.specs.View.{plain_program};
+ghost use Rattle.aud_meaning.specs.Configuration.{Configuration};
+ghost use Rattle.aud_meaning.specs.Run.{moves_in, state_in, main_raised, supplied, advanced, opening};
+ghost use Rattle.aud_meaning.specs.Single.{own_in};
+ghost use Rattle.aud_meaning.specs.View.{coming_step_in};
+ghost use Rattle.aud_single.specs.Shown.{plain_stage};
+ghost use Rattle.aud_single.specs.Ticks.{ticks_in, run_ticks};
+ghost use Rattle.aud_machine.specs.Shown.{program_in};
 ghost use Rattle.aud_machine.specs.Shows.{Shows, RunsFrom, Takes};
-ghost use Rattle.aud_machine.specs.Ticks.{step_ticks, run_ticks};
 
-use crate::operands::Operands;
 use crate::parts::Parts;
-use crate::progress::Progress;
-pub use crate::run::Ran;
-use crate::run::run;
-use aud_code::sound::SoundCode;
+use aud_code::sound_code::SoundCode;
+use aud_expr::operands::Operands;
 use aud_gen::generate;
-use aud_meaning::sequential::{NextStep, State};
+use aud_meaning::state::{NextStep, State};
+use aud_single::progress::Progress;
+pub use aud_single::run::Ran;
+use aud_single::run::run;
 use aud_text::limits::{CHOICES, CLOCK, Limits, OUTPUT, STEPS};
-use aud_text::raise::Raise;
-use aud_typed::program::Program;
+use aud_typed::program::{Exception, Program};
 use std::alloc::{AllocError, Global};
 use std::marker::Model;
 
@@ -35,9 +36,10 @@ pub struct Machine {
 
 impl Model for Machine {
     ghost use Rattle.std.specs.Prelude.{◌≡◌, false};
-    ghost use Rattle.aud_typed.specs.Sequential.View.{plain_program};
-    ghost use Rattle.aud_gen.specs.Sequential.Code.{program_code};
-    ghost use Rattle.aud_machine.specs.Moving.{AllFit};
+    ghost use Rattle.aud_typed.specs.View.{plain_program};
+    ghost use Rattle.aud_meaning.specs.Single.{all_of};
+    ghost use Rattle.aud_gen.specs.Assembly.{flat_program};
+    ghost use Rattle.aud_single.specs.Steps.{Stands};
     ghost use Rattle.aud_machine.specs.Shown.{Shown};
     ghost use Rattle.std.specs.Coded.{codes};
     ghost use Rattle.aud_typed.specs.contracts.program.Stmt as stmt;
@@ -46,9 +48,9 @@ impl Model for Machine {
 
     ghost coded = { Prim.hlevel (codes, stmt.the_row.coded) };
 
-    ghost view = { λ m. record { program = m.program; code = m.code; limits = m.limits; all = m.progress; spent = m.spent } };
+    ghost view = { λ m. record { program = m.program; code = m.code; limits = m.limits; all = all_of (plain_program m.program).plan m.program.name m.progress; spent = m.spent } };
 
-    ghost invariant = { λ m. (m.code ≡ program_code (plain_program m.program)) × (m.spent ≡ false → AllFit m.code m.progress) };
+    ghost invariant = { λ m. (m.code ≡ flat_program (plain_program m.program)) × (m.spent ≡ false → Stands m.code.lines m.progress) };
 }
 
 impl Machine {
@@ -58,14 +60,12 @@ impl Machine {
     ///
     /// Memory is refused.
     pub fn new(alloc: Global, program: Program, limits: Limits) -> Result<Machine, AllocError>
-        requires { IsScoped (plain_program program) }
         ensures shows { IfOk result (λ m. Shows m (opening (plain_program program))) }
         ensures program { IfOk result (λ m. m.program ≡ program) }
         ensures limits { IfOk result (λ m. m.limits ≡ limits) }
     {
         let code = generate(alloc, &program)?;
-        let progress = Progress::new(alloc)?;
-        code.check_start();
+        let progress = Progress::new(&code, alloc)?;
         Ok(Machine {
             program,
             code,
@@ -106,13 +106,13 @@ impl Machine {
 
     /// What can happen next.
     pub fn state(&self) -> State
-        ensures { (c : Configuration) → Shows self.now c → result ≡ state_of c }
+        ensures { (c : Configuration) → Shows self.now c → result ≡ state_in (program_in self.now) c }
     {
-        self.progress.state()
+        self.progress.state(&self.code)
     }
 
     /// The exception that left the main procedure (RM 11.4).
-    pub fn raised(&self) -> Option<Raise>
+    pub fn raised(&self) -> Option<Exception>
         ensures { (c : Configuration) → Shows self.now c → result ≡ main_raised c.tasks }
     {
         self.progress.raised()
@@ -122,9 +122,9 @@ impl Machine {
     /// text; while an exception is pending, that is where it was raised. None where there is no such task, or it is
     /// terminated.
     pub fn coming(&self, task: usize) -> Option<NextStep>
-        ensures { (c : Configuration) → Shows self.now c → result ≡ slice_index_or (coming c) task None }
+        ensures { (c : Configuration) → Shows self.now c → result ≡ coming_step_in (program_in self.now) task c }
     {
-        self.progress.coming(&self.code, task)
+        self.progress.coming(&self.code, self.program.end, task)
     }
 
     /// How many choices wait.
@@ -154,16 +154,17 @@ impl Machine {
         self.progress.steps()
     }
 
-    /// The frames, the tasks, the time and the steps.
+    /// The frames, how far the main procedure is, the time and the steps.
     pub fn parts(&self) -> Parts<'_>
         ensures frames { (c : Configuration) → Shows self.now c → result.frames.now ≡ c.shared.frames }
-        ensures tasks { (c : Configuration) → Shows self.now c → map (λ t. t.own) result.tasks.now ≡ map (λ t. t.own) c.tasks }
+        ensures main { (c : Configuration) → Shows self.now c → own_in (program_in self.now).plan self.now.program.name (plain_stage result.main) result.elaborated ∷ [] ≡ map (λ t. t.own) c.tasks }
         ensures clock { (c : Configuration) → Shows self.now c → result.clock ≡ c.clock }
         ensures steps { (c : Configuration) → Shows self.now c → result.steps ≡ c.steps }
     {
         Parts {
             frames: self.progress.frames(),
-            tasks: self.progress.tasks(),
+            main: self.progress.stage(),
+            elaborated: self.progress.elaborated(),
             clock: self.progress.clock(),
             steps: self.progress.steps(),
         }
@@ -219,8 +220,7 @@ impl Machine {
             return Err(AllocError);
         }
         self.spent = true;
-        self.progress = Progress::new(alloc)?;
-        self.code.check_start();
+        self.progress = Progress::new(&self.code, alloc)?;
         self.spent = false;
         Ok(())
     }
@@ -232,10 +232,10 @@ impl Machine {
     /// Memory is refused, or the machine is spent. It is spent then.
     pub fn slice(&mut self, alloc: Global, n: u32) -> Result<Ran, AllocError>
         requires { self.old.all.steps + n ≤ STEPS }
-        ensures runs { IfOk result (λ ran. (c : Configuration) → Shows self.old c → RunsFrom self.old.limits n c self.new ran) }
+        ensures runs { IfOk result (λ ran. (c : Configuration) → Shows self.old c → RunsFrom self.old.limits (program_in self.old) n c self.new ran) }
         ensures few { IfOk result (λ ran. ran.steps ≤ n) }
-        ensures ticks { IfOk result (λ ran. ran.ticks ≡ min (run_ticks self.old.code n self.old.all) u64.MAX) }
-        ensures few_ticks { IfOk result (λ ran. ran.ticks ≤ ran.steps * length self.old.code) }
+        ensures ticks { IfOk result (λ ran. ran.ticks ≡ min (run_ticks (program_in self.old).plan self.old.code self.old.limits n self.old.all) u64.MAX) }
+        ensures few_ticks { IfOk result (λ ran. ran.ticks ≤ ran.steps * length self.old.code.lines) }
         ensures code { self.new.code ≡ self.old.code }
         ensures program { self.new.program ≡ self.old.program }
         ensures limits { self.new.limits ≡ self.old.limits }
@@ -259,9 +259,9 @@ impl Machine {
     /// Memory is refused, or the machine is spent. It is spent then.
     pub fn take(&mut self, alloc: Global, nth: usize) -> Result<Option<Ran>, AllocError>
         requires { self.old.all.steps < STEPS }
-        ensures takes { IfOk result (λ taken. (c : Configuration) → Shows self.old c → Takes self.old.limits c (slice_get (moves c) nth) self.old self.new taken) }
-        ensures ticks { IfOk result (λ taken. IfSome taken (λ ran. (m : Move) → slice_get (moves self.old.all) nth ≡ Some m → ran.ticks ≡ step_ticks self.old.code m.task self.old.all)) }
-        ensures few_ticks { IfOk result (λ taken. IfSome taken (λ ran. ran.ticks ≤ length self.old.code)) }
+        ensures takes { IfOk result (λ taken. (c : Configuration) → Shows self.old c → Takes self.old.limits (program_in self.old) c (slice_get (moves_in (program_in self.old) c) nth) self.old self.new taken) }
+        ensures ticks { IfOk result (λ taken. IfSome taken (λ ran. ran.ticks ≡ ticks_in self.old.code self.old.all.tasks self.old.all)) }
+        ensures few_ticks { IfOk result (λ taken. IfSome taken (λ ran. ran.ticks ≤ length self.old.code.lines)) }
         ensures code { self.new.code ≡ self.old.code }
         ensures program { self.new.program ≡ self.old.program }
         ensures limits { self.new.limits ≡ self.old.limits }
@@ -271,14 +271,14 @@ impl Machine {
         if self.spent {
             return Err(AllocError);
         }
-        let Some(task) = self.progress.move_at(nth) else {
+        if self.progress.moves(&self.code) <= nth {
             return Ok(None);
-        };
+        }
         self.spent = true;
         let mut operands = Operands::new(alloc);
-        let ticks = self.progress.take(&self.code, &mut operands, task)?;
+        let ticks = self.progress.step(&self.code, &mut operands)?;
         self.spent = false;
-        let state = self.progress.state();
+        let state = self.progress.state(&self.code);
         Ok(Some(Ran {
             steps: 1,
             ticks,

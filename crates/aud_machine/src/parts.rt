@@ -1,6 +1,6 @@
 // What a machine has at a moment.
 
-use crate::task::Task;
+use aud_single::progress::Stage;
 use aud_store::frames::Frames;
 
 /// What a machine has at a moment, lent to whoever looks at it.
@@ -8,8 +8,10 @@ use aud_store::frames::Frames;
 pub struct Parts<'a> {
     /// All frames that were ever made, by their numbers.
     pub frames: &'a Frames,
-    /// The tasks that were ever created, by their numbers; the main procedure is the first.
-    pub tasks: &'a [Task],
+    /// How far the main procedure is, which is the only task.
+    pub main: Stage,
+    /// How many of its variables are elaborated.
+    pub elaborated: usize,
     /// The time on the clock, in milliseconds.
     pub clock: u64,
     /// The steps taken.

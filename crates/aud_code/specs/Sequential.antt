@@ -1,4 +1,0 @@
-pub mod Eval
-pub mod Next
-pub mod Coming
-pub mod Sound
