@@ -14,7 +14,7 @@ use Rattle.aud_gen.specs.Assembly.{flat_program}
 use Rattle.aud_gen.specs.Simple.{Simple, idles, stmt_of, stmts_of, the_body}
 use Rattle.aud_gen.specs.Written.{simple_of, body_code}
 use Rattle.aud_gen.proofs.Flat.Bodies.{body_code_sound}
-use Rattle.aud_gen.proofs.Flat.Simple.{simple_code}
+use Rattle.aud_gen.proofs.Flat.Simple.{simple_code_law}
 use Rattle.aud_gen.proofs.write.generate.Goals as goal
 
 same : (s : Stmt) → plain_stmt s ≡ stmt_of (simple_of s)
@@ -29,8 +29,8 @@ all_same (s ∷ ss) = ap (λ z. z ∷ map plain_stmt ss) (same s) ∙ ap (λ z. 
 
 -- the code of a program with such a body
 of_body : (ds ss : List Simple) (begin end : Pos) (program : tree.Program) → program.bodies ≡ body (part_of (stmts_of ds)) begin (in_sequence (stmts_of ss)) no_handlers end ∷ [] → program.barriers ≡ [] → flat_program program ≡ body_code ds ss end
-of_body ds [] begin end program is none = simple_code ds (idles nowhere) [] begin end program is none
-of_body ds (s ∷ ss) begin end program is none = simple_code ds s ss begin end program is none
+of_body ds [] begin end program is none = simple_code_law ds (idles nowhere) [] begin end program is none
+of_body ds (s ∷ ss) begin end program is none = simple_code_law ds s ss begin end program is none
 
 written : (p : Program) → body_code (map simple_of p.declarations.items) (map simple_of p.statements.items) p.end ≡ flat_program (plain_program p)
 written p =
