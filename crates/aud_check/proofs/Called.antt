@@ -3,7 +3,7 @@ use Rattle.std.proofs.Common.{◌≡◌, List, [], ◌∷◌, length, refl}
 use Rattle.aud_syntax.specs.declared.tree.Ident.{Ident}
 use Rattle.aud_syntax.specs.declared.tree.Expr.{Expr}
 use Rattle.aud_syntax.specs.View.{plain_exprs}
-use Rattle.aud_typed.specs.Sequential.Tree as tree
+use Rattle.aud_typed.specs.Tree as tree
 use Rattle.aud_check.specs.Names.{Place}
 use Rattle.aud_check.specs.Rules.{wrong_number_of_arguments}
 use Rattle.aud_check.specs.Statements.{args_faults, called_with}

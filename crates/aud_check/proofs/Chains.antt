@@ -8,9 +8,9 @@ use Rattle.aud_typed.specs.declared.program.IntegerExpr.{IntegerExpr}
 use Rattle.aud_typed.specs.declared.program.IntegerExpr.TheVariants.{Chain}
 use Rattle.aud_typed.specs.declared.program.TextExpr.{TextExpr}
 use Rattle.aud_typed.specs.declared.program.TextExpr.TheVariants.{Join}
-use Rattle.aud_typed.specs.Sequential.View.{plain_integer, plain_text}
-use Rattle.aud_typed.specs.Sequential.Tree.{chained, joined, binary, join}
-use Rattle.aud_typed.proofs.Opened.{plain_operation, chain_open, chained_more, join_open, joined_more}
+use Rattle.aud_typed.specs.View.{plain_integer, plain_text}
+use Rattle.aud_typed.specs.Tree.{chained, joined, binary, join}
+use Rattle.aud_typed.proofs.Chains.{plain_operation, chain_open, chained_more, join_open, joined_more}
 
 pub chain_begins : (first : Box IntegerExpr Global) (none all : Vec Operation Global) (left : IntegerExpr) (next : Operation) → none.items ≡ [] → all.items ≡ none.items ++ next ∷ [] → first.value ≡ left → plain_integer (Chain first all) ≡ binary (out-Operation next).op (plain_integer left) (plain_integer (out-Operation next).right)
 chain_begins first none all left next p q r =

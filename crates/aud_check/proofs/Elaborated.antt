@@ -1,10 +1,11 @@
 -- Steps in memory, and declarations that are still to be checked.
 use Rattle.std.specs.Prelude.{List, [], ◌∷◌, ◌++◌, Option}
 use Rattle.std.proofs.Common.{◌≡◌, ◌<◌, length, arith, refl, sym, ◌∙◌, ap, append_assoc}
+use Rattle.std.proofs.lemmas.List.{map-append}
 use Rattle.aud_text.specs.declared.place.Pos.{Pos}
 use Rattle.aud_typed.specs.declared.program.Stmt as memory
-use Rattle.aud_typed.specs.Sequential.Tree as tree
-use Rattle.aud_typed.specs.Sequential.View.{plain_stmt}
+use Rattle.aud_typed.specs.Tree as tree
+use Rattle.aud_typed.specs.View.{plain_stmt, plain_stmts as plain_steps}
 use Rattle.aud_syntax.specs.declared.tree.Stmt as source
 use Rattle.aud_syntax.specs.declared.tree.Decl.{Decl}
 use Rattle.aud_syntax.specs.View.{plain_stmts, plain_decls, plain_decl, plain_stmt as plain_source}
@@ -14,19 +15,15 @@ use Rattle.aud_check.specs.declared.decl.Part.{Part}
 use Rattle.aud_check.specs.declared.fault.Fault.{Fault}
 use Rattle.aud_check.specs.Least.{noted}
 use Rattle.aud_check.specs.Declarations.{Declared, check_decl, check_decls}
-use Rattle.aud_check.specs.Part.{plain_steps, Declares}
+use Rattle.aud_check.specs.Part.{Declares}
 use Rattle.aud_check.specs.Statements.{stmt_faults, stmts_faults, typed_stmts}
 use Rattle.aud_check.specs.Checked.{or_null}
 use Rattle.aud_check.proofs.Notes.{noted_append}
 
-pub steps_append : (xs ys : List memory.Stmt) → plain_steps (xs ++ ys) ≡ plain_steps xs ++ plain_steps ys
-steps_append [] ys = refl
-steps_append (x ∷ xs) ys = ap (λ z. plain_stmt x ∷ z) (steps_append xs ys)
-
 -- one more step
 pub steps_ahead : (now next : List memory.Stmt) (step : memory.Stmt) (t : tree.Stmt) (rest all : List tree.Stmt) → next ≡ now ++ step ∷ [] → plain_stmt step ≡ t → plain_steps now ++ (t ∷ rest) ≡ all → plain_steps next ++ rest ≡ all
 steps_ahead now next step t rest all p q h =
-    ap (λ l. plain_steps l ++ rest) p ∙ ap (λ l. l ++ rest) (steps_append now (step ∷ [])) ∙ append_assoc (plain_steps now) (plain_stmt step ∷ []) rest ∙ ap (λ z. plain_steps now ++ (z ∷ rest)) q ∙ h
+    ap (λ l. plain_steps l ++ rest) p ∙ ap (λ l. l ++ rest) (map-append plain_stmt now (step ∷ [])) ∙ append_assoc (plain_steps now) (plain_stmt step ∷ []) rest ∙ ap (λ z. plain_steps now ++ (z ∷ rest)) q ∙ h
 
 -- the faults of one more statement
 pub stmts_ahead : (mid new all : Option Fault) (x : source.Stmt) (xs ys : List source.Stmt) (place : Place) → xs ≡ x ∷ ys → new ≡ noted mid (stmt_faults (plain_source x) place) → noted mid (stmts_faults (plain_stmts xs) place) ≡ all → noted new (stmts_faults (plain_stmts ys) place) ≡ all

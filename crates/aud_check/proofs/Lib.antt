@@ -5,5 +5,4 @@ pub mod Chains
 pub mod Elaborated
 pub mod Judged
 pub mod First
-pub mod Scoping
 pub mod Called

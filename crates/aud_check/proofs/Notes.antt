@@ -5,7 +5,7 @@ use Rattle.std.proofs.Common.{◌≡◌, refl, sym, ◌∙◌, ap}
 use Rattle.aud_check.specs.declared.fault.Fault.{Fault}
 use Rattle.aud_check.specs.declared.typed.Typed as memory
 use Rattle.aud_check.specs.Least.{note, noted}
-use Rattle.aud_check.specs.Expressions.{Typed, Checked, with, fine}
+use Rattle.aud_check.specs.Expressions.{Typed, Checked, with}
 use Rattle.aud_check.specs.Typing.{plain_typed, Shows}
 
 pub noted_append : (o : Option Fault) (fs gs : List Fault) → noted o (fs ++ gs) ≡ noted (noted o fs) gs
@@ -32,7 +32,3 @@ ahead_with old mid new all c f t a h = record {
   faults = ap (λ o. noted o (f (plain_typed t)).faults) h.0 ∙ ap (λ y. noted (noted mid c.faults) (f y).faults) h.1 ∙ sym (noted_append mid c.faults (f c.typed).faults) ∙ a.faults;
   typed = ap (λ y. (f y).typed) h.1 ∙ a.typed;
 }
-
--- all of it is checked
-pub ahead_end : (old new : Option Fault) (all : Checked) (t : memory.Typed) → Ahead new (fine (plain_typed t)) old all → Shows old new all (Ok t)
-ahead_end old new all t a = (a.faults, a.typed)

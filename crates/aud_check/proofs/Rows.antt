@@ -1,5 +1,5 @@
 -- Small programs, and what is said of them.
-use Rattle.std.specs.Prelude.{ℕ, pos, List, [], ◌∷◌, codes, Option, Some, None, Ok, Err}
+use Rattle.std.specs.Prelude.{ℕ, pos, false, List, [], ◌∷◌, map, codes, Option, Some, None, Ok, Err}
 use Rattle.std.proofs.Common.{◌≡◌, refl}
 use Rattle.aud_text.specs.declared.place.Pos.{Pos}
 use Rattle.aud_text.specs.declared.code.Code.{Code}
@@ -11,9 +11,11 @@ use Rattle.aud_syntax.specs.declared.tree.Sign.TheVariants as sign
 use Rattle.aud_syntax.specs.declared.tree.Highest.TheVariants.{Not}
 use Rattle.aud_syntax.specs.declared.tree.Multiplying.TheVariants.{Times}
 use Rattle.aud_syntax.specs.Plain.{Expr, alone, unrelated, simple, Addeds, no_addeds, more_addeds, added, Term, term, no_multiplieds, more_multiplieds, multiplied, factor, Primary, integer, text, name, attribute, group, no_expr, an_expr, Name, named, no_parts, part, no_args, more_args, Decl, object, Decls, no_decls, more_decls, Stmt, null, assign, call, Stmts, no_stmts, more_stmts, body, Unit, unit}
+use Rattle.aud_typed.specs.declared.program.Variable.{Variable}
 use Rattle.aud_typed.specs.declared.program.Unary.TheVariants.{Negative}
 use Rattle.aud_typed.specs.declared.program.Binary.TheVariants.{Sum, Difference}
-use Rattle.aud_typed.specs.Sequential.Tree as tree
+use Rattle.aud_typed.specs.declared.program.Subtype.TheVariants.{Integer}
+use Rattle.aud_typed.specs.Tree as tree
 use Rattle.aud_check.specs.declared.fault.Fault.{Fault}
 use Rattle.aud_check.specs.Checked.{faults, checked}
 
@@ -54,7 +56,7 @@ decls (d ∷ ds) = more_decls d (decls ds)
 
 -- procedure P is .. begin .. end P;
 abbrev main : List Decl → List Stmt → Unit
-main ds ss = unit (id (codes "P") (at 1 11)) (decls ds) (body (at 5 1) (stmts ss) (at 9 1) (Some (id (codes "P") (at 9 5))))
+main ds ss = unit (at 1 1) (id (codes "P") (at 1 11)) (decls ds) (body (at 5 1) (stmts ss) (at 9 1) (Some (id (codes "P") (at 9 5))))
 
 abbrev integer_type : Pos → Ident
 integer_type place = id (codes "INTEGER") place
@@ -63,10 +65,40 @@ integer_type place = id (codes "INTEGER") place
 abbrev two : Decl
 two = object (id (codes "A") (at 2 1) ∷ id (codes "B") (at 2 4) ∷ []) (integer_type (at 2 8)) (an_expr (only (num 7 (at 2 19))))
 
-abbrev variable : ℕ → tree.IntegerExpr
-variable n = tree.variable (record { level = 0; index = n })
+abbrev cell : ℕ → Variable
+cell n = record { level = 0; index = n }
 
-fine_row : checked (main (two ∷ []) (assign (var (codes "B") (at 6 1)) (sum (Some (record { sign = sign.Minus; at = at 6 6 })) (term (factor None (name (var (codes "A") (at 6 7)))) no_multiplieds) (more_addeds (added Plus (term (factor None (num 2 (at 6 11))) no_multiplieds)) no_addeds)) ∷ calling (id (codes "PUT_LINE") (at 7 1)) (only (attribute (var (codes "B") (at 7 11)) (id (codes "IMAGE") (at 7 13)) no_expr)) ∷ [])) ≡ Ok (record { name = codes "P"; variables = codes "A" ∷ codes "B" ∷ []; body = tree.sequence (tree.declare (at 2 1) (tree.number (pos 7))) (tree.sequence (tree.declare (at 2 1) (tree.number (pos 7))) (tree.sequence (tree.assign (at 6 1) (record { level = 0; index = 1 }) (tree.binary Sum (tree.unary Negative (variable 0)) (tree.number (pos 2)))) (tree.put (at 7 1) (tree.join (tree.image (variable 1)) tree.new_line)))); end = at 9 1 })
+abbrev variable : ℕ → tree.IntegerExpr
+variable n = tree.variable (cell n)
+
+abbrev whole : tree.IntegerExpr → tree.ValueExpr
+whole e = tree.whole Integer e
+
+-- B := ..
+abbrev assign_b : tree.IntegerExpr → tree.Stmt
+assign_b e = tree.assign (at 6 1) (tree.scalar (cell 1) Integer) (whole e)
+
+-- a procedure that is its body alone: the names of its variables, its declarations and its statements
+abbrev program : List (List ℕ) → tree.Part → tree.Stmt → tree.Program
+program names declared s = record {
+  name = codes "P";
+  plan = record {
+    units = record { level = 0; region = 0; is_function = false; at = at 1 1; end = at 9 1 } ∷ [];
+    tasks = [];
+    objects = [];
+    entries = [];
+    regions = map (λ n. record { name = n; shown = tree.as_whole }) names ∷ [];
+    exceptions = [];
+  };
+  bodies = tree.body declared (at 5 1) s tree.no_handlers (at 9 1) ∷ [];
+  barriers = [];
+}
+
+-- of A and B, with these statements
+abbrev program_of_two : tree.Stmt → tree.Program
+program_of_two s = program (codes "A" ∷ codes "B" ∷ []) (tree.some (tree.sequence (tree.declare (at 2 1) (whole (tree.number (pos 7)))) (tree.declare (at 2 1) (whole (tree.number (pos 7)))))) s
+
+fine_row : checked (main (two ∷ []) (assign (var (codes "B") (at 6 1)) (sum (Some (record { sign = sign.Minus; at = at 6 6 })) (term (factor None (name (var (codes "A") (at 6 7)))) no_multiplieds) (more_addeds (added Plus (term (factor None (num 2 (at 6 11))) no_multiplieds)) no_addeds)) ∷ calling (id (codes "PUT_LINE") (at 7 1)) (only (attribute (var (codes "B") (at 7 11)) (id (codes "IMAGE") (at 7 13)) no_expr)) ∷ [])) ≡ Ok (program_of_two (tree.sequence (assign_b (tree.binary Sum (tree.unary Negative (variable 0)) (tree.number (pos 2)))) (tree.put (at 7 1) (tree.join (tree.image (variable 1)) tree.new_line))))
 fine_row = refl
 
 -- operators of one level go from left to right (RM 4.5(8))
@@ -76,11 +108,15 @@ three = sum None (term (factor None (num 9 (at 6 6))) no_multiplieds) (more_adde
 abbrev left_first : tree.IntegerExpr
 left_first = tree.binary Difference (tree.binary Difference (tree.number (pos 9)) (tree.number (pos 3))) (tree.number (pos 2))
 
-abbrev elaborated : tree.Stmt → tree.Stmt
-elaborated s = tree.sequence (tree.declare (at 2 1) (tree.number (pos 7))) (tree.sequence (tree.declare (at 2 1) (tree.number (pos 7))) s)
-
-chain_row : checked (main (two ∷ []) (assign (var (codes "B") (at 6 1)) three ∷ [])) ≡ Ok (record { name = codes "P"; variables = codes "A" ∷ codes "B" ∷ []; body = elaborated (tree.assign (at 6 1) (record { level = 0; index = 1 }) left_first); end = at 9 1 })
+chain_row : checked (main (two ∷ []) (assign (var (codes "B") (at 6 1)) three ∷ [])) ≡ Ok (program_of_two (assign_b left_first))
 chain_row = refl
+
+-- no declarations; and no statements, which the grammar does not make, are a null statement where they would begin
+null_row : checked (main [] (null (at 6 1) ∷ [])) ≡ Ok (program [] tree.nothing (tree.null (at 6 1)))
+null_row = refl
+
+empty_row : checked (main [] []) ≡ Ok (program [] tree.nothing (tree.null (at 5 1)))
+empty_row = refl
 
 -- a name that is not declared, and a variable in its own initial value
 undeclared_row : checked (main [] (assign (var (codes "C") (at 6 1)) (only (num 1 (at 6 6))) ∷ [])) ≡ Err (fault (at 6 1) NameNotDeclared)
@@ -125,7 +161,7 @@ itself_row = refl
 alone_row : checked (main [] (call (var (codes "PUT_LINE") (at 7 1)) ∷ [])) ≡ Err (fault (at 7 1) WrongNumberOfArguments)
 alone_row = refl
 
-end_row : checked (unit (id (codes "P") (at 1 11)) no_decls (body (at 2 1) (more_stmts (null (at 3 1)) no_stmts) (at 4 1) (Some (id (codes "Q") (at 4 5))))) ≡ Err (fault (at 4 5) WrongNameAtEnd)
+end_row : checked (unit (at 1 1) (id (codes "P") (at 1 11)) no_decls (body (at 2 1) (more_stmts (null (at 3 1)) no_stmts) (at 4 1) (Some (id (codes "Q") (at 4 5))))) ≡ Err (fault (at 4 5) WrongNameAtEnd)
 end_row = refl
 
 large_row : checked (main [] (calling (id (codes "PUT_LINE") (at 7 1)) (only (attribute (named (part (integer_type (at 7 11)) no_args) no_parts) (id (codes "IMAGE") (at 7 19)) (an_expr (only (integer (record { value = None; at = at 7 26 })))))) ∷ [])) ≡ Err (fault (at 7 26) NumberTooLarge)

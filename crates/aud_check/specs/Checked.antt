@@ -3,7 +3,7 @@ use Rattle.std.specs.Prelude.{List, [], ◌∷◌, ◌++◌, map, Result, Ok, Er
 use Rattle.aud_text.specs.declared.place.Pos.{Pos}
 use Rattle.aud_syntax.specs.declared.tree.Ident.{Ident}
 use Rattle.aud_syntax.specs.Plain.{Body, body, Unit, unit}
-use Rattle.aud_typed.specs.Sequential.Tree as tree
+use Rattle.aud_typed.specs.Tree as tree
 use Rattle.aud_check.specs.declared.fault.Fault.{Fault}
 use Rattle.aud_check.specs.Least.{least}
 use Rattle.aud_check.specs.Names.{innermost, main_place}
@@ -20,21 +20,24 @@ abbrev pub or_null : Pos → List tree.Stmt → List tree.Stmt
 or_null at [] = tree.null at ∷ []
 or_null at (s ∷ ss) = s ∷ ss
 
-abbrev pub unit_program : Ident → Declared → Body → tree.Program
-unit_program main d (body begin stmts end last) = record {
+abbrev pub unit_program : Pos → Ident → Declared → Body → tree.Program
+unit_program at main d (body begin stmts end last) = tree.program_of_main (record {
   name = main.name;
+  at = at;
   variables = map (λ s. s.0) (innermost d.place).symbols;
-  body = tree.in_sequence (d.steps ++ or_null begin (typed_stmts stmts d.place));
+  declarations = d.steps;
+  begin = begin;
+  statements = or_null begin (typed_stmts stmts d.place);
   end = end;
-}
+})
 
 -- every fault of a program; the name after the end must be its own
 abbrev pub faults : Unit → List Fault
-faults (unit name decls b) = unit_faults name (check_decls decls (main_place name.name)) b
+faults (unit at name decls b) = unit_faults name (check_decls decls (main_place name.name)) b
 
 -- the typed program, which means something only where there are no faults
 abbrev pub typed : Unit → tree.Program
-typed (unit name decls b) = unit_program name (check_decls decls (main_place name.name)) b
+typed (unit at name decls b) = unit_program at name (check_decls decls (main_place name.name)) b
 
 abbrev pub judged : List Fault → tree.Program → Result tree.Program Fault
 judged [] program = Ok program

@@ -3,7 +3,8 @@ use Rattle.std.specs.Prelude.{ℕ, ◌+◌, Bool, true, false, List, [], ◌∷�
 use Rattle.aud_text.specs.declared.place.Pos.{Pos}
 use Rattle.aud_syntax.specs.declared.tree.Ident.{Ident}
 use Rattle.aud_syntax.specs.Plain.{Decl, object, Decls, no_decls, more_decls, MaybeExpr, no_expr, an_expr}
-use Rattle.aud_typed.specs.Sequential.Tree as tree
+use Rattle.aud_typed.specs.declared.program.Subtype.TheVariants.{Integer}
+use Rattle.aud_typed.specs.Tree as tree
 use Rattle.aud_check.specs.declared.fault.Fault.{Fault}
 use Rattle.aud_check.specs.declared.names.Meaning.{Meaning}
 use Rattle.aud_check.specs.declared.names.Meaning.TheVariants.{IntegerType, PutLine, MainProcedure, Variable, Faulty}
@@ -72,7 +73,7 @@ first_at (i ∷ is) = i.at
 
 -- a declaration of several names stands for one of each, in their order (RM 3.3.1(7))
 abbrev pub elaboration : List Ident → Pos → tree.IntegerExpr → List tree.Stmt
-elaboration names at e = map (λ i. tree.declare at e) names
+elaboration names at e = map (λ i. tree.declare at (tree.whole Integer e)) names
 
 -- within the declaration its names are hidden from all visibility (RM 8.3(16))
 abbrev pub check_object : List Ident → Ident → MaybeExpr → Place → Declared

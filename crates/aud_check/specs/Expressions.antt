@@ -16,7 +16,7 @@ use Rattle.aud_typed.specs.declared.program.Unary.{Unary}
 use Rattle.aud_typed.specs.declared.program.Unary.TheVariants as unary
 use Rattle.aud_typed.specs.declared.program.Binary.{Binary}
 use Rattle.aud_typed.specs.declared.program.Binary.TheVariants as binary
-use Rattle.aud_typed.specs.Sequential.Tree as tree
+use Rattle.aud_typed.specs.Tree as tree
 use Rattle.aud_check.specs.declared.fault.Fault.{Fault}
 use Rattle.aud_check.specs.declared.names.Meaning.{Meaning}
 use Rattle.aud_check.specs.declared.names.Meaning.TheVariants.{IntegerType, PutLine, MainProcedure, Variable, Faulty}

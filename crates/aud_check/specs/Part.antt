@@ -1,17 +1,12 @@
 -- What is shown by a check of declarations in memory.
-use Rattle.std.specs.Prelude.{◌≡◌, List, ◌++◌, map, Option}
-use Rattle.aud_typed.specs.declared.program.Stmt as memory
-use Rattle.aud_typed.specs.Sequential.Tree as tree
-use Rattle.aud_typed.specs.Sequential.View.{plain_stmt}
+use Rattle.std.specs.Prelude.{◌≡◌, ◌++◌, Option}
+use Rattle.aud_typed.specs.View.{plain_stmts}
 use Rattle.aud_check.specs.declared.decl.Part.{Part}
 use Rattle.aud_check.specs.declared.fault.Fault.{Fault}
 use Rattle.aud_check.specs.Least.{noted}
 use Rattle.aud_check.specs.Regions.{plain_place}
 use Rattle.aud_check.specs.Declarations.{Declared}
 
-abbrev pub plain_steps : List memory.Stmt → List tree.Stmt
-plain_steps steps = map plain_stmt steps
-
 -- the faults are noted, the place is that after the declarations, and the elaboration is added
 abbrev pub Declares : Option Fault → Option Fault → Part → Part → Declared → Type 0
-Declares old_faults new_faults old new d = (new_faults ≡ noted old_faults d.faults) × (plain_place new.place ≡ d.place) × (plain_steps new.steps.items ≡ plain_steps old.steps.items ++ d.steps)
+Declares old_faults new_faults old new d = (new_faults ≡ noted old_faults d.faults) × (plain_place new.place ≡ d.place) × (plain_stmts new.steps.items ≡ plain_stmts old.steps.items ++ d.steps)

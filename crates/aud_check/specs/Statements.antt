@@ -3,7 +3,8 @@ use Rattle.std.specs.Prelude.{List, [], ◌∷◌, ◌++◌, Option, Some, None}
 use Rattle.aud_text.specs.declared.place.Pos.{Pos}
 use Rattle.aud_syntax.specs.declared.tree.Ident.{Ident}
 use Rattle.aud_syntax.specs.Plain.{Name, named, Part, part, Args, no_args, more_args, Stmt, null, assign, call, Stmts, no_stmts, more_stmts}
-use Rattle.aud_typed.specs.Sequential.Tree as tree
+use Rattle.aud_typed.specs.declared.program.Subtype.TheVariants.{Integer}
+use Rattle.aud_typed.specs.Tree as tree
 use Rattle.aud_check.specs.declared.fault.Fault.{Fault}
 use Rattle.aud_check.specs.declared.names.Meaning.{Meaning}
 use Rattle.aud_check.specs.declared.names.Meaning.TheVariants.{IntegerType, PutLine, MainProcedure, Variable, Faulty}
@@ -24,7 +25,7 @@ assign_faults m target at value = variable_faults m target ++ right_type (target
 
 -- a faulty statement is left as a null statement
 abbrev pub assigned : Option Meaning → Pos → Typed → tree.Stmt
-assigned (Some (Variable v)) at (number e) = tree.assign at v e
+assigned (Some (Variable v)) at (number e) = tree.assign at (tree.scalar v Integer) (tree.whole Integer e)
 assigned _ at _ = tree.null at
 
 -- what is called must be a procedure (RM 6.4), and one with a formal parameter (RM 6.4(3)), which the main procedure has not

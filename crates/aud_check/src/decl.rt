@@ -2,12 +2,12 @@
 
 ghost use Rattle.std.specs.Prelude.{◌≡◌, ◌++◌, IfOk, OnOk};
 ghost use Rattle.aud_syntax.specs.View.{plain_maybe, plain_decl, plain_decls};
-ghost use Rattle.aud_typed.specs.Sequential.View.{plain_integer};
+ghost use Rattle.aud_typed.specs.View.{plain_integer, plain_stmts as plain_steps};
 ghost use Rattle.aud_check.specs.Least.{noted};
 ghost use Rattle.aud_check.specs.Rules.{declared_once};
 ghost use Rattle.aud_check.specs.Declarations.{subtype_faults, is_integer_type, initial_faults, initial_value, integer_or_zero, new_meaning, with_name, declared_names, twice_faults, first_at, elaboration, check_decl, check_decls};
 ghost use Rattle.aud_check.specs.Typing.{plain_typed};
-ghost use Rattle.aud_check.specs.Part.{plain_steps, Declares};
+ghost use Rattle.aud_check.specs.Part.{Declares};
 ghost use Rattle.aud_check.specs.Regions.{plain_region, plain_place};
 
 use crate::expr::{expr, expr_at};

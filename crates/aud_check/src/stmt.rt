@@ -3,11 +3,10 @@
 ghost use Rattle.std.specs.Prelude.{◌≡◌, ◌++◌, IfOk, OnOk};
 ghost use Rattle.aud_syntax.specs.View.{plain_expr, plain_exprs, plain_stmt, plain_stmts};
 ghost use Rattle.aud_syntax.specs.Plain.{no_args, more_args};
-ghost use Rattle.aud_typed.specs.Sequential.View.{plain_stmt as plain_step};
+ghost use Rattle.aud_typed.specs.View.{plain_stmt as plain_step, plain_stmts as plain_steps};
 ghost use Rattle.aud_check.specs.Least.{noted};
 ghost use Rattle.aud_check.specs.Statements.{target_base, assign_faults, assigned, callee_faults, formal_base, called, args_faults, called_with, stmt_faults, typed_stmt, stmts_faults, typed_stmts};
 ghost use Rattle.aud_check.specs.Typing.{plain_typed};
-ghost use Rattle.aud_check.specs.Part.{plain_steps};
 
 use crate::expr::{check_variable, expr, expr_at};
 use crate::fault::Least;

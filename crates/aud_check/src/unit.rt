@@ -1,11 +1,10 @@
 // Programs.
 
-ghost use Rattle.std.specs.Prelude.{◌≡◌, ◌++◌, map, IfOk, OnOk};
+ghost use Rattle.std.specs.Prelude.{◌≡◌, map, IfOk, OnOk};
 ghost use Rattle.aud_syntax.specs.View.{plain_stmts, plain_unit};
-ghost use Rattle.aud_typed.specs.Sequential.View.{plain_program};
+ghost use Rattle.aud_typed.specs.View.{plain_stmts as plain_steps, plain_program};
 ghost use Rattle.aud_check.specs.Least.{noted};
 ghost use Rattle.aud_check.specs.Statements.{typed_stmts, stmts_faults};
-ghost use Rattle.aud_check.specs.Part.{plain_steps};
 ghost use Rattle.aud_check.specs.Checked.{or_null, faults as program_faults, typed as typed_program};
 
 use crate::decl::{Part, decls};
@@ -23,18 +22,18 @@ fn statements(
     alloc: Global,
     body: &Body,
     scope: &Scope<'_>,
-    steps: &mut Vec<Step>,
     faults: &mut Least,
-) -> Result<(), AllocError>
-    ensures steps { OnOk result (plain_steps steps.new.items ≡ plain_steps steps.old.items ++ or_null body.now.begin (typed_stmts (plain_stmts body.now.stmts.items) scope.now)) }
+) -> Result<Vec<Step>, AllocError>
+    ensures steps { IfOk result (λ steps. plain_steps steps.items ≡ or_null body.now.begin (typed_stmts (plain_stmts body.now.stmts.items) scope.now)) }
     ensures noted { OnOk result (faults.new ≡ noted faults.old (stmts_faults (plain_stmts body.now.stmts.items) scope.now)) }
 {
+    let mut steps = Vec::new(alloc);
     if body.stmts.is_empty() {
         steps.push(Step::Null(body.begin))?;
-        return Ok(());
+        return Ok(steps);
     }
-    stmts(alloc, &body.stmts, scope, steps, faults)?;
-    Ok(())
+    stmts(alloc, &body.stmts, scope, &mut steps, faults)?;
+    Ok(steps)
 }
 
 // The symbols' names.
@@ -55,16 +54,19 @@ pub fn typed(alloc: Global, unit: &Unit, faults: &mut Least) -> Result<Program, 
     let steps = Vec::new(alloc);
     let mut part = Part { place, steps };
     decls(alloc, &unit.decls, &mut part, faults)?;
-    let Part { place, mut steps } = part;
+    let Part { place, steps } = part;
     let scope = Scope::new(&place, &[]);
-    statements(alloc, &unit.body, &scope, &mut steps, faults)?;
+    let statements = statements(alloc, &unit.body, &scope, faults)?;
     right_name_at_end(main, &unit.body.name, faults);
     let variables = names_of(alloc, place.innermost.symbols)?;
     let name = main.try_clone(alloc)?;
     Ok(Program {
         name,
+        at: unit.at,
         variables,
-        body: steps,
+        declarations: steps,
+        begin: unit.body.begin,
+        statements,
         end: unit.body.end,
     })
 }

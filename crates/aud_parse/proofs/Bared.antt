@@ -238,7 +238,7 @@ is_leaf g.Literal = true
 is_leaf _ = false
 
 pub bare_made : (p : Part) → is_leaf p ≡ false → (st : List Item) → bares (made p st) ≡ made p (bares st)
-bare_made g.Unit e = made_3 (λ x y z. a.a_unit (m.unit (a.the_ident x) (a.the_decls y) (a.the_body z))) (λ x y z. cc (bare_the_ident x, bare_the_decls y, bare_the_body z))
+bare_made g.Unit e = made_4 (λ x y z w. a.a_unit (m.unit (a.place x) (a.the_ident y) (a.the_decls z) (a.the_body w))) (λ x y z w. cc (bare_place x, bare_the_ident y, bare_the_decls z, bare_the_body w))
 bare_made g.DeclList e = bare_listed
 bare_made g.Decl e = made_3 (λ x y z. a.a_decl (m.object (a.the_idents x) (a.the_ident y) (a.opt_expr z))) (λ x y z. cc (bare_the_idents x, bare_the_ident y, bare_opt_expr z))
 bare_made g.Ids e = bare_listed

@@ -89,5 +89,6 @@ pub body_items : (begin end : Item) (v : Vec Stmt Global) (i : Option Ident) (ds
     made g.Body (begin ∷ list_item stmt_item v.items ∷ end ∷ opt_item an_ident i ∷ ds) ≡ a_body (m.body (place begin) (plain_stmts v.items) (place end) i) ∷ ds
 body_items begin end v i ds = ap (λ z. a_body (m.body (place begin) z (place end) (opt_ident (opt_item an_ident i))) ∷ ds) (stmts_items v.items) ∙ ap (λ z. a_body (m.body (place begin) (plain_stmts v.items) (place end) z) ∷ ds) (opt_ident_is i)
 
-pub unit_items : (i : Ident) (v : Vec Decl Global) (b : Body) (ds : List Item) → made g.Unit (an_ident i ∷ list_item decl_item v.items ∷ body_item b ∷ ds) ≡ unit_item (record { name = i; decls = v; body = b }) ∷ ds
-unit_items i v b ds = ap (λ z. a_unit (m.unit i z (plain_body b)) ∷ ds) (decls_items v.items)
+pub unit_items : (first : Item) (i : Ident) (v : Vec Decl Global) (b : Body) (ds : List Item) →
+    made g.Unit (first ∷ an_ident i ∷ list_item decl_item v.items ∷ body_item b ∷ ds) ≡ unit_item (record { at = place first; name = i; decls = v; body = b }) ∷ ds
+unit_items first i v b ds = ap (λ z. a_unit (m.unit (place first) i z (plain_body b)) ∷ ds) (decls_items v.items)

@@ -188,9 +188,9 @@ three a b c us ws e = append_assoc (a ++ b) c ws ∙ append_assoc a b (c ++ ws) 
 
 -- the words of a part are those of its symbols
 told_rule : (p : Part) {k : List Sym} {ds : List Item} {ws : List Word} → Told (rule p ++ k) ds ws → Told (N p ∷ k) (made p ds) ws
-told_rule g.Unit (t_word x (t_part (says_ident i) (t_word y (t_some (says_decls d) (t_part {ws = ws} (says_body b) r))))) =
-    so (t_part (says_unit (m.unit i (a.the_decls d) b)) r) (ap (λ z. word (codes "procedure") ∷ w.ident_word i ∷ last_word (codes "is") ∷ z) (append_assoc (w.decls_words (a.the_decls d)) (w.body_words b) ws))
-told_rule g.Unit (t_word x (t_part (says_ident i) (t_word y (t_none (t_part (says_body b) r))))) = t_part (says_unit (m.unit i m.no_decls b)) r
+told_rule g.Unit (t_token u (t_part (says_ident i) (t_word y (t_some (says_decls d) (t_part {ws = ws} (says_body b) r))))) =
+    so (t_part (says_unit (m.unit u.at i (a.the_decls d) b)) r) (ap (λ z. word (codes "procedure") ∷ w.ident_word i ∷ last_word (codes "is") ∷ z) (append_assoc (w.decls_words (a.the_decls d)) (w.body_words b) ws))
+told_rule g.Unit (t_token u (t_part (says_ident i) (t_word y (t_none (t_part (says_body b) r))))) = t_part (says_unit (m.unit u.at i m.no_decls b)) r
 told_rule g.Decls (t_level s (t_down r)) = t_part s r
 told_rule g.DeclList (t_part (says_decl d) (t_row {x = x} {us = us} {ws = ws} row r)) =
     so (t_part (says_decls (cons (a.a_decl d) x)) r) (two (w.decl_words d) (w.decls_words (a.the_decls x)) us ws (decls_row row))

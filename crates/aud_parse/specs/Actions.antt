@@ -232,7 +232,7 @@ the_body _ = no_body
 
 abbrev pub the_unit : Item → m.Unit
 the_unit (a_unit x) = x
-the_unit _ = m.unit no_ident m.no_decls no_body
+the_unit _ = m.unit no_place no_ident m.no_decls no_body
 
 -- the primary that begins with a name, by what follows the name (RM 4.1, 4.1.4)
 abbrev pub with_attribute : m.Name → Item → m.Primary
@@ -265,7 +265,7 @@ listed st = cons (top st) (top (pop st)) ∷ pop (pop st)
 
 -- the tree of a part from what its rule has read, in front of what comes after it
 abbrev pub made : g.Part → List Item → List Item
-made g.Unit st = a_unit (m.unit (the_ident (top st)) (the_decls (top (pop st))) (the_body (top (pop (pop st))))) ∷ pop (pop (pop st))
+made g.Unit st = a_unit (m.unit (place (top st)) (the_ident (top (pop st))) (the_decls (top (pop (pop st)))) (the_body (top (pop (pop (pop st)))))) ∷ pop (pop (pop (pop st)))
 made g.DeclList st = listed st
 made g.Decl st = a_decl (m.object (the_idents (top st)) (the_ident (top (pop st))) (opt_expr (top (pop (pop st))))) ∷ pop (pop (pop st))
 made g.Ids st = listed st

@@ -39,7 +39,7 @@ pub data Sym : Type 0 where
 
 abbrev pub rule : Part → List Sym
 -- a program is its main procedure (RM 10.1.1, 6.3)
-rule Unit = T kind.Procedure ∷ N Id ∷ T kind.Is ∷ Opt Decls ∷ N Body ∷ []
+rule Unit = P kind.Procedure ∷ N Id ∷ T kind.Is ∷ Opt Decls ∷ N Body ∷ []
 -- declarations lie one level deeper (RM 3.11)
 rule Decls = L DeclList ∷ Down ∷ []
 rule DeclList = N Decl ∷ Rep Decl ∷ []

@@ -20,9 +20,9 @@ read_by reads (Err place) = None
 abbrev pub IsRead : List ℕ → Result Unit Fault → Type 0
 IsRead source what = read_by parsed (lexed source) ≡ Some what
 
--- a program whose name is P
+-- a program from the first byte on, whose name is P
 abbrev pub program : List Decl → Body → Unit
-program ds b = unit (id (codes "P") (at 1 11)) (decls ds) b
+program ds b = unit (at 1 1) (id (codes "P") (at 1 11)) (decls ds) b
 
 -- the text as declarations, statements or an expression, in the second line of a program, and a place there
 
@@ -93,7 +93,7 @@ Programs =
     (Ok (program [] (body (at 2 1) (stmts (null (at 3 3) ∷ [])) (at 4 1) (Some (id (codes "P") (at 4 5))))))
     × IsRead (codes "procedure P is begin null; end Other_Name;")
     (Ok (program [] (body (at 1 16) (stmts (null (at 1 22) ∷ [])) (at 1 28) (Some (id (codes "OTHER_NAME") (at 1 32))))))
-    × IsRead example (Ok (unit (id (codes "SUM") (at 1 11)) (decls (example_decl ∷ [])) example_body))
+    × IsRead example (Ok (unit (at 1 1) (id (codes "SUM") (at 1 11)) (decls (example_decl ∷ [])) example_body))
 
 -- declarations (RM 3.3.1)
 abbrev pub Declarations : Type 0

@@ -9,7 +9,7 @@ ghost use Rattle.aud_parse.specs.Items.{unit_item};
 ghost use Rattle.aud_parse.specs.Reads.{Reads};
 ghost use Rattle.aud_parse.specs.Gives.{Gives};
 
-use crate::cursor::{Fault, Rest, word};
+use crate::cursor::{Fault, Rest, token, word};
 use crate::declaration::opt_decls;
 use crate::leaf::ident;
 use crate::statement::body;
@@ -42,12 +42,20 @@ fn unit<'a, 's>(
 ) -> Result<(Unit, Rest<'a, 's>), Fault<'a, 's>>
     ensures { Reads unit_item (N g.Unit) room toks.entry.tokens.now result }
 {
-    let rest = word(toks, Kind::Procedure)?;
+    let (first, rest) = token(toks, Kind::Procedure)?;
     let (name, rest) = ident(alloc, rest)?;
     let rest = word(rest, Kind::Is)?;
     let (decls, rest) = opt_decls(alloc, rest, room)?;
     let (body, rest) = body(alloc, rest, room)?;
-    Ok((Unit { name, decls, body }, rest))
+    Ok((
+        Unit {
+            at: first.at(),
+            name,
+            decls,
+            body,
+        },
+        rest,
+    ))
 }
 
 /// The program that the tokens spell (RM 10.1.1).

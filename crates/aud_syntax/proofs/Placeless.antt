@@ -109,7 +109,7 @@ body_same : (x : m.Body) → w.body_words (bare_body x) ≡ w.body_words x
 body_same (m.body begin stmts end last) = cc (stmts_same stmts, end_same last)
 
 unit_same : (u : m.Unit) → w.unit_words (bare u) ≡ w.unit_words u
-unit_same (m.unit x decls rest) = cc (decls_same decls, body_same rest)
+unit_same (m.unit at x decls rest) = cc (decls_same decls, body_same rest)
 
 pub without_places : WithoutPlaces
 without_places u v e = ap spaced (sym (unit_same u) ∙ ap w.unit_words e ∙ unit_same v)

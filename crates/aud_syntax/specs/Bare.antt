@@ -112,4 +112,4 @@ abbrev pub bare_body : Body → Body
 bare_body (body begin stmts end last) = body nowhere (bare_stmts stmts) nowhere (bare_end last)
 
 abbrev pub bare : Unit → Unit
-bare (unit x decls rest) = unit (bare_ident x) (bare_decls decls) (bare_body rest)
+bare (unit at x decls rest) = unit nowhere (bare_ident x) (bare_decls decls) (bare_body rest)

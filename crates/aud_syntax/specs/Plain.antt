@@ -92,6 +92,6 @@ mutual
   pub data Body : Type 0 where
     body : Pos → Stmts → Pos → Option Ident → Body
 
--- RM 10.1.1
+-- where it begins, its name, its declarations and its body (RM 10.1.1)
 pub data Unit : Type 0 where
-  unit : Ident → Decls → Body → Unit
+  unit : Pos → Ident → Decls → Body → Unit

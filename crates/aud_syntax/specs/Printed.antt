@@ -187,7 +187,7 @@ body_words (body begin stmts end last) = last_word (codes "begin") ∷ (stmts_wo
 
 -- RM 6.3, 10.1.1
 abbrev pub unit_words : Unit → List Word
-unit_words (unit x decls rest) = word (codes "procedure") ∷ ident_word x ∷ last_word (codes "is") ∷ (decls_words decls ++ body_words rest)
+unit_words (unit at x decls rest) = word (codes "procedure") ∷ ident_word x ∷ last_word (codes "is") ∷ (decls_words decls ++ body_words rest)
 
 abbrev pub printed : Unit → List ℕ
 printed u = spaced (unit_words u)

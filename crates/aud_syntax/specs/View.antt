@@ -107,4 +107,4 @@ plain_body x = m.body x.begin (plain_stmts x.stmts.items) x.end x.name
 
 -- RM 10.1.1
 abbrev pub plain_unit : declared.Unit → m.Unit
-plain_unit x = m.unit x.name (plain_decls x.decls.items) (plain_body x.body)
+plain_unit x = m.unit x.at x.name (plain_decls x.decls.items) (plain_body x.body)

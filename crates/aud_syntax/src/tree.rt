@@ -185,6 +185,8 @@ pub struct Body {
 /// A program: its main procedure (RM 10.1.1).
 #[derive(Drop)]
 pub struct Unit {
+    /// Where its first word stands.
+    pub at: Pos,
     pub name: Ident,
     pub decls: Vec<Decl>,
     pub body: Body,

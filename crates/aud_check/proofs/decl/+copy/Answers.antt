@@ -1,9 +1,9 @@
 use Rattle.std.proofs.Common.{ap, ◌∙◌, arith}
 use Rattle.std.specs.Prelude.{map}
 use Rattle.std.proofs.lemmas.List.{take_all}
-use Rattle.aud_typed.specs.Sequential.Tree.{Operation}
-use Rattle.aud_typed.specs.Sequential.View.{plain_integer}
-use Rattle.aud_typed.proofs.Opened.{plain_operation}
+use Rattle.aud_typed.specs.Tree.{Operation}
+use Rattle.aud_typed.specs.View.{plain_integer}
+use Rattle.aud_typed.proofs.Chains.{plain_operation}
 use Rattle.aud_check.proofs.Chains.{copied_more, chain_copied}
 use Rattle.aud_check.proofs.decl.+copy.Goals as goal
 

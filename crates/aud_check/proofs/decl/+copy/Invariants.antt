@@ -1,6 +1,6 @@
 use Rattle.std.proofs.Common.{◌≡◌, take}
 use Rattle.std.specs.Prelude.{map}
-use Rattle.aud_typed.proofs.Opened.{plain_operation}
+use Rattle.aud_typed.proofs.Chains.{plain_operation}
 use Rattle.aud_check.proofs.decl.+copy.Given as goal
 
 abbrev pub invariant-loop-next : goal.invariant-loop-next

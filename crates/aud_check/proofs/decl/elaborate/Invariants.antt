@@ -1,7 +1,6 @@
 use Rattle.std.proofs.Common.{◌≡◌, ◌++◌, drop}
-use Rattle.aud_typed.specs.Sequential.View.{plain_integer}
+use Rattle.aud_typed.specs.View.{plain_integer, plain_stmts as plain_steps}
 use Rattle.aud_check.specs.Declarations.{elaboration}
-use Rattle.aud_check.specs.Part.{plain_steps}
 use Rattle.aud_check.proofs.decl.elaborate.Given as goal
 
 abbrev pub invariant-loop-ident : goal.invariant-loop-ident

@@ -1,8 +1,8 @@
 use Rattle.std.proofs.Common.{◌≡◌, ◌+◌, ◌++◌, ◌∷◌, drop, arith}
 use Rattle.aud_syntax.specs.View.{plain_stmt, plain_stmts}
+use Rattle.aud_typed.specs.View.{plain_stmts as plain_steps}
 use Rattle.aud_check.specs.Least.{noted}
 use Rattle.aud_check.specs.Statements.{typed_stmt, typed_stmts, stmts_faults}
-use Rattle.aud_check.specs.Part.{plain_steps}
 use Rattle.aud_syntax.proofs.Written.{dropped}
 use Rattle.aud_check.proofs.Elaborated.{steps_ahead, stmts_ahead}
 use Rattle.aud_check.proofs.stmt.stmts.Goals as goal

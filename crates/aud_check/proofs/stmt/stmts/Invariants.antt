@@ -1,8 +1,8 @@
 use Rattle.std.proofs.Common.{◌≡◌, ◌++◌, drop}
 use Rattle.aud_syntax.specs.View.{plain_stmts}
+use Rattle.aud_typed.specs.View.{plain_stmts as plain_steps}
 use Rattle.aud_check.specs.Least.{noted}
 use Rattle.aud_check.specs.Statements.{typed_stmts, stmts_faults}
-use Rattle.aud_check.specs.Part.{plain_steps}
 use Rattle.aud_check.proofs.stmt.stmts.Given as goal
 
 abbrev pub invariant-loop-next : goal.invariant-loop-next

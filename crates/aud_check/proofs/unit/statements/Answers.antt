@@ -6,4 +6,4 @@ use Rattle.aud_check.proofs.unit.statements.Goals as goal
 pub returns-clause-steps : goal.returns-clause-steps
 returns-clause-steps c =
     let some : 0 < length c.args.body.now.stmts.items = grind (arith, nat_tests) in
-    rw (some_steps c.args.body.now.begin c.args.scope.now c.args.body.now.stmts.items some) (rw c.deref.ensures.value at c.in_ok-stmts.ensures.steps)
+    rw (some_steps c.args.body.now.begin c.args.scope.now c.args.body.now.stmts.items some) (rw (c.deref.ensures.value, c.new-steps.ensures.items) at c.in_ok-stmts.ensures.steps)

@@ -1,22 +1,23 @@
 use Rattle.aud_parse.specs.Machine.{o_rule}
+use Rattle.aud_parse.specs.Actions.{tok}
 use Rattle.aud_parse.proofs.Passing.{to, exit}
 use Rattle.aud_parse.proofs.Rolls.{unit_items}
 use Rattle.aud_parse.proofs.parser.unit.Goals as goal
 
-pub returns-in_err-rest : goal.returns-in_err-rest
-returns-in_err-rest c = exit _ _ _ c.from_residual.ensures.1 (c.in_err-rest.ensures.reads c.args.room) (λ k ds v o. o_rule o)
+pub returns-in_err-first : goal.returns-in_err-first
+returns-in_err-first c = exit _ _ _ c.from_residual.ensures.1 (c.in_err-first.ensures.reads c.args.room) (λ k ds v o. o_rule o)
 
 pub returns-in_err-name : goal.returns-in_err-name
-returns-in_err-name c = exit _ _ _ c.from_residual-in_err-name.ensures.1 (c.in_err-name.ensures.reads c.args.room) (λ k ds v o. o_rule (c.in_ok-rest.ensures.reads _ _ _ _ o))
+returns-in_err-name c = exit _ _ _ c.from_residual-in_err-name.ensures.1 (c.in_err-name.ensures.reads c.args.room) (λ k ds v o. o_rule (c.in_ok-first.ensures.reads _ _ _ _ o))
 
-pub returns-in_err-rest-2 : goal.returns-in_err-rest-2
-returns-in_err-rest-2 c = exit _ _ _ c.from_residual-in_err-rest-2.ensures.1 (c.in_err-rest-2.ensures.reads c.args.room) (λ k ds v o. o_rule (c.in_ok-rest.ensures.reads _ _ _ _ (c.in_ok-name.ensures.reads _ _ _ _ o)))
+pub returns-in_err-rest : goal.returns-in_err-rest
+returns-in_err-rest c = exit _ _ _ c.from_residual-in_err-rest.ensures.1 (c.in_err-rest.ensures.reads c.args.room) (λ k ds v o. o_rule (c.in_ok-first.ensures.reads _ _ _ _ (c.in_ok-name.ensures.reads _ _ _ _ o)))
 
 pub returns-in_err-decls : goal.returns-in_err-decls
-returns-in_err-decls c = exit _ _ _ c.from_residual-in_err-decls.ensures.1 c.in_err-decls.ensures.reads (λ k ds v o. o_rule (c.in_ok-rest.ensures.reads _ _ _ _ (c.in_ok-name.ensures.reads _ _ _ _ (c.in_ok-rest-2.ensures.reads _ _ _ _ o))))
+returns-in_err-decls c = exit _ _ _ c.from_residual-in_err-decls.ensures.1 c.in_err-decls.ensures.reads (λ k ds v o. o_rule (c.in_ok-first.ensures.reads _ _ _ _ (c.in_ok-name.ensures.reads _ _ _ _ (c.in_ok-rest.ensures.reads _ _ _ _ o))))
 
 pub returns-in_err-body : goal.returns-in_err-body
-returns-in_err-body c = exit _ _ _ c.from_residual-in_err-body.ensures.1 c.in_err-body.ensures.reads (λ k ds v o. o_rule (c.in_ok-rest.ensures.reads _ _ _ _ (c.in_ok-name.ensures.reads _ _ _ _ (c.in_ok-rest-2.ensures.reads _ _ _ _ (c.in_ok-decls.ensures.reads _ _ _ o)))))
+returns-in_err-body c = exit _ _ _ c.from_residual-in_err-body.ensures.1 c.in_err-body.ensures.reads (λ k ds v o. o_rule (c.in_ok-first.ensures.reads _ _ _ _ (c.in_ok-name.ensures.reads _ _ _ _ (c.in_ok-rest.ensures.reads _ _ _ _ (c.in_ok-decls.ensures.reads _ _ _ o)))))
 
 pub returns : goal.returns
-returns c k ds v o = to (o_rule (c.in_ok-rest.ensures.reads _ _ _ _ (c.in_ok-name.ensures.reads _ _ _ _ (c.in_ok-rest-2.ensures.reads _ _ _ _ (c.in_ok-decls.ensures.reads _ _ _ (c.in_ok-body.ensures.reads _ _ _ o)))))) (unit_items _ c.in_ok-decls.decls c.in_ok-body.body _)
+returns c k ds v o = rw c.at.ensures (to (o_rule (c.in_ok-first.ensures.reads _ _ _ _ (c.in_ok-name.ensures.reads _ _ _ _ (c.in_ok-rest.ensures.reads _ _ _ _ (c.in_ok-decls.ensures.reads _ _ _ (c.in_ok-body.ensures.reads _ _ _ o)))))) (unit_items (tok c.in_ok-first.first.now) _ c.in_ok-decls.decls c.in_ok-body.body ds))
