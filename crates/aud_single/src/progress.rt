@@ -223,9 +223,8 @@ impl Progress {
         requires { self.old.steps < STEPS }
         ensures { self.new ≡ record self.old { control = goes place self.old.control; stage = plain_stage stage; steps = suc self.old.steps } }
     {
-        self.place = place;
         self.stage = stage;
-        self.steps += 1;
+        self.go(place);
     }
 
     /// One step to a place, where nothing else changes.
@@ -243,9 +242,8 @@ impl Progress {
         ensures { OnOk result (self.new ≡ record self.old { control = goes place self.old.control; elaborated = suc self.old.elaborated; frames = slice_set self.old.frames 0 (slice_index_or self.old.frames 0 [] ++ value ∷ []); steps = suc self.old.steps }) }
     {
         self.frames.declare(0, value)?;
+        self.go(place);
         self.elaborated += 1;
-        self.place = place;
-        self.steps += 1;
         Ok(())
     }
 
@@ -258,8 +256,7 @@ impl Progress {
         if frame < self.frames.len() {
             self.frames.assign(frame, target.index(), value);
         }
-        self.place = place;
-        self.steps += 1;
+        self.go(place);
     }
 
     /// A text at the end of the output, and one step to a place.
