@@ -2,7 +2,7 @@
 
 ghost use Rattle.std.specs.Prelude.{◌≡◌, ◌<◌, [], ◌∷◌, ◌++◌, None, reverse, length, OnOk};
 ghost use Rattle.aud_text.specs.Integer.{image};
-ghost use Rattle.aud_meaning.specs.Tasks.{no_waits};
+ghost use Rattle.aud_meaning.specs.Parts.{no_waits};
 ghost use Rattle.aud_code.specs.Instr.{Operands as Plain, no_operands};
 
 use crate::target::Target;

@@ -1,7 +1,5 @@
 -- How many steps a run does, and where it ends.
 use Rattle.std.proofs.Common.{◌≡◌, ℕ, zero, suc, ◌+◌, ◌%◌, ◌<◌, ◌≤◌, List, [], ◌∷◌, ◌++◌, map, length, slice_get, slice_index_or, Option, Some, None, Bool, true, false, Result, Ok, Err, refl, sym, ap, ◌∙◌, subst, arith}
-use Rattle.std.proofs.lemmas.Option.{slice_get-get_or}
-use Rattle.std.specs.Prelude.{filter, nat_le}
 use Rattle.aud_text.specs.declared.limits.Limits.{Limits}
 use Rattle.aud_text.specs.declared.raise.Raise.{Raise}
 use Rattle.aud_typed.specs.Tree.{Plan}
@@ -10,8 +8,8 @@ use Rattle.aud_meaning.specs.declared.state.State.TheVariants as state
 use Rattle.aud_meaning.specs.Configuration.{OpenDelay, Own, Shared, TaskAt, All}
 use Rattle.aud_meaning.specs.Evaluation.{Sight}
 use Rattle.aud_meaning.specs.Control.{Coming, simply, ending, selecting, calling, starting, Seen, Controls}
-use Rattle.aud_meaning.specs.Tasks.{owns}
-use Rattle.aud_meaning.specs.Run.{Move, own_move, picks, Turn, resting, closing, completing, withdrawing, serving, expiring, cancelling, acting, turn, only, each_or_one, serve_moves, end_moves, call_moves, acting_moves, turn_moves, moves_from, has_ended, moves_by, moves, waiting_by, some_move, state_by, state_of, seen_from, seen, moves_at, state_at, step_of, step_with, take_by, take_one, run_by, run_with}
+use Rattle.aud_meaning.specs.Parts.{owns}
+use Rattle.aud_meaning.specs.Run.{Move, picks, Turn, resting, closing, completing, withdrawing, serving, expiring, cancelling, acting, turn, only, each_or_one, serve_moves, end_moves, call_moves, acting_moves, turn_moves, moves_from, has_ended, moves_by, waiting_by, some_move, state_by, seen_from, seen, moves_at, state_at, step_of, take_by, take_one, run_by, run_with}
 
 -- Moves of the task of a number.
 

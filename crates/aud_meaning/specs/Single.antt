@@ -5,7 +5,7 @@ use Rattle.aud_typed.specs.Tree.{Plan}
 use Rattle.aud_meaning.specs.declared.state.Status.TheVariants.{Running, Completed}
 use Rattle.aud_meaning.specs.Configuration.{Frame, Pending, for_body, Opened, Own, All}
 use Rattle.aud_meaning.specs.Control.{Scene}
-use Rattle.aud_meaning.specs.Tasks.{nobody, unit_of, facts_in}
+use Rattle.aud_meaning.specs.Parts.{nobody, unit_of, facts_in}
 
 -- how far its main procedure is
 pub data Stage : Type 0 where

@@ -8,7 +8,7 @@ use Rattle.aud_meaning.specs.Configuration.{Frame, Pending, TaskAt, All}
 use Rattle.aud_meaning.specs.Control.{Scene}
 use Rattle.aud_meaning.specs.Run.{Move, moves_at, take_one}
 use Rattle.aud_meaning.specs.Single.{Stage, Single, runs, completed, terminated}
-use Rattle.aud_meaning.specs.Tasks.{facts_in}
+use Rattle.aud_meaning.specs.Parts.{facts_in}
 use Rattle.aud_code.specs.Places.{Spot}
 use Rattle.aud_code.specs.Instr.{no_operands}
 use Rattle.aud_code.specs.Flat.{Flat, instrs_at, flat_controls}

@@ -2,7 +2,7 @@
 
 ghost use Rattle.std.specs.Prelude.{◌≡◌, ℕ, List};
 ghost use Rattle.aud_typed.specs.Tree.{Plan};
-ghost use Rattle.aud_meaning.specs.Tasks.{unit_of};
+ghost use Rattle.aud_meaning.specs.Parts.{unit_of};
 ghost use Rattle.aud_meaning.specs.Single.{all_of};
 ghost use Rattle.aud_meaning.specs.View.{coming_step_at};
 ghost use Rattle.aud_code.specs.Flat.{flat_controls};
