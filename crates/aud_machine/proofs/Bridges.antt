@@ -18,7 +18,7 @@ use Rattle.aud_meaning.specs.Single.{Single, all_of}
 use Rattle.aud_code.specs.Places.{Spot}
 use Rattle.aud_code.specs.Flat.{Flat, flat_controls}
 use Rattle.aud_gen.specs.Assembly.{flat_program}
-use Rattle.aud_gen.specs.Law.{ShowsFlat, flat}
+use Rattle.aud_gen.specs.Law.{flat}
 use Rattle.aud_gen.specs.Law as code
 use Rattle.aud_gen.proofs.Flat.Laws.{agreement_law, seen_law, moves_law, state_law, step_law, run_law, opening_law}
 use Rattle.aud_single.specs.declared.run.Ran.{Ran}
