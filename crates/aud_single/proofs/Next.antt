@@ -18,7 +18,7 @@ use Rattle.aud_code.specs.declared.line.Last.TheVariants.{Does, Guards, Ends}
 use Rattle.aud_code.specs.Places.{Spot, is_there}
 use Rattle.aud_code.specs.Instr.{Ended, no_operands}
 use Rattle.aud_code.specs.Eval.{eval}
-use Rattle.aud_code.specs.Flat.{Flat, flat_controls, instrs_at, end_at, no_scene, coming_last, handler_at}
+use Rattle.aud_code.specs.Flat.{Flat, flat_controls, instrs_at, end_at, no_scene, coming_last}
 use Rattle.aud_code.specs.Flat as flat
 use Rattle.aud_code.specs.View.{plain_last, plain_end, EndsPlainly}
 use Rattle.aud_single.specs.Next.{kind_of, next_in}

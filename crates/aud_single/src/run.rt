@@ -1,6 +1,6 @@
 // Runs of several steps.
 
-ghost use Rattle.std.specs.Prelude.{◌≡◌, ◌+◌, ◌≤◌, IfOk};
+ghost use Rattle.std.specs.Prelude.{◌+◌, ◌≤◌, IfOk};
 ghost use Rattle.aud_single.specs.Steps.{Stands};
 ghost use Rattle.aud_single.specs.Running.{RunsTo};
 

@@ -6,7 +6,6 @@ ghost use Rattle.aud_meaning.specs.Single.{runs};
 ghost use Rattle.aud_code.specs.Flat.{end_at, left_by, handler_at};
 ghost use Rattle.aud_code.specs.Sound.{counts_of, LastFine};
 ghost use Rattle.aud_code.specs.View.{plain_last};
-ghost use Rattle.aud_single.specs.Shown.{plain_stage};
 ghost use Rattle.aud_single.specs.Steps.{StepsTo, Stands, ends_by, raises_by};
 ghost use Rattle.aud_single.specs.Ticks.{step_ticks};
 

@@ -4,7 +4,7 @@ use Rattle.std.specs.Prelude.{pos}
 use Rattle.aud_text.specs.declared.place.Pos.{Pos}
 use Rattle.aud_text.specs.declared.raise.Raise.{Raise}
 use Rattle.aud_typed.specs.Tree as tree
-use Rattle.aud_typed.specs.Tree.{Reference, ValueExpr, Argument, CallForm, plainly, conditionally, timed, Callee, of_task, of_object, TaskName, Stmt, sequence, declare, declare_array, declare_tasks, declare_object, activated, activate, null, assign, put, if_then, plain_loop, while_loop, for_loop, exit, return, return_value, raising, raising_again, block, procedure_call, own_entry_call, operation_call, entry_call, delay, accept, select, abort, Part, Alternatives}
+use Rattle.aud_typed.specs.Tree.{ValueExpr, Argument, CallForm, plainly, conditionally, timed, Callee, of_task, of_object, TaskName, Stmt, declare_object, if_then, while_loop, exit, return_value, procedure_call, own_entry_call, operation_call, delay, abort, Part}
 use Rattle.aud_meaning.specs.Configuration.{Target, timed_to}
 use Rattle.aud_meaning.specs.declared.state.Owner.TheVariants as owner
 use Rattle.aud_meaning.specs.Evaluation.{with_value, evaluated, decided, value_of, delay_of, task_named, number_in, option_target, passed, Passed}

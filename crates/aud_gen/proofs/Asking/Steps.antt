@@ -3,10 +3,10 @@ use Rattle.std.proofs.Common.{◌≡◌, ℕ, suc, ◌+◌, List, [], ◌∷◌,
 use Rattle.aud_text.specs.declared.place.Pos.{Pos}
 use Rattle.aud_text.specs.declared.raise.Raise.{Raise}
 use Rattle.aud_typed.specs.Tree as tree
-use Rattle.aud_typed.specs.Tree.{Callee, of_task, of_object, BooleanExpr, Stmt, sequence, declare, declare_array, declare_tasks, declare_object, activated, activate, null, assign, put, if_then, plain_loop, while_loop, for_loop, exit, return, return_value, raising, raising_again, block, procedure_call, own_entry_call, operation_call, entry_call, delay, accept, select, abort, Part, Alternatives}
+use Rattle.aud_typed.specs.Tree.{Callee, of_task, of_object, sequence, declare, declare_array, declare_tasks, declare_object, activated, activate, null, assign, put, if_then, plain_loop, while_loop, for_loop, exit, return, return_value, raising, raising_again, block, procedure_call, own_entry_call, operation_call, entry_call, delay, accept, select, abort, Part, Alternatives}
 use Rattle.aud_meaning.specs.Configuration.{OpenDelay, Waits}
 use Rattle.aud_meaning.specs.Evaluation.{Sight, with_value, decided, task_named}
-use Rattle.aud_meaning.specs.Control.{Scene, Asked, Coming}
+use Rattle.aud_meaning.specs.Control.{Scene, Asked}
 use Rattle.aud_meaning.specs.Control as asked
 use Rattle.aud_meaning.specs.Items.{or_raises, has_else, guards_from, delay_expr, timed_from, waits_of, coming_call, open_or_none, task_or_none}
 use Rattle.aud_code.specs.Instr.{Name, Mark, Select, Operands, no_operands, Reached, Marked}

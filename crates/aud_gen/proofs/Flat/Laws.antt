@@ -4,7 +4,7 @@ use Rattle.aud_typed.specs.Tree.{Program, BooleanExpr}
 use Rattle.aud_meaning.specs.Configuration.{Item}
 use Rattle.aud_meaning.specs.Control.{Controls}
 use Rattle.aud_meaning.specs.Items.{controls}
-use Rattle.aud_gen.specs.Layout.{Code, Line, line_at, start_of, code_of, code_controls}
+use Rattle.aud_gen.specs.Layout.{Code, line_at, code_of, code_controls}
 use Rattle.aud_code.specs.Places.{Spot, goes_there, goes_way}
 use Rattle.aud_gen.specs.Layout as layout
 use Rattle.aud_gen.specs.Shows.{ShowsControl}

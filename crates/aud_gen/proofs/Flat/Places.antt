@@ -12,7 +12,7 @@ use Rattle.aud_meaning.specs.Evaluation.{Sight, decided}
 use Rattle.aud_meaning.specs.Control.{Scene}
 use Rattle.aud_meaning.specs.Items.{names_it, coming_raised, handled_or_left}
 use Rattle.aud_code.specs.Places.{Way, Guard, Spot, goes_there, goes_way, loops_of, guarded, is_there}
-use Rattle.aud_gen.specs.Layout.{What, does, continues, guards, ends, leaves, Line, Code, no_line, line_at, handler_by, asked_by, coming_by, start_of}
+use Rattle.aud_gen.specs.Layout.{What, does, continues, guards, ends, leaves, Code, line_at, handler_by, asked_by, coming_by, start_of}
 use Rattle.aud_gen.specs.Layout as layout
 use Rattle.aud_code.specs.Instr.{no_operands}
 use Rattle.aud_code.specs.Eval.{eval}

@@ -6,7 +6,7 @@ use Rattle.aud_typed.specs.declared.program.Stmt.{Stmt}
 use Rattle.aud_typed.specs.declared.program.Stmt.TheVariants.{Declare, Null, Assign, Put}
 use Rattle.aud_typed.specs.declared.program.Program.{Program}
 use Rattle.aud_typed.specs.View.{plain_stmt, plain_program}
-use Rattle.aud_typed.specs.Tree.{Body, body, part_of, in_sequence, no_handlers}
+use Rattle.aud_typed.specs.Tree.{body, part_of, in_sequence, no_handlers}
 use Rattle.aud_typed.specs.Tree as tree
 use Rattle.aud_meaning.specs.Items.{nowhere}
 use Rattle.aud_code.specs.Sound.{IsSound}

@@ -1,11 +1,7 @@
-use Rattle.std.proofs.Common.{ap, sym, subst, ◌∙◌}
-use Rattle.std.specs.Prelude.{None, slice_index_or}
-use Rattle.aud_gen.specs.Sequential.Shows.{ShowsAll}
-use Rattle.aud_gen.proofs.Sequential.Runs.{coming_law}
+use Rattle.aud_machine.proofs.Bridges.{coming_shown}
 use Rattle.aud_machine.proofs.machine.Machine.coming.Goals as goal
 
 pub returns : goal.returns
 returns c =
-    λ shown h.
-    let all : ShowsAll c.self.inside.code c.self.inside.progress shown = subst (λ m. ShowsAll m.code m.all shown) (sym c.self.view_is) h.all in
-    c.coming.ensures ∙ ap (λ steps. slice_index_or steps c.args.task None) (coming_law c.self.inside.code c.self.inside.progress shown all)
+    let inside = c.self.inside in
+    rw (← c.self.view_is) (λ shown h. coming_shown inside.program inside.code c.self.invariant.0 inside.progress c.args.task c.coming.result shown c.coming.ensures h.all)
