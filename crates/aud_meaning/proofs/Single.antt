@@ -1,10 +1,9 @@
 -- The steps of a program that is its main procedure alone.
-use Rattle.std.proofs.Common.{◌≡◌, ℕ, suc, ℤ, List, [], ◌∷◌, ◌++◌, Option, Some, None, Bool, true, false, refl, ap, ◌∙◌, slice_index_or, slice_set, nat_le, length}
+use Rattle.std.proofs.Common.{◌≡◌, ℕ, suc, ℤ, List, [], ◌∷◌, ◌++◌, Some, None, Bool, true, false, refl, ap, ◌∙◌, slice_index_or, slice_set, nat_le, length}
 use Rattle.aud_text.specs.declared.place.Pos.{Pos}
 use Rattle.aud_text.specs.declared.raise.Raise.{Raise}
 use Rattle.aud_text.specs.declared.limits.Limits.{Limits}
 use Rattle.aud_text.specs.declared.limits.TheConstants.{OUTPUT}
-use Rattle.aud_typed.specs.declared.program.Exception.{Exception}
 use Rattle.aud_typed.specs.declared.program.Exception.TheVariants.{Predefined}
 use Rattle.aud_typed.specs.Tree.{Plan}
 use Rattle.aud_meaning.specs.Configuration.{Pending, Target, Shared, All}
@@ -12,7 +11,7 @@ use Rattle.aud_meaning.specs.Control.{Controls, Asked, raises_here, raises_in_pa
 use Rattle.aud_meaning.specs.Run.{own_move, seen, orders, step_with}
 use Rattle.aud_meaning.specs.Control as control
 use Rattle.aud_meaning.specs.Effects.{assigned, put_out}
-use Rattle.aud_meaning.specs.Single.{runs, completed, terminated, Single, all_of, scene_in}
+use Rattle.aud_meaning.specs.Single.{runs, completed, Single, all_of, scene_in}
 
 module _ {C : Type 0} (plan : Plan) (name : List ℕ) (k : Controls C) (limits : Limits) where
   abbrev In : Single C → All C
@@ -70,6 +69,3 @@ module _ {C : Type 0} (plan : Plan) (name : List ℕ) (k : Controls C) (limits :
 
     pub left_step : (p : Pending) → k.asks (Some p) (scene_in plan name (record q { stage = runs (Some p) })) q.control ≡ is_left_by p → Stepped (record q { stage = runs (Some p) }) ≡ In (record q { control = k.left p.exception q.control; stage = completed (Some p.exception); steps = suc q.steps })
     left_step p is = ap (after (record q { stage = runs (Some p) })) is
-
-    pub closes_step : (raised : Option Exception) → Stepped (record q { stage = completed raised }) ≡ In (record q { stage = terminated raised; steps = suc q.steps })
-    closes_step raised = refl
