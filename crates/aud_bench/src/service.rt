@@ -205,9 +205,13 @@ fn ended_by(
 ) -> Result<Option<Raised>, AllocError>
     ensures { IfOk result (λ x. (p : Programs) → x ≡ ended_by state (named_if (plain_program p).plan.exceptions raised)) }
 {
-    match (state, raised) {
-        (State::Ended, Some(exception)) => Ok(Some(named(alloc, exception)?)),
-        _ => Ok(None),
+    let told = match raised {
+        None => return Ok(None),
+        Some(exception) => named(alloc, exception)?,
+    };
+    match state {
+        State::Ended => Ok(Some(told)),
+        State::OutputFull | State::More | State::Waiting(_) | State::Stuck => Ok(None),
     }
 }
 

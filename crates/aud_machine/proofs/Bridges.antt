@@ -12,7 +12,7 @@ use Rattle.aud_meaning.specs.declared.state.NextStep.{NextStep}
 use Rattle.aud_meaning.specs.Configuration.{All, Configuration}
 use Rattle.aud_meaning.specs.Items.{controls}
 use Rattle.aud_meaning.specs.Run.{own_move, seen, moves_at, state_at, step_with, run_with, moves_in, state_in, step, run, opening, opening_with}
-use Rattle.aud_meaning.specs.Tasks.{unit_of}
+use Rattle.aud_meaning.specs.Parts.{unit_of}
 use Rattle.aud_meaning.specs.View.{coming_step, coming_step_at, coming_step_in}
 use Rattle.aud_meaning.specs.Single.{Single, all_of}
 use Rattle.aud_code.specs.Places.{Spot}

@@ -25,5 +25,5 @@ returns-clause-serves c =
     (omega (arith, steps, c.saturating_sub-left.ensures, c.if-left-eq0.false)) (omega (arith, steps, c.saturating_sub-left.ensures, c.saturating_sub.ensures, c.min-wanted.ensures)) c.within-now.ensures
     (c.in_ok-ran.ensures.limits, c.in_ok-ran.ensures.program) did
     (elim c.else-now-wanted.branch [ else-now-wanted-via-then-now-wanted+else-has_more w ↦ inr (w.has_more.ensures.no w.if-has_more.false) | else-now-wanted-via-else-now-wanted w ↦ inl w.if-now-wanted.false ])
-    c.ended_by.result (c.ended_by.ensures ∙ ap (ended_by c.in_ok-ran.ran.state) (c.raised.ensures (run c.args.machine.now.limits c.within-now.result here) did.shows))
+    c.in_ok-ended_by.field-0 (c.in_ok-ended_by.ensures ∙ ap (ended_by c.in_ok-ran.ran.state) (c.raised.ensures (run c.args.machine.now.limits c.within-now.result here) did.shows))
     c.from.result (omega (arith, c.from.ensures, c.max.ensures))
