@@ -1,4 +1,3 @@
-pub mod Runs
 pub mod Serving
 pub mod Standing
 pub mod Sessions

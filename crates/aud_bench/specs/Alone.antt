@@ -1,14 +1,17 @@
 -- A private server, of one user alone: what it answers to a list of requests, and how many units each costs.
-use Rattle.std.specs.Prelude.{ℕ, ◌+◌, ◌-◌, min, max, List, [], ◌∷◌, Option, Some, None, Result, Ok, Err, Bool, true, false, ◌==◌, nat_lt, nat_le, ◌&&◌, ◌||◌, if◌then◌else◌}
-use Rattle.aud_text.specs.declared.raise.Raise.{Raise}
+use Rattle.std.specs.Prelude.{ℕ, ◌+◌, ◌-◌, min, max, List, [], ◌∷◌, Option, Some, None, Result, Ok, Err, Bool, true, false, ◌==◌, nat_lt, nat_le, ◌&&◌, ◌||◌, if◌then◌else◌, slice_index_or}
 use Rattle.aud_text.specs.declared.code.Code.TheVariants as code
 use Rattle.aud_text.specs.declared.limits.Limits.{Limits}
 use Rattle.aud_text.specs.declared.limits.TheConstants.{STEPS, REQUESTS, REQUEST_BYTES}
-use Rattle.aud_typed.specs.Sequential.Tree as tree
-use Rattle.aud_meaning.specs.declared.sequential.State.{State}
-use Rattle.aud_meaning.specs.declared.sequential.State.TheVariants as state
-use Rattle.aud_meaning.specs.Sequential.Configuration.{Configuration}
-use Rattle.aud_meaning.specs.Sequential.Run.{opening, run, state_of, main_raised}
+use Rattle.aud_typed.specs.declared.program.Exception.{Exception}
+use Rattle.aud_typed.specs.declared.program.Exception.TheVariants as exception
+use Rattle.aud_typed.specs.Tree as tree
+use Rattle.aud_meaning.specs.declared.state.State.{State}
+use Rattle.aud_meaning.specs.declared.state.State.TheVariants as state
+use Rattle.aud_meaning.specs.Configuration.{Configuration}
+use Rattle.aud_meaning.specs.Run.{opening, run, state_in, main_raised}
+use Rattle.aud_bench.specs.declared.request.Raised.{Raised}
+use Rattle.aud_bench.specs.declared.request.Raised.TheVariants.{Predefined, Declared}
 use Rattle.aud_bench.specs.declared.request.Report.{Report}
 use Rattle.aud_bench.specs.declared.request.Request.{Request}
 use Rattle.aud_bench.specs.declared.request.Request.TheVariants as request
@@ -42,19 +45,33 @@ abbrev pub load_reply : Result tree.Program Answer → Option Loaded → Reply
 load_reply (Ok program) loaded = answers_only (answer.Loaded program.name) (Some (record { program = program; now = opening program }))
 load_reply (Err refusal) loaded = answers_only refusal loaded
 
+-- an exception, and the name of one that the program declares
+abbrev pub named : List (List ℕ) → Exception → Raised
+named names (exception.Predefined raise) = Predefined raise
+named names (exception.Declared n) = Declared (slice_index_or names n [])
+
+abbrev pub named_if : List (List ℕ) → Option Exception → Option Raised
+named_if names None = None
+named_if names (Some x) = Some (named names x)
+
 -- the exception that ended the program
-abbrev pub ended_by : State → Option Raise → Option Raise
+abbrev pub ended_by : State → Option Raised → Option Raised
 ended_by state.Ended raised = raised
 ended_by state.OutputFull raised = None
 ended_by state.More raised = None
+ended_by (state.Waiting time) raised = None
 ended_by state.Stuck raised = None
 
-abbrev pub report : Configuration → Configuration → Report
-report before after = record { steps = after.steps - before.steps; state = state_of after; raised = ended_by (state_of after) (main_raised after.tasks) }
+abbrev pub report : tree.Program → Configuration → Configuration → Report
+report program before after = record {
+  steps = after.steps - before.steps;
+  state = state_in program after;
+  raised = ended_by (state_in program after) (named_if program.plan.exceptions (main_raised after.tasks));
+}
 
 abbrev pub ran_reply : Loaded → Configuration → Reply
 ran_reply loaded after = record {
-  answer = answer.Ran (report loaded.now after);
+  answer = answer.Ran (report loaded.program loaded.now after);
   loaded = Some (record { program = loaded.program; now = after });
   cost = max 1 (after.steps - loaded.now.steps);
 }
@@ -67,7 +84,7 @@ abbrev pub run_reply : Limits → ℕ → Option Loaded → Reply
 run_reply limits n None = answers_only (answer.Refused code.NoProgram) None
 run_reply limits n (Some loaded) =
     if steps_left loaded.now == 0 then answers_only (answer.Refused code.StepBudget) (Some loaded)
-    else ran_reply loaded (run limits (min n (steps_left loaded.now)) loaded.now)
+    else ran_reply loaded (run limits loaded.program (min n (steps_left loaded.now)) loaded.now)
 
 abbrev pub output_reply : Option Loaded → Reply
 output_reply None = answers_only (answer.Refused code.NoProgram) None

@@ -1,8 +1,8 @@
 -- What loading a source text answers, seen as plain data.
 use Rattle.std.specs.Prelude.{◌≡◌, Result, Ok, Err}
 use Rattle.aud_typed.specs.declared.program.Program.{Program}
-use Rattle.aud_typed.specs.Sequential.Tree as tree
-use Rattle.aud_typed.specs.Sequential.View.{plain_program}
+use Rattle.aud_typed.specs.Tree as tree
+use Rattle.aud_typed.specs.View.{plain_program}
 use Rattle.aud_bench.specs.declared.request.Answer.{Answer}
 use Rattle.aud_bench.specs.declared.loading.LoadFault.{LoadFault}
 use Rattle.aud_bench.specs.declared.loading.LoadFault.TheVariants.{Memory, Refused}

@@ -1,8 +1,8 @@
 -- Work on one request, in one piece or in several.
 use Rattle.std.specs.Prelude.{◌≡◌, ℕ, ◌+◌, ◌<◌, min, ◌⊎◌, Option, Some, None}
 use Rattle.aud_text.specs.declared.limits.Limits.{Limits}
-use Rattle.aud_typed.specs.Sequential.View.{plain_program}
-use Rattle.aud_meaning.specs.Sequential.Run.{run}
+use Rattle.aud_typed.specs.View.{plain_program}
+use Rattle.aud_meaning.specs.Run.{run}
 use Rattle.aud_machine.specs.Shown.{Shown}
 use Rattle.aud_machine.specs.Shows.{Shows}
 use Rattle.aud_bench.specs.declared.request.Request.{Request}
@@ -32,7 +32,7 @@ pub record Replies (limits : Limits) (answer : Answer) (machine : Option Shown) 
 -- the program so many steps on
 abbrev pub behind_steps : Limits → ℕ → Option Loaded → Option Loaded
 behind_steps limits done None = None
-behind_steps limits done (Some loaded) = Some (record loaded { now = run limits done loaded.now })
+behind_steps limits done (Some loaded) = Some (record loaded { now = run limits loaded.program done loaded.now })
 
 -- what is loaded while the request is under way: a RUN has done a step for each unit
 abbrev pub behind : Limits → Request → ℕ → Option Loaded → Option Loaded
@@ -44,7 +44,7 @@ behind limits (request.Bad why) done loaded = loaded
 
 -- nothing is done yet, or so many steps of the run, none of them the last that it may do
 pub record HasRun (limits : Limits) (n done : ℕ) (loaded : Loaded) : Type 0 where
-  pub steps : (run limits done loaded.now).steps ≡ loaded.now.steps + done
+  pub steps : (run limits loaded.program done loaded.now).steps ≡ loaded.now.steps + done
   pub room : (done ≡ 0) ⊎ (done < min n (steps_left loaded.now))
 
 abbrev pub EachStepped : Limits → Request → ℕ → Option Loaded → Type 0

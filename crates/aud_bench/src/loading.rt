@@ -1,8 +1,6 @@
 // From a source text to a typed program.
 
-ghost use Rattle.std.specs.Prelude.{◌≡◌, IfOk, Result, Err};
-ghost use Rattle.aud_typed.specs.Sequential.Scoped.{IsScoped};
-ghost use Rattle.aud_typed.specs.Sequential.View.{plain_program};
+ghost use Rattle.std.specs.Prelude.{◌≡◌, Result, Err};
 ghost use Rattle.aud_lex.specs.Lexed.{lexed};
 ghost use Rattle.aud_syntax.specs.View.{plain_unit};
 ghost use Rattle.aud_bench.specs.Loading.{after_checking, after_lexing, after_parsing, place_of, program_of};
@@ -41,8 +39,7 @@ pub enum LoadFault {
 /// The program that a source text is. It is refused where it is longer than the limit, and else at its first lexical
 /// fault, at the first place where no program goes on or a level too many is opened, or at its least broken rule.
 pub fn load(alloc: Global, limits: Limits, source: &[u8]) -> Result<Program, LoadFault>
-    ensures answer { Gives (program_of limits source.now) result }
-    ensures scoped { IfOk result (λ program. IsScoped (plain_program program)) }
+    ensures { Gives (program_of limits source.now) result }
 {
     if source.len() > limits.source as usize {
         return Err(LoadFault::Refused(Answer::Refused(Code::SourceTooLong)));
@@ -51,8 +48,7 @@ pub fn load(alloc: Global, limits: Limits, source: &[u8]) -> Result<Program, Loa
 }
 
 fn read(alloc: Global, source: &[u8]) -> Result<Program, LoadFault>
-    ensures answer { Gives (after_lexing source.now (lexed source.now)) result }
-    ensures scoped { IfOk result (λ program. IsScoped (plain_program program)) }
+    ensures { Gives (after_lexing source.now (lexed source.now)) result }
 {
     match lex(alloc, source) {
         Ok(tokens) => parsed(alloc, source, &tokens),
@@ -62,8 +58,7 @@ fn read(alloc: Global, source: &[u8]) -> Result<Program, LoadFault>
 }
 
 fn parsed(alloc: Global, source: &[u8], tokens: &[Token]) -> Result<Program, LoadFault>
-    ensures answer { Gives (after_parsing source.now tokens.now (syntax.parsed tokens.now)) result }
-    ensures scoped { IfOk result (λ program. IsScoped (plain_program program)) }
+    ensures { Gives (after_parsing source.now tokens.now (syntax.parsed tokens.now)) result }
 {
     match parse(alloc, tokens) {
         Ok(unit) => checked(alloc, &unit),
@@ -82,8 +77,7 @@ fn syntax_refusal(source: &[u8], tokens: &[Token], fault: SyntaxFault) -> LoadFa
 }
 
 fn checked(alloc: Global, unit: &Unit) -> Result<Program, LoadFault>
-    ensures answer { Gives (after_checking (rules.checked (plain_unit unit.now))) result }
-    ensures scoped { IfOk result (λ program. IsScoped (plain_program program)) }
+    ensures { Gives (after_checking (rules.checked (plain_unit unit.now))) result }
 {
     match check(alloc, unit) {
         Ok(program) => Ok(program),

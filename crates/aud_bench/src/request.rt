@@ -1,6 +1,6 @@
 // Requests and answers.
 
-use aud_meaning::sequential::State;
+use aud_meaning::state::State;
 use aud_text::code::Code;
 use aud_text::name::Name;
 use aud_text::place::Pos;
@@ -22,12 +22,19 @@ pub enum Request {
     Bad(Code),
 }
 
+/// An exception: a predefined one, or one that the program declares, by its name (RM 11.1).
+#[derive(Drop, Debug)]
+pub enum Raised {
+    Predefined(Raise),
+    Declared(Name),
+}
+
 /// What came of a RUN: the steps done, what can happen next, and the exception that ended the program.
-#[derive(Clone, Copy, PartialEq, Eq, Debug)]
+#[derive(Drop, Debug)]
 pub struct Report {
     pub steps: u32,
     pub state: State,
-    pub raised: Option<Raise>,
+    pub raised: Option<Raised>,
 }
 
 /// What a user is answered.

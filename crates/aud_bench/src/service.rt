@@ -1,24 +1,24 @@
 // The work on one request.
 
 ghost use Rattle.std.specs.Prelude.{◌≡◌, ◌≤◌, min, true, false, Option, Some, Ok, IfOk, IsSome};
-ghost use Rattle.aud_typed.specs.Sequential.Scoped.{IsScoped};
-ghost use Rattle.aud_typed.specs.Sequential.View.{plain_program};
-ghost use Rattle.aud_meaning.specs.declared.sequential.State.TheVariants as states;
+ghost use Rattle.aud_typed.specs.declared.program.Program.{Program as Programs};
+ghost use Rattle.aud_typed.specs.View.{plain_program};
+ghost use Rattle.aud_meaning.specs.declared.state.State.TheVariants as states;
 ghost use Rattle.aud_text.specs.declared.limits.Limits.{Limits as Bounds};
 ghost use Rattle.aud_bench.specs.declared.request.Request.TheVariants as asked;
 ghost use Rattle.aud_bench.specs.Loading.{program_of};
-ghost use Rattle.aud_bench.specs.Alone.{Loaded, ended_by, load_reply, output_reply, replied};
+ghost use Rattle.aud_bench.specs.Alone.{Loaded, named, named_if, ended_by, load_reply, output_reply, replied};
 ghost use Rattle.aud_bench.specs.Serving.{IsLoaded, Replies, UnderWay, Serves};
 
 use crate::loading::{LoadFault, load};
-use crate::request::{Answer, Report, Request};
+use crate::request::{Answer, Raised, Report, Request};
 use aud_machine::machine::Machine;
-use aud_meaning::sequential::State;
+use aud_meaning::state::State;
 use aud_text::code::Code;
 use aud_text::limits::{Limits, STEPS};
-use aud_text::raise::Raise;
+use aud_text::name::Name;
 use aud_text::text::Text;
-use aud_typed::program::Program;
+use aud_typed::program::{Exception, Program};
 use std::alloc::{AllocError, Global};
 
 /// What some work on a request came to: its answer, if it is done, the steps that a RUN under way has done, and the
@@ -111,7 +111,6 @@ fn begin(
     machine: &mut Option<Machine>,
     program: Program,
 ) -> Result<Answer, AllocError>
-    requires { IsScoped (plain_program program) }
     ensures { IfOk result (λ answer. (loaded : Option Loaded) → IsLoaded limits machine.old loaded → Replies limits answer machine.new (load_reply (Ok (plain_program program)) loaded)) }
 {
     let name = program.name.try_clone(alloc)?;
@@ -170,7 +169,7 @@ fn run(
         answer: Some(Answer::Ran(Report {
             steps: done,
             state: ran.state,
-            raised: ended_by(ran.state, machine.raised()),
+            raised: ended_by(alloc, ran.state, machine.raised())?,
         })),
         progress: 0,
         cost: u64::from(ran.steps.max(1)),
@@ -184,7 +183,7 @@ fn has_more(state: State) -> bool
 {
     match state {
         State::More => true,
-        State::Ended | State::OutputFull | State::Stuck => false,
+        State::Ended | State::OutputFull | State::Waiting(_) | State::Stuck => false,
     }
 }
 
@@ -199,11 +198,25 @@ fn within(steps: u32, units: u64) -> u32
 }
 
 // The exception that ended the program.
-fn ended_by(state: State, raised: Option<Raise>) -> Option<Raise>
-    ensures { result ≡ ended_by state raised }
+fn ended_by(
+    alloc: Global,
+    state: State,
+    raised: Option<Exception>,
+) -> Result<Option<Raised>, AllocError>
+    ensures { IfOk result (λ x. (p : Programs) → x ≡ ended_by state (named_if (plain_program p).plan.exceptions raised)) }
 {
-    match state {
-        State::Ended => raised,
-        State::OutputFull | State::More | State::Stuck => None,
+    match (state, raised) {
+        (State::Ended, Some(exception)) => Ok(Some(named(alloc, exception)?)),
+        _ => Ok(None),
+    }
+}
+
+// An exception with its name; no program declares one yet.
+fn named(alloc: Global, exception: Exception) -> Result<Raised, AllocError>
+    ensures { IfOk result (λ raised. (p : Programs) → raised ≡ named (plain_program p).plan.exceptions exception) }
+{
+    match exception {
+        Exception::Predefined(raise) => Ok(Raised::Predefined(raise)),
+        Exception::Declared(_) => Ok(Raised::Declared(Name::from_source(alloc, b"")?)),
     }
 }

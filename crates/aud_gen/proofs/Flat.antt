@@ -8,4 +8,3 @@ pub mod Starting
 pub mod Sound
 pub mod Laws
 pub mod Simple
-pub mod Bodies

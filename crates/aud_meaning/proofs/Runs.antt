@@ -21,7 +21,7 @@ abbrev bare : {T : Type 0} → TaskAt T → TaskAt Moved
 bare t = record { control = here; own = t.own }
 
 abbrev carried : {T : Type 0} → Controls T → All T → All Moved → All T
-carried j a d = record { tasks = all_moved j a.tasks d.tasks; shared = d.shared; choices = d.choices; clock = d.clock; steps = d.steps }
+carried j a d = record a { tasks = all_moved j a.tasks d.tasks; shared = d.shared }
 
 module _ {C D : Type 0} (shows : C → D → Type 0) (k : Controls C) (l : Controls D) (agrees : Agrees C D shows k l) where
   -- What is read.
@@ -103,8 +103,8 @@ module _ {C D : Type 0} (shows : C → D → Type 0) (k : Controls C) (l : Contr
       ap (λ (o : Own). record { control = here; own = o } ∷ map (λ (t : TaskAt C). bare t) ms) h.0.own
       ∙ ap (λ (xs : List (TaskAt Moved)). record { control = here; own = c.own } ∷ xs) (same_bare ms cs h.1)
 
-  carried_out : (m : All C) (c : All D) (d : All Moved) → ShowsAll C D shows m c → ShowsAll C D shows (record { tasks = all_moved k m.tasks d.tasks; shared = d.shared; choices = d.choices; clock = d.clock; steps = d.steps }) (record { tasks = all_moved l c.tasks d.tasks; shared = d.shared; choices = d.choices; clock = d.clock; steps = d.steps })
-  carried_out m c d h = record { tasks = all_moved_shown m.tasks c.tasks d.tasks h.tasks; shared = refl; choices = refl; clock = refl; steps = refl }
+  carried_out : (m : All C) (c : All D) (d : All Moved) → ShowsAll C D shows m c → ShowsAll C D shows (carried k m d) (carried l c d)
+  carried_out m c d h = record { tasks = all_moved_shown m.tasks c.tasks d.tasks h.tasks; shared = refl; choices = h.choices; clock = h.clock; steps = h.steps }
 
   pub ordered_shown : (m : All C) (c : All D) (step : All Moved → All Moved) → ShowsAll C D shows m c → ShowsAll C D shows (ordered k m step) (ordered l c step)
   ordered_shown m c step h =

@@ -1,5 +1,5 @@
 -- The steps of a program that is its main procedure alone.
-use Rattle.std.proofs.Common.{◌≡◌, ℕ, suc, ℤ, List, [], ◌∷◌, ◌++◌, Option, Some, None, Bool, true, false, if◌then◌else◌, refl, ap, ◌∙◌, slice_index_or, slice_set, nat_le, length}
+use Rattle.std.proofs.Common.{◌≡◌, ℕ, suc, ℤ, List, [], ◌∷◌, ◌++◌, Option, Some, None, Bool, true, false, refl, ap, ◌∙◌, slice_index_or, slice_set, nat_le, length}
 use Rattle.aud_text.specs.declared.place.Pos.{Pos}
 use Rattle.aud_text.specs.declared.raise.Raise.{Raise}
 use Rattle.aud_text.specs.declared.limits.Limits.{Limits}
@@ -7,13 +7,12 @@ use Rattle.aud_text.specs.declared.limits.TheConstants.{OUTPUT}
 use Rattle.aud_typed.specs.declared.program.Exception.{Exception}
 use Rattle.aud_typed.specs.declared.program.Exception.TheVariants.{Predefined}
 use Rattle.aud_typed.specs.Tree.{Plan}
-use Rattle.aud_meaning.specs.declared.state.State.TheVariants as state
-use Rattle.aud_meaning.specs.Configuration.{Frame, Pending, Target, Shared, All}
+use Rattle.aud_meaning.specs.Configuration.{Pending, Target, Shared, All}
 use Rattle.aud_meaning.specs.Control.{Controls, Asked, raises_here, raises_in_part, declares, goes_on, assigns, puts, ends, is_left_by}
-use Rattle.aud_meaning.specs.Run.{own_move, seen, orders, step_with, moves_at, state_at}
+use Rattle.aud_meaning.specs.Run.{own_move, seen, orders, step_with}
 use Rattle.aud_meaning.specs.Control as control
 use Rattle.aud_meaning.specs.Effects.{assigned, put_out}
-use Rattle.aud_meaning.specs.Single.{Stage, runs, completed, terminated, Single, all_of, scene_in}
+use Rattle.aud_meaning.specs.Single.{runs, completed, terminated, Single, all_of, scene_in}
 
 module _ {C : Type 0} (plan : Plan) (name : List ℕ) (k : Controls C) (limits : Limits) where
   abbrev In : Single C → All C
@@ -74,20 +73,3 @@ module _ {C : Type 0} (plan : Plan) (name : List ℕ) (k : Controls C) (limits :
 
     pub closes_step : (raised : Option Exception) → Stepped (record q { stage = completed raised }) ≡ In (record q { stage = terminated raised; steps = suc q.steps })
     closes_step raised = refl
-
-  -- What can happen next.
-
-  pub no_moves_ended : (q : Single C) (raised : Option Exception) → moves_at plan k (In (record q { stage = terminated raised })) ≡ []
-  no_moves_ended q raised = refl
-
-  pub no_moves_cut : (q : Single C) (pending : Option Pending) → moves_at plan k (In (record q { stage = runs pending; cut = true })) ≡ []
-  no_moves_cut q pending = refl
-
-  pub state_ended : (q : Single C) (raised : Option Exception) → state_at plan k (In (record q { stage = terminated raised })) ≡ state.Ended
-  state_ended q raised = refl
-
-  pub state_cut : (q : Single C) (pending : Option Pending) → state_at plan k (In (record q { stage = runs pending; cut = true })) ≡ state.OutputFull
-  state_cut q pending = refl
-
-  pub one_move_completed : (q : Single C) (raised : Option Exception) → moves_at plan k (In (record q { stage = completed raised; cut = false })) ≡ own_move 0 ∷ []
-  one_move_completed q raised = refl

@@ -1,11 +1,9 @@
 -- A program under way that is its main procedure alone: no task, call or object was ever created.
-use Rattle.std.specs.Prelude.{ℕ, suc, List, [], ◌∷◌, Option, None, Bool}
+use Rattle.std.specs.Prelude.{ℕ, List, [], ◌∷◌, Option, None, Bool}
 use Rattle.aud_typed.specs.declared.program.Exception.{Exception}
 use Rattle.aud_typed.specs.Tree.{Plan}
-use Rattle.aud_meaning.specs.declared.state.Status.{Status}
-use Rattle.aud_meaning.specs.declared.state.Status.TheVariants.{Running, Completed, Terminated}
-use Rattle.aud_meaning.specs.Configuration.{Frame, Pending, for_body, Opened, Own, Shared, TaskAt, All}
-use Rattle.aud_meaning.specs.Evaluation.{Sight}
+use Rattle.aud_meaning.specs.declared.state.Status.TheVariants.{Running, Completed}
+use Rattle.aud_meaning.specs.Configuration.{Frame, Pending, for_body, Opened, Own, All}
 use Rattle.aud_meaning.specs.Control.{Scene}
 use Rattle.aud_meaning.specs.Tasks.{nobody, unit_of, facts_in}
 

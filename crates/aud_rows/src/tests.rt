@@ -4,7 +4,6 @@
 mod answers;
 mod benches;
 mod checks;
-mod codes;
 mod evaluations;
 mod lines;
 mod machines;

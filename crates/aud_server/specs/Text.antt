@@ -1,12 +1,12 @@
 -- The text of answers.
 use Rattle.std.specs.Prelude.{ℕ, ◌+◌, List, [], ◌∷◌, ◌++◌, length, Option, Some, None, Bool, true, false, ◌==◌, if◌then◌else◌, codes, count_by}
 use Rattle.std.specs.Fmt.{decimal}
-use Rattle.aud_text.specs.declared.raise.Raise.{Raise}
 use Rattle.aud_text.specs.declared.code.Code.{Code}
 use Rattle.aud_text.specs.Code.{number, words}
 use Rattle.aud_text.specs.Raise.{raise_name}
-use Rattle.aud_meaning.specs.declared.sequential.State.{State}
-use Rattle.aud_meaning.specs.declared.sequential.State.TheVariants as state
+use Rattle.aud_meaning.specs.View.{state_words}
+use Rattle.aud_bench.specs.declared.request.Raised.{Raised}
+use Rattle.aud_bench.specs.declared.request.Raised.TheVariants.{Predefined, Declared}
 use Rattle.aud_bench.specs.declared.request.Report.{Report}
 use Rattle.aud_bench.specs.declared.request.Answer.{Answer}
 use Rattle.aud_bench.specs.declared.request.Answer.TheVariants as answer
@@ -18,18 +18,17 @@ line_end = 10 ∷ []
 abbrev pub head : ℕ → List ℕ
 head lines = codes "+ " ++ decimal lines ++ line_end
 
-abbrev pub state_words : State → List ℕ
-state_words state.Ended = codes "ended"
-state_words state.OutputFull = codes "output full"
-state_words state.More = codes "more"
-state_words state.Stuck = codes "stuck"
-
 abbrev pub ran_line : Report → List ℕ
 ran_line r = codes "ran " ++ decimal r.steps ++ codes " " ++ state_words r.state ++ line_end
 
-abbrev pub report_text : Report → Option Raise → List ℕ
+-- the name of an exception
+abbrev pub raised_name : Raised → List ℕ
+raised_name (Predefined raise) = raise_name raise
+raised_name (Declared name) = name
+
+abbrev pub report_text : Report → Option Raised → List ℕ
 report_text r None = head 1 ++ ran_line r
-report_text r (Some raise) = head 2 ++ ran_line r ++ codes "main raised " ++ raise_name raise ++ line_end
+report_text r (Some raised) = head 2 ++ ran_line r ++ codes "main raised " ++ raised_name raised ++ line_end
 
 -- whether the text goes on behind its last line feed
 abbrev pub is_open : List ℕ → Bool

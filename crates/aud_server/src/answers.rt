@@ -3,14 +3,14 @@
 ghost use Rattle.std.specs.Prelude.{◌≡◌, ◌++◌, IfOk, OnOk, Some, None, codes};
 ghost use Rattle.std.specs.Fmt.{decimal};
 ghost use Rattle.aud_text.specs.Code.{words};
-ghost use Rattle.aud_server.specs.Text.{line_end, head, state_words, ran_line, report_text, is_open, output_lines, output_text, refusal, answer_text};
+ghost use Rattle.aud_meaning.specs.View.{state_words};
+ghost use Rattle.aud_server.specs.Text.{line_end, head, ran_line, raised_name, report_text, is_open, output_lines, output_text, refusal, answer_text};
 
-use aud_bench::request::{Answer, Report};
-use aud_meaning::sequential::State;
+use aud_bench::request::{Answer, Raised, Report};
+use aud_meaning::state::State;
 use aud_text::code::Code;
 use aud_text::digits::push_decimal;
 use aud_text::place::Pos;
-use aud_text::raise::Raise;
 use std::alloc::{AllocError, Global};
 
 /// The text of an answer: `+` and the number of its lines, and the lines; or `-`, the code of the
@@ -28,7 +28,7 @@ fn push_answer(out: &mut Vec<u8>, answer: &Answer) -> Result<(), AllocError>
 {
     match answer {
         Answer::Loaded(name) => push_loaded(out, name.as_bytes()),
-        Answer::Ran(report) => push_report(out, *report),
+        Answer::Ran(report) => push_report(out, report),
         Answer::Output(bytes) => push_output(out, bytes.as_bytes()),
         Answer::Done => push_head(out, 0),
         Answer::Refused(why) => push_refusal(out, *why),
@@ -61,50 +61,63 @@ fn push_line_end(out: &mut Vec<u8>) -> Result<(), AllocError>
     Ok(())
 }
 
-fn push_report(out: &mut Vec<u8>, report: Report) -> Result<(), AllocError>
-    ensures { OnOk result (out.new.items ≡ out.old.items ++ report_text report report.raised) }
+fn push_report(out: &mut Vec<u8>, report: &Report) -> Result<(), AllocError>
+    ensures { OnOk result (out.new.items ≡ out.old.items ++ report_text report.now report.now.raised) }
 {
-    match report.raised {
+    match &report.raised {
         None => push_ran(out, report),
-        Some(raise) => push_raised(out, report, raise),
+        Some(raised) => push_raised(out, report, raised),
     }
 }
 
-fn push_ran(out: &mut Vec<u8>, report: Report) -> Result<(), AllocError>
-    ensures { OnOk result (out.new.items ≡ out.old.items ++ report_text report None) }
+fn push_ran(out: &mut Vec<u8>, report: &Report) -> Result<(), AllocError>
+    ensures { OnOk result (out.new.items ≡ out.old.items ++ report_text report.now None) }
 {
     push_head(out, 1)?;
     push_ran_line(out, report)
 }
 
-fn push_raised(out: &mut Vec<u8>, report: Report, raise: Raise) -> Result<(), AllocError>
-    ensures { OnOk result (out.new.items ≡ out.old.items ++ report_text report (Some raise)) }
+fn push_raised(out: &mut Vec<u8>, report: &Report, raised: &Raised) -> Result<(), AllocError>
+    ensures { OnOk result (out.new.items ≡ out.old.items ++ report_text report.now (Some raised.now)) }
 {
     push_head(out, 2)?;
     push_ran_line(out, report)?;
     out.extend_from_slice(b"main raised ")?;
-    out.extend_from_slice(raise.name())?;
+    out.extend_from_slice(raised_name(raised))?;
     push_line_end(out)
 }
 
-fn push_ran_line(out: &mut Vec<u8>, report: Report) -> Result<(), AllocError>
-    ensures { OnOk result (out.new.items ≡ out.old.items ++ ran_line report) }
+fn raised_name(raised: &Raised) -> &[u8]
+    ensures { result.now ≡ raised_name raised.now }
+{
+    match raised {
+        Raised::Predefined(raise) => raise.name(),
+        Raised::Declared(name) => name.as_bytes(),
+    }
+}
+
+fn push_ran_line(out: &mut Vec<u8>, report: &Report) -> Result<(), AllocError>
+    ensures { OnOk result (out.new.items ≡ out.old.items ++ ran_line report.now) }
 {
     out.extend_from_slice(b"ran ")?;
     push_decimal(out, u64::from(report.steps))?;
     out.extend_from_slice(b" ")?;
-    out.extend_from_slice(state_words(report.state))?;
+    push_state(out, report.state)?;
     push_line_end(out)
 }
 
-fn state_words(state: State) -> &'static [u8]
-    ensures { result.now ≡ state_words state }
+fn push_state(out: &mut Vec<u8>, state: State) -> Result<(), AllocError>
+    ensures { OnOk result (out.new.items ≡ out.old.items ++ state_words state) }
 {
     match state {
-        State::Ended => b"ended",
-        State::OutputFull => b"output full",
-        State::More => b"more",
-        State::Stuck => b"stuck",
+        State::Ended => out.extend_from_slice(b"ended"),
+        State::OutputFull => out.extend_from_slice(b"output full"),
+        State::More => out.extend_from_slice(b"more"),
+        State::Waiting(time) => {
+            out.extend_from_slice(b"waiting ")?;
+            push_decimal(out, time)
+        }
+        State::Stuck => out.extend_from_slice(b"stuck"),
     }
 }
 

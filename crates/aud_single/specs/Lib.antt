@@ -2,4 +2,5 @@ pub mod Shown
 pub mod Steps
 pub mod Ticks
 pub mod Moving
+pub mod Next
 pub mod Running

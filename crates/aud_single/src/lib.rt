@@ -1,6 +1,7 @@
 // Machines of one procedure: compiled programs under way that are their main procedure alone.
 #![tactic(auto)]
 
+mod coming;
 mod moves;
 pub mod progress;
 pub mod run;

@@ -135,6 +135,13 @@ impl Progress {
         self.stage
     }
 
+    /// How many of its variables are elaborated.
+    pub fn elaborated(&self) -> usize
+        ensures { result ≡ self.now.elaborated }
+    {
+        self.elaborated
+    }
+
     /// All frames ever made, by their numbers.
     pub fn frames(&self) -> &Frames
         ensures { result.now ≡ self.now.frames }

@@ -1,14 +1,13 @@
 -- The code of a program without branches is what is written out from its first line to its last.
-use Rattle.std.proofs.Common.{◌≡◌, ℕ, zero, suc, ◌+◌, List, [], ◌∷◌, ◌++◌, length, drop, map, refl, sym, ap, ◌∙◌, subst, arith, append_assoc, append-nil, None, Option}
+use Rattle.std.proofs.Common.{◌≡◌, ℕ, zero, suc, ◌+◌, List, [], ◌∷◌, ◌++◌, length, drop, refl, sym, ap, ◌∙◌, subst, arith, append_assoc, append-nil}
 use Rattle.aud_text.specs.declared.place.Pos.{Pos}
-use Rattle.aud_typed.specs.Tree.{ValueExpr, Reference, TextExpr, Stmt, sequence, declare, null, assign, put, Part, nothing, some, no_handlers, Body, body, Program}
+use Rattle.aud_typed.specs.Tree.{Stmt, sequence, no_handlers, Program}
 use Rattle.aud_meaning.specs.declared.state.Construct.TheVariants as construct
-use Rattle.aud_meaning.specs.Items.{stmt_at, nowhere}
-use Rattle.aud_code.specs.Flat.{Does, Guards, Ends, EndLine, FlatLine, op, end, Flat}
-use Rattle.aud_gen.specs.Layout.{Line, Around, around_out, in_call, ways_count, stmt_size, part_size, main_size, stmt_code, part_code, guard_line, end_line, end_place, body_size, unit_code, units_code, starts_from, spare_from, code_of}
-use Rattle.aud_gen.specs.Instructions.{instrs_of, ending_of}
+use Rattle.aud_meaning.specs.Items.{nowhere}
+use Rattle.aud_code.specs.Flat.{end}
+use Rattle.aud_gen.specs.Layout.{Line, Around, around_out, in_call, stmt_size, part_size, main_size, stmt_code, part_code, guard_line, end_line, end_place, body_size, unit_code, units_code, starts_from, spare_from}
 use Rattle.aud_gen.specs.Assembly.{line_size, offset, step_lines, assembled_from, flat_of, flat_program}
-use Rattle.aud_gen.specs.Simple.{Simple, declares, idles, assigns, puts, stmt_of, in_order, step_size, step_to, steps_from, steps_at, steps_size, part_in, guard_end, unit_end, the_body, places_at, body_at, spare_at, size_of, code_from, SimpleCodeLaw}
+use Rattle.aud_gen.specs.Simple.{Simple, declares, idles, assigns, puts, stmt_of, in_order, step_size, step_to, steps_from, steps_at, steps_size, part_in, guard_end, unit_end, the_body, places_at, body_at, spare_at, size_of, SimpleCodeLaw}
 use Rattle.aud_gen.specs.Shows.{HasAt}
 use Rattle.aud_gen.proofs.Standing.Places.{has_front, has_back, has_tail, length-stmt, length-part, length-body}
 use Rattle.aud_gen.proofs.Flat.Assembly.{offset_zero}

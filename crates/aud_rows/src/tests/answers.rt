@@ -1,8 +1,8 @@
 // The text of answers.
 
 use crate::tests::finds;
-use aud_bench::request::{Answer, Report};
-use aud_meaning::sequential::State;
+use aud_bench::request::{Answer, Raised, Report};
+use aud_meaning::state::State;
 use aud_server::answers::answer_text;
 use aud_text::code::Code;
 use aud_text::name::Name;
@@ -32,31 +32,39 @@ fn says_what_was_done(rt: HostRuntime) -> Result<(), AllocError> {
     says(&rt, alloc, Answer::Done, b"+ 0\n")
 }
 
-// Steps, a state and an exception.
-type Told = (u32, State, Option<Raise>);
-
-const REPORTS: [(Told, &[u8]); 5] = [
-    ((12, State::Ended, None), b"+ 1\nran 12 ended\n"),
-    ((12, State::OutputFull, None), b"+ 1\nran 12 output full\n"),
-    ((12, State::More, None), b"+ 1\nran 12 more\n"),
-    ((12, State::Stuck, None), b"+ 1\nran 12 stuck\n"),
-    (
-        (0, State::Ended, Some(Raise::Constraint)),
-        b"+ 2\nran 0 ended\nmain raised CONSTRAINT_ERROR\n",
-    ),
+const REPORTS: [(State, &[u8]); 5] = [
+    (State::Ended, b"+ 1\nran 12 ended\n"),
+    (State::OutputFull, b"+ 1\nran 12 output full\n"),
+    (State::More, b"+ 1\nran 12 more\n"),
+    (State::Waiting(2000), b"+ 1\nran 12 waiting 2000\n"),
+    (State::Stuck, b"+ 1\nran 12 stuck\n"),
 ];
+
+fn reported(steps: u32, state: State, raised: Option<Raised>) -> Answer {
+    Answer::Ran(Report {
+        steps,
+        state,
+        raised,
+    })
+}
 
 #[test]
 fn reports_runs(rt: HostRuntime) -> Result<(), AllocError> {
-    for ((steps, state, raised), text) in REPORTS {
-        let report = Report {
-            steps,
-            state,
-            raised,
-        };
-        says(&rt, rt.alloc(), Answer::Ran(report), text)?;
+    for (state, text) in REPORTS {
+        says(&rt, rt.alloc(), reported(12, state, None), text)?;
     }
     Ok(())
+}
+
+#[test]
+fn reports_exceptions(rt: HostRuntime) -> Result<(), AllocError> {
+    let alloc = rt.alloc();
+    let raised = Some(Raised::Predefined(Raise::Constraint));
+    let text = b"+ 2\nran 0 ended\nmain raised CONSTRAINT_ERROR\n";
+    says(&rt, alloc, reported(0, State::Ended, raised), text)?;
+    let raised = Some(Raised::Declared(Name::from_source(alloc, b"Full")?));
+    let text = b"+ 2\nran 0 ended\nmain raised FULL\n";
+    says(&rt, alloc, reported(0, State::Ended, raised), text)
 }
 
 const OUTPUTS: [(&[u8], &[u8]); 5] = [

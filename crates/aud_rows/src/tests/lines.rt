@@ -4,7 +4,7 @@ use crate::tests::finds;
 use aud_bench::loading::load;
 use aud_code::line::Line;
 use aud_code::sound_code::SoundCode;
-use aud_gen::generate_sound;
+use aud_gen::generate;
 use aud_text::limits::STANDARD;
 use aud_typed::program::Program;
 use std::alloc::{AllocError, Global};
@@ -47,9 +47,7 @@ fn told(alloc: Global, code: &SoundCode) -> Result<String, AllocError> {
 }
 
 fn writes(rt: &impl Abort, alloc: Global, program: &Program) -> Result<(), AllocError> {
-    assert!(rt; 1 <= program.body.len());
-    let (declarations, statements) = program.body.split_at(1);
-    let code = generate_sound(alloc, declarations, statements, program.end)?;
+    let code = generate(alloc, program)?;
     assert_eq!(rt; code.starts(), [0].as_slice());
     assert_eq!(rt; code.spare(), 15);
     let found = told(alloc, &code)?;

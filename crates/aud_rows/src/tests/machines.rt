@@ -3,12 +3,13 @@
 use crate::tests::finds;
 use aud_bench::loading::load;
 use aud_machine::machine::{Machine, Ran};
-use aud_machine::task::Task;
-use aud_meaning::sequential::{NextStep, State, Status, StepKind};
+use aud_meaning::state::{NextStep, State, StepKind};
+use aud_single::progress::Stage;
 use aud_text::int32::Int32;
 use aud_text::limits::{CHOICES, CLOCK, Limits, STANDARD, STEPS};
 use aud_text::place::Pos;
 use aud_text::raise::Raise;
+use aud_typed::program::Exception;
 use std::alloc::{AllocError, Global};
 use std::process::Abort;
 use std::test::Fail;
@@ -43,7 +44,7 @@ enum Act {
 struct Told {
     steps: u32,
     state: State,
-    raised: Option<Raise>,
+    raised: Option<Exception>,
     choices: usize,
     clock: u64,
     is_cut: bool,
@@ -107,16 +108,9 @@ fn looks(rt: &impl Abort, machine: &Machine) {
     assert!(rt; machine.program().name.is(b"M") && machine.limits() == SMALL);
     let parts = machine.parts();
     assert!(rt; parts.steps == 2 && parts.clock == 0);
-    assert!(rt; matches!(parts.tasks, [main] if is_at_work(main)));
+    assert!(rt; parts.main == Stage::Runs(None) && parts.elaborated == 1);
     assert!(rt; parts.frames.len() == 1);
     assert!(rt; parts.frames.frame(0) == [Int32::new(42)].as_slice());
-}
-
-fn is_at_work(main: &Task) -> bool {
-    main.status() == Status::Running
-        && main.pending().is_none()
-        && main.raised().is_none()
-        && main.display() == [0].as_slice()
 }
 
 fn tells(rt: &impl Abort, machine: &Machine, wanted: Told) {
@@ -211,7 +205,7 @@ fn puts_the_answer(rt: HostRuntime) -> Result<(), Fail> {
 const PUTS: [Row; 2] = [
     Row {
         act: Act::Slice(3),
-        // 2 instructions for the declaration, 4 for the assignment, 5 for the output
+        // 2 instructions for the declaration, 5 for the assignment, 4 for the output
         ran: Some(Ran {
             steps: 3,
             ticks: 11,
@@ -222,10 +216,10 @@ const PUTS: [Row; 2] = [
     },
     Row {
         act: Act::Slice(100),
-        // 1 for the end of the body, none for closing it
+        // none for the end of the body, nor for closing it
         ran: Some(Ran {
             steps: 2,
-            ticks: 1,
+            ticks: 0,
             state: State::Ended,
         }),
         told: Told {
@@ -253,7 +247,7 @@ const RAISES: [Row; 1] = [Row {
     told: Told {
         steps: 3,
         state: State::Ended,
-        raised: Some(Raise::Constraint),
+        raised: Some(Exception::Predefined(Raise::Constraint)),
         ..NEW
     },
     output: b"",
@@ -286,7 +280,7 @@ const TAKES: [Row; 2] = [
 // The whole program.
 const ALL: Option<Ran> = Some(Ran {
     steps: 5,
-    ticks: 12,
+    ticks: 11,
     state: State::Ended,
 });
 
@@ -451,7 +445,7 @@ const LENT: [Row; 2] = [
         act: Act::Slice(2),
         ran: Some(Ran {
             steps: 2,
-            ticks: 6,
+            ticks: 7,
             state: State::More,
         }),
         told: Told { steps: 2, ..NEW },

@@ -1,5 +1,5 @@
 use Rattle.std.proofs.Common.{Ok, sym, ap, subst}
-use Rattle.aud_typed.specs.Sequential.View.{plain_program}
+use Rattle.aud_typed.specs.View.{plain_program}
 use Rattle.aud_bench.specs.declared.request.Answer.TheVariants as answer
 use Rattle.aud_bench.specs.Alone.{load_reply}
 use Rattle.aud_bench.specs.Serving.{Replies}

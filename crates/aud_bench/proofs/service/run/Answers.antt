@@ -1,6 +1,6 @@
 use Rattle.std.proofs.Common.{inl, inr, ap, ◌∙◌, arith}
-use Rattle.aud_meaning.specs.Sequential.Configuration.{Configuration}
-use Rattle.aud_meaning.specs.Sequential.Run.{run}
+use Rattle.aud_meaning.specs.Configuration.{Configuration}
+use Rattle.aud_meaning.specs.Run.{run}
 use Rattle.aud_bench.specs.Alone.{ended_by}
 use Rattle.aud_bench.proofs.Serving.{goes_on, is_done}
 use Rattle.aud_bench.proofs.service.run.Goals as goal
@@ -9,7 +9,7 @@ use Rattle.aud_bench.proofs.service.run.Goals.{else-now-wanted-via-then-now-want
 pub returns-then-has_more-clause-serves : goal.returns-then-has_more-clause-serves
 returns-then-has_more-clause-serves c =
     λ bounds loaded under.
-    let here : Configuration = run bounds c.args.progress loaded.now in
+    let here : Configuration = run bounds loaded.program c.args.progress loaded.now in
     let steps = c.steps.ensures.shown here under.is_behind.shows in
     goes_on bounds c.args.steps c.args.progress loaded c.args.machine.now under c.min-wanted.result c.within-now.result c.args.units c.slice.new.self c.in_ok-ran.ran
     (omega (arith, steps, c.saturating_sub-left.ensures, c.if-left-eq0.false)) (omega (arith, steps, c.saturating_sub-left.ensures, c.saturating_sub.ensures, c.min-wanted.ensures)) c.within-now.ensures
@@ -18,7 +18,7 @@ returns-then-has_more-clause-serves c =
 pub returns-clause-serves : goal.returns-clause-serves
 returns-clause-serves c =
     λ bounds loaded under.
-    let here : Configuration = run bounds c.args.progress loaded.now in
+    let here : Configuration = run bounds loaded.program c.args.progress loaded.now in
     let steps = c.steps.ensures.shown here under.is_behind.shows in
     let did = c.in_ok-ran.ensures.runs here under.is_behind.shows in
     is_done bounds c.args.steps c.args.progress loaded c.args.machine.now under c.min-wanted.result c.within-now.result c.args.units c.slice.new.self c.in_ok-ran.ran

@@ -11,9 +11,9 @@ use Rattle.aud_typed.specs.Tree as tree
 use Rattle.aud_meaning.specs.Items.{nowhere}
 use Rattle.aud_code.specs.Sound.{IsSound}
 use Rattle.aud_gen.specs.Assembly.{flat_program}
-use Rattle.aud_gen.specs.Simple.{Simple, idles, stmt_of, stmts_of, the_body}
+use Rattle.aud_gen.specs.Simple.{Simple, idles, stmt_of, stmts_of}
 use Rattle.aud_gen.specs.Written.{simple_of, body_code}
-use Rattle.aud_gen.proofs.Flat.Bodies.{body_code_sound}
+use Rattle.aud_gen.proofs.Flat.Sound.{code_is_sound}
 use Rattle.aud_gen.proofs.Flat.Simple.{simple_code_law}
 use Rattle.aud_gen.proofs.write.generate.Goals as goal
 
@@ -35,12 +35,14 @@ of_body ds (s ∷ ss) begin end program is none = simple_code_law ds s ss begin 
 written : (p : Program) → body_code (map simple_of p.declarations.items) (map simple_of p.statements.items) p.end ≡ flat_program (plain_program p)
 written p =
     let is = ap (λ z. body (part_of z) p.begin (in_sequence (map plain_stmt p.statements.items)) no_handlers p.end ∷ []) (all_same p.declarations.items)
-        ∙ ap (λ z. body (part_of (stmts_of (map simple_of p.declarations.items))) p.begin (in_sequence z) no_handlers p.end ∷ []) (all_same p.statements.items) in
+    ∙ ap (λ z. body (part_of (stmts_of (map simple_of p.declarations.items))) p.begin (in_sequence z) no_handlers p.end ∷ []) (all_same p.statements.items) in
     sym (of_body (map simple_of p.declarations.items) (map simple_of p.statements.items) p.begin p.end (plain_program p) is refl)
 
+-- what was written is sound, since it is the program's code
 pub unreachable-requires : goal.unreachable-requires
 unreachable-requires c =
-    false≢true (c.in-None.ensures.exact.1 (subst IsSound (sym c.in_ok-code.ensures) (body_code_sound (map simple_of c.args.program.now.declarations.items) (map simple_of c.args.program.now.statements.items) c.args.program.now.end)))
+    let is = c.in_ok-code.ensures ∙ rw (c.deref.ensures.value, c.deref-2.ensures.value) (written c.args.program.now) in
+    false≢true (c.in-None.ensures.exact.1 (subst IsSound (sym is) (code_is_sound (plain_program c.args.program.now))))
 
-pub returns-in-Some : goal.returns-in-Some
-returns-in-Some c = c.in-Some.ensures.same c.in-Some.sound
+pub returns : goal.returns
+returns c = c.in-Some.ensures.same ∙ c.in_ok-code.ensures ∙ rw (c.deref.ensures.value, c.deref-2.ensures.value) (written c.args.program.now)

@@ -1,0 +1,69 @@
+-- The next step of a program that is its main procedure alone.
+use Rattle.std.proofs.Common.{◌≡◌, ℕ, List, Option, Some, None, true, refl, sym, ap, ◌∙◌}
+use Rattle.aud_text.specs.declared.place.Pos.{Pos}
+use Rattle.aud_typed.specs.Tree.{Plan}
+use Rattle.aud_meaning.specs.declared.state.StepKind.{StepKind}
+use Rattle.aud_meaning.specs.declared.state.NextStep.{NextStep}
+use Rattle.aud_meaning.specs.Configuration.{Pending, Own}
+use Rattle.aud_meaning.specs.Evaluation.{Sight}
+use Rattle.aud_meaning.specs.Control.{Coming}
+use Rattle.aud_meaning.specs.Items.{coming_raised}
+use Rattle.aud_meaning.specs.Tasks.{unit_of}
+use Rattle.aud_meaning.specs.Single.{Stage, Single, runs, completed, terminated, own_in, all_of, scene_in}
+use Rattle.aud_meaning.specs.View.{coming_kind, coming_step_at}
+use Rattle.aud_code.specs.declared.line.EndLine.{EndLine}
+use Rattle.aud_code.specs.declared.line.Ending.TheVariants.{Declare, Null, Assign, Put}
+use Rattle.aud_code.specs.declared.line.Last.{Last}
+use Rattle.aud_code.specs.declared.line.Last.TheVariants.{Does, Guards, Ends}
+use Rattle.aud_code.specs.Places.{Spot, is_there}
+use Rattle.aud_code.specs.Instr.{Ended, no_operands}
+use Rattle.aud_code.specs.Eval.{eval}
+use Rattle.aud_code.specs.Flat.{Flat, flat_controls, instrs_at, end_at, no_scene, coming_last, handler_at}
+use Rattle.aud_code.specs.Flat as flat
+use Rattle.aud_code.specs.View.{plain_last, plain_end, EndsPlainly}
+use Rattle.aud_single.specs.Next.{kind_of, next_in}
+use Rattle.aud_single.proofs.Steps.{no_handler}
+
+module _ (code : Flat) (plain : EndsPlainly code) (q : Single Spot) (l : EndLine) (is_end : plain_end l ≡ end_at code q.control.place) (plan : Plan) (name : List ℕ) where
+  abbrev own : Stage → Own
+  own s = own_in plan name s q.elaborated
+
+  -- what its statements are about to do
+  abbrev kind_in : Stage → Coming → StepKind
+  kind_in s x = coming_kind plan (flat_controls plan code).barrier x (own s)
+
+  by_kind : (last : Last) (s : Sight) (x : Ended) → kind_in (runs None) (coming_last plan (plain_last last) s x) ≡ kind_of last
+  by_kind (Does Declare next) s x = refl
+  by_kind (Does Null next) s x = refl
+  by_kind (Does Assign next) s x = refl
+  by_kind (Does Put next) s x = refl
+  by_kind Guards s x = refl
+  by_kind Ends s x = refl
+
+  abbrev Shown : Stage → Option NextStep
+  Shown s = coming_step_at plan (flat_controls plan code) 0 (all_of plan name (record q { stage = s }))
+
+  running : next_in l (unit_of plan 0).end (runs None) ≡ Shown (runs None)
+  running =
+      let s = (scene_in plan name (record q { stage = runs None })).sight in
+      let x = eval true (no_scene s) (instrs_at code q.control.place) 0 no_operands in
+      ap (λ k. Some (record { kind = k; at = l.at })) (sym (by_kind l.last s x))
+      ∙ ap (λ (e : flat.EndLine). Some (record { kind = kind_in (runs None) (coming_last plan e.last s x); at = e.at })) is_end
+
+  -- no handler is found, so that the body is left
+  raised : (p : Pending) → next_in l (unit_of plan 0).end (runs (Some p)) ≡ Shown (runs (Some p))
+  raised p =
+      let guards = plain (end_at code q.control.place).out in
+      ap (λ h. Some (record { kind = kind_in (runs (Some p)) (coming_raised (is_there h)); at = p.at })) (sym (no_handler code q.control.place guards.0 p.exception guards.1))
+
+  each : (s : Stage) → next_in l (unit_of plan 0).end s ≡ Shown s
+  each (runs None) = running
+  each (runs (Some p)) = raised p
+  each (completed r) = refl
+  each (terminated r) = refl
+
+-- what comes next of the main procedure, whatever the name, where the plan has its `end` at this place
+pub comes : (code : Flat) (q : Single Spot) (l : EndLine) (end : Pos) (next : Option NextStep) → EndsPlainly code → plain_end l ≡ end_at code q.control.place → next ≡ next_in l end q.stage →
+    (plan : Plan) → (name : List ℕ) → (unit_of plan 0).end ≡ end → next ≡ coming_step_at plan (flat_controls plan code) 0 (all_of plan name q)
+comes code q l end next plain is_end is plan name there =
+    is ∙ ap (λ e. next_in l e q.stage) (sym there) ∙ each code plain q l is_end plan name q.stage

@@ -1,0 +1,7 @@
+use Rattle.aud_single.proofs.Next.{comes}
+use Rattle.aud_single.proofs.progress.Progress.coming.Goals as goal
+
+pub returns : goal.returns
+returns c =
+    let next = comes c.args.code.now c.args.self.now c.ending.result c.args.end c.next.result c.len.ensures.plain (rw c.place.ensures.value at c.ending.ensures) c.next.ensures in
+    rw c.if-task-ne0.false next
