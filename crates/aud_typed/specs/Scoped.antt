@@ -63,10 +63,10 @@ PartScoped nothing scope = Unit {0}
 PartScoped (some s) scope = StmtScoped s scope
 
 abbrev declarations_of : Body → Part
-declarations_of (body declarations begin statements handlers end) = declarations
+declarations_of (body declarations begin statements _ end) = declarations
 
 abbrev statements_of : Body → Stmt
-statements_of (body declarations begin statements handlers end) = statements
+statements_of (body declarations begin statements _ end) = statements
 
 -- the body's own frame is open, at first with no variables, and behind its declarations with those of its table
 pub record BodyScoped (b : Body) (region : List Named) : Type 0 where
