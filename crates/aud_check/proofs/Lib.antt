@@ -6,3 +6,4 @@ pub mod Elaborated
 pub mod Judged
 pub mod First
 pub mod Called
+pub mod Scoping

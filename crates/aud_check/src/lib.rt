@@ -1,7 +1,9 @@
 // The checker: the faults of a program, and the typed program of one without faults.
 #![tactic(auto)]
 
+ghost use Rattle.std.specs.Prelude.{IfOk};
 ghost use Rattle.aud_syntax.specs.View.{plain_unit};
+ghost use Rattle.aud_typed.specs.Scoped.{IsScoped};
 ghost use Rattle.aud_typed.specs.View.{plain_program};
 ghost use Rattle.aud_check.specs.Checked.{checked};
 ghost use Rattle.aud_check.specs.Gives.{Gives};
@@ -21,14 +23,16 @@ use aud_syntax::tree::Unit;
 use aud_typed::program::Program;
 use std::alloc::Global;
 
-/// The typed program of a program without faults (RM 10.1.1).
+/// The typed program of a program without faults (RM 10.1.1). Each variable in it has been elaborated where it
+/// is read or assigned (RM 3.3.1).
 ///
 /// # Errors
 ///
 /// `Wrong` with the first fault in the text, and of several at one place the one whose code has the
 /// least number; `Memory` where memory is refused.
 pub fn check(alloc: Global, unit: &Unit) -> Result<Program, CheckFault>
-    ensures { Gives plain_program (checked (plain_unit unit.now)) result }
+    ensures answer { Gives plain_program (checked (plain_unit unit.now)) result }
+    ensures scoped { IfOk result (λ program. IsScoped (plain_program program)) }
 {
     let mut faults = Least::new();
     let program = unit::typed(alloc, unit, &mut faults)?;

@@ -3,7 +3,7 @@ use Rattle.std.proofs.Common.{refl}
 use Rattle.aud_parse.specs.Rows.{Programs, Declarations, Statements, Primaries, Operators, WrongPrograms, WrongDeclarations, WrongStatements, WrongExpressions, FewLevels, AllLevels}
 
 pub programs : Programs
-programs = (refl, refl, refl, refl)
+programs = (refl, refl, refl, refl, refl)
 
 pub declarations : Declarations
 declarations = (refl, refl, refl, refl)

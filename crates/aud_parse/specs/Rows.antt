@@ -93,6 +93,8 @@ Programs =
     (Ok (program [] (body (at 2 1) (stmts (null (at 3 3) ∷ [])) (at 4 1) (Some (id (codes "P") (at 4 5))))))
     × IsRead (codes "procedure P is begin null; end Other_Name;")
     (Ok (program [] (body (at 1 16) (stmts (null (at 1 22) ∷ [])) (at 1 28) (Some (id (codes "OTHER_NAME") (at 1 32))))))
+    × IsRead (codes "-- a comment\n  procedure P is begin null; end;")
+    (Ok (unit (at 2 3) (id (codes "P") (at 2 13)) (decls []) (body (at 2 18) (stmts (null (at 2 24) ∷ [])) (at 2 30) None)))
     × IsRead example (Ok (unit (at 1 1) (id (codes "SUM") (at 1 11)) (decls (example_decl ∷ [])) example_body))
 
 -- declarations (RM 3.3.1)

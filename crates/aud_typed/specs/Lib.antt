@@ -1,2 +1,3 @@
 pub mod Tree
 pub mod View
+pub mod Scoped

@@ -1,11 +1,13 @@
 use Rattle.std.specs.Prelude.{Option, Some, None, Ok}
-use Rattle.std.proofs.Common.{◌≡◌, ◌∙◌, ap, sym}
+use Rattle.std.proofs.Common.{◌≡◌, ◌∙◌, ap, subst, sym}
 use Rattle.aud_syntax.specs.View.{plain_unit}
 use Rattle.aud_syntax.specs.Plain.{Unit}
+use Rattle.aud_typed.specs.Scoped.{IsScoped}
 use Rattle.aud_check.specs.declared.fault.Fault.{Fault}
 use Rattle.aud_check.specs.Least.{noted}
 use Rattle.aud_check.specs.Checked.{faults, typed}
-use Rattle.aud_check.proofs.Judged.{judged_fine, judged_wrong}
+use Rattle.aud_check.proofs.Judged.{none_noted, judged_fine, judged_wrong}
+use Rattle.aud_check.proofs.Scoping.{typed_scoped}
 use Rattle.aud_check.proofs.check.Goals as goal
 
 -- the faults that were noted are none
@@ -16,9 +18,12 @@ pub returns-in-None : goal.returns-in-None
 returns-in-None c =
     let u : Unit = plain_unit c.args.unit.now in
     let e : noted None (faults u) ≡ None = none_of u c.new-faults.result c.typed.new.faults c.get.result c.new-faults.ensures c.in_ok-program.ensures.noted c.get.ensures c.in-None.is in
-    judged_fine (faults u) (typed u) e ∙ ap Ok (sym c.in_ok-program.ensures.program)
+    record {
+      answer = judged_fine (faults u) (typed u) e ∙ ap Ok (sym c.in_ok-program.ensures.program);
+      scoped = subst IsScoped (sym c.in_ok-program.ensures.program) (typed_scoped u (none_noted (faults u) e));
+    }
 
-pub returns-in-Some : goal.returns-in-Some
-returns-in-Some c =
+pub returns-in-Some-clause-answer : goal.returns-in-Some-clause-answer
+returns-in-Some-clause-answer c =
     let e : noted None (faults (plain_unit c.args.unit.now)) ≡ Some c.in-Some.fault = ap (λ o. noted o (faults (plain_unit c.args.unit.now))) (sym c.new-faults.ensures) ∙ sym c.in_ok-program.ensures.noted ∙ sym c.get.ensures ∙ c.in-Some.is in
     judged_wrong (faults (plain_unit c.args.unit.now)) (typed (plain_unit c.args.unit.now)) c.in-Some.fault e

@@ -1,0 +1,342 @@
+-- Where there are no faults, each variable of the typed program has been elaborated where it is read or assigned.
+use Rattle.std.specs.Prelude.{IfSome}
+use Rattle.std.specs.List.{All, AllByRecursion}
+use Rattle.std.specs.Str.{bytes_eq}
+use Rattle.std.proofs.Common.{◌≡◌, ℕ, suc, ℤ, ◌+◌, ◌≤◌, Bool, true, false, List, [], ◌∷◌, ◌++◌, length, Option, Some, None, if◌then◌else◌, map, arith, codes, not, refl, sym, ◌∙◌, ap, subst, add-one}
+use Rattle.std.proofs.lemmas.List.{length-map, length_push}
+use Rattle.std.proofs.lemmas.List.Elements.{All-from_recursion, All-nil, All-push}
+use Rattle.std.proofs.lemmas.Map.Entries.{All-lookup}
+use Rattle.aud_text.specs.declared.place.Pos.{Pos}
+use Rattle.aud_syntax.specs.declared.tree.Ident.{Ident}
+use Rattle.aud_syntax.specs.declared.tree.Signed.{Signed}
+use Rattle.aud_syntax.specs.declared.tree.Sign.{Sign}
+use Rattle.aud_syntax.specs.declared.tree.Sign.TheVariants as sign
+use Rattle.aud_syntax.specs.declared.tree.Adding.{Adding}
+use Rattle.aud_syntax.specs.declared.tree.Adding.TheVariants as adding
+use Rattle.aud_syntax.specs.declared.tree.Highest.{Highest}
+use Rattle.aud_syntax.specs.declared.tree.Highest.TheVariants.{Magnitude, Not}
+use Rattle.aud_syntax.specs.Plain as plain
+use Rattle.aud_typed.specs.declared.program.Unary.{Unary}
+use Rattle.aud_typed.specs.declared.program.Unary.TheVariants as unary
+use Rattle.aud_typed.specs.declared.program.Binary.{Binary}
+use Rattle.aud_typed.specs.Tree as tree
+use Rattle.aud_typed.specs.Scoped.{Scope, IntegerScoped, ValueScoped, TextScoped, scope_after, StmtScoped, scope_behind, PartScoped, IsScoped}
+use Rattle.aud_check.specs.declared.fault.Fault.{Fault}
+use Rattle.aud_check.specs.declared.names.Meaning.{Meaning}
+use Rattle.aud_check.specs.declared.names.Meaning.TheVariants.{IntegerType, PutLine, MainProcedure, Variable}
+use Rattle.aud_check.specs.Names as names
+use Rattle.aud_check.specs.Names.{Symbol, Region, Place}
+use Rattle.aud_check.specs.Rules as rules
+use Rattle.aud_check.specs.Expressions as e
+use Rattle.aud_check.specs.Expressions.{Typed, number, string, unknown}
+use Rattle.aud_check.specs.Declarations as d
+use Rattle.aud_check.specs.Statements as s
+use Rattle.aud_check.specs.Checked as c
+
+-- nothing is said of an expression whose type is unknown
+abbrev TypedScoped : Scope → Typed → Type 0
+TypedScoped scope (number x) = IntegerScoped x scope
+TypedScoped scope (string x) = TextScoped x scope
+TypedScoped scope unknown = Unit {0}
+
+-- what has this meaning may be read
+abbrev MeaningScoped : Scope → Meaning → Type 0
+MeaningScoped scope m = TypedScoped scope (e.variable_read (Some m))
+
+abbrev VisibleScoped : Scope → Option Meaning → Type 0
+VisibleScoped scope m = IfSome m (MeaningScoped scope)
+
+abbrev SymbolsScoped : Scope → List Symbol → Type 0
+SymbolsScoped scope xs = All (λ x. MeaningScoped scope x.1) xs
+
+abbrev RegionsScoped : Scope → List Region → Type 0
+RegionsScoped scope rs = AllByRecursion (λ r. SymbolsScoped scope r.symbols) rs
+
+-- each variable that is visible has been elaborated
+abbrev Sees : Scope → Place → Type 0
+Sees scope n = (name : List ℕ) → VisibleScoped scope (names.visible name n)
+
+-- a statement, which elaborates nothing
+abbrev IsStatement : Scope → tree.Stmt → Type 0
+IsStatement scope x = StmtScoped x scope × (scope_after x scope ≡ scope)
+
+either : {X : Type 0} (P : X → Type 0) (b : Bool) (x y : X) → P x → P y → P (if b then x else y)
+either P true x y h i = h
+either P false x y h i = i
+
+-- names
+
+module _ (scope : Scope) where
+  or_scoped : (x y : Option Meaning) → VisibleScoped scope x → VisibleScoped scope y → VisibleScoped scope (names.or_outside x y)
+  or_scoped None y h i = i
+  or_scoped (Some m) y h i = h
+
+  declared_scoped : (name : List ℕ) (rs : List Region) → RegionsScoped scope rs → VisibleScoped scope (names.declared name rs)
+  declared_scoped name [] h = tt
+  declared_scoped name (r ∷ rs) h = or_scoped (names.named_in name r.symbols) _ (All-lookup (MeaningScoped scope) (bytes_eq name) r.symbols h.0) (declared_scoped name rs h.1)
+
+  regions_see : (n : Place) → RegionsScoped scope n.regions → Sees scope n
+  regions_see n h name = either (VisibleScoped scope) (names.is_hidden name n.hidden) _ _ tt (declared_scoped name n.regions h)
+
+  -- expressions
+
+  number_scoped : (x : Option ℤ) (at : Pos) → TypedScoped scope (e.check_number x at).typed
+  number_scoped None at = tt
+  number_scoped (Some x) at = tt
+
+  read_scoped : (m : Option Meaning) → VisibleScoped scope m → TypedScoped scope (e.variable_read m)
+  read_scoped None h = tt
+  read_scoped (Some m) h = h
+
+  one_scoped : (op : Unary) (t : Typed) → TypedScoped scope t → TypedScoped scope (e.one op t)
+  one_scoped op (number x) h = h
+  one_scoped op _ h = tt
+
+  integer_scoped : (t : Typed) → TypedScoped scope t → TypedScoped scope (e.integer_only t)
+  integer_scoped (number x) h = h
+  integer_scoped _ h = tt
+
+  sign_scoped : (x : Sign) (t : Typed) → TypedScoped scope t → TypedScoped scope (elim x as (λ _. Typed) [ sign.Plus ↦ e.integer_only t | sign.Minus ↦ e.one unary.Negative t ])
+  sign_scoped sign.Plus t h = integer_scoped t h
+  sign_scoped sign.Minus t h = one_scoped unary.Negative t h
+
+  signed_scoped : (x : Option Signed) (at : Pos) (t : Typed) → TypedScoped scope t → TypedScoped scope (e.signed x at t).typed
+  signed_scoped None at t h = h
+  signed_scoped (Some x) at t h = sign_scoped x.sign t h
+
+  combined_scoped : (op : Binary) (x y : Typed) → TypedScoped scope x → TypedScoped scope y → TypedScoped scope (e.combined op x y)
+  combined_scoped op (number x) (number y) h i = (h, i)
+  combined_scoped op _ _ h i = tt
+
+  joined_scoped : (x y : Typed) → TypedScoped scope x → TypedScoped scope y → TypedScoped scope (e.joined x y)
+  joined_scoped (string x) (string y) h i = (h, i)
+  joined_scoped _ _ h i = tt
+
+  adding_scoped : (op : Adding) (at : Pos) (x : Typed) (at' : Pos) (y : Typed) → TypedScoped scope x → TypedScoped scope y → TypedScoped scope (e.adding_operator op at x at' y).typed
+  adding_scoped adding.Join at x at' y h i = joined_scoped x y h i
+  adding_scoped _ at x at' y h i = combined_scoped _ x y h i
+
+  highest_scoped : (op : Highest) (at : Pos) (t : Typed) → TypedScoped scope t → TypedScoped scope (e.highest op at t).typed
+  highest_scoped Magnitude at t h = one_scoped unary.Magnitude t h
+  highest_scoped Not at t h = tt
+
+  alone_scoped : (m : Meaning) (prefix designator : Ident) → MeaningScoped scope m → TypedScoped scope (e.image_alone m prefix designator).typed
+  alone_scoped (Variable v) prefix designator h = h
+  alone_scoped _ prefix designator h = tt
+
+  image_scoped : (t : Typed) → TypedScoped scope t → TypedScoped scope (e.image_of t)
+  image_scoped (number x) h = h
+  image_scoped _ h = tt
+
+  with_scoped : (m : Meaning) (prefix designator : Ident) (at : Pos) (t : Typed) → TypedScoped scope t → TypedScoped scope (e.image_with m prefix designator at t).typed
+  with_scoped IntegerType prefix designator at t h = image_scoped t h
+  with_scoped _ prefix designator at t h = tt
+
+  any_image_scoped : (m : Meaning) (prefix designator : Ident) (a : Option (Pos × Typed)) → MeaningScoped scope m → IfSome a (λ x. TypedScoped scope x.1) → TypedScoped scope (e.image m prefix designator a).typed
+  any_image_scoped m prefix designator None h i = alone_scoped m prefix designator h
+  any_image_scoped m prefix designator (Some a) h i = with_scoped m prefix designator a.0 a.1 i
+
+  attribute_scoped : (m : Option Meaning) (prefix designator : Ident) (a : Option (Pos × Typed)) → VisibleScoped scope m → IfSome a (λ x. TypedScoped scope x.1) → TypedScoped scope (e.check_attribute m prefix designator a).typed
+  attribute_scoped None prefix designator a h i = tt
+  attribute_scoped (Some m) prefix designator a h i =
+      either (λ (x : e.Checked). TypedScoped scope x.typed) (bytes_eq designator.name (codes "IMAGE")) _ _ (any_image_scoped m prefix designator a h i) tt
+
+module _ (scope : Scope) (n : Place) (sees : Sees scope n) where
+  mutual
+    expr_scoped : (x : plain.Expr) → TypedScoped scope (e.check_expr x n).typed
+    expr_scoped (plain.alone x) = rel_scoped x
+
+    rel_scoped : (x : plain.Rel) → TypedScoped scope (e.check_rel x n).typed
+    rel_scoped (plain.unrelated x) = simple_scoped x
+
+    simple_scoped : (x : plain.Simple) → TypedScoped scope (e.check_simple x n).typed
+    simple_scoped (plain.simple x t rest) = addeds_scoped rest _ _ (signed_scoped scope x _ _ (term_scoped t))
+
+    addeds_scoped : (x : plain.Addeds) (at : Pos) (left : Typed) → TypedScoped scope left → TypedScoped scope (e.check_addeds x n at left).typed
+    addeds_scoped plain.no_addeds at left h = h
+    addeds_scoped (plain.more_addeds x rest) at left h = addeds_scoped rest at _ (added_scoped x at left h)
+
+    added_scoped : (x : plain.Added) (at : Pos) (left : Typed) → TypedScoped scope left → TypedScoped scope (e.check_added x n at left).typed
+    added_scoped (plain.added op t) at left h = adding_scoped scope op at left _ _ h (term_scoped t)
+
+    term_scoped : (x : plain.Term) → TypedScoped scope (e.check_term x n).typed
+    term_scoped (plain.term f rest) = multiplieds_scoped rest _ _ (factor_scoped f)
+
+    multiplieds_scoped : (x : plain.Multiplieds) (at : Pos) (left : Typed) → TypedScoped scope left → TypedScoped scope (e.check_multiplieds x n at left).typed
+    multiplieds_scoped plain.no_multiplieds at left h = h
+    multiplieds_scoped (plain.more_multiplieds x rest) at left h = multiplieds_scoped rest at _ (multiplied_scoped x at left h)
+
+    multiplied_scoped : (x : plain.Multiplied) (at : Pos) (left : Typed) → TypedScoped scope left → TypedScoped scope (e.check_multiplied x n at left).typed
+    multiplied_scoped (plain.multiplied op f) at left h = combined_scoped scope _ left _ h (factor_scoped f)
+
+    factor_scoped : (x : plain.Factor) → TypedScoped scope (e.check_factor x n).typed
+    factor_scoped (plain.factor None p) = primary_scoped p
+    factor_scoped (plain.factor (Some op) p) = highest_scoped scope op.highest _ _ (primary_scoped p)
+
+    primary_scoped : (x : plain.Primary) → TypedScoped scope (e.check_primary x n).typed
+    primary_scoped (plain.integer x) = number_scoped scope x.value x.at
+    primary_scoped (plain.text x) = tt
+    primary_scoped (plain.name x) = read_scoped scope _ (sees (e.name_ident x).name)
+    primary_scoped (plain.attribute x designator argument) = argument_scoped argument (e.name_ident x) designator
+    primary_scoped (plain.group at x) = expr_scoped x
+
+    argument_scoped : (x : plain.MaybeExpr) (prefix designator : Ident) → TypedScoped scope (e.check_image x n prefix designator).typed
+    argument_scoped plain.no_expr prefix designator = attribute_scoped scope _ prefix designator None (sees prefix.name) tt
+    argument_scoped (plain.an_expr x) prefix designator = attribute_scoped scope _ prefix designator (Some (e.expr_at x, (e.check_expr x n).typed)) (sees prefix.name) (expr_scoped x)
+
+  -- statements
+
+  assigned_scoped : (m : Option Meaning) (at : Pos) (t : Typed) → VisibleScoped scope m → TypedScoped scope t → IsStatement scope (s.assigned m at t)
+  assigned_scoped (Some (Variable v)) at (number x) h i = ((h, i), refl)
+  assigned_scoped _ at _ h i = (tt, refl)
+
+  called_scoped : (m : Option Meaning) (at : Pos) (t : Typed) → TypedScoped scope t → IsStatement scope (s.called m at t)
+  called_scoped (Some PutLine) at (string x) h = ((h, tt), refl)
+  called_scoped _ at _ h = (tt, refl)
+
+  called_with_scoped : (xs : plain.Args) (i : Ident) → IsStatement scope (s.called_with xs i n)
+  called_with_scoped (plain.more_args x plain.no_args) i = called_scoped (names.visible i.name n) i.at _ (expr_scoped x)
+  called_with_scoped _ i = (tt, refl)
+
+  stmt_scoped : (x : plain.Stmt) → IsStatement scope (s.typed_stmt x n)
+  stmt_scoped (plain.null at) = (tt, refl)
+  stmt_scoped (plain.assign x value) = assigned_scoped (names.visible (e.name_ident x).name n) (e.name_ident x).at _ (sees (e.name_ident x).name) (expr_scoped value)
+  stmt_scoped (plain.call x) = called_with_scoped (s.name_args x) (e.name_ident x)
+
+  stmts_scoped : (x : plain.Stmts) → AllByRecursion (IsStatement scope) (s.typed_stmts x n)
+  stmts_scoped plain.no_stmts = tt
+  stmts_scoped (plain.more_stmts x xs) = (stmt_scoped x, stmts_scoped xs)
+
+  -- the initial value of a declaration
+
+  zero_scoped : (t : Typed) → TypedScoped scope t → IntegerScoped (d.integer_or_zero t) scope
+  zero_scoped (number x) h = h
+  zero_scoped _ h = tt
+
+  initial_scoped : (x : plain.MaybeExpr) → IntegerScoped (d.initial_value x n) scope
+  initial_scoped plain.no_expr = tt
+  initial_scoped (plain.an_expr x) = zero_scoped (e.check_expr x n).typed (expr_scoped x)
+
+module _ (scope : Scope) where
+  before_scoped : (x : tree.Stmt) (xs : List tree.Stmt) → IsStatement scope x → AllByRecursion (IsStatement scope) xs → StmtScoped (tree.before x xs) scope
+  before_scoped x [] h i = h.0
+  before_scoped x (y ∷ ys) h i = (h.0, rw h.1 (before_scoped y ys i.0 i.1))
+
+  statements_scoped : (at : Pos) (xs : List tree.Stmt) → AllByRecursion (IsStatement scope) xs → StmtScoped (tree.in_sequence (c.or_null at xs)) scope
+  statements_scoped at [] h = tt
+  statements_scoped at (x ∷ xs) h = before_scoped x xs h.0 h.1
+
+-- declarations
+
+-- where so many variables of the body have been elaborated, and none further out
+abbrev only : ℕ → Scope
+only k = k ∷ []
+
+-- the steps elaborate a variable each, from the first of these numbers on up to the second
+data Elaborates : ℕ → List tree.Stmt → ℕ → Type 0 where
+  none : {k : ℕ} → Elaborates k [] k
+  one_more : {k m : ℕ} {at : Pos} {x : tree.ValueExpr} {ys : List tree.Stmt} → ValueScoped x (only k) → Elaborates (suc k) ys m → Elaborates k (tree.declare at x ∷ ys) m
+
+elaborates_append : {k l m : ℕ} {xs ys : List tree.Stmt} → Elaborates k xs l → Elaborates l ys m → Elaborates k (xs ++ ys) m
+elaborates_append none i = i
+elaborates_append (one_more h rest) i = one_more h (elaborates_append rest i)
+
+before_elaborates : (k m : ℕ) (x : tree.Stmt) (xs : List tree.Stmt) → Elaborates k (x ∷ xs) m → StmtScoped (tree.before x xs) (only k) × (scope_after (tree.before x xs) (only k) ≡ only m)
+before_elaborates k m _ [] (one_more h none) = (h, refl)
+before_elaborates k m _ (y ∷ ys) (one_more h rest) = let more = before_elaborates (suc k) m y ys rest in ((h, more.0), more.1)
+
+part_elaborates : (k m : ℕ) (xs : List tree.Stmt) → Elaborates k xs m → PartScoped (tree.part_of xs) (only k) × (scope_behind (tree.part_of xs) (only k) ≡ only m)
+part_elaborates k m [] none = (tt, refl)
+part_elaborates k m (x ∷ xs) h = before_elaborates k m x xs h
+
+-- a symbol for each cell, and where all cells are elaborated, so is each variable of the region
+record RegionScoped (r : Region) : Type 0 where
+  symbols : (k : ℕ) → r.cells ≤ k → SymbolsScoped (only k) r.symbols
+  counted : length r.symbols ≡ r.cells
+
+new_scoped : (good : Bool) (k cells : ℕ) → cells + 1 ≤ k → MeaningScoped (only k) (d.new_meaning good cells)
+new_scoped true k cells h = omega arith
+new_scoped false k cells h = tt
+
+variable_scoped : (name : List ℕ) (good : Bool) (r : Region) → RegionScoped r → RegionScoped (d.with_variable name good r)
+variable_scoped name good r h = record {
+  symbols = λ k more. All-push (λ x. MeaningScoped (only k) x.1) r.symbols _ (h.symbols k (omega arith)) (new_scoped good k r.cells more);
+  counted = length_push r.symbols _ ∙ ap (λ z. z + 1) h.counted;
+}
+
+both_none : {A : Type 0} (xs ys : List A) → xs ++ ys ≡ [] → (xs ≡ []) × (ys ≡ [])
+both_none [] ys h = (refl, h)
+both_none (x ∷ xs) ys h = cc
+
+new_name : (b : Bool) (f : Fault) → rules.unless (not b) f ≡ [] → b ≡ false
+new_name true f h = cc
+new_name false f h = refl
+
+-- the steps elaborate the variables of the region, from this number on
+abbrev RegionElaborated : ℕ → List tree.Stmt → Region → Type 0
+RegionElaborated k ys r = RegionScoped r × Elaborates k ys r.cells
+
+names_scoped : (is : List Ident) (good : Bool) (at : Pos) (x : tree.IntegerExpr) (r : Region) → d.twice_faults is good r ≡ [] → RegionScoped r → ((k : ℕ) → r.cells ≤ k → IntegerScoped x (only k)) → RegionElaborated r.cells (d.elaboration is at x) (d.declared_names is good r)
+names_scoped [] good at x r q h value = (h, none)
+names_scoped (i ∷ is) good at x r q h value =
+    let faults = both_none _ _ q in
+    let new : names.is_declared i.name r.symbols ≡ false = new_name _ _ faults.0 in
+    let grown : d.with_name i good r ≡ d.with_variable i.name good r = rw new in
+    let rest = names_scoped is good at x (d.with_variable i.name good r) (rw new at faults.1) (variable_scoped i.name good r h) (λ k more. value k (omega arith)) in
+    let steps : Elaborates (suc r.cells) (d.elaboration is at x) (d.declared_names is good (d.with_variable i.name good r)).cells = rw (← add-one r.cells) rest.1 in
+    subst (λ z. RegionElaborated r.cells (d.elaboration (i ∷ is) at x) (d.declared_names is good z)) (sym grown) (rest.0, one_more (value r.cells (omega arith)) steps)
+
+-- a place in the main procedure's body: no variable is declared further out
+record InBody (n : Place) : Type 0 where
+  innermost : RegionScoped (names.innermost n)
+  others : (scope : Scope) → RegionsScoped scope (names.others_of n.regions)
+
+regions_scoped : (scope : Scope) (rs : List Region) → SymbolsScoped scope (names.innermost_of rs).symbols → RegionsScoped scope (names.others_of rs) → RegionsScoped scope rs
+regions_scoped scope [] h i = tt
+regions_scoped scope (r ∷ rs) h i = (h, i)
+
+body_regions : (n : Place) (k : ℕ) → InBody n → (names.innermost n).cells ≤ k → RegionsScoped (only k) n.regions
+body_regions n k h more = regions_scoped (only k) n.regions (h.innermost.symbols k more) (h.others (only k))
+
+-- declarations without faults, at a place in the body
+abbrev DeclaredScoped : Place → d.Declared → Type 0
+DeclaredScoped n x = InBody x.place × Elaborates (names.innermost n).cells x.steps (names.innermost x.place).cells
+
+decl_scoped : (x : plain.Decl) (n : Place) → (d.check_decl x n).faults ≡ [] → InBody n → DeclaredScoped n (d.check_decl x n)
+decl_scoped (plain.object ids subtype initial) n q h =
+    let value = λ (k : ℕ) (more : (names.innermost n).cells ≤ k). initial_scoped (only k) (names.hiding ids n) (regions_see (only k) _ (body_regions n k h more)) initial in
+    let all = names_scoped ids _ (d.first_at ids) _ (names.innermost n) (both_none _ _ (both_none _ _ q).1).1 h.innermost value in
+    (record { innermost = all.0; others = h.others }, all.1)
+
+decls_scoped : (x : plain.Decls) (n : Place) → (d.check_decls x n).faults ≡ [] → InBody n → DeclaredScoped n (d.check_decls x n)
+decls_scoped plain.no_decls n q h = (h, none)
+decls_scoped (plain.more_decls x rest) n q h =
+    let faults = both_none (d.check_decl x n).faults _ q in
+    let first = decl_scoped x n faults.0 h in
+    let others = decls_scoped rest _ faults.1 first.0 in
+    (others.0, elaborates_append first.1 others.1)
+
+-- programs
+
+in_main : (name : List ℕ) → InBody (names.main_place name)
+in_main name = record {
+  innermost = record { symbols = λ k _. All-nil (λ x. MeaningScoped (only k) x.1); counted = refl };
+  others = λ scope. let all = All-from_recursion (λ x. MeaningScoped scope x.1) in (all ((name, MainProcedure) ∷ []) (tt, tt), (all names.predefined (tt, (tt, tt)), tt));
+}
+
+body_scoped : (at : Pos) (main : Ident) (x : d.Declared) (b : plain.Body) → DeclaredScoped (names.main_place main.name) x → IsScoped (c.unit_program at main x b)
+body_scoped at main x (plain.body begin xs end last) h =
+    let r : Region = names.innermost x.place in
+    let variables : length (map tree.whole_of (map (λ z. z.0) r.symbols)) ≡ r.cells = length-map _ _ ∙ length-map r.symbols (λ z. z.0) ∙ h.0.innermost.counted in
+    let declarations = part_elaborates 0 r.cells x.steps h.1 in
+    let sees = regions_see (only r.cells) x.place (body_regions x.place r.cells h.0 (omega arith)) in
+    record {
+      declarations = declarations.0;
+      variables = declarations.1 ∙ ap only (sym variables);
+      statements = rw variables (statements_scoped (only r.cells) begin _ (stmts_scoped (only r.cells) x.place sees xs));
+    }
+
+pub typed_scoped : (u : plain.Unit) → c.faults u ≡ [] → IsScoped (c.typed u)
+typed_scoped (plain.unit at name decls (plain.body begin xs end last)) q =
+    let main : Place = names.main_place name.name in
+    body_scoped at name (d.check_decls decls main) (plain.body begin xs end last) (decls_scoped decls main (both_none _ _ q).0 (in_main name.name))

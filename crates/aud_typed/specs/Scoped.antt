@@ -1,0 +1,83 @@
+-- Each variable that is read or assigned has been elaborated (RM 3.3.1, 8.3): the items that a typed program names are there. As yet it
+-- is said of programs that are their main procedure alone, with the statements below, and of no others.
+use Rattle.std.specs.Prelude.{◌≡◌, ℕ, suc, ◌<◌, List, [], ◌∷◌, length, slice_index}
+use Rattle.aud_typed.specs.declared.program.Variable.{Variable}
+use Rattle.aud_typed.specs.Tree.{IntegerExpr, number, variable, element, unary, binary, count, ValueExpr, whole, boolean, Reference, scalar, component, TextExpr, literal, image, image_truth, join, new_line, Stmt, sequence, declare, null, assign, put, Part, nothing, some, Body, body, Named, Program}
+
+-- the number of variables elaborated so far in each open frame, outermost first
+abbrev pub Scope : Type 0
+Scope = List ℕ
+
+-- the variable has been elaborated; no frame is open at a level past the scope's end, where the count is 0
+abbrev pub IsElaborated : Variable → Scope → Type 0
+IsElaborated v scope = v.index < slice_index scope v.level
+
+abbrev pub IntegerScoped : IntegerExpr → Scope → Type 0
+IntegerScoped (number value) scope = Unit {0}
+IntegerScoped (variable v) scope = IsElaborated v scope
+IntegerScoped (element a index) scope = ⊥
+IntegerScoped (unary op x) scope = IntegerScoped x scope
+IntegerScoped (binary op x y) scope = IntegerScoped x scope × IntegerScoped y scope
+IntegerScoped (count v entry) scope = ⊥
+
+abbrev pub ValueScoped : ValueExpr → Scope → Type 0
+ValueScoped (whole subtype x) scope = IntegerScoped x scope
+ValueScoped (boolean x) scope = ⊥
+
+abbrev pub ReferenceScoped : Reference → Scope → Type 0
+ReferenceScoped (scalar v subtype) scope = IsElaborated v scope
+ReferenceScoped (component a index subtype) scope = ⊥
+
+abbrev pub TextScoped : TextExpr → Scope → Type 0
+TextScoped (literal text) scope = Unit {0}
+TextScoped (image e) scope = IntegerScoped e scope
+TextScoped (image_truth e) scope = ⊥
+TextScoped (join x y) scope = TextScoped x scope × TextScoped y scope
+TextScoped new_line scope = Unit {0}
+
+-- one variable more in the innermost frame
+abbrev pub elaborated : Scope → Scope
+elaborated [] = []
+elaborated (n ∷ []) = suc n ∷ []
+elaborated (n ∷ ns) = n ∷ elaborated ns
+
+abbrev pub scope_after : Stmt → Scope → Scope
+scope_after (sequence a b) scope = scope_after b (scope_after a scope)
+scope_after (declare at e) scope = elaborated scope
+scope_after _ scope = scope
+
+abbrev pub StmtScoped : Stmt → Scope → Type 0
+StmtScoped (sequence a b) scope = StmtScoped a scope × StmtScoped b (scope_after a scope)
+StmtScoped (declare at e) scope = ValueScoped e scope
+StmtScoped (null at) scope = Unit {0}
+StmtScoped (assign at r e) scope = ReferenceScoped r scope × ValueScoped e scope
+StmtScoped (put at t) scope = TextScoped t scope
+StmtScoped _ scope = ⊥
+
+abbrev pub scope_behind : Part → Scope → Scope
+scope_behind nothing scope = scope
+scope_behind (some s) scope = scope_after s scope
+
+abbrev pub PartScoped : Part → Scope → Type 0
+PartScoped nothing scope = Unit {0}
+PartScoped (some s) scope = StmtScoped s scope
+
+abbrev declarations_of : Body → Part
+declarations_of (body declarations begin statements _ end) = declarations
+
+abbrev statements_of : Body → Stmt
+statements_of (body declarations begin statements _ end) = statements
+
+-- the body's own frame is open, at first with no variables, and behind its declarations with those of its table
+pub record BodyScoped (b : Body) (region : List Named) : Type 0 where
+  pub declarations : PartScoped (declarations_of b) (0 ∷ [])
+  pub variables : scope_behind (declarations_of b) (0 ∷ []) ≡ length region ∷ []
+  pub statements : StmtScoped (statements_of b) (length region ∷ [])
+
+-- a program of one body
+abbrev pub ScopedBy : List Body → List (List Named) → Type 0
+ScopedBy (b ∷ []) (region ∷ []) = BodyScoped b region
+ScopedBy _ _ = ⊥
+
+abbrev pub IsScoped : Program → Type 0
+IsScoped program = ScopedBy program.bodies program.plan.regions
