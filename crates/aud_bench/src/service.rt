@@ -165,11 +165,12 @@ fn run(
             cost: units,
         });
     }
+    let raised = named_if(alloc, machine.raised())?;
     Ok(Served {
         answer: Some(Answer::Ran(Report {
             steps: done,
             state: ran.state,
-            raised: ended_by(alloc, ran.state, machine.raised())?,
+            raised: ended_by(ran.state, raised),
         })),
         progress: 0,
         cost: u64::from(ran.steps.max(1)),
@@ -198,20 +199,21 @@ fn within(steps: u32, units: u64) -> u32
 }
 
 // The exception that ended the program.
-fn ended_by(
-    alloc: Global,
-    state: State,
-    raised: Option<Exception>,
-) -> Result<Option<Raised>, AllocError>
-    ensures { IfOk result (λ x. (p : Programs) → x ≡ ended_by state (named_if (plain_program p).plan.exceptions raised)) }
+fn ended_by(state: State, raised: Option<Raised>) -> Option<Raised>
+    ensures { result ≡ ended_by state raised }
 {
-    let told = match raised {
-        None => return Ok(None),
-        Some(exception) => named(alloc, exception)?,
-    };
     match state {
-        State::Ended => Ok(Some(told)),
-        State::OutputFull | State::More | State::Waiting(_) | State::Stuck => Ok(None),
+        State::Ended => raised,
+        State::OutputFull | State::More | State::Waiting(_) | State::Stuck => None,
+    }
+}
+
+fn named_if(alloc: Global, raised: Option<Exception>) -> Result<Option<Raised>, AllocError>
+    ensures { IfOk result (λ x. (p : Programs) → x ≡ named_if (plain_program p).plan.exceptions raised) }
+{
+    match raised {
+        None => Ok(None),
+        Some(exception) => Ok(Some(named(alloc, exception)?)),
     }
 }
 

@@ -1,7 +1,10 @@
 use Rattle.std.proofs.Common.{inl, inr, ap, ◌∙◌, arith}
 use Rattle.aud_meaning.specs.Configuration.{Configuration}
-use Rattle.aud_meaning.specs.Run.{run}
-use Rattle.aud_bench.specs.Alone.{ended_by}
+use Rattle.aud_meaning.specs.Run.{run, main_raised}
+use Rattle.aud_text.specs.declared.limits.Limits.{Limits}
+use Rattle.aud_typed.specs.Tree as tree
+use Rattle.aud_typed.specs.View.{plain_program}
+use Rattle.aud_bench.specs.Alone.{named_if, ended_by}
 use Rattle.aud_bench.proofs.Serving.{goes_on, is_done}
 use Rattle.aud_bench.proofs.service.run.Goals as goal
 use Rattle.aud_bench.proofs.service.run.Goals.{else-now-wanted-via-then-now-wanted+else-has_more, else-now-wanted-via-else-now-wanted}
@@ -21,9 +24,16 @@ returns-clause-serves c =
     let here : Configuration = run bounds loaded.program c.args.progress loaded.now in
     let steps = c.steps.ensures.shown here under.is_behind.shows in
     let did = c.in_ok-ran.ensures.runs here under.is_behind.shows in
+    let program : tree.Program = plain_program c.args.machine.now.program in
+    let now = c.within-now.result in
     is_done bounds c.args.steps c.args.progress loaded c.args.machine.now under c.min-wanted.result c.within-now.result c.args.units c.slice.new.self c.in_ok-ran.ran
     (omega (arith, steps, c.saturating_sub-left.ensures, c.if-left-eq0.false)) (omega (arith, steps, c.saturating_sub-left.ensures, c.saturating_sub.ensures, c.min-wanted.ensures)) c.within-now.ensures
     (c.in_ok-ran.ensures.limits, c.in_ok-ran.ensures.program) did
     (elim c.else-now-wanted.branch [ else-now-wanted-via-then-now-wanted+else-has_more w ↦ inr (w.has_more.ensures.no w.if-has_more.false) | else-now-wanted-via-else-now-wanted w ↦ inl w.if-now-wanted.false ])
-    c.in_ok-ended_by.field-0 (c.in_ok-ended_by.ensures ∙ ap (ended_by c.in_ok-ran.ran.state) (c.raised.ensures (run c.args.machine.now.limits c.within-now.result here) did.shows))
+    c.ended_by.result
+    (c.ended_by.ensures ∙ ap (ended_by c.in_ok-ran.ran.state)
+    (c.in_ok-raised.ensures c.args.machine.now.program
+    ∙ ap (named_if program.plan.exceptions) (c.raised.ensures (run c.args.machine.now.limits program now here) did.shows)
+    ∙ ap (λ (limits : Limits). named_if program.plan.exceptions (main_raised (run limits program now here).tasks)) under.is_behind.limits_are
+    ∙ ap (λ (p : tree.Program). named_if p.plan.exceptions (main_raised (run bounds p now here).tasks)) under.is_behind.program_is))
     c.from.result (omega (arith, c.from.ensures, c.max.ensures))
