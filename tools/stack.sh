@@ -5,7 +5,7 @@ set -eu
 top=$(cd "$(dirname "$0")/.." && pwd)
 program=${1:-$top/crates/aud/out/aud}
 if [ ! -x "$program" ]; then
-    echo "stack: no program at $program; build it by: cd crates/aud && rt run -- --solo < ../../examples/first-session.txt" >&2
+    echo "stack: no program at $program; build it by: cd crates/aud && rt run -- --solo < stdin" >&2
     exit 2
 fi
 exec python3 "$top/tools/stack.py" "$program" "${2:-512}"

@@ -1,9 +1,9 @@
 -- The requests of a stream of bytes.
 use Rattle.std.specs.Prelude.{ℕ, zero, suc, List, [], ◌∷◌, ◌++◌, length, Option, Some, None, Bool, true, false, nat_le, nat_lt, ◌&&◌, if◌then◌else◌, codes}
+use Rattle.std.specs.Str.{bytes_eq}
 use Rattle.aud_text.specs.declared.code.Code.{Code}
 use Rattle.aud_text.specs.declared.code.Code.TheVariants as code
 use Rattle.aud_text.specs.declared.limits.TheConstants.{LINE, LINES, RUN}
-use Rattle.aud_lex.specs.Tokens.{same_bytes}
 use Rattle.aud_bench.specs.declared.request.Request.{Request}
 use Rattle.aud_bench.specs.declared.request.Request.TheVariants as request
 use Rattle.aud_server.specs.Lines.{lines_of, trimmed, words_of, number_of}
@@ -43,10 +43,10 @@ no_argument (word ∷ words) r = wrong_argument
 abbrev pub command_of : List (List ℕ) → Command
 command_of [] = Whole (request.Bad code.UnknownCommand)
 command_of (word ∷ arguments) =
-    if same_bytes word (codes "LOAD") then one_number 0 LINES arguments (λ n. Loads n)
-    else if same_bytes word (codes "RUN") then one_number 1 RUN arguments (λ n. Whole (request.Run n))
-    else if same_bytes word (codes "OUTPUT") then no_argument arguments request.Output
-    else if same_bytes word (codes "QUIT") then no_argument arguments request.Quit
+    if bytes_eq word (codes "LOAD") then one_number 0 LINES arguments (λ n. Loads n)
+    else if bytes_eq word (codes "RUN") then one_number 1 RUN arguments (λ n. Whole (request.Run n))
+    else if bytes_eq word (codes "OUTPUT") then no_argument arguments request.Output
+    else if bytes_eq word (codes "QUIT") then no_argument arguments request.Quit
     else Whole (request.Bad code.UnknownCommand)
 
 abbrev pub command_by : Option Code → List ℕ → Command

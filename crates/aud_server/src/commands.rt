@@ -1,8 +1,8 @@
 // What the first line of a request asks.
 
 ghost use Rattle.std.specs.Prelude.{◌≡◌, ℕ, ◌∷◌};
+ghost use Rattle.std.specs.Str.{bytes_eq};
 ghost use Rattle.aud_bench.specs.declared.request.Request.TheVariants as request;
-ghost use Rattle.aud_lex.specs.Tokens.{same_bytes};
 ghost use Rattle.aud_server.specs.Asked.{asked, given};
 ghost use Rattle.aud_server.specs.Lines.{words_of};
 ghost use Rattle.aud_server.specs.Requests.{has_high_byte, line_fault, Command as Asked, Whole, Loads, wrong_argument, no_argument, one_number, command_of, command};
@@ -77,7 +77,7 @@ fn command_with(word: &[u8], arguments: &[u8]) -> Command
 }
 
 fn is(word: &[u8], command: &[u8]) -> bool
-    ensures { result ≡ same_bytes word.now command.now }
+    ensures { result ≡ bytes_eq word.now command.now }
 {
     word == command
 }

@@ -1,0 +1,68 @@
+"""Lists the definitions that the end-to-end theorem is made of, in an order in which each stands behind those that it uses.
+
+The theorem is the contract of `solo`; its words are `text`, `alone` and `requests`. From there the imports are followed
+through the folders specs/. What is not reached ties contracts to these words, or says what does not reach the program.
+usage: believe.py [--ties]
+"""
+import os
+import re
+import sys
+
+TOP = os.path.join(os.path.dirname(os.path.abspath(__file__)), "..", "crates")
+ROOTS = ("aud_server.specs.Solo", "aud_server.specs.Requests", "aud_server.specs.Text", "aud_bench.specs.Alone")
+USE = re.compile(r"^use Rattle\.(aud_\w+)\.specs\.([\w.]+?)(?:\.\{.*\}| as \w+)$", re.MULTILINE)
+
+
+def path_of(module):
+    crate, _, rest = module.partition(".specs.")
+    return os.path.join(TOP, crate, "specs", *rest.split(".")) + ".antt"
+
+
+def imports_of(module):
+    with open(path_of(module), encoding="utf-8") as it:
+        for crate, rest in USE.findall(it.read()):
+            name = f"{crate}.specs.{rest}"
+            if not rest.startswith(("declared.", "contracts.")):
+                yield name
+
+
+def reached(roots):
+    order, seen = [], set()
+
+    def visit(module):
+        if module in seen or not os.path.exists(path_of(module)):
+            return
+        seen.add(module)
+        for other in imports_of(module):
+            visit(other)
+        order.append(module)
+
+    for root in roots:
+        visit(root)
+    return order
+
+
+def lines_of(module):
+    with open(path_of(module), encoding="utf-8") as it:
+        return len(it.readlines())
+
+
+def every():
+    for crate in sorted(os.listdir(TOP)):
+        specs = os.path.join(TOP, crate, "specs")
+        for folder, _, names in os.walk(specs):
+            for name in sorted(names):
+                if name.endswith(".antt") and name != "Lib.antt":
+                    inner = os.path.relpath(os.path.join(folder, name), specs)[:-5].replace(os.sep, ".")
+                    yield f"{crate}.specs.{inner}"
+
+
+def main():
+    order = reached(ROOTS)
+    chosen = [m for m in every() if m not in order] if "--ties" in sys.argv[1:] else order
+    for module in chosen:
+        print(f"{lines_of(module):5}  {os.path.relpath(path_of(module), os.path.join(TOP, '..'))}")
+    print(f"{sum(map(lines_of, chosen)):5}  lines in {len(chosen)} files")
+
+
+main()
