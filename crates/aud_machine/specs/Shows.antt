@@ -1,5 +1,5 @@
 -- What a machine shows, and what its calls do to it.
-use Rattle.std.specs.Prelude.{◌≡◌, ℕ, ◌+◌, Option, Some, None, false}
+use Rattle.std.specs.Prelude.{◌≡◌, ℕ, ◌+◌, Option, Some, None, Result, OnErr, IsErr, true, false}
 use Rattle.aud_text.specs.declared.limits.Limits.{Limits}
 use Rattle.aud_typed.specs.Tree.{Program}
 use Rattle.aud_meaning.specs.Configuration.{Configuration}
@@ -12,6 +12,15 @@ use Rattle.aud_machine.specs.Shown.{Shown, program_in}
 pub record Shows (m : Shown) (c : Configuration) : Type 0 where
   pub alive : m.spent ≡ false
   pub all : code.Shows (program_in m) m.all c
+
+-- what a call leaves that may need memory: the program, its code and the limits. A machine that was refused memory is spent, and one
+-- that is spent refuses
+pub record Leaves {A E : Type 0} (old new : Shown) (result : Result A E) : Type 0 where
+  pub code : new.code ≡ old.code
+  pub program : new.program ≡ old.program
+  pub limits : new.limits ≡ old.limits
+  pub spent : OnErr result (new.spent ≡ true)
+  pub refuses : old.spent ≡ true → IsErr result
 
 -- what was done, where it led from one configuration to another
 pub record Did (program : Program) (ran : Ran) (from to : Configuration) : Type 0 where

@@ -1,6 +1,6 @@
 // A machine and its runs.
 
-ghost use Rattle.std.specs.Prelude.{◌≡◌, ◌+◌, ◌*◌, ◌<◌, ◌≤◌, [], ◌∷◌, length, map, min, true, slice_get, IfOk, IfSome, OnOk, OnErr, IsErr};
+ghost use Rattle.std.specs.Prelude.{◌≡◌, ◌+◌, ◌*◌, ◌<◌, ◌≤◌, [], ◌∷◌, length, map, min, slice_get, IfOk, IfSome, OnOk};
 ghost use Rattle.aud_typed.specs.View.{plain_program};
 ghost use Rattle.aud_meaning.specs.Configuration.{Configuration};
 ghost use Rattle.aud_meaning.specs.Run.{moves_in, state_in, main_raised, supplied, advanced, opening};
@@ -9,7 +9,7 @@ ghost use Rattle.aud_meaning.specs.View.{coming_step_in};
 ghost use Rattle.aud_single.specs.Shown.{plain_stage};
 ghost use Rattle.aud_single.specs.Ticks.{ticks_in, run_ticks};
 ghost use Rattle.aud_machine.specs.Shown.{program_in};
-ghost use Rattle.aud_machine.specs.Shows.{Shows, RunsFrom, Takes};
+ghost use Rattle.aud_machine.specs.Shows.{Shows, Leaves, RunsFrom, Takes};
 
 use crate::parts::Parts;
 use aud_code::sound_code::SoundCode;
@@ -179,11 +179,7 @@ impl Machine {
         requires { length self.old.all.choices + length choices.now ≤ CHOICES }
         ensures shows { OnOk result ((c : Configuration) → Shows self.old c → Shows self.new (supplied choices.now c)) }
         ensures exact { OnOk result (self.new ≡ record self.old { all = supplied choices.now self.old.all }) }
-        ensures code { self.new.code ≡ self.old.code }
-        ensures program { self.new.program ≡ self.old.program }
-        ensures limits { self.new.limits ≡ self.old.limits }
-        ensures spent { OnErr result (self.new.spent ≡ true) }
-        ensures refuses { self.old.spent ≡ true → IsErr result }
+        ensures leaves { Leaves self.old self.new result }
     {
         if self.spent {
             return Err(AllocError);
@@ -210,11 +206,7 @@ impl Machine {
     /// Memory is refused, or the machine is spent. It is spent then.
     pub fn reset(&mut self, alloc: Global) -> Result<(), AllocError>
         ensures shows { OnOk result (Shows self.new (opening (plain_program self.old.program))) }
-        ensures code { self.new.code ≡ self.old.code }
-        ensures program { self.new.program ≡ self.old.program }
-        ensures limits { self.new.limits ≡ self.old.limits }
-        ensures spent { OnErr result (self.new.spent ≡ true) }
-        ensures refuses { self.old.spent ≡ true → IsErr result }
+        ensures leaves { Leaves self.old self.new result }
     {
         if self.spent {
             return Err(AllocError);
@@ -236,11 +228,7 @@ impl Machine {
         ensures few { IfOk result (λ ran. ran.steps ≤ n) }
         ensures ticks { IfOk result (λ ran. ran.ticks ≡ min (run_ticks (program_in self.old).plan self.old.code self.old.limits n self.old.all) u64.MAX) }
         ensures few_ticks { IfOk result (λ ran. ran.ticks ≤ ran.steps * length self.old.code.lines) }
-        ensures code { self.new.code ≡ self.old.code }
-        ensures program { self.new.program ≡ self.old.program }
-        ensures limits { self.new.limits ≡ self.old.limits }
-        ensures spent { OnErr result (self.new.spent ≡ true) }
-        ensures refuses { self.old.spent ≡ true → IsErr result }
+        ensures leaves { Leaves self.old self.new result }
     {
         if self.spent {
             return Err(AllocError);
@@ -262,11 +250,7 @@ impl Machine {
         ensures takes { IfOk result (λ taken. (c : Configuration) → Shows self.old c → Takes self.old.limits (program_in self.old) c (slice_get (moves_in (program_in self.old) c) nth) self.old self.new taken) }
         ensures ticks { IfOk result (λ taken. IfSome taken (λ ran. ran.ticks ≡ ticks_in self.old.code self.old.all.tasks self.old.all)) }
         ensures few_ticks { IfOk result (λ taken. IfSome taken (λ ran. ran.ticks ≤ length self.old.code.lines)) }
-        ensures code { self.new.code ≡ self.old.code }
-        ensures program { self.new.program ≡ self.old.program }
-        ensures limits { self.new.limits ≡ self.old.limits }
-        ensures spent { OnErr result (self.new.spent ≡ true) }
-        ensures refuses { self.old.spent ≡ true → IsErr result }
+        ensures leaves { Leaves self.old self.new result }
     {
         if self.spent {
             return Err(AllocError);

@@ -16,7 +16,7 @@ returns-then-has_more-clause-serves c =
     let steps = c.steps.ensures.shown here under.is_behind.shows in
     goes_on bounds c.args.steps c.args.progress loaded c.args.machine.now under c.min-wanted.result c.within-now.result c.args.units c.slice.new.self c.in_ok-ran.ran
     (omega (arith, steps, c.saturating_sub-left.ensures, c.if-left-eq0.false)) (omega (arith, steps, c.saturating_sub-left.ensures, c.saturating_sub.ensures, c.min-wanted.ensures)) c.within-now.ensures
-    (c.in_ok-ran.ensures.limits, c.in_ok-ran.ensures.program) (c.in_ok-ran.ensures.runs here under.is_behind.shows) c.if-now-wanted.true (c.has_more.ensures.yes c.if-has_more.true)
+    (c.in_ok-ran.ensures.leaves.limits, c.in_ok-ran.ensures.leaves.program) (c.in_ok-ran.ensures.runs here under.is_behind.shows) c.if-now-wanted.true (c.has_more.ensures.yes c.if-has_more.true)
 
 pub returns-clause-serves : goal.returns-clause-serves
 returns-clause-serves c =
@@ -28,7 +28,7 @@ returns-clause-serves c =
     let now = c.within-now.result in
     is_done bounds c.args.steps c.args.progress loaded c.args.machine.now under c.min-wanted.result c.within-now.result c.args.units c.slice.new.self c.in_ok-ran.ran
     (omega (arith, steps, c.saturating_sub-left.ensures, c.if-left-eq0.false)) (omega (arith, steps, c.saturating_sub-left.ensures, c.saturating_sub.ensures, c.min-wanted.ensures)) c.within-now.ensures
-    (c.in_ok-ran.ensures.limits, c.in_ok-ran.ensures.program) did
+    (c.in_ok-ran.ensures.leaves.limits, c.in_ok-ran.ensures.leaves.program) did
     (elim c.else-now-wanted.branch [ else-now-wanted-via-then-now-wanted+else-has_more w ↦ inr (w.has_more.ensures.no w.if-has_more.false) | else-now-wanted-via-else-now-wanted w ↦ inl w.if-now-wanted.false ])
     c.ended_by.result
     (c.ended_by.ensures ∙ ap (ended_by c.in_ok-ran.ran.state)
