@@ -4,11 +4,9 @@
 mod answers;
 mod benches;
 mod checks;
-mod evaluations;
 mod lines;
 mod machines;
 mod requests;
-mod runs;
 mod serving;
 mod sessions;
 mod texts;
