@@ -10,7 +10,8 @@ use Rattle.aud_syntax.specs.declared.tree.Signed.{Signed}
 use Rattle.aud_syntax.specs.declared.tree.Sign.TheVariants as sign
 use Rattle.aud_syntax.specs.declared.tree.Highest.TheVariants.{Not}
 use Rattle.aud_syntax.specs.declared.tree.Multiplying.TheVariants.{Times}
-use Rattle.aud_syntax.specs.Plain.{Expr, alone, unrelated, simple, Addeds, no_addeds, more_addeds, added, Term, term, no_multiplieds, more_multiplieds, multiplied, factor, Primary, integer, text, name, attribute, group, no_expr, an_expr, Name, named, no_parts, part, no_args, more_args, Decl, object, Decls, no_decls, more_decls, Stmt, null, assign, call, Stmts, no_stmts, more_stmts, body, Unit, unit}
+use Rattle.aud_syntax.specs.Plain.{Expr, alone, unrelated, simple, Addeds, no_addeds, more_addeds, added, Term, term, no_multiplieds, more_multiplieds, multiplied, factor, integer, name, attribute, group, no_expr, an_expr, named, no_parts, part, no_args, Decl, object, no_decls, Stmt, null, assign, call, no_stmts, more_stmts, body, Unit, unit}
+use Rattle.aud_syntax.specs.Shorthand.{at, id, only, var_at, called, num, str, stmts, decls}
 use Rattle.aud_typed.specs.declared.program.Variable.{Variable}
 use Rattle.aud_typed.specs.declared.program.Unary.TheVariants.{Negative}
 use Rattle.aud_typed.specs.declared.program.Binary.TheVariants.{Sum, Difference}
@@ -19,40 +20,11 @@ use Rattle.aud_typed.specs.Tree as tree
 use Rattle.aud_check.specs.declared.fault.Fault.{Fault}
 use Rattle.aud_check.specs.Checked.{faults, checked}
 
-abbrev at : ℕ → ℕ → Pos
-at line col = record { line = line; col = col }
-
-abbrev id : List ℕ → Pos → Ident
-id spelling place = record { name = spelling; at = place }
-
 abbrev fault : Pos → Code → Fault
 fault place code = record { at = place; code = code }
 
-abbrev only : Primary → Expr
-only p = alone (unrelated (simple None (term (factor None p) no_multiplieds) no_addeds))
-
-abbrev var : List ℕ → Pos → Name
-var spelling place = named (part (id spelling place) no_args) no_parts
-
-abbrev calling : Ident → Expr → Stmt
-calling i e = call (named (part i (more_args e no_args)) no_parts)
-
 abbrev sum : Option Signed → Term → Addeds → Expr
 sum s t rest = alone (unrelated (simple s t rest))
-
-abbrev num : ℕ → Pos → Primary
-num n place = integer (record { value = Some (pos n); at = place })
-
-abbrev str : List ℕ → Pos → Primary
-str s place = text (record { text = s; at = place })
-
-abbrev stmts : List Stmt → Stmts
-stmts [] = no_stmts
-stmts (s ∷ ss) = more_stmts s (stmts ss)
-
-abbrev decls : List Decl → Decls
-decls [] = no_decls
-decls (d ∷ ds) = more_decls d (decls ds)
 
 -- procedure P is .. begin .. end P;
 abbrev main : List Decl → List Stmt → Unit
@@ -98,7 +70,7 @@ program names declared s = record {
 abbrev program_of_two : tree.Stmt → tree.Program
 program_of_two s = program (codes "A" ∷ codes "B" ∷ []) (tree.some (tree.sequence (tree.declare (at 2 1) (whole (tree.number (pos 7)))) (tree.declare (at 2 1) (whole (tree.number (pos 7)))))) s
 
-fine_row : checked (main (two ∷ []) (assign (var (codes "B") (at 6 1)) (sum (Some (record { sign = sign.Minus; at = at 6 6 })) (term (factor None (name (var (codes "A") (at 6 7)))) no_multiplieds) (more_addeds (added Plus (term (factor None (num 2 (at 6 11))) no_multiplieds)) no_addeds)) ∷ calling (id (codes "PUT_LINE") (at 7 1)) (only (attribute (var (codes "B") (at 7 11)) (id (codes "IMAGE") (at 7 13)) no_expr)) ∷ [])) ≡ Ok (program_of_two (tree.sequence (assign_b (tree.binary Sum (tree.unary Negative (variable 0)) (tree.number (pos 2)))) (tree.put (at 7 1) (tree.join (tree.image (variable 1)) tree.new_line))))
+fine_row : checked (main (two ∷ []) (assign (var_at (codes "B") (at 6 1)) (sum (Some (record { sign = sign.Minus; at = at 6 6 })) (term (factor None (name (var_at (codes "A") (at 6 7)))) no_multiplieds) (more_addeds (added Plus (term (factor None (num 2 (at 6 11))) no_multiplieds)) no_addeds)) ∷ called (id (codes "PUT_LINE") (at 7 1)) (only (attribute (var_at (codes "B") (at 7 11)) (id (codes "IMAGE") (at 7 13)) no_expr)) ∷ [])) ≡ Ok (program_of_two (tree.sequence (assign_b (tree.binary Sum (tree.unary Negative (variable 0)) (tree.number (pos 2)))) (tree.put (at 7 1) (tree.join (tree.image (variable 1)) tree.new_line))))
 fine_row = refl
 
 -- operators of one level go from left to right (RM 4.5(8))
@@ -108,7 +80,7 @@ three = sum None (term (factor None (num 9 (at 6 6))) no_multiplieds) (more_adde
 abbrev left_first : tree.IntegerExpr
 left_first = tree.binary Difference (tree.binary Difference (tree.number (pos 9)) (tree.number (pos 3))) (tree.number (pos 2))
 
-chain_row : checked (main (two ∷ []) (assign (var (codes "B") (at 6 1)) three ∷ [])) ≡ Ok (program_of_two (assign_b left_first))
+chain_row : checked (main (two ∷ []) (assign (var_at (codes "B") (at 6 1)) three ∷ [])) ≡ Ok (program_of_two (assign_b left_first))
 chain_row = refl
 
 -- no declarations; and no statements, which the grammar does not make, are a null statement where they would begin
@@ -119,10 +91,10 @@ empty_row : checked (main [] []) ≡ Ok (program [] tree.nothing (tree.null (at 
 empty_row = refl
 
 -- a name that is not declared, and a variable in its own initial value
-undeclared_row : checked (main [] (assign (var (codes "C") (at 6 1)) (only (num 1 (at 6 6))) ∷ [])) ≡ Err (fault (at 6 1) NameNotDeclared)
+undeclared_row : checked (main [] (assign (var_at (codes "C") (at 6 1)) (only (num 1 (at 6 6))) ∷ [])) ≡ Err (fault (at 6 1) NameNotDeclared)
 undeclared_row = refl
 
-own_value_row : checked (main (object (id (codes "A") (at 2 1) ∷ []) (integer_type (at 2 5)) (an_expr (only (name (var (codes "A") (at 2 16))))) ∷ []) (null (at 6 1) ∷ [])) ≡ Err (fault (at 2 16) NameNotDeclared)
+own_value_row : checked (main (object (id (codes "A") (at 2 1) ∷ []) (integer_type (at 2 5)) (an_expr (only (name (var_at (codes "A") (at 2 16))))) ∷ []) (null (at 6 1) ∷ [])) ≡ Err (fault (at 2 16) NameNotDeclared)
 own_value_row = refl
 
 own_type_row : checked (main (object (id (codes "INTEGER") (at 2 1) ∷ []) (integer_type (at 2 11)) no_expr ∷ []) (null (at 6 1) ∷ [])) ≡ Err (fault (at 2 11) NameNotDeclared)
@@ -132,41 +104,41 @@ twice_row : checked (main (two ∷ object (id (codes "C") (at 3 1) ∷ id (codes
 twice_row = refl
 
 -- the main procedure is no type, and causes no second fault
-kind_row : faults (main (object (id (codes "C") (at 3 1) ∷ []) (id (codes "P") (at 3 5)) no_expr ∷ []) (assign (var (codes "C") (at 6 1)) (only (str (codes "x") (at 6 6))) ∷ [])) ≡ fault (at 3 5) WrongKindOfName ∷ []
+kind_row : faults (main (object (id (codes "C") (at 3 1) ∷ []) (id (codes "P") (at 3 5)) no_expr ∷ []) (assign (var_at (codes "C") (at 6 1)) (only (str (codes "x") (at 6 6))) ∷ [])) ≡ fault (at 3 5) WrongKindOfName ∷ []
 kind_row = refl
 
-attribute_row : checked (main (two ∷ []) (calling (id (codes "PUT_LINE") (at 7 1)) (only (attribute (var (codes "B") (at 7 11)) (id (codes "FIRST") (at 7 13)) no_expr)) ∷ [])) ≡ Err (fault (at 7 13) WrongKindOfName)
+attribute_row : checked (main (two ∷ []) (called (id (codes "PUT_LINE") (at 7 1)) (only (attribute (var_at (codes "B") (at 7 11)) (id (codes "FIRST") (at 7 13)) no_expr)) ∷ [])) ≡ Err (fault (at 7 13) WrongKindOfName)
 attribute_row = refl
 
 -- (1 + 2) * 3 & "x": the left operand begins at its first token
-left_row : checked (main [] (calling (id (codes "PUT_LINE") (at 7 1)) (sum None (term (factor None (group (at 7 11) (only (num 1 (at 7 12))))) (more_multiplieds (multiplied Times (factor None (num 3 (at 7 17)))) no_multiplieds)) (more_addeds (added Join (term (factor None (str (codes "x") (at 7 21))) no_multiplieds)) no_addeds)) ∷ [])) ≡ Err (fault (at 7 11) WrongType)
+left_row : checked (main [] (called (id (codes "PUT_LINE") (at 7 1)) (sum None (term (factor None (group (at 7 11) (only (num 1 (at 7 12))))) (more_multiplieds (multiplied Times (factor None (num 3 (at 7 17)))) no_multiplieds)) (more_addeds (added Join (term (factor None (str (codes "x") (at 7 21))) no_multiplieds)) no_addeds)) ∷ [])) ≡ Err (fault (at 7 11) WrongType)
 left_row = refl
 
-right_row : checked (main (two ∷ []) (assign (var (codes "A") (at 7 1)) (sum None (term (factor None (num 1 (at 7 6))) no_multiplieds) (more_addeds (added Minus (term (factor None (str (codes "x") (at 7 10))) no_multiplieds)) no_addeds)) ∷ [])) ≡ Err (fault (at 7 10) WrongType)
+right_row : checked (main (two ∷ []) (assign (var_at (codes "A") (at 7 1)) (sum None (term (factor None (num 1 (at 7 6))) no_multiplieds) (more_addeds (added Minus (term (factor None (str (codes "x") (at 7 10))) no_multiplieds)) no_addeds)) ∷ [])) ≡ Err (fault (at 7 10) WrongType)
 right_row = refl
 
-not_row : checked (main (two ∷ []) (assign (var (codes "A") (at 7 1)) (sum None (term (factor (Some (record { highest = Not; at = at 7 6 })) (name (var (codes "A") (at 7 10)))) no_multiplieds) no_addeds) ∷ [])) ≡ Err (fault (at 7 10) WrongType)
+not_row : checked (main (two ∷ []) (assign (var_at (codes "A") (at 7 1)) (sum None (term (factor (Some (record { highest = Not; at = at 7 6 })) (name (var_at (codes "A") (at 7 10)))) no_multiplieds) no_addeds) ∷ [])) ≡ Err (fault (at 7 10) WrongType)
 not_row = refl
 
-put_row : checked (main (two ∷ []) (calling (id (codes "PUT_LINE") (at 7 1)) (only (name (var (codes "A") (at 7 11)))) ∷ [])) ≡ Err (fault (at 7 11) WrongType)
+put_row : checked (main (two ∷ []) (called (id (codes "PUT_LINE") (at 7 1)) (only (name (var_at (codes "A") (at 7 11)))) ∷ [])) ≡ Err (fault (at 7 11) WrongType)
 put_row = refl
 
-arguments_row : checked (main (two ∷ []) (calling (id (codes "PUT_LINE") (at 7 1)) (only (attribute (named (part (integer_type (at 7 11)) no_args) no_parts) (id (codes "IMAGE") (at 7 19)) no_expr)) ∷ [])) ≡ Err (fault (at 7 19) WrongNumberOfArguments)
+arguments_row : checked (main (two ∷ []) (called (id (codes "PUT_LINE") (at 7 1)) (only (attribute (named (part (integer_type (at 7 11)) no_args) no_parts) (id (codes "IMAGE") (at 7 19)) no_expr)) ∷ [])) ≡ Err (fault (at 7 19) WrongNumberOfArguments)
 arguments_row = refl
 
-itself_row : checked (main (two ∷ []) (calling (id (codes "P") (at 7 1)) (only (num 1 (at 7 4))) ∷ [])) ≡ Err (fault (at 7 1) WrongNumberOfArguments)
+itself_row : checked (main (two ∷ []) (called (id (codes "P") (at 7 1)) (only (num 1 (at 7 4))) ∷ [])) ≡ Err (fault (at 7 1) WrongNumberOfArguments)
 itself_row = refl
 
 -- the grammar makes no call without arguments
-alone_row : checked (main [] (call (var (codes "PUT_LINE") (at 7 1)) ∷ [])) ≡ Err (fault (at 7 1) WrongNumberOfArguments)
+alone_row : checked (main [] (call (var_at (codes "PUT_LINE") (at 7 1)) ∷ [])) ≡ Err (fault (at 7 1) WrongNumberOfArguments)
 alone_row = refl
 
 end_row : checked (unit (at 1 1) (id (codes "P") (at 1 11)) no_decls (body (at 2 1) (more_stmts (null (at 3 1)) no_stmts) (at 4 1) (Some (id (codes "Q") (at 4 5))))) ≡ Err (fault (at 4 5) WrongNameAtEnd)
 end_row = refl
 
-large_row : checked (main [] (calling (id (codes "PUT_LINE") (at 7 1)) (only (attribute (named (part (integer_type (at 7 11)) no_args) no_parts) (id (codes "IMAGE") (at 7 19)) (an_expr (only (integer (record { value = None; at = at 7 26 })))))) ∷ [])) ≡ Err (fault (at 7 26) NumberTooLarge)
+large_row : checked (main [] (called (id (codes "PUT_LINE") (at 7 1)) (only (attribute (named (part (integer_type (at 7 11)) no_args) no_parts) (id (codes "IMAGE") (at 7 19)) (an_expr (only (integer (record { value = None; at = at 7 26 })))))) ∷ [])) ≡ Err (fault (at 7 26) NumberTooLarge)
 large_row = refl
 
 -- of two faults the first in the text, though it is found later
-first_row : checked (main [] (assign (var (codes "C") (at 6 1)) (only (name (var (codes "D") (at 6 6)))) ∷ [])) ≡ Err (fault (at 6 1) NameNotDeclared)
+first_row : checked (main [] (assign (var_at (codes "C") (at 6 1)) (only (name (var_at (codes "D") (at 6 6)))) ∷ [])) ≡ Err (fault (at 6 1) NameNotDeclared)
 first_row = refl

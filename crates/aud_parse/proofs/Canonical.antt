@@ -16,7 +16,8 @@ use Rattle.aud_lex.specs.Bytes.{between, is_single, class}
 use Rattle.aud_lex.specs.Element.{Element}
 use Rattle.aud_lex.specs.Kinds.{Spelled, code, reserved, delimiters}
 use Rattle.aud_lex.specs.Spaced.{Word}
-use Rattle.aud_lex.specs.Tokens.{step, accepts, run, is_token, small, same_bytes, found, kind_in, kind_of}
+use Rattle.aud_lex.specs.Tokens.{step, accepts, run, is_token, small, found, kind_in, kind_of}
+use Rattle.std.specs.Str.{bytes_eq}
 use Rattle.aud_lex.proofs.Fronts.{run_dead}
 use Rattle.aud_syntax.specs.Printed.{number_digits, doubled, quoted}
 use Rattle.aud_parse.specs.Values.{with_digit, digits_value, number_value, inner, unquoted}
@@ -103,7 +104,7 @@ found_code : (table : List Spelled) (bytes : List ℕ) (ordinary : Kind) → lis
 found_code [] bytes ordinary h = inl refl
 found_code (x ∷ xs) bytes ordinary h =
     let k = and_parts (nat_le (suc (code x.kind)) 100) (list_all (λ e. nat_le (suc (code e.kind)) 100) xs) h in
-    at (same_bytes x.bytes bytes) x.kind (found xs bytes ordinary) ordinary (leb-true _ _ k.0) (found_code xs bytes ordinary k.1)
+    at (bytes_eq x.bytes bytes) x.kind (found xs bytes ordinary) ordinary (leb-true _ _ k.0) (found_code xs bytes ordinary k.1)
   where
     at : (t : Bool) (c d ordinary : Kind) → suc (code c) ≤ 100 → (code d ≡ code ordinary) ⊎ (code d < 100) → (code (if t then c else d) ≡ code ordinary) ⊎ (code (if t then c else d) < 100)
     at true c d ordinary h k = inr (omega arith)

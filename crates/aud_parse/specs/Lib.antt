@@ -11,6 +11,5 @@ pub mod Reads
 pub mod Gives
 pub mod Begun
 pub mod Alike
-pub mod Shorthand
 pub mod Rows
 pub mod Laws

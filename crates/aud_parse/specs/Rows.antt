@@ -9,7 +9,7 @@ use Rattle.aud_syntax.specs.Plain.{Expr, added, multiplied, Primary, attribute, 
 use Rattle.aud_parse.specs.Grammar as g
 use Rattle.aud_parse.specs.Actions.{the_unit}
 use Rattle.aud_parse.specs.Parsed.{Fault, wrong_at, deep_at, parsed, parsed_as}
-use Rattle.aud_parse.specs.Shorthand.{at, id, var_at, called, num, too_large, str, var, just, magnitude, opposite, product, multiplying, one, sum, adding, only, only_term, positive, negative, decls, stmts}
+use Rattle.aud_syntax.specs.Shorthand.{at, id, var_at, called, num, too_large, str, var, just, magnitude, opposite, product, multiplying, one, sum, adding, only, only_term, positive, negative, decls, stmts}
 
 -- how tokens are read, where there are tokens
 abbrev pub read_by : (List Element → Result Unit Fault) → Result (List Element) Pos → Option (Result Unit Fault)

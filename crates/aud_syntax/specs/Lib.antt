@@ -3,3 +3,4 @@ pub mod View
 pub mod Printed
 pub mod Bare
 pub mod Laws
+pub mod Shorthand
