@@ -1,5 +1,5 @@
 -- How symbols are passed: words, tokens, levels, loops, and the exit of a function at a fault.
-use Rattle.std.proofs.Common.{◌≡◌, ℕ, suc, ◌+◌, ◌≤◌, List, [], ◌∷◌, ◌++◌, length, ap, append_assoc, append-nil, Bool, true, false, refl, sym, arith, subst, ◌∙◌}
+use Rattle.std.proofs.Common.{◌≡◌, ℕ, suc, ◌+◌, ◌≤◌, List, [], ◌∷◌, ◌++◌, length, ap, Bool, true, false, refl, sym, arith, subst, ◌∙◌}
 use Rattle.std.specs.Prelude.{◌==◌, if◌then◌else◌, Result, Ok, Err, IsErrAnd}
 use Rattle.std.proofs.lemmas.Result.{err_from_is_err_and}
 use Rattle.aud_lex.specs.Element.{Element}
@@ -8,7 +8,7 @@ use Rattle.aud_lex.specs.declared.token.Kind.{Kind}
 use Rattle.aud_parse.specs.Grammar.{Part, Sym, T, P, N, L, Down, Rep, rule}
 use Rattle.aud_parse.specs.First.{next_in, firsts}
 use Rattle.aud_parse.specs.Parsed.{Verdict, Wrong, Deep}
-use Rattle.aud_parse.specs.Actions.{Item, tok, none, cons, listed, made}
+use Rattle.aud_parse.specs.Actions.{Item, tok, none, listed, made}
 use Rattle.aud_parse.specs.Machine.{Out, o_level, o_down, o_rule, o_deep, o_shut, o_word, o_token, o_more, o_stop}
 use Rattle.aud_parse.specs.Items.{list_item}
 use Rattle.aud_parse.specs.declared.cursor.Rest.{Rest}
@@ -109,6 +109,12 @@ pub hand_on : {s0 s : Sym} {r : ℕ} {ts : List Element} {X : Type 0} (x : X →
 hand_on x (Ok p) h g = λ k ds v o. g k _ v (h k ds v o)
 hand_on x (Err e) h g = fails_through e h g
 
+-- the same one level deeper
+pub level_on : {s0 : Sym} {q : Part} {r : ℕ} {ts : List Element} {X : Type 0} (x : X → Item) (i : ℕ) (res : Result (X × Rest) Fault) → r ≡ i + 1 → Reads x (N q) i ts res →
+    ((k : List Sym) (ds : List Item) (v : Verdict) → Out (L q ∷ Down ∷ k) r ts ds v → Out (s0 ∷ k) r ts ds v) → Reads x s0 r ts res
+level_on x i (Ok p) e h g = λ k ds v o. g k _ v (level_in e (h (Down ∷ k) ds v (level_out e o)))
+level_on x i (Err e') e h g = fails_through {K = λ k. Down ∷ k} {f = λ ds. ds} e' h (λ k ds v o. g k ds v (level_in e o))
+
 -- the exit where no level is left
 pub no_level : {X : Type 0} (x : X → Item) (p q : Part) (r : ℕ) (ts : Rest) (b : Bool) (e : Fault) (res : Result (X × Rest) Fault) → rule p ≡ L q ∷ Down ∷ [] →
     IsErrAnd res (λ y. y ≡ e) → (r ≡ 0) × (e ≡ (if b then fault.Deep ts else fault.Wrong ts)) → b ≡ next_in (firsts q) ts.tokens.now → Reads x (N p) r ts.tokens.now res
@@ -124,27 +130,33 @@ no_level x p q r ts b e res h is at t =
 pub to : {s : List Sym} {r : ℕ} {ts : List Element} {ds es : List Item} {v : Verdict} → Out s r ts ds v → ds ≡ es → Out s r ts es v
 to {s} {r} {ts} {v = v} o e = subst (λ z. Out s r ts z v) e o
 
--- the turns of a loop that begins with some trees
-pub record TurnsFrom {X : Type 0} (f : X → Item) (p : Part) (r : ℕ) (ts : List Element) (before all : List X) (ts' : List Element) : Type 0 where
-  pub others : List X
-  pub split : all ≡ before ++ others
-  pub turns : Turns f p r ts others ts'
+-- what the trees of some turns, of which the last is followed by one more, make of what that one is read to
+abbrev pub headed : {X : Type 0} → (X → Item) → List X → List Item → List Item
+headed f [] ds = ds
+headed f (x ∷ xs) ds = f x ∷ listed (headed f xs ds)
 
-pub from_first : {X : Type 0} {f : X → Item} {p : Part} {r : ℕ} {ts : List Element} {all : List X} → TurnsFrom f p r ts all all ts
-from_first {f = f} {p} {r} {ts} {all} = record { others = []; split = sym (append-nil all); turns = turns_none f p r ts }
+-- the turns so far of a loop that has one at least: it reads q, and each further one is part of a p
+pub record Heads {X : Type 0} (f : X → Item) (q p : Part) (r : ℕ) (ts : List Element) (xs : List X) (ts' : List Element) : Type 0 where
+  pub by : (k : List Sym) (ds : List Item) (v : Verdict) → Out (N q ∷ Rep p ∷ k) r ts' ds v → Out (N q ∷ Rep p ∷ k) r ts (headed f xs ds) v
 
-pub from_push : {X : Type 0} {f : X → Item} {p : Part} {r : ℕ} {ts ts' ts'' : List Element} {before xs ys : List X} (x : X) →
-    TurnsFrom f p r ts before xs ts' → next_in (firsts p) ts' ≡ true → Passes (N p) r ts' (λ ds. f x ∷ ds) r ts'' → ys ≡ xs ++ x ∷ [] → TurnsFrom f p r ts before ys ts''
-from_push {before = before} x t e s is = record {
-  others = t.others ++ x ∷ [];
-  split = is ∙ ap (λ z. z ++ x ∷ []) t.split ∙ append_assoc before t.others (x ∷ []);
-  turns = turns_push x t.turns e s refl;
-}
+headed_push : {X : Type 0} (f : X → Item) (xs : List X) (x : X) (ds : List Item) → headed f (xs ++ x ∷ []) ds ≡ headed f xs (f x ∷ listed ds)
+headed_push f [] x ds = refl
+headed_push f (y ∷ xs) x ds = ap (λ z. f y ∷ listed z) (headed_push f xs x ds)
 
--- the whole list, where the loop begins with one tree
-pub from_end : {X : Type 0} {f : X → Item} {s0 : Sym} {p : Part} {r : ℕ} {ts ts' start : List Element} {news before all : List X} (x : X) →
-    TurnsFrom f p r ts before all ts' → before ≡ news ++ x ∷ [] → news ≡ [] → next_in (firsts p) ts' ≡ false →
-    ((k : List Sym) (xs : Item) (ds : List Item) (v : Verdict) → Out (Rep p ∷ k) r ts (xs ∷ ds) v → Out (s0 ∷ k) r start (cons (f x) xs ∷ ds) v) → Passes s0 r start (λ ds. list_item f all ∷ ds) r ts'
-from_end {f = f} x t b nil e g k ds v o =
-    to (g k (list_item f t.others) ds v (turns_end t.turns e k ds v o))
-    (ap (λ l. list_item f l ∷ ds) (sym (t.split ∙ ap (λ z. z ++ t.others) (b ∙ ap (λ z. z ++ x ∷ []) nil))))
+headed_items : {X : Type 0} (f : X → Item) (xs : List X) (x : X) (ds : List Item) → listed (headed f xs (f x ∷ none ∷ ds)) ≡ list_item f (xs ++ x ∷ []) ∷ ds
+headed_items f [] x ds = refl
+headed_items f (y ∷ xs) x ds = ap (λ z. listed (f y ∷ z)) (headed_items f xs x ds)
+
+pub heads_none : {X : Type 0} {f : X → Item} {q p : Part} {r : ℕ} {ts : List Element} {xs : List X} → xs ≡ [] → Heads f q p r ts xs ts
+heads_none e = rw e (record { by = λ k ds v o. o })
+
+pub heads_push : {X : Type 0} {f : X → Item} {q p : Part} {r : ℕ} {ts ts' ts'' us : List Element} {xs ys : List X} (x : X) →
+    Heads f q p r ts xs ts' → Passes (N q) r ts' (λ ds. f x ∷ ds) r ts'' → ((k : List Sym) (ds : List Item) (v : Verdict) → Out (N q ∷ Rep p ∷ k) r us ds v → Out (Rep p ∷ k) r ts'' (listed ds) v) → ys ≡ xs ++ x ∷ [] →
+    Heads f q p r ts ys us
+heads_push {p = p} x t s g is = record { by = λ k ds v o. rw (is, headed_push) (t.by k _ v (s (Rep p ∷ k) _ v (g k ds v o))) }
+
+pub heads_end : {X : Type 0} {f : X → Item} {s0 : Sym} {q p : Part} {r : ℕ} {ts ts' ts'' : List Element} {xs ys : List X} (x : X) →
+    Heads f q p r ts xs ts' → Passes (N q) r ts' (λ ds. f x ∷ ds) r ts'' → next_in (firsts p) ts'' ≡ false → ys ≡ xs ++ x ∷ [] →
+    ((k : List Sym) (ds : List Item) (v : Verdict) → Out (N q ∷ Rep p ∷ k) r ts ds v → Out (s0 ∷ k) r ts (listed ds) v) → Passes s0 r ts (λ ds. list_item f ys ∷ ds) r ts''
+heads_end {f = f} {p = p} {xs = xs} x t s e is g k ds v o =
+    to (g k _ v (t.by k _ v (s (Rep p ∷ k) _ v (o_stop e o)))) (headed_items f xs x ds ∙ ap (λ l. list_item f l ∷ ds) (sym is))

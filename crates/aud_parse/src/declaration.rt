@@ -22,16 +22,16 @@ fn ids<'a, 's>(
     ensures reads { (room : ℕ) → Reads (λ v. list_item an_ident v.items) (N g.Ids) room toks.entry.tokens.now result }
     ensures shorter { IfOk result (λ p. length p.1.tokens.now < length toks.entry.tokens.now) }
 {
-    let (first, start) = ident(alloc, toks)?;
     let mut all = Vec::new(alloc);
-    all.push(first)?;
-    let mut rest = start;
-    'turns: while let Some((_, behind)) = accept(rest, Kind::Comma) {
-        let (one, after) = ident(alloc, behind)?;
+    let mut rest = toks;
+    'turns: loop {
+        let (one, after) = ident(alloc, rest)?;
         all.push(one)?;
-        rest = after;
+        match accept(after, Kind::Comma) {
+            Some((_, behind)) => rest = behind,
+            None => return Ok((all, after)),
+        }
     }
-    Ok((all, rest))
 }
 
 /// The value with which variables begin, if there is one.
@@ -76,16 +76,16 @@ fn decl_list<'a, 's>(
     ensures reads { Reads (λ v. list_item decl_item v.items) (N g.DeclList) room toks.entry.tokens.now result }
     ensures shorter { IfOk result (λ p. length p.1.tokens.now < length toks.entry.tokens.now) }
 {
-    let (first, start) = decl(alloc, toks, room)?;
     let mut all = Vec::new(alloc);
-    all.push(first)?;
-    let mut rest = start;
-    'turns: while is(rest, Kind::Identifier) {
+    let mut rest = toks;
+    'turns: loop {
         let (one, after) = decl(alloc, rest, room)?;
         all.push(one)?;
+        if !is(after, Kind::Identifier) {
+            return Ok((all, after));
+        }
         rest = after;
     }
-    Ok((all, rest))
 }
 
 /// Declarations, which lie one level deeper.
@@ -98,8 +98,7 @@ fn decls<'a, 's>(
     ensures shorter { IfOk result (λ p. length p.1.tokens.now < length toks.entry.tokens.now) }
 {
     let inside = deeper(toks, room, is(toks, Kind::Identifier))?;
-    let (all, rest) = decl_list(alloc, toks, inside)?;
-    Ok((all, rest))
+    decl_list(alloc, toks, inside)
 }
 
 /// Declarations, if there are any (RM 3.11).

@@ -100,16 +100,16 @@ fn stmt_list<'a, 's>(
     ensures reads { Reads (λ v. list_item stmt_item v.items) (N g.StmtList) room toks.entry.tokens.now result }
     ensures shorter { IfOk result (λ p. length p.1.tokens.now < length toks.entry.tokens.now) }
 {
-    let (first, start) = stmt(alloc, toks, room)?;
     let mut all = Vec::new(alloc);
-    all.push(first)?;
-    let mut rest = start;
-    'turns: while is_one_of(rest, &STATEMENTS) {
+    let mut rest = toks;
+    'turns: loop {
         let (one, after) = stmt(alloc, rest, room)?;
         all.push(one)?;
+        if !is_one_of(after, &STATEMENTS) {
+            return Ok((all, after));
+        }
         rest = after;
     }
-    Ok((all, rest))
 }
 
 /// Statements, which lie one level deeper.
@@ -122,8 +122,7 @@ fn stmts<'a, 's>(
     ensures shorter { IfOk result (λ p. length p.1.tokens.now < length toks.entry.tokens.now) }
 {
     let inside = deeper(toks, room, is_one_of(toks, &STATEMENTS))?;
-    let (all, rest) = stmt_list(alloc, toks, inside)?;
-    Ok((all, rest))
+    stmt_list(alloc, toks, inside)
 }
 
 /// The name behind `end`, if there is one.

@@ -1,11 +1,11 @@
 use Rattle.std.proofs.Common.{◌≤◌, length}
 use Rattle.aud_parse.specs.Grammar as g
 use Rattle.aud_parse.specs.Items.{decl_item}
-use Rattle.aud_parse.proofs.Passing.{TurnsFrom}
+use Rattle.aud_parse.proofs.Passing.{Heads}
 use Rattle.aud_parse.proofs.declaration.decl_list.Given as goal
 
 abbrev pub invariant-turns : goal.invariant-turns
-invariant-turns l = record { turns : TurnsFrom decl_item g.Decl l.room l.initial.rest.tokens.now l.initial.all.items l.all.items l.rest.tokens.now; shorter : length l.rest.tokens.now ≤ length l.initial.rest.tokens.now }
+invariant-turns l = record { turns : Heads decl_item g.Decl g.Decl l.room l.toks.tokens.now l.all.items l.rest.tokens.now; shorter : length l.rest.tokens.now ≤ length l.toks.tokens.now }
 
 abbrev pub decreases-turns : goal.decreases-turns
 decreases-turns l = length l.rest.tokens.now
