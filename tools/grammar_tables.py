@@ -1,7 +1,7 @@
 #!/usr/bin/env python3
 """Writes crates/aud_parse/proofs/Tables.antt from crates/aud_parse/specs/Grammar.antt.
 
-For each part of the grammar: `rank`, how many rules may be entered before a token of it is
+For each phrase of the grammar: `rank`, how many rules may be entered before a token of it is
 passed, and `follow`, the numbers of the kinds of tokens that may come behind it (999 is the end
 of the tokens). The prover checks both tables; this script only finds them, and it stops where the
 next token does not decide between two ways.
@@ -12,15 +12,15 @@ from pathlib import Path
 
 CRATES = Path(__file__).resolve().parent.parent / "crates"
 END = 999
-# the parts that may come last in a list of tokens
-LAST = ["Unit", "Expr"]
+# the phrases that may come last in a list of tokens
+LAST = ["Unit", "Expression"]
 
 SYMBOL = r"A \([^()]*\)|T kind\.\w+|P kind\.\w+|W \w+|N \w+|L \w+|Down|Opt \w+|Rep \w+"
 
 
 def read_codes():
     text = (CRATES / "aud_lex/specs/Kinds.antt").read_text()
-    return {name: int(n) for name, n in re.findall(r"^code kind\.(\w+) = (\d+)", text, re.M)}
+    return {name: int(n) for name, n in re.findall(r"^kind_number kind\.(\w+) = (\d+)", text, re.M)}
 
 
 def read_rules():
@@ -50,8 +50,8 @@ def close(table, step):
 
 def main():
     codes, rules = read_codes(), read_rules()
-    first = {part: set() for part in rules}
-    follow = {part: ({END} if part in LAST else set()) for part in rules}
+    first = {phrase: set() for phrase in rules}
+    follow = {phrase: ({END} if phrase in LAST else set()) for phrase in rules}
 
     def first_of(symbols, behind):
         for place, (shape, name) in enumerate(symbols):
@@ -62,19 +62,19 @@ def main():
             if shape in ("N", "L"):
                 return set(first[name])
             if shape == "A":
-                return set().union(*(first[part] for part in name))
+                return set().union(*(first[phrase] for phrase in name))
             if shape in ("Opt", "Rep"):
                 return first[name] | first_of(symbols[place + 1 :], behind)
         return set(behind)
 
     def grow_first():
-        for part, symbols in rules.items():
-            first[part] |= first_of(symbols, set())
+        for phrase, symbols in rules.items():
+            first[phrase] |= first_of(symbols, set())
 
     def grow_follow():
-        for part, symbols in rules.items():
+        for phrase, symbols in rules.items():
             for place, (shape, name) in enumerate(symbols):
-                behind = first_of(symbols[place + 1 :], follow[part])
+                behind = first_of(symbols[place + 1 :], follow[phrase])
                 if shape in ("N", "L", "Opt"):
                     follow[name] |= behind
                 elif shape == "Rep":
@@ -85,20 +85,20 @@ def main():
 
     close(first, grow_first)
     close(follow, grow_follow)
-    for part, symbols in rules.items():
+    for phrase, symbols in rules.items():
         for place, (shape, name) in enumerate(symbols):
-            behind = first_of(symbols[place + 1 :], follow[part])
+            behind = first_of(symbols[place + 1 :], follow[phrase])
             if shape in ("Opt", "Rep") and first[name] & behind:
-                sys.exit(f"{part}: the next token does not decide whether {name} is there")
+                sys.exit(f"{phrase}: the next token does not decide whether {name} is there")
             if shape == "A" and len(set().union(*(first[p] for p in name))) != sum(len(first[p]) for p in name):
-                sys.exit(f"{part}: the next token does not decide between {name}")
+                sys.exit(f"{phrase}: the next token does not decide between {name}")
 
     ranks = {}
 
-    def rank(part):
-        if part not in ranks:
+    def rank(phrase):
+        if phrase not in ranks:
             most = 0
-            for shape, name in rules[part]:
+            for shape, name in rules[phrase]:
                 if shape in "TPW":
                     break
                 if shape == "Down":
@@ -107,21 +107,21 @@ def main():
                 most = max([most] + [rank(p) + (shape != "N") for p in parts])
                 if shape in ("N", "L", "A"):
                     break
-            ranks[part] = most + 1
-        return ranks[part]
+            ranks[phrase] = most + 1
+        return ranks[phrase]
 
     lines = [
-        "-- What the laws need to know of each part. Written by tools/grammar_tables.py, and checked in Reading and Ends.",
+        "-- What the laws need to know of each phrase. Written by tools/grammar_tables.py, and checked in Reading and Ends.",
         "use Rattle.std.specs.Prelude.{ℕ, List, [], ◌∷◌}",
-        "use Rattle.aud_parse.specs.Grammar.{Part, " + ", ".join(rules) + "}",
+        "use Rattle.aud_parse.specs.Grammar.{Phrase, " + ", ".join(rules) + "}",
         "",
-        "-- how many rules may be entered before a token of the part is passed, its own among them",
-        "abbrev pub rank : Part → ℕ",
-        *(f"rank {part} = {rank(part)}" for part in rules),
+        "-- how many rules may be entered before a token of the phrase is passed, its own among them",
+        "abbrev pub rank : Phrase → ℕ",
+        *(f"rank {phrase} = {rank(phrase)}" for phrase in rules),
         "",
-        "-- the kinds that may come behind the part, as numbers; 999 is the end of the tokens",
-        "abbrev pub follow : Part → List ℕ",
-        *(f"follow {part} = " + "".join(f"{n} ∷ " for n in sorted(follow[part])) + "[]" for part in rules),
+        "-- the kinds that may come behind the phrase, as numbers; 999 is the end of the tokens",
+        "abbrev pub follow : Phrase → List ℕ",
+        *(f"follow {phrase} = " + "".join(f"{n} ∷ " for n in sorted(follow[phrase])) + "[]" for phrase in rules),
     ]
     (CRATES / "aud_parse/proofs/Tables.antt").write_text("\n".join(lines) + "\n")
     print(f"{len(rules)} parts, highest rank {max(ranks.values())}")

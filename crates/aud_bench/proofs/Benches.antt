@@ -5,7 +5,7 @@ use Rattle.std.proofs.Math.Logic.{∥∥₁_elim, ∥∥₁_map}
 use Rattle.std.proofs.lemmas.List.{take-append-le, drop-append-le, take_all, drop_all, take_more, drop_more, length-take-le}
 use Rattle.std.specs.Coded.{Coded-set, coded_list, coded_ℕ}
 use native.Mathlib.Bridge.{le_prop}
-use Rattle.aud_text.specs.declared.code.Code.TheVariants.{OutOfMemory}
+use Rattle.aud_text.specs.declared.refusal.Refusal.TheVariants.{OutOfMemory}
 use Rattle.aud_text.specs.declared.limits.Limits.{Limits}
 use Rattle.aud_machine.specs.Shown.{Shown}
 use Rattle.aud_bench.specs.declared.request.Request.{Request}

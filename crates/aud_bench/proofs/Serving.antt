@@ -1,7 +1,7 @@
 -- A RUN that is cut into slices comes to what it comes to at once.
 use Rattle.std.specs.Prelude.{min, max, ◌==◌, if◌then◌else◌, ◌⊎◌}
 use Rattle.std.proofs.Common.{◌≡◌, ℕ, ◌+◌, ◌-◌, ◌<◌, ◌≤◌, List, [], Option, Some, None, Result, Ok, Err, Bool, true, false, inl, inr, refl, sym, ap, ◌∙◌, subst, arith}
-use Rattle.aud_text.specs.declared.code.Code.TheVariants as code
+use Rattle.aud_text.specs.declared.refusal.Refusal.TheVariants as refusal
 use Rattle.aud_text.specs.declared.limits.Limits.{Limits}
 use Rattle.aud_text.specs.declared.limits.TheConstants.{STEPS}
 use Rattle.aud_typed.specs.Tree as tree
@@ -31,13 +31,13 @@ is_some : (n : ℕ) → 1 ≤ n → (n == 0) ≡ false
 is_some n h = grind (arith, h)
 
 -- a RUN where no steps are left, and one where some are
-pub reply_spent : (limits : Limits) (n : ℕ) (l : Loaded) → steps_left l.now ≡ 0 → run_reply limits n (Some l) ≡ answers_only (answer.Refused code.StepBudget) (Some l)
+pub reply_spent : (limits : Limits) (n : ℕ) (l : Loaded) → steps_left l.now ≡ 0 → run_reply limits n (Some l) ≡ answers_only (answer.Refused refusal.StepBudget) (Some l)
 reply_spent limits n l e =
-    ap (λ b. if b then answers_only (answer.Refused code.StepBudget) (Some l) else ran_reply l (run limits l.program (min n (steps_left l.now)) l.now)) (is_none (steps_left l.now) e)
+    ap (λ b. if b then answers_only (answer.Refused refusal.StepBudget) (Some l) else ran_reply l (run limits l.program (min n (steps_left l.now)) l.now)) (is_none (steps_left l.now) e)
 
 pub reply_ran : (limits : Limits) (n : ℕ) (l : Loaded) → 1 ≤ steps_left l.now → run_reply limits n (Some l) ≡ ran_reply l (run limits l.program (min n (steps_left l.now)) l.now)
 reply_ran limits n l some =
-    ap (λ b. if b then answers_only (answer.Refused code.StepBudget) (Some l) else ran_reply l (run limits l.program (min n (steps_left l.now)) l.now)) (is_some (steps_left l.now) some)
+    ap (λ b. if b then answers_only (answer.Refused refusal.StepBudget) (Some l) else ran_reply l (run limits l.program (min n (steps_left l.now)) l.now)) (is_some (steps_left l.now) some)
 
 -- a LOAD costs one unit, whatever comes of it
 pub load_costs : (loaded : Option Loaded) (x : Result tree.Program Answer) → (load_reply x loaded).cost ≡ 1
@@ -54,7 +54,7 @@ costs_some limits (request.Load source) loaded = omega (arith, load_costs loaded
 costs_some limits (request.Run n) None = omega arith
 costs_some limits (request.Run n) (Some l) = by (steps_left l.now == 0)
   where
-    by : (b : Bool) → 1 ≤ (if b then answers_only (answer.Refused code.StepBudget) (Some l) else ran_reply l (run limits l.program (min n (steps_left l.now)) l.now)).cost
+    by : (b : Bool) → 1 ≤ (if b then answers_only (answer.Refused refusal.StepBudget) (Some l) else ran_reply l (run limits l.program (min n (steps_left l.now)) l.now)).cost
     by true = omega arith
     by false = omega arith
 costs_some limits request.Output loaded = omega (arith, output_costs loaded)
@@ -83,15 +83,15 @@ module _ (limits : Limits) (n p : ℕ) (l : Loaded) (old : Shown) (under : Under
       by (inl z) = omega (arith, e, z, under.stepped.steps)
       by (inr lt) = omega (arith, e, lt, under.stepped.steps)
 
-  pub is_spent : (units : ℕ) → STEPS - here.steps ≡ 0 → ServesBy (Some (answer.Refused code.StepBudget)) limits (request.Run n) (Some l) p units 1 0 (Some old)
+  pub is_spent : (units : ℕ) → STEPS - here.steps ≡ 0 → ServesBy (Some (answer.Refused refusal.StepBudget)) limits (request.Run n) (Some l) p units 1 0 (Some old)
   is_spent units e =
       let none : steps_left l.now ≡ 0 = left_none e in
-      let reply : run_reply limits n (Some l) ≡ answers_only (answer.Refused code.StepBudget) (Some l) = reply_spent limits n l none in
+      let reply : run_reply limits n (Some l) ≡ answers_only (answer.Refused refusal.StepBudget) (Some l) = reply_spent limits n l none in
       let one : (run_reply limits n (Some l)).cost ≡ 1 = ap (λ r. r.cost) reply in
       let zero_done : p ≡ 0 = omega (arith, one, under.unanswered) in
       let holds : Holds limits old l = subst (λ k. Holds limits old (record l { now = run limits l.program k l.now })) zero_done under.is_behind in
-      at_once limits (request.Run n) (Some l) p units (Some old) (answer.Refused code.StepBudget) one under.unanswered
-      (subst (λ r. Replies limits (answer.Refused code.StepBudget) (Some old) r) (sym reply) (record { answer_is = refl; loaded = holds }))
+      at_once limits (request.Run n) (Some l) p units (Some old) (answer.Refused refusal.StepBudget) one under.unanswered
+      (subst (λ r. Replies limits (answer.Refused refusal.StepBudget) (Some old) r) (sym reply) (record { answer_is = refl; loaded = holds }))
 
   module _ (wanted now units : ℕ) (new : Shown) (ran : Ran) (some : 1 ≤ STEPS - here.steps) (is_wanted : wanted ≡ min (n - p) (STEPS - here.steps)) (is_now : now ≡ min wanted units) (kept : (new.limits ≡ old.limits) × (new.program ≡ old.program)) (ran_from : RunsFrom old.limits (program_in old) now here new ran) where
     abbrev pub whole : ℕ

@@ -1,6 +1,6 @@
 -- A private server, of one user alone: what it answers to a list of requests, and how many units each costs.
 use Rattle.std.specs.Prelude.{ℕ, ◌+◌, ◌-◌, min, max, List, [], ◌∷◌, Option, Some, None, Result, Ok, Err, Bool, true, false, ◌==◌, nat_lt, nat_le, ◌&&◌, ◌||◌, if◌then◌else◌, slice_index_or}
-use Rattle.aud_text.specs.declared.code.Code.TheVariants as code
+use Rattle.aud_text.specs.declared.refusal.Refusal.TheVariants as refusal
 use Rattle.aud_text.specs.declared.limits.Limits.{Limits}
 use Rattle.aud_text.specs.declared.limits.TheConstants.{STEPS, REQUESTS, REQUEST_BYTES}
 use Rattle.aud_typed.specs.declared.program.Exception.{Exception}
@@ -81,13 +81,13 @@ abbrev pub steps_left : Configuration → ℕ
 steps_left c = STEPS - c.steps
 
 abbrev pub run_reply : Limits → ℕ → Option Loaded → Reply
-run_reply limits n None = answers_only (answer.Refused code.NoProgram) None
+run_reply limits n None = answers_only (answer.Refused refusal.NoProgram) None
 run_reply limits n (Some loaded) =
-    if steps_left loaded.now == 0 then answers_only (answer.Refused code.StepBudget) (Some loaded)
+    if steps_left loaded.now == 0 then answers_only (answer.Refused refusal.StepBudget) (Some loaded)
     else ran_reply loaded (run limits loaded.program (min n (steps_left loaded.now)) loaded.now)
 
 abbrev pub output_reply : Option Loaded → Reply
-output_reply None = answers_only (answer.Refused code.NoProgram) None
+output_reply None = answers_only (answer.Refused refusal.NoProgram) None
 output_reply (Some loaded) = answers_only (answer.Output loaded.now.shared.output) (Some loaded)
 
 abbrev pub replied : Limits → Option Loaded → Request → Reply
@@ -127,7 +127,7 @@ abbrev pub answers_from : Limits → Server → List Request → List Answer
 answers_from limits s [] = []
 answers_from limits s (r ∷ rs) =
     if fits s.requests s.bytes r then answers_after (is_quit r) (replied limits s.loaded r) (λ loaded. answers_from limits (kept s r loaded) rs)
-    else answer.Refused code.JournalFull ∷ answers_from limits s rs
+    else answer.Refused refusal.JournalFull ∷ answers_from limits s rs
 
 unfoldable pub alone : Limits → List Request → List Answer
 alone limits requests = answers_from limits fresh requests

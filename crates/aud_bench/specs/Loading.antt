@@ -2,7 +2,7 @@
 -- least broken rule.
 use Rattle.std.specs.Prelude.{ℕ, suc, List, Option, Some, None, Result, Ok, Err, length, nat_lt, if◌then◌else◌, slice_get}
 use Rattle.aud_text.specs.declared.place.Pos.{Pos}
-use Rattle.aud_text.specs.declared.code.Code.TheVariants as code
+use Rattle.aud_text.specs.declared.refusal.Refusal.TheVariants as refusal
 use Rattle.aud_text.specs.declared.limits.Limits.{Limits}
 use Rattle.aud_lex.specs.Element.{Element}
 use Rattle.aud_lex.specs.Lexed.{lexed}
@@ -25,18 +25,18 @@ place_of source tokens i = place_by (slice_get tokens i) source
 
 abbrev pub after_checking : Result tree.Program Fault → Result tree.Program Answer
 after_checking (Ok program) = Ok program
-after_checking (Err fault) = Err (RefusedAt fault.code fault.at)
+after_checking (Err fault) = Err (RefusedAt fault.refusal fault.at)
 
 abbrev pub after_parsing : List ℕ → List Element → Result plain.Unit syntax.Fault → Result tree.Program Answer
 after_parsing source tokens (Ok read) = after_checking (checked read)
-after_parsing source tokens (Err (syntax.wrong_at i)) = Err (RefusedAt code.Syntax (place_of source tokens i))
-after_parsing source tokens (Err (syntax.deep_at i)) = Err (RefusedAt code.TooDeep (place_of source tokens i))
+after_parsing source tokens (Err (syntax.wrong_at i)) = Err (RefusedAt refusal.Syntax (place_of source tokens i))
+after_parsing source tokens (Err (syntax.deep_at i)) = Err (RefusedAt refusal.TooDeep (place_of source tokens i))
 
 abbrev pub after_lexing : List ℕ → Result (List Element) Pos → Result tree.Program Answer
 after_lexing source (Ok tokens) = after_parsing source tokens (syntax.parsed tokens)
-after_lexing source (Err at) = Err (RefusedAt code.Lexical at)
+after_lexing source (Err at) = Err (RefusedAt refusal.Lexical at)
 
 abbrev pub program_of : Limits → List ℕ → Result tree.Program Answer
 program_of limits source =
-    if nat_lt limits.source (length source) then Err (Refused code.SourceTooLong)
+    if nat_lt limits.source (length source) then Err (Refused refusal.SourceTooLong)
     else after_lexing source (lexed source)

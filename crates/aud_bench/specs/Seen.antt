@@ -1,6 +1,6 @@
 -- A bench as its callers see it.
 use Rattle.std.specs.Prelude.{◌≡◌, ℕ, ◌-◌, List, [], ◌∷◌, ◌++◌, length, Bool, true, false, ◌||◌}
-use Rattle.aud_text.specs.declared.code.Code.TheVariants.{OutOfMemory}
+use Rattle.aud_text.specs.declared.refusal.Refusal.TheVariants.{OutOfMemory}
 use Rattle.aud_text.specs.declared.limits.Limits.{Limits}
 use Rattle.aud_bench.specs.declared.request.Request.{Request}
 use Rattle.aud_bench.specs.declared.request.Answer.{Answer}

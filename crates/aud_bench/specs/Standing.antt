@@ -1,6 +1,6 @@
 -- How far the work on a list of requests is.
 use Rattle.std.specs.Prelude.{◌≡◌, ℕ, ◌+◌, ◌≤◌, List, [], ◌∷◌, ◌++◌, length, take, drop, Option, None, Bool, true, false}
-use Rattle.aud_text.specs.declared.code.Code.TheVariants.{OutOfMemory}
+use Rattle.aud_text.specs.declared.refusal.Refusal.TheVariants.{OutOfMemory}
 use Rattle.aud_text.specs.declared.limits.Limits.{Limits}
 use Rattle.aud_machine.specs.Shown.{Shown}
 use Rattle.aud_bench.specs.declared.request.Request.{Request}

@@ -11,7 +11,7 @@ use crate::journal::{fits, is_quit, size};
 use crate::request::{Answer, Request};
 use crate::service::{Served, serve};
 use aud_machine::machine::Machine;
-use aud_text::code::Code;
+use aud_text::refusal::Refusal;
 use aud_text::limits::Limits;
 use std::alloc::{AllocError, Global};
 use std::marker::Model;
@@ -214,7 +214,7 @@ impl Bench {
             units,
         ) else {
             self.spent = true;
-            add(&mut self.answers, Answer::Refused(Code::OutOfMemory));
+            add(&mut self.answers, Answer::Refused(Refusal::OutOfMemory));
             return None;
         };
         let Served {

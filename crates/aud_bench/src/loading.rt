@@ -1,6 +1,8 @@
 // From a source text to a typed program.
 
-ghost use Rattle.std.specs.Prelude.{◌≡◌, Result, Err};
+ghost use Rattle.std.specs.Prelude.{◌≡◌, IfOk, Result, Err};
+ghost use Rattle.aud_typed.specs.Scoped.{IsScoped};
+ghost use Rattle.aud_typed.specs.View.{plain_program};
 ghost use Rattle.aud_lex.specs.Lexed.{lexed};
 ghost use Rattle.aud_syntax.specs.View.{plain_unit};
 ghost use Rattle.aud_bench.specs.Loading.{after_checking, after_lexing, after_parsing, place_of, program_of};
@@ -21,8 +23,8 @@ use aud_lex::lex;
 use aud_lex::token::Token;
 use aud_parse::{SyntaxFault, parse};
 use aud_syntax::tree::Unit;
-use aud_text::code::Code;
 use aud_text::limits::Limits;
+use aud_text::refusal::Refusal;
 use aud_text::place::Pos;
 use aud_typed::program::Program;
 use std::alloc::Global;
@@ -37,28 +39,32 @@ pub enum LoadFault {
 }
 
 /// The program that a source text is. It is refused where it is longer than the limit, and else at its first lexical
-/// fault, at the first place where no program goes on or a level too many is opened, or at its least broken rule.
+/// fault, at the first place where no program goes on or a level too many is opened, or at its least broken rule. Each
+/// variable of the program is elaborated before it is read or assigned (RM 3.3.1).
 pub fn load(alloc: Global, limits: Limits, source: &[u8]) -> Result<Program, LoadFault>
-    ensures { Gives (program_of limits source.now) result }
+    ensures answer { Gives (program_of limits source.now) result }
+    ensures scoped { IfOk result (λ program. IsScoped (plain_program program)) }
 {
     if source.len() > limits.source as usize {
-        return Err(LoadFault::Refused(Answer::Refused(Code::SourceTooLong)));
+        return Err(LoadFault::Refused(Answer::Refused(Refusal::SourceTooLong)));
     }
     read(alloc, source)
 }
 
 fn read(alloc: Global, source: &[u8]) -> Result<Program, LoadFault>
-    ensures { Gives (after_lexing source.now (lexed source.now)) result }
+    ensures answer { Gives (after_lexing source.now (lexed source.now)) result }
+    ensures scoped { IfOk result (λ program. IsScoped (plain_program program)) }
 {
     match lex(alloc, source) {
         Ok(tokens) => parsed(alloc, source, &tokens),
         Err(LexFault::Memory) => Err(LoadFault::Memory),
-        Err(LexFault::Lexical(at)) => Err(LoadFault::Refused(Answer::RefusedAt(Code::Lexical, at))),
+        Err(LexFault::Lexical(at)) => Err(LoadFault::Refused(Answer::RefusedAt(Refusal::Lexical, at))),
     }
 }
 
 fn parsed(alloc: Global, source: &[u8], tokens: &[Token]) -> Result<Program, LoadFault>
-    ensures { Gives (after_parsing source.now tokens.now (syntax.parsed tokens.now)) result }
+    ensures answer { Gives (after_parsing source.now tokens.now (syntax.parsed tokens.now)) result }
+    ensures scoped { IfOk result (λ program. IsScoped (plain_program program)) }
 {
     match parse(alloc, tokens) {
         Ok(unit) => checked(alloc, &unit),
@@ -71,25 +77,26 @@ fn syntax_refusal(source: &[u8], tokens: &[Token], fault: SyntaxFault) -> LoadFa
 {
     match fault {
         SyntaxFault::Memory => LoadFault::Memory,
-        SyntaxFault::Syntax(i) => fault_at(Code::Syntax, place_of(source, tokens, i)),
-        SyntaxFault::TooDeep(i) => fault_at(Code::TooDeep, place_of(source, tokens, i)),
+        SyntaxFault::Syntax(i) => fault_at(Refusal::Syntax, place_of(source, tokens, i)),
+        SyntaxFault::TooDeep(i) => fault_at(Refusal::TooDeep, place_of(source, tokens, i)),
     }
 }
 
 fn checked(alloc: Global, unit: &Unit) -> Result<Program, LoadFault>
-    ensures { Gives (after_checking (rules.checked (plain_unit unit.now))) result }
+    ensures answer { Gives (after_checking (rules.checked (plain_unit unit.now))) result }
+    ensures scoped { IfOk result (λ program. IsScoped (plain_program program)) }
 {
     match check(alloc, unit) {
         Ok(program) => Ok(program),
         Err(CheckFault::Memory) => Err(LoadFault::Memory),
-        Err(CheckFault::Wrong(fault)) => Err(fault_at(fault.code, fault.at)),
+        Err(CheckFault::Wrong(fault)) => Err(fault_at(fault.refusal, fault.at)),
     }
 }
 
-fn fault_at(code: Code, at: Pos) -> LoadFault
-    ensures { result ≡ fault.Refused (answer.RefusedAt code at) }
+fn fault_at(refusal: Refusal, at: Pos) -> LoadFault
+    ensures { result ≡ fault.Refused (answer.RefusedAt refusal at) }
 {
-    LoadFault::Refused(Answer::RefusedAt(code, at))
+    LoadFault::Refused(Answer::RefusedAt(refusal, at))
 }
 
 // Where a token of this number stands; behind the last one, the line after the last line.

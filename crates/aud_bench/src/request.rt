@@ -1,7 +1,7 @@
 // Requests and answers.
 
 use aud_meaning::state::State;
-use aud_text::code::Code;
+use aud_text::refusal::Refusal;
 use aud_text::name::Name;
 use aud_text::place::Pos;
 use aud_text::raise::Raise;
@@ -19,7 +19,7 @@ pub enum Request {
     /// End the session.
     Quit,
     /// A request that is malformed, and why.
-    Bad(Code),
+    Bad(Refusal),
 }
 
 /// An exception: a predefined one, or one that the program declares, by its name (RM 11.1).
@@ -46,7 +46,7 @@ pub enum Answer {
     /// What the program has put out.
     Output(Text),
     Done,
-    Refused(Code),
+    Refused(Refusal),
     /// A fault of the source text, and where it stands.
-    RefusedAt(Code, Pos),
+    RefusedAt(Refusal, Pos),
 }

@@ -14,7 +14,7 @@ use crate::loading::{LoadFault, load};
 use crate::request::{Answer, Raised, Report, Request};
 use aud_machine::machine::Machine;
 use aud_meaning::state::State;
-use aud_text::code::Code;
+use aud_text::refusal::Refusal;
 use aud_text::limits::{Limits, STEPS};
 use aud_text::name::Name;
 use aud_text::text::Text;
@@ -49,7 +49,7 @@ pub fn serve(
     match request {
         Request::Load(source) => Ok(answered(take(alloc, limits, machine, source.as_bytes())?)),
         Request::Run(steps) => match machine {
-            None => Ok(answered(Answer::Refused(Code::NoProgram))),
+            None => Ok(answered(Answer::Refused(Refusal::NoProgram))),
             Some(machine) => run(alloc, machine, *steps, progress, units),
         },
         Request::Output => Ok(answered(output(alloc, machine)?)),
@@ -130,7 +130,7 @@ fn output(alloc: Global, machine: &Option<Machine>) -> Result<Answer, AllocError
     ensures { IfOk result (λ answer. (bounds : Bounds) → (loaded : Option Loaded) → IsLoaded bounds machine.now loaded → answer ≡ (output_reply loaded).answer) }
 {
     match machine {
-        None => Ok(Answer::Refused(Code::NoProgram)),
+        None => Ok(Answer::Refused(Refusal::NoProgram)),
         Some(machine) => Ok(Answer::Output(Text::from_slice(alloc, machine.output())?)),
     }
 }
@@ -152,7 +152,7 @@ fn run(
 {
     let left = STEPS.saturating_sub(machine.steps());
     if left == 0 {
-        return Ok(answered(Answer::Refused(Code::StepBudget)));
+        return Ok(answered(Answer::Refused(Refusal::StepBudget)));
     }
     let wanted = steps.saturating_sub(progress).min(left);
     let now = within(wanted, units);

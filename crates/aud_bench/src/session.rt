@@ -8,7 +8,7 @@ use crate::journal::{fits, is_quit, size};
 use crate::request::{Answer, Request};
 use crate::service::answer;
 use aud_machine::machine::Machine;
-use aud_text::code::Code;
+use aud_text::refusal::Refusal;
 use aud_text::limits::Limits;
 use std::alloc::{AllocError, Global};
 
@@ -44,7 +44,7 @@ fn answer_each(
     let mut bytes: usize = 0;
     'requests: for request in requests {
         if !fits(kept, bytes, request) {
-            answers.push(Answer::Refused(Code::JournalFull))?;
+            answers.push(Answer::Refused(Refusal::JournalFull))?;
             continue;
         }
         answers.push(answer(alloc, limits, machine, request)?)?;

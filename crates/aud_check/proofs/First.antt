@@ -3,7 +3,7 @@ use Rattle.std.specs.Prelude.{ℕ, Bool, true, false, ◌&&◌, ◌||◌, nat_eq
 use Rattle.std.proofs.Common.{◌≡◌, ◌<◌, refl, sym, ◌∙◌, inl, inr, arith}
 use Rattle.std.proofs.lemmas.Bool.{false≢true}
 use Rattle.std.proofs.lemmas.Bool.Decides.{nat_tests}
-use Rattle.aud_text.specs.Code.{number}
+use Rattle.aud_text.specs.Refusal.{number}
 use Rattle.aud_check.specs.declared.fault.Fault.{Fault}
 use Rattle.aud_check.specs.Least.{before, earlier, least, IsOneOf, NoneBefore}
 
@@ -35,10 +35,10 @@ less_not : (a b c : ℕ) → less a b c a b c ≡ false
 less_not a b c = grind (arith, nat_tests)
 
 before_trans : (x y z : Fault) → before x y ≡ true → before y z ≡ true → before x z ≡ true
-before_trans x y z p q = less_trans x.at.line x.at.col (number x.code) y.at.line y.at.col (number y.code) z.at.line z.at.col (number z.code) p q
+before_trans x y z p q = less_trans x.at.line x.at.col (number x.refusal) y.at.line y.at.col (number y.refusal) z.at.line z.at.col (number z.refusal) p q
 
 before_not : (x : Fault) → before x x ≡ false
-before_not x = less_not x.at.line x.at.col (number x.code)
+before_not x = less_not x.at.line x.at.col (number x.refusal)
 
 not_true : (b : Bool) → (b ≡ true → ⊥) → b ≡ false
 not_true true k = absurd (k refl)

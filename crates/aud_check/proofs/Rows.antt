@@ -2,16 +2,16 @@
 use Rattle.std.specs.Prelude.{ℕ, pos, false, List, [], ◌∷◌, map, codes, Option, Some, None, Ok, Err}
 use Rattle.std.proofs.Common.{◌≡◌, refl}
 use Rattle.aud_text.specs.declared.place.Pos.{Pos}
-use Rattle.aud_text.specs.declared.code.Code.{Code}
-use Rattle.aud_text.specs.declared.code.Code.TheVariants.{NameNotDeclared, DeclaredTwice, WrongKindOfName, WrongType, WrongNumberOfArguments, WrongNameAtEnd, NumberTooLarge}
+use Rattle.aud_text.specs.declared.refusal.Refusal.{Refusal}
+use Rattle.aud_text.specs.declared.refusal.Refusal.TheVariants.{NameNotDeclared, DeclaredTwice, WrongKindOfName, WrongType, WrongNumberOfArguments, WrongNameAtEnd, NumberTooLarge}
 use Rattle.aud_syntax.specs.declared.tree.Ident.{Ident}
 use Rattle.aud_syntax.specs.declared.tree.Adding.TheVariants.{Plus, Minus, Join}
 use Rattle.aud_syntax.specs.declared.tree.Signed.{Signed}
 use Rattle.aud_syntax.specs.declared.tree.Sign.TheVariants as sign
 use Rattle.aud_syntax.specs.declared.tree.Highest.TheVariants.{Not}
 use Rattle.aud_syntax.specs.declared.tree.Multiplying.TheVariants.{Times}
-use Rattle.aud_syntax.specs.Plain.{Expr, alone, unrelated, simple, Addeds, no_addeds, more_addeds, added, Term, term, no_multiplieds, more_multiplieds, multiplied, factor, integer, name, attribute, group, no_expr, an_expr, named, no_parts, part, no_args, Decl, object, no_decls, Stmt, null, assign, call, no_stmts, more_stmts, body, Unit, unit}
-use Rattle.aud_syntax.specs.Shorthand.{at, id, only, var_at, called, num, str, stmts, decls}
+use Rattle.aud_syntax.specs.Plain.{Expression, alone, unrelated, simple, Addeds, no_addeds, more_addeds, added, Term, term, no_multiplieds, more_multiplieds, multiplied, factor, integer, name, attribute, group, no_expression, an_expression, named, no_parts, part, no_args, Declaration, object, no_declarations, Statement, null, assign, call, no_statements, more_statements, body, Unit, unit}
+use Rattle.aud_syntax.specs.Shorthand.{at, id, only, var_at, called, num, str, statements, declarations}
 use Rattle.aud_typed.specs.declared.program.Variable.{Variable}
 use Rattle.aud_typed.specs.declared.program.Unary.TheVariants.{Negative}
 use Rattle.aud_typed.specs.declared.program.Binary.TheVariants.{Sum, Difference}
@@ -20,38 +20,38 @@ use Rattle.aud_typed.specs.Tree as tree
 use Rattle.aud_check.specs.declared.fault.Fault.{Fault}
 use Rattle.aud_check.specs.Checked.{faults, checked}
 
-abbrev fault : Pos → Code → Fault
-fault place code = record { at = place; code = code }
+abbrev fault : Pos → Refusal → Fault
+fault place code = record { at = place; refusal = refusal }
 
-abbrev sum : Option Signed → Term → Addeds → Expr
+abbrev sum : Option Signed → Term → Addeds → Expression
 sum s t rest = alone (unrelated (simple s t rest))
 
 -- procedure P is .. begin .. end P;
-abbrev main : List Decl → List Stmt → Unit
-main ds ss = unit (at 1 1) (id (codes "P") (at 1 11)) (decls ds) (body (at 5 1) (stmts ss) (at 9 1) (Some (id (codes "P") (at 9 5))))
+abbrev main : List Declaration → List Statement → Unit
+main ds ss = unit (at 1 1) (id (codes "P") (at 1 11)) (declarations ds) (body (at 5 1) (statements ss) (at 9 1) (Some (id (codes "P") (at 9 5))))
 
 abbrev integer_type : Pos → Ident
 integer_type place = id (codes "INTEGER") place
 
 -- A, B : Integer := 7;
-abbrev two : Decl
-two = object (id (codes "A") (at 2 1) ∷ id (codes "B") (at 2 4) ∷ []) (integer_type (at 2 8)) (an_expr (only (num 7 (at 2 19))))
+abbrev two : Declaration
+two = object (id (codes "A") (at 2 1) ∷ id (codes "B") (at 2 4) ∷ []) (integer_type (at 2 8)) (an_expression (only (num 7 (at 2 19))))
 
 abbrev cell : ℕ → Variable
 cell n = record { level = 0; index = n }
 
-abbrev variable : ℕ → tree.IntegerExpr
+abbrev variable : ℕ → tree.IntegerExpression
 variable n = tree.variable (cell n)
 
-abbrev whole : tree.IntegerExpr → tree.ValueExpr
+abbrev whole : tree.IntegerExpression → tree.ValueExpression
 whole e = tree.whole Integer e
 
 -- B := ..
-abbrev assign_b : tree.IntegerExpr → tree.Stmt
+abbrev assign_b : tree.IntegerExpression → tree.Statement
 assign_b e = tree.assign (at 6 1) (tree.scalar (cell 1) Integer) (whole e)
 
 -- a procedure that is its body alone: the names of its variables, its declarations and its statements
-abbrev program : List (List ℕ) → tree.Part → tree.Stmt → tree.Program
+abbrev program : List (List ℕ) → tree.Part → tree.Statement → tree.Program
 program names declared s = record {
   name = codes "P";
   plan = record {
@@ -67,17 +67,17 @@ program names declared s = record {
 }
 
 -- of A and B, with these statements
-abbrev program_of_two : tree.Stmt → tree.Program
+abbrev program_of_two : tree.Statement → tree.Program
 program_of_two s = program (codes "A" ∷ codes "B" ∷ []) (tree.some (tree.sequence (tree.declare (at 2 1) (whole (tree.number (pos 7)))) (tree.declare (at 2 1) (whole (tree.number (pos 7)))))) s
 
-fine_row : checked (main (two ∷ []) (assign (var_at (codes "B") (at 6 1)) (sum (Some (record { sign = sign.Minus; at = at 6 6 })) (term (factor None (name (var_at (codes "A") (at 6 7)))) no_multiplieds) (more_addeds (added Plus (term (factor None (num 2 (at 6 11))) no_multiplieds)) no_addeds)) ∷ called (id (codes "PUT_LINE") (at 7 1)) (only (attribute (var_at (codes "B") (at 7 11)) (id (codes "IMAGE") (at 7 13)) no_expr)) ∷ [])) ≡ Ok (program_of_two (tree.sequence (assign_b (tree.binary Sum (tree.unary Negative (variable 0)) (tree.number (pos 2)))) (tree.put (at 7 1) (tree.join (tree.image (variable 1)) tree.new_line))))
+fine_row : checked (main (two ∷ []) (assign (var_at (codes "B") (at 6 1)) (sum (Some (record { sign = sign.Minus; at = at 6 6 })) (term (factor None (name (var_at (codes "A") (at 6 7)))) no_multiplieds) (more_addeds (added Plus (term (factor None (num 2 (at 6 11))) no_multiplieds)) no_addeds)) ∷ called (id (codes "PUT_LINE") (at 7 1)) (only (attribute (var_at (codes "B") (at 7 11)) (id (codes "IMAGE") (at 7 13)) no_expression)) ∷ [])) ≡ Ok (program_of_two (tree.sequence (assign_b (tree.binary Sum (tree.unary Negative (variable 0)) (tree.number (pos 2)))) (tree.put (at 7 1) (tree.join (tree.image (variable 1)) tree.new_line))))
 fine_row = refl
 
 -- operators of one level go from left to right (RM 4.5(8))
-abbrev three : Expr
+abbrev three : Expression
 three = sum None (term (factor None (num 9 (at 6 6))) no_multiplieds) (more_addeds (added Minus (term (factor None (num 3 (at 6 10))) no_multiplieds)) (more_addeds (added Minus (term (factor None (num 2 (at 6 14))) no_multiplieds)) no_addeds))
 
-abbrev left_first : tree.IntegerExpr
+abbrev left_first : tree.IntegerExpression
 left_first = tree.binary Difference (tree.binary Difference (tree.number (pos 9)) (tree.number (pos 3))) (tree.number (pos 2))
 
 chain_row : checked (main (two ∷ []) (assign (var_at (codes "B") (at 6 1)) three ∷ [])) ≡ Ok (program_of_two (assign_b left_first))
@@ -94,20 +94,20 @@ empty_row = refl
 undeclared_row : checked (main [] (assign (var_at (codes "C") (at 6 1)) (only (num 1 (at 6 6))) ∷ [])) ≡ Err (fault (at 6 1) NameNotDeclared)
 undeclared_row = refl
 
-own_value_row : checked (main (object (id (codes "A") (at 2 1) ∷ []) (integer_type (at 2 5)) (an_expr (only (name (var_at (codes "A") (at 2 16))))) ∷ []) (null (at 6 1) ∷ [])) ≡ Err (fault (at 2 16) NameNotDeclared)
+own_value_row : checked (main (object (id (codes "A") (at 2 1) ∷ []) (integer_type (at 2 5)) (an_expression (only (name (var_at (codes "A") (at 2 16))))) ∷ []) (null (at 6 1) ∷ [])) ≡ Err (fault (at 2 16) NameNotDeclared)
 own_value_row = refl
 
-own_type_row : checked (main (object (id (codes "INTEGER") (at 2 1) ∷ []) (integer_type (at 2 11)) no_expr ∷ []) (null (at 6 1) ∷ [])) ≡ Err (fault (at 2 11) NameNotDeclared)
+own_type_row : checked (main (object (id (codes "INTEGER") (at 2 1) ∷ []) (integer_type (at 2 11)) no_expression ∷ []) (null (at 6 1) ∷ [])) ≡ Err (fault (at 2 11) NameNotDeclared)
 own_type_row = refl
 
-twice_row : checked (main (two ∷ object (id (codes "C") (at 3 1) ∷ id (codes "A") (at 3 4) ∷ []) (integer_type (at 3 8)) no_expr ∷ []) (null (at 6 1) ∷ [])) ≡ Err (fault (at 3 4) DeclaredTwice)
+twice_row : checked (main (two ∷ object (id (codes "C") (at 3 1) ∷ id (codes "A") (at 3 4) ∷ []) (integer_type (at 3 8)) no_expression ∷ []) (null (at 6 1) ∷ [])) ≡ Err (fault (at 3 4) DeclaredTwice)
 twice_row = refl
 
 -- the main procedure is no type, and causes no second fault
-kind_row : faults (main (object (id (codes "C") (at 3 1) ∷ []) (id (codes "P") (at 3 5)) no_expr ∷ []) (assign (var_at (codes "C") (at 6 1)) (only (str (codes "x") (at 6 6))) ∷ [])) ≡ fault (at 3 5) WrongKindOfName ∷ []
+kind_row : faults (main (object (id (codes "C") (at 3 1) ∷ []) (id (codes "P") (at 3 5)) no_expression ∷ []) (assign (var_at (codes "C") (at 6 1)) (only (str (codes "x") (at 6 6))) ∷ [])) ≡ fault (at 3 5) WrongKindOfName ∷ []
 kind_row = refl
 
-attribute_row : checked (main (two ∷ []) (called (id (codes "PUT_LINE") (at 7 1)) (only (attribute (var_at (codes "B") (at 7 11)) (id (codes "FIRST") (at 7 13)) no_expr)) ∷ [])) ≡ Err (fault (at 7 13) WrongKindOfName)
+attribute_row : checked (main (two ∷ []) (called (id (codes "PUT_LINE") (at 7 1)) (only (attribute (var_at (codes "B") (at 7 11)) (id (codes "FIRST") (at 7 13)) no_expression)) ∷ [])) ≡ Err (fault (at 7 13) WrongKindOfName)
 attribute_row = refl
 
 -- (1 + 2) * 3 & "x": the left operand begins at its first token
@@ -123,7 +123,7 @@ not_row = refl
 put_row : checked (main (two ∷ []) (called (id (codes "PUT_LINE") (at 7 1)) (only (name (var_at (codes "A") (at 7 11)))) ∷ [])) ≡ Err (fault (at 7 11) WrongType)
 put_row = refl
 
-arguments_row : checked (main (two ∷ []) (called (id (codes "PUT_LINE") (at 7 1)) (only (attribute (named (part (integer_type (at 7 11)) no_args) no_parts) (id (codes "IMAGE") (at 7 19)) no_expr)) ∷ [])) ≡ Err (fault (at 7 19) WrongNumberOfArguments)
+arguments_row : checked (main (two ∷ []) (called (id (codes "PUT_LINE") (at 7 1)) (only (attribute (named (part (integer_type (at 7 11)) no_args) no_parts) (id (codes "IMAGE") (at 7 19)) no_expression)) ∷ [])) ≡ Err (fault (at 7 19) WrongNumberOfArguments)
 arguments_row = refl
 
 itself_row : checked (main (two ∷ []) (called (id (codes "P") (at 7 1)) (only (num 1 (at 7 4))) ∷ [])) ≡ Err (fault (at 7 1) WrongNumberOfArguments)
@@ -133,10 +133,10 @@ itself_row = refl
 alone_row : checked (main [] (call (var_at (codes "PUT_LINE") (at 7 1)) ∷ [])) ≡ Err (fault (at 7 1) WrongNumberOfArguments)
 alone_row = refl
 
-end_row : checked (unit (at 1 1) (id (codes "P") (at 1 11)) no_decls (body (at 2 1) (more_stmts (null (at 3 1)) no_stmts) (at 4 1) (Some (id (codes "Q") (at 4 5))))) ≡ Err (fault (at 4 5) WrongNameAtEnd)
+end_row : checked (unit (at 1 1) (id (codes "P") (at 1 11)) no_declarations (body (at 2 1) (more_statements (null (at 3 1)) no_statements) (at 4 1) (Some (id (codes "Q") (at 4 5))))) ≡ Err (fault (at 4 5) WrongNameAtEnd)
 end_row = refl
 
-large_row : checked (main [] (called (id (codes "PUT_LINE") (at 7 1)) (only (attribute (named (part (integer_type (at 7 11)) no_args) no_parts) (id (codes "IMAGE") (at 7 19)) (an_expr (only (integer (record { value = None; at = at 7 26 })))))) ∷ [])) ≡ Err (fault (at 7 26) NumberTooLarge)
+large_row : checked (main [] (called (id (codes "PUT_LINE") (at 7 1)) (only (attribute (named (part (integer_type (at 7 11)) no_args) no_parts) (id (codes "IMAGE") (at 7 19)) (an_expression (only (integer (record { value = None; at = at 7 26 })))))) ∷ [])) ≡ Err (fault (at 7 26) NumberTooLarge)
 large_row = refl
 
 -- of two faults the first in the text, though it is found later

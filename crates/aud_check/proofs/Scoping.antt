@@ -20,7 +20,7 @@ use Rattle.aud_typed.specs.declared.program.Unary.{Unary}
 use Rattle.aud_typed.specs.declared.program.Unary.TheVariants as unary
 use Rattle.aud_typed.specs.declared.program.Binary.{Binary}
 use Rattle.aud_typed.specs.Tree as tree
-use Rattle.aud_typed.specs.Scoped.{Scope, IntegerScoped, ValueScoped, TextScoped, scope_after, StmtScoped, scope_behind, PartScoped, IsScoped}
+use Rattle.aud_typed.specs.Scoped.{Scope, IntegerScoped, ValueScoped, TextScoped, scope_after, StatementScoped, scope_behind, PartScoped, IsScoped}
 use Rattle.aud_check.specs.declared.fault.Fault.{Fault}
 use Rattle.aud_check.specs.declared.names.Meaning.{Meaning}
 use Rattle.aud_check.specs.declared.names.Meaning.TheVariants.{IntegerType, PutLine, MainProcedure, Variable}
@@ -57,8 +57,8 @@ abbrev Sees : Scope → Place → Type 0
 Sees scope n = (name : List ℕ) → VisibleScoped scope (names.visible name n)
 
 -- a statement, which elaborates nothing
-abbrev IsStatement : Scope → tree.Stmt → Type 0
-IsStatement scope x = StmtScoped x scope × (scope_after x scope ≡ scope)
+abbrev IsStatement : Scope → tree.Statement → Type 0
+IsStatement scope x = StatementScoped x scope × (scope_after x scope ≡ scope)
 
 either : {X : Type 0} (P : X → Type 0) (b : Bool) (x y : X) → P x → P y → P (if b then x else y)
 either P true x y h i = h
@@ -80,7 +80,7 @@ module _ (scope : Scope) where
 
   -- expressions
 
-  number_scoped : (x : Option ℤ) (at : Pos) → TypedScoped scope (e.check_number x at).typed
+  number_scoped : (x : Option ℤ) (at : Pos) → TypedScoped scope (e.checked_number x at).typed
   number_scoped None at = tt
   number_scoped (Some x) at = tt
 
@@ -88,9 +88,9 @@ module _ (scope : Scope) where
   read_scoped None h = tt
   read_scoped (Some m) h = h
 
-  one_scoped : (op : Unary) (t : Typed) → TypedScoped scope t → TypedScoped scope (e.one op t)
-  one_scoped op (number x) h = h
-  one_scoped op _ h = tt
+  one_scoped : (operator : Unary) (t : Typed) → TypedScoped scope t → TypedScoped scope (e.one operator t)
+  one_scoped operator (number x) h = h
+  one_scoped operator _ h = tt
 
   integer_scoped : (t : Typed) → TypedScoped scope t → TypedScoped scope (e.integer_only t)
   integer_scoped (number x) h = h
@@ -104,19 +104,19 @@ module _ (scope : Scope) where
   signed_scoped None at t h = h
   signed_scoped (Some x) at t h = sign_scoped x.sign t h
 
-  combined_scoped : (op : Binary) (x y : Typed) → TypedScoped scope x → TypedScoped scope y → TypedScoped scope (e.combined op x y)
-  combined_scoped op (number x) (number y) h i = (h, i)
-  combined_scoped op _ _ h i = tt
+  combined_scoped : (operator : Binary) (x y : Typed) → TypedScoped scope x → TypedScoped scope y → TypedScoped scope (e.combined operator x y)
+  combined_scoped operator (number x) (number y) h i = (h, i)
+  combined_scoped operator _ _ h i = tt
 
   joined_scoped : (x y : Typed) → TypedScoped scope x → TypedScoped scope y → TypedScoped scope (e.joined x y)
   joined_scoped (string x) (string y) h i = (h, i)
   joined_scoped _ _ h i = tt
 
-  adding_scoped : (op : Adding) (at : Pos) (x : Typed) (at' : Pos) (y : Typed) → TypedScoped scope x → TypedScoped scope y → TypedScoped scope (e.adding_operator op at x at' y).typed
+  adding_scoped : (operator : Adding) (at : Pos) (x : Typed) (at' : Pos) (y : Typed) → TypedScoped scope x → TypedScoped scope y → TypedScoped scope (e.adding_operator operator at x at' y).typed
   adding_scoped adding.Join at x at' y h i = joined_scoped x y h i
   adding_scoped _ at x at' y h i = combined_scoped _ x y h i
 
-  highest_scoped : (op : Highest) (at : Pos) (t : Typed) → TypedScoped scope t → TypedScoped scope (e.highest op at t).typed
+  highest_scoped : (operator : Highest) (at : Pos) (t : Typed) → TypedScoped scope t → TypedScoped scope (e.highest operator at t).typed
   highest_scoped Magnitude at t h = one_scoped unary.Magnitude t h
   highest_scoped Not at t h = tt
 
@@ -136,53 +136,53 @@ module _ (scope : Scope) where
   any_image_scoped m prefix designator None h i = alone_scoped m prefix designator h
   any_image_scoped m prefix designator (Some a) h i = with_scoped m prefix designator a.0 a.1 i
 
-  attribute_scoped : (m : Option Meaning) (prefix designator : Ident) (a : Option (Pos × Typed)) → VisibleScoped scope m → IfSome a (λ x. TypedScoped scope x.1) → TypedScoped scope (e.check_attribute m prefix designator a).typed
+  attribute_scoped : (m : Option Meaning) (prefix designator : Ident) (a : Option (Pos × Typed)) → VisibleScoped scope m → IfSome a (λ x. TypedScoped scope x.1) → TypedScoped scope (e.checked_attribute m prefix designator a).typed
   attribute_scoped None prefix designator a h i = tt
   attribute_scoped (Some m) prefix designator a h i =
       either (λ (x : e.Checked). TypedScoped scope x.typed) (bytes_eq designator.name (codes "IMAGE")) _ _ (any_image_scoped m prefix designator a h i) tt
 
 module _ (scope : Scope) (n : Place) (sees : Sees scope n) where
   mutual
-    expr_scoped : (x : plain.Expr) → TypedScoped scope (e.check_expr x n).typed
-    expr_scoped (plain.alone x) = rel_scoped x
+    expression_scoped : (x : plain.Expression) → TypedScoped scope (e.checked_expression x n).typed
+    expression_scoped (plain.alone x) = relation_scoped x
 
-    rel_scoped : (x : plain.Rel) → TypedScoped scope (e.check_rel x n).typed
-    rel_scoped (plain.unrelated x) = simple_scoped x
+    relation_scoped : (x : plain.Relation) → TypedScoped scope (e.checked_relation x n).typed
+    relation_scoped (plain.unrelated x) = simple_scoped x
 
-    simple_scoped : (x : plain.Simple) → TypedScoped scope (e.check_simple x n).typed
+    simple_scoped : (x : plain.Simple) → TypedScoped scope (e.checked_simple x n).typed
     simple_scoped (plain.simple x t rest) = addeds_scoped rest _ _ (signed_scoped scope x _ _ (term_scoped t))
 
-    addeds_scoped : (x : plain.Addeds) (at : Pos) (left : Typed) → TypedScoped scope left → TypedScoped scope (e.check_addeds x n at left).typed
+    addeds_scoped : (x : plain.Addeds) (at : Pos) (left : Typed) → TypedScoped scope left → TypedScoped scope (e.checked_addeds x n at left).typed
     addeds_scoped plain.no_addeds at left h = h
     addeds_scoped (plain.more_addeds x rest) at left h = addeds_scoped rest at _ (added_scoped x at left h)
 
-    added_scoped : (x : plain.Added) (at : Pos) (left : Typed) → TypedScoped scope left → TypedScoped scope (e.check_added x n at left).typed
-    added_scoped (plain.added op t) at left h = adding_scoped scope op at left _ _ h (term_scoped t)
+    added_scoped : (x : plain.Added) (at : Pos) (left : Typed) → TypedScoped scope left → TypedScoped scope (e.checked_added x n at left).typed
+    added_scoped (plain.added operator t) at left h = adding_scoped scope operator at left _ _ h (term_scoped t)
 
-    term_scoped : (x : plain.Term) → TypedScoped scope (e.check_term x n).typed
+    term_scoped : (x : plain.Term) → TypedScoped scope (e.checked_term x n).typed
     term_scoped (plain.term f rest) = multiplieds_scoped rest _ _ (factor_scoped f)
 
-    multiplieds_scoped : (x : plain.Multiplieds) (at : Pos) (left : Typed) → TypedScoped scope left → TypedScoped scope (e.check_multiplieds x n at left).typed
+    multiplieds_scoped : (x : plain.Multiplieds) (at : Pos) (left : Typed) → TypedScoped scope left → TypedScoped scope (e.checked_multiplieds x n at left).typed
     multiplieds_scoped plain.no_multiplieds at left h = h
     multiplieds_scoped (plain.more_multiplieds x rest) at left h = multiplieds_scoped rest at _ (multiplied_scoped x at left h)
 
-    multiplied_scoped : (x : plain.Multiplied) (at : Pos) (left : Typed) → TypedScoped scope left → TypedScoped scope (e.check_multiplied x n at left).typed
-    multiplied_scoped (plain.multiplied op f) at left h = combined_scoped scope _ left _ h (factor_scoped f)
+    multiplied_scoped : (x : plain.Multiplied) (at : Pos) (left : Typed) → TypedScoped scope left → TypedScoped scope (e.checked_multiplied x n at left).typed
+    multiplied_scoped (plain.multiplied operator f) at left h = combined_scoped scope _ left _ h (factor_scoped f)
 
-    factor_scoped : (x : plain.Factor) → TypedScoped scope (e.check_factor x n).typed
+    factor_scoped : (x : plain.Factor) → TypedScoped scope (e.checked_factor x n).typed
     factor_scoped (plain.factor None p) = primary_scoped p
-    factor_scoped (plain.factor (Some op) p) = highest_scoped scope op.highest _ _ (primary_scoped p)
+    factor_scoped (plain.factor (Some operator) p) = highest_scoped scope operator.highest _ _ (primary_scoped p)
 
-    primary_scoped : (x : plain.Primary) → TypedScoped scope (e.check_primary x n).typed
+    primary_scoped : (x : plain.Primary) → TypedScoped scope (e.checked_primary x n).typed
     primary_scoped (plain.integer x) = number_scoped scope x.value x.at
     primary_scoped (plain.text x) = tt
     primary_scoped (plain.name x) = read_scoped scope _ (sees (e.name_ident x).name)
     primary_scoped (plain.attribute x designator argument) = argument_scoped argument (e.name_ident x) designator
-    primary_scoped (plain.group at x) = expr_scoped x
+    primary_scoped (plain.group at x) = expression_scoped x
 
-    argument_scoped : (x : plain.MaybeExpr) (prefix designator : Ident) → TypedScoped scope (e.check_image x n prefix designator).typed
-    argument_scoped plain.no_expr prefix designator = attribute_scoped scope _ prefix designator None (sees prefix.name) tt
-    argument_scoped (plain.an_expr x) prefix designator = attribute_scoped scope _ prefix designator (Some (e.expr_at x, (e.check_expr x n).typed)) (sees prefix.name) (expr_scoped x)
+    argument_scoped : (x : plain.MaybeExpression) (prefix designator : Ident) → TypedScoped scope (e.checked_image x n prefix designator).typed
+    argument_scoped plain.no_expression prefix designator = attribute_scoped scope _ prefix designator None (sees prefix.name) tt
+    argument_scoped (plain.an_expression x) prefix designator = attribute_scoped scope _ prefix designator (Some (e.expression_at x, (e.checked_expression x n).typed)) (sees prefix.name) (expression_scoped x)
 
   -- statements
 
@@ -195,17 +195,17 @@ module _ (scope : Scope) (n : Place) (sees : Sees scope n) where
   called_scoped _ at _ h = (tt, refl)
 
   called_with_scoped : (xs : plain.Args) (i : Ident) → IsStatement scope (s.called_with xs i n)
-  called_with_scoped (plain.more_args x plain.no_args) i = called_scoped (names.visible i.name n) i.at _ (expr_scoped x)
+  called_with_scoped (plain.more_args x plain.no_args) i = called_scoped (names.visible i.name n) i.at _ (expression_scoped x)
   called_with_scoped _ i = (tt, refl)
 
-  stmt_scoped : (x : plain.Stmt) → IsStatement scope (s.typed_stmt x n)
-  stmt_scoped (plain.null at) = (tt, refl)
-  stmt_scoped (plain.assign x value) = assigned_scoped (names.visible (e.name_ident x).name n) (e.name_ident x).at _ (sees (e.name_ident x).name) (expr_scoped value)
-  stmt_scoped (plain.call x) = called_with_scoped (s.name_args x) (e.name_ident x)
+  statement_scoped : (x : plain.Statement) → IsStatement scope (s.typed_statement x n)
+  statement_scoped (plain.null at) = (tt, refl)
+  statement_scoped (plain.assign x value) = assigned_scoped (names.visible (e.name_ident x).name n) (e.name_ident x).at _ (sees (e.name_ident x).name) (expression_scoped value)
+  statement_scoped (plain.call x) = called_with_scoped (s.name_args x) (e.name_ident x)
 
-  stmts_scoped : (x : plain.Stmts) → AllByRecursion (IsStatement scope) (s.typed_stmts x n)
-  stmts_scoped plain.no_stmts = tt
-  stmts_scoped (plain.more_stmts x xs) = (stmt_scoped x, stmts_scoped xs)
+  statements_scoped : (x : plain.Statements) → AllByRecursion (IsStatement scope) (s.typed_statements x n)
+  statements_scoped plain.no_statements = tt
+  statements_scoped (plain.more_statements x xs) = (statement_scoped x, statements_scoped xs)
 
   -- the initial value of a declaration
 
@@ -213,18 +213,18 @@ module _ (scope : Scope) (n : Place) (sees : Sees scope n) where
   zero_scoped (number x) h = h
   zero_scoped _ h = tt
 
-  initial_scoped : (x : plain.MaybeExpr) → IntegerScoped (d.initial_value x n) scope
-  initial_scoped plain.no_expr = tt
-  initial_scoped (plain.an_expr x) = zero_scoped (e.check_expr x n).typed (expr_scoped x)
+  initial_scoped : (x : plain.MaybeExpression) → IntegerScoped (d.initial_value x n) scope
+  initial_scoped plain.no_expression = tt
+  initial_scoped (plain.an_expression x) = zero_scoped (e.checked_expression x n).typed (expression_scoped x)
 
 module _ (scope : Scope) where
-  before_scoped : (x : tree.Stmt) (xs : List tree.Stmt) → IsStatement scope x → AllByRecursion (IsStatement scope) xs → StmtScoped (tree.before x xs) scope
+  before_scoped : (x : tree.Statement) (xs : List tree.Statement) → IsStatement scope x → AllByRecursion (IsStatement scope) xs → StatementScoped (tree.before x xs) scope
   before_scoped x [] h i = h.0
   before_scoped x (y ∷ ys) h i = (h.0, rw h.1 (before_scoped y ys i.0 i.1))
 
-  statements_scoped : (at : Pos) (xs : List tree.Stmt) → AllByRecursion (IsStatement scope) xs → StmtScoped (tree.in_sequence (c.or_null at xs)) scope
-  statements_scoped at [] h = tt
-  statements_scoped at (x ∷ xs) h = before_scoped x xs h.0 h.1
+  sequence_scoped : (at : Pos) (xs : List tree.Statement) → AllByRecursion (IsStatement scope) xs → StatementScoped (tree.in_sequence (c.or_null at xs)) scope
+  sequence_scoped at [] h = tt
+  sequence_scoped at (x ∷ xs) h = before_scoped x xs h.0 h.1
 
 -- declarations
 
@@ -233,19 +233,19 @@ abbrev only : ℕ → Scope
 only k = k ∷ []
 
 -- the steps elaborate a variable each, from the first of these numbers on up to the second
-data Elaborates : ℕ → List tree.Stmt → ℕ → Type 0 where
+data Elaborates : ℕ → List tree.Statement → ℕ → Type 0 where
   none : {k : ℕ} → Elaborates k [] k
-  one_more : {k m : ℕ} {at : Pos} {x : tree.ValueExpr} {ys : List tree.Stmt} → ValueScoped x (only k) → Elaborates (suc k) ys m → Elaborates k (tree.declare at x ∷ ys) m
+  one_more : {k m : ℕ} {at : Pos} {x : tree.ValueExpression} {ys : List tree.Statement} → ValueScoped x (only k) → Elaborates (suc k) ys m → Elaborates k (tree.declare at x ∷ ys) m
 
-elaborates_append : {k l m : ℕ} {xs ys : List tree.Stmt} → Elaborates k xs l → Elaborates l ys m → Elaborates k (xs ++ ys) m
+elaborates_append : {k l m : ℕ} {xs ys : List tree.Statement} → Elaborates k xs l → Elaborates l ys m → Elaborates k (xs ++ ys) m
 elaborates_append none i = i
 elaborates_append (one_more h rest) i = one_more h (elaborates_append rest i)
 
-before_elaborates : (k m : ℕ) (x : tree.Stmt) (xs : List tree.Stmt) → Elaborates k (x ∷ xs) m → StmtScoped (tree.before x xs) (only k) × (scope_after (tree.before x xs) (only k) ≡ only m)
+before_elaborates : (k m : ℕ) (x : tree.Statement) (xs : List tree.Statement) → Elaborates k (x ∷ xs) m → StatementScoped (tree.before x xs) (only k) × (scope_after (tree.before x xs) (only k) ≡ only m)
 before_elaborates k m _ [] (one_more h none) = (h, refl)
 before_elaborates k m _ (y ∷ ys) (one_more h rest) = let more = before_elaborates (suc k) m y ys rest in ((h, more.0), more.1)
 
-part_elaborates : (k m : ℕ) (xs : List tree.Stmt) → Elaborates k xs m → PartScoped (tree.part_of xs) (only k) × (scope_behind (tree.part_of xs) (only k) ≡ only m)
+part_elaborates : (k m : ℕ) (xs : List tree.Statement) → Elaborates k xs m → PartScoped (tree.part_of xs) (only k) × (scope_behind (tree.part_of xs) (only k) ≡ only m)
 part_elaborates k m [] none = (tt, refl)
 part_elaborates k m (x ∷ xs) h = before_elaborates k m x xs h
 
@@ -273,10 +273,10 @@ new_name true f h = cc
 new_name false f h = refl
 
 -- the steps elaborate the variables of the region, from this number on
-abbrev RegionElaborated : ℕ → List tree.Stmt → Region → Type 0
+abbrev RegionElaborated : ℕ → List tree.Statement → Region → Type 0
 RegionElaborated k ys r = RegionScoped r × Elaborates k ys r.cells
 
-names_scoped : (is : List Ident) (good : Bool) (at : Pos) (x : tree.IntegerExpr) (r : Region) → d.twice_faults is good r ≡ [] → RegionScoped r → ((k : ℕ) → r.cells ≤ k → IntegerScoped x (only k)) → RegionElaborated r.cells (d.elaboration is at x) (d.declared_names is good r)
+names_scoped : (is : List Ident) (good : Bool) (at : Pos) (x : tree.IntegerExpression) (r : Region) → d.twice_faults is good r ≡ [] → RegionScoped r → ((k : ℕ) → r.cells ≤ k → IntegerScoped x (only k)) → RegionElaborated r.cells (d.elaboration is at x) (d.declared_names is good r)
 names_scoped [] good at x r q h value = (h, none)
 names_scoped (i ∷ is) good at x r q h value =
     let faults = both_none _ _ q in
@@ -302,18 +302,18 @@ body_regions n k h more = regions_scoped (only k) n.regions (h.innermost.symbols
 abbrev DeclaredScoped : Place → d.Declared → Type 0
 DeclaredScoped n x = InBody x.place × Elaborates (names.innermost n).cells x.steps (names.innermost x.place).cells
 
-decl_scoped : (x : plain.Decl) (n : Place) → (d.check_decl x n).faults ≡ [] → InBody n → DeclaredScoped n (d.check_decl x n)
-decl_scoped (plain.object ids subtype initial) n q h =
-    let value = λ (k : ℕ) (more : (names.innermost n).cells ≤ k). initial_scoped (only k) (names.hiding ids n) (regions_see (only k) _ (body_regions n k h more)) initial in
-    let all = names_scoped ids _ (d.first_at ids) _ (names.innermost n) (both_none _ _ (both_none _ _ q).1).1 h.innermost value in
+declaration_scoped : (x : plain.Declaration) (n : Place) → (d.checked_declaration x n).faults ≡ [] → InBody n → DeclaredScoped n (d.checked_declaration x n)
+declaration_scoped (plain.object identifiers subtype initial) n q h =
+    let value = λ (k : ℕ) (more : (names.innermost n).cells ≤ k). initial_scoped (only k) (names.hiding identifiers n) (regions_see (only k) _ (body_regions n k h more)) initial in
+    let all = names_scoped identifiers _ (d.first_at identifiers) _ (names.innermost n) (both_none _ _ (both_none _ _ q).1).1 h.innermost value in
     (record { innermost = all.0; others = h.others }, all.1)
 
-decls_scoped : (x : plain.Decls) (n : Place) → (d.check_decls x n).faults ≡ [] → InBody n → DeclaredScoped n (d.check_decls x n)
-decls_scoped plain.no_decls n q h = (h, none)
-decls_scoped (plain.more_decls x rest) n q h =
-    let faults = both_none (d.check_decl x n).faults _ q in
-    let first = decl_scoped x n faults.0 h in
-    let others = decls_scoped rest _ faults.1 first.0 in
+declarations_scoped : (x : plain.Declarations) (n : Place) → (d.checked_declarations x n).faults ≡ [] → InBody n → DeclaredScoped n (d.checked_declarations x n)
+declarations_scoped plain.no_declarations n q h = (h, none)
+declarations_scoped (plain.more_declarations x rest) n q h =
+    let faults = both_none (d.checked_declaration x n).faults _ q in
+    let first = declaration_scoped x n faults.0 h in
+    let others = declarations_scoped rest _ faults.1 first.0 in
     (others.0, elaborates_append first.1 others.1)
 
 -- programs
@@ -333,10 +333,10 @@ body_scoped at main x (plain.body begin xs end last) h =
     record {
       declarations = declarations.0;
       variables = declarations.1 ∙ ap only (sym variables);
-      statements = rw variables (statements_scoped (only r.cells) begin _ (stmts_scoped (only r.cells) x.place sees xs));
+      statements = rw variables (sequence_scoped (only r.cells) begin _ (statements_scoped (only r.cells) x.place sees xs));
     }
 
 pub typed_scoped : (u : plain.Unit) → c.faults u ≡ [] → IsScoped (c.typed u)
-typed_scoped (plain.unit at name decls (plain.body begin xs end last)) q =
+typed_scoped (plain.unit at name declarations (plain.body begin xs end last)) q =
     let main : Place = names.main_place name.name in
-    body_scoped at name (d.check_decls decls main) (plain.body begin xs end last) (decls_scoped decls main (both_none _ _ q).0 (in_main name.name))
+    body_scoped at name (d.checked_declarations declarations main) (plain.body begin xs end last) (declarations_scoped declarations main (both_none _ _ q).0 (in_main name.name))

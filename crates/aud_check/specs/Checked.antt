@@ -8,36 +8,36 @@ use Rattle.aud_check.specs.declared.fault.Fault.{Fault}
 use Rattle.aud_check.specs.Least.{least}
 use Rattle.aud_check.specs.Names.{innermost, main_place}
 use Rattle.aud_check.specs.Rules.{right_name_at_end}
-use Rattle.aud_check.specs.Declarations.{Declared, check_decls}
-use Rattle.aud_check.specs.Statements.{stmts_faults, typed_stmts}
+use Rattle.aud_check.specs.Declarations.{Declared, checked_declarations}
+use Rattle.aud_check.specs.Statements.{statements_faults, typed_statements}
 
 -- the statements see all that the body declares
 abbrev pub unit_faults : Ident → Declared → Body → List Fault
-unit_faults main d (body begin stmts end last) = d.faults ++ (stmts_faults stmts d.place ++ right_name_at_end main.name last)
+unit_faults main d (body begin statements end last) = d.faults ++ (statements_faults statements d.place ++ right_name_at_end main.name last)
 
 -- no statements are a null statement where they would begin
-abbrev pub or_null : Pos → List tree.Stmt → List tree.Stmt
+abbrev pub or_null : Pos → List tree.Statement → List tree.Statement
 or_null at [] = tree.null at ∷ []
 or_null at (s ∷ ss) = s ∷ ss
 
 abbrev pub unit_program : Pos → Ident → Declared → Body → tree.Program
-unit_program at main d (body begin stmts end last) = tree.program_of_main (record {
+unit_program at main d (body begin statements end last) = tree.program_of_main (record {
   name = main.name;
   at = at;
   variables = map (λ s. s.0) (innermost d.place).symbols;
   declarations = d.steps;
   begin = begin;
-  statements = or_null begin (typed_stmts stmts d.place);
+  statements = or_null begin (typed_statements statements d.place);
   end = end;
 })
 
 -- every fault of a program; the name after the end must be its own
 abbrev pub faults : Unit → List Fault
-faults (unit at name decls b) = unit_faults name (check_decls decls (main_place name.name)) b
+faults (unit at name declarations b) = unit_faults name (checked_declarations declarations (main_place name.name)) b
 
 -- the typed program, which means something only where there are no faults
 abbrev pub typed : Unit → tree.Program
-typed (unit at name decls b) = unit_program at name (check_decls decls (main_place name.name)) b
+typed (unit at name declarations b) = unit_program at name (checked_declarations declarations (main_place name.name)) b
 
 abbrev pub judged : List Fault → tree.Program → Result tree.Program Fault
 judged [] program = Ok program

@@ -2,7 +2,7 @@
 use Rattle.std.specs.Prelude.{ℕ, ◌+◌, Bool, true, false, List, [], ◌∷◌, ◌++◌, map, Option, Some, None, pos, if◌then◌else◌}
 use Rattle.aud_text.specs.declared.place.Pos.{Pos}
 use Rattle.aud_syntax.specs.declared.tree.Ident.{Ident}
-use Rattle.aud_syntax.specs.Plain.{Decl, object, Decls, no_decls, more_decls, MaybeExpr, no_expr, an_expr}
+use Rattle.aud_syntax.specs.Plain.{Declaration, object, Declarations, no_declarations, more_declarations, MaybeExpression, no_expression, an_expression}
 use Rattle.aud_typed.specs.declared.program.Subtype.TheVariants.{Integer}
 use Rattle.aud_typed.specs.Tree as tree
 use Rattle.aud_check.specs.declared.fault.Fault.{Fault}
@@ -10,13 +10,13 @@ use Rattle.aud_check.specs.declared.names.Meaning.{Meaning}
 use Rattle.aud_check.specs.declared.names.Meaning.TheVariants.{IntegerType, PutLine, MainProcedure, Variable, Faulty}
 use Rattle.aud_check.specs.Names.{Region, Place, visible, is_declared, innermost, in_region, hiding}
 use Rattle.aud_check.specs.Rules.{name_not_declared, declared_once, wrong_kind_of_name}
-use Rattle.aud_check.specs.Expressions.{Typed, number, check_expr, expr_at, not_integer}
+use Rattle.aud_check.specs.Expressions.{Typed, number, checked_expression, expression_at, not_integer}
 
 -- the faults of declarations, the place after them, and their elaboration, name by name (RM 3.11)
 pub record Declared : Type 0 where
   pub faults : List Fault
   pub place : Place
-  pub steps : List tree.Stmt
+  pub steps : List tree.Statement
 
 -- a subtype mark must be that of a type (RM 3.2.2), of which there is only Integer
 abbrev pub subtype_faults : Option Meaning → Pos → List Fault
@@ -32,18 +32,18 @@ is_integer_type (Some IntegerType) = true
 is_integer_type _ = false
 
 -- the initial value must be of type Integer (RM 3.3.1(4), 5.2)
-abbrev pub initial_faults : MaybeExpr → Place → List Fault
-initial_faults no_expr place = []
-initial_faults (an_expr e) place = (check_expr e place).faults ++ not_integer (expr_at e) (check_expr e place).typed
+abbrev pub initial_faults : MaybeExpression → Place → List Fault
+initial_faults no_expression place = []
+initial_faults (an_expression e) place = (checked_expression e place).faults ++ not_integer (expression_at e) (checked_expression e place).typed
 
-abbrev pub integer_or_zero : Typed → tree.IntegerExpr
+abbrev pub integer_or_zero : Typed → tree.IntegerExpression
 integer_or_zero (number e) = e
 integer_or_zero _ = tree.number (pos 0)
 
 -- a variable without an initial value starts with 0 (RM 3.3.1(21): any value; profile choice)
-abbrev pub initial_value : MaybeExpr → Place → tree.IntegerExpr
-initial_value no_expr place = tree.number (pos 0)
-initial_value (an_expr e) place = integer_or_zero (check_expr e place).typed
+abbrev pub initial_value : MaybeExpression → Place → tree.IntegerExpression
+initial_value no_expression place = tree.number (pos 0)
+initial_value (an_expression e) place = integer_or_zero (checked_expression e place).typed
 
 -- the variable of the next cell
 abbrev pub new_meaning : Bool → ℕ → Meaning
@@ -72,24 +72,24 @@ first_at [] = record { line = 0; col = 0 }
 first_at (i ∷ is) = i.at
 
 -- a declaration of several names stands for one of each, in their order (RM 3.3.1(7))
-abbrev pub elaboration : List Ident → Pos → tree.IntegerExpr → List tree.Stmt
+abbrev pub elaboration : List Ident → Pos → tree.IntegerExpression → List tree.Statement
 elaboration names at e = map (λ i. tree.declare at (tree.whole Integer e)) names
 
 -- within the declaration its names are hidden from all visibility (RM 8.3(16))
-abbrev pub check_object : List Ident → Ident → MaybeExpr → Place → Declared
-check_object ids subtype initial place = record {
-  faults = subtype_faults (visible subtype.name (hiding ids place)) subtype.at ++ (initial_faults initial (hiding ids place) ++ twice_faults ids (is_integer_type (visible subtype.name (hiding ids place))) (innermost place));
-  place = in_region (declared_names ids (is_integer_type (visible subtype.name (hiding ids place))) (innermost place)) place;
-  steps = elaboration ids (first_at ids) (initial_value initial (hiding ids place));
+abbrev pub checked_object : List Ident → Ident → MaybeExpression → Place → Declared
+checked_object identifiers subtype initial place = record {
+  faults = subtype_faults (visible subtype.name (hiding identifiers place)) subtype.at ++ (initial_faults initial (hiding identifiers place) ++ twice_faults identifiers (is_integer_type (visible subtype.name (hiding identifiers place))) (innermost place));
+  place = in_region (declared_names identifiers (is_integer_type (visible subtype.name (hiding identifiers place))) (innermost place)) place;
+  steps = elaboration identifiers (first_at identifiers) (initial_value initial (hiding identifiers place));
 }
 
-abbrev pub check_decl : Decl → Place → Declared
-check_decl (object ids subtype initial) place = check_object ids subtype initial place
+abbrev pub checked_declaration : Declaration → Place → Declared
+checked_declaration (object identifiers subtype initial) place = checked_object identifiers subtype initial place
 
 abbrev pub joined_declared : Declared → Declared → Declared
 joined_declared d e = record { faults = d.faults ++ e.faults; place = e.place; steps = d.steps ++ e.steps }
 
 -- the declarations are elaborated in their order (RM 3.11(7))
-abbrev pub check_decls : Decls → Place → Declared
-check_decls no_decls place = record { faults = []; place = place; steps = [] }
-check_decls (more_decls d ds) place = joined_declared (check_decl d place) (check_decls ds (check_decl d place).place)
+abbrev pub checked_declarations : Declarations → Place → Declared
+checked_declarations no_declarations place = record { faults = []; place = place; steps = [] }
+checked_declarations (more_declarations d ds) place = joined_declared (checked_declaration d place) (checked_declarations ds (checked_declaration d place).place)

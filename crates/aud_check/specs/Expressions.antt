@@ -11,7 +11,7 @@ use Rattle.aud_syntax.specs.declared.tree.Multiplying.{Multiplying}
 use Rattle.aud_syntax.specs.declared.tree.Multiplying.TheVariants.{Times, Divide, Modulo, Remainder}
 use Rattle.aud_syntax.specs.declared.tree.Highest.{Highest}
 use Rattle.aud_syntax.specs.declared.tree.Highest.TheVariants.{Magnitude, Not}
-use Rattle.aud_syntax.specs.Plain.{Expr, alone, Rel, unrelated, Simple, simple, Addeds, no_addeds, more_addeds, Added, added, Term, term, Multiplieds, no_multiplieds, more_multiplieds, Multiplied, multiplied, Factor, factor, Primary, integer, text, name, attribute, group, MaybeExpr, no_expr, an_expr, Name, named, Part, part}
+use Rattle.aud_syntax.specs.Plain.{Expression, alone, Relation, unrelated, Simple, simple, Addeds, no_addeds, more_addeds, Added, added, Term, term, Multiplieds, no_multiplieds, more_multiplieds, Multiplied, multiplied, Factor, factor, Primary, integer, text, name, attribute, group, MaybeExpression, no_expression, an_expression, Name, named, NamePart, part}
 use Rattle.aud_typed.specs.declared.program.Unary.{Unary}
 use Rattle.aud_typed.specs.declared.program.Unary.TheVariants as unary
 use Rattle.aud_typed.specs.declared.program.Binary.{Binary}
@@ -27,8 +27,8 @@ use Rattle.aud_check.specs.Rules.{name_not_declared, wrong_kind_of_name, right_t
 
 -- an expression with its type, unknown where the expression is faulty
 pub data Typed : Type 0 where
-  number : tree.IntegerExpr → Typed
-  string : tree.TextExpr → Typed
+  number : tree.IntegerExpression → Typed
+  string : tree.TextExpression → Typed
   unknown : Typed
 
 pub record Checked : Type 0 where
@@ -49,7 +49,7 @@ abbrev pub with : Checked → (Typed → Checked) → Checked
 with c further = after c.faults (further c.typed)
 
 -- the identifier with which a name begins (RM 4.1); where a name is an operand, a prefix or a target, the grammar gives it no more
-abbrev pub part_ident : Part → Ident
+abbrev pub part_ident : NamePart → Ident
 part_ident (part i xs) = i
 
 abbrev pub name_ident : Name → Ident
@@ -65,7 +65,7 @@ primary_at (group at e) = at
 
 abbrev pub factor_at : Factor → Pos
 factor_at (factor None p) = primary_at p
-factor_at (factor (Some op) p) = op.at
+factor_at (factor (Some operator) p) = operator.at
 
 abbrev pub term_at : Term → Pos
 term_at (term f rest) = factor_at f
@@ -77,11 +77,11 @@ signed_at (Some s) at = s.at
 abbrev pub simple_at : Simple → Pos
 simple_at (simple s t rest) = signed_at s (term_at t)
 
-abbrev pub rel_at : Rel → Pos
-rel_at (unrelated s) = simple_at s
+abbrev pub relation_at : Relation → Pos
+relation_at (unrelated s) = simple_at s
 
-abbrev pub expr_at : Expr → Pos
-expr_at (alone r) = rel_at r
+abbrev pub expression_at : Expression → Pos
+expression_at (alone r) = relation_at r
 
 -- the type of an expression, where it is known
 abbrev pub base_of : Typed → Option Base
@@ -104,11 +104,11 @@ multiplying Modulo = binary.Modulus
 multiplying Remainder = binary.Remainder
 
 abbrev pub combined : Binary → Typed → Typed → Typed
-combined op (number x) (number y) = number (tree.binary op x y)
-combined op _ _ = unknown
+combined operator (number x) (number y) = number (tree.binary operator x y)
+combined operator _ _ = unknown
 
 abbrev pub arithmetic : Binary → Pos → Typed → Pos → Typed → Checked
-arithmetic op at x at' y = record { faults = not_integer at x ++ not_integer at' y; typed = combined op x y }
+arithmetic operator at x at' y = record { faults = not_integer at x ++ not_integer at' y; typed = combined operator x y }
 
 -- & on two texts (RM 4.5.3(3))
 abbrev pub joined : Typed → Typed → Typed
@@ -126,8 +126,8 @@ adding_operator adding.Join = joining
 
 -- a unary operator on an Integer
 abbrev pub one : Unary → Typed → Typed
-one op (number e) = number (tree.unary op e)
-one op _ = unknown
+one operator (number e) = number (tree.unary operator e)
+one operator _ = unknown
 
 abbrev pub integer_only : Typed → Typed
 integer_only (number e) = number e
@@ -148,9 +148,9 @@ highest Magnitude at t = record { faults = not_integer at t; typed = one unary.M
 highest Not at t = record { faults = not_boolean at t; typed = unknown }
 
 -- a whole number (RM 2.4): it must be a value of type Integer (RM 3.5.4)
-abbrev pub check_number : Option ℤ → Pos → Checked
-check_number (Some value) at = fine (number (tree.number value))
-check_number None at = faulty (number_too_large at)
+abbrev pub checked_number : Option ℤ → Pos → Checked
+checked_number (Some value) at = fine (number (tree.number value))
+checked_number None at = faulty (number_too_large at)
 
 -- what is read or assigned must be a variable (RM 4.1, 4.4, 5.2); nothing more is said of one whose declaration is faulty
 abbrev pub variable_faults : Option Meaning → Pos → List Fault
@@ -166,8 +166,8 @@ variable_read (Some (Variable v)) = number (tree.variable v)
 variable_read _ = unknown
 
 -- a name as a primary
-abbrev pub check_name : Option Meaning → Pos → Checked
-check_name m at = record { faults = variable_faults m at; typed = variable_read m }
+abbrev pub checked_name : Option Meaning → Pos → Checked
+checked_name m at = record { faults = variable_faults m at; typed = variable_read m }
 
 abbrev pub image_of : Typed → Typed
 image_of (number e) = string (tree.image e)
@@ -194,55 +194,55 @@ image m prefix designator None = image_alone m prefix designator
 image m prefix designator (Some a) = image_with m prefix designator a.0 a.1
 
 -- an attribute's prefix must be declared, and its designator must be Image (RM 4.1.4)
-abbrev pub check_attribute : Option Meaning → Ident → Ident → Option (Pos × Typed) → Checked
-check_attribute None prefix designator argument = faulty (name_not_declared prefix.at)
-check_attribute (Some m) prefix designator argument = if bytes_eq designator.name (codes "IMAGE") then image m prefix designator argument else faulty (wrong_kind_of_name designator.at)
+abbrev pub checked_attribute : Option Meaning → Ident → Ident → Option (Pos × Typed) → Checked
+checked_attribute None prefix designator argument = faulty (name_not_declared prefix.at)
+checked_attribute (Some m) prefix designator argument = if bytes_eq designator.name (codes "IMAGE") then image m prefix designator argument else faulty (wrong_kind_of_name designator.at)
 
 abbrev mutual
   -- RM 4.4(2)
-  pub check_expr : Expr → Place → Checked
-  check_expr (alone r) place = check_rel r place
+  pub checked_expression : Expression → Place → Checked
+  checked_expression (alone r) place = checked_relation r place
 
   -- RM 4.4(3)
-  pub check_rel : Rel → Place → Checked
-  check_rel (unrelated s) place = check_simple s place
+  pub checked_relation : Relation → Place → Checked
+  checked_relation (unrelated s) place = checked_simple s place
 
   -- RM 4.4(4): the sign belongs to the first term
-  pub check_simple : Simple → Place → Checked
-  check_simple (simple s t rest) place = with (check_term t place) (λ x. with (signed s (term_at t) x) (λ left. check_addeds rest place (signed_at s (term_at t)) left))
+  pub checked_simple : Simple → Place → Checked
+  checked_simple (simple s t rest) place = with (checked_term t place) (λ x. with (signed s (term_at t) x) (λ left. checked_addeds rest place (signed_at s (term_at t)) left))
 
   -- the operators are taken from left to right (RM 4.5(8)); what stands before them begins at a place
-  pub check_addeds : Addeds → Place → Pos → Typed → Checked
-  check_addeds no_addeds place at left = fine left
-  check_addeds (more_addeds x rest) place at left = with (check_added x place at left) (λ t. check_addeds rest place at t)
+  pub checked_addeds : Addeds → Place → Pos → Typed → Checked
+  checked_addeds no_addeds place at left = fine left
+  checked_addeds (more_addeds x rest) place at left = with (checked_added x place at left) (λ t. checked_addeds rest place at t)
 
-  pub check_added : Added → Place → Pos → Typed → Checked
-  check_added (added op t) place at left = with (check_term t place) (λ right. adding_operator op at left (term_at t) right)
+  pub checked_added : Added → Place → Pos → Typed → Checked
+  checked_added (added operator t) place at left = with (checked_term t place) (λ right. adding_operator operator at left (term_at t) right)
 
   -- RM 4.4(5)
-  pub check_term : Term → Place → Checked
-  check_term (term f rest) place = with (check_factor f place) (λ left. check_multiplieds rest place (factor_at f) left)
+  pub checked_term : Term → Place → Checked
+  checked_term (term f rest) place = with (checked_factor f place) (λ left. checked_multiplieds rest place (factor_at f) left)
 
-  pub check_multiplieds : Multiplieds → Place → Pos → Typed → Checked
-  check_multiplieds no_multiplieds place at left = fine left
-  check_multiplieds (more_multiplieds x rest) place at left = with (check_multiplied x place at left) (λ t. check_multiplieds rest place at t)
+  pub checked_multiplieds : Multiplieds → Place → Pos → Typed → Checked
+  checked_multiplieds no_multiplieds place at left = fine left
+  checked_multiplieds (more_multiplieds x rest) place at left = with (checked_multiplied x place at left) (λ t. checked_multiplieds rest place at t)
 
-  pub check_multiplied : Multiplied → Place → Pos → Typed → Checked
-  check_multiplied (multiplied op f) place at left = with (check_factor f place) (λ right. arithmetic (multiplying op) at left (factor_at f) right)
+  pub checked_multiplied : Multiplied → Place → Pos → Typed → Checked
+  checked_multiplied (multiplied operator f) place at left = with (checked_factor f place) (λ right. arithmetic (multiplying operator) at left (factor_at f) right)
 
   -- RM 4.4(6)
-  pub check_factor : Factor → Place → Checked
-  check_factor (factor None p) place = check_primary p place
-  check_factor (factor (Some op) p) place = with (check_primary p place) (λ t. highest op.highest (primary_at p) t)
+  pub checked_factor : Factor → Place → Checked
+  checked_factor (factor None p) place = checked_primary p place
+  checked_factor (factor (Some operator) p) place = with (checked_primary p place) (λ t. highest operator.highest (primary_at p) t)
 
   -- RM 4.4(7)
-  pub check_primary : Primary → Place → Checked
-  check_primary (integer n) place = check_number n.value n.at
-  check_primary (text l) place = fine (string (tree.literal l.text))
-  check_primary (name n) place = check_name (visible (name_ident n).name place) (name_ident n).at
-  check_primary (attribute n designator argument) place = check_image argument place (name_ident n) designator
-  check_primary (group at e) place = check_expr e place
+  pub checked_primary : Primary → Place → Checked
+  checked_primary (integer n) place = checked_number n.value n.at
+  checked_primary (text l) place = fine (string (tree.literal l.text))
+  checked_primary (name n) place = checked_name (visible (name_ident n).name place) (name_ident n).at
+  checked_primary (attribute n designator argument) place = checked_image argument place (name_ident n) designator
+  checked_primary (group at e) place = checked_expression e place
 
-  pub check_image : MaybeExpr → Place → Ident → Ident → Checked
-  check_image no_expr place prefix designator = check_attribute (visible prefix.name place) prefix designator None
-  check_image (an_expr e) place prefix designator = with (check_expr e place) (λ t. check_attribute (visible prefix.name place) prefix designator (Some (expr_at e, t)))
+  pub checked_image : MaybeExpression → Place → Ident → Ident → Checked
+  checked_image no_expression place prefix designator = checked_attribute (visible prefix.name place) prefix designator None
+  checked_image (an_expression e) place prefix designator = with (checked_expression e place) (λ t. checked_attribute (visible prefix.name place) prefix designator (Some (expression_at e, t)))

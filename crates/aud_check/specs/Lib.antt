@@ -5,7 +5,7 @@ pub mod Rules
 pub mod Expressions
 pub mod Typing
 pub mod Declarations
-pub mod Part
+pub mod DeclarativePart
 pub mod Statements
 pub mod Checked
 pub mod Gives

@@ -54,7 +54,7 @@ in_region r place = record place { regions = r ∷ others_of place.regions }
 
 -- the place within a declaration of these names
 abbrev pub hiding : List Ident → Place → Place
-hiding ids place = record place { hidden = ids }
+hiding identifiers place = record place { hidden = identifiers }
 
 -- a declaration is hidden from all visibility until it ends (RM 8.3(16, 17))
 abbrev pub is_hidden : List ℕ → List Ident → Bool

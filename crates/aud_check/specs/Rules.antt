@@ -3,7 +3,7 @@
 use Rattle.std.specs.Prelude.{Bool, true, false, not, List, [], ◌∷◌, Option, Some, None, if◌then◌else◌, ℕ}
 use Rattle.std.specs.Str.{bytes_eq}
 use Rattle.aud_text.specs.declared.place.Pos.{Pos}
-use Rattle.aud_text.specs.declared.code.Code.TheVariants.{NameNotDeclared, DeclaredTwice, WrongKindOfName, WrongType, WrongNumberOfArguments, WrongNameAtEnd, NumberTooLarge}
+use Rattle.aud_text.specs.declared.refusal.Refusal.TheVariants.{NameNotDeclared, DeclaredTwice, WrongKindOfName, WrongType, WrongNumberOfArguments, WrongNameAtEnd, NumberTooLarge}
 use Rattle.aud_syntax.specs.declared.tree.Ident.{Ident}
 use Rattle.aud_check.specs.declared.fault.Fault.{Fault}
 use Rattle.aud_check.specs.declared.rules.Base.{Base}

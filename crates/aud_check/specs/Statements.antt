@@ -2,7 +2,7 @@
 use Rattle.std.specs.Prelude.{List, [], ◌∷◌, ◌++◌, Option, Some, None}
 use Rattle.aud_text.specs.declared.place.Pos.{Pos}
 use Rattle.aud_syntax.specs.declared.tree.Ident.{Ident}
-use Rattle.aud_syntax.specs.Plain.{Name, named, Part, part, Args, no_args, more_args, Stmt, null, assign, call, Stmts, no_stmts, more_stmts}
+use Rattle.aud_syntax.specs.Plain.{Name, named, NamePart, part, Args, no_args, more_args, Statement, null, assign, call, Statements, no_statements, more_statements}
 use Rattle.aud_typed.specs.declared.program.Subtype.TheVariants.{Integer}
 use Rattle.aud_typed.specs.Tree as tree
 use Rattle.aud_check.specs.declared.fault.Fault.{Fault}
@@ -12,7 +12,7 @@ use Rattle.aud_check.specs.declared.rules.Base.{Base}
 use Rattle.aud_check.specs.declared.rules.Base.TheVariants.{Whole, Text}
 use Rattle.aud_check.specs.Names.{Place, visible}
 use Rattle.aud_check.specs.Rules.{name_not_declared, wrong_kind_of_name, right_type, wrong_number_of_arguments}
-use Rattle.aud_check.specs.Expressions.{Typed, number, string, name_ident, check_expr, expr_at, base_of, variable_faults}
+use Rattle.aud_check.specs.Expressions.{Typed, number, string, name_ident, checked_expression, expression_at, base_of, variable_faults}
 
 -- the type of what is assigned to, where it is known
 abbrev pub target_base : Option Meaning → Option Base
@@ -24,7 +24,7 @@ abbrev pub assign_faults : Option Meaning → Pos → Pos → Typed → List Fau
 assign_faults m target at value = variable_faults m target ++ right_type (target_base m) at (base_of value)
 
 -- a faulty statement is left as a null statement
-abbrev pub assigned : Option Meaning → Pos → Typed → tree.Stmt
+abbrev pub assigned : Option Meaning → Pos → Typed → tree.Statement
 assigned (Some (Variable v)) at (number e) = tree.assign at (tree.scalar v Integer) (tree.whole Integer e)
 assigned _ at _ = tree.null at
 
@@ -47,42 +47,42 @@ abbrev pub call_faults : Option Meaning → Pos → Pos → Typed → List Fault
 call_faults m called at argument = callee_faults m called ++ right_type (formal_base m) at (base_of argument)
 
 -- Put_Line puts out its text and ends the line
-abbrev pub called : Option Meaning → Pos → Typed → tree.Stmt
+abbrev pub called : Option Meaning → Pos → Typed → tree.Statement
 called (Some PutLine) at (string t) = tree.put at (tree.join t tree.new_line)
 called _ at _ = tree.null at
 
 -- each procedure that may be called has one formal parameter, so that there is one argument (RM 6.4.1)
 abbrev pub args_faults : Args → Ident → Place → List Fault
-args_faults (more_args e no_args) i place = (check_expr e place).faults ++ call_faults (visible i.name place) i.at (expr_at e) (check_expr e place).typed
+args_faults (more_args e no_args) i place = (checked_expression e place).faults ++ call_faults (visible i.name place) i.at (expression_at e) (checked_expression e place).typed
 args_faults _ i place = wrong_number_of_arguments i.at
 
-abbrev pub called_with : Args → Ident → Place → tree.Stmt
-called_with (more_args e no_args) i place = called (visible i.name place) i.at (check_expr e place).typed
+abbrev pub called_with : Args → Ident → Place → tree.Statement
+called_with (more_args e no_args) i place = called (visible i.name place) i.at (checked_expression e place).typed
 called_with _ i place = tree.null i.at
 
 -- the arguments of a call are those of its name
-abbrev pub part_args : Part → Args
+abbrev pub part_args : NamePart → Args
 part_args (part i xs) = xs
 
 abbrev pub name_args : Name → Args
 name_args (named p ps) = part_args p
 
 -- RM 5.1
-abbrev pub stmt_faults : Stmt → Place → List Fault
-stmt_faults (null at) place = []
-stmt_faults (assign n value) place = (check_expr value place).faults ++ assign_faults (visible (name_ident n).name place) (name_ident n).at (expr_at value) (check_expr value place).typed
-stmt_faults (call n) place = args_faults (name_args n) (name_ident n) place
+abbrev pub statement_faults : Statement → Place → List Fault
+statement_faults (null at) place = []
+statement_faults (assign n value) place = (checked_expression value place).faults ++ assign_faults (visible (name_ident n).name place) (name_ident n).at (expression_at value) (checked_expression value place).typed
+statement_faults (call n) place = args_faults (name_args n) (name_ident n) place
 
-abbrev pub typed_stmt : Stmt → Place → tree.Stmt
-typed_stmt (null at) place = tree.null at
-typed_stmt (assign n value) place = assigned (visible (name_ident n).name place) (name_ident n).at (check_expr value place).typed
-typed_stmt (call n) place = called_with (name_args n) (name_ident n) place
+abbrev pub typed_statement : Statement → Place → tree.Statement
+typed_statement (null at) place = tree.null at
+typed_statement (assign n value) place = assigned (visible (name_ident n).name place) (name_ident n).at (checked_expression value place).typed
+typed_statement (call n) place = called_with (name_args n) (name_ident n) place
 
 -- a sequence of statements (RM 5.1(2))
-abbrev pub stmts_faults : Stmts → Place → List Fault
-stmts_faults no_stmts place = []
-stmts_faults (more_stmts s ss) place = stmt_faults s place ++ stmts_faults ss place
+abbrev pub statements_faults : Statements → Place → List Fault
+statements_faults no_statements place = []
+statements_faults (more_statements s ss) place = statement_faults s place ++ statements_faults ss place
 
-abbrev pub typed_stmts : Stmts → Place → List tree.Stmt
-typed_stmts no_stmts place = []
-typed_stmts (more_stmts s ss) place = typed_stmt s place ∷ typed_stmts ss place
+abbrev pub typed_statements : Statements → Place → List tree.Statement
+typed_statements no_statements place = []
+typed_statements (more_statements s ss) place = typed_statement s place ∷ typed_statements ss place

@@ -4,7 +4,7 @@ ghost use Rattle.std.specs.Prelude.{◌≡◌, Option, None};
 ghost use Rattle.aud_check.specs.declared.fault.Fault.{Fault};
 ghost use Rattle.aud_check.specs.Least.{before, note};
 
-use aud_text::code::Code;
+use aud_text::refusal::Refusal;
 use aud_text::place::Pos;
 use std::alloc::{AllocError, AllocFailed};
 use std::marker::Model;
@@ -14,7 +14,7 @@ use thiserror::Error;
 #[derive(Clone, Copy, PartialEq, Eq, Debug)]
 pub struct Fault {
     pub at: Pos,
-    pub code: Code,
+    pub code: Refusal,
 }
 
 /// Why a program is not accepted.
@@ -75,8 +75,8 @@ impl Least {
     }
 
     /// Notes one more fault.
-    pub fn note(&mut self, at: Pos, code: Code)
-        ensures { self.new ≡ note self.old (record { at = at; code = code }) }
+    pub fn note(&mut self, at: Pos, code: Refusal)
+        ensures { self.new ≡ note self.old (record { at = at; refusal = refusal }) }
     {
         let fault = Fault { at, code };
         self.first = match self.first {
@@ -91,7 +91,7 @@ fn before(fault: Fault, other: Fault) -> bool
     ensures { result ≡ before fault other }
 {
     if fault.at == other.at {
-        return fault.code.number() < other.code.number();
+        return fault.refusal.number() < other.refusal.number();
     }
     fault.at.line < other.at.line || (fault.at.line == other.at.line && fault.at.col < other.at.col)
 }

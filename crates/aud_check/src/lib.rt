@@ -8,13 +8,13 @@ ghost use Rattle.aud_typed.specs.View.{plain_program};
 ghost use Rattle.aud_check.specs.Checked.{checked};
 ghost use Rattle.aud_check.specs.Gives.{Gives};
 
-mod decl;
-mod expr;
+mod declaration;
+mod expression;
 pub mod fault;
 pub mod laws;
 mod names;
 mod rules;
-mod stmt;
+mod statement;
 mod typed;
 mod unit;
 

@@ -8,7 +8,7 @@ ghost use Rattle.aud_check.specs.Rules.{name_not_declared, declared_once, wrong_
 use crate::fault::Least;
 use crate::names::Symbols;
 use aud_syntax::tree::Ident;
-use aud_text::code::Code;
+use aud_text::refusal::Refusal;
 use aud_text::name::Name;
 use aud_text::place::Pos;
 
@@ -27,7 +27,7 @@ pub enum Base {
 pub fn name_not_declared(at: Pos, faults: &mut Least)
     ensures { faults.new ≡ noted faults.old (name_not_declared at) }
 {
-    faults.note(at, Code::NameNotDeclared);
+    faults.note(at, Refusal::NameNotDeclared);
 }
 
 /// A region declares a name once (RM 8.3(26)): whether this declaration of it is the first.
@@ -36,7 +36,7 @@ pub fn declared_once(ident: &Ident, symbols: &Symbols, faults: &mut Least) -> bo
     ensures noted { faults.new ≡ noted faults.old (declared_once ident.now.name ident.now.at symbols.now.entries) }
 {
     if symbols.contains_key(&ident.name) {
-        faults.note(ident.at, Code::DeclaredTwice);
+        faults.note(ident.at, Refusal::DeclaredTwice);
         return false;
     }
     true
@@ -46,7 +46,7 @@ pub fn declared_once(ident: &Ident, symbols: &Symbols, faults: &mut Least) -> bo
 pub fn wrong_kind_of_name(at: Pos, faults: &mut Least)
     ensures { faults.new ≡ noted faults.old (wrong_kind_of_name at) }
 {
-    faults.note(at, Code::WrongKindOfName);
+    faults.note(at, Refusal::WrongKindOfName);
 }
 
 fn fits(asked: Option<Base>, given: Option<Base>) -> bool
@@ -63,7 +63,7 @@ pub fn right_type(asked: Option<Base>, at: Pos, given: Option<Base>, faults: &mu
     ensures { faults.new ≡ noted faults.old (right_type asked at given) }
 {
     if !fits(asked, given) {
-        faults.note(at, Code::WrongType);
+        faults.note(at, Refusal::WrongType);
     }
 }
 
@@ -72,7 +72,7 @@ pub fn right_type(asked: Option<Base>, at: Pos, given: Option<Base>, faults: &mu
 pub fn wrong_number_of_arguments(at: Pos, faults: &mut Least)
     ensures { faults.new ≡ noted faults.old (wrong_number_of_arguments at) }
 {
-    faults.note(at, Code::WrongNumberOfArguments);
+    faults.note(at, Refusal::WrongNumberOfArguments);
 }
 
 /// The name after `end` is the procedure's (RM 6.3(4)).
@@ -81,7 +81,7 @@ pub fn right_name_at_end(name: &Name, last: &Option<Ident>, faults: &mut Least)
 {
     if let Some(last) = last {
         if last.name != *name {
-            faults.note(last.at, Code::WrongNameAtEnd);
+            faults.note(last.at, Refusal::WrongNameAtEnd);
         }
     }
 }
@@ -90,5 +90,5 @@ pub fn right_name_at_end(name: &Name, last: &Option<Ident>, faults: &mut Least)
 pub fn number_too_large(at: Pos, faults: &mut Least)
     ensures { faults.new ≡ noted faults.old (number_too_large at) }
 {
-    faults.note(at, Code::NumberTooLarge);
+    faults.note(at, Refusal::NumberTooLarge);
 }

@@ -12,14 +12,14 @@ use crate::fault::Least;
 use crate::rules::{Base, right_type};
 use aud_syntax::tree::{Adding, Highest, Sign, Signed};
 use aud_text::place::Pos;
-use aud_typed::program::{Binary, IntegerExpr, Operation, TextExpr, Unary};
+use aud_typed::program::{Binary, IntegerExpression, Operation, TextExpression, Unary};
 use std::alloc::{AllocError, Global};
 
 /// An expression with its type. Nothing is known of the type of a faulty one.
 #[derive(Drop, Debug)]
 pub enum Typed {
-    Number(IntegerExpr),
-    Text(TextExpr),
+    Number(IntegerExpression),
+    Text(TextExpression),
     Unknown,
 }
 
@@ -56,31 +56,31 @@ fn wants_boolean(at: Pos, typed: &Typed, faults: &mut Least)
 // The operation goes on the operand's chain, or begins one.
 fn with_operation(
     alloc: Global,
-    left: IntegerExpr,
+    left: IntegerExpression,
     next: Operation,
-) -> Result<IntegerExpr, AllocError>
-    ensures { IfOk result (λ value. plain_integer value ≡ binary (out-Operation next).op (plain_integer left) (plain_integer (out-Operation next).right)) }
+) -> Result<IntegerExpression, AllocError>
+    ensures { IfOk result (λ value. plain_integer value ≡ binary (out-Operation next).operator (plain_integer left) (plain_integer (out-Operation next).right)) }
 {
     match left {
-        IntegerExpr::Chain(first, mut rest) => {
+        IntegerExpression::Chain(first, mut rest) => {
             rest.push(next)?;
-            Ok(IntegerExpr::Chain(first, rest))
+            Ok(IntegerExpression::Chain(first, rest))
         }
         first => {
             let mut rest = Vec::new(alloc);
             rest.push(next)?;
             let first = Box::new(alloc, first)?;
-            Ok(IntegerExpr::Chain(first, rest))
+            Ok(IntegerExpression::Chain(first, rest))
         }
     }
 }
 
-fn combined(alloc: Global, op: Binary, left: Typed, right: Typed) -> Result<Typed, AllocError>
-    ensures { IfOk result (λ typed. plain_typed typed ≡ combined op (plain_typed left) (plain_typed right)) }
+fn combined(alloc: Global, operator: Binary, left: Typed, right: Typed) -> Result<Typed, AllocError>
+    ensures { IfOk result (λ typed. plain_typed typed ≡ combined operator (plain_typed left) (plain_typed right)) }
 {
     match (left, right) {
         (Typed::Number(left), Typed::Number(right)) => {
-            let value = with_operation(alloc, left, Operation { op, right })?;
+            let value = with_operation(alloc, left, Operation { operator, right })?;
             Ok(Typed::Number(value))
         }
         _ => Ok(Typed::Unknown),
@@ -88,19 +88,19 @@ fn combined(alloc: Global, op: Binary, left: Typed, right: Typed) -> Result<Type
 }
 
 /// A text, and another one that follows it.
-pub fn with_text(alloc: Global, left: TextExpr, next: TextExpr) -> Result<TextExpr, AllocError>
+pub fn with_text(alloc: Global, left: TextExpression, next: TextExpression) -> Result<TextExpression, AllocError>
     ensures { IfOk result (λ text. plain_text text ≡ join (plain_text left) (plain_text next)) }
 {
     match left {
-        TextExpr::Join(first, mut rest) => {
+        TextExpression::Join(first, mut rest) => {
             rest.push(next)?;
-            Ok(TextExpr::Join(first, rest))
+            Ok(TextExpression::Join(first, rest))
         }
         first => {
             let mut rest = Vec::new(alloc);
             rest.push(next)?;
             let first = Box::new(alloc, first)?;
-            Ok(TextExpr::Join(first, rest))
+            Ok(TextExpression::Join(first, rest))
         }
     }
 }
@@ -117,13 +117,13 @@ fn joined(alloc: Global, left: Typed, right: Typed) -> Result<Typed, AllocError>
     }
 }
 
-fn one(alloc: Global, op: Unary, operand: Typed) -> Result<Typed, AllocError>
-    ensures { IfOk result (λ typed. plain_typed typed ≡ one op (plain_typed operand)) }
+fn one(alloc: Global, operator: Unary, operand: Typed) -> Result<Typed, AllocError>
+    ensures { IfOk result (λ typed. plain_typed typed ≡ one operator (plain_typed operand)) }
 {
     match operand {
         Typed::Number(x) => {
             let x = Box::new(alloc, x)?;
-            Ok(Typed::Number(IntegerExpr::Unary(op, x)))
+            Ok(Typed::Number(IntegerExpression::Unary(operator, x)))
         }
         _ => Ok(Typed::Unknown),
     }
@@ -143,7 +143,7 @@ pub fn image_of(typed: Typed) -> Typed
     ensures { plain_typed result ≡ image_of (plain_typed typed) }
 {
     match typed {
-        Typed::Number(x) => Typed::Text(TextExpr::Image(x)),
+        Typed::Number(x) => Typed::Text(TextExpression::Image(x)),
         _ => Typed::Unknown,
     }
 }
@@ -152,18 +152,18 @@ pub fn image_of(typed: Typed) -> Typed
 #[tactic(auto, using(crate::proofs::Notes::noted_append))]
 pub fn arithmetic(
     alloc: Global,
-    op: Binary,
+    operator: Binary,
     left_at: Pos,
     left: Typed,
     right_at: Pos,
     right: Typed,
     faults: &mut Least,
 ) -> Result<Typed, AllocError>
-    ensures { Shows faults.old faults.new (arithmetic op left_at (plain_typed left) right_at (plain_typed right)) result }
+    ensures { Shows faults.old faults.new (arithmetic operator left_at (plain_typed left) right_at (plain_typed right)) result }
 {
     wants_integer(left_at, &left, faults);
     wants_integer(right_at, &right, faults);
-    combined(alloc, op, left, right)
+    combined(alloc, operator, left, right)
 }
 
 #[tactic(auto, using(crate::proofs::Notes::noted_append))]
@@ -185,16 +185,16 @@ fn joining(
 /// A binary adding operator (RM 4.5.3), whose operands begin at these places.
 pub fn adding_operator(
     alloc: Global,
-    op: Adding,
+    operator: Adding,
     left_at: Pos,
     left: Typed,
     right_at: Pos,
     right: Typed,
     faults: &mut Least,
 ) -> Result<Typed, AllocError>
-    ensures { Shows faults.old faults.new (adding_operator op left_at (plain_typed left) right_at (plain_typed right)) result }
+    ensures { Shows faults.old faults.new (adding_operator operator left_at (plain_typed left) right_at (plain_typed right)) result }
 {
-    match op {
+    match operator {
         Adding::Plus => arithmetic(alloc, Binary::Sum, left_at, left, right_at, right, faults),
         Adding::Minus => arithmetic(
             alloc,
@@ -232,14 +232,14 @@ pub fn signed(
 /// An operator before a primary that begins at a place (RM 4.5.6).
 pub fn highest(
     alloc: Global,
-    op: Highest,
+    operator: Highest,
     at: Pos,
     operand: Typed,
     faults: &mut Least,
 ) -> Result<Typed, AllocError>
-    ensures { Shows faults.old faults.new (highest op at (plain_typed operand)) result }
+    ensures { Shows faults.old faults.new (highest operator at (plain_typed operand)) result }
 {
-    match op {
+    match operator {
         Highest::Magnitude => {
             wants_integer(at, &operand, faults);
             one(alloc, Unary::Magnitude, operand)

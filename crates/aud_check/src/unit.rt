@@ -1,38 +1,38 @@
 // Programs.
 
 ghost use Rattle.std.specs.Prelude.{◌≡◌, map, IfOk, OnOk};
-ghost use Rattle.aud_syntax.specs.View.{plain_stmts, plain_unit};
-ghost use Rattle.aud_typed.specs.View.{plain_stmts as plain_steps, plain_program};
+ghost use Rattle.aud_syntax.specs.View.{plain_statements, plain_unit};
+ghost use Rattle.aud_typed.specs.View.{plain_statements as plain_typed_statements, plain_program};
 ghost use Rattle.aud_check.specs.Least.{noted};
-ghost use Rattle.aud_check.specs.Statements.{typed_stmts, stmts_faults};
+ghost use Rattle.aud_check.specs.Statements.{typed_statements, statements_faults};
 ghost use Rattle.aud_check.specs.Checked.{or_null, faults as program_faults, typed as typed_program};
 
-use crate::decl::{Part, decls};
+use crate::declaration::{DeclarativePart, declarations};
 use crate::fault::Least;
 use crate::names::{Place, Scope, Symbols};
 use crate::rules::right_name_at_end;
-use crate::stmt::stmts;
+use crate::statement::statements;
 use aud_syntax::tree::{Body, Unit};
 use aud_text::name::Name;
-use aud_typed::program::{Program, Stmt as Step};
+use aud_typed::program::{Program, Statement as TypedStatement};
 use std::alloc::{AllocError, Global};
 
 // The statements of a body; none are a null statement where they would begin.
-fn statements(
+fn body_statements(
     alloc: Global,
     body: &Body,
     scope: &Scope<'_>,
     faults: &mut Least,
-) -> Result<Vec<Step>, AllocError>
-    ensures steps { IfOk result (λ steps. plain_steps steps.items ≡ or_null body.now.begin (typed_stmts (plain_stmts body.now.stmts.items) scope.now)) }
-    ensures noted { OnOk result (faults.new ≡ noted faults.old (stmts_faults (plain_stmts body.now.stmts.items) scope.now)) }
+) -> Result<Vec<TypedStatement>, AllocError>
+    ensures steps { IfOk result (λ steps. plain_typed_statements steps.items ≡ or_null body.now.begin (typed_statements (plain_statements body.now.statements.items) scope.now)) }
+    ensures noted { OnOk result (faults.new ≡ noted faults.old (statements_faults (plain_statements body.now.statements.items) scope.now)) }
 {
     let mut steps = Vec::new(alloc);
-    if body.stmts.is_empty() {
-        steps.push(Step::Null(body.begin))?;
+    if body.statements.is_empty() {
+        steps.push(TypedStatement::Null(body.begin))?;
         return Ok(steps);
     }
-    stmts(alloc, &body.stmts, scope, &mut steps, faults)?;
+    statements(alloc, &body.statements, scope, &mut steps, faults)?;
     Ok(steps)
 }
 
@@ -52,11 +52,11 @@ pub fn typed(alloc: Global, unit: &Unit, faults: &mut Least) -> Result<Program, 
     let main = &unit.name.name;
     let place = Place::in_main(alloc, main)?;
     let steps = Vec::new(alloc);
-    let mut part = Part { place, steps };
-    decls(alloc, &unit.decls, &mut part, faults)?;
-    let Part { place, steps } = part;
+    let mut part = DeclarativePart { place, steps };
+    declarations(alloc, &unit.declarations, &mut part, faults)?;
+    let DeclarativePart { place, steps } = part;
     let scope = Scope::new(&place, &[]);
-    let statements = statements(alloc, &unit.body, &scope, faults)?;
+    let statements = body_statements(alloc, &unit.body, &scope, faults)?;
     right_name_at_end(main, &unit.body.name, faults);
     let variables = names_of(alloc, place.innermost.symbols)?;
     let name = main.try_clone(alloc)?;

@@ -1,26 +1,26 @@
 -- Instructions that never miss an operand: the counts of operands are followed along all ways, as the evaluation would go.
 use Rattle.std.specs.Prelude.{◌≡◌, ℕ, zero, suc, List, [], ◌∷◌, length, Bool, true, false, Option, Some, None, slice_get}
 use Rattle.aud_code.specs.Places.{Way, Guard}
-use Rattle.aud_code.specs.Instr.{Instr, Push, Load, LoadElement, OnOne, OnTwo, Count, Check, Cell, PushTruth, Truth, Negate, Relate, Compare, Combine, PassIfFalse, PassIfTrue, IsCallable, IsTerminated, Find, FindElement, LoadFound, Pass, PassCopy, AppendText, AppendImage, AppendTruth, AppendNewLine, Name, Milliseconds, Seconds, BeginObject, Component, OpensAccept, OpensDelay, OpensTerminate, Mark, PassUnlessNext, SetTime, Ending, Declare, DeclareObject, Assign, If, While, Loop, Exit, ReturnValue, CallTask, Operands, Ended, Reached, Marked, Raised, Lost}
-use Rattle.aud_code.specs.Flat.{Last, Does, Continues, Guards, Ends, Leaves, EndLine, FlatLine, end, Flat, instrs_at, end_at}
+use Rattle.aud_code.specs.Instruction.{Instruction, Push, Load, LoadElement, OnOne, OnTwo, Count, Check, Cell, PushTruth, Truth, Negate, Relate, Compare, Combine, PassIfFalse, PassIfTrue, IsCallable, IsTerminated, Find, FindElement, LoadFound, Pass, PassCopy, AppendText, AppendImage, AppendTruth, AppendNewLine, Name, Milliseconds, Seconds, BeginObject, Component, OpensAccept, OpensDelay, OpensTerminate, Mark, PassUnlessNext, SetTime, Ending, Declare, DeclareObject, Assign, If, While, Loop, Exit, ReturnValue, CallTask, Operands, Ended, Reached, Marked, Raised, Lost}
+use Rattle.aud_code.specs.Flat.{Last, Does, Continues, Guards, Ends, Leaves, EndLine, FlatLine, end, Flat, instructions_at, end_at}
 
 -- how many operands there are, and whether an object is being declared
 pub record Counts : Type 0 where
-  pub ints : ℕ
-  pub bools : ℕ
+  pub integers : ℕ
+  pub booleans : ℕ
   pub targets : ℕ
   pub names : ℕ
   pub cells : Bool
 
 abbrev pub no_counts : Counts
-no_counts = record { ints = 0; bools = 0; targets = 0; names = 0; cells = false }
+no_counts = record { integers = 0; booleans = 0; targets = 0; names = 0; cells = false }
 
 abbrev pub is_some : {A : Type 0} → Option A → Bool
 is_some None = false
 is_some (Some x) = true
 
 abbrev pub counts_of : Operands → Counts
-counts_of o = record { ints = length o.ints; bools = length o.bools; targets = length o.targets; names = length o.names; cells = is_some o.cells }
+counts_of o = record { integers = length o.integers; booleans = length o.booleans; targets = length o.targets; names = length o.names; cells = is_some o.cells }
 
 -- there is one; what is left
 abbrev pub Takes : ℕ → (ℕ → Type 0) → Type 0
@@ -30,52 +30,52 @@ Takes (suc n) go = go n
 abbrev pub AndThen : Type 1
 AndThen = ℕ → Counts → Type 0
 
-abbrev pub InstrFine : Instr → AndThen → Counts → Type 0
-InstrFine (Push z) go c = go 0 (record c { ints = suc c.ints })
-InstrFine (Load v) go c = go 0 (record c { ints = suc c.ints })
-InstrFine (LoadElement a) go c = Takes c.ints (λ n. go 0 (record c { ints = suc n }))
-InstrFine (OnOne f) go c = Takes c.ints (λ n. go 0 (record c { ints = suc n }))
-InstrFine (OnTwo f) go c = Takes c.ints (λ n. Takes n (λ m. go 0 (record c { ints = suc m })))
-InstrFine (Count v entry) go c = go 0 (record c { ints = suc c.ints })
-InstrFine (Check t) go c = Takes c.ints (λ n. go 0 (record c { ints = suc n }))
-InstrFine Cell go c = Takes c.bools (λ n. go 0 (record c { bools = n; ints = suc c.ints }))
-InstrFine (PushTruth b) go c = go 0 (record c { bools = suc c.bools })
-InstrFine Truth go c = Takes c.ints (λ n. go 0 (record c { ints = n; bools = suc c.bools }))
-InstrFine Negate go c = Takes c.bools (λ n. go 0 (record c { bools = suc n }))
-InstrFine (Relate f) go c = Takes c.ints (λ n. Takes n (λ m. go 0 (record c { ints = m; bools = suc c.bools })))
-InstrFine (Compare f) go c = Takes c.bools (λ n. Takes n (λ m. go 0 (record c { bools = suc m })))
-InstrFine (Combine f) go c = Takes c.bools (λ n. Takes n (λ m. go 0 (record c { bools = suc m })))
-InstrFine (PassIfFalse k) go c = Takes c.bools (λ n. go 0 (record c { bools = n }) × go k (record c { bools = suc n }))
-InstrFine (PassIfTrue k) go c = Takes c.bools (λ n. go 0 (record c { bools = n }) × go k (record c { bools = suc n }))
-InstrFine IsCallable go c = Takes c.ints (λ n. go 0 (record c { ints = n; bools = suc c.bools }))
-InstrFine IsTerminated go c = Takes c.ints (λ n. go 0 (record c { ints = n; bools = suc c.bools }))
-InstrFine (Find v t) go c = go 0 (record c { targets = suc c.targets })
-InstrFine (FindElement a t) go c = Takes c.ints (λ n. go 0 (record c { ints = n; targets = suc c.targets }))
-InstrFine LoadFound go c = Takes c.targets (λ n. go 0 (record c { ints = suc c.ints }))
-InstrFine Pass go c = Takes c.ints (λ n. go 0 (record c { ints = n }))
-InstrFine (PassCopy k) go c = Takes c.ints (λ n. Takes c.targets (λ m. go 0 (record c { ints = n; targets = m })))
-InstrFine (AppendText text) go c = go 0 c
-InstrFine AppendImage go c = Takes c.ints (λ n. go 0 (record c { ints = n }))
-InstrFine AppendTruth go c = Takes c.bools (λ n. go 0 (record c { bools = n }))
-InstrFine AppendNewLine go c = go 0 c
-InstrFine Name go c = Takes c.ints (λ n. go 0 (record c { ints = n; names = suc c.names }))
-InstrFine (Milliseconds ms) go c = go 0 c
-InstrFine Seconds go c = Takes c.ints (λ n. go 0 (record c { ints = n }))
-InstrFine BeginObject go c = go 0 (record c { cells = true })
-InstrFine Component go c = Takes c.ints (λ n. go 0 (record c { ints = n }))
-InstrFine (OpensAccept a) go c = Takes c.bools (λ n. go 0 (record c { bools = n }))
-InstrFine (OpensDelay k) go c = Takes c.bools (λ n. go 0 (record c { bools = n }))
-InstrFine OpensTerminate go c = Takes c.bools (λ n. go 0 (record c { bools = n }))
-InstrFine Mark go c = go 0 c
-InstrFine (PassUnlessNext n k) go c = go 0 c × go k c
-InstrFine (SetTime n) go c = go 0 c
+abbrev pub InstructionFine : Instruction → AndThen → Counts → Type 0
+InstructionFine (Push z) go c = go 0 (record c { integers = suc c.integers })
+InstructionFine (Load v) go c = go 0 (record c { integers = suc c.integers })
+InstructionFine (LoadElement a) go c = Takes c.integers (λ n. go 0 (record c { integers = suc n }))
+InstructionFine (OnOne f) go c = Takes c.integers (λ n. go 0 (record c { integers = suc n }))
+InstructionFine (OnTwo f) go c = Takes c.integers (λ n. Takes n (λ m. go 0 (record c { integers = suc m })))
+InstructionFine (Count v entry) go c = go 0 (record c { integers = suc c.integers })
+InstructionFine (Check t) go c = Takes c.integers (λ n. go 0 (record c { integers = suc n }))
+InstructionFine Cell go c = Takes c.booleans (λ n. go 0 (record c { booleans = n; integers = suc c.integers }))
+InstructionFine (PushTruth b) go c = go 0 (record c { booleans = suc c.booleans })
+InstructionFine Truth go c = Takes c.integers (λ n. go 0 (record c { integers = n; booleans = suc c.booleans }))
+InstructionFine Negate go c = Takes c.booleans (λ n. go 0 (record c { booleans = suc n }))
+InstructionFine (Relate f) go c = Takes c.integers (λ n. Takes n (λ m. go 0 (record c { integers = m; booleans = suc c.booleans })))
+InstructionFine (Compare f) go c = Takes c.booleans (λ n. Takes n (λ m. go 0 (record c { booleans = suc m })))
+InstructionFine (Combine f) go c = Takes c.booleans (λ n. Takes n (λ m. go 0 (record c { booleans = suc m })))
+InstructionFine (PassIfFalse k) go c = Takes c.booleans (λ n. go 0 (record c { booleans = n }) × go k (record c { booleans = suc n }))
+InstructionFine (PassIfTrue k) go c = Takes c.booleans (λ n. go 0 (record c { booleans = n }) × go k (record c { booleans = suc n }))
+InstructionFine IsCallable go c = Takes c.integers (λ n. go 0 (record c { integers = n; booleans = suc c.booleans }))
+InstructionFine IsTerminated go c = Takes c.integers (λ n. go 0 (record c { integers = n; booleans = suc c.booleans }))
+InstructionFine (Find v t) go c = go 0 (record c { targets = suc c.targets })
+InstructionFine (FindElement a t) go c = Takes c.integers (λ n. go 0 (record c { integers = n; targets = suc c.targets }))
+InstructionFine LoadFound go c = Takes c.targets (λ n. go 0 (record c { integers = suc c.integers }))
+InstructionFine Pass go c = Takes c.integers (λ n. go 0 (record c { integers = n }))
+InstructionFine (PassCopy k) go c = Takes c.integers (λ n. Takes c.targets (λ m. go 0 (record c { integers = n; targets = m })))
+InstructionFine (AppendText text) go c = go 0 c
+InstructionFine AppendImage go c = Takes c.integers (λ n. go 0 (record c { integers = n }))
+InstructionFine AppendTruth go c = Takes c.booleans (λ n. go 0 (record c { booleans = n }))
+InstructionFine AppendNewLine go c = go 0 c
+InstructionFine Name go c = Takes c.integers (λ n. go 0 (record c { integers = n; names = suc c.names }))
+InstructionFine (Milliseconds ms) go c = go 0 c
+InstructionFine Seconds go c = Takes c.integers (λ n. go 0 (record c { integers = n }))
+InstructionFine BeginObject go c = go 0 (record c { cells = true })
+InstructionFine Component go c = Takes c.integers (λ n. go 0 (record c { integers = n }))
+InstructionFine (OpensAccept a) go c = Takes c.booleans (λ n. go 0 (record c { booleans = n }))
+InstructionFine (OpensDelay k) go c = Takes c.booleans (λ n. go 0 (record c { booleans = n }))
+InstructionFine OpensTerminate go c = Takes c.booleans (λ n. go 0 (record c { booleans = n }))
+InstructionFine Mark go c = go 0 c
+InstructionFine (PassUnlessNext n k) go c = go 0 c × go k c
+InstructionFine (SetTime n) go c = go 0 c
 
 -- up to the ending, which wants its counts
 module _ (End : Counts → Type 0) where
-  abbrev pub AreFine : List Instr → ℕ → Counts → Type 0
+  abbrev pub AreFine : List Instruction → ℕ → Counts → Type 0
   AreFine [] n c = End c
   AreFine (i ∷ is) (suc n) c = AreFine is n c
-  AreFine (i ∷ is) zero c = InstrFine i (AreFine is) c
+  AreFine (i ∷ is) zero c = InstructionFine i (AreFine is) c
 
   -- no operand is missing, and the ending has what it wants
   abbrev pub NotLost : Ended → Type 0
@@ -85,14 +85,14 @@ module _ (End : Counts → Type 0) where
   NotLost Lost = ⊥
 
 abbrev pub EndingFine : Ending → Counts → Type 0
-EndingFine Declare c = Takes c.ints (λ n. Unit {0})
+EndingFine Declare c = Takes c.integers (λ n. Unit {0})
 EndingFine (DeclareObject k) c = c.cells ≡ true
-EndingFine Assign c = Takes c.targets (λ n. Takes c.ints (λ m. Unit {0}))
-EndingFine If c = Takes c.bools (λ n. Unit {0})
-EndingFine While c = Takes c.bools (λ n. Unit {0})
-EndingFine (Loop f) c = Takes c.ints (λ n. Takes n (λ m. Unit {0}))
-EndingFine Exit c = Takes c.bools (λ n. Unit {0})
-EndingFine ReturnValue c = Takes c.ints (λ n. Unit {0})
+EndingFine Assign c = Takes c.targets (λ n. Takes c.integers (λ m. Unit {0}))
+EndingFine If c = Takes c.booleans (λ n. Unit {0})
+EndingFine While c = Takes c.booleans (λ n. Unit {0})
+EndingFine (Loop f) c = Takes c.integers (λ n. Takes n (λ m. Unit {0}))
+EndingFine Exit c = Takes c.booleans (λ n. Unit {0})
+EndingFine ReturnValue c = Takes c.integers (λ n. Unit {0})
 EndingFine (CallTask entry form) c = Takes c.names (λ n. Unit {0})
 EndingFine e c = Unit {0}
 
@@ -137,6 +137,6 @@ pub record Leads (lines : List FlatLine) (l : EndLine) : Type 0 where
 
 -- Sound code: each step finds its operands, and leads to steps.
 pub record IsSound (code : Flat) : Type 0 where
-  pub operands : (n : ℕ) → IsStart code.lines n → AreFine (LastFine (end_at code n).last) (instrs_at code n) 0 no_counts
+  pub operands : (n : ℕ) → IsStart code.lines n → AreFine (LastFine (end_at code n).last) (instructions_at code n) 0 no_counts
   pub leads : (n : ℕ) (l : EndLine) → slice_get code.lines n ≡ Some (end l) → Leads code.lines l
   pub starts : EachStart code.lines code.starts × IsStart code.lines code.spare

@@ -1,26 +1,26 @@
 -- What verification follows through the instructions of a step.
 use Rattle.std.specs.Prelude.{ℕ, ◌+◌, List, drop, Option, Some, None, slice_get}
-use Rattle.aud_code.specs.Instr.{Instr}
-use Rattle.aud_code.specs.Flat.{Last, FlatLine, op, end, instrs_from, end_from}
+use Rattle.aud_code.specs.Instruction.{Instruction}
+use Rattle.aud_code.specs.Flat.{Last, FlatLine, instructs, end, instructions_from, end_from}
 use Rattle.aud_code.specs.Sound.{Counts, no_counts, LastFine, AreFine, Leads}
 use Rattle.aud_code.specs.declared.counts.Counts.{Counts as InMemory}
 
 abbrev pub counts_in : InMemory → Counts
-counts_in c = record no_counts { ints = c.ints; targets = c.targets }
+counts_in c = record no_counts { integers = c.integers; targets = c.targets }
 
 -- the rest is fine with what an instruction leaves
-abbrev pub OneFine : Option InMemory → Last → List Instr → Type 0
+abbrev pub OneFine : Option InMemory → Last → List Instruction → Type 0
 OneFine None last rest = ⊥
 OneFine (Some c) last rest = AreFine (LastFine last) rest 0 (counts_in c)
 
 -- from a place on, of the step that begins at the place first
 abbrev pub StepFine : List FlatLine → ℕ → ℕ → Counts → Type 0
-StepFine lines at first c = AreFine (LastFine (end_from (drop at lines) first).last) (instrs_from (drop at lines)) 0 c
+StepFine lines at first c = AreFine (LastFine (end_from (drop at lines) first).last) (instructions_from (drop at lines)) 0 c
 
 -- an ending leads to steps, and the step behind it finds its operands
 abbrev pub LineFineBy : List FlatLine → ℕ → Option FlatLine → Type 0
 LineFineBy lines place None = Unit {0}
-LineFineBy lines place (Some (op i)) = Unit {0}
+LineFineBy lines place (Some (instructs i)) = Unit {0}
 LineFineBy lines place (Some (end l)) = Leads lines l × StepFine lines (place + 1) (place + 1) no_counts
 
 abbrev pub LineFine : List FlatLine → ℕ → Type 0

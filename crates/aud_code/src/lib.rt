@@ -2,6 +2,6 @@
 #![tactic(auto)]
 
 mod counts;
-pub mod instr;
+pub mod instruction;
 pub mod line;
 pub mod sound_code;

@@ -1,6 +1,6 @@
 // Code: a list of lines. Each step of a task is some instructions and the ending behind them. A place counts lines from 0.
 
-use crate::instr::Instr;
+use crate::instruction::Instruction;
 use aud_text::place::Pos;
 
 /// What a statement's step does with its operands.
@@ -37,7 +37,7 @@ pub struct EndLine {
 /// What stands at a place. The ending of the step that begins at a place is the first one from there on.
 #[derive(Drop, Debug)]
 pub enum Line {
-    Op(Instr),
+    Instruction(Instruction),
     End(EndLine),
 }
 

@@ -3,18 +3,18 @@
 ghost use Rattle.std.specs.Prelude.{◌≡◌, ℕ, ◌+◌, ◌-◌, ◌^◌, ◌<◌, ◌≤◌, Bool, false, List, ◌∷◌, [], pos, length, IfOk, slice_index, slice_index_or};
 ghost use Rattle.aud_meaning.specs.Control.{Scene};
 ghost use Rattle.aud_meaning.specs.Evaluation.{unary_of, binary_of, frame_at};
-ghost use Rattle.aud_code.specs.Instr.{no_operands};
+ghost use Rattle.aud_code.specs.Instruction.{no_operands};
 ghost use Rattle.aud_code.specs.Eval.{Then, on_result, act, eval};
-ghost use Rattle.aud_code.specs.Flat.{instrs_at};
-ghost use Rattle.aud_code.specs.Sound.{counts_of, InstrFine, IsStart};
-ghost use Rattle.aud_code.specs.View.{plain_instr};
+ghost use Rattle.aud_code.specs.Flat.{instructions_at};
+ghost use Rattle.aud_code.specs.Sound.{counts_of, InstructionFine, IsStart};
+ghost use Rattle.aud_code.specs.View.{plain_instruction};
 ghost use Rattle.aud_expr.specs.Flow.{followed, ended, ReachesEnd, FitsEnd};
 ghost use Rattle.aud_expr.specs.Ticks.{ticks_of};
 
 use crate::operands::Operands;
 use crate::operators::{binary_of, in_range, unary_of};
 use crate::target::Target;
-use aud_code::instr::Instr;
+use aud_code::instruction::Instruction;
 use aud_code::line::Line;
 use aud_code::sound_code::SoundCode;
 use aud_store::frames::Frames;
@@ -46,44 +46,44 @@ pub enum Outcome {
 
 /// One instruction, which is one tick.
 pub fn eval_step(
-    instr: &Instr,
+    instruction: &Instruction,
     display: &[usize],
     frames: &Frames,
     operands: &mut Operands,
     ticks: &mut u64,
 ) -> Result<Flow, AllocError>
-    requires fine { InstrFine (plain_instr instr.now) (λ n c. Unit {0}) (counts_of operands.old) }
+    requires fine { InstructionFine (plain_instruction instruction.now) (λ n c. Unit {0}) (counts_of operands.old) }
     requires room { ticks.old < u64.MAX }
-    ensures acts { IfOk result (λ flow. (stops : Bool) → (s : Scene) → s.sight.display ≡ display.now → s.sight.frames ≡ frames.now → (go : Then) → act stops s (plain_instr instr.now) go operands.old ≡ followed flow go operands.new) }
+    ensures acts { IfOk result (λ flow. (stops : Bool) → (s : Scene) → s.sight.display ≡ display.now → s.sight.frames ≡ frames.now → (go : Then) → act stops s (plain_instruction instruction.now) go operands.old ≡ followed flow go operands.new) }
     ensures tick { ticks.new ≡ ticks.old + 1 }
 {
     *ticks += 1;
-    match instr {
-        Instr::Push(value) => operands.push(*value)?,
-        Instr::Load(variable) => operands.push(value_of(*variable, display, frames))?,
-        Instr::OnOne(op) => {
+    match instruction {
+        Instruction::Push(value) => operands.push(*value)?,
+        Instruction::Load(variable) => operands.push(value_of(*variable, display, frames))?,
+        Instruction::OnOne(operator) => {
             let x = operands.pop();
-            return leave(unary_of(*op, x), operands);
+            return leave(unary_of(*operator, x), operands);
         }
-        Instr::OnTwo(op) => {
+        Instruction::OnTwo(operator) => {
             let y = operands.pop();
             let x = operands.pop();
-            return leave(binary_of(*op, x, y), operands);
+            return leave(binary_of(*operator, x, y), operands);
         }
-        Instr::Check(subtype) => {
+        Instruction::Check(subtype) => {
             let x = operands.pop();
             return leave(in_range(*subtype, x), operands);
         }
-        Instr::Find(variable, subtype) => {
+        Instruction::Find(variable, subtype) => {
             let frame = frame_of(display, variable.level);
             operands.push_target(Target::new(frame, variable.index, *subtype))?
         }
-        Instr::AppendText(text) => operands.append(text.as_bytes())?,
-        Instr::AppendImage => {
+        Instruction::AppendText(text) => operands.append(text.as_bytes())?,
+        Instruction::AppendImage => {
             let value = operands.pop();
             operands.append_image(value)?
         }
-        Instr::AppendNewLine => operands.append(b"\n")?,
+        Instruction::AppendNewLine => operands.append(b"\n")?,
     }
     Ok(Flow::On)
 }
@@ -109,7 +109,7 @@ fn value_of(variable: Variable, display: &[usize], frames: &Frames) -> Int32
 
 // The value as the newest Integer, or its exception.
 fn leave(value: Result<Int32, Raise>, operands: &mut Operands) -> Result<Flow, AllocError>
-    ensures { IfOk result (λ flow. (go : Then) → on_result value (λ z. go 0 (record operands.old { ints = z ∷ operands.old.ints })) ≡ followed flow go operands.new) }
+    ensures { IfOk result (λ flow. (go : Then) → on_result value (λ z. go 0 (record operands.old { integers = z ∷ operands.old.integers })) ≡ followed flow go operands.new) }
 {
     match value {
         Ok(value) => {
@@ -130,17 +130,17 @@ pub fn evaluate(
     operands: &mut Operands,
 ) -> Result<Evaluation, AllocError>
     requires begins { IsStart code.now.lines place }
-    ensures ends { IfOk result (λ evaluation. (s : Scene) → s.sight.display ≡ display.now → s.sight.frames ≡ frames.now → ended evaluation.outcome operands.new ≡ eval false s (instrs_at code.now place) 0 no_operands) }
+    ensures ends { IfOk result (λ evaluation. (s : Scene) → s.sight.display ≡ display.now → s.sight.frames ≡ frames.now → ended evaluation.outcome operands.new ≡ eval false s (instructions_at code.now place) 0 no_operands) }
     ensures reaches { IfOk result (λ evaluation. ReachesEnd evaluation.outcome code.now place) }
     ensures fits { IfOk result (λ evaluation. FitsEnd evaluation.outcome code.now place operands.new) }
-    ensures ticks { IfOk result (λ evaluation. (s : Scene) → s.sight.display ≡ display.now → s.sight.frames ≡ frames.now → evaluation.ticks ≡ ticks_of false s (instrs_at code.now place) 0 no_operands) }
+    ensures ticks { IfOk result (λ evaluation. (s : Scene) → s.sight.display ≡ display.now → s.sight.frames ≡ frames.now → evaluation.ticks ≡ ticks_of false s (instructions_at code.now place) 0 no_operands) }
     ensures few { IfOk result (λ evaluation. evaluation.ticks ≤ length code.now.lines) }
 {
     operands.clear();
     let mut ticks = 0;
     for at in place..code.len() {
         match code.line(at) {
-            Line::Op(instr) => match eval_step(instr, display, frames, operands, &mut ticks)? {
+            Line::Instruction(instruction) => match eval_step(instruction, display, frames, operands, &mut ticks)? {
                 Flow::On => {}
                 Flow::Raises(raise) => {
                     let outcome = Outcome::Fails(raise);

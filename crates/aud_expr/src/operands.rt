@@ -3,7 +3,7 @@
 ghost use Rattle.std.specs.Prelude.{◌≡◌, ◌<◌, [], ◌∷◌, ◌++◌, None, reverse, length, OnOk};
 ghost use Rattle.aud_text.specs.Integer.{image};
 ghost use Rattle.aud_meaning.specs.Parts.{no_waits};
-ghost use Rattle.aud_code.specs.Instr.{Operands as Plain, no_operands};
+ghost use Rattle.aud_code.specs.Instruction.{Operands as Plain, no_operands};
 
 use crate::target::Target;
 use aud_text::int32::Int32;
@@ -14,7 +14,7 @@ use std::marker::Model;
 /// The operands of a step. Few steps have more than eight Integers at once.
 #[derive(Drop)]
 pub struct Operands {
-    ints: SmallVec<i32, 8>,
+    integers: SmallVec<i32, 8>,
     targets: Vec<Target>,
     text: Vec<u8>,
 }
@@ -22,7 +22,7 @@ pub struct Operands {
 impl Model for Operands {
     ghost Value = { Plain };
 
-    ghost view = { λ o. record { ints = reverse o.ints.items; bools = []; targets = reverse o.targets.items; text = o.text.items; values = []; backs = []; names = []; delay = 0; cells = None; waits = no_waits; timed = [] } };
+    ghost view = { λ o. record { integers = reverse o.integers.items; booleans = []; targets = reverse o.targets.items; text = o.text.items; values = []; backs = []; names = []; delay = 0; cells = None; waits = no_waits; timed = [] } };
 }
 
 impl Operands {
@@ -31,7 +31,7 @@ impl Operands {
         ensures { result ≡ no_operands }
     {
         Operands {
-            ints: SmallVec::new(alloc),
+            integers: SmallVec::new(alloc),
             targets: Vec::new(alloc),
             text: Vec::new(alloc),
         }
@@ -41,26 +41,26 @@ impl Operands {
     pub fn clear(&mut self)
         ensures { self.new ≡ no_operands }
     {
-        self.ints.clear();
+        self.integers.clear();
         self.targets.clear();
         self.text.clear();
     }
 
     /// One more Integer. No object is being declared, as yet.
     pub fn push(&mut self, value: Int32) -> Result<(), AllocError>
-        ensures pushed { OnOk result (self.new ≡ record self.old { ints = value ∷ self.old.ints }) }
+        ensures pushed { OnOk result (self.new ≡ record self.old { integers = value ∷ self.old.integers }) }
         ensures no_object { self.old.cells ≡ None }
     {
-        self.ints.push(value.get())?;
+        self.integers.push(value.get())?;
         Ok(())
     }
 
     /// Takes the newest Integer.
     pub fn pop(&mut self) -> Int32
-        requires { 0 < length self.old.ints }
-        ensures { self.old ≡ record self.new { ints = result ∷ self.new.ints } }
+        requires { 0 < length self.old.integers }
+        ensures { self.old ≡ record self.new { integers = result ∷ self.new.integers } }
     {
-        match self.ints.pop() {
+        match self.integers.pop() {
             Some(value) => Int32::new(value),
             None => unreachable!(),
         }

@@ -7,19 +7,19 @@ use aud_text::int32::Int32;
 use aud_text::raise::Raise;
 use aud_typed::program::{Binary, Subtype, Unary};
 
-pub fn unary_of(op: Unary, x: Int32) -> Result<Int32, Raise>
-    ensures { result ≡ unary_of op x }
+pub fn unary_of(operator: Unary, x: Int32) -> Result<Int32, Raise>
+    ensures { result ≡ unary_of operator x }
 {
-    match op {
+    match operator {
         Unary::Negative => x.negated(),
         Unary::Magnitude => x.magnitude(),
     }
 }
 
-pub fn binary_of(op: Binary, x: Int32, y: Int32) -> Result<Int32, Raise>
-    ensures { result ≡ binary_of op x y }
+pub fn binary_of(operator: Binary, x: Int32, y: Int32) -> Result<Int32, Raise>
+    ensures { result ≡ binary_of operator x y }
 {
-    match op {
+    match operator {
         Binary::Sum => x.add(y),
         Binary::Difference => x.sub(y),
         Binary::Product => x.mul(y),

@@ -1,22 +1,22 @@
 -- Assembly: each line of the layout becomes its instructions and its ending, and places move.
 use Rattle.std.specs.Prelude.{ℕ, zero, suc, ◌+◌, List, [], ◌∷◌, ◌++◌, length, map, Option, Some, None}
-use Rattle.aud_typed.specs.Tree.{Program, BooleanExpr}
+use Rattle.aud_typed.specs.Tree.{Program, BooleanExpression}
 use Rattle.aud_code.specs.Places.{Way, Guard}
-use Rattle.aud_code.specs.Instr.{Instr}
-use Rattle.aud_code.specs.Flat.{Last, Does, Continues, Guards, Ends, Leaves, EndLine, FlatLine, op, end, Flat}
+use Rattle.aud_code.specs.Instruction.{Instruction}
+use Rattle.aud_code.specs.Flat.{Last, Does, Continues, Guards, Ends, Leaves, EndLine, FlatLine, instructs, end, Flat}
 use Rattle.aud_gen.specs.Layout.{What, does, continues, guards, ends, leaves, Line, Code, code_of}
-use Rattle.aud_gen.specs.Instructions.{condition_code, instrs_of, ending_of}
+use Rattle.aud_gen.specs.Instructions.{condition_code, instructions_of, ending_of}
 
-abbrev pub instrs_by : What → List Instr
-instrs_by (does a) = instrs_of a
-instrs_by (continues f) = []
-instrs_by (guards gs) = []
-instrs_by (ends c next) = []
-instrs_by (leaves n next) = []
+abbrev pub instructions_by : What → List Instruction
+instructions_by (does a) = instructions_of a
+instructions_by (continues f) = []
+instructions_by (guards gs) = []
+instructions_by (ends c next) = []
+instructions_by (leaves n next) = []
 
 -- how many lines
 abbrev pub line_size : Line → ℕ
-line_size l = suc (length (instrs_by l.what))
+line_size l = suc (length (instructions_by l.what))
 
 -- where the step of a number begins
 abbrev pub offset : List Line → ℕ → ℕ
@@ -44,7 +44,7 @@ module _ (f : ℕ → ℕ) where
   end_line l = record { last = last_by l.what; at = l.at; out = f l.out; ways = map f l.ways; bodies = map f l.bodies; exit = way_moved l.exit }
 
   abbrev pub step_lines : Line → List FlatLine
-  step_lines l = map op (instrs_by l.what) ++ end (end_line l) ∷ []
+  step_lines l = map instructs (instructions_by l.what) ++ end (end_line l) ∷ []
 
   abbrev pub assembled_from : List Line → List FlatLine
   assembled_from [] = []
@@ -53,7 +53,7 @@ module _ (f : ℕ → ℕ) where
 abbrev pub assembled : List Line → List FlatLine
 assembled lines = assembled_from (offset lines) lines
 
-abbrev pub flat_of : Code → List BooleanExpr → Flat
+abbrev pub flat_of : Code → List BooleanExpression → Flat
 flat_of code barriers = record {
   lines = assembled code.lines;
   starts = map (offset code.lines) code.starts;

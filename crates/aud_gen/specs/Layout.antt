@@ -3,11 +3,11 @@
 use Rattle.std.specs.Prelude.{true, ℕ, suc, ◌+◌, List, [], ◌∷◌, ◌++◌, length, map, Option, Some, None, slice_get, slice_index_or}
 use Rattle.aud_text.specs.declared.place.Pos.{Pos}
 use Rattle.aud_typed.specs.declared.program.Exception.{Exception}
-use Rattle.aud_typed.specs.Tree.{For, truth, Stmt, sequence, if_then, plain_loop, while_loop, for_loop, exit, return, return_value, block, entry_call, accept, select, Part, nothing, some, Handlers, no_handlers, handler, Body, body, Doing, without_do, with_do, Alternatives, no_alternatives, accepting, delaying, terminating, Program}
+use Rattle.aud_typed.specs.Tree.{For, truth, Statement, sequence, if_then, plain_loop, while_loop, for_loop, exit, return, return_value, block, entry_call, accept, select, Part, nothing, some, Handlers, no_handlers, handler, Body, body, Doing, without_do, with_do, Alternatives, no_alternatives, accepting, delaying, terminating, Program}
 use Rattle.aud_meaning.specs.declared.state.Construct.{Construct}
 use Rattle.aud_meaning.specs.declared.state.Construct.TheVariants as construct
 use Rattle.aud_meaning.specs.Evaluation.{decided}
-use Rattle.aud_meaning.specs.Items.{no_body, stmt_at, asked_stmt, coming_stmt, coming_raised, handled_or_left}
+use Rattle.aud_meaning.specs.Items.{no_body, statement_at, asked_statement, coming_statement, coming_raised, handled_or_left}
 use Rattle.aud_meaning.specs.Configuration.{Pending}
 use Rattle.aud_meaning.specs.Evaluation.{Sight}
 use Rattle.aud_meaning.specs.Control.{Coming, simply, ending, Asked, goes_on, next_of_loop, Scene, Controls}
@@ -17,7 +17,7 @@ use Rattle.aud_code.specs.Places.{Way, Guard, Spot, goes, goes_there, goes_way, 
 
 pub data What : Type 0 where
   -- a statement's step; here its expressions stand for the code that they become
-  does : Stmt → What
+  does : Statement → What
   -- the step next
   continues : For → What
   -- where exceptions go that are pending in guarded statements
@@ -57,29 +57,29 @@ in_for next a = record a { exits = record { to = next; loops = 1 } ∷ map one_m
 -- How many lines; e ways lead out.
 
 abbrev mutual
-  pub stmt_size : Stmt → ℕ → ℕ
-  stmt_size (sequence a b) e = stmt_size a e + stmt_size b e
-  stmt_size (plain_loop a) e = stmt_size a (suc e)
-  stmt_size (if_then at c a p) e = 1 + (stmt_size a e + part_size p e)
-  stmt_size (while_loop at c a) e = 1 + stmt_size a (suc e)
-  stmt_size (for_loop f x y a) e = 2 + stmt_size a (suc e)
-  stmt_size (block at n b) e = 1 + (body_size b e + e)
-  stmt_size (entry_call at c p q) e = 1 + (part_size p e + part_size q e)
-  stmt_size (accept at n d) e = 1 + doing_size d
-  stmt_size (select at offered p) e = 1 + (offered_size offered e + part_size p e)
-  stmt_size s e = 1
+  pub statement_size : Statement → ℕ → ℕ
+  statement_size (sequence a b) e = statement_size a e + statement_size b e
+  statement_size (plain_loop a) e = statement_size a (suc e)
+  statement_size (if_then at c a p) e = 1 + (statement_size a e + part_size p e)
+  statement_size (while_loop at c a) e = 1 + statement_size a (suc e)
+  statement_size (for_loop f x y a) e = 2 + statement_size a (suc e)
+  statement_size (block at n b) e = 1 + (body_size b e + e)
+  statement_size (entry_call at c p q) e = 1 + (part_size p e + part_size q e)
+  statement_size (accept at n d) e = 1 + doing_size d
+  statement_size (select at offered p) e = 1 + (offered_size offered e + part_size p e)
+  statement_size s e = 1
 
   pub part_size : Part → ℕ → ℕ
   part_size nothing e = 0
-  part_size (some s) e = stmt_size s e
+  part_size (some s) e = statement_size s e
 
   pub handlers_size : Handlers → ℕ → ℕ
   handlers_size no_handlers e = 0
-  handlers_size (handler others choices s more) e = stmt_size s e + handlers_size more e
+  handlers_size (handler others choices s more) e = statement_size s e + handlers_size more e
 
   -- declarations, statements, the line that guards them, handlers, end
   pub body_size : Body → ℕ → ℕ
-  body_size (body d begin s h end) e = part_size d e + (stmt_size s e + suc (handlers_size h e + 1))
+  body_size (body d begin s h end) e = part_size d e + (statement_size s e + suc (handlers_size h e + 1))
 
   pub doing_size : Doing → ℕ
   doing_size without_do = 0
@@ -105,7 +105,7 @@ doing_place (with_do n b) at next = at
 
 abbrev pub guards_of : Handlers → ℕ → ℕ → List Guard
 guards_of no_handlers at e = []
-guards_of (handler others choices s more) at e = record { others = others; choices = choices; to = at } ∷ guards_of more (at + stmt_size s e) e
+guards_of (handler others choices s more) at e = record { others = others; choices = choices; to = at } ∷ guards_of more (at + statement_size s e) e
 
 -- the places of what follows the alternatives, and of what their accepts do
 abbrev pub parts_from : Alternatives → ℕ → ℕ → ℕ → List ℕ
@@ -122,8 +122,8 @@ bodies_from (accepting g pos n d p more) at next e =
 bodies_from (delaying g x p more) at next e = part_place p at next ∷ bodies_from more (at + part_size p e) next e
 bodies_from (terminating g more) at next e = next ∷ bodies_from more at next e
 
-abbrev pub line : Stmt → List ℕ → List ℕ → Option Way → Around → Line
-line s ways bodies w a = record { what = does s; at = stmt_at s; out = a.out; ways = ways; bodies = bodies; exit = w }
+abbrev pub line : Statement → List ℕ → List ℕ → Option Way → Around → Line
+line s ways bodies w a = record { what = does s; at = statement_at s; out = a.out; ways = ways; bodies = bodies; exit = w }
 
 -- a block is left on the way out, and so many loops around it; nothing is raised there
 abbrev pub stub_line : ℕ → ℕ → Pos → ℕ → Line
@@ -152,8 +152,8 @@ abbrev pub guard_line : Handlers → Pos → ℕ → ℕ → ℕ → Line
 guard_line h end handling last e = record { what = guards (guards_of h handling e); at = end; out = last; ways = []; bodies = []; exit = None }
 
 -- statements, the line that guards them, handlers
-abbrev pub main_size : Stmt → Handlers → ℕ → ℕ
-main_size s h e = stmt_size s e + suc (handlers_size h e)
+abbrev pub main_size : Statement → Handlers → ℕ → ℕ
+main_size s h e = statement_size s e + suc (handlers_size h e)
 
 abbrev pub end_place : Body → ℕ → ℕ → ℕ
 end_place (body d begin s h end) at e = at + part_size d e + main_size s h e
@@ -163,58 +163,58 @@ around_out out a = record a { out = out }
 
 abbrev mutual
   -- a statement from the place at on, before the place next
-  pub stmt_code : Stmt → ℕ → ℕ → Around → List Line
-  stmt_code (sequence x y) at next a =
-      let middle = at + stmt_size x (ways_count a) in
-      stmt_code x at middle a ++ stmt_code y middle next a
-  stmt_code (plain_loop x) at next a = stmt_code x at at (in_loop next a)
-  stmt_code (if_then pos c x p) at next a =
-      let second = suc at + stmt_size x (ways_count a) in
-      line (if_then pos c x p) (part_place p second next ∷ suc at ∷ []) [] None a ∷ (stmt_code x (suc at) next a ++ part_code p second next a)
-  stmt_code (while_loop pos c x) at next a =
-      line (while_loop pos c x) (next ∷ suc at ∷ []) [] None a ∷ stmt_code x (suc at) at (in_loop next a)
-  stmt_code (for_loop f x y s) at next a =
+  pub statement_code : Statement → ℕ → ℕ → Around → List Line
+  statement_code (sequence x y) at next a =
+      let middle = at + statement_size x (ways_count a) in
+      statement_code x at middle a ++ statement_code y middle next a
+  statement_code (plain_loop x) at next a = statement_code x at at (in_loop next a)
+  statement_code (if_then pos c x p) at next a =
+      let second = suc at + statement_size x (ways_count a) in
+      line (if_then pos c x p) (part_place p second next ∷ suc at ∷ []) [] None a ∷ (statement_code x (suc at) next a ++ part_code p second next a)
+  statement_code (while_loop pos c x) at next a =
+      line (while_loop pos c x) (next ∷ suc at ∷ []) [] None a ∷ statement_code x (suc at) at (in_loop next a)
+  statement_code (for_loop f x y s) at next a =
       line (for_loop f x y s) (next ∷ suc (suc at) ∷ []) [] None a
       ∷ record { what = continues f; at = f.next_at; out = a.out; ways = next ∷ suc (suc at) ∷ []; bodies = []; exit = None }
-      ∷ stmt_code s (suc (suc at)) (suc at) (in_for next a)
-  stmt_code (exit pos n c) at next a = line (exit pos n c) (next ∷ []) [] (Some (slice_index_or a.exits n (record { to = next; loops = 0 }))) a ∷ []
-  stmt_code (return pos) at next a = line (return pos) (next ∷ []) [] (Some a.back) a ∷ []
-  stmt_code (return_value pos x) at next a = line (return_value pos x) (next ∷ []) [] (Some a.back) a ∷ []
-  stmt_code (block pos n b) at next a =
+      ∷ statement_code s (suc (suc at)) (suc at) (in_for next a)
+  statement_code (exit pos n c) at next a = line (exit pos n c) (next ∷ []) [] (Some (slice_index_or a.exits n (record { to = next; loops = 0 }))) a ∷ []
+  statement_code (return pos) at next a = line (return pos) (next ∷ []) [] (Some a.back) a ∷ []
+  statement_code (return_value pos x) at next a = line (return_value pos x) (next ∷ []) [] (Some a.back) a ∷ []
+  statement_code (block pos n b) at next a =
       let end = end_place b (suc at) (ways_count a) in
       line (block pos n b) (next ∷ suc at ∷ []) [] None a
       ∷ (body_code construct.Block b (suc at) next a.out (in_block end a) ++ stubs_of b (a.exits ++ a.back ∷ []) (suc end))
-  stmt_code (entry_call pos c p q) at next a =
+  statement_code (entry_call pos c p q) at next a =
       let second = suc at + part_size p (ways_count a) in
       line (entry_call pos c p q) (part_place p (suc at) next ∷ part_place q second next ∷ []) [] None a
       ∷ (part_code p (suc at) next a ++ part_code q second next a)
-  stmt_code (accept pos n d) at next a = line (accept pos n d) (next ∷ []) (doing_place d (suc at) next ∷ []) None a ∷ doing_code d (suc at) next a.out
-  stmt_code (select pos offered p) at next a =
+  statement_code (accept pos n d) at next a = line (accept pos n d) (next ∷ []) (doing_place d (suc at) next ∷ []) None a ∷ doing_code d (suc at) next a.out
+  statement_code (select pos offered p) at next a =
       let second = suc at + offered_size offered (ways_count a) in
       line (select pos offered p) (part_place p second next ∷ parts_from offered (suc at) next (ways_count a)) (at ∷ bodies_from offered (suc at) next (ways_count a)) None a
       ∷ (offered_code offered (suc at) next a ++ part_code p second next a)
-  stmt_code s at next a = line s (next ∷ []) [] None a ∷ []
+  statement_code s at next a = line s (next ∷ []) [] None a ∷ []
 
   pub stubs_of : Body → List Way → ℕ → List Line
   stubs_of (body d begin s h end) ws at = stubs ws end at
 
   pub part_code : Part → ℕ → ℕ → Around → List Line
   part_code nothing at next a = []
-  part_code (some s) at next a = stmt_code s at next a
+  part_code (some s) at next a = statement_code s at next a
 
   pub handlers_code : Handlers → ℕ → ℕ → Around → List Line
   handlers_code no_handlers at next a = []
   handlers_code (handler others choices s more) at next a =
-      stmt_code s at next a ++ handlers_code more (at + stmt_size s (ways_count a)) next a
+      statement_code s at next a ++ handlers_code more (at + statement_size s (ways_count a)) next a
 
   -- The last place is its end, whose exceptions go to out.
   pub body_code : Construct → Body → ℕ → ℕ → ℕ → Around → List Line
   body_code c (body d begin s h end) at next out a =
       let first = at + part_size d (ways_count a) in
-      let guard = first + stmt_size s (ways_count a) in
+      let guard = first + statement_size s (ways_count a) in
       let last = first + main_size s h (ways_count a) in
       part_code d at first (around_out last a)
-      ++ (stmt_code s first last (around_out guard a)
+      ++ (statement_code s first last (around_out guard a)
       ++ (guard_line h end (suc guard) last (ways_count a) ∷ (handlers_code h (suc guard) last (around_out last a) ++ end_line c end next out ∷ [])))
 
   pub doing_code : Doing → ℕ → ℕ → ℕ → List Line
@@ -233,11 +233,11 @@ abbrev mutual
   offered_code (terminating g more) at next a = offered_code more at next a
 
 -- of a body, from the place first of its statements on
-abbrev pub main_code : Construct → Stmt → Handlers → Pos → ℕ → ℕ → ℕ → Around → List Line
+abbrev pub main_code : Construct → Statement → Handlers → Pos → ℕ → ℕ → ℕ → Around → List Line
 main_code c s h end first next out a =
-    let guard = first + stmt_size s (ways_count a) in
+    let guard = first + statement_size s (ways_count a) in
     let last = first + main_size s h (ways_count a) in
-    stmt_code s first last (around_out guard a)
+    statement_code s first last (around_out guard a)
     ++ (guard_line h end (suc guard) last (ways_count a) ∷ (handlers_code h (suc guard) last (around_out last a) ++ end_line c end next out ∷ []))
 
 -- A program: its bodies one after the other.
@@ -279,14 +279,14 @@ abbrev pub start_of : Code → ℕ → ℕ
 start_of code n = slice_index_or code.starts n code.spare
 
 abbrev pub asked_by : What → ℕ → Scene → Asked
-asked_by (does a) loops s = asked_stmt a loops s
+asked_by (does a) loops s = asked_statement a loops s
 asked_by (continues f) loops s = next_of_loop f
 asked_by (guards gs) loops s = goes_on 0
 asked_by (ends c next) loops s = asked.ends 0
 asked_by (leaves n next) loops s = asked.ends n
 
 abbrev pub coming_by : Program → What → Sight → Coming
-coming_by program (does a) s = coming_stmt program.plan a s
+coming_by program (does a) s = coming_statement program.plan a s
 coming_by program (continues f) s = simply kind.Next
 coming_by program (guards gs) s = ending
 coming_by program (ends c next) s = ending

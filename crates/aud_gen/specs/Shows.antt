@@ -1,13 +1,13 @@
 -- How a place in code, with the places of callers, shows the items that are left to do.
 use Rattle.std.specs.Prelude.{◌≡◌, ◌⊎◌, ℕ, suc, ◌+◌, List, [], ◌∷◌, ◌++◌, length, drop}
 use Rattle.aud_text.specs.declared.place.Pos.{Pos}
-use Rattle.aud_typed.specs.Tree.{Stmt, sequence, declare, declare_array, declare_tasks, declare_object, activated, activate, null, assign, put, if_then, plain_loop, while_loop, for_loop, exit, return, return_value, raising, raising_again, block, procedure_call, own_entry_call, operation_call, entry_call, delay, accept, select, abort, Handlers, no_handlers, Program}
+use Rattle.aud_typed.specs.Tree.{Statement, sequence, declare, declare_array, declare_tasks, declare_object, activated, activate, null, assign, put, if_then, plain_loop, while_loop, for_loop, exit, return, return_value, raising, raising_again, block, procedure_call, own_entry_call, operation_call, entry_call, delay, accept, select, abort, Handlers, no_handlers, Program}
 use Rattle.aud_meaning.specs.declared.state.Construct.{Construct}
 use Rattle.aud_meaning.specs.declared.state.Construct.TheVariants as construct
 use Rattle.aud_meaning.specs.Configuration.{Item, Do, InLoop, InFor, Begin, Ends, Leaving}
 use Rattle.aud_meaning.specs.Items.{body_of}
 use Rattle.aud_code.specs.Places.{Way, Spot}
-use Rattle.aud_gen.specs.Layout.{Line, Around, in_loop, in_for, in_call, around_out, ways_count, main_size, stub_line, stubs, stub_ways, end_line, guard_line, stmt_code, handlers_code, main_code, unit_code, Code, no_line, line_at, start_of}
+use Rattle.aud_gen.specs.Layout.{Line, Around, in_loop, in_for, in_call, around_out, ways_count, main_size, stub_line, stubs, stub_ways, end_line, guard_line, statement_code, handlers_code, main_code, unit_code, Code, no_line, line_at, start_of}
 
 -- these lines stand in the code from a place on
 pub record HasAt (lines : List Line) (place : ℕ) (part : List Line) : Type 0 where
@@ -19,7 +19,7 @@ abbrev pub UnitsAt : Program → Code → Type 0
 UnitsAt program code = (n : ℕ) → HasAt code.lines (start_of code n) (unit_code (body_of program n) (start_of code n))
 
 -- the statement is a step
-abbrev pub IsStep : Stmt → Type 0
+abbrev pub IsStep : Statement → Type 0
 IsStep (sequence a b) = ⊥
 IsStep (plain_loop s) = ⊥
 IsStep (declare at e) = Unit {0}
@@ -59,7 +59,7 @@ IsSettled (Begin c s h end ∷ rest) = ⊥
 IsSettled (Ends c h end ∷ rest) = Unit {0}
 IsSettled (Leaving m end ∷ rest) = Unit {0}
 
-abbrev pub IsFor : Stmt → Type 0
+abbrev pub IsFor : Statement → Type 0
 IsFor (for_loop f a b s) = Unit {0}
 IsFor s = ⊥
 
@@ -89,11 +89,11 @@ EndsAt construct.Unit stand code end exits back place returns rest =
 -- statements that entered the bodies.
 abbrev pub Stands : Code → Around → ℕ → List ℕ → List Item → Type 0
 Stands code around place returns [] = (line_at code place ≡ no_line place) × (returns ≡ []) × (around ≡ in_call place)
-Stands code around place returns (Do s ∷ rest) = (next : ℕ) × HasAt code.lines place (stmt_code s place next around) × Stands code around next returns rest
+Stands code around place returns (Do s ∷ rest) = (next : ℕ) × HasAt code.lines place (statement_code s place next around) × Stands code around next returns rest
 Stands code around place returns (InLoop s ∷ rest) =
-    (next : ℕ) × (outer : Around) × (around ≡ in_loop next outer) × HasAt code.lines place (stmt_code s place next outer) × Stands code outer next returns rest
+    (next : ℕ) × (outer : Around) × (around ≡ in_loop next outer) × HasAt code.lines place (statement_code s place next outer) × Stands code outer next returns rest
 Stands code around place returns (InFor s ∷ rest) =
-    (next : ℕ) × (outer : Around) × (at : ℕ) × (place ≡ suc at) × (around ≡ in_for next outer) × IsFor s × HasAt code.lines at (stmt_code s at next outer) × Stands code outer next returns rest
+    (next : ℕ) × (outer : Around) × (at : ℕ) × (place ≡ suc at) × (around ≡ in_for next outer) × IsFor s × HasAt code.lines at (statement_code s at next outer) × Stands code outer next returns rest
 Stands code around place returns (Begin c s h end ∷ rest) =
     (next : ℕ) × (out : ℕ) × (around.out ≡ place + main_size s h (ways_count around)) × HasAt code.lines place (main_code c s h end place next out around)
     × EndsAt c (λ a p rs. Stands code a p rs rest) code end around.exits around.back around.out returns rest

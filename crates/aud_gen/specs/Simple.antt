@@ -2,38 +2,38 @@
 -- which is one step.
 use Rattle.std.specs.Prelude.{◌≡◌, ℕ, suc, ◌+◌, List, [], ◌∷◌, ◌++◌, length, map, None}
 use Rattle.aud_text.specs.declared.place.Pos.{Pos}
-use Rattle.aud_typed.specs.Tree.{ValueExpr, Reference, TextExpr, Stmt, declare, null, assign, put, before, Part, part_of, no_handlers, Body, body, Program}
+use Rattle.aud_typed.specs.Tree.{ValueExpression, Reference, TextExpression, Statement, declare, null, assign, put, before, Part, part_of, no_handlers, Body, body, Program}
 use Rattle.aud_meaning.specs.declared.state.Construct.TheVariants as construct
-use Rattle.aud_meaning.specs.Items.{stmt_at, nowhere}
-use Rattle.aud_code.specs.Flat.{Does, Guards, Ends, EndLine, FlatLine, op, end, Flat}
-use Rattle.aud_gen.specs.Instructions.{instrs_of, ending_of}
+use Rattle.aud_meaning.specs.Items.{statement_at, nowhere}
+use Rattle.aud_code.specs.Flat.{Does, Guards, Ends, EndLine, FlatLine, instructs, end, Flat}
+use Rattle.aud_gen.specs.Instructions.{instructions_of, ending_of}
 use Rattle.aud_gen.specs.Assembly.{flat_program}
 
 -- a statement that is one step
 pub data Simple : Type 0 where
-  declares : Pos → ValueExpr → Simple
+  declares : Pos → ValueExpression → Simple
   idles : Pos → Simple
-  assigns : Pos → Reference → ValueExpr → Simple
-  puts : Pos → TextExpr → Simple
+  assigns : Pos → Reference → ValueExpression → Simple
+  puts : Pos → TextExpression → Simple
 
-abbrev pub stmt_of : Simple → Stmt
-stmt_of (declares at e) = declare at e
-stmt_of (idles at) = null at
-stmt_of (assigns at r e) = assign at r e
-stmt_of (puts at t) = put at t
+abbrev pub statement_of : Simple → Statement
+statement_of (declares at e) = declare at e
+statement_of (idles at) = null at
+statement_of (assigns at r e) = assign at r e
+statement_of (puts at t) = put at t
 
-abbrev pub stmts_of : List Simple → List Stmt
-stmts_of ss = map stmt_of ss
+abbrev pub statements_of : List Simple → List Statement
+statements_of ss = map statement_of ss
 
 -- one, and those behind it
-abbrev pub in_order : Simple → List Simple → Stmt
-in_order s ss = before (stmt_of s) (stmts_of ss)
+abbrev pub in_order : Simple → List Simple → Statement
+in_order s ss = before (statement_of s) (statements_of ss)
 
 abbrev pub step_size : Simple → ℕ
-step_size s = suc (length (instrs_of (stmt_of s)))
+step_size s = suc (length (instructions_of (statement_of s)))
 
 abbrev pub part_in : List Simple → Part
-part_in ss = part_of (stmts_of ss)
+part_in ss = part_of (statements_of ss)
 
 abbrev pub steps_size : List Simple → ℕ
 steps_size [] = 0
@@ -42,8 +42,8 @@ steps_size (s ∷ ss) = step_size s + steps_size ss
 -- the code of one step, before the step at next; its exceptions go to out
 abbrev pub step_to : Simple → ℕ → ℕ → List FlatLine
 step_to s out next =
-    map op (instrs_of (stmt_of s))
-    ++ end (record { last = Does (ending_of (stmt_of s)); at = stmt_at (stmt_of s); out = out; ways = next ∷ []; bodies = []; exit = None }) ∷ []
+    map instructs (instructions_of (statement_of s))
+    ++ end (record { last = Does (ending_of (statement_of s)); at = statement_at (statement_of s); out = out; ways = next ∷ []; bodies = []; exit = None }) ∷ []
 
 -- of one from a place on, and those behind it
 abbrev pub steps_from : Simple → List Simple → (out next place : ℕ) → List FlatLine

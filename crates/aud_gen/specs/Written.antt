@@ -1,8 +1,8 @@
 -- The code of one body, from its declarations and statements in memory.
 use Rattle.std.specs.Prelude.{ℕ, List, [], ◌∷◌}
 use Rattle.aud_text.specs.declared.place.Pos.{Pos}
-use Rattle.aud_typed.specs.declared.program.Stmt.{Stmt}
-use Rattle.aud_typed.specs.declared.program.Stmt.TheVariants.{Declare, Null, Assign, Put}
+use Rattle.aud_typed.specs.declared.program.Statement.{Statement}
+use Rattle.aud_typed.specs.declared.program.Statement.TheVariants.{Declare, Null, Assign, Put}
 use Rattle.aud_typed.specs.declared.program.Subtype.TheVariants.{Integer}
 use Rattle.aud_typed.specs.Tree.{whole, scalar}
 use Rattle.aud_typed.specs.View.{plain_integer, plain_text}
@@ -10,7 +10,7 @@ use Rattle.aud_meaning.specs.Items.{nowhere}
 use Rattle.aud_code.specs.Flat.{FlatLine, Flat}
 use Rattle.aud_gen.specs.Simple.{Simple, declares, idles, assigns, puts, body_at, size_of, code_from}
 
-abbrev pub simple_of : Stmt → Simple
+abbrev pub simple_of : Statement → Simple
 simple_of (Declare at e) = declares at (whole Integer (plain_integer e))
 simple_of (Null at) = idles at
 simple_of (Assign at v e) = assigns at (scalar v Integer) (whole Integer (plain_integer e))

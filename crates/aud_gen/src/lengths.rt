@@ -6,7 +6,7 @@ ghost use Rattle.aud_gen.specs.Instructions.{integer_code, text_code};
 ghost use Rattle.aud_gen.specs.Simple.{step_size, steps_size};
 ghost use Rattle.aud_gen.specs.Written.{simple_of};
 
-use aud_typed::program::{IntegerExpr, Stmt, TextExpr};
+use aud_typed::program::{IntegerExpression, Statement, TextExpression};
 use std::alloc::AllocError;
 
 /// A sum of lengths, or want of memory where it passes the type: no memory holds such code.
@@ -17,14 +17,14 @@ pub fn sum(a: usize, b: usize) -> Result<usize, AllocError>
 }
 
 /// Of an expression of type Integer.
-pub fn integer_length(e: &IntegerExpr) -> Result<usize, AllocError>
+pub fn integer_length(e: &IntegerExpression) -> Result<usize, AllocError>
     ensures { IfOk result (λ n. n ≡ length (integer_code (plain_integer e.now))) }
 {
     match e {
-        IntegerExpr::Number(_) => Ok(1),
-        IntegerExpr::Variable(_) => Ok(1),
-        IntegerExpr::Unary(_, x) => sum(integer_length(x)?, 1),
-        IntegerExpr::Chain(first, rest) => {
+        IntegerExpression::Number(_) => Ok(1),
+        IntegerExpression::Variable(_) => Ok(1),
+        IntegerExpression::Unary(_, x) => sum(integer_length(x)?, 1),
+        IntegerExpression::Chain(first, rest) => {
             let mut total = integer_length(first)?;
             for next in rest {
                 total = sum(sum(total, integer_length(&next.right)?)?, 1)?;
@@ -35,37 +35,37 @@ pub fn integer_length(e: &IntegerExpr) -> Result<usize, AllocError>
 }
 
 /// Of a text.
-pub fn text_length(t: &TextExpr) -> Result<usize, AllocError>
+pub fn text_length(t: &TextExpression) -> Result<usize, AllocError>
     ensures { IfOk result (λ n. n ≡ length (text_code (plain_text t.now))) }
 {
     match t {
-        TextExpr::Literal(_) => Ok(1),
-        TextExpr::Image(e) => sum(integer_length(e)?, 1),
-        TextExpr::Join(first, rest) => {
+        TextExpression::Literal(_) => Ok(1),
+        TextExpression::Image(e) => sum(integer_length(e)?, 1),
+        TextExpression::Join(first, rest) => {
             let mut total = text_length(first)?;
             for next in rest {
                 total = sum(total, text_length(next)?)?;
             }
             Ok(total)
         }
-        TextExpr::NewLine => Ok(1),
+        TextExpression::NewLine => Ok(1),
     }
 }
 
 /// Of a step: its instructions and its ending.
-pub fn step_length(s: &Stmt) -> Result<usize, AllocError>
+pub fn step_length(s: &Statement) -> Result<usize, AllocError>
     ensures { IfOk result (λ n. n ≡ step_size (simple_of s.now)) }
 {
     match s {
-        Stmt::Declare(_, e) => sum(integer_length(e)?, 2),
-        Stmt::Null(_) => Ok(1),
-        Stmt::Assign(_, _, e) => sum(integer_length(e)?, 3),
-        Stmt::Put(_, t) => sum(text_length(t)?, 1),
+        Statement::Declare(_, e) => sum(integer_length(e)?, 2),
+        Statement::Null(_) => Ok(1),
+        Statement::Assign(_, _, e) => sum(integer_length(e)?, 3),
+        Statement::Put(_, t) => sum(text_length(t)?, 1),
     }
 }
 
 /// Of steps one after the other.
-pub fn steps_length(steps: &[Stmt]) -> Result<usize, AllocError>
+pub fn steps_length(steps: &[Statement]) -> Result<usize, AllocError>
     ensures { IfOk result (λ n. n ≡ steps_size (map simple_of steps.now)) }
 {
     let mut total = 0;

@@ -4,20 +4,20 @@ ghost use Rattle.std.specs.Prelude.{◌≡◌, List, [], ◌∷◌, ◌++◌, �
 ghost use Rattle.aud_typed.specs.declared.program.Subtype.TheVariants.{Integer};
 ghost use Rattle.aud_typed.specs.Tree.{whole};
 ghost use Rattle.aud_typed.specs.View.{plain_integer, plain_text, plain_program};
-ghost use Rattle.aud_meaning.specs.Items.{stmt_at, nowhere};
-ghost use Rattle.aud_code.specs.Flat.{op, end};
-ghost use Rattle.aud_code.specs.View.{plain_instr, plain_ending, plain_line, plain_code};
-ghost use Rattle.aud_gen.specs.Instructions.{integer_code, value_code, text_code, instrs_of, ending_of};
+ghost use Rattle.aud_meaning.specs.Items.{statement_at, nowhere};
+ghost use Rattle.aud_code.specs.Flat.{instructs, end};
+ghost use Rattle.aud_code.specs.View.{plain_instruction, plain_ending, plain_line, plain_code};
+ghost use Rattle.aud_gen.specs.Instructions.{integer_code, value_code, text_code, instructions_of, ending_of};
 ghost use Rattle.aud_gen.specs.Assembly.{flat_program};
-ghost use Rattle.aud_gen.specs.Simple.{Simple, stmt_of, step_to, steps_at, guard_end, unit_end, body_at, size_of};
+ghost use Rattle.aud_gen.specs.Simple.{Simple, statement_of, step_to, steps_at, guard_end, unit_end, body_at, size_of};
 ghost use Rattle.aud_gen.specs.Written.{simple_of, body_lines, body_size, body_code};
 
 use crate::lengths::{step_length, steps_length, sum};
-use aud_code::instr::Instr;
+use aud_code::instruction::Instruction;
 use aud_code::line::{Code, EndLine, Ending, Last, Line};
 use aud_code::sound_code::{SoundCode, verify};
 use aud_text::place::Pos;
-use aud_typed::program::{IntegerExpr, Program, Stmt, Subtype, TextExpr};
+use aud_typed::program::{IntegerExpression, Program, Statement, Subtype, TextExpression};
 use std::alloc::{AllocError, Global};
 
 const NOWHERE: Pos = Pos { line: 0, col: 0 };
@@ -29,109 +29,109 @@ fn append(lines: &mut Vec<Line>, line: Line) -> Result<(), AllocError>
     Ok(())
 }
 
-fn append_instr(lines: &mut Vec<Line>, instr: Instr) -> Result<(), AllocError>
-    ensures { OnOk result (map plain_line lines.new.items ≡ map plain_line lines.old.items ++ op (plain_instr instr) ∷ []) }
+fn append_instruction(lines: &mut Vec<Line>, instruction: Instruction) -> Result<(), AllocError>
+    ensures { OnOk result (map plain_line lines.new.items ≡ map plain_line lines.old.items ++ instructs (plain_instruction instruction) ∷ []) }
 {
-    append(lines, Line::Op(instr))
+    append(lines, Line::Instruction(instruction))
 }
 
-fn write_integer(lines: &mut Vec<Line>, e: &IntegerExpr) -> Result<(), AllocError>
-    ensures { OnOk result (map plain_line lines.new.items ≡ map plain_line lines.old.items ++ map op (integer_code (plain_integer e.now))) }
+fn write_integer(lines: &mut Vec<Line>, e: &IntegerExpression) -> Result<(), AllocError>
+    ensures { OnOk result (map plain_line lines.new.items ≡ map plain_line lines.old.items ++ map instructs (integer_code (plain_integer e.now))) }
 {
     match e {
-        IntegerExpr::Number(value) => append_instr(lines, Instr::Push(*value)),
-        IntegerExpr::Variable(v) => append_instr(lines, Instr::Load(*v)),
-        IntegerExpr::Unary(op, x) => {
+        IntegerExpression::Number(value) => append_instruction(lines, Instruction::Push(*value)),
+        IntegerExpression::Variable(v) => append_instruction(lines, Instruction::Load(*v)),
+        IntegerExpression::Unary(operator, x) => {
             write_integer(lines, x)?;
-            append_instr(lines, Instr::OnOne(*op))
+            append_instruction(lines, Instruction::OnOne(*operator))
         }
-        IntegerExpr::Chain(first, rest) => {
+        IntegerExpression::Chain(first, rest) => {
             write_integer(lines, first)?;
             for next in rest {
                 write_integer(lines, &next.right)?;
-                append_instr(lines, Instr::OnTwo(next.op))?;
+                append_instruction(lines, Instruction::OnTwo(next.operator))?;
             }
             Ok(())
         }
     }
 }
 
-fn write_value(lines: &mut Vec<Line>, e: &IntegerExpr) -> Result<(), AllocError>
-    ensures { OnOk result (map plain_line lines.new.items ≡ map plain_line lines.old.items ++ map op (value_code (whole Integer (plain_integer e.now)))) }
+fn write_value(lines: &mut Vec<Line>, e: &IntegerExpression) -> Result<(), AllocError>
+    ensures { OnOk result (map plain_line lines.new.items ≡ map plain_line lines.old.items ++ map instructs (value_code (whole Integer (plain_integer e.now)))) }
 {
     write_integer(lines, e)?;
-    append_instr(lines, Instr::Check(Subtype::Integer))
+    append_instruction(lines, Instruction::Check(Subtype::Integer))
 }
 
-fn write_text(alloc: Global, lines: &mut Vec<Line>, t: &TextExpr) -> Result<(), AllocError>
-    ensures { OnOk result (map plain_line lines.new.items ≡ map plain_line lines.old.items ++ map op (text_code (plain_text t.now))) }
+fn write_text(alloc: Global, lines: &mut Vec<Line>, t: &TextExpression) -> Result<(), AllocError>
+    ensures { OnOk result (map plain_line lines.new.items ≡ map plain_line lines.old.items ++ map instructs (text_code (plain_text t.now))) }
 {
     match t {
-        TextExpr::Literal(text) => {
-            append_instr(lines, Instr::AppendText(text.try_clone(alloc)?))
+        TextExpression::Literal(text) => {
+            append_instruction(lines, Instruction::AppendText(text.try_clone(alloc)?))
         }
-        TextExpr::Image(e) => {
+        TextExpression::Image(e) => {
             write_integer(lines, e)?;
-            append_instr(lines, Instr::AppendImage)
+            append_instruction(lines, Instruction::AppendImage)
         }
-        TextExpr::Join(first, rest) => {
+        TextExpression::Join(first, rest) => {
             write_text(alloc, lines, first)?;
             for next in rest {
                 write_text(alloc, lines, next)?;
             }
             Ok(())
         }
-        TextExpr::NewLine => append_instr(lines, Instr::AppendNewLine),
+        TextExpression::NewLine => append_instruction(lines, Instruction::AppendNewLine),
     }
 }
 
 // the instructions of a step
-fn write_instrs(alloc: Global, lines: &mut Vec<Line>, s: &Stmt) -> Result<(), AllocError>
-    ensures { OnOk result (map plain_line lines.new.items ≡ map plain_line lines.old.items ++ map op (instrs_of (stmt_of (simple_of s.now)))) }
+fn write_instructions(alloc: Global, lines: &mut Vec<Line>, s: &Statement) -> Result<(), AllocError>
+    ensures { OnOk result (map plain_line lines.new.items ≡ map plain_line lines.old.items ++ map instructs (instructions_of (statement_of (simple_of s.now)))) }
 {
     match s {
-        Stmt::Declare(_, e) => write_value(lines, e),
-        Stmt::Null(_) => Ok(()),
-        Stmt::Assign(_, v, e) => {
-            append_instr(lines, Instr::Find(*v, Subtype::Integer))?;
+        Statement::Declare(_, e) => write_value(lines, e),
+        Statement::Null(_) => Ok(()),
+        Statement::Assign(_, v, e) => {
+            append_instruction(lines, Instruction::Find(*v, Subtype::Integer))?;
             write_value(lines, e)
         }
-        Stmt::Put(_, t) => write_text(alloc, lines, t),
+        Statement::Put(_, t) => write_text(alloc, lines, t),
     }
 }
 
-fn ending(s: &Stmt) -> Ending
-    ensures { plain_ending result ≡ ending_of (stmt_of (simple_of s.now)) }
+fn ending(s: &Statement) -> Ending
+    ensures { plain_ending result ≡ ending_of (statement_of (simple_of s.now)) }
 {
     match s {
-        Stmt::Declare(_, _) => Ending::Declare,
-        Stmt::Null(_) => Ending::Null,
-        Stmt::Assign(_, _, _) => Ending::Assign,
-        Stmt::Put(_, _) => Ending::Put,
+        Statement::Declare(_, _) => Ending::Declare,
+        Statement::Null(_) => Ending::Null,
+        Statement::Assign(_, _, _) => Ending::Assign,
+        Statement::Put(_, _) => Ending::Put,
     }
 }
 
-fn place_in_text(s: &Stmt) -> Pos
-    ensures { result ≡ stmt_at (stmt_of (simple_of s.now)) }
+fn place_in_text(s: &Statement) -> Pos
+    ensures { result ≡ statement_at (statement_of (simple_of s.now)) }
 {
     match s {
-        Stmt::Declare(at, _) => *at,
-        Stmt::Null(at) => *at,
-        Stmt::Assign(at, _, _) => *at,
-        Stmt::Put(at, _) => *at,
+        Statement::Declare(at, _) => *at,
+        Statement::Null(at) => *at,
+        Statement::Assign(at, _, _) => *at,
+        Statement::Put(at, _) => *at,
     }
 }
 
 fn write_step(
     alloc: Global,
     lines: &mut Vec<Line>,
-    s: &Stmt,
+    s: &Statement,
     out: usize,
     next: usize,
 ) -> Result<(), AllocError>
     ensures { OnOk result (map plain_line lines.new.items ≡ map plain_line lines.old.items ++ step_to (simple_of s.now) out next) }
 {
-    write_instrs(alloc, lines, s)?;
+    write_instructions(alloc, lines, s)?;
     let last = Last::Does(ending(s), next);
     let at = place_in_text(s);
     append(lines, Line::End(EndLine { last, at, out }))
@@ -141,7 +141,7 @@ fn write_step(
 fn write_steps(
     alloc: Global,
     lines: &mut Vec<Line>,
-    steps: &[Stmt],
+    steps: &[Statement],
     out: usize,
     next: usize,
     place: usize,
@@ -188,8 +188,8 @@ fn write_end(lines: &mut Vec<Line>, at: Pos, out: usize) -> Result<(), AllocErro
 fn write_some(
     alloc: Global,
     lines: &mut Vec<Line>,
-    declarations: &[Stmt],
-    statements: &[Stmt],
+    declarations: &[Statement],
+    statements: &[Statement],
     end: Pos,
     place: usize,
 ) -> Result<usize, AllocError>
@@ -209,8 +209,8 @@ fn write_some(
 fn write_body(
     alloc: Global,
     lines: &mut Vec<Line>,
-    declarations: &[Stmt],
-    statements: &[Stmt],
+    declarations: &[Statement],
+    statements: &[Statement],
     end: Pos,
     place: usize,
 ) -> Result<usize, AllocError>
@@ -218,7 +218,7 @@ fn write_body(
     ensures behind { IfOk result (λ behind. behind ≡ place + body_size (map simple_of declarations.now) (map simple_of statements.now)) }
 {
     if statements.is_empty() {
-        let idle = [Stmt::Null(NOWHERE)];
+        let idle = [Statement::Null(NOWHERE)];
         return write_some(alloc, lines, declarations, &idle, end, place);
     }
     write_some(alloc, lines, declarations, statements, end, place)
@@ -228,8 +228,8 @@ fn write_body(
 // number that no body has: one null statement.
 fn write_code(
     alloc: Global,
-    declarations: &[Stmt],
-    statements: &[Stmt],
+    declarations: &[Statement],
+    statements: &[Statement],
     end: Pos,
 ) -> Result<Code, AllocError>
     ensures { IfOk result (λ code. plain_code code ≡ body_code (map simple_of declarations.now) (map simple_of statements.now) end) }

@@ -42,11 +42,11 @@ impl Model for Machine {
     ghost use Rattle.aud_single.specs.Steps.{Stands};
     ghost use Rattle.aud_machine.specs.Shown.{Shown};
     ghost use Rattle.std.specs.Coded.{codes};
-    ghost use Rattle.aud_typed.specs.contracts.program.Stmt as stmt;
+    ghost use Rattle.aud_typed.specs.contracts.program.Statement as statement;
 
     ghost Value = { Shown };
 
-    ghost coded = { Prim.hlevel (codes, stmt.the_row.coded) };
+    ghost coded = { Prim.hlevel (codes, statement.the_row.coded) };
 
     ghost view = { λ m. record { program = m.program; code = m.code; limits = m.limits; all = all_of (plain_program m.program).plan m.program.name m.progress; spent = m.spent } };
 

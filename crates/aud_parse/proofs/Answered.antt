@@ -6,10 +6,10 @@ use Rattle.aud_text.specs.declared.limits.TheConstants.{LEVELS}
 use Rattle.aud_lex.specs.Element.{Element}
 use Rattle.aud_syntax.specs.Plain as m
 use Rattle.aud_parse.specs.Grammar as g
-use Rattle.aud_parse.specs.Grammar.{Sym, N}
+use Rattle.aud_parse.specs.Grammar.{Symbol, N}
 use Rattle.aud_parse.specs.Actions.{Item, the_unit}
 use Rattle.aud_parse.specs.Parsed.{Fault, wrong_at, deep_at, Verdict, Good, Wrong, Deep, budget, parsed, judged}
-use Rattle.aud_parse.specs.Machine.{Out}
+use Rattle.aud_parse.specs.Outcome.{Out}
 use Rattle.aud_parse.specs.Derives.{Derives, Viable}
 use Rattle.aud_parse.specs.Begun.{Within}
 use Rattle.aud_parse.specs.Laws.{SyntaxFaultAt, LevelFaultAt, IsRight, TheSpelled, WrongPlace, FirstDeep, DeepPlace, OneParser}
@@ -23,7 +23,7 @@ use Rattle.aud_parse.proofs.OneAnswer.{one_answer}
 
 -- the tokens are cut where the run ends
 
-abbrev Start : List Sym
+abbrev Start : List Symbol
 Start = N g.Unit ∷ []
 
 take_front : (front rest : List Element) → take (length (front ++ rest) - length rest) (front ++ rest) ≡ front

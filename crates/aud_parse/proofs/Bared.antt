@@ -7,18 +7,18 @@ use Rattle.aud_syntax.specs.declared.tree.Ident.{Ident}
 use Rattle.aud_syntax.specs.declared.tree.Sign.TheVariants as sign
 use Rattle.aud_syntax.specs.declared.tree.Highest.TheVariants as highest
 use Rattle.aud_syntax.specs.Plain as m
-use Rattle.aud_syntax.specs.Bare.{nowhere, bare_ident, bare_number, bare_literal, bare_signed, bare_operator, bare_sign, bare_highest, bare_end, bare_expr, bare_rel, bare_name, bare_part, bare_args, bare_simple, bare_addeds, bare_added, bare_term, bare_multiplieds, bare_multiplied, bare_factor, bare_primary, bare_maybe, bare_decl, bare_decls, bare_stmt, bare_stmts, bare_body, bare}
+use Rattle.aud_syntax.specs.Bare.{nowhere, bare_ident, bare_number, bare_literal, bare_signed, bare_operator, bare_sign, bare_highest, bare_end, bare_expression, bare_relation, bare_name, bare_part, bare_args, bare_simple, bare_addeds, bare_added, bare_term, bare_multiplieds, bare_multiplied, bare_factor, bare_primary, bare_maybe, bare_declaration, bare_declarations, bare_statement, bare_statements, bare_body, bare}
 use Rattle.aud_parse.specs.Grammar as g
-use Rattle.aud_parse.specs.Grammar.{Part, Sym, T, P, N, L, Down, A, Opt, Rep, rule}
+use Rattle.aud_parse.specs.Grammar.{Phrase, Symbol, T, P, N, L, Down, A, Opt, Rep, rule}
 use Rattle.aud_parse.specs.Actions as a
-use Rattle.aud_parse.specs.Actions.{Item, tok, none, cons, top, pop, listed, made}
+use Rattle.aud_parse.specs.Actions.{Item, token, none, cons, top, pop, listed, made}
 
 abbrev no_token : Element
 no_token = record { kind = kind.Box; text = []; at = nowhere }
 
 -- an item with one place in all positions
 abbrev pub bare_item : Item → Item
-bare_item (tok t) = tok no_token
+bare_item (token t) = token no_token
 bare_item none = none
 bare_item (cons x y) = cons (bare_item x) (bare_item y)
 bare_item (a.an_ident x) = a.an_ident (bare_ident x)
@@ -28,7 +28,7 @@ bare_item (a.a_sign x) = a.a_sign (bare_signed x)
 bare_item (a.an_adding x) = a.an_adding x
 bare_item (a.a_multiplying x) = a.a_multiplying x
 bare_item (a.an_operator x) = a.an_operator (bare_operator x)
-bare_item (a.in_parens at x) = a.in_parens nowhere (bare_expr x)
+bare_item (a.in_parens at x) = a.in_parens nowhere (bare_expression x)
 bare_item (a.an_attribute x e) = a.an_attribute (bare_ident x) (bare_maybe e)
 bare_item (a.some_args x) = a.some_args (bare_args x)
 bare_item (a.a_part x) = a.a_part (bare_part x)
@@ -39,13 +39,13 @@ bare_item (a.a_multiplied x) = a.a_multiplied (bare_multiplied x)
 bare_item (a.a_term x) = a.a_term (bare_term x)
 bare_item (a.an_added x) = a.an_added (bare_added x)
 bare_item (a.a_simple x) = a.a_simple (bare_simple x)
-bare_item (a.a_rel x) = a.a_rel (bare_rel x)
-bare_item (a.an_expr x) = a.an_expr (bare_expr x)
-bare_item (a.assigned x) = a.assigned (bare_expr x)
+bare_item (a.a_relation x) = a.a_relation (bare_relation x)
+bare_item (a.an_expression x) = a.an_expression (bare_expression x)
+bare_item (a.assigned x) = a.assigned (bare_expression x)
 bare_item (a.called x) = a.called (bare_args x)
-bare_item (a.a_stmt x) = a.a_stmt (bare_stmt x)
+bare_item (a.a_statement x) = a.a_statement (bare_statement x)
 bare_item (a.a_body x) = a.a_body (bare_body x)
-bare_item (a.a_decl x) = a.a_decl (bare_decl x)
+bare_item (a.a_declaration x) = a.a_declaration (bare_declaration x)
 bare_item (a.a_unit x) = a.a_unit (bare x)
 
 abbrev pub bares : List Item → List Item
@@ -54,7 +54,7 @@ bares (x ∷ xs) = bare_item x ∷ bares xs
 
 -- the views of an item
 bare_place : (x : Item) → a.place (bare_item x) ≡ nowhere
-bare_place (tok t) = refl
+bare_place (token t) = refl
 bare_place _ = refl
 
 bare_opening : (x : Item) → a.opening (bare_item x) ≡ nowhere
@@ -93,7 +93,7 @@ bare_the_literal : (x : Item) → a.the_literal (bare_item x) ≡ bare_literal (
 bare_the_literal (a.a_literal y) = refl
 bare_the_literal _ = refl
 
-bare_inside : (x : Item) → a.inside (bare_item x) ≡ bare_expr (a.inside x)
+bare_inside : (x : Item) → a.inside (bare_item x) ≡ bare_expression (a.inside x)
 bare_inside (a.in_parens at e) = refl
 bare_inside _ = refl
 
@@ -125,13 +125,13 @@ bare_the_simple : (x : Item) → a.the_simple (bare_item x) ≡ bare_simple (a.t
 bare_the_simple (a.a_simple y) = refl
 bare_the_simple _ = refl
 
-bare_the_rel : (x : Item) → a.the_rel (bare_item x) ≡ bare_rel (a.the_rel x)
-bare_the_rel (a.a_rel y) = refl
-bare_the_rel _ = refl
+bare_the_relation : (x : Item) → a.the_relation (bare_item x) ≡ bare_relation (a.the_relation x)
+bare_the_relation (a.a_relation y) = refl
+bare_the_relation _ = refl
 
-bare_the_expr : (x : Item) → a.the_expr (bare_item x) ≡ bare_expr (a.the_expr x)
-bare_the_expr (a.an_expr y) = refl
-bare_the_expr _ = refl
+bare_the_expression : (x : Item) → a.the_expression (bare_item x) ≡ bare_expression (a.the_expression x)
+bare_the_expression (a.an_expression y) = refl
+bare_the_expression _ = refl
 
 bare_the_args : (x : Item) → a.the_args (bare_item x) ≡ bare_args (a.the_args x)
 bare_the_args (a.some_args y) = refl
@@ -145,17 +145,17 @@ bare_the_name : (x : Item) → a.the_name (bare_item x) ≡ bare_name (a.the_nam
 bare_the_name (a.a_name y) = refl
 bare_the_name _ = refl
 
-bare_opt_expr : (x : Item) → a.opt_expr (bare_item x) ≡ bare_maybe (a.opt_expr x)
-bare_opt_expr (a.an_expr y) = refl
-bare_opt_expr _ = refl
+bare_opt_expression : (x : Item) → a.opt_expression (bare_item x) ≡ bare_maybe (a.opt_expression x)
+bare_opt_expression (a.an_expression y) = refl
+bare_opt_expression _ = refl
 
-bare_the_stmt : (x : Item) → a.the_stmt (bare_item x) ≡ bare_stmt (a.the_stmt x)
-bare_the_stmt (a.a_stmt y) = refl
-bare_the_stmt _ = refl
+bare_the_statement : (x : Item) → a.the_statement (bare_item x) ≡ bare_statement (a.the_statement x)
+bare_the_statement (a.a_statement y) = refl
+bare_the_statement _ = refl
 
-bare_the_decl : (x : Item) → a.the_decl (bare_item x) ≡ bare_decl (a.the_decl x)
-bare_the_decl (a.a_decl y) = refl
-bare_the_decl _ = refl
+bare_the_declaration : (x : Item) → a.the_declaration (bare_item x) ≡ bare_declaration (a.the_declaration x)
+bare_the_declaration (a.a_declaration y) = refl
+bare_the_declaration _ = refl
 
 bare_the_body : (x : Item) → a.the_body (bare_item x) ≡ bare_body (a.the_body x)
 bare_the_body (a.a_body y) = refl
@@ -177,19 +177,19 @@ bare_the_addeds : (x : Item) → a.the_addeds (bare_item x) ≡ bare_addeds (a.t
 bare_the_addeds (cons x y) = cc (bare_the_added x, bare_the_addeds y)
 bare_the_addeds _ = refl
 
-bare_the_stmts : (x : Item) → a.the_stmts (bare_item x) ≡ bare_stmts (a.the_stmts x)
-bare_the_stmts (cons x y) = cc (bare_the_stmt x, bare_the_stmts y)
-bare_the_stmts _ = refl
+bare_the_statements : (x : Item) → a.the_statements (bare_item x) ≡ bare_statements (a.the_statements x)
+bare_the_statements (cons x y) = cc (bare_the_statement x, bare_the_statements y)
+bare_the_statements _ = refl
 
-bare_the_decls : (x : Item) → a.the_decls (bare_item x) ≡ bare_decls (a.the_decls x)
-bare_the_decls (cons x y) = cc (bare_the_decl x, bare_the_decls y)
-bare_the_decls _ = refl
+bare_the_declarations : (x : Item) → a.the_declarations (bare_item x) ≡ bare_declarations (a.the_declarations x)
+bare_the_declarations (cons x y) = cc (bare_the_declaration x, bare_the_declarations y)
+bare_the_declarations _ = refl
 
 bare_with_attribute : (n : m.Name) (x : Item) → a.with_attribute (bare_name n) (bare_item x) ≡ bare_primary (a.with_attribute n x)
 bare_with_attribute n (a.an_attribute j e) = refl
 bare_with_attribute n _ = refl
 
-bare_begun : (i : Ident) (x : Item) → a.begun (bare_ident i) (bare_item x) ≡ bare_stmt (a.begun i x)
+bare_begun : (i : Ident) (x : Item) → a.begun (bare_ident i) (bare_item x) ≡ bare_statement (a.begun i x)
 bare_begun i (a.assigned e) = refl
 bare_begun i (a.called e) = refl
 bare_begun i _ = refl
@@ -230,26 +230,26 @@ made_4 f h st =
 pub bare_listed : (st : List Item) → bares (listed st) ≡ listed (bares st)
 bare_listed = made_2 cons (λ x y. refl)
 
--- the parts whose one token's bytes the tree keeps
-abbrev pub is_leaf : Part → Bool
-is_leaf g.Id = true
+-- the phrases whose one token's bytes the tree keeps
+abbrev pub is_leaf : Phrase → Bool
+is_leaf g.Identifier = true
 is_leaf g.Number = true
 is_leaf g.Literal = true
 is_leaf _ = false
 
-pub bare_made : (p : Part) → is_leaf p ≡ false → (st : List Item) → bares (made p st) ≡ made p (bares st)
-bare_made g.Unit e = made_4 (λ x y z w. a.a_unit (m.unit (a.place x) (a.the_ident y) (a.the_decls z) (a.the_body w))) (λ x y z w. cc (bare_place x, bare_the_ident y, bare_the_decls z, bare_the_body w))
-bare_made g.DeclList e = bare_listed
-bare_made g.Decl e = made_3 (λ x y z. a.a_decl (m.object (a.the_idents x) (a.the_ident y) (a.opt_expr z))) (λ x y z. cc (bare_the_idents x, bare_the_ident y, bare_opt_expr z))
-bare_made g.Ids e = bare_listed
-bare_made g.Body e = made_4 (λ x y z w. a.a_body (m.body (a.place x) (a.the_stmts y) (a.place z) (a.opt_ident w))) (λ x y z w. cc (bare_place x, bare_the_stmts y, bare_place z, bare_opt_ident w))
-bare_made g.StmtList e = bare_listed
-bare_made g.NullStmt e = made_1 (λ x. a.a_stmt (m.null (a.place x))) (λ x. cc (bare_place x))
-bare_made g.NameStmt e = made_2 (λ x y. a.a_stmt (a.begun (a.the_ident x) y)) (λ x y. cc (bare_the_ident x, bare_begun (a.the_ident x) y))
-bare_made g.Assignment e = made_1 (λ x. a.assigned (a.the_expr x)) (λ x. cc (bare_the_expr x))
+pub bare_made : (p : Phrase) → is_leaf p ≡ false → (st : List Item) → bares (made p st) ≡ made p (bares st)
+bare_made g.Unit e = made_4 (λ x y z w. a.a_unit (m.unit (a.place x) (a.the_ident y) (a.the_declarations z) (a.the_body w))) (λ x y z w. cc (bare_place x, bare_the_ident y, bare_the_declarations z, bare_the_body w))
+bare_made g.DeclarationList e = bare_listed
+bare_made g.Declaration e = made_3 (λ x y z. a.a_declaration (m.object (a.the_idents x) (a.the_ident y) (a.opt_expression z))) (λ x y z. cc (bare_the_idents x, bare_the_ident y, bare_opt_expression z))
+bare_made g.Identifiers e = bare_listed
+bare_made g.Body e = made_4 (λ x y z w. a.a_body (m.body (a.place x) (a.the_statements y) (a.place z) (a.opt_ident w))) (λ x y z w. cc (bare_place x, bare_the_statements y, bare_place z, bare_opt_ident w))
+bare_made g.StatementList e = bare_listed
+bare_made g.NullStatement e = made_1 (λ x. a.a_statement (m.null (a.place x))) (λ x. cc (bare_place x))
+bare_made g.NameStatement e = made_2 (λ x y. a.a_statement (a.begun (a.the_ident x) y)) (λ x y. cc (bare_the_ident x, bare_begun (a.the_ident x) y))
+bare_made g.Assignment e = made_1 (λ x. a.assigned (a.the_expression x)) (λ x. cc (bare_the_expression x))
 bare_made g.Call e = made_1 (λ x. a.called (a.the_args x)) (λ x. cc (bare_the_args x))
-bare_made g.Expr e = made_1 (λ x. a.an_expr (m.alone (a.the_rel x))) (λ x. cc (bare_the_rel x))
-bare_made g.Rel e = made_1 (λ x. a.a_rel (m.unrelated (a.the_simple x))) (λ x. cc (bare_the_simple x))
+bare_made g.Expression e = made_1 (λ x. a.an_expression (m.alone (a.the_relation x))) (λ x. cc (bare_the_relation x))
+bare_made g.Relation e = made_1 (λ x. a.a_relation (m.unrelated (a.the_simple x))) (λ x. cc (bare_the_simple x))
 bare_made g.Simple e = made_3 (λ x y z. a.a_simple (m.simple (a.opt_sign x) (a.the_term y) (a.the_addeds z))) (λ x y z. cc (bare_opt_sign x, bare_the_term y, bare_the_addeds z))
 bare_made g.Positive e = made_1 (λ x. a.a_sign (record { sign = sign.Plus; at = a.place x })) (λ x. ap (λ (z : Pos). a.a_sign (record { sign = sign.Plus; at = z })) (bare_place x))
 bare_made g.Negative e = made_1 (λ x. a.a_sign (record { sign = sign.Minus; at = a.place x })) (λ x. ap (λ (z : Pos). a.a_sign (record { sign = sign.Minus; at = z })) (bare_place x))
@@ -271,11 +271,11 @@ bare_made g.String e = made_1 (λ x. a.a_primary (m.text (a.the_literal x))) (λ
 bare_made g.Named e = made_2 (λ x y. a.a_primary (a.with_attribute (a.the_name x) y)) (λ x y. cc (bare_the_name x, bare_with_attribute (a.the_name x) y))
 bare_made g.Attribute e = made_2 (λ x y. a.an_attribute (a.the_ident x) (a.opt_inside y)) (λ x y. cc (bare_the_ident x, bare_opt_inside y))
 bare_made g.Group e = made_1 (λ x. a.a_primary (m.group (a.opening x) (a.inside x))) (λ x. cc (bare_opening x, bare_inside x))
-bare_made g.InParens e = made_2 (λ x y. a.in_parens (a.place x) (a.the_expr y)) (λ x y. cc (bare_place x, bare_the_expr y))
+bare_made g.InParens e = made_2 (λ x y. a.in_parens (a.place x) (a.the_expression y)) (λ x y. cc (bare_place x, bare_the_expression y))
 bare_made g.Name e = made_1 (λ x. a.a_name (m.named (a.the_part x) m.no_parts)) (λ x. cc (bare_the_part x))
 bare_made g.NamePart e = made_1 (λ x. a.a_part (m.part (a.the_ident x) m.no_args)) (λ x. cc (bare_the_ident x))
-bare_made g.InArgs e = made_1 (λ x. a.some_args (m.more_args (a.the_expr x) m.no_args)) (λ x. cc (bare_the_expr x))
-bare_made g.Id e = λ st. cc
+bare_made g.InArgs e = made_1 (λ x. a.some_args (m.more_args (a.the_expression x) m.no_args)) (λ x. cc (bare_the_expression x))
+bare_made g.Identifier e = λ st. cc
 bare_made g.Number e = λ st. cc
 bare_made g.Literal e = λ st. cc
 bare_made _ e = λ st. refl

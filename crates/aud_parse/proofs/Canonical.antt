@@ -14,7 +14,7 @@ use Rattle.aud_lex.specs.declared.automaton.State.{State}
 use Rattle.aud_lex.specs.declared.automaton.State.TheVariants.{Start, Dead, InWord, InNumber, InDecimals, InString, BehindQuote, Whole}
 use Rattle.aud_lex.specs.Bytes.{between, is_single, class}
 use Rattle.aud_lex.specs.Element.{Element}
-use Rattle.aud_lex.specs.Kinds.{Spelled, code, reserved, delimiters}
+use Rattle.aud_lex.specs.Kinds.{Spelled, kind_number, reserved, delimiters}
 use Rattle.aud_lex.specs.Spaced.{Word}
 use Rattle.aud_lex.specs.Tokens.{step, accepts, run, is_token, small, found, kind_in, kind_of}
 use Rattle.std.specs.Str.{bytes_eq}
@@ -26,7 +26,7 @@ use Rattle.aud_parse.proofs.Literals.{fits}
 -- the spelling of the kind with this number
 abbrev spelling_in : List Spelled → ℕ → List ℕ
 spelling_in [] c = []
-spelling_in (entry ∷ entries) c = if code entry.kind == c then entry.bytes else spelling_in entries c
+spelling_in (entry ∷ entries) c = if kind_number entry.kind == c then entry.bytes else spelling_in entries c
 
 -- a token of the kind with this number and of these bytes, as it is written
 abbrev pub spelling : ℕ → List ℕ → List ℕ
@@ -45,12 +45,12 @@ abbrev pub written_as : ℕ → List ℕ → Word
 written_as c text = record { bytes = spelling c text; is_last = ends_line c }
 
 abbrev pub written : Element → Word
-written t = written_as (code t.kind) t.text
+written t = written_as (kind_number t.kind) t.text
 
 -- such bytes are a token of the kind, and mean what the others mean
 pub record Stays (c : ℕ) (text bytes : List ℕ) : Type 0 where
   pub token : is_token bytes ≡ true
-  pub kind : code (kind_of bytes) ≡ c
+  pub kind : kind_number (kind_of bytes) ≡ c
   pub name : c ≡ 100 → capitals text ≡ capitals bytes
   pub number : c ≡ 101 → number_value text ≡ number_value bytes
   pub literal : c ≡ 103 → unquoted text ≡ unquoted bytes
@@ -58,7 +58,7 @@ pub record Stays (c : ℕ) (text bytes : List ℕ) : Type 0 where
 -- Words and delimiters
 
 abbrev table_code : ℕ → Bool
-table_code c = let bytes = spelling_in (reserved ++ delimiters) c in is_token bytes && code (kind_of bytes) == c
+table_code c = let bytes = spelling_in (reserved ++ delimiters) c in is_token bytes && kind_number (kind_of bytes) == c
 
 abbrev all_below : ℕ → Bool
 all_below zero = true
@@ -89,7 +89,7 @@ last_of false false false false x y z a b e f g h = refl
 table_stays : (c : ℕ) (text : List ℕ) → c < 100 → Stays c text (spelling c text)
 table_stays c text h =
     let bytes : List ℕ = spelling_in (reserved ++ delimiters) c in
-    let k : (is_token bytes ≡ true) × ((code (kind_of bytes) == c) ≡ true) = and_parts (is_token bytes) (code (kind_of bytes) == c) (code_holds 100 c table_holds h) in
+    let k : (is_token bytes ≡ true) × ((kind_number (kind_of bytes) == c) ≡ true) = and_parts (is_token bytes) (kind_number (kind_of bytes) == c) (code_holds 100 c table_holds h) in
     let e : spelling c text ≡ bytes =
     last_of (c == 100) (c == 101) (c == 102) (c == 103) _ _ _ _ bytes (ne_eqb c 100 (λ e. omega (arith, e, h))) (ne_eqb c 101 (λ e. omega (arith, e, h))) (ne_eqb c 102 (λ e. omega (arith, e, h))) (ne_eqb c 103 (λ e. omega (arith, e, h))) in
     subst (λ z. Stays c text z) (sym e) (record {
@@ -100,13 +100,13 @@ table_stays c text h =
       literal = λ e. absurd (omega (arith, e, h));
     })
 
-found_code : (table : List Spelled) (bytes : List ℕ) (ordinary : Kind) → list_all (λ e. nat_le (suc (code e.kind)) 100) table ≡ true → (code (found table bytes ordinary) ≡ code ordinary) ⊎ (code (found table bytes ordinary) < 100)
+found_code : (table : List Spelled) (bytes : List ℕ) (ordinary : Kind) → list_all (λ e. nat_le (suc (kind_number e.kind)) 100) table ≡ true → (kind_number (found table bytes ordinary) ≡ kind_number ordinary) ⊎ (kind_number (found table bytes ordinary) < 100)
 found_code [] bytes ordinary h = inl refl
 found_code (x ∷ xs) bytes ordinary h =
-    let k = and_parts (nat_le (suc (code x.kind)) 100) (list_all (λ e. nat_le (suc (code e.kind)) 100) xs) h in
+    let k = and_parts (nat_le (suc (kind_number x.kind)) 100) (list_all (λ e. nat_le (suc (kind_number e.kind)) 100) xs) h in
     at (bytes_eq x.bytes bytes) x.kind (found xs bytes ordinary) ordinary (leb-true _ _ k.0) (found_code xs bytes ordinary k.1)
   where
-    at : (t : Bool) (c d ordinary : Kind) → suc (code c) ≤ 100 → (code d ≡ code ordinary) ⊎ (code d < 100) → (code (if t then c else d) ≡ code ordinary) ⊎ (code (if t then c else d) < 100)
+    at : (t : Bool) (c d ordinary : Kind) → suc (kind_number c) ≤ 100 → (kind_number d ≡ kind_number ordinary) ⊎ (kind_number d < 100) → (kind_number (if t then c else d) ≡ kind_number ordinary) ⊎ (kind_number (if t then c else d) < 100)
     at true c d ordinary h k = inr (omega arith)
     at false c d ordinary h k = k
 
@@ -159,12 +159,12 @@ capitals_twice : (text : List ℕ) → capitals (capitals text) ≡ capitals tex
 capitals_twice [] = refl
 capitals_twice (b ∷ bs) = cc (capital_twice b, capitals_twice bs)
 
-ident_stays : (text : List ℕ) → run Start text ≡ InWord → code (found reserved (map small text) kind.Identifier) ≡ 100 → Stays 100 text (capitals text)
+ident_stays : (text : List ℕ) → run Start text ≡ InWord → kind_number (found reserved (map small text) kind.Identifier) ≡ 100 → Stays 100 text (capitals text)
 ident_stays text e h =
     let r : run Start (capitals text) ≡ InWord = run_capitals text Start ∙ e in
     record {
       token = ap accepts r;
-      kind = ap (λ s. code (kind_in s (capitals text))) r ∙ ap (λ l. code (found reserved l kind.Identifier)) (small_capitals text) ∙ h;
+      kind = ap (λ s. kind_number (kind_in s (capitals text))) r ∙ ap (λ l. kind_number (found reserved l kind.Identifier)) (small_capitals text) ∙ h;
       name = λ e. sym (capitals_twice text);
       number = λ e. absurd (omega (arith, e));
       literal = λ e. absurd (omega (arith, e));
@@ -212,7 +212,7 @@ numeral = decimal_by_steps Numeral one_digit more_digits
 integer_stays : (text bytes : List ℕ) → run Start bytes ≡ InNumber → number_value text ≡ number_value bytes → Stays 101 text bytes
 integer_stays text bytes r v = record {
   token = ap accepts r;
-  kind = ap (λ s. code (kind_in s bytes)) r;
+  kind = ap (λ s. kind_number (kind_in s bytes)) r;
   name = λ e. absurd (omega (arith, e));
   number = λ e. v;
   literal = λ e. absurd (omega (arith, e));
@@ -382,7 +382,7 @@ literal_stays text h =
     let r : run Start (quoted (unquoted text)) ≡ BehindQuote = quoted_run (unquoted text) (literal_stands text h) in
     record {
       token = ap accepts r;
-      kind = ap (λ s. code (kind_in s (quoted (unquoted text)))) r;
+      kind = ap (λ s. kind_number (kind_in s (quoted (unquoted text)))) r;
       name = λ e. absurd (omega (arith, e));
       number = λ e. absurd (omega (arith, e));
       literal = λ e. sym (inner_doubled (unquoted text));
@@ -393,7 +393,7 @@ literal_stays text h =
 real_stays : (text : List ℕ) → run Start text ≡ InDecimals → Stays 102 text text
 real_stays text r = record {
   token = ap accepts r;
-  kind = ap (λ s. code (kind_in s text)) r;
+  kind = ap (λ s. kind_number (kind_in s text)) r;
   name = λ e. refl;
   number = λ e. refl;
   literal = λ e. refl;
@@ -402,14 +402,14 @@ real_stays text r = record {
 found_stays : (text : List ℕ) (c : ℕ) (other : ℕ) → (c ≡ other) ⊎ (c < 100) → (c ≡ other → Stays c text (spelling c text)) → Stays c text (spelling c text)
 found_stays text c other h k = ⊎_elim k (λ l. table_stays c text l) h
 
-in_state : (text : List ℕ) (s : State) → run Start text ≡ s → Stays (code (kind_in s text)) text (spelling (code (kind_in s text)) text)
-in_state text InWord r = found_stays text (code (found reserved (map small text) kind.Identifier)) 100 (found_code reserved (map small text) kind.Identifier refl)
+in_state : (text : List ℕ) (s : State) → run Start text ≡ s → Stays (kind_number (kind_in s text)) text (spelling (kind_number (kind_in s text)) text)
+in_state text InWord r = found_stays text (kind_number (found reserved (map small text) kind.Identifier)) 100 (found_code reserved (map small text) kind.Identifier refl)
     (λ h. subst (λ z. Stays z text (spelling z text)) (sym h) (ident_stays text r h))
 in_state text InNumber r = number_stays text
 in_state text InDecimals r = real_stays text r
 in_state text BehindQuote r = literal_stays text r
-in_state text _ r = found_stays text (code (found delimiters text kind.Box)) 99 (found_code delimiters text kind.Box refl) (λ h. table_stays _ text (omega (arith, h)))
+in_state text _ r = found_stays text (kind_number (found delimiters text kind.Box)) 99 (found_code delimiters text kind.Box refl) (λ h. table_stays _ text (omega (arith, h)))
 
 -- a token is the same token when it is written canonically
-pub stays : (text : List ℕ) → Stays (code (kind_of text)) text (spelling (code (kind_of text)) text)
+pub stays : (text : List ℕ) → Stays (kind_number (kind_of text)) text (spelling (kind_number (kind_of text)) text)
 stays text = in_state text (run Start text) refl

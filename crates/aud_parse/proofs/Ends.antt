@@ -4,12 +4,12 @@ use Rattle.std.proofs.Common.{sym, ap, ◌∙◌, subst, ⊎_elim, ◌≤◌, ar
 use Rattle.std.proofs.lemmas.Bool.{eqb-true, eq-eqb}
 use Rattle.aud_lex.specs.declared.token.Kind.{Kind}
 use Rattle.aud_lex.specs.Element.{Element}
-use Rattle.aud_lex.specs.Kinds.{code}
-use Rattle.aud_parse.specs.Grammar.{Word, Part, Sym, T, P, W, N, L, rule}
+use Rattle.aud_lex.specs.Kinds.{kind_number}
+use Rattle.aud_parse.specs.Grammar.{Word, Phrase, Symbol, T, P, W, N, L, rule}
 use Rattle.aud_parse.specs.First.{next_in, is_word, next_word, firsts}
 use Rattle.aud_parse.specs.Parsed.{Verdict, Good, Wrong, Deep}
 use Rattle.aud_parse.specs.Actions.{Item}
-use Rattle.aud_parse.specs.Machine.{Out, o_end, o_rest, o_word, o_token, o_no_word, o_no_token, o_spelled, o_misspelled, o_rule, o_level, o_deep, o_shut, o_down, o_this, o_other, o_last, o_yes, o_no, o_more, o_stop}
+use Rattle.aud_parse.specs.Outcome.{Out, o_end, o_rest, o_word, o_token, o_no_word, o_no_token, o_spelled, o_misspelled, o_rule, o_level, o_deep, o_shut, o_down, o_this, o_other, o_last, o_yes, o_no, o_more, o_stop}
 use Rattle.aud_parse.specs.Derives.{here}
 use Rattle.aud_parse.specs.Begun.{Begun, b_stop, b_word, b_token, b_spelled, b_rule, b_level, b_down, b_one, b_yes, b_no, b_more, b_last}
 use Rattle.aud_parse.proofs.Tables.{follow}
@@ -43,15 +43,15 @@ abbrev pub Stands : Verdict → Type 0
 Stands (Deep []) = ⊥
 Stands v = Unit {0}
 
-stands : (p : Part) (ts : List Element) → next_in (firsts p) ts ≡ true → Stands (Deep ts)
+stands : (p : Phrase) (ts : List Element) → next_in (firsts p) ts ≡ true → Stands (Deep ts)
 stands p [] h = cc
 stands p (t ∷ ts) h = tt
 
 -- derivations that go on with the token with which the run did
-abbrev pub Only : List Sym → ℕ → List Element → Verdict → Type 0
+abbrev pub Only : List Symbol → ℕ → List Element → Verdict → Type 0
 Only s r front v = (b : Bool) (us : List Element) (q : ℕ) → r ≤ q → Says b us → next_of (rest_of v) ≡ next_of us → Goes b s q (front ++ us) → Tells v r q
 
-pub record Ends (s : List Sym) (r : ℕ) (ts : List Element) (v : Verdict) : Type 0 where
+pub record Ends (s : List Symbol) (r : ℕ) (ts : List Element) (v : Verdict) : Type 0 where
   pub front : List Element
   pub split : ts ≡ front ++ rest_of v
   pub alive : Gets s (front ++ reach_of v)
@@ -66,11 +66,11 @@ same_next (t ∷ front) ts us h = refl
 next_same : (ts front rest us : List Element) → ts ≡ front ++ rest → next_of rest ≡ next_of us → next_of ts ≡ next_of (front ++ us)
 next_same ts front rest us e n = ap next_of e ∙ same_next front rest us n
 
-end_code : (t : Element) → 999 ≡ code t.kind → ⊥
-end_code t e = not_both (999 == code t.kind) (eq-eqb 999 (code t.kind) e) (not_the_end t.kind)
+end_code : (t : Element) → 999 ≡ kind_number t.kind → ⊥
+end_code t e = not_both (999 == kind_number t.kind) (eq-eqb 999 (kind_number t.kind) e) (not_the_end t.kind)
 
-wrong_next : (c : Kind) (ts us : List Element) → next_in (c ∷ []) ts ≡ false → next_of ts ≡ next_of us → mem (code c ∷ []) (next_code us) ≡ true → ⊥
-wrong_next c ts us e n m = not_both _ m (ap (λ x. mem (code c ∷ []) x) (sym (next_codes ts us n)) ∙ sym (next_is (c ∷ []) ts) ∙ e)
+wrong_next : (c : Kind) (ts us : List Element) → next_in (c ∷ []) ts ≡ false → next_of ts ≡ next_of us → mem (kind_number c ∷ []) (next_code us) ≡ true → ⊥
+wrong_next c ts us e n m = not_both _ m (ap (λ x. mem (kind_number c ∷ []) x) (sym (next_codes ts us n)) ∙ sym (next_is (c ∷ []) ts) ∙ e)
 
 abbrev word_of : Word → Option Element → Bool
 word_of w None = false
@@ -84,12 +84,12 @@ wrong_word : (w : Word) (ts us : List Element) (t : Element) (vs : List Element)
 wrong_word w ts us t vs h n e i = not_both (is_word w t) i (sym (is_word_of w ts ∙ ap (word_of w) (n ∙ ap next_of e)) ∙ h)
 
 -- the run ends at once
-ends_here : {s : List Sym} {r : ℕ} {ts : List Element} (v : Verdict) → ts ≡ rest_of v → Gets s (reach_of v) → Only s r [] v → Stands v → Ends s r ts v
+ends_here : {s : List Symbol} {r : ℕ} {ts : List Element} (v : Verdict) → ts ≡ rest_of v → Gets s (reach_of v) → Only s r [] v → Stands v → Ends s r ts v
 ends_here v e alive only stood = record { front = []; split = e; alive = alive; held = b_stop; only = only; stood = stood }
 
 -- a step that passes a token, and one that passes none
 
-pass_ends : {s k : List Sym} {r : ℕ} {ts : List Element} {v : Verdict} (t : Element) → Ends k r ts v → ((l : List Element) → Gets k l → Gets s (t ∷ l)) →
+pass_ends : {s k : List Symbol} {r : ℕ} {ts : List Element} {v : Verdict} (t : Element) → Ends k r ts v → ((l : List Element) → Gets k l → Gets s (t ∷ l)) →
     ((l : List Element) → Begun k r l → Begun s r (t ∷ l)) →
     ((b : Bool) (us : List Element) (q : ℕ) → Goes b s q (t ∷ us) → Says b (t ∷ us) → Goes b k q us) → Ends s r (t ∷ ts) v
 pass_ends t e gets held past = record {
@@ -102,7 +102,7 @@ pass_ends t e gets held past = record {
   stood = e.stood;
 }
 
-step_ends : {s k : List Sym} {r r' : ℕ} {ts : List Element} {v : Verdict} → Ends k r' ts v → ((l : List Element) → Gets k l → Gets s l) →
+step_ends : {s k : List Symbol} {r r' : ℕ} {ts : List Element} {v : Verdict} → Ends k r' ts v → ((l : List Element) → Gets k l → Gets s l) →
     ((l : List Element) → Begun k r' l → Begun s r l) →
     ((b : Bool) (us : List Element) (q : ℕ) → r ≤ q → Says b us → next_of ts ≡ next_of us → Goes b s q us →
     ((q' : ℕ) → r' ≤ q' → Goes b k q' us → Tells v r' q') → Tells v r q) → Ends s r ts v
@@ -116,7 +116,7 @@ step_ends {ts = ts} {v = v} e gets held tell = record {
   stood = e.stood;
 }
 
-pub ends : {s : List Sym} {r : ℕ} {ts : List Element} {ds : List Item} {v : Verdict} → Out s r ts ds v → Clean s fin → Full s → Ends s r ts v
+pub ends : {s : List Symbol} {r : ℕ} {ts : List Element} {ds : List Item} {v : Verdict} → Out s r ts ds v → Clean s fin → Full s → Ends s r ts v
 ends o_end c u = ends_here Good refl (can [] u) (λ b us q le h n d. tt) tt
 ends (o_rest {t = t} {ts = ts}) c u = ends_here (Wrong (t ∷ ts)) refl (can [] u) (λ b us q le h n d. end_code t (sym (next_codes (t ∷ ts) us n ∙ ap next_code (step d h)))) tt
 ends (o_word {c = c'} {k = k} {t = t} e o) c u = pass_ends t (ends o c u) (λ l i. gets_word c' t k l e i) (λ l i. b_word e i) (λ b us q d h. behind t us (step d h))
@@ -160,12 +160,12 @@ ends (o_stop {p} {k} {ts = ts} e o) c u =
     step_ends (ends o c.2 u) (λ l i. gets_stop p k l i) (λ l i. b_last i)
     (λ b us q le h n d go. ⊎_elim (λ w. no_not p ts us e n (begins w h)) (λ w. go q le w) (step d h))
 
--- whole lists of tokens, from one part on; follow says that the part may come last
+-- whole lists of tokens, from one phrase on; follow says that the phrase may come last
 
-abbrev pub may_end : Part → Bool
+abbrev pub may_end : Phrase → Bool
 may_end p = mem (follow p) 999
 
-pub whole_clean : (p : Part) → may_end p ≡ true → Clean (N p ∷ []) fin
+pub whole_clean : (p : Phrase) → may_end p ≡ true → Clean (N p ∷ []) fin
 whole_clean p e = (λ c m. subst (λ x. mem (follow p) x ≡ true) (sym (is_end c m)) e, tt)
   where
     is_end : (c : ℕ) → mem fin c ≡ true → c ≡ 999

@@ -3,13 +3,13 @@ use Rattle.std.proofs.Common.{◌≡◌, ℕ, suc, ◌+◌, ◌≤◌, List, [],
 use Rattle.std.specs.Prelude.{◌==◌, if◌then◌else◌, Result, Ok, Err, IsErrAnd}
 use Rattle.std.proofs.lemmas.Result.{err_from_is_err_and}
 use Rattle.aud_lex.specs.Element.{Element}
-use Rattle.aud_lex.specs.Kinds.{code}
+use Rattle.aud_lex.specs.Kinds.{kind_number}
 use Rattle.aud_lex.specs.declared.token.Kind.{Kind}
-use Rattle.aud_parse.specs.Grammar.{Part, Sym, T, P, N, L, Down, Rep, rule}
+use Rattle.aud_parse.specs.Grammar.{Phrase, Symbol, T, P, N, L, Down, Rep, rule}
 use Rattle.aud_parse.specs.First.{next_in, firsts}
 use Rattle.aud_parse.specs.Parsed.{Verdict, Wrong, Deep}
-use Rattle.aud_parse.specs.Actions.{Item, tok, none, listed, made}
-use Rattle.aud_parse.specs.Machine.{Out, o_level, o_down, o_rule, o_deep, o_shut, o_word, o_token, o_more, o_stop}
+use Rattle.aud_parse.specs.Actions.{Item, token, none, listed, made}
+use Rattle.aud_parse.specs.Outcome.{Out, o_level, o_down, o_rule, o_deep, o_shut, o_word, o_token, o_more, o_stop}
 use Rattle.aud_parse.specs.Items.{list_item}
 use Rattle.aud_parse.specs.declared.cursor.Rest.{Rest}
 use Rattle.aud_parse.specs.declared.cursor.Fault.{Fault}
@@ -26,14 +26,14 @@ next_there ks (t ∷ ts) e = omega arith
 pub word_passes : {c : Kind} {r : ℕ} {ts ts' : List Element} {t : Element} → (next_in (c ∷ []) ts ≡ true) × (ts ≡ t ∷ ts') → Passes (T c) r ts (λ ds. ds) r ts'
 word_passes h k ds v o = rw h.1 (o_word (rw h.1 at h.0) o)
 
-pub token_passes : {c : Kind} {r : ℕ} {ts ts' : List Element} {t : Element} → (next_in (c ∷ []) ts ≡ true) × (ts ≡ t ∷ ts') → Passes (P c) r ts (λ ds. tok t ∷ ds) r ts'
+pub token_passes : {c : Kind} {r : ℕ} {ts ts' : List Element} {t : Element} → (next_in (c ∷ []) ts ≡ true) × (ts ≡ t ∷ ts') → Passes (P c) r ts (λ ds. token t ∷ ds) r ts'
 token_passes h k ds v o = rw h.1 (o_token (rw h.1 at h.0) o)
 
 -- the next token is of one of some kinds
 
 pub in_this : (c : Kind) (cs : List Kind) (ts : List Element) → next_in (c ∷ []) ts ≡ true → next_in (c ∷ cs) ts ≡ true
 in_this c cs [] h = cc
-in_this c cs (t ∷ ts) h = or_left (code t.kind == code c) _ (is_one (code t.kind == code c) h)
+in_this c cs (t ∷ ts) h = or_left (kind_number t.kind == kind_number c) _ (is_one (kind_number t.kind == kind_number c) h)
   where
     is_one : (b : Bool) → (if b then true else false) ≡ true → b ≡ true
     is_one true e = refl
@@ -41,11 +41,11 @@ in_this c cs (t ∷ ts) h = or_left (code t.kind == code c) _ (is_one (code t.ki
 
 pub in_others : (c : Kind) (cs : List Kind) (ts : List Element) → next_in cs ts ≡ true → next_in (c ∷ cs) ts ≡ true
 in_others c cs [] h = h
-in_others c cs (t ∷ ts) h = or_right (code t.kind == code c) _ h
+in_others c cs (t ∷ ts) h = or_right (kind_number t.kind == kind_number c) _ h
 
 pub in_none : (c : Kind) (cs : List Kind) (ts : List Element) → next_in (c ∷ []) ts ≡ false → next_in cs ts ≡ false → next_in (c ∷ cs) ts ≡ false
 in_none c cs [] h i = refl
-in_none c cs (t ∷ ts) h i = neither (code t.kind == code c) h i
+in_none c cs (t ∷ ts) h i = neither (kind_number t.kind == kind_number c) h i
   where
     neither : (b : Bool) {x : Bool} → (if b then true else false) ≡ false → x ≡ false → (if b then true else x) ≡ false
     neither true e f = cc
@@ -53,10 +53,10 @@ in_none c cs (t ∷ ts) h i = neither (code t.kind == code c) h i
 
 -- one level deeper, and back
 
-pub level_in : {p : Part} {k : List Sym} {r q : ℕ} {ts : List Element} {ds : List Item} {v : Verdict} → r ≡ q + 1 → Out (N p ∷ k) q ts ds v → Out (L p ∷ k) r ts ds v
+pub level_in : {p : Phrase} {k : List Symbol} {r q : ℕ} {ts : List Element} {ds : List Item} {v : Verdict} → r ≡ q + 1 → Out (N p ∷ k) q ts ds v → Out (L p ∷ k) r ts ds v
 level_in {p} {k} {r} {q} {ts} {ds} {v} e o = let i : suc q ≡ r = omega (arith, e) in subst (λ n. Out (L p ∷ k) n ts ds v) i (o_level o)
 
-pub level_out : {k : List Sym} {r q : ℕ} {ts : List Element} {ds : List Item} {v : Verdict} → r ≡ q + 1 → Out k r ts ds v → Out (Down ∷ k) q ts ds v
+pub level_out : {k : List Symbol} {r q : ℕ} {ts : List Element} {ds : List Item} {v : Verdict} → r ≡ q + 1 → Out k r ts ds v → Out (Down ∷ k) q ts ds v
 level_out {k} {r} {q} {ts} {ds} {v} e o = let i : r ≡ suc q = omega (arith, e) in o_down (subst (λ n. Out k n ts ds v) i o)
 
 -- a list of trees in front of what its end is read to
@@ -65,10 +65,10 @@ fronted f [] ds = ds
 fronted f (x ∷ xs) ds = listed (f x ∷ fronted f xs ds)
 
 -- the turns of a loop so far
-pub record Turns {X : Type 0} (f : X → Item) (p : Part) (r : ℕ) (ts : List Element) (xs : List X) (ts' : List Element) : Type 0 where
-  pub by : (k : List Sym) (ds : List Item) (v : Verdict) → Out (Rep p ∷ k) r ts' ds v → Out (Rep p ∷ k) r ts (fronted f xs ds) v
+pub record Turns {X : Type 0} (f : X → Item) (p : Phrase) (r : ℕ) (ts : List Element) (xs : List X) (ts' : List Element) : Type 0 where
+  pub by : (k : List Symbol) (ds : List Item) (v : Verdict) → Out (Rep p ∷ k) r ts' ds v → Out (Rep p ∷ k) r ts (fronted f xs ds) v
 
-pub turns_none : {X : Type 0} (f : X → Item) (p : Part) (r : ℕ) (ts : List Element) → Turns f p r ts [] ts
+pub turns_none : {X : Type 0} (f : X → Item) (p : Phrase) (r : ℕ) (ts : List Element) → Turns f p r ts [] ts
 turns_none f p r ts = record { by = λ k ds v o. o }
 
 front_push : {X : Type 0} (f : X → Item) (xs : List X) (x : X) (ds : List Item) → fronted f (xs ++ x ∷ []) ds ≡ fronted f xs (listed (f x ∷ ds))
@@ -79,44 +79,44 @@ items_front : {X : Type 0} (f : X → Item) (xs : List X) (ds : List Item) → l
 items_front f [] ds = refl
 items_front f (y ∷ xs) ds = ap (λ z. listed (f y ∷ z)) (items_front f xs ds)
 
-pub turns_push : {X : Type 0} {f : X → Item} {p : Part} {r : ℕ} {ts ts' ts'' : List Element} {xs ys : List X} (x : X) →
+pub turns_push : {X : Type 0} {f : X → Item} {p : Phrase} {r : ℕ} {ts ts' ts'' : List Element} {xs ys : List X} (x : X) →
     Turns f p r ts xs ts' → next_in (firsts p) ts' ≡ true → Passes (N p) r ts' (λ ds. f x ∷ ds) r ts'' → ys ≡ xs ++ x ∷ [] → Turns f p r ts ys ts''
 turns_push {p = p} x t e s is = record {
   by = λ k ds v o.
       rw (is, front_push) (t.by k _ v (o_more e (s (Rep p ∷ k) ds v o)));
 }
 
-pub turns_end : {X : Type 0} {f : X → Item} {p : Part} {r : ℕ} {ts ts' : List Element} {xs : List X} → Turns f p r ts xs ts' → next_in (firsts p) ts' ≡ false → Passes (Rep p) r ts (λ ds. list_item f xs ∷ ds) r ts'
+pub turns_end : {X : Type 0} {f : X → Item} {p : Phrase} {r : ℕ} {ts ts' : List Element} {xs : List X} → Turns f p r ts xs ts' → next_in (firsts p) ts' ≡ false → Passes (Rep p) r ts (λ ds. list_item f xs ∷ ds) r ts'
 turns_end {f = f} {p} {r} {ts} {xs = xs} t e k ds v o = subst (λ z. Out (Rep p ∷ k) r ts z v) (sym (items_front f xs ds)) (t.by k _ v (o_stop e o))
 
 -- how a function fails with a fault, and so do those that have passed something before it
-fails_through : {s0 s : Sym} {r r' : ℕ} {ts ts' : List Element} {K : List Sym → List Sym} {f : List Item → List Item} (e : Fault) →
-    FailsAt s r' ts' e → ((k : List Sym) (ds : List Item) (v : Verdict) → Out (s ∷ K k) r' ts' ds v → Out (s0 ∷ k) r ts (f ds) v) → FailsAt s0 r ts e
+fails_through : {s0 s : Symbol} {r r' : ℕ} {ts ts' : List Element} {K : List Symbol → List Symbol} {f : List Item → List Item} (e : Fault) →
+    FailsAt s r' ts' e → ((k : List Symbol) (ds : List Item) (v : Verdict) → Out (s ∷ K k) r' ts' ds v → Out (s0 ∷ k) r ts (f ds) v) → FailsAt s0 r ts e
 fails_through fault.Memory h g = tt
 fails_through {K = K} {f} (fault.Wrong rest) h g = λ k. let o = h (K k) in (f o.0, g k o.0 _ o.1)
 fails_through {K = K} {f} (fault.Deep rest) h g = λ k. let o = h (K k) in (f o.0, g k o.0 _ o.1)
 
 -- the exit by a `?`
-pub exit : {s0 s : Sym} {r r' : ℕ} {ts ts' : List Element} {K : List Sym → List Sym} {f : List Item → List Item} {X : Type 0} (x : X → Item) (e : Fault) (res : Result (X × Rest) Fault) →
-    IsErrAnd res (λ y. y ≡ e) → FailsAt s r' ts' e → ((k : List Sym) (ds : List Item) (v : Verdict) → Out (s ∷ K k) r' ts' ds v → Out (s0 ∷ k) r ts (f ds) v) → Reads x s0 r ts res
+pub exit : {s0 s : Symbol} {r r' : ℕ} {ts ts' : List Element} {K : List Symbol → List Symbol} {f : List Item → List Item} {X : Type 0} (x : X → Item) (e : Fault) (res : Result (X × Rest) Fault) →
+    IsErrAnd res (λ y. y ≡ e) → FailsAt s r' ts' e → ((k : List Symbol) (ds : List Item) (v : Verdict) → Out (s ∷ K k) r' ts' ds v → Out (s0 ∷ k) r ts (f ds) v) → Reads x s0 r ts res
 exit x e res is h g =
     let p = err_from_is_err_and res is in
     rw (p.1, p.2) (fails_through e h g)
 
 -- a function that hands on the answer of another
-pub hand_on : {s0 s : Sym} {r : ℕ} {ts : List Element} {X : Type 0} (x : X → Item) (res : Result (X × Rest) Fault) → Reads x s r ts res →
-    ((k : List Sym) (ds : List Item) (v : Verdict) → Out (s ∷ k) r ts ds v → Out (s0 ∷ k) r ts ds v) → Reads x s0 r ts res
+pub hand_on : {s0 s : Symbol} {r : ℕ} {ts : List Element} {X : Type 0} (x : X → Item) (res : Result (X × Rest) Fault) → Reads x s r ts res →
+    ((k : List Symbol) (ds : List Item) (v : Verdict) → Out (s ∷ k) r ts ds v → Out (s0 ∷ k) r ts ds v) → Reads x s0 r ts res
 hand_on x (Ok p) h g = λ k ds v o. g k _ v (h k ds v o)
 hand_on x (Err e) h g = fails_through e h g
 
 -- the same one level deeper
-pub level_on : {s0 : Sym} {q : Part} {r : ℕ} {ts : List Element} {X : Type 0} (x : X → Item) (i : ℕ) (res : Result (X × Rest) Fault) → r ≡ i + 1 → Reads x (N q) i ts res →
-    ((k : List Sym) (ds : List Item) (v : Verdict) → Out (L q ∷ Down ∷ k) r ts ds v → Out (s0 ∷ k) r ts ds v) → Reads x s0 r ts res
+pub level_on : {s0 : Symbol} {q : Phrase} {r : ℕ} {ts : List Element} {X : Type 0} (x : X → Item) (i : ℕ) (res : Result (X × Rest) Fault) → r ≡ i + 1 → Reads x (N q) i ts res →
+    ((k : List Symbol) (ds : List Item) (v : Verdict) → Out (L q ∷ Down ∷ k) r ts ds v → Out (s0 ∷ k) r ts ds v) → Reads x s0 r ts res
 level_on x i (Ok p) e h g = λ k ds v o. g k _ v (level_in e (h (Down ∷ k) ds v (level_out e o)))
 level_on x i (Err e') e h g = fails_through {K = λ k. Down ∷ k} {f = λ ds. ds} e' h (λ k ds v o. g k ds v (level_in e o))
 
 -- the exit where no level is left
-pub no_level : {X : Type 0} (x : X → Item) (p q : Part) (r : ℕ) (ts : Rest) (b : Bool) (e : Fault) (res : Result (X × Rest) Fault) → rule p ≡ L q ∷ Down ∷ [] →
+pub no_level : {X : Type 0} (x : X → Item) (p q : Phrase) (r : ℕ) (ts : Rest) (b : Bool) (e : Fault) (res : Result (X × Rest) Fault) → rule p ≡ L q ∷ Down ∷ [] →
     IsErrAnd res (λ y. y ≡ e) → (r ≡ 0) × (e ≡ (if b then fault.Deep ts else fault.Wrong ts)) → b ≡ next_in (firsts q) ts.tokens.now → Reads x (N p) r ts.tokens.now res
 no_level x p q r ts b e res h is at t =
     let i = err_from_is_err_and res is in
@@ -127,7 +127,7 @@ no_level x p q r ts b e res h is at t =
     here false t = λ k. (made p [], o_rule (subst (λ l. Out (l ++ k) 0 ts.tokens.now [] (Wrong ts.tokens.now)) (sym h) (o_shut (sym t))))
 
 -- the same items, written otherwise
-pub to : {s : List Sym} {r : ℕ} {ts : List Element} {ds es : List Item} {v : Verdict} → Out s r ts ds v → ds ≡ es → Out s r ts es v
+pub to : {s : List Symbol} {r : ℕ} {ts : List Element} {ds es : List Item} {v : Verdict} → Out s r ts ds v → ds ≡ es → Out s r ts es v
 to {s} {r} {ts} {v = v} o e = subst (λ z. Out s r ts z v) e o
 
 -- what the trees of some turns, of which the last is followed by one more, make of what that one is read to
@@ -135,9 +135,9 @@ abbrev pub headed : {X : Type 0} → (X → Item) → List X → List Item → L
 headed f [] ds = ds
 headed f (x ∷ xs) ds = f x ∷ listed (headed f xs ds)
 
--- the turns so far of a loop that has one at least: it reads q, and each further one is part of a p
-pub record Heads {X : Type 0} (f : X → Item) (q p : Part) (r : ℕ) (ts : List Element) (xs : List X) (ts' : List Element) : Type 0 where
-  pub by : (k : List Sym) (ds : List Item) (v : Verdict) → Out (N q ∷ Rep p ∷ k) r ts' ds v → Out (N q ∷ Rep p ∷ k) r ts (headed f xs ds) v
+-- the turns so far of a loop that has one at least: it reads q, and each further one is phrase of a p
+pub record Heads {X : Type 0} (f : X → Item) (q p : Phrase) (r : ℕ) (ts : List Element) (xs : List X) (ts' : List Element) : Type 0 where
+  pub by : (k : List Symbol) (ds : List Item) (v : Verdict) → Out (N q ∷ Rep p ∷ k) r ts' ds v → Out (N q ∷ Rep p ∷ k) r ts (headed f xs ds) v
 
 headed_push : {X : Type 0} (f : X → Item) (xs : List X) (x : X) (ds : List Item) → headed f (xs ++ x ∷ []) ds ≡ headed f xs (f x ∷ listed ds)
 headed_push f [] x ds = refl
@@ -147,16 +147,16 @@ headed_items : {X : Type 0} (f : X → Item) (xs : List X) (x : X) (ds : List It
 headed_items f [] x ds = refl
 headed_items f (y ∷ xs) x ds = ap (λ z. listed (f y ∷ z)) (headed_items f xs x ds)
 
-pub heads_none : {X : Type 0} {f : X → Item} {q p : Part} {r : ℕ} {ts : List Element} {xs : List X} → xs ≡ [] → Heads f q p r ts xs ts
+pub heads_none : {X : Type 0} {f : X → Item} {q p : Phrase} {r : ℕ} {ts : List Element} {xs : List X} → xs ≡ [] → Heads f q p r ts xs ts
 heads_none e = rw e (record { by = λ k ds v o. o })
 
-pub heads_push : {X : Type 0} {f : X → Item} {q p : Part} {r : ℕ} {ts ts' ts'' us : List Element} {xs ys : List X} (x : X) →
-    Heads f q p r ts xs ts' → Passes (N q) r ts' (λ ds. f x ∷ ds) r ts'' → ((k : List Sym) (ds : List Item) (v : Verdict) → Out (N q ∷ Rep p ∷ k) r us ds v → Out (Rep p ∷ k) r ts'' (listed ds) v) → ys ≡ xs ++ x ∷ [] →
+pub heads_push : {X : Type 0} {f : X → Item} {q p : Phrase} {r : ℕ} {ts ts' ts'' us : List Element} {xs ys : List X} (x : X) →
+    Heads f q p r ts xs ts' → Passes (N q) r ts' (λ ds. f x ∷ ds) r ts'' → ((k : List Symbol) (ds : List Item) (v : Verdict) → Out (N q ∷ Rep p ∷ k) r us ds v → Out (Rep p ∷ k) r ts'' (listed ds) v) → ys ≡ xs ++ x ∷ [] →
     Heads f q p r ts ys us
 heads_push {p = p} x t s g is = record { by = λ k ds v o. rw (is, headed_push) (t.by k _ v (s (Rep p ∷ k) _ v (g k ds v o))) }
 
-pub heads_end : {X : Type 0} {f : X → Item} {s0 : Sym} {q p : Part} {r : ℕ} {ts ts' ts'' : List Element} {xs ys : List X} (x : X) →
+pub heads_end : {X : Type 0} {f : X → Item} {s0 : Symbol} {q p : Phrase} {r : ℕ} {ts ts' ts'' : List Element} {xs ys : List X} (x : X) →
     Heads f q p r ts xs ts' → Passes (N q) r ts' (λ ds. f x ∷ ds) r ts'' → next_in (firsts p) ts'' ≡ false → ys ≡ xs ++ x ∷ [] →
-    ((k : List Sym) (ds : List Item) (v : Verdict) → Out (N q ∷ Rep p ∷ k) r ts ds v → Out (s0 ∷ k) r ts (listed ds) v) → Passes s0 r ts (λ ds. list_item f ys ∷ ds) r ts''
+    ((k : List Symbol) (ds : List Item) (v : Verdict) → Out (N q ∷ Rep p ∷ k) r ts ds v → Out (s0 ∷ k) r ts (listed ds) v) → Passes s0 r ts (λ ds. list_item f ys ∷ ds) r ts''
 heads_end {f = f} {p = p} {xs = xs} x t s e is g k ds v o =
     to (g k _ v (t.by k _ v (s (Rep p ∷ k) _ v (o_stop e o)))) (headed_items f xs x ds ∙ ap (λ l. list_item f l ∷ ds) (sym is))

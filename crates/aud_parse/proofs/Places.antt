@@ -6,16 +6,16 @@ use Rattle.aud_text.specs.declared.limits.TheConstants.{LEVELS}
 use Rattle.aud_lex.specs.declared.token.Kind.{Kind}
 use Rattle.aud_lex.specs.declared.token.Kind.TheVariants as kind
 use Rattle.aud_lex.specs.Element.{Element}
-use Rattle.aud_lex.specs.Kinds.{code}
+use Rattle.aud_lex.specs.Kinds.{kind_number}
 use Rattle.aud_text.specs.Name.{capitals}
 use Rattle.aud_syntax.specs.Bare.{nowhere, bare}
 use Rattle.aud_parse.specs.Grammar as g
-use Rattle.aud_parse.specs.Grammar.{Word, Part, Sym, T, P, W, N, L, Down, A, Opt, Rep, rule}
+use Rattle.aud_parse.specs.Grammar.{Word, Phrase, Symbol, T, P, W, N, L, Down, A, Opt, Rep, rule}
 use Rattle.aud_parse.specs.First.{spelling, among, same_text, is_word, next_word, next_in, firsts}
 use Rattle.aud_parse.specs.Actions as a
-use Rattle.aud_parse.specs.Actions.{Item, tok, none, top, listed, made, the_unit}
+use Rattle.aud_parse.specs.Actions.{Item, token, none, top, listed, made, the_unit}
 use Rattle.aud_parse.specs.Parsed.{Verdict, Good, Wrong, Deep, budget, parsed, judged}
-use Rattle.aud_parse.specs.Machine.{Out, o_end, o_rest, o_word, o_token, o_no_word, o_no_token, o_spelled, o_misspelled, o_rule, o_level, o_deep, o_shut, o_down, o_this, o_other, o_last, o_yes, o_no, o_more, o_stop}
+use Rattle.aud_parse.specs.Outcome.{Out, o_end, o_rest, o_word, o_token, o_no_word, o_no_token, o_spelled, o_misspelled, o_rule, o_level, o_deep, o_shut, o_down, o_this, o_other, o_last, o_yes, o_no, o_more, o_stop}
 use Rattle.aud_parse.specs.Alike.{Alike, AllAlike, stripped}
 use Rattle.aud_parse.specs.Laws.{AlikeRead}
 use Rattle.aud_parse.proofs.Reading.{enough_budget}
@@ -43,7 +43,7 @@ Matches (Deep ts) (Deep us) = length ts ≡ length us
 Matches _ _ = ⊥
 
 -- the other tokens are read to these items, but for places, and this end
-record Follows (s : List Sym) (r : ℕ) (us : List Element) (ds : List Item) (v : Verdict) : Type 0 where
+record Follows (s : List Symbol) (r : ℕ) (us : List Element) (ds : List Item) (v : Verdict) : Type 0 where
   items : List Item
   end : Verdict
   reads : Out s r us items end
@@ -51,11 +51,11 @@ record Follows (s : List Sym) (r : ℕ) (us : List Element) (ds : List Item) (v 
   ended : Matches v end
 
 -- a step that makes nothing
-same_items : {s t : List Sym} {q r : ℕ} {ts us : List Element} {ds : List Item} {v : Verdict} → Follows s q ts ds v → ((es : List Item) (w : Verdict) → Out s q ts es w → Out t r us es w) → Follows t r us ds v
+same_items : {s t : List Symbol} {q r : ℕ} {ts us : List Element} {ds : List Item} {v : Verdict} → Follows s q ts ds v → ((es : List Item) (w : Verdict) → Out s q ts es w → Out t r us es w) → Follows t r us ds v
 same_items f step = record { items = f.items; end = f.end; reads = step f.items f.end f.reads; bared = f.bared; ended = f.ended }
 
 -- a step that makes an item of what is read
-new_items : {s t : List Sym} {q r : ℕ} {ts us : List Element} {ds : List Item} {v : Verdict} (make : List Item → List Item) →
+new_items : {s t : List Symbol} {q r : ℕ} {ts us : List Element} {ds : List Item} {v : Verdict} (make : List Item → List Item) →
     ((st : List Item) → bares (make st) ≡ make (bares st)) → Follows s q ts ds v → ((es : List Item) (w : Verdict) → Out s q ts es w → Out t r us (make es) w) → Follows t r us (make ds) v
 new_items {ds = ds} make h f step = record {
   items = make f.items;
@@ -66,18 +66,18 @@ new_items {ds = ds} make h f step = record {
 }
 
 -- a token in front
-token_follows : {c : Kind} {k : List Sym} {r : ℕ} {t : Element} {ds : List Item} {v : Verdict} (u : Element) (us : List Element) → among (c ∷ []) (code u.kind) ≡ true → Follows k r us ds v → Follows (P c ∷ k) r (u ∷ us) (tok t ∷ ds) v
-token_follows u us h f = record { items = tok u ∷ f.items; end = f.end; reads = o_token h f.reads; bared = ap (λ z. bare_item (tok u) ∷ z) f.bared; ended = f.ended }
+token_follows : {c : Kind} {k : List Symbol} {r : ℕ} {t : Element} {ds : List Item} {v : Verdict} (u : Element) (us : List Element) → among (c ∷ []) (kind_number u.kind) ≡ true → Follows k r us ds v → Follows (P c ∷ k) r (u ∷ us) (token t ∷ ds) v
+token_follows u us h f = record { items = token u ∷ f.items; end = f.end; reads = o_token h f.reads; bared = ap (λ z. bare_item (token u) ∷ z) f.bared; ended = f.ended }
 
--- a part of one token
-leaf_follows : {k : List Sym} {r : ℕ} {ds : List Item} {v : Verdict} (p : Part) (c : Kind) (f : Item → Item) (t u : Element) (us : List Element) →
-    ((es : List Item) (w : Verdict) → Out (P c ∷ k) r (u ∷ us) (tok u ∷ es) w → Out (N p ∷ k) r (u ∷ us) (f (tok u) ∷ es) w) →
-    bare_item (f (tok t)) ≡ bare_item (f (tok u)) → among (c ∷ []) (code u.kind) ≡ true → Follows k r us ds v → Follows (N p ∷ k) r (u ∷ us) (f (tok t) ∷ ds) v
+-- a phrase of one token
+leaf_follows : {k : List Symbol} {r : ℕ} {ds : List Item} {v : Verdict} (p : Phrase) (c : Kind) (f : Item → Item) (t u : Element) (us : List Element) →
+    ((es : List Item) (w : Verdict) → Out (P c ∷ k) r (u ∷ us) (token u ∷ es) w → Out (N p ∷ k) r (u ∷ us) (f (token u) ∷ es) w) →
+    bare_item (f (token t)) ≡ bare_item (f (token u)) → among (c ∷ []) (kind_number u.kind) ≡ true → Follows k r us ds v → Follows (N p ∷ k) r (u ∷ us) (f (token t) ∷ ds) v
 leaf_follows {ds = ds} p c f t u us step e h o = record {
-  items = f (tok u) ∷ o.items;
+  items = f (token u) ∷ o.items;
   end = o.end;
   reads = step o.items o.end (o_token h o.reads);
-  bared = ap (λ z. z ∷ bares ds) e ∙ ap (λ z. bare_item (f (tok u)) ∷ z) o.bared;
+  bared = ap (λ z. z ∷ bares ds) e ∙ ap (λ z. bare_item (f (token u)) ∷ z) o.bared;
   ended = o.ended;
 }
 
@@ -85,23 +85,23 @@ tested : (b : Bool) → (if b then true else false) ≡ true → b ≡ true
 tested true e = refl
 tested false e = cc
 
-pub is_code : (c : Kind) (n : ℕ) → among (c ∷ []) n ≡ true → n ≡ code c
-is_code c n e = eqb-true n (code c) (tested (n == code c) e)
+pub is_code : (c : Kind) (n : ℕ) → among (c ∷ []) n ≡ true → n ≡ kind_number c
+is_code c n e = eqb-true n (kind_number c) (tested (n == kind_number c) e)
 
-alike_among : (c : Kind) (t u : Element) → Alike t u → among (c ∷ []) (code t.kind) ≡ true → among (c ∷ []) (code u.kind) ≡ true
+alike_among : (c : Kind) (t u : Element) → Alike t u → among (c ∷ []) (kind_number t.kind) ≡ true → among (c ∷ []) (kind_number u.kind) ≡ true
 alike_among c t u h e = subst (λ n. among (c ∷ []) n ≡ true) h.kind e
 
-word_in : (w : Word) (t u : Element) → Alike t u → (b : Bool) → (code u.kind == code kind.Identifier) ≡ b →
+word_in : (w : Word) (t u : Element) → Alike t u → (b : Bool) → (kind_number u.kind == kind_number kind.Identifier) ≡ b →
     (if (if b then true else false) then same_text (capitals t.text) (spelling w) else false) ≡ (if (if b then true else false) then same_text (capitals u.text) (spelling w) else false)
 word_in w t u h true e =
-    let i : code u.kind ≡ code kind.Identifier = eqb-true (code u.kind) (code kind.Identifier) e in
+    let i : kind_number u.kind ≡ kind_number kind.Identifier = eqb-true (kind_number u.kind) (kind_number kind.Identifier) e in
     ap (λ (z : List ℕ). same_text z (spelling w)) (h.name (h.kind ∙ i))
 word_in w t u h false e = refl
 
 word_alike : (w : Word) (t u : Element) → Alike t u → is_word w t ≡ is_word w u
 word_alike w t u h =
     ap (λ n. if among (kind.Identifier ∷ []) n then same_text (capitals t.text) (spelling w) else false) h.kind
-    ∙ word_in w t u h (code u.kind == code kind.Identifier) refl
+    ∙ word_in w t u h (kind_number u.kind == kind_number kind.Identifier) refl
 
 next_word_alike : (w : Word) (ts us : List Element) → AllAlike ts us → next_word w us ≡ next_word w ts
 next_word_alike w [] [] h = refl
@@ -109,10 +109,10 @@ next_word_alike w [] (u ∷ us) h = absurd h
 next_word_alike w (t ∷ ts) [] h = absurd h
 next_word_alike w (t ∷ ts) (u ∷ us) h = sym (word_alike w t u h.0)
 
-fault_follows : {s : List Sym} {r : ℕ} {us : List Element} (items : List Item) (v w : Verdict) → Out s r us items w → Matches v w → Follows s r us items v
+fault_follows : {s : List Symbol} {r : ℕ} {us : List Element} (items : List Item) (v w : Verdict) → Out s r us items w → Matches v w → Follows s r us items v
 fault_follows items v w o e = record { items = items; end = w; reads = o; bared = refl; ended = e }
 
-follows : {s : List Sym} {r : ℕ} {ts : List Element} {ds : List Item} {v : Verdict} → Out s r ts ds v → (us : List Element) → AllAlike ts us → Follows s r us ds v
+follows : {s : List Symbol} {r : ℕ} {ts : List Element} {ds : List Item} {v : Verdict} → Out s r ts ds v → (us : List Element) → AllAlike ts us → Follows s r us ds v
 follows o_end [] h = record { items = []; end = Good; reads = o_end; bared = refl; ended = tt }
 follows o_end (u ∷ us) h = absurd h
 follows (o_rest {r} {t} {ts}) [] h = absurd h
@@ -126,22 +126,22 @@ follows (o_no_token {c} {k} {r} {ts} e) us h = fault_follows [] (Wrong ts) (Wron
 follows (o_spelled e o) [] h = absurd h
 follows (o_spelled {w} {k} {r} {t} {ts} {ds} {v} e o) (u ∷ us) h = same_items (follows o us h.1) (λ es w' x. o_spelled (sym (word_alike w t u h.0) ∙ e) x)
 follows (o_misspelled {w} {k} {r} {ts} e) us h = fault_follows [] (Wrong ts) (Wrong us) (o_misspelled (next_word_alike w ts us h ∙ e)) (length_alike ts us h)
-follows (o_rule {p = g.Id} (o_token e o)) [] h = absurd h
-follows (o_rule {p = g.Id} (o_token {c} {k} {r} {t} {ts} {ds} {v} e o)) (u ∷ us) h =
-    leaf_follows g.Id kind.Identifier (λ x. a.an_ident (a.ident_of x)) t u us (λ es w x. o_rule x)
-    (ap (λ (z : List ℕ). a.an_ident (record { name = z; at = nowhere })) (h.0.name (is_code kind.Identifier (code t.kind) e)))
+follows (o_rule {p = g.Identifier} (o_token e o)) [] h = absurd h
+follows (o_rule {p = g.Identifier} (o_token {c} {k} {r} {t} {ts} {ds} {v} e o)) (u ∷ us) h =
+    leaf_follows g.Identifier kind.Identifier (λ x. a.an_ident (a.ident_of x)) t u us (λ es w x. o_rule x)
+    (ap (λ (z : List ℕ). a.an_ident (record { name = z; at = nowhere })) (h.0.name (is_code kind.Identifier (kind_number t.kind) e)))
     (alike_among kind.Identifier t u h.0 e) (follows o us h.1)
-follows (o_rule {p = g.Id} (o_no_token {c} {k} {r} {ts} e)) us h = fault_follows (made g.Id []) (Wrong ts) (Wrong us) (o_rule (o_no_token (next_alike (kind.Identifier ∷ []) ts us h ∙ e))) (length_alike ts us h)
+follows (o_rule {p = g.Identifier} (o_no_token {c} {k} {r} {ts} e)) us h = fault_follows (made g.Identifier []) (Wrong ts) (Wrong us) (o_rule (o_no_token (next_alike (kind.Identifier ∷ []) ts us h ∙ e))) (length_alike ts us h)
 follows (o_rule {p = g.Number} (o_token e o)) [] h = absurd h
 follows (o_rule {p = g.Number} (o_token {c} {k} {r} {t} {ts} {ds} {v} e o)) (u ∷ us) h =
     leaf_follows g.Number kind.Integer (λ x. a.a_number (a.number_of x)) t u us (λ es w x. o_rule x)
-    (ap (λ (z : Option ℤ). a.a_number (record { value = z; at = nowhere })) (h.0.number (is_code kind.Integer (code t.kind) e)))
+    (ap (λ (z : Option ℤ). a.a_number (record { value = z; at = nowhere })) (h.0.number (is_code kind.Integer (kind_number t.kind) e)))
     (alike_among kind.Integer t u h.0 e) (follows o us h.1)
 follows (o_rule {p = g.Number} (o_no_token {c} {k} {r} {ts} e)) us h = fault_follows (made g.Number []) (Wrong ts) (Wrong us) (o_rule (o_no_token (next_alike (kind.Integer ∷ []) ts us h ∙ e))) (length_alike ts us h)
 follows (o_rule {p = g.Literal} (o_token e o)) [] h = absurd h
 follows (o_rule {p = g.Literal} (o_token {c} {k} {r} {t} {ts} {ds} {v} e o)) (u ∷ us) h =
     leaf_follows g.Literal kind.Text (λ x. a.a_literal (a.literal_of x)) t u us (λ es w x. o_rule x)
-    (ap (λ (z : List ℕ). a.a_literal (record { text = z; at = nowhere })) (h.0.literal (is_code kind.Text (code t.kind) e)))
+    (ap (λ (z : List ℕ). a.a_literal (record { text = z; at = nowhere })) (h.0.literal (is_code kind.Text (kind_number t.kind) e)))
     (alike_among kind.Text t u h.0 e) (follows o us h.1)
 follows (o_rule {p = g.Literal} (o_no_token {c} {k} {r} {ts} e)) us h = fault_follows (made g.Literal []) (Wrong ts) (Wrong us) (o_rule (o_no_token (next_alike (kind.Text ∷ []) ts us h ∙ e))) (length_alike ts us h)
 follows (o_rule {p = p} o) us h = new_items (made p) (bare_made p refl) (follows o us h) (λ es w x. o_rule x)

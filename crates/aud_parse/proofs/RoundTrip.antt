@@ -5,7 +5,7 @@ use Rattle.std.specs.List.{list_all}
 use Rattle.aud_text.specs.Name.{capitals}
 use Rattle.aud_lex.specs.declared.token.Kind.{Kind}
 use Rattle.aud_lex.specs.Element.{Element}
-use Rattle.aud_lex.specs.Kinds.{code}
+use Rattle.aud_lex.specs.Kinds.{kind_number}
 use Rattle.aud_lex.specs.Tokens.{is_token, kind_of}
 use Rattle.aud_lex.specs.Lexed.{lexed, element}
 use Rattle.aud_lex.specs.Spaced.{spaced}
@@ -27,8 +27,8 @@ use Rattle.aud_parse.proofs.Worded.{words_of}
 abbrev Kinds : List Element → Type 0
 Kinds es = map (λ e. element e.text e.at) es ≡ es
 
-kept : (t : Element) → element t.text t.at ≡ t → Stays (code t.kind) t.text (written t).bytes
-kept t e = subst (λ (k : Kind). Stays (code k) t.text (spelling (code k) t.text)) (ap (λ (z : Element). z.kind) e) (stays t.text)
+kept : (t : Element) → element t.text t.at ≡ t → Stays (kind_number t.kind) t.text (written t).bytes
+kept t e = subst (λ (k : Kind). Stays (kind_number k) t.text (spelling (kind_number k) t.text)) (ap (λ (z : Element). z.kind) e) (stays t.text)
 
 written_tokens : (ts : List Element) → Kinds ts → list_all (λ w. is_token w.bytes) (map written ts) ≡ true
 written_tokens [] k = refl
@@ -39,9 +39,9 @@ written_tokens (t ∷ ts) k =
 
 one_alike : (t e : Element) → element t.text t.at ≡ t → element e.text e.at ≡ e → e.text ≡ (written t).bytes → Alike t e
 one_alike t e h k p =
-    let s : Stays (code t.kind) t.text (written t).bytes = kept t h in
+    let s : Stays (kind_number t.kind) t.text (written t).bytes = kept t h in
     record {
-      kind = sym s.kind ∙ ap (λ b. code (kind_of b)) (sym p) ∙ ap (λ (z : Element). code z.kind) k;
+      kind = sym s.kind ∙ ap (λ b. kind_number (kind_of b)) (sym p) ∙ ap (λ (z : Element). kind_number z.kind) k;
       name = λ i. s.name i ∙ ap capitals (sym p);
       number = λ i. s.number i ∙ ap number_value (sym p);
       literal = λ i. s.literal i ∙ ap unquoted (sym p);

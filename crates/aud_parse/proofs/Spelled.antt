@@ -4,7 +4,7 @@ use Rattle.aud_text.specs.declared.limits.TheConstants.{LEVELS}
 use Rattle.aud_lex.specs.Element.{Element}
 use Rattle.aud_syntax.specs.Plain as m
 use Rattle.aud_parse.specs.Grammar as g
-use Rattle.aud_parse.specs.Grammar.{Part, N}
+use Rattle.aud_parse.specs.Grammar.{Phrase, N}
 use Rattle.aud_parse.specs.Parsed.{Ran, parsed, parsed_as, judged}
 use Rattle.aud_parse.specs.Actions.{Item, the_unit}
 use Rattle.aud_parse.specs.Spells.{SpellsAs, Spells}
@@ -12,7 +12,7 @@ use Rattle.aud_parse.proofs.Reading.{read_is}
 use Rattle.aud_parse.proofs.Ends.{may_end, whole_clean}
 use Rattle.aud_parse.proofs.Sound.{complete}
 
-spells_tree : {X : Type 0} (f : Item → X) (p : Part) → may_end p ≡ true → (r : ℕ) (ts : List Element) (t : X) → SpellsAs f p r ts t → parsed_as f p r ts ≡ Ok t
+spells_tree : {X : Type 0} (f : Item → X) (p : Phrase) → may_end p ≡ true → (r : ℕ) (ts : List Element) (t : X) → SpellsAs f p r ts t → parsed_as f p r ts ≡ Ok t
 spells_tree f p m r ts t s = ap (λ (x : Ran). judged f (length ts) x.0 x.1) (read_is (complete s.1 (whole_clean p m))) ∙ ap (λ z. Ok z) s.2
 
 pub spelled_parsed : (ts : List Element) (t : m.Unit) → Spells ts t → parsed ts ≡ Ok t

@@ -1,27 +1,27 @@
--- What the laws need to know of each part. Written by tools/grammar_tables.py, and checked in Reading and Ends.
+-- What the laws need to know of each phrase. Written by tools/grammar_tables.py, and checked in Reading and Ends.
 use Rattle.std.specs.Prelude.{ℕ, List, [], ◌∷◌}
-use Rattle.aud_parse.specs.Grammar.{Part, Unit, Decls, DeclList, Decl, Ids, MoreIds, Initial, Body, Stmts, StmtList, Stmt, NullStmt, NameStmt, NameRest, Assignment, Call, Expr, Rel, Simple, Sign, Positive, Negative, Added, AddingOperator, Plus, Minus, Join, Term, Multiplied, MultiplyingOperator, Times, Divide, Modulo, Remainder, Factor, Operator, Magnitude, Not, Primary, Integer, String, Named, Attribute, Group, Parens, InParens, Name, NamePart, Args, InArgs, Id, Number, Literal}
+use Rattle.aud_parse.specs.Grammar.{Phrase, Unit, Declarations, DeclarationList, Declaration, Identifiers, MoreIdentifiers, Initial, Body, Statements, StatementList, Statement, NullStatement, NameStatement, NameRest, Assignment, Call, Expression, Relation, Simple, Sign, Positive, Negative, Added, AddingOperator, Plus, Minus, Join, Term, Multiplied, MultiplyingOperator, Times, Divide, Modulo, Remainder, Factor, Operator, Magnitude, Not, Primary, Integer, String, Named, Attribute, Group, Parens, InParens, Name, NamePart, Args, InArgs, Identifier, Number, Literal}
 
--- how many rules may be entered before a token of the part is passed, its own among them
-abbrev pub rank : Part → ℕ
+-- how many rules may be entered before a token of the phrase is passed, its own among them
+abbrev pub rank : Phrase → ℕ
 rank Unit = 1
-rank Decls = 6
-rank DeclList = 4
-rank Decl = 3
-rank Ids = 2
-rank MoreIds = 1
+rank Declarations = 6
+rank DeclarationList = 4
+rank Declaration = 3
+rank Identifiers = 2
+rank MoreIdentifiers = 1
 rank Initial = 1
 rank Body = 1
-rank Stmts = 7
-rank StmtList = 5
-rank Stmt = 4
-rank NullStmt = 1
-rank NameStmt = 2
+rank Statements = 7
+rank StatementList = 5
+rank Statement = 4
+rank NullStatement = 1
+rank NameStatement = 2
 rank NameRest = 6
 rank Assignment = 1
 rank Call = 4
-rank Expr = 11
-rank Rel = 10
+rank Expression = 11
+rank Relation = 10
 rank Simple = 9
 rank Sign = 3
 rank Positive = 1
@@ -54,30 +54,30 @@ rank Name = 3
 rank NamePart = 2
 rank Args = 3
 rank InArgs = 1
-rank Id = 1
+rank Identifier = 1
 rank Number = 1
 rank Literal = 1
 
--- the kinds that may come behind the part, as numbers; 999 is the end of the tokens
-abbrev pub follow : Part → List ℕ
+-- the kinds that may come behind the phrase, as numbers; 999 is the end of the tokens
+abbrev pub follow : Phrase → List ℕ
 follow Unit = 999 ∷ []
-follow Decls = 10 ∷ []
-follow DeclList = 10 ∷ []
-follow Decl = 10 ∷ 100 ∷ []
-follow Ids = 84 ∷ []
-follow MoreIds = 80 ∷ 84 ∷ []
+follow Declarations = 10 ∷ []
+follow DeclarationList = 10 ∷ []
+follow Declaration = 10 ∷ 100 ∷ []
+follow Identifiers = 84 ∷ []
+follow MoreIdentifiers = 80 ∷ 84 ∷ []
 follow Initial = 85 ∷ []
 follow Body = 999 ∷ []
-follow Stmts = 21 ∷ []
-follow StmtList = 21 ∷ []
-follow Stmt = 21 ∷ 38 ∷ 100 ∷ []
-follow NullStmt = 21 ∷ 38 ∷ 100 ∷ []
-follow NameStmt = 21 ∷ 38 ∷ 100 ∷ []
+follow Statements = 21 ∷ []
+follow StatementList = 21 ∷ []
+follow Statement = 21 ∷ 38 ∷ 100 ∷ []
+follow NullStatement = 21 ∷ 38 ∷ 100 ∷ []
+follow NameStatement = 21 ∷ 38 ∷ 100 ∷ []
 follow NameRest = 21 ∷ 38 ∷ 100 ∷ []
 follow Assignment = 21 ∷ 38 ∷ 100 ∷ []
 follow Call = 21 ∷ 38 ∷ 100 ∷ []
-follow Expr = 77 ∷ 85 ∷ 999 ∷ []
-follow Rel = 77 ∷ 85 ∷ 999 ∷ []
+follow Expression = 77 ∷ 85 ∷ 999 ∷ []
+follow Relation = 77 ∷ 85 ∷ 999 ∷ []
 follow Simple = 77 ∷ 85 ∷ 999 ∷ []
 follow Sign = 1 ∷ 37 ∷ 76 ∷ 100 ∷ 101 ∷ 103 ∷ []
 follow Positive = 1 ∷ 37 ∷ 76 ∷ 100 ∷ 101 ∷ 103 ∷ []
@@ -110,6 +110,6 @@ follow Name = 35 ∷ 53 ∷ 74 ∷ 75 ∷ 77 ∷ 78 ∷ 79 ∷ 81 ∷ 83 ∷ 85 
 follow NamePart = 35 ∷ 53 ∷ 74 ∷ 75 ∷ 77 ∷ 78 ∷ 79 ∷ 81 ∷ 83 ∷ 85 ∷ 999 ∷ []
 follow Args = 85 ∷ []
 follow InArgs = 85 ∷ []
-follow Id = 32 ∷ 35 ∷ 53 ∷ 74 ∷ 75 ∷ 76 ∷ 77 ∷ 78 ∷ 79 ∷ 80 ∷ 81 ∷ 83 ∷ 84 ∷ 85 ∷ 92 ∷ 999 ∷ []
+follow Identifier = 32 ∷ 35 ∷ 53 ∷ 74 ∷ 75 ∷ 76 ∷ 77 ∷ 78 ∷ 79 ∷ 80 ∷ 81 ∷ 83 ∷ 84 ∷ 85 ∷ 92 ∷ 999 ∷ []
 follow Number = 35 ∷ 53 ∷ 74 ∷ 77 ∷ 78 ∷ 79 ∷ 81 ∷ 83 ∷ 85 ∷ 999 ∷ []
 follow Literal = 35 ∷ 53 ∷ 74 ∷ 77 ∷ 78 ∷ 79 ∷ 81 ∷ 83 ∷ 85 ∷ 999 ∷ []

@@ -5,7 +5,7 @@ use Rattle.std.proofs.lemmas.Bool.{eqb-true}
 use Rattle.aud_lex.specs.declared.token.Kind.{Kind}
 use Rattle.aud_lex.specs.declared.token.Kind.TheVariants as kind
 use Rattle.aud_lex.specs.Element.{Element}
-use Rattle.aud_lex.specs.Kinds.{code}
+use Rattle.aud_lex.specs.Kinds.{kind_number}
 use Rattle.aud_lex.specs.Spaced.{Word, word, last_word}
 use Rattle.aud_text.specs.Name.{capitals}
 use Rattle.aud_text.specs.declared.place.Pos.{Pos}
@@ -23,10 +23,10 @@ use Rattle.aud_syntax.specs.declared.tree.Highest.TheVariants as highest
 use Rattle.aud_syntax.specs.Plain as m
 use Rattle.aud_syntax.specs.Printed as w
 use Rattle.aud_parse.specs.Grammar as g
-use Rattle.aud_parse.specs.Grammar.{Part, Sym, T, P, W, N, L, Down, A, Opt, Rep, rule}
+use Rattle.aud_parse.specs.Grammar.{Phrase, Symbol, T, P, W, N, L, Down, A, Opt, Rep, rule}
 use Rattle.aud_parse.specs.First as f
 use Rattle.aud_parse.specs.Actions as a
-use Rattle.aud_parse.specs.Actions.{Item, tok, none, cons, made, listed, top, the_unit}
+use Rattle.aud_parse.specs.Actions.{Item, token, none, cons, made, listed, top, the_unit}
 use Rattle.aud_parse.specs.Spells.{Spells}
 use Rattle.aud_parse.specs.Derives.{Member, here, later, Derives, d_end, d_word, d_token, d_spelled, d_rule, d_level, d_down, d_one, d_yes, d_no, d_more, d_stop}
 use Rattle.aud_parse.proofs.Canonical.{written_as, written}
@@ -35,29 +35,29 @@ use Rattle.aud_parse.proofs.Places.{is_code}
 
 -- the sorts of trees
 data Sort : Type 0 where
-  s_unit s_decls s_decl s_idents s_more_ident s_initial s_body s_stmts s_stmt s_rest : Sort
-  s_expr s_rel s_simple s_sign s_added s_adding s_term s_multiplied s_multiplying s_factor s_operator : Sort
+  s_unit s_declarations s_declaration s_idents s_more_ident s_initial s_body s_statements s_statement s_rest : Sort
+  s_expression s_relation s_simple s_sign s_added s_adding s_term s_multiplied s_multiplying s_factor s_operator : Sort
   s_primary s_attribute s_parens s_name s_part s_args s_ident s_number s_literal : Sort
 
-abbrev sort : Part → Sort
+abbrev sort : Phrase → Sort
 sort g.Unit = s_unit
-sort g.Decls = s_decls
-sort g.DeclList = s_decls
-sort g.Decl = s_decl
-sort g.Ids = s_idents
-sort g.MoreIds = s_more_ident
+sort g.Declarations = s_declarations
+sort g.DeclarationList = s_declarations
+sort g.Declaration = s_declaration
+sort g.Identifiers = s_idents
+sort g.MoreIdentifiers = s_more_ident
 sort g.Initial = s_initial
 sort g.Body = s_body
-sort g.Stmts = s_stmts
-sort g.StmtList = s_stmts
-sort g.Stmt = s_stmt
-sort g.NullStmt = s_stmt
-sort g.NameStmt = s_stmt
+sort g.Statements = s_statements
+sort g.StatementList = s_statements
+sort g.Statement = s_statement
+sort g.NullStatement = s_statement
+sort g.NameStatement = s_statement
 sort g.NameRest = s_rest
 sort g.Assignment = s_rest
 sort g.Call = s_rest
-sort g.Expr = s_expr
-sort g.Rel = s_rel
+sort g.Expression = s_expression
+sort g.Relation = s_relation
 sort g.Simple = s_simple
 sort g.Sign = s_sign
 sort g.Positive = s_sign
@@ -90,31 +90,31 @@ sort g.Name = s_name
 sort g.NamePart = s_part
 sort g.Args = s_args
 sort g.InArgs = s_args
-sort g.Id = s_ident
+sort g.Identifier = s_ident
 sort g.Number = s_number
 sort g.Literal = s_literal
 
-abbrev attribute_words : Ident → m.MaybeExpr → List Word
+abbrev attribute_words : Ident → m.MaybeExpression → List Word
 attribute_words x e = word (codes "'") ∷ w.ident_word x ∷ w.argument_words e
 
-abbrev expr_words : m.Expr → List Word
-expr_words e = w.expr_words e
+abbrev expression_words : m.Expression → List Word
+expression_words e = w.expression_words e
 
 -- an item of a sort, and its words
 data Says : Sort → Item → List Word → Type 0 where
   says_unit : (u : m.Unit) → Says s_unit (a.a_unit u) (w.unit_words u)
-  says_decls : (x : Item) → Says s_decls x (w.decls_words (a.the_decls x))
-  says_decl : (d : m.Decl) → Says s_decl (a.a_decl d) (w.decl_words d)
+  says_declarations : (x : Item) → Says s_declarations x (w.declarations_words (a.the_declarations x))
+  says_declaration : (d : m.Declaration) → Says s_declaration (a.a_declaration d) (w.declaration_words d)
   says_idents : (x : Item) → Says s_idents x (w.idents_words (a.the_idents x))
   says_more_ident : (i : Ident) → Says s_more_ident (a.an_ident i) (word (codes ",") ∷ w.ident_word i ∷ [])
-  says_initial : (e : m.Expr) → Says s_initial (a.an_expr e) (word (codes ":=") ∷ expr_words e)
+  says_initial : (e : m.Expression) → Says s_initial (a.an_expression e) (word (codes ":=") ∷ expression_words e)
   says_body : (b : m.Body) → Says s_body (a.a_body b) (w.body_words b)
-  says_stmts : (x : Item) → Says s_stmts x (w.stmts_words (a.the_stmts x))
-  says_stmt : (s : m.Stmt) → Says s_stmt (a.a_stmt s) (w.stmt_words s)
-  says_assigned : (e : m.Expr) → Says s_rest (a.assigned e) (word (codes ":=") ∷ (expr_words e ++ (last_word (codes ";") ∷ [])))
+  says_statements : (x : Item) → Says s_statements x (w.statements_words (a.the_statements x))
+  says_statement : (s : m.Statement) → Says s_statement (a.a_statement s) (w.statement_words s)
+  says_assigned : (e : m.Expression) → Says s_rest (a.assigned e) (word (codes ":=") ∷ (expression_words e ++ (last_word (codes ";") ∷ [])))
   says_called : (xs : m.Args) → Says s_rest (a.called xs) (w.args_words xs ++ (last_word (codes ";") ∷ []))
-  says_expr : (e : m.Expr) → Says s_expr (a.an_expr e) (expr_words e)
-  says_rel : (x : m.Rel) → Says s_rel (a.a_rel x) (w.rel_words x)
+  says_expression : (e : m.Expression) → Says s_expression (a.an_expression e) (expression_words e)
+  says_relation : (x : m.Relation) → Says s_relation (a.a_relation x) (w.relation_words x)
   says_simple : (x : m.Simple) → Says s_simple (a.a_simple x) (w.simple_words x)
   says_sign : (s : Signed) → Says s_sign (a.a_sign s) (w.sign_words (Some s))
   says_added : (x : m.Added) → Says s_added (a.an_added x) (w.added_words x)
@@ -125,10 +125,10 @@ data Says : Sort → Item → List Word → Type 0 where
   says_factor : (x : m.Factor) → Says s_factor (a.a_factor x) (w.factor_words x)
   says_operator : (x : Operator) → Says s_operator (a.an_operator x) (w.operator_words (Some x))
   says_primary : (x : m.Primary) → Says s_primary (a.a_primary x) (w.primary_words x)
-  says_attribute : (i : Ident) (e : m.MaybeExpr) → Says s_attribute (a.an_attribute i e) (attribute_words i e)
-  says_parens : (at : Pos) (e : m.Expr) → Says s_parens (a.in_parens at e) (w.in_parentheses (expr_words e))
+  says_attribute : (i : Ident) (e : m.MaybeExpression) → Says s_attribute (a.an_attribute i e) (attribute_words i e)
+  says_parens : (at : Pos) (e : m.Expression) → Says s_parens (a.in_parens at e) (w.in_parentheses (expression_words e))
   says_name : (x : m.Name) → Says s_name (a.a_name x) (w.name_words x)
-  says_part : (x : m.Part) → Says s_part (a.a_part x) (w.part_words x)
+  says_part : (x : m.NamePart) → Says s_part (a.a_part x) (w.part_words x)
   says_args : (x : m.Args) → Says s_args (a.some_args x) (w.args_words x)
   says_ident : (i : Ident) → Says s_ident (a.an_ident i) (w.ident_word i ∷ [])
   says_number : (n : Number) → Says s_number (a.a_number n) (w.number_word n ∷ [])
@@ -140,29 +140,29 @@ data Row : Sort → Item → List Word → Type 0 where
   row_more : {s : Sort} {x xs : Item} {us vs : List Word} → Says s x us → Row s xs vs → Row s (cons x xs) (us ++ vs)
 
 -- the items that symbols make, and the words of the tokens that they read
-data Told : List Sym → List Item → List Word → Type 0 where
+data Told : List Symbol → List Item → List Word → Type 0 where
   t_end : Told [] [] []
-  t_word : {c : Kind} {k : List Sym} {ds : List Item} {ws : List Word} (text : List ℕ) → Told k ds ws → Told (T c ∷ k) ds (written_as (code c) text ∷ ws)
-  t_token : {c : Kind} {k : List Sym} {ds : List Item} {ws : List Word} (t : Element) → Told k ds ws → Told (P c ∷ k) (tok t ∷ ds) (written_as (code c) t.text ∷ ws)
-  t_spelled : {n : g.Word} {k : List Sym} {ds : List Item} {ws : List Word} → Told k ds ws → Told (W n ∷ k) ds (word (f.spelling n) ∷ ws)
-  t_part : {p : Part} {k : List Sym} {x : Item} {ds : List Item} {us ws : List Word} → Says (sort p) x us → Told k ds ws → Told (N p ∷ k) (x ∷ ds) (us ++ ws)
-  t_level : {p : Part} {k : List Sym} {x : Item} {ds : List Item} {us ws : List Word} → Says (sort p) x us → Told k ds ws → Told (L p ∷ k) (x ∷ ds) (us ++ ws)
-  t_down : {k : List Sym} {ds : List Item} {ws : List Word} → Told k ds ws → Told (Down ∷ k) ds ws
-  t_one : {p : Part} {ps : List Part} {k : List Sym} {x : Item} {ds : List Item} {us ws : List Word} → Member p ps → Says (sort p) x us → Told k ds ws → Told (A ps ∷ k) (x ∷ ds) (us ++ ws)
-  t_some : {p : Part} {k : List Sym} {x : Item} {ds : List Item} {us ws : List Word} → Says (sort p) x us → Told k ds ws → Told (Opt p ∷ k) (x ∷ ds) (us ++ ws)
-  t_none : {p : Part} {k : List Sym} {ds : List Item} {ws : List Word} → Told k ds ws → Told (Opt p ∷ k) (none ∷ ds) ws
-  t_row : {p : Part} {k : List Sym} {x : Item} {ds : List Item} {us ws : List Word} → Row (sort p) x us → Told k ds ws → Told (Rep p ∷ k) (x ∷ ds) (us ++ ws)
+  t_word : {c : Kind} {k : List Symbol} {ds : List Item} {ws : List Word} (text : List ℕ) → Told k ds ws → Told (T c ∷ k) ds (written_as (kind_number c) text ∷ ws)
+  t_token : {c : Kind} {k : List Symbol} {ds : List Item} {ws : List Word} (t : Element) → Told k ds ws → Told (P c ∷ k) (token t ∷ ds) (written_as (kind_number c) t.text ∷ ws)
+  t_spelled : {n : g.Word} {k : List Symbol} {ds : List Item} {ws : List Word} → Told k ds ws → Told (W n ∷ k) ds (word (f.spelling n) ∷ ws)
+  t_part : {p : Phrase} {k : List Symbol} {x : Item} {ds : List Item} {us ws : List Word} → Says (sort p) x us → Told k ds ws → Told (N p ∷ k) (x ∷ ds) (us ++ ws)
+  t_level : {p : Phrase} {k : List Symbol} {x : Item} {ds : List Item} {us ws : List Word} → Says (sort p) x us → Told k ds ws → Told (L p ∷ k) (x ∷ ds) (us ++ ws)
+  t_down : {k : List Symbol} {ds : List Item} {ws : List Word} → Told k ds ws → Told (Down ∷ k) ds ws
+  t_one : {p : Phrase} {ps : List Phrase} {k : List Symbol} {x : Item} {ds : List Item} {us ws : List Word} → Member p ps → Says (sort p) x us → Told k ds ws → Told (A ps ∷ k) (x ∷ ds) (us ++ ws)
+  t_some : {p : Phrase} {k : List Symbol} {x : Item} {ds : List Item} {us ws : List Word} → Says (sort p) x us → Told k ds ws → Told (Opt p ∷ k) (x ∷ ds) (us ++ ws)
+  t_none : {p : Phrase} {k : List Symbol} {ds : List Item} {ws : List Word} → Told k ds ws → Told (Opt p ∷ k) (none ∷ ds) ws
+  t_row : {p : Phrase} {k : List Symbol} {x : Item} {ds : List Item} {us ws : List Word} → Row (sort p) x us → Told k ds ws → Told (Rep p ∷ k) (x ∷ ds) (us ++ ws)
 
-so : {s : List Sym} {ds : List Item} {us ws : List Word} → Told s ds us → us ≡ ws → Told s ds ws
+so : {s : List Symbol} {ds : List Item} {us ws : List Word} → Told s ds us → us ≡ ws → Told s ds ws
 so {s} {ds} h e = subst (λ z. Told s ds z) e h
 
-decls_row : {x : Item} {us : List Word} → Row s_decl x us → us ≡ w.decls_words (a.the_decls x)
-decls_row row_end = refl
-decls_row (row_more (says_decl d) r) = ap (λ z. w.decl_words d ++ z) (decls_row r)
+declarations_row : {x : Item} {us : List Word} → Row s_declaration x us → us ≡ w.declarations_words (a.the_declarations x)
+declarations_row row_end = refl
+declarations_row (row_more (says_declaration d) r) = ap (λ z. w.declaration_words d ++ z) (declarations_row r)
 
-stmts_row : {x : Item} {us : List Word} → Row s_stmt x us → us ≡ w.stmts_words (a.the_stmts x)
-stmts_row row_end = refl
-stmts_row (row_more (says_stmt s) r) = ap (λ z. w.stmt_words s ++ z) (stmts_row r)
+statements_row : {x : Item} {us : List Word} → Row s_statement x us → us ≡ w.statements_words (a.the_statements x)
+statements_row row_end = refl
+statements_row (row_more (says_statement s) r) = ap (λ z. w.statement_words s ++ z) (statements_row r)
 
 idents_row : {x : Item} {us : List Word} → Row s_more_ident x us → us ≡ w.more_ident_words (a.the_idents x)
 idents_row row_end = refl
@@ -176,58 +176,58 @@ multiplieds_row : {x : Item} {us : List Word} → Row s_multiplied x us → us �
 multiplieds_row row_end = refl
 multiplieds_row (row_more (says_multiplied y) r) = ap (λ z. w.multiplied_words y ++ z) (multiplieds_row r)
 
-no_member : {p : Part} → Member p [] → ⊥
+no_member : {p : Phrase} → Member p [] → ⊥
 no_member h = elim h [ ]
 
--- two parts, of which the second is a list
+-- two phrases, of which the second is a list
 two : (a b us ws : List Word) → us ≡ b → (a ++ b) ++ ws ≡ a ++ (us ++ ws)
 two a b us ws e = append_assoc a b ws ∙ ap (λ z. a ++ (z ++ ws)) (sym e)
 
 three : (a b c us ws : List Word) → us ≡ c → (a ++ b ++ c) ++ ws ≡ a ++ (b ++ (us ++ ws))
 three a b c us ws e = append_assoc (a ++ b) c ws ∙ append_assoc a b (c ++ ws) ∙ ap (λ z. a ++ (b ++ (z ++ ws))) (sym e)
 
--- the words of a part are those of its symbols
-told_rule : (p : Part) {k : List Sym} {ds : List Item} {ws : List Word} → Told (rule p ++ k) ds ws → Told (N p ∷ k) (made p ds) ws
-told_rule g.Unit (t_token u (t_part (says_ident i) (t_word y (t_some (says_decls d) (t_part {ws = ws} (says_body b) r))))) =
-    so (t_part (says_unit (m.unit u.at i (a.the_decls d) b)) r) (ap (λ z. word (codes "procedure") ∷ w.ident_word i ∷ last_word (codes "is") ∷ z) (append_assoc (w.decls_words (a.the_decls d)) (w.body_words b) ws))
-told_rule g.Unit (t_token u (t_part (says_ident i) (t_word y (t_none (t_part (says_body b) r))))) = t_part (says_unit (m.unit u.at i m.no_decls b)) r
-told_rule g.Decls (t_level s (t_down r)) = t_part s r
-told_rule g.DeclList (t_part (says_decl d) (t_row {x = x} {us = us} {ws = ws} row r)) =
-    so (t_part (says_decls (cons (a.a_decl d) x)) r) (two (w.decl_words d) (w.decls_words (a.the_decls x)) us ws (decls_row row))
-told_rule g.Decl (t_part (says_idents x) (t_word c (t_part (says_ident i) (t_some (says_initial e) (t_word {ws = ws} s r))))) =
-    so (t_part (says_decl (m.object (a.the_idents x) i (m.an_expr e))) r)
-    (append_assoc (w.idents_words (a.the_idents x)) (word (codes ":") ∷ w.ident_word i ∷ word (codes ":=") ∷ (expr_words e ++ (last_word (codes ";") ∷ []))) ws
-    ∙ ap (λ z. w.idents_words (a.the_idents x) ++ (word (codes ":") ∷ w.ident_word i ∷ word (codes ":=") ∷ z)) (append_assoc (expr_words e) (last_word (codes ";") ∷ []) ws))
-told_rule g.Decl (t_part (says_idents x) (t_word c (t_part (says_ident i) (t_none (t_word {ws = ws} s r))))) =
-    so (t_part (says_decl (m.object (a.the_idents x) i m.no_expr)) r) (append_assoc (w.idents_words (a.the_idents x)) (word (codes ":") ∷ w.ident_word i ∷ last_word (codes ";") ∷ []) ws)
-told_rule g.Ids (t_part (says_ident i) (t_row {x = x} {us = us} {ws = ws} row r)) =
+-- the words of a phrase are those of its symbols
+told_rule : (p : Phrase) {k : List Symbol} {ds : List Item} {ws : List Word} → Told (rule p ++ k) ds ws → Told (N p ∷ k) (made p ds) ws
+told_rule g.Unit (t_token u (t_part (says_ident i) (t_word y (t_some (says_declarations d) (t_part {ws = ws} (says_body b) r))))) =
+    so (t_part (says_unit (m.unit u.at i (a.the_declarations d) b)) r) (ap (λ z. word (codes "procedure") ∷ w.ident_word i ∷ last_word (codes "is") ∷ z) (append_assoc (w.declarations_words (a.the_declarations d)) (w.body_words b) ws))
+told_rule g.Unit (t_token u (t_part (says_ident i) (t_word y (t_none (t_part (says_body b) r))))) = t_part (says_unit (m.unit u.at i m.no_declarations b)) r
+told_rule g.Declarations (t_level s (t_down r)) = t_part s r
+told_rule g.DeclarationList (t_part (says_declaration d) (t_row {x = x} {us = us} {ws = ws} row r)) =
+    so (t_part (says_declarations (cons (a.a_declaration d) x)) r) (two (w.declaration_words d) (w.declarations_words (a.the_declarations x)) us ws (declarations_row row))
+told_rule g.Declaration (t_part (says_idents x) (t_word c (t_part (says_ident i) (t_some (says_initial e) (t_word {ws = ws} s r))))) =
+    so (t_part (says_declaration (m.object (a.the_idents x) i (m.an_expression e))) r)
+    (append_assoc (w.idents_words (a.the_idents x)) (word (codes ":") ∷ w.ident_word i ∷ word (codes ":=") ∷ (expression_words e ++ (last_word (codes ";") ∷ []))) ws
+    ∙ ap (λ z. w.idents_words (a.the_idents x) ++ (word (codes ":") ∷ w.ident_word i ∷ word (codes ":=") ∷ z)) (append_assoc (expression_words e) (last_word (codes ";") ∷ []) ws))
+told_rule g.Declaration (t_part (says_idents x) (t_word c (t_part (says_ident i) (t_none (t_word {ws = ws} s r))))) =
+    so (t_part (says_declaration (m.object (a.the_idents x) i m.no_expression)) r) (append_assoc (w.idents_words (a.the_idents x)) (word (codes ":") ∷ w.ident_word i ∷ last_word (codes ";") ∷ []) ws)
+told_rule g.Identifiers (t_part (says_ident i) (t_row {x = x} {us = us} {ws = ws} row r)) =
     so (t_part (says_idents (cons (a.an_ident i) x)) r) (ap (λ z. w.ident_word i ∷ (z ++ ws)) (sym (idents_row row)))
-told_rule g.MoreIds (t_word c (t_part (says_ident i) r)) = t_part (says_more_ident i) r
-told_rule g.Initial (t_word c (t_part (says_expr e) r)) = t_part (says_initial e) r
-told_rule g.Body (t_token b (t_part (says_stmts x) (t_token e (t_some (says_ident i) (t_word {ws = ws} s r))))) =
-    so (t_part (says_body (m.body b.at (a.the_stmts x) e.at (Some i))) r)
-    (ap (λ z. last_word (codes "begin") ∷ z) (append_assoc (w.stmts_words (a.the_stmts x)) (word (codes "end") ∷ w.ident_word i ∷ last_word (codes ";") ∷ []) ws))
-told_rule g.Body (t_token b (t_part (says_stmts x) (t_token e (t_none (t_word {ws = ws} s r))))) =
-    so (t_part (says_body (m.body b.at (a.the_stmts x) e.at None)) r)
-    (ap (λ z. last_word (codes "begin") ∷ z) (append_assoc (w.stmts_words (a.the_stmts x)) (word (codes "end") ∷ last_word (codes ";") ∷ []) ws))
-told_rule g.Stmts (t_level s (t_down r)) = t_part s r
-told_rule g.StmtList (t_part (says_stmt d) (t_row {x = x} {us = us} {ws = ws} row r)) =
-    so (t_part (says_stmts (cons (a.a_stmt d) x)) r) (two (w.stmt_words d) (w.stmts_words (a.the_stmts x)) us ws (stmts_row row))
-told_rule g.Stmt (t_one here s r) = t_part s r
-told_rule g.Stmt (t_one (later here) s r) = t_part s r
-told_rule g.Stmt (t_one (later (later h)) s r) = absurd (no_member h)
-told_rule g.NullStmt (t_token n (t_word s r)) = t_part (says_stmt (m.null n.at)) r
-told_rule g.NameStmt (t_part (says_ident i) (t_part (says_assigned e) r)) = t_part (says_stmt (m.assign (a.one_part i m.no_args) e)) r
-told_rule g.NameStmt (t_part (says_ident i) (t_part (says_called xs) r)) = t_part (says_stmt (m.call (a.one_part i xs))) r
+told_rule g.MoreIdentifiers (t_word c (t_part (says_ident i) r)) = t_part (says_more_ident i) r
+told_rule g.Initial (t_word c (t_part (says_expression e) r)) = t_part (says_initial e) r
+told_rule g.Body (t_token b (t_part (says_statements x) (t_token e (t_some (says_ident i) (t_word {ws = ws} s r))))) =
+    so (t_part (says_body (m.body b.at (a.the_statements x) e.at (Some i))) r)
+    (ap (λ z. last_word (codes "begin") ∷ z) (append_assoc (w.statements_words (a.the_statements x)) (word (codes "end") ∷ w.ident_word i ∷ last_word (codes ";") ∷ []) ws))
+told_rule g.Body (t_token b (t_part (says_statements x) (t_token e (t_none (t_word {ws = ws} s r))))) =
+    so (t_part (says_body (m.body b.at (a.the_statements x) e.at None)) r)
+    (ap (λ z. last_word (codes "begin") ∷ z) (append_assoc (w.statements_words (a.the_statements x)) (word (codes "end") ∷ last_word (codes ";") ∷ []) ws))
+told_rule g.Statements (t_level s (t_down r)) = t_part s r
+told_rule g.StatementList (t_part (says_statement d) (t_row {x = x} {us = us} {ws = ws} row r)) =
+    so (t_part (says_statements (cons (a.a_statement d) x)) r) (two (w.statement_words d) (w.statements_words (a.the_statements x)) us ws (statements_row row))
+told_rule g.Statement (t_one here s r) = t_part s r
+told_rule g.Statement (t_one (later here) s r) = t_part s r
+told_rule g.Statement (t_one (later (later h)) s r) = absurd (no_member h)
+told_rule g.NullStatement (t_token n (t_word s r)) = t_part (says_statement (m.null n.at)) r
+told_rule g.NameStatement (t_part (says_ident i) (t_part (says_assigned e) r)) = t_part (says_statement (m.assign (a.one_part i m.no_args) e)) r
+told_rule g.NameStatement (t_part (says_ident i) (t_part (says_called xs) r)) = t_part (says_statement (m.call (a.one_part i xs))) r
 told_rule g.NameRest (t_one here s r) = t_part s r
 told_rule g.NameRest (t_one (later here) s r) = t_part s r
 told_rule g.NameRest (t_one (later (later h)) s r) = absurd (no_member h)
-told_rule g.Assignment (t_word b (t_part (says_expr e) (t_word {ws = ws} s r))) =
-    so (t_part (says_assigned e) r) (ap (λ z. word (codes ":=") ∷ z) (append_assoc (expr_words e) (last_word (codes ";") ∷ []) ws))
+told_rule g.Assignment (t_word b (t_part (says_expression e) (t_word {ws = ws} s r))) =
+    so (t_part (says_assigned e) r) (ap (λ z. word (codes ":=") ∷ z) (append_assoc (expression_words e) (last_word (codes ";") ∷ []) ws))
 told_rule g.Call (t_part (says_args x) (t_word {ws = ws} s r)) =
     so (t_part (says_called x) r) (append_assoc (w.args_words x) (last_word (codes ";") ∷ []) ws)
-told_rule g.Expr (t_part (says_rel x) r) = t_part (says_expr (m.alone x)) r
-told_rule g.Rel (t_part (says_simple x) r) = t_part (says_rel (m.unrelated x)) r
+told_rule g.Expression (t_part (says_relation x) r) = t_part (says_expression (m.alone x)) r
+told_rule g.Relation (t_part (says_simple x) r) = t_part (says_relation (m.unrelated x)) r
 told_rule g.Simple (t_some (says_sign s) (t_part (says_term t) (t_row {x = x} {us = us} {ws = ws} row r))) =
     so (t_part (says_simple (m.simple (Some s) t (a.the_addeds x))) r) (three (w.sign_words (Some s)) (w.term_words t) (w.addeds_words (a.the_addeds x)) us ws (addeds_row row))
 told_rule g.Simple (t_none (t_part (says_term t) (t_row {x = x} {us = us} {ws = ws} row r))) =
@@ -273,32 +273,32 @@ told_rule g.Integer (t_part (says_number n) r) = t_part (says_primary (m.integer
 told_rule g.String (t_part (says_literal l) r) = t_part (says_primary (m.text l)) r
 told_rule g.Named (t_part (says_name x) (t_some {ws = ws} (says_attribute j e) r)) = so (t_part (says_primary (m.attribute x j e)) r) (append_assoc (w.name_words x) (attribute_words j e) ws)
 told_rule g.Named (t_part (says_name x) (t_none r)) = t_part (says_primary (m.name x)) r
-told_rule g.Attribute (t_word x (t_part (says_ident i) (t_some (says_parens at e) r))) = t_part (says_attribute i (m.an_expr e)) r
-told_rule g.Attribute (t_word x (t_part (says_ident i) (t_none r))) = t_part (says_attribute i m.no_expr) r
+told_rule g.Attribute (t_word x (t_part (says_ident i) (t_some (says_parens at e) r))) = t_part (says_attribute i (m.an_expression e)) r
+told_rule g.Attribute (t_word x (t_part (says_ident i) (t_none r))) = t_part (says_attribute i m.no_expression) r
 told_rule g.Group (t_part (says_parens at e) r) = t_part (says_primary (m.group at e)) r
 told_rule g.Parens (t_level s (t_down r)) = t_part s r
-told_rule g.InParens (t_token t (t_part (says_expr e) (t_word {ws = ws} x r))) =
-    so (t_part (says_parens t.at e) r) (ap (λ z. word (codes "(") ∷ z) (append_assoc (expr_words e) (word (codes ")") ∷ []) ws))
+told_rule g.InParens (t_token t (t_part (says_expression e) (t_word {ws = ws} x r))) =
+    so (t_part (says_parens t.at e) r) (ap (λ z. word (codes "(") ∷ z) (append_assoc (expression_words e) (word (codes ")") ∷ []) ws))
 told_rule g.Name (t_part (says_part x) r) = t_part (says_name (m.named x m.no_parts)) r
 told_rule g.NamePart (t_part (says_ident i) r) = t_part (says_part (m.part i m.no_args)) r
 told_rule g.Args (t_level s (t_down r)) = t_part s r
-told_rule g.InArgs (t_word o (t_part (says_expr e) (t_word {ws = ws} x r))) =
+told_rule g.InArgs (t_word o (t_part (says_expression e) (t_word {ws = ws} x r))) =
     so (t_part (says_args (m.more_args e m.no_args)) r)
-    (ap (λ z. word (codes "(") ∷ z) (ap (λ z. (z ++ (word (codes ")") ∷ [])) ++ ws) (append-nil (expr_words e)) ∙ append_assoc (expr_words e) (word (codes ")") ∷ []) ws))
-told_rule g.Id (t_token t r) = t_part (says_ident (a.ident_of (tok t))) r
-told_rule g.Number (t_token t r) = t_part (says_number (a.number_of (tok t))) r
-told_rule g.Literal (t_token t r) = t_part (says_literal (a.literal_of (tok t))) r
+    (ap (λ z. word (codes "(") ∷ z) (ap (λ z. (z ++ (word (codes ")") ∷ [])) ++ ws) (append-nil (expression_words e)) ∙ append_assoc (expression_words e) (word (codes ")") ∷ []) ws))
+told_rule g.Identifier (t_token t r) = t_part (says_ident (a.ident_of (token t))) r
+told_rule g.Number (t_token t r) = t_part (says_number (a.number_of (token t))) r
+told_rule g.Literal (t_token t r) = t_part (says_literal (a.literal_of (token t))) r
 
-told_level : {p : Part} {k : List Sym} {ds : List Item} {ws : List Word} → Told (N p ∷ k) ds ws → Told (L p ∷ k) ds ws
+told_level : {p : Phrase} {k : List Symbol} {ds : List Item} {ws : List Word} → Told (N p ∷ k) ds ws → Told (L p ∷ k) ds ws
 told_level (t_part s r) = t_level s r
 
-told_one : {p : Part} {ps : List Part} {k : List Sym} {ds : List Item} {ws : List Word} → Member p ps → Told (N p ∷ k) ds ws → Told (A ps ∷ k) ds ws
+told_one : {p : Phrase} {ps : List Phrase} {k : List Symbol} {ds : List Item} {ws : List Word} → Member p ps → Told (N p ∷ k) ds ws → Told (A ps ∷ k) ds ws
 told_one h (t_part s r) = t_one h s r
 
-told_some : {p : Part} {k : List Sym} {ds : List Item} {ws : List Word} → Told (N p ∷ k) ds ws → Told (Opt p ∷ k) ds ws
+told_some : {p : Phrase} {k : List Symbol} {ds : List Item} {ws : List Word} → Told (N p ∷ k) ds ws → Told (Opt p ∷ k) ds ws
 told_some (t_part s r) = t_some s r
 
-told_more : {p : Part} {k : List Sym} {ds : List Item} {ws : List Word} → Told (N p ∷ Rep p ∷ k) ds ws → Told (Rep p ∷ k) (listed ds) ws
+told_more : {p : Phrase} {k : List Symbol} {ds : List Item} {ws : List Word} → Told (N p ∷ Rep p ∷ k) ds ws → Told (Rep p ∷ k) (listed ds) ws
 told_more (t_part {us = us} s (t_row {us = vs} {ws = ws} row r)) = so (t_row (row_more s row) r) (append_assoc us vs ws)
 
 same_is : (xs ys : List ℕ) → f.same_text xs ys ≡ true → xs ≡ ys
@@ -309,13 +309,13 @@ same_is (x ∷ xs) (y ∷ ys) h = let b = and_in (x == y) (f.same_text xs ys) h 
 
 spelled_written : (n : g.Word) (t : Element) → f.is_word n t ≡ true → written t ≡ word (f.spelling n)
 spelled_written n t h =
-    let b = and_in (f.among (kind.Identifier ∷ []) (code t.kind)) (f.same_text (capitals t.text) (f.spelling n)) h in
-    ap (λ c. written_as c t.text) (is_code kind.Identifier (code t.kind) b.0) ∙ ap word (same_is _ _ b.1)
+    let b = and_in (f.among (kind.Identifier ∷ []) (kind_number t.kind)) (f.same_text (capitals t.text) (f.spelling n)) h in
+    ap (λ c. written_as c t.text) (is_code kind.Identifier (kind_number t.kind) b.0) ∙ ap word (same_is _ _ b.1)
 
-told : {s : List Sym} {r : ℕ} {ds : List Item} {ts : List Element} → Derives s r ds ts → Told s ds (map written ts)
+told : {s : List Symbol} {r : ℕ} {ds : List Item} {ts : List Element} → Derives s r ds ts → Told s ds (map written ts)
 told d_end = t_end
-told (d_word {c} {k} {r} {ds} {t} {ts} h d) = so (t_word t.text (told d)) (ap (λ n. written_as n t.text ∷ map written ts) (sym (is_code c (code t.kind) h)))
-told (d_token {c} {k} {r} {ds} {t} {ts} h d) = so (t_token t (told d)) (ap (λ n. written_as n t.text ∷ map written ts) (sym (is_code c (code t.kind) h)))
+told (d_word {c} {k} {r} {ds} {t} {ts} h d) = so (t_word t.text (told d)) (ap (λ n. written_as n t.text ∷ map written ts) (sym (is_code c (kind_number t.kind) h)))
+told (d_token {c} {k} {r} {ds} {t} {ts} h d) = so (t_token t (told d)) (ap (λ n. written_as n t.text ∷ map written ts) (sym (is_code c (kind_number t.kind) h)))
 told (d_spelled {w = n} {k} {r} {ds} {t} {ts} h d) = so (t_spelled (told d)) (ap (λ z. z ∷ map written ts) (sym (spelled_written n t h)))
 told (d_rule {p} d) = told_rule p (told d)
 told (d_level d) = told_level (told d)

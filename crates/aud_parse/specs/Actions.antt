@@ -1,4 +1,4 @@
--- How the tree of each part is made from those of its symbols.
+-- How the tree of each phrase is made from those of its symbols.
 use Rattle.std.specs.Prelude.{ℕ, List, [], ◌∷◌, Option, Some, None}
 use Rattle.aud_text.specs.Name.{capitals}
 use Rattle.aud_text.specs.declared.place.Pos.{Pos}
@@ -20,7 +20,7 @@ use Rattle.aud_parse.specs.Values.{number_value, unquoted}
 
 -- what is read so far, from the front: a token, nothing, a list, or a tree of one of these sorts
 pub data Item : Type 0 where
-  tok : Element → Item
+  token : Element → Item
   none : Item
   cons : Item → Item → Item
   an_ident : Ident → Item
@@ -31,11 +31,11 @@ pub data Item : Type 0 where
   a_multiplying : Multiplying → Item
   an_operator : Operator → Item
   -- an expression in parentheses, and where they open
-  in_parens : Pos → m.Expr → Item
+  in_parens : Pos → m.Expression → Item
   -- an attribute's name and its argument
-  an_attribute : Ident → m.MaybeExpr → Item
+  an_attribute : Ident → m.MaybeExpression → Item
   some_args : m.Args → Item
-  a_part : m.Part → Item
+  a_part : m.NamePart → Item
   a_name : m.Name → Item
   a_primary : m.Primary → Item
   a_factor : m.Factor → Item
@@ -43,14 +43,14 @@ pub data Item : Type 0 where
   a_term : m.Term → Item
   an_added : m.Added → Item
   a_simple : m.Simple → Item
-  a_rel : m.Rel → Item
-  an_expr : m.Expr → Item
+  a_relation : m.Relation → Item
+  an_expression : m.Expression → Item
   -- what follows the name with which a statement begins: what is assigned, and the arguments of a call
-  assigned : m.Expr → Item
+  assigned : m.Expression → Item
   called : m.Args → Item
-  a_stmt : m.Stmt → Item
+  a_statement : m.Statement → Item
   a_body : m.Body → Item
-  a_decl : m.Decl → Item
+  a_declaration : m.Declaration → Item
   a_unit : m.Unit → Item
 
 abbrev pub top : List Item → Item
@@ -67,11 +67,11 @@ abbrev no_place : Pos
 no_place = record { line = 1; col = 1 }
 
 abbrev pub the_text : Item → List ℕ
-the_text (tok t) = t.text
+the_text (token t) = t.text
 the_text _ = []
 
 abbrev pub place : Item → Pos
-place (tok t) = t.at
+place (token t) = t.at
 place _ = no_place
 
 abbrev no_ident : Ident
@@ -130,29 +130,29 @@ no_term = m.term no_factor m.no_multiplieds
 abbrev no_simple : m.Simple
 no_simple = m.simple None no_term m.no_addeds
 
-abbrev no_rel : m.Rel
-no_rel = m.unrelated no_simple
+abbrev no_relation : m.Relation
+no_relation = m.unrelated no_simple
 
-abbrev pub nothing : m.Expr
-nothing = m.alone no_rel
+abbrev pub nothing : m.Expression
+nothing = m.alone no_relation
 
 abbrev pub opening : Item → Pos
 opening (in_parens at x) = at
 opening _ = no_place
 
-abbrev pub inside : Item → m.Expr
+abbrev pub inside : Item → m.Expression
 inside (in_parens at x) = x
 inside _ = nothing
 
-abbrev pub opt_inside : Item → m.MaybeExpr
-opt_inside (in_parens at x) = m.an_expr x
-opt_inside _ = m.no_expr
+abbrev pub opt_inside : Item → m.MaybeExpression
+opt_inside (in_parens at x) = m.an_expression x
+opt_inside _ = m.no_expression
 
 abbrev pub the_args : Item → m.Args
 the_args (some_args x) = x
 the_args _ = m.no_args
 
-abbrev pub the_part : Item → m.Part
+abbrev pub the_part : Item → m.NamePart
 the_part (a_part x) = x
 the_part _ = m.part no_ident m.no_args
 
@@ -192,39 +192,39 @@ abbrev pub the_simple : Item → m.Simple
 the_simple (a_simple x) = x
 the_simple _ = no_simple
 
-abbrev pub the_rel : Item → m.Rel
-the_rel (a_rel x) = x
-the_rel _ = no_rel
+abbrev pub the_relation : Item → m.Relation
+the_relation (a_relation x) = x
+the_relation _ = no_relation
 
-abbrev pub the_expr : Item → m.Expr
-the_expr (an_expr x) = x
-the_expr _ = nothing
+abbrev pub the_expression : Item → m.Expression
+the_expression (an_expression x) = x
+the_expression _ = nothing
 
-abbrev pub opt_expr : Item → m.MaybeExpr
-opt_expr (an_expr x) = m.an_expr x
-opt_expr _ = m.no_expr
+abbrev pub opt_expression : Item → m.MaybeExpression
+opt_expression (an_expression x) = m.an_expression x
+opt_expression _ = m.no_expression
 
-abbrev no_stmt : m.Stmt
-no_stmt = m.null no_place
+abbrev no_statement : m.Statement
+no_statement = m.null no_place
 
-abbrev pub the_stmt : Item → m.Stmt
-the_stmt (a_stmt x) = x
-the_stmt _ = no_stmt
+abbrev pub the_statement : Item → m.Statement
+the_statement (a_statement x) = x
+the_statement _ = no_statement
 
-abbrev pub the_stmts : Item → m.Stmts
-the_stmts (cons x xs) = m.more_stmts (the_stmt x) (the_stmts xs)
-the_stmts _ = m.no_stmts
+abbrev pub the_statements : Item → m.Statements
+the_statements (cons x xs) = m.more_statements (the_statement x) (the_statements xs)
+the_statements _ = m.no_statements
 
-abbrev pub the_decl : Item → m.Decl
-the_decl (a_decl x) = x
-the_decl _ = m.object [] no_ident m.no_expr
+abbrev pub the_declaration : Item → m.Declaration
+the_declaration (a_declaration x) = x
+the_declaration _ = m.object [] no_ident m.no_expression
 
-abbrev pub the_decls : Item → m.Decls
-the_decls (cons x xs) = m.more_decls (the_decl x) (the_decls xs)
-the_decls _ = m.no_decls
+abbrev pub the_declarations : Item → m.Declarations
+the_declarations (cons x xs) = m.more_declarations (the_declaration x) (the_declarations xs)
+the_declarations _ = m.no_declarations
 
 abbrev no_body : m.Body
-no_body = m.body no_place m.no_stmts no_place None
+no_body = m.body no_place m.no_statements no_place None
 
 abbrev pub the_body : Item → m.Body
 the_body (a_body x) = x
@@ -232,7 +232,7 @@ the_body _ = no_body
 
 abbrev pub the_unit : Item → m.Unit
 the_unit (a_unit x) = x
-the_unit _ = m.unit no_place no_ident m.no_decls no_body
+the_unit _ = m.unit no_place no_ident m.no_declarations no_body
 
 -- the primary that begins with a name, by what follows the name (RM 4.1, 4.1.4)
 abbrev pub with_attribute : m.Name → Item → m.Primary
@@ -244,10 +244,10 @@ abbrev pub one_part : Ident → m.Args → m.Name
 one_part i xs = m.named (m.part i xs) m.no_parts
 
 -- the statement that begins with an identifier, by what follows it (RM 5.2, 6.4)
-abbrev pub begun : Ident → Item → m.Stmt
+abbrev pub begun : Ident → Item → m.Statement
 begun i (assigned e) = m.assign (one_part i m.no_args) e
 begun i (called xs) = m.call (one_part i xs)
-begun i _ = no_stmt
+begun i _ = no_statement
 
 -- an identifier's letters are kept as capitals (RM 2.3(5))
 abbrev pub ident_of : Item → Ident
@@ -263,20 +263,20 @@ literal_of x = record { text = unquoted (the_text x); at = place x }
 abbrev pub listed : List Item → List Item
 listed st = cons (top st) (top (pop st)) ∷ pop (pop st)
 
--- the tree of a part from what its rule has read, in front of what comes after it
-abbrev pub made : g.Part → List Item → List Item
-made g.Unit st = a_unit (m.unit (place (top st)) (the_ident (top (pop st))) (the_decls (top (pop (pop st)))) (the_body (top (pop (pop (pop st)))))) ∷ pop (pop (pop (pop st)))
-made g.DeclList st = listed st
-made g.Decl st = a_decl (m.object (the_idents (top st)) (the_ident (top (pop st))) (opt_expr (top (pop (pop st))))) ∷ pop (pop (pop st))
-made g.Ids st = listed st
-made g.Body st = a_body (m.body (place (top st)) (the_stmts (top (pop st))) (place (top (pop (pop st)))) (opt_ident (top (pop (pop (pop st)))))) ∷ pop (pop (pop (pop st)))
-made g.StmtList st = listed st
-made g.NullStmt st = a_stmt (m.null (place (top st))) ∷ pop st
-made g.NameStmt st = a_stmt (begun (the_ident (top st)) (top (pop st))) ∷ pop (pop st)
-made g.Assignment st = assigned (the_expr (top st)) ∷ pop st
+-- the tree of a phrase from what its rule has read, in front of what comes after it
+abbrev pub made : g.Phrase → List Item → List Item
+made g.Unit st = a_unit (m.unit (place (top st)) (the_ident (top (pop st))) (the_declarations (top (pop (pop st)))) (the_body (top (pop (pop (pop st)))))) ∷ pop (pop (pop (pop st)))
+made g.DeclarationList st = listed st
+made g.Declaration st = a_declaration (m.object (the_idents (top st)) (the_ident (top (pop st))) (opt_expression (top (pop (pop st))))) ∷ pop (pop (pop st))
+made g.Identifiers st = listed st
+made g.Body st = a_body (m.body (place (top st)) (the_statements (top (pop st))) (place (top (pop (pop st)))) (opt_ident (top (pop (pop (pop st)))))) ∷ pop (pop (pop (pop st)))
+made g.StatementList st = listed st
+made g.NullStatement st = a_statement (m.null (place (top st))) ∷ pop st
+made g.NameStatement st = a_statement (begun (the_ident (top st)) (top (pop st))) ∷ pop (pop st)
+made g.Assignment st = assigned (the_expression (top st)) ∷ pop st
 made g.Call st = called (the_args (top st)) ∷ pop st
-made g.Expr st = an_expr (m.alone (the_rel (top st))) ∷ pop st
-made g.Rel st = a_rel (m.unrelated (the_simple (top st))) ∷ pop st
+made g.Expression st = an_expression (m.alone (the_relation (top st))) ∷ pop st
+made g.Relation st = a_relation (m.unrelated (the_simple (top st))) ∷ pop st
 made g.Simple st = a_simple (m.simple (opt_sign (top st)) (the_term (top (pop st))) (the_addeds (top (pop (pop st))))) ∷ pop (pop (pop st))
 made g.Positive st = a_sign (record { sign = sign.Plus; at = place (top st) }) ∷ pop st
 made g.Negative st = a_sign (record { sign = sign.Minus; at = place (top st) }) ∷ pop st
@@ -298,11 +298,11 @@ made g.String st = a_primary (m.text (the_literal (top st))) ∷ pop st
 made g.Named st = a_primary (with_attribute (the_name (top st)) (top (pop st))) ∷ pop (pop st)
 made g.Attribute st = an_attribute (the_ident (top st)) (opt_inside (top (pop st))) ∷ pop (pop st)
 made g.Group st = a_primary (m.group (opening (top st)) (inside (top st))) ∷ pop st
-made g.InParens st = in_parens (place (top st)) (the_expr (top (pop st))) ∷ pop (pop st)
+made g.InParens st = in_parens (place (top st)) (the_expression (top (pop st))) ∷ pop (pop st)
 made g.Name st = a_name (m.named (the_part (top st)) m.no_parts) ∷ pop st
 made g.NamePart st = a_part (m.part (the_ident (top st)) m.no_args) ∷ pop st
-made g.InArgs st = some_args (m.more_args (the_expr (top st)) m.no_args) ∷ pop st
-made g.Id st = an_ident (ident_of (top st)) ∷ pop st
+made g.InArgs st = some_args (m.more_args (the_expression (top st)) m.no_args) ∷ pop st
+made g.Identifier st = an_ident (ident_of (top st)) ∷ pop st
 made g.Number st = a_number (number_of (top st)) ∷ pop st
 made g.Literal st = a_literal (literal_of (top st)) ∷ pop st
 made _ st = st

@@ -2,7 +2,7 @@
 use Rattle.std.specs.Prelude.{◌≡◌, List, [], ◌∷◌, Result, Ok, Err}
 use Rattle.aud_text.specs.Name.{capitals}
 use Rattle.aud_lex.specs.Element.{Element}
-use Rattle.aud_lex.specs.Kinds.{code}
+use Rattle.aud_lex.specs.Kinds.{kind_number}
 use Rattle.aud_lex.specs.declared.token.Kind.TheVariants as token
 use Rattle.aud_syntax.specs.Plain as m
 use Rattle.aud_syntax.specs.Bare.{bare}
@@ -11,10 +11,10 @@ use Rattle.aud_parse.specs.Parsed.{Fault}
 
 -- two tokens of one kind, and of one meaning where the tree keeps it (RM 2.3(5), 2.4.1, 2.6)
 pub record Alike (t u : Element) : Type 0 where
-  pub kind : code t.kind ≡ code u.kind
-  pub name : code t.kind ≡ code token.Identifier → capitals t.text ≡ capitals u.text
-  pub number : code t.kind ≡ code token.Integer → number_value t.text ≡ number_value u.text
-  pub literal : code t.kind ≡ code token.Text → unquoted t.text ≡ unquoted u.text
+  pub kind : kind_number t.kind ≡ kind_number u.kind
+  pub name : kind_number t.kind ≡ kind_number token.Identifier → capitals t.text ≡ capitals u.text
+  pub number : kind_number t.kind ≡ kind_number token.Integer → number_value t.text ≡ number_value u.text
+  pub literal : kind_number t.kind ≡ kind_number token.Text → unquoted t.text ≡ unquoted u.text
 
 -- one by one
 abbrev pub AllAlike : List Element → List Element → Type 0

@@ -1,22 +1,22 @@
--- The tokens with which a part begins.
+-- The tokens with which a phrase begins.
 use Rattle.std.specs.Prelude.{codes, ℕ, zero, suc, List, [], ◌∷◌, ◌++◌, Bool, true, false, ◌==◌, if◌then◌else◌}
 use Rattle.aud_text.specs.Name.{capitals}
 use Rattle.aud_lex.specs.declared.token.Kind.{Kind}
 use Rattle.aud_lex.specs.declared.token.Kind.TheVariants as kind
 use Rattle.aud_lex.specs.Element.{Element}
-use Rattle.aud_lex.specs.Kinds.{code}
+use Rattle.aud_lex.specs.Kinds.{kind_number}
 use Rattle.aud_parse.specs.Grammar as g
-use Rattle.aud_parse.specs.Grammar.{Word, Part, Sym, T, P, W, N, L, Down, A, Opt, Rep, rule}
+use Rattle.aud_parse.specs.Grammar.{Word, Phrase, Symbol, T, P, W, N, L, Down, A, Opt, Rep, rule}
 
 -- the kind with this number is one of these
 abbrev pub among : List Kind → ℕ → Bool
 among [] c = false
-among (k ∷ ks) c = if c == code k then true else among ks c
+among (k ∷ ks) c = if c == kind_number k then true else among ks c
 
 -- the next token is of one of these kinds
 abbrev pub next_in : List Kind → List Element → Bool
 next_in ks [] = false
-next_in ks (t ∷ ts) = among ks (code t.kind)
+next_in ks (t ∷ ts) = among ks (kind_number t.kind)
 
 -- how the identifiers are spelled that the grammar names, in capitals, as names are compared (RM 2.3(5))
 abbrev pub spelling : Word → List ℕ
@@ -33,18 +33,18 @@ same_text (x ∷ xs) (y ∷ ys) = if x == y then same_text xs ys else false
 
 -- a token is this identifier (RM 2.3(5))
 abbrev pub is_word : Word → Element → Bool
-is_word w t = if among (kind.Identifier ∷ []) (code t.kind) then same_text (capitals t.text) (spelling w) else false
+is_word w t = if among (kind.Identifier ∷ []) (kind_number t.kind) then same_text (capitals t.text) (spelling w) else false
 
 abbrev pub next_word : Word → List Element → Bool
 next_word w [] = false
 next_word w (t ∷ ts) = is_word w t
 
--- the kinds with which symbols can begin, given those of the parts
-abbrev pub first_of_all : (Part → List Kind) → List Part → List Kind
+-- the kinds with which symbols can begin, given those of the phrases
+abbrev pub first_of_all : (Phrase → List Kind) → List Phrase → List Kind
 first_of_all first [] = []
 first_of_all first (p ∷ ps) = first p ++ first_of_all first ps
 
-abbrev pub first_of : (Part → List Kind) → List Sym → List Kind
+abbrev pub first_of : (Phrase → List Kind) → List Symbol → List Kind
 first_of first [] = []
 first_of first (T k ∷ s) = k ∷ []
 first_of first (P k ∷ s) = k ∷ []
@@ -57,10 +57,10 @@ first_of first (Opt p ∷ s) = first p ++ first_of first s
 first_of first (Rep p ∷ s) = first p ++ first_of first s
 
 -- so many rules deep
-abbrev pub first_within : ℕ → Part → List Kind
+abbrev pub first_within : ℕ → Phrase → List Kind
 first_within zero p = []
 first_within (suc n) p = first_of (first_within n) (rule p)
 
--- the kinds with which a part can begin
-abbrev pub firsts : Part → List Kind
+-- the kinds with which a phrase can begin
+abbrev pub firsts : Phrase → List Kind
 firsts = first_within 12

@@ -1,68 +1,68 @@
--- The grammar, as data: each part is a list of symbols.
+-- The grammar, as data: each phrase is a list of symbols.
 use Rattle.std.specs.Prelude.{List, [], ◌∷◌}
 use Rattle.aud_lex.specs.declared.token.Kind.{Kind}
 use Rattle.aud_lex.specs.declared.token.Kind.TheVariants as kind
 
--- the names of the grammar's parts
-pub data Part : Type 0 where
-  Unit Decls DeclList Decl Ids MoreIds Initial Body : Part
-  Stmts StmtList Stmt NullStmt NameStmt NameRest Assignment Call : Part
-  Expr Rel Simple Sign Positive Negative Added AddingOperator Plus Minus Join : Part
-  Term Multiplied MultiplyingOperator Times Divide Modulo Remainder : Part
-  Factor Operator Magnitude Not : Part
-  Primary Integer String Named Attribute Group Parens InParens : Part
-  Name NamePart Args InArgs : Part
-  Id Number Literal : Part
+-- the names of the grammar's phrases
+pub data Phrase : Type 0 where
+  Unit Declarations DeclarationList Declaration Identifiers MoreIdentifiers Initial Body : Phrase
+  Statements StatementList Statement NullStatement NameStatement NameRest Assignment Call : Phrase
+  Expression Relation Simple Sign Positive Negative Added AddingOperator Plus Minus Join : Phrase
+  Term Multiplied MultiplyingOperator Times Divide Modulo Remainder : Phrase
+  Factor Operator Magnitude Not : Phrase
+  Primary Integer String Named Attribute Group Parens InParens : Phrase
+  Name NamePart Args InArgs : Phrase
+  Identifier Number Literal : Phrase
 
 -- identifiers that the grammar itself names (RM A.10.1, 9.6)
 pub data Word : Type 0 where
   Ada TextIo Duration : Word
 
 -- a symbol of a rule
-pub data Sym : Type 0 where
+pub data Symbol : Type 0 where
   -- a word or a delimiter
-  T : Kind → Sym
+  T : Kind → Symbol
   -- a token of which the tree keeps something
-  P : Kind → Sym
+  P : Kind → Symbol
   -- an identifier that the grammar names
-  W : Word → Sym
-  -- a part
-  N : Part → Sym
-  -- a part that lies one level deeper, and the end of a level
-  L : Part → Sym
-  Down : Sym
-  -- one of several parts
-  A : List Part → Sym
-  -- a part or nothing, and any number of a part
-  Opt : Part → Sym
-  Rep : Part → Sym
+  W : Word → Symbol
+  -- a phrase
+  N : Phrase → Symbol
+  -- a phrase that lies one level deeper, and the end of a level
+  L : Phrase → Symbol
+  Down : Symbol
+  -- one of several phrases
+  A : List Phrase → Symbol
+  -- a phrase or nothing, and any number of a phrase
+  Opt : Phrase → Symbol
+  Rep : Phrase → Symbol
 
-abbrev pub rule : Part → List Sym
+abbrev pub rule : Phrase → List Symbol
 -- a program is its main procedure (RM 10.1.1, 6.3)
-rule Unit = P kind.Procedure ∷ N Id ∷ T kind.Is ∷ Opt Decls ∷ N Body ∷ []
+rule Unit = P kind.Procedure ∷ N Identifier ∷ T kind.Is ∷ Opt Declarations ∷ N Body ∷ []
 -- declarations lie one level deeper (RM 3.11)
-rule Decls = L DeclList ∷ Down ∷ []
-rule DeclList = N Decl ∷ Rep Decl ∷ []
+rule Declarations = L DeclarationList ∷ Down ∷ []
+rule DeclarationList = N Declaration ∷ Rep Declaration ∷ []
 -- variables (RM 3.3.1)
-rule Decl = N Ids ∷ T kind.Colon ∷ N Id ∷ Opt Initial ∷ T kind.Semicolon ∷ []
-rule Ids = N Id ∷ Rep MoreIds ∷ []
-rule MoreIds = T kind.Comma ∷ N Id ∷ []
-rule Initial = T kind.Becomes ∷ N Expr ∷ []
+rule Declaration = N Identifiers ∷ T kind.Colon ∷ N Identifier ∷ Opt Initial ∷ T kind.Semicolon ∷ []
+rule Identifiers = N Identifier ∷ Rep MoreIdentifiers ∷ []
+rule MoreIdentifiers = T kind.Comma ∷ N Identifier ∷ []
+rule Initial = T kind.Becomes ∷ N Expression ∷ []
 -- RM 6.3, 11.2
-rule Body = P kind.Begin ∷ N Stmts ∷ P kind.End ∷ Opt Id ∷ T kind.Semicolon ∷ []
+rule Body = P kind.Begin ∷ N Statements ∷ P kind.End ∷ Opt Identifier ∷ T kind.Semicolon ∷ []
 -- statements lie one level deeper (RM 5.1)
-rule Stmts = L StmtList ∷ Down ∷ []
-rule StmtList = N Stmt ∷ Rep Stmt ∷ []
-rule Stmt = A (NullStmt ∷ NameStmt ∷ []) ∷ []
-rule NullStmt = P kind.Null ∷ T kind.Semicolon ∷ []
+rule Statements = L StatementList ∷ Down ∷ []
+rule StatementList = N Statement ∷ Rep Statement ∷ []
+rule Statement = A (NullStatement ∷ NameStatement ∷ []) ∷ []
+rule NullStatement = P kind.Null ∷ T kind.Semicolon ∷ []
 -- an assignment or a call (RM 5.2, 6.4)
-rule NameStmt = N Id ∷ N NameRest ∷ []
+rule NameStatement = N Identifier ∷ N NameRest ∷ []
 rule NameRest = A (Assignment ∷ Call ∷ []) ∷ []
-rule Assignment = T kind.Becomes ∷ N Expr ∷ T kind.Semicolon ∷ []
+rule Assignment = T kind.Becomes ∷ N Expression ∷ T kind.Semicolon ∷ []
 rule Call = N Args ∷ T kind.Semicolon ∷ []
 -- RM 4.4
-rule Expr = N Rel ∷ []
-rule Rel = N Simple ∷ []
+rule Expression = N Relation ∷ []
+rule Relation = N Simple ∷ []
 rule Simple = Opt Sign ∷ N Term ∷ Rep Added ∷ []
 rule Sign = A (Positive ∷ Negative ∷ []) ∷ []
 rule Positive = P kind.Plus ∷ []
@@ -88,16 +88,16 @@ rule Integer = N Number ∷ []
 rule String = N Literal ∷ []
 -- a name, or an attribute (RM 4.1.4)
 rule Named = N Name ∷ Opt Attribute ∷ []
-rule Attribute = T kind.Apostrophe ∷ N Id ∷ Opt Parens ∷ []
+rule Attribute = T kind.Apostrophe ∷ N Identifier ∷ Opt Parens ∷ []
 rule Group = N Parens ∷ []
 -- what stands in parentheses lies one level deeper
 rule Parens = L InParens ∷ Down ∷ []
-rule InParens = P kind.LeftParenthesis ∷ N Expr ∷ T kind.RightParenthesis ∷ []
+rule InParens = P kind.LeftParenthesis ∷ N Expression ∷ T kind.RightParenthesis ∷ []
 -- RM 4.1: a name has one part; what is called has arguments, and no other name (RM 6.4)
 rule Name = N NamePart ∷ []
-rule NamePart = N Id ∷ []
+rule NamePart = N Identifier ∷ []
 rule Args = L InArgs ∷ Down ∷ []
-rule InArgs = T kind.LeftParenthesis ∷ N Expr ∷ T kind.RightParenthesis ∷ []
-rule Id = P kind.Identifier ∷ []
+rule InArgs = T kind.LeftParenthesis ∷ N Expression ∷ T kind.RightParenthesis ∷ []
+rule Identifier = P kind.Identifier ∷ []
 rule Number = P kind.Integer ∷ []
 rule Literal = P kind.Text ∷ []

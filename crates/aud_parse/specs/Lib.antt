@@ -3,7 +3,7 @@ pub mod Values
 pub mod First
 pub mod Actions
 pub mod Parsed
-pub mod Machine
+pub mod Outcome
 pub mod Derives
 pub mod Spells
 pub mod Items

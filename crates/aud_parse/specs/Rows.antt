@@ -5,11 +5,11 @@ use Rattle.aud_lex.specs.Element.{Element}
 use Rattle.aud_lex.specs.Lexed.{lexed}
 use Rattle.aud_syntax.specs.declared.tree.Adding.TheVariants.{Plus, Minus, Join}
 use Rattle.aud_syntax.specs.declared.tree.Multiplying.TheVariants.{Times, Divide, Modulo, Remainder}
-use Rattle.aud_syntax.specs.Plain.{Expr, added, multiplied, Primary, attribute, group, no_expr, an_expr, Decl, object, Stmt, null, assign, Body, body, Unit, unit}
+use Rattle.aud_syntax.specs.Plain.{Expression, added, multiplied, Primary, attribute, group, no_expression, an_expression, Declaration, object, Statement, null, assign, Body, body, Unit, unit}
 use Rattle.aud_parse.specs.Grammar as g
 use Rattle.aud_parse.specs.Actions.{the_unit}
 use Rattle.aud_parse.specs.Parsed.{Fault, wrong_at, deep_at, parsed, parsed_as}
-use Rattle.aud_syntax.specs.Shorthand.{at, id, var_at, called, num, too_large, str, var, just, magnitude, opposite, product, multiplying, one, sum, adding, only, only_term, positive, negative, decls, stmts}
+use Rattle.aud_syntax.specs.Shorthand.{at, id, var_at, called, num, too_large, str, var, just, magnitude, opposite, product, multiplying, one, sum, adding, only, only_term, positive, negative, declarations, statements}
 
 -- how tokens are read, where there are tokens
 abbrev pub read_by : (List Element → Result Unit Fault) → Result (List Element) Pos → Option (Result Unit Fault)
@@ -21,42 +21,42 @@ abbrev pub IsRead : List ℕ → Result Unit Fault → Type 0
 IsRead source what = read_by parsed (lexed source) ≡ Some what
 
 -- a program from the first byte on, whose name is P
-abbrev pub program : List Decl → Body → Unit
-program ds b = unit (at 1 1) (id (codes "P") (at 1 11)) (decls ds) b
+abbrev pub program : List Declaration → Body → Unit
+program ds b = unit (at 1 1) (id (codes "P") (at 1 11)) (declarations ds) b
 
 -- the text as declarations, statements or an expression, in the second line of a program, and a place there
 
-abbrev pub with_decls : List ℕ → List ℕ
-with_decls source = codes "procedure P is\n" ++ source ++ codes "\nbegin null; end;"
+abbrev pub with_declarations : List ℕ → List ℕ
+with_declarations source = codes "procedure P is\n" ++ source ++ codes "\nbegin null; end;"
 
-abbrev pub with_stmts : List ℕ → List ℕ
-with_stmts source = codes "procedure P is begin\n" ++ source ++ codes "\nend;"
+abbrev pub with_statements : List ℕ → List ℕ
+with_statements source = codes "procedure P is begin\n" ++ source ++ codes "\nend;"
 
-abbrev pub with_expr : List ℕ → List ℕ
-with_expr source = codes "procedure P is begin X :=\n" ++ source ++ codes "\n; end;"
+abbrev pub with_expression : List ℕ → List ℕ
+with_expression source = codes "procedure P is begin X :=\n" ++ source ++ codes "\n; end;"
 
-abbrev pub DeclsAre : List ℕ → List Decl → Type 0
-DeclsAre source ds = IsRead (with_decls source) (Ok (program ds (body (at 3 1) (stmts (null (at 3 7) ∷ [])) (at 3 13) None)))
+abbrev pub DeclarationsAre : List ℕ → List Declaration → Type 0
+DeclarationsAre source ds = IsRead (with_declarations source) (Ok (program ds (body (at 3 1) (statements (null (at 3 7) ∷ [])) (at 3 13) None)))
 
-abbrev pub StmtsAre : List ℕ → List Stmt → Type 0
-StmtsAre source ss = IsRead (with_stmts source) (Ok (program [] (body (at 1 16) (stmts ss) (at 3 1) None)))
+abbrev pub StatementsAre : List ℕ → List Statement → Type 0
+StatementsAre source ss = IsRead (with_statements source) (Ok (program [] (body (at 1 16) (statements ss) (at 3 1) None)))
 
-abbrev pub ExprIs : List ℕ → Expr → Type 0
-ExprIs source e = IsRead (with_expr source) (Ok (program [] (body (at 1 16) (stmts (assign (var_at (codes "X") (at 1 22)) e ∷ [])) (at 3 3) None)))
+abbrev pub ExpressionIs : List ℕ → Expression → Type 0
+ExpressionIs source e = IsRead (with_expression source) (Ok (program [] (body (at 1 16) (statements (assign (var_at (codes "X") (at 1 22)) e ∷ [])) (at 3 3) None)))
 
 abbrev pub col : ℕ → Pos
 col n = at 2 n
 
 -- no program goes on with the token of this number, counted from 0 in the text itself
 
-abbrev pub DeclsStop : List ℕ → ℕ → Type 0
-DeclsStop source n = IsRead (with_decls source) (Err (wrong_at (3 + n)))
+abbrev pub DeclarationsStop : List ℕ → ℕ → Type 0
+DeclarationsStop source n = IsRead (with_declarations source) (Err (wrong_at (3 + n)))
 
-abbrev pub StmtsStop : List ℕ → ℕ → Type 0
-StmtsStop source n = IsRead (with_stmts source) (Err (wrong_at (4 + n)))
+abbrev pub StatementsStop : List ℕ → ℕ → Type 0
+StatementsStop source n = IsRead (with_statements source) (Err (wrong_at (4 + n)))
 
-abbrev pub ExprStops : List ℕ → ℕ → Type 0
-ExprStops source n = IsRead (with_expr source) (Err (wrong_at (6 + n)))
+abbrev pub ExpressionStops : List ℕ → ℕ → Type 0
+ExpressionStops source n = IsRead (with_expression source) (Err (wrong_at (6 + n)))
 
 -- the first program of docs/LANGUAGE.md
 
@@ -69,59 +69,59 @@ example =
     ++ codes "   Put_Line (\"x\" & X'Image);\n"
     ++ codes "end Sum;\n"
 
-abbrev pub example_decl : Decl
-example_decl = object (id (codes "X") (at 2 4) ∷ []) (id (codes "INTEGER") (at 2 8)) (an_expr (only (num 40 (at 2 19))))
+abbrev pub example_declaration : Declaration
+example_declaration = object (id (codes "X") (at 2 4) ∷ []) (id (codes "INTEGER") (at 2 8)) (an_expression (only (num 40 (at 2 19))))
 
-abbrev pub example_assign : Stmt
+abbrev pub example_assign : Statement
 example_assign = assign (var_at (codes "X") (at 4 4)) (sum (one (var (codes "X") (at 4 9))) (adding Plus (num 2 (at 4 13)) ∷ []))
 
 abbrev pub example_image : Primary
-example_image = attribute (var_at (codes "X") (at 5 20)) (id (codes "IMAGE") (at 5 22)) no_expr
+example_image = attribute (var_at (codes "X") (at 5 20)) (id (codes "IMAGE") (at 5 22)) no_expression
 
-abbrev pub example_call : Stmt
+abbrev pub example_call : Statement
 example_call = called (id (codes "PUT_LINE") (at 5 4)) (sum (one (str (codes "x") (at 5 14))) (adding Join example_image ∷ []))
 
 abbrev pub example_body : Body
-example_body = body (at 3 1) (stmts (example_assign ∷ example_call ∷ [])) (at 6 1) (Some (id (codes "SUM") (at 6 5)))
+example_body = body (at 3 1) (statements (example_assign ∷ example_call ∷ [])) (at 6 1) (Some (id (codes "SUM") (at 6 5)))
 
 -- programs (RM 6.3)
 abbrev pub Programs : Type 0
 Programs =
     IsRead (codes "procedure P is begin null; end;")
-    (Ok (program [] (body (at 1 16) (stmts (null (at 1 22) ∷ [])) (at 1 28) None)))
+    (Ok (program [] (body (at 1 16) (statements (null (at 1 22) ∷ [])) (at 1 28) None)))
     × IsRead (codes "PROCEDURE p IS\nBEGIN\n  NULL;\nEND p;")
-    (Ok (program [] (body (at 2 1) (stmts (null (at 3 3) ∷ [])) (at 4 1) (Some (id (codes "P") (at 4 5))))))
+    (Ok (program [] (body (at 2 1) (statements (null (at 3 3) ∷ [])) (at 4 1) (Some (id (codes "P") (at 4 5))))))
     × IsRead (codes "procedure P is begin null; end Other_Name;")
-    (Ok (program [] (body (at 1 16) (stmts (null (at 1 22) ∷ [])) (at 1 28) (Some (id (codes "OTHER_NAME") (at 1 32))))))
+    (Ok (program [] (body (at 1 16) (statements (null (at 1 22) ∷ [])) (at 1 28) (Some (id (codes "OTHER_NAME") (at 1 32))))))
     × IsRead (codes "-- a comment\n  procedure P is begin null; end;")
-    (Ok (unit (at 2 3) (id (codes "P") (at 2 13)) (decls []) (body (at 2 18) (stmts (null (at 2 24) ∷ [])) (at 2 30) None)))
-    × IsRead example (Ok (unit (at 1 1) (id (codes "SUM") (at 1 11)) (decls (example_decl ∷ [])) example_body))
+    (Ok (unit (at 2 3) (id (codes "P") (at 2 13)) (declarations []) (body (at 2 18) (statements (null (at 2 24) ∷ [])) (at 2 30) None)))
+    × IsRead example (Ok (unit (at 1 1) (id (codes "SUM") (at 1 11)) (declarations (example_declaration ∷ [])) example_body))
 
 -- declarations (RM 3.3.1)
 abbrev pub Declarations : Type 0
 Declarations =
-    DeclsAre (codes "X : Integer;")
-    (object (id (codes "X") (col 1) ∷ []) (id (codes "INTEGER") (col 5)) no_expr ∷ [])
-    × DeclsAre (codes "X : T := 1;")
-    (object (id (codes "X") (col 1) ∷ []) (id (codes "T") (col 5)) (an_expr (only (num 1 (col 10)))) ∷ [])
-    × DeclsAre (codes "A, B, C : T;")
-    (object (id (codes "A") (col 1) ∷ id (codes "B") (col 4) ∷ id (codes "C") (col 7) ∷ []) (id (codes "T") (col 11)) no_expr ∷ [])
-    × DeclsAre (codes "A : T; B, C : U := -1; D : V;")
-    (object (id (codes "A") (col 1) ∷ []) (id (codes "T") (col 5)) no_expr
-    ∷ object (id (codes "B") (col 8) ∷ id (codes "C") (col 11) ∷ []) (id (codes "U") (col 15)) (an_expr (negative (col 20) (one (num 1 (col 21))) []))
-    ∷ object (id (codes "D") (col 24) ∷ []) (id (codes "V") (col 28)) no_expr
+    DeclarationsAre (codes "X : Integer;")
+    (object (id (codes "X") (col 1) ∷ []) (id (codes "INTEGER") (col 5)) no_expression ∷ [])
+    × DeclarationsAre (codes "X : T := 1;")
+    (object (id (codes "X") (col 1) ∷ []) (id (codes "T") (col 5)) (an_expression (only (num 1 (col 10)))) ∷ [])
+    × DeclarationsAre (codes "A, B, C : T;")
+    (object (id (codes "A") (col 1) ∷ id (codes "B") (col 4) ∷ id (codes "C") (col 7) ∷ []) (id (codes "T") (col 11)) no_expression ∷ [])
+    × DeclarationsAre (codes "A : T; B, C : U := -1; D : V;")
+    (object (id (codes "A") (col 1) ∷ []) (id (codes "T") (col 5)) no_expression
+    ∷ object (id (codes "B") (col 8) ∷ id (codes "C") (col 11) ∷ []) (id (codes "U") (col 15)) (an_expression (negative (col 20) (one (num 1 (col 21))) []))
+    ∷ object (id (codes "D") (col 24) ∷ []) (id (codes "V") (col 28)) no_expression
     ∷ [])
 
 -- statements (RM 5.1, 5.2, 6.4)
 abbrev pub Statements : Type 0
 Statements =
-    StmtsAre (codes "null;")
+    StatementsAre (codes "null;")
     (null (col 1) ∷ [])
-    × StmtsAre (codes "X := 1;")
+    × StatementsAre (codes "X := 1;")
     (assign (var_at (codes "X") (col 1)) (only (num 1 (col 6))) ∷ [])
-    × StmtsAre (codes "Put_Line (\"x\");")
+    × StatementsAre (codes "Put_Line (\"x\");")
     (called (id (codes "PUT_LINE") (col 1)) (only (str (codes "x") (col 11))) ∷ [])
-    × StmtsAre (codes "null; X := 1; P (X); null;")
+    × StatementsAre (codes "null; X := 1; P (X); null;")
     (null (col 1)
     ∷ assign (var_at (codes "X") (col 7)) (only (num 1 (col 12)))
     ∷ called (id (codes "P") (col 15)) (only (var (codes "X") (col 18)))
@@ -131,48 +131,48 @@ Statements =
 -- primaries (RM 2.3(5), 2.4.1(4, 5), 2.6(4, 5), 4.1, 4.1.4, 4.4(7))
 abbrev pub Primaries : Type 0
 Primaries =
-    ExprIs (codes "7") (only (num 7 (col 1)))
-    × ExprIs (codes "1_000") (only (num 1000 (col 1)))
-    × ExprIs (codes "2147483647") (only (num 2147483647 (col 1)))
-    × ExprIs (codes "2147483648") (only (too_large (col 1)))
-    × ExprIs (codes "\"say \"\"hi\"\"\"") (only (str (codes "say \"hi\"") (col 1)))
-    × ExprIs (codes "\"\"") (only (str [] (col 1)))
-    × ExprIs (codes "Some_Name") (only (var (codes "SOME_NAME") (col 1)))
-    × ExprIs (codes "X'Image") (only (attribute (var_at (codes "X") (col 1)) (id (codes "IMAGE") (col 3)) no_expr))
-    × ExprIs (codes "T'Image (X)") (only (attribute (var_at (codes "T") (col 1)) (id (codes "IMAGE") (col 3)) (an_expr (only (var (codes "X") (col 10))))))
-    × ExprIs (codes "(X)") (only (group (col 1) (only (var (codes "X") (col 2)))))
-    × ExprIs (codes "((1))") (only (group (col 1) (only (group (col 2) (only (num 1 (col 3)))))))
+    ExpressionIs (codes "7") (only (num 7 (col 1)))
+    × ExpressionIs (codes "1_000") (only (num 1000 (col 1)))
+    × ExpressionIs (codes "2147483647") (only (num 2147483647 (col 1)))
+    × ExpressionIs (codes "2147483648") (only (too_large (col 1)))
+    × ExpressionIs (codes "\"say \"\"hi\"\"\"") (only (str (codes "say \"hi\"") (col 1)))
+    × ExpressionIs (codes "\"\"") (only (str [] (col 1)))
+    × ExpressionIs (codes "Some_Name") (only (var (codes "SOME_NAME") (col 1)))
+    × ExpressionIs (codes "X'Image") (only (attribute (var_at (codes "X") (col 1)) (id (codes "IMAGE") (col 3)) no_expression))
+    × ExpressionIs (codes "T'Image (X)") (only (attribute (var_at (codes "T") (col 1)) (id (codes "IMAGE") (col 3)) (an_expression (only (var (codes "X") (col 10))))))
+    × ExpressionIs (codes "(X)") (only (group (col 1) (only (var (codes "X") (col 2)))))
+    × ExpressionIs (codes "((1))") (only (group (col 1) (only (group (col 2) (only (num 1 (col 3)))))))
 
 -- operators; those of one level stand in the order of the text, in which they are taken (RM 4.5(8))
 abbrev pub Operators : Type 0
 Operators =
-    ExprIs (codes "1 - 2 + 3")
+    ExpressionIs (codes "1 - 2 + 3")
     (sum (one (num 1 (col 1))) (adding Minus (num 2 (col 5)) ∷ adding Plus (num 3 (col 9)) ∷ []))
-    × ExprIs (codes "A & B & \"c\"")
+    × ExpressionIs (codes "A & B & \"c\"")
     (sum (one (var (codes "A") (col 1))) (adding Join (var (codes "B") (col 5)) ∷ adding Join (str (codes "c") (col 9)) ∷ []))
-    × ExprIs (codes "1 - (2 + 3)")
+    × ExpressionIs (codes "1 - (2 + 3)")
     (sum (one (num 1 (col 1))) (adding Minus (group (col 5) (sum (one (num 2 (col 6))) (adding Plus (num 3 (col 10)) ∷ []))) ∷ []))
-    × ExprIs (codes "8 / 4 * 2")
+    × ExpressionIs (codes "8 / 4 * 2")
     (only_term (product (just (num 8 (col 1))) (multiplying Divide (num 4 (col 5)) ∷ multiplying Times (num 2 (col 9)) ∷ [])))
-    × ExprIs (codes "9 mod 5 rem 3")
+    × ExpressionIs (codes "9 mod 5 rem 3")
     (only_term (product (just (num 9 (col 1))) (multiplying Modulo (num 5 (col 7)) ∷ multiplying Remainder (num 3 (col 13)) ∷ [])))
-    × ExprIs (codes "1 + 2 * 3 - 4")
+    × ExpressionIs (codes "1 + 2 * 3 - 4")
     (sum (one (num 1 (col 1))) (added Plus (product (just (num 2 (col 5))) (multiplying Times (num 3 (col 9)) ∷ [])) ∷ adding Minus (num 4 (col 13)) ∷ []))
-    × ExprIs (codes "(1 + 2) * 3")
+    × ExpressionIs (codes "(1 + 2) * 3")
     (only_term (product (just (group (col 1) (sum (one (num 1 (col 2))) (adding Plus (num 2 (col 6)) ∷ [])))) (multiplying Times (num 3 (col 11)) ∷ [])))
-    × ExprIs (codes "+1")
+    × ExpressionIs (codes "+1")
     (positive (col 1) (one (num 1 (col 2))) [])
-    × ExprIs (codes "-7 mod 2 + 1")
+    × ExpressionIs (codes "-7 mod 2 + 1")
     (negative (col 1) (product (just (num 7 (col 2))) (multiplying Modulo (num 2 (col 8)) ∷ [])) (adding Plus (num 1 (col 12)) ∷ []))
-    × ExprIs (codes "2 * (-1)")
+    × ExpressionIs (codes "2 * (-1)")
     (only_term (product (just (num 2 (col 1))) (multiplying Times (group (col 5) (negative (col 6) (one (num 1 (col 7))) [])) ∷ [])))
-    × ExprIs (codes "abs X + 1")
+    × ExpressionIs (codes "abs X + 1")
     (sum (product (magnitude (col 1) (var (codes "X") (col 5))) []) (adding Plus (num 1 (col 9)) ∷ []))
-    × ExprIs (codes "2 * abs X")
+    × ExpressionIs (codes "2 * abs X")
     (only_term (product (just (num 2 (col 1))) (multiplied Times (magnitude (col 5) (var (codes "X") (col 9))) ∷ [])))
-    × ExprIs (codes "not X & Y")
+    × ExpressionIs (codes "not X & Y")
     (sum (product (opposite (col 1) (var (codes "X") (col 5))) []) (adding Join (var (codes "Y") (col 9)) ∷ []))
-    × ExprIs (codes "-abs X")
+    × ExpressionIs (codes "-abs X")
     (negative (col 1) (product (magnitude (col 2) (var (codes "X") (col 6))) []) [])
 
 abbrev pub TreesOfTexts : Type 0
@@ -198,55 +198,55 @@ WrongPrograms =
 
 abbrev pub WrongDeclarations : Type 0
 WrongDeclarations =
-    DeclsStop (codes "null;") 0
-    × DeclsStop (codes "X") 1
-    × DeclsStop (codes "X Y : T;") 1
-    × DeclsStop (codes "X, : T;") 2
-    × DeclsStop (codes "X : constant T := 1;") 2
-    × DeclsStop (codes "X : T") 3
-    × DeclsStop (codes "X : T = 1;") 3
-    × DeclsStop (codes "X : T :=;") 4
-    × DeclsStop (codes "X : T := 1, Y : T;") 5
-    × DeclsStop (codes "X : T; null;") 4
+    DeclarationsStop (codes "null;") 0
+    × DeclarationsStop (codes "X") 1
+    × DeclarationsStop (codes "X Y : T;") 1
+    × DeclarationsStop (codes "X, : T;") 2
+    × DeclarationsStop (codes "X : constant T := 1;") 2
+    × DeclarationsStop (codes "X : T") 3
+    × DeclarationsStop (codes "X : T = 1;") 3
+    × DeclarationsStop (codes "X : T :=;") 4
+    × DeclarationsStop (codes "X : T := 1, Y : T;") 5
+    × DeclarationsStop (codes "X : T; null;") 4
 
 abbrev pub WrongStatements : Type 0
 WrongStatements =
-    StmtsStop (codes "") 0
-    × StmtsStop (codes ";") 0
-    × StmtsStop (codes "if") 0
-    × StmtsStop (codes "null") 1
-    × StmtsStop (codes "Put_Line;") 1
-    × StmtsStop (codes "X = 1;") 1
-    × StmtsStop (codes "X := 1") 3
-    × StmtsStop (codes "X := ;") 2
-    × StmtsStop (codes "Put_Line ();") 2
-    × StmtsStop (codes "Put_Line (\"a\", \"b\");") 3
-    × StmtsStop (codes "Put_Line (\"a\") & \"b\";") 4
-    × StmtsStop (codes "null; X : T;") 3
+    StatementsStop (codes "") 0
+    × StatementsStop (codes ";") 0
+    × StatementsStop (codes "if") 0
+    × StatementsStop (codes "null") 1
+    × StatementsStop (codes "Put_Line;") 1
+    × StatementsStop (codes "X = 1;") 1
+    × StatementsStop (codes "X := 1") 3
+    × StatementsStop (codes "X := ;") 2
+    × StatementsStop (codes "Put_Line ();") 2
+    × StatementsStop (codes "Put_Line (\"a\", \"b\");") 3
+    × StatementsStop (codes "Put_Line (\"a\") & \"b\";") 4
+    × StatementsStop (codes "null; X : T;") 3
 
 abbrev pub WrongExpressions : Type 0
 WrongExpressions =
-    ExprStops (codes "1.5") 0
-    × ExprStops (codes "1 2") 1
-    × ExprStops (codes "1 +") 2
-    × ExprStops (codes "1 + -1") 2
-    × ExprStops (codes "2 * -1") 2
-    × ExprStops (codes "- -1") 1
-    × ExprStops (codes "abs -1") 1
-    × ExprStops (codes "abs abs X") 1
-    × ExprStops (codes "not") 1
-    × ExprStops (codes "2 ** 3") 1
-    × ExprStops (codes "1 = 2") 1
-    × ExprStops (codes "A and B") 1
-    × ExprStops (codes "A.B") 1
-    × ExprStops (codes "A (1)") 1
-    × ExprStops (codes "1'Image") 1
-    × ExprStops (codes "X'") 2
-    × ExprStops (codes "X'Image'Image") 3
-    × ExprStops (codes "X'Image ()") 4
-    × ExprStops (codes "()") 1
-    × ExprStops (codes "(1") 2
-    × ExprStops (codes "1)") 1
+    ExpressionStops (codes "1.5") 0
+    × ExpressionStops (codes "1 2") 1
+    × ExpressionStops (codes "1 +") 2
+    × ExpressionStops (codes "1 + -1") 2
+    × ExpressionStops (codes "2 * -1") 2
+    × ExpressionStops (codes "- -1") 1
+    × ExpressionStops (codes "abs -1") 1
+    × ExpressionStops (codes "abs abs X") 1
+    × ExpressionStops (codes "not") 1
+    × ExpressionStops (codes "2 ** 3") 1
+    × ExpressionStops (codes "1 = 2") 1
+    × ExpressionStops (codes "A and B") 1
+    × ExpressionStops (codes "A.B") 1
+    × ExpressionStops (codes "A (1)") 1
+    × ExpressionStops (codes "1'Image") 1
+    × ExpressionStops (codes "X'") 2
+    × ExpressionStops (codes "X'Image'Image") 3
+    × ExpressionStops (codes "X'Image ()") 4
+    × ExpressionStops (codes "()") 1
+    × ExpressionStops (codes "(1") 2
+    × ExpressionStops (codes "1)") 1
 
 abbrev pub FaultsOfTexts : Type 0
 FaultsOfTexts = WrongPrograms × WrongDeclarations × WrongStatements × WrongExpressions
@@ -257,31 +257,31 @@ IsReadWithin limit source what = read_by (parsed_as the_unit g.Unit limit) (lexe
 
 -- a program with two levels open at a time, and no more
 
-abbrev pub closed_decl : Decl
-closed_decl = object (id (codes "X") (at 1 16) ∷ []) (id (codes "T") (at 1 20)) (an_expr (only (group (at 1 25) (only (num 1 (at 1 26))))))
+abbrev pub closed_declaration : Declaration
+closed_declaration = object (id (codes "X") (at 1 16) ∷ []) (id (codes "T") (at 1 20)) (an_expression (only (group (at 1 25) (only (num 1 (at 1 26))))))
 
-abbrev pub closed_calls : List Stmt
+abbrev pub closed_calls : List Statement
 closed_calls = called (id (codes "P") (at 1 36)) (only (num 2 (at 1 39))) ∷ called (id (codes "P") (at 1 43)) (only (num 3 (at 1 46))) ∷ []
 
 -- declarations, statements and parentheses open a level each, and close it; and the first fault counts
 abbrev pub FewLevels : Type 0
 FewLevels =
-    IsReadWithin 0 (with_decls (codes "X : T;")) (Err (deep_at 3))
-    × IsReadWithin 0 (with_stmts (codes "null;")) (Err (deep_at 4))
+    IsReadWithin 0 (with_declarations (codes "X : T;")) (Err (deep_at 3))
+    × IsReadWithin 0 (with_statements (codes "null;")) (Err (deep_at 4))
     × IsReadWithin 0 (codes "procedure P is begin") (Err (wrong_at 4))
-    × IsReadWithin 1 (with_decls (codes "X : T := (1);")) (Err (deep_at (3 + 4)))
-    × IsReadWithin 1 (with_stmts (codes "X := (1);")) (Err (deep_at (4 + 2)))
-    × IsReadWithin 1 (with_stmts (codes "Put_Line (1);")) (Err (deep_at (4 + 1)))
-    × IsReadWithin 1 (with_stmts (codes "X := Y'Image (1);")) (Err (deep_at (4 + 5)))
-    × IsReadWithin 2 (with_stmts (codes "X := (1) + (2 + (3));")) (Err (deep_at (4 + 9)))
-    × IsReadWithin 1 (with_stmts (codes "X := );")) (Err (wrong_at (4 + 2)))
-    × IsReadWithin 1 (with_stmts (codes "X := 1 2 (3);")) (Err (wrong_at (4 + 3)))
-    × IsReadWithin 1 (with_stmts (codes "X := (1 2);")) (Err (deep_at (4 + 2)))
+    × IsReadWithin 1 (with_declarations (codes "X : T := (1);")) (Err (deep_at (3 + 4)))
+    × IsReadWithin 1 (with_statements (codes "X := (1);")) (Err (deep_at (4 + 2)))
+    × IsReadWithin 1 (with_statements (codes "Put_Line (1);")) (Err (deep_at (4 + 1)))
+    × IsReadWithin 1 (with_statements (codes "X := Y'Image (1);")) (Err (deep_at (4 + 5)))
+    × IsReadWithin 2 (with_statements (codes "X := (1) + (2 + (3));")) (Err (deep_at (4 + 9)))
+    × IsReadWithin 1 (with_statements (codes "X := );")) (Err (wrong_at (4 + 2)))
+    × IsReadWithin 1 (with_statements (codes "X := 1 2 (3);")) (Err (wrong_at (4 + 3)))
+    × IsReadWithin 1 (with_statements (codes "X := (1 2);")) (Err (deep_at (4 + 2)))
     × IsReadWithin 2 (codes "procedure P is X : T := (1); begin P (2); P (3); end;")
-    (Ok (program (closed_decl ∷ []) (body (at 1 30) (stmts closed_calls) (at 1 50) None)))
+    (Ok (program (closed_declaration ∷ []) (body (at 1 30) (statements closed_calls) (at 1 50) None)))
 
 -- an expression in so many parentheses, of which the first opens at this column of the second line
-abbrev pub nested : ℕ → ℕ → Expr
+abbrev pub nested : ℕ → ℕ → Expression
 nested zero n = only (num 1 (col n))
 nested (suc deep) n = only (group (col n) (nested deep (n + 1)))
 
@@ -290,7 +290,7 @@ in_parentheses deep = replicate deep 40 ++ codes "1" ++ replicate deep 41
 
 -- the statements are one of the 200 levels
 abbrev pub AllLevels : Type 0
-AllLevels = ExprIs (in_parentheses 199) (nested 199 1) × IsRead (with_expr (in_parentheses 200)) (Err (deep_at (6 + 199)))
+AllLevels = ExpressionIs (in_parentheses 199) (nested 199 1) × IsRead (with_expression (in_parentheses 200)) (Err (deep_at (6 + 199)))
 
 abbrev pub LevelsOfTexts : Type 0
 LevelsOfTexts = FewLevels × AllLevels

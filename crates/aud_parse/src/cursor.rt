@@ -26,21 +26,21 @@ pub enum Fault<'a, 's> {
 }
 
 /// Whether the next token is of this kind.
-pub fn is(toks: Rest, kind: Kind) -> bool
-    ensures { result ≡ next_in (kind ∷ []) toks.entry.tokens.now }
+pub fn is(start: Rest, kind: Kind) -> bool
+    ensures { result ≡ next_in (kind ∷ []) start.entry.tokens.now }
 {
-    match toks.tokens.first() {
+    match start.tokens.first() {
         None => false,
-        Some(t) => t.kind().code() == kind.code(),
+        Some(t) => t.kind().number() == kind.number(),
     }
 }
 
 /// Whether the next token is of one of these kinds.
-pub fn is_one_of(toks: Rest, kinds: &[Kind]) -> bool
-    ensures { result ≡ next_in kinds.now toks.entry.tokens.now }
+pub fn is_one_of(start: Rest, kinds: &[Kind]) -> bool
+    ensures { result ≡ next_in kinds.now start.entry.tokens.now }
 {
     for kind in kinds {
-        if is(toks, *kind) {
+        if is(start, *kind) {
             return true;
         }
     }
@@ -48,11 +48,11 @@ pub fn is_one_of(toks: Rest, kinds: &[Kind]) -> bool
 }
 
 /// The first token, and the others.
-fn split<'a, 's>(toks: Rest<'a, 's>) -> (&'a Token<'s>, Rest<'a, 's>)
-    requires { 1 ≤ length toks.tokens.now }
-    ensures { toks.entry.tokens.now ≡ result.0.now ∷ result.1.tokens.now }
+fn split<'a, 's>(start: Rest<'a, 's>) -> (&'a Token<'s>, Rest<'a, 's>)
+    requires { 1 ≤ length start.tokens.now }
+    ensures { start.entry.tokens.now ≡ result.0.now ∷ result.1.tokens.now }
 {
-    let tokens = toks.tokens;
+    let tokens = start.tokens;
     (
         &tokens[0],
         Rest {
@@ -62,50 +62,50 @@ fn split<'a, 's>(toks: Rest<'a, 's>) -> (&'a Token<'s>, Rest<'a, 's>)
 }
 
 /// The next token, where it is of this kind, and the others.
-pub fn accept<'a, 's>(toks: Rest<'a, 's>, kind: Kind) -> Option<(&'a Token<'s>, Rest<'a, 's>)>
-    ensures reads { Accepts kind toks.entry.tokens.now result }
-    ensures shorter { IfSome result (λ p. length p.1.tokens.now < length toks.entry.tokens.now) }
+pub fn accept<'a, 's>(start: Rest<'a, 's>, kind: Kind) -> Option<(&'a Token<'s>, Rest<'a, 's>)>
+    ensures reads { Accepts kind start.entry.tokens.now result }
+    ensures shorter { IfSome result (λ p. length p.1.tokens.now < length start.entry.tokens.now) }
 {
-    if !is(toks, kind) {
+    if !is(start, kind) {
         return None;
     }
-    Some(split(toks))
+    Some(split(start))
 }
 
 /// Passes a word or a delimiter.
-pub fn word<'a, 's>(toks: Rest<'a, 's>, kind: Kind) -> Result<Rest<'a, 's>, Fault<'a, 's>>
-    ensures reads { ReadsWord kind toks.entry.tokens.now result }
-    ensures shorter { IfOk result (λ rest. length rest.tokens.now < length toks.entry.tokens.now) }
+pub fn word<'a, 's>(start: Rest<'a, 's>, kind: Kind) -> Result<Rest<'a, 's>, Fault<'a, 's>>
+    ensures reads { ReadsWord kind start.entry.tokens.now result }
+    ensures shorter { IfOk result (λ rest. length rest.tokens.now < length start.entry.tokens.now) }
 {
-    match accept(toks, kind) {
+    match accept(start, kind) {
         Some((_, rest)) => Ok(rest),
-        None => Err(Fault::Wrong(toks)),
+        None => Err(Fault::Wrong(start)),
     }
 }
 
 /// Passes a token of which the tree keeps something.
 pub fn token<'a, 's>(
-    toks: Rest<'a, 's>,
+    start: Rest<'a, 's>,
     kind: Kind,
 ) -> Result<(&'a Token<'s>, Rest<'a, 's>), Fault<'a, 's>>
-    ensures reads { ReadsToken kind toks.entry.tokens.now result }
-    ensures shorter { IfOk result (λ p. length p.1.tokens.now < length toks.entry.tokens.now) }
+    ensures reads { ReadsToken kind start.entry.tokens.now result }
+    ensures shorter { IfOk result (λ p. length p.1.tokens.now < length start.entry.tokens.now) }
 {
-    match accept(toks, kind) {
+    match accept(start, kind) {
         Some(found) => Ok(found),
-        None => Err(Fault::Wrong(toks)),
+        None => Err(Fault::Wrong(start)),
     }
 }
 
 /// The levels that may be opened inside one more level, which the next token opens if it `begins`
 /// what lies there.
-pub fn deeper<'a, 's>(toks: Rest<'a, 's>, room: u32, begins: bool) -> Result<u32, Fault<'a, 's>>
-    ensures { Deepens room begins toks.entry result }
+pub fn deeper<'a, 's>(start: Rest<'a, 's>, room: u32, begins: bool) -> Result<u32, Fault<'a, 's>>
+    ensures { Deepens room begins start.entry result }
 {
     match room.checked_sub(1) {
         Some(inside) => Ok(inside),
-        None if begins => Err(Fault::Deep(toks)),
-        None => Err(Fault::Wrong(toks)),
+        None if begins => Err(Fault::Deep(start)),
+        None => Err(Fault::Wrong(start)),
     }
 }
 

@@ -15,40 +15,40 @@ use crate::leaf::{ident, literal};
 use crate::value::number_value;
 use aud_lex::token::Kind;
 use aud_syntax::tree::{
-    Added, Adding, Expr, Factor, Highest, Ident, Multiplied, Multiplying, Name, NamePart, Number,
+    Added, Adding, Expression, Factor, Highest, Ident, Multiplied, Multiplying, Name, NamePart, Number,
     Operator, Primary, Relation, Sign, Signed, Simple, Term,
 };
 use aud_text::place::Pos;
 use std::alloc::Global;
 
 /// An expression in parentheses, which lies one level deeper, and where they open.
-#[cycle(expr)]
+#[cycle(expression)]
 pub fn parens<'a, 's>(
     alloc: Global,
-    toks: Rest<'a, 's>,
+    start: Rest<'a, 's>,
     room: u32,
-) -> Result<((Pos, Box<Expr>), Rest<'a, 's>), Fault<'a, 's>>
-    ensures reads { Reads parens_item (N g.Parens) room toks.entry.tokens.now result }
-    ensures shorter { IfOk result (λ p. length p.1.tokens.now < length toks.entry.tokens.now) }
+) -> Result<((Pos, Box<Expression>), Rest<'a, 's>), Fault<'a, 's>>
+    ensures reads { Reads parens_item (N g.Parens) room start.entry.tokens.now result }
+    ensures shorter { IfOk result (λ p. length p.1.tokens.now < length start.entry.tokens.now) }
 {
-    let inside = deeper(toks, room, is(toks, Kind::LeftParenthesis))?;
-    let (open, rest) = token(toks, Kind::LeftParenthesis)?;
-    let (inner, rest) = expr(alloc, rest, inside)?;
+    let inside = deeper(start, room, is(start, Kind::LeftParenthesis))?;
+    let (open, rest) = token(start, Kind::LeftParenthesis)?;
+    let (inner, rest) = expression(alloc, rest, inside)?;
     let rest = word(rest, Kind::RightParenthesis)?;
     Ok(((open.at(), inner), rest))
 }
 
 /// An attribute's name and its argument (RM 4.1.4).
-#[cycle(expr)]
+#[cycle(expression)]
 fn attribute<'a, 's>(
     alloc: Global,
-    toks: Rest<'a, 's>,
+    start: Rest<'a, 's>,
     room: u32,
-) -> Result<((Ident, Option<Box<Expr>>), Rest<'a, 's>), Fault<'a, 's>>
-    ensures reads { Reads attribute_item (N g.Attribute) room toks.entry.tokens.now result }
-    ensures shorter { IfOk result (λ p. length p.1.tokens.now < length toks.entry.tokens.now) }
+) -> Result<((Ident, Option<Box<Expression>>), Rest<'a, 's>), Fault<'a, 's>>
+    ensures reads { Reads attribute_item (N g.Attribute) room start.entry.tokens.now result }
+    ensures shorter { IfOk result (λ p. length p.1.tokens.now < length start.entry.tokens.now) }
 {
-    let rest = word(toks, Kind::Apostrophe)?;
+    let rest = word(start, Kind::Apostrophe)?;
     let (name, rest) = ident(alloc, rest)?;
     if is(rest, Kind::LeftParenthesis) {
         let (inner, rest) = parens(alloc, rest, room)?;
@@ -58,28 +58,28 @@ fn attribute<'a, 's>(
 }
 
 /// A name without arguments (RM 4.1).
-fn name<'a, 's>(alloc: Global, toks: Rest<'a, 's>) -> Result<(Name, Rest<'a, 's>), Fault<'a, 's>>
-    ensures reads { (room : ℕ) → Reads name_item (N g.Name) room toks.entry.tokens.now result }
-    ensures shorter { IfOk result (λ p. length p.1.tokens.now < length toks.entry.tokens.now) }
+fn name<'a, 's>(alloc: Global, start: Rest<'a, 's>) -> Result<(Name, Rest<'a, 's>), Fault<'a, 's>>
+    ensures reads { (room : ℕ) → Reads name_item (N g.Name) room start.entry.tokens.now result }
+    ensures shorter { IfOk result (λ p. length p.1.tokens.now < length start.entry.tokens.now) }
 {
-    let (ident, rest) = ident(alloc, toks)?;
+    let (ident, rest) = ident(alloc, start)?;
     let args = Vec::new(alloc);
     let first = NamePart { ident, args };
     Ok((Name { first }, rest))
 }
 
 /// A name, or an attribute of it (RM 4.1, 4.1.4).
-#[cycle(expr)]
+#[cycle(expression)]
 #[inline(never)]
 fn named<'a, 's>(
     alloc: Global,
-    toks: Rest<'a, 's>,
+    start: Rest<'a, 's>,
     room: u32,
 ) -> Result<(Primary, Rest<'a, 's>), Fault<'a, 's>>
-    ensures reads { Reads primary_item (N g.Named) room toks.entry.tokens.now result }
-    ensures shorter { IfOk result (λ p. length p.1.tokens.now < length toks.entry.tokens.now) }
+    ensures reads { Reads primary_item (N g.Named) room start.entry.tokens.now result }
+    ensures shorter { IfOk result (λ p. length p.1.tokens.now < length start.entry.tokens.now) }
 {
-    let (name, rest) = name(alloc, toks)?;
+    let (name, rest) = name(alloc, start)?;
     let prefix = Box::new(alloc, name)?;
     if is(rest, Kind::Apostrophe) {
         let (attribute, rest) = attribute(alloc, rest, room)?;
@@ -90,37 +90,37 @@ fn named<'a, 's>(
 }
 
 /// A primary (RM 4.4(7)).
-#[cycle(expr)]
+#[cycle(expression)]
 fn primary<'a, 's>(
     alloc: Global,
-    toks: Rest<'a, 's>,
+    start: Rest<'a, 's>,
     room: u32,
 ) -> Result<(Primary, Rest<'a, 's>), Fault<'a, 's>>
-    ensures reads { Reads primary_item (N g.Primary) room toks.entry.tokens.now result }
-    ensures shorter { IfOk result (λ p. length p.1.tokens.now < length toks.entry.tokens.now) }
+    ensures reads { Reads primary_item (N g.Primary) room start.entry.tokens.now result }
+    ensures shorter { IfOk result (λ p. length p.1.tokens.now < length start.entry.tokens.now) }
 {
-    if is(toks, Kind::Integer) {
-        let (t, rest) = token(toks, Kind::Integer)?;
+    if is(start, Kind::Integer) {
+        let (t, rest) = token(start, Kind::Integer)?;
         let value = number_value(t.text());
         return Ok((Primary::Integer(Number { value, at: t.at() }), rest));
     }
-    if is(toks, Kind::Text) {
-        let (value, rest) = literal(alloc, toks)?;
+    if is(start, Kind::Text) {
+        let (value, rest) = literal(alloc, start)?;
         return Ok((Primary::Text(value), rest));
     }
-    if is(toks, Kind::Identifier) {
-        return named(alloc, toks, room);
+    if is(start, Kind::Identifier) {
+        return named(alloc, start, room);
     }
-    let (group, rest) = parens(alloc, toks, room)?;
+    let (group, rest) = parens(alloc, start, room)?;
     Ok((Primary::Group(group.0, group.1), rest))
 }
 
 /// An operator before a primary, if there is one (RM 4.5.6).
-fn opt_operator<'a, 's>(toks: Rest<'a, 's>) -> (Option<Operator>, Rest<'a, 's>)
-    ensures reads { (room : ℕ) → Passes (Opt g.Operator) room toks.entry.tokens.now (λ ds. opt_item an_operator result.0 ∷ ds) room result.1.tokens.now }
-    ensures shorter { length result.1.tokens.now ≤ length toks.entry.tokens.now }
+fn opt_operator<'a, 's>(start: Rest<'a, 's>) -> (Option<Operator>, Rest<'a, 's>)
+    ensures reads { (room : ℕ) → Passes (Opt g.Operator) room start.entry.tokens.now (λ ds. opt_item an_operator result.0 ∷ ds) room result.1.tokens.now }
+    ensures shorter { length result.1.tokens.now ≤ length start.entry.tokens.now }
 {
-    if let Some((t, rest)) = accept(toks, Kind::Abs) {
+    if let Some((t, rest)) = accept(start, Kind::Abs) {
         let highest = Highest::Magnitude;
         return (
             Some(Operator {
@@ -130,7 +130,7 @@ fn opt_operator<'a, 's>(toks: Rest<'a, 's>) -> (Option<Operator>, Rest<'a, 's>)
             rest,
         );
     }
-    if let Some((t, rest)) = accept(toks, Kind::Not) {
+    if let Some((t, rest)) = accept(start, Kind::Not) {
         let highest = Highest::Not;
         return (
             Some(Operator {
@@ -140,145 +140,145 @@ fn opt_operator<'a, 's>(toks: Rest<'a, 's>) -> (Option<Operator>, Rest<'a, 's>)
             rest,
         );
     }
-    (None, toks)
+    (None, start)
 }
 
 /// A factor (RM 4.4(6)).
-#[cycle(expr)]
+#[cycle(expression)]
 fn factor<'a, 's>(
     alloc: Global,
-    toks: Rest<'a, 's>,
+    start: Rest<'a, 's>,
     room: u32,
 ) -> Result<(Factor, Rest<'a, 's>), Fault<'a, 's>>
-    ensures reads { Reads factor_item (N g.Factor) room toks.entry.tokens.now result }
-    ensures shorter { IfOk result (λ p. length p.1.tokens.now < length toks.entry.tokens.now) }
+    ensures reads { Reads factor_item (N g.Factor) room start.entry.tokens.now result }
+    ensures shorter { IfOk result (λ p. length p.1.tokens.now < length start.entry.tokens.now) }
 {
-    let (op, rest) = opt_operator(toks);
+    let (operator, rest) = opt_operator(start);
     let (primary, rest) = primary(alloc, rest, room)?;
-    Ok((Factor { op, primary }, rest))
+    Ok((Factor { operator, primary }, rest))
 }
 
 /// A multiplying operator, if one comes next (RM 4.5.5).
-fn multiplying<'a, 's>(toks: Rest<'a, 's>) -> Option<(Multiplying, Rest<'a, 's>)>
-    ensures reads { Takes a_multiplying g.MultiplyingOperator toks.entry.tokens.now result }
-    ensures shorter { IfSome result (λ p. length p.1.tokens.now < length toks.entry.tokens.now) }
+fn multiplying<'a, 's>(start: Rest<'a, 's>) -> Option<(Multiplying, Rest<'a, 's>)>
+    ensures reads { Takes a_multiplying g.MultiplyingOperator start.entry.tokens.now result }
+    ensures shorter { IfSome result (λ p. length p.1.tokens.now < length start.entry.tokens.now) }
 {
-    if let Some((_, rest)) = accept(toks, Kind::Star) {
+    if let Some((_, rest)) = accept(start, Kind::Star) {
         return Some((Multiplying::Times, rest));
     }
-    if let Some((_, rest)) = accept(toks, Kind::Slash) {
+    if let Some((_, rest)) = accept(start, Kind::Slash) {
         return Some((Multiplying::Divide, rest));
     }
-    if let Some((_, rest)) = accept(toks, Kind::Mod) {
+    if let Some((_, rest)) = accept(start, Kind::Mod) {
         return Some((Multiplying::Modulo, rest));
     }
-    if let Some((_, rest)) = accept(toks, Kind::Rem) {
+    if let Some((_, rest)) = accept(start, Kind::Rem) {
         return Some((Multiplying::Remainder, rest));
     }
     None
 }
 
 /// The further factors, each behind its operator.
-#[cycle(expr)]
+#[cycle(expression)]
 #[inline(never)]
 fn multiplieds<'a, 's>(
     alloc: Global,
-    toks: Rest<'a, 's>,
+    start: Rest<'a, 's>,
     room: u32,
 ) -> Result<(Vec<Multiplied>, Rest<'a, 's>), Fault<'a, 's>>
-    ensures reads { Reads (λ v. list_item multiplied_item v.items) (Rep g.Multiplied) room toks.entry.tokens.now result }
-    ensures shorter { IfOk result (λ p. length p.1.tokens.now ≤ length toks.entry.tokens.now) }
+    ensures reads { Reads (λ v. list_item multiplied_item v.items) (Rep g.Multiplied) room start.entry.tokens.now result }
+    ensures shorter { IfOk result (λ p. length p.1.tokens.now ≤ length start.entry.tokens.now) }
 {
     let mut all = Vec::new(alloc);
-    let mut rest = toks;
-    'turns: while let Some((op, behind)) = multiplying(rest) {
+    let mut rest = start;
+    'turns: while let Some((operator, behind)) = multiplying(rest) {
         let (factor, after) = factor(alloc, behind, room)?;
-        all.push(Multiplied { op, factor })?;
+        all.push(Multiplied { operator, factor })?;
         rest = after;
     }
     Ok((all, rest))
 }
 
 /// A term (RM 4.4(5)).
-#[cycle(expr)]
+#[cycle(expression)]
 fn term<'a, 's>(
     alloc: Global,
-    toks: Rest<'a, 's>,
+    start: Rest<'a, 's>,
     room: u32,
 ) -> Result<(Term, Rest<'a, 's>), Fault<'a, 's>>
-    ensures reads { Reads term_item (N g.Term) room toks.entry.tokens.now result }
-    ensures shorter { IfOk result (λ p. length p.1.tokens.now < length toks.entry.tokens.now) }
+    ensures reads { Reads term_item (N g.Term) room start.entry.tokens.now result }
+    ensures shorter { IfOk result (λ p. length p.1.tokens.now < length start.entry.tokens.now) }
 {
-    let (first, rest) = factor(alloc, toks, room)?;
+    let (first, rest) = factor(alloc, start, room)?;
     let (more, rest) = multiplieds(alloc, rest, room)?;
     Ok((Term { first, rest: more }, rest))
 }
 
 /// A binary adding operator, if one comes next (RM 4.5.3).
-fn adding<'a, 's>(toks: Rest<'a, 's>) -> Option<(Adding, Rest<'a, 's>)>
-    ensures reads { Takes an_adding g.AddingOperator toks.entry.tokens.now result }
-    ensures shorter { IfSome result (λ p. length p.1.tokens.now < length toks.entry.tokens.now) }
+fn adding<'a, 's>(start: Rest<'a, 's>) -> Option<(Adding, Rest<'a, 's>)>
+    ensures reads { Takes an_adding g.AddingOperator start.entry.tokens.now result }
+    ensures shorter { IfSome result (λ p. length p.1.tokens.now < length start.entry.tokens.now) }
 {
-    if let Some((_, rest)) = accept(toks, Kind::Plus) {
+    if let Some((_, rest)) = accept(start, Kind::Plus) {
         return Some((Adding::Plus, rest));
     }
-    if let Some((_, rest)) = accept(toks, Kind::Minus) {
+    if let Some((_, rest)) = accept(start, Kind::Minus) {
         return Some((Adding::Minus, rest));
     }
-    if let Some((_, rest)) = accept(toks, Kind::Ampersand) {
+    if let Some((_, rest)) = accept(start, Kind::Ampersand) {
         return Some((Adding::Join, rest));
     }
     None
 }
 
 /// The further terms, each behind its operator.
-#[cycle(expr)]
+#[cycle(expression)]
 #[inline(never)]
 fn addeds<'a, 's>(
     alloc: Global,
-    toks: Rest<'a, 's>,
+    start: Rest<'a, 's>,
     room: u32,
 ) -> Result<(Vec<Added>, Rest<'a, 's>), Fault<'a, 's>>
-    ensures reads { Reads (λ v. list_item added_item v.items) (Rep g.Added) room toks.entry.tokens.now result }
-    ensures shorter { IfOk result (λ p. length p.1.tokens.now ≤ length toks.entry.tokens.now) }
+    ensures reads { Reads (λ v. list_item added_item v.items) (Rep g.Added) room start.entry.tokens.now result }
+    ensures shorter { IfOk result (λ p. length p.1.tokens.now ≤ length start.entry.tokens.now) }
 {
     let mut all = Vec::new(alloc);
-    let mut rest = toks;
-    'turns: while let Some((op, behind)) = adding(rest) {
+    let mut rest = start;
+    'turns: while let Some((operator, behind)) = adding(rest) {
         let (term, after) = term(alloc, behind, room)?;
-        all.push(Added { op, term })?;
+        all.push(Added { operator, term })?;
         rest = after;
     }
     Ok((all, rest))
 }
 
 /// A sign, if there is one (RM 4.5.4).
-fn opt_sign<'a, 's>(toks: Rest<'a, 's>) -> (Option<Signed>, Rest<'a, 's>)
-    ensures reads { (room : ℕ) → Passes (Opt g.Sign) room toks.entry.tokens.now (λ ds. opt_item a_sign result.0 ∷ ds) room result.1.tokens.now }
-    ensures shorter { length result.1.tokens.now ≤ length toks.entry.tokens.now }
+fn opt_sign<'a, 's>(start: Rest<'a, 's>) -> (Option<Signed>, Rest<'a, 's>)
+    ensures reads { (room : ℕ) → Passes (Opt g.Sign) room start.entry.tokens.now (λ ds. opt_item a_sign result.0 ∷ ds) room result.1.tokens.now }
+    ensures shorter { length result.1.tokens.now ≤ length start.entry.tokens.now }
 {
-    if let Some((t, rest)) = accept(toks, Kind::Plus) {
+    if let Some((t, rest)) = accept(start, Kind::Plus) {
         let sign = Sign::Plus;
         return (Some(Signed { sign, at: t.at() }), rest);
     }
-    if let Some((t, rest)) = accept(toks, Kind::Minus) {
+    if let Some((t, rest)) = accept(start, Kind::Minus) {
         let sign = Sign::Minus;
         return (Some(Signed { sign, at: t.at() }), rest);
     }
-    (None, toks)
+    (None, start)
 }
 
 /// A simple expression (RM 4.4(4)).
-#[cycle(expr)]
+#[cycle(expression)]
 fn simple<'a, 's>(
     alloc: Global,
-    toks: Rest<'a, 's>,
+    start: Rest<'a, 's>,
     room: u32,
 ) -> Result<(Simple, Rest<'a, 's>), Fault<'a, 's>>
-    ensures reads { Reads simple_item (N g.Simple) room toks.entry.tokens.now result }
-    ensures shorter { IfOk result (λ p. length p.1.tokens.now < length toks.entry.tokens.now) }
+    ensures reads { Reads simple_item (N g.Simple) room start.entry.tokens.now result }
+    ensures shorter { IfOk result (λ p. length p.1.tokens.now < length start.entry.tokens.now) }
 {
-    let (sign, rest) = opt_sign(toks);
+    let (sign, rest) = opt_sign(start);
     let (first, rest) = term(alloc, rest, room)?;
     let (more, rest) = addeds(alloc, rest, room)?;
     Ok((
@@ -292,32 +292,32 @@ fn simple<'a, 's>(
 }
 
 /// An expression (RM 4.4).
-#[cycle(expr)]
-pub fn expr<'a, 's>(
+#[cycle(expression)]
+pub fn expression<'a, 's>(
     alloc: Global,
-    toks: Rest<'a, 's>,
+    start: Rest<'a, 's>,
     room: u32,
-) -> Result<(Box<Expr>, Rest<'a, 's>), Fault<'a, 's>>
-    ensures reads { Reads boxed_item (N g.Expr) room toks.entry.tokens.now result }
-    ensures shorter { IfOk result (λ p. length p.1.tokens.now < length toks.entry.tokens.now) }
+) -> Result<(Box<Expression>, Rest<'a, 's>), Fault<'a, 's>>
+    ensures reads { Reads boxed_item (N g.Expression) room start.entry.tokens.now result }
+    ensures shorter { IfOk result (λ p. length p.1.tokens.now < length start.entry.tokens.now) }
 {
-    let (sum, rest) = simple(alloc, toks, room)?;
-    let boxed = Box::new(alloc, Expr::Alone(Relation::Unrelated(sum)))?;
+    let (sum, rest) = simple(alloc, start, room)?;
+    let boxed = Box::new(alloc, Expression::Alone(Relation::Unrelated(sum)))?;
     Ok((boxed, rest))
 }
 
 /// The arguments of a call, which lie one level deeper (RM 6.4).
 pub fn args<'a, 's>(
     alloc: Global,
-    toks: Rest<'a, 's>,
+    start: Rest<'a, 's>,
     room: u32,
-) -> Result<(Vec<Expr>, Rest<'a, 's>), Fault<'a, 's>>
-    ensures reads { Reads (λ v. args_item v.items) (N g.Args) room toks.entry.tokens.now result }
-    ensures shorter { IfOk result (λ p. length p.1.tokens.now < length toks.entry.tokens.now) }
+) -> Result<(Vec<Expression>, Rest<'a, 's>), Fault<'a, 's>>
+    ensures reads { Reads (λ v. args_item v.items) (N g.Args) room start.entry.tokens.now result }
+    ensures shorter { IfOk result (λ p. length p.1.tokens.now < length start.entry.tokens.now) }
 {
-    let inside = deeper(toks, room, is(toks, Kind::LeftParenthesis))?;
-    let rest = word(toks, Kind::LeftParenthesis)?;
-    let (argument, rest) = expr(alloc, rest, inside)?;
+    let inside = deeper(start, room, is(start, Kind::LeftParenthesis))?;
+    let rest = word(start, Kind::LeftParenthesis)?;
+    let (argument, rest) = expression(alloc, rest, inside)?;
     let rest = word(rest, Kind::RightParenthesis)?;
     let mut all = Vec::new(alloc);
     all.push(Box::into_inner(argument))?;

@@ -16,12 +16,12 @@ use std::alloc::Global;
 /// An identifier (RM 2.3).
 pub fn ident<'a, 's>(
     alloc: Global,
-    toks: Rest<'a, 's>,
+    start: Rest<'a, 's>,
 ) -> Result<(Ident, Rest<'a, 's>), Fault<'a, 's>>
-    ensures reads { (room : ℕ) → Reads an_ident (N g.Id) room toks.entry.tokens.now result }
-    ensures shorter { IfOk result (λ p. length p.1.tokens.now < length toks.entry.tokens.now) }
+    ensures reads { (room : ℕ) → Reads an_ident (N g.Identifier) room start.entry.tokens.now result }
+    ensures shorter { IfOk result (λ p. length p.1.tokens.now < length start.entry.tokens.now) }
 {
-    let (t, rest) = token(toks, Kind::Identifier)?;
+    let (t, rest) = token(start, Kind::Identifier)?;
     let name = Name::from_source(alloc, t.text())?;
     Ok((Ident { name, at: t.at() }, rest))
 }
@@ -31,12 +31,12 @@ pub fn ident<'a, 's>(
 #[inline(never)]
 pub fn literal<'a, 's>(
     alloc: Global,
-    toks: Rest<'a, 's>,
+    start: Rest<'a, 's>,
 ) -> Result<(Literal, Rest<'a, 's>), Fault<'a, 's>>
-    ensures reads { (room : ℕ) → Reads a_literal (N g.Literal) room toks.entry.tokens.now result }
-    ensures shorter { IfOk result (λ p. length p.1.tokens.now < length toks.entry.tokens.now) }
+    ensures reads { (room : ℕ) → Reads a_literal (N g.Literal) room start.entry.tokens.now result }
+    ensures shorter { IfOk result (λ p. length p.1.tokens.now < length start.entry.tokens.now) }
 {
-    let (t, rest) = token(toks, Kind::Text)?;
+    let (t, rest) = token(start, Kind::Text)?;
     let text = unquoted(alloc, t.text())?;
     Ok((Literal { text, at: t.at() }, rest))
 }

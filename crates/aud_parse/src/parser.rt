@@ -10,7 +10,7 @@ ghost use Rattle.aud_parse.specs.Reads.{Reads};
 ghost use Rattle.aud_parse.specs.Gives.{Gives};
 
 use crate::cursor::{Fault, Rest, token, word};
-use crate::declaration::opt_decls;
+use crate::declaration::opt_declarations;
 use crate::leaf::ident;
 use crate::statement::body;
 use aud_lex::token::{Kind, Token};
@@ -37,21 +37,21 @@ pub enum SyntaxFault {
 /// A main procedure (RM 6.3, 10.1.1).
 fn unit<'a, 's>(
     alloc: Global,
-    toks: Rest<'a, 's>,
+    start: Rest<'a, 's>,
     room: u32,
 ) -> Result<(Unit, Rest<'a, 's>), Fault<'a, 's>>
-    ensures { Reads unit_item (N g.Unit) room toks.entry.tokens.now result }
+    ensures { Reads unit_item (N g.Unit) room start.entry.tokens.now result }
 {
-    let (first, rest) = token(toks, Kind::Procedure)?;
+    let (first, rest) = token(start, Kind::Procedure)?;
     let (name, rest) = ident(alloc, rest)?;
     let rest = word(rest, Kind::Is)?;
-    let (decls, rest) = opt_decls(alloc, rest, room)?;
+    let (declarations, rest) = opt_declarations(alloc, rest, room)?;
     let (body, rest) = body(alloc, rest, room)?;
     Ok((
         Unit {
             at: first.at(),
             name,
-            decls,
+            declarations,
             body,
         },
         rest,

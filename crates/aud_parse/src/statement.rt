@@ -4,39 +4,39 @@ ghost use Rattle.std.specs.Prelude.{ℕ, length, ◌<◌, ◌≤◌, IfOk};
 ghost use Rattle.aud_parse.specs.Grammar as g;
 ghost use Rattle.aud_parse.specs.Grammar.{N, Opt};
 ghost use Rattle.aud_parse.specs.Actions.{an_ident};
-ghost use Rattle.aud_parse.specs.Items.{list_item, opt_item, assigned_item, called_item, stmt_item, body_item};
+ghost use Rattle.aud_parse.specs.Items.{list_item, opt_item, assigned_item, called_item, statement_item, body_item};
 ghost use Rattle.aud_parse.specs.Reads.{Reads};
 
 use crate::cursor::{Fault, Rest, deeper, is, is_one_of, token, word};
-use crate::expression::{args, expr};
+use crate::expression::{args, expression};
 use crate::leaf::ident;
 use aud_lex::token::Kind;
-use aud_syntax::tree::{Body, Expr, Ident, Name, NamePart, Stmt};
+use aud_syntax::tree::{Body, Expression, Ident, Name, NamePart, Statement};
 use std::alloc::Global;
 
 const STATEMENTS: [Kind; 2] = [Kind::Null, Kind::Identifier];
 
 /// A null statement (RM 5.1(6)).
-fn null<'a, 's>(toks: Rest<'a, 's>) -> Result<(Stmt, Rest<'a, 's>), Fault<'a, 's>>
-    ensures reads { (room : ℕ) → Reads stmt_item (N g.NullStmt) room toks.entry.tokens.now result }
-    ensures shorter { IfOk result (λ p. length p.1.tokens.now < length toks.entry.tokens.now) }
+fn null<'a, 's>(start: Rest<'a, 's>) -> Result<(Statement, Rest<'a, 's>), Fault<'a, 's>>
+    ensures reads { (room : ℕ) → Reads statement_item (N g.NullStatement) room start.entry.tokens.now result }
+    ensures shorter { IfOk result (λ p. length p.1.tokens.now < length start.entry.tokens.now) }
 {
-    let (t, rest) = token(toks, Kind::Null)?;
+    let (t, rest) = token(start, Kind::Null)?;
     let rest = word(rest, Kind::Semicolon)?;
-    Ok((Stmt::Null(t.at()), rest))
+    Ok((Statement::Null(t.at()), rest))
 }
 
 /// What is assigned, behind the name (RM 5.2).
 fn assignment<'a, 's>(
     alloc: Global,
-    toks: Rest<'a, 's>,
+    start: Rest<'a, 's>,
     room: u32,
-) -> Result<(Expr, Rest<'a, 's>), Fault<'a, 's>>
-    ensures reads { Reads assigned_item (N g.Assignment) room toks.entry.tokens.now result }
-    ensures shorter { IfOk result (λ p. length p.1.tokens.now < length toks.entry.tokens.now) }
+) -> Result<(Expression, Rest<'a, 's>), Fault<'a, 's>>
+    ensures reads { Reads assigned_item (N g.Assignment) room start.entry.tokens.now result }
+    ensures shorter { IfOk result (λ p. length p.1.tokens.now < length start.entry.tokens.now) }
 {
-    let rest = word(toks, Kind::Becomes)?;
-    let (value, rest) = expr(alloc, rest, room)?;
+    let rest = word(start, Kind::Becomes)?;
+    let (value, rest) = expression(alloc, rest, room)?;
     let rest = word(rest, Kind::Semicolon)?;
     Ok((Box::into_inner(value), rest))
 }
@@ -44,13 +44,13 @@ fn assignment<'a, 's>(
 /// The arguments of a call, behind the name (RM 6.4).
 fn call<'a, 's>(
     alloc: Global,
-    toks: Rest<'a, 's>,
+    start: Rest<'a, 's>,
     room: u32,
-) -> Result<(Vec<Expr>, Rest<'a, 's>), Fault<'a, 's>>
-    ensures reads { Reads (λ v. called_item v.items) (N g.Call) room toks.entry.tokens.now result }
-    ensures shorter { IfOk result (λ p. length p.1.tokens.now < length toks.entry.tokens.now) }
+) -> Result<(Vec<Expression>, Rest<'a, 's>), Fault<'a, 's>>
+    ensures reads { Reads (λ v. called_item v.items) (N g.Call) room start.entry.tokens.now result }
+    ensures shorter { IfOk result (λ p. length p.1.tokens.now < length start.entry.tokens.now) }
 {
-    let (all, rest) = args(alloc, toks, room)?;
+    let (all, rest) = args(alloc, start, room)?;
     let rest = word(rest, Kind::Semicolon)?;
     Ok((all, rest))
 }
@@ -58,52 +58,52 @@ fn call<'a, 's>(
 /// A statement that begins with a name.
 fn named<'a, 's>(
     alloc: Global,
-    toks: Rest<'a, 's>,
+    start: Rest<'a, 's>,
     room: u32,
-) -> Result<(Stmt, Rest<'a, 's>), Fault<'a, 's>>
-    ensures reads { Reads stmt_item (N g.NameStmt) room toks.entry.tokens.now result }
-    ensures shorter { IfOk result (λ p. length p.1.tokens.now < length toks.entry.tokens.now) }
+) -> Result<(Statement, Rest<'a, 's>), Fault<'a, 's>>
+    ensures reads { Reads statement_item (N g.NameStatement) room start.entry.tokens.now result }
+    ensures shorter { IfOk result (λ p. length p.1.tokens.now < length start.entry.tokens.now) }
 {
-    let (ident, rest) = ident(alloc, toks)?;
+    let (ident, rest) = ident(alloc, start)?;
     if is(rest, Kind::Becomes) {
         let (value, rest) = assignment(alloc, rest, room)?;
         let args = Vec::new(alloc);
         let first = NamePart { ident, args };
-        return Ok((Stmt::Assign(Name { first }, value), rest));
+        return Ok((Statement::Assign(Name { first }, value), rest));
     }
     let (args, rest) = call(alloc, rest, room)?;
     let first = NamePart { ident, args };
-    Ok((Stmt::Call(Name { first }), rest))
+    Ok((Statement::Call(Name { first }), rest))
 }
 
 /// A statement.
-fn stmt<'a, 's>(
+fn statement<'a, 's>(
     alloc: Global,
-    toks: Rest<'a, 's>,
+    start: Rest<'a, 's>,
     room: u32,
-) -> Result<(Stmt, Rest<'a, 's>), Fault<'a, 's>>
-    ensures reads { Reads stmt_item (N g.Stmt) room toks.entry.tokens.now result }
-    ensures shorter { IfOk result (λ p. length p.1.tokens.now < length toks.entry.tokens.now) }
+) -> Result<(Statement, Rest<'a, 's>), Fault<'a, 's>>
+    ensures reads { Reads statement_item (N g.Statement) room start.entry.tokens.now result }
+    ensures shorter { IfOk result (λ p. length p.1.tokens.now < length start.entry.tokens.now) }
 {
-    if is(toks, Kind::Null) {
-        return null(toks);
+    if is(start, Kind::Null) {
+        return null(start);
     }
-    named(alloc, toks, room)
+    named(alloc, start, room)
 }
 
 /// Statements, at least one.
-fn stmt_list<'a, 's>(
+fn statement_list<'a, 's>(
     alloc: Global,
-    toks: Rest<'a, 's>,
+    start: Rest<'a, 's>,
     room: u32,
-) -> Result<(Vec<Stmt>, Rest<'a, 's>), Fault<'a, 's>>
-    ensures reads { Reads (λ v. list_item stmt_item v.items) (N g.StmtList) room toks.entry.tokens.now result }
-    ensures shorter { IfOk result (λ p. length p.1.tokens.now < length toks.entry.tokens.now) }
+) -> Result<(Vec<Statement>, Rest<'a, 's>), Fault<'a, 's>>
+    ensures reads { Reads (λ v. list_item statement_item v.items) (N g.StatementList) room start.entry.tokens.now result }
+    ensures shorter { IfOk result (λ p. length p.1.tokens.now < length start.entry.tokens.now) }
 {
     let mut all = Vec::new(alloc);
-    let mut rest = toks;
+    let mut rest = start;
     'turns: loop {
-        let (one, after) = stmt(alloc, rest, room)?;
+        let (one, after) = statement(alloc, rest, room)?;
         all.push(one)?;
         if !is_one_of(after, &STATEMENTS) {
             return Ok((all, after));
@@ -113,51 +113,51 @@ fn stmt_list<'a, 's>(
 }
 
 /// Statements, which lie one level deeper.
-fn stmts<'a, 's>(
+fn statements<'a, 's>(
     alloc: Global,
-    toks: Rest<'a, 's>,
+    start: Rest<'a, 's>,
     room: u32,
-) -> Result<(Vec<Stmt>, Rest<'a, 's>), Fault<'a, 's>>
-    ensures reads { Reads (λ v. list_item stmt_item v.items) (N g.Stmts) room toks.entry.tokens.now result }
-    ensures shorter { IfOk result (λ p. length p.1.tokens.now < length toks.entry.tokens.now) }
+) -> Result<(Vec<Statement>, Rest<'a, 's>), Fault<'a, 's>>
+    ensures reads { Reads (λ v. list_item statement_item v.items) (N g.Statements) room start.entry.tokens.now result }
+    ensures shorter { IfOk result (λ p. length p.1.tokens.now < length start.entry.tokens.now) }
 {
-    let inside = deeper(toks, room, is_one_of(toks, &STATEMENTS))?;
-    stmt_list(alloc, toks, inside)
+    let inside = deeper(start, room, is_one_of(start, &STATEMENTS))?;
+    statement_list(alloc, start, inside)
 }
 
 /// The name behind `end`, if there is one.
 fn opt_ident<'a, 's>(
     alloc: Global,
-    toks: Rest<'a, 's>,
+    start: Rest<'a, 's>,
 ) -> Result<(Option<Ident>, Rest<'a, 's>), Fault<'a, 's>>
-    ensures reads { (room : ℕ) → Reads (opt_item an_ident) (Opt g.Id) room toks.entry.tokens.now result }
-    ensures shorter { IfOk result (λ p. length p.1.tokens.now ≤ length toks.entry.tokens.now) }
+    ensures reads { (room : ℕ) → Reads (opt_item an_ident) (Opt g.Identifier) room start.entry.tokens.now result }
+    ensures shorter { IfOk result (λ p. length p.1.tokens.now ≤ length start.entry.tokens.now) }
 {
-    if is(toks, Kind::Identifier) {
-        let (name, rest) = ident(alloc, toks)?;
+    if is(start, Kind::Identifier) {
+        let (name, rest) = ident(alloc, start)?;
         return Ok((Some(name), rest));
     }
-    Ok((None, toks))
+    Ok((None, start))
 }
 
 /// Statements between `begin` and `end` (RM 6.3, 11.2).
 pub fn body<'a, 's>(
     alloc: Global,
-    toks: Rest<'a, 's>,
+    start: Rest<'a, 's>,
     room: u32,
 ) -> Result<(Body, Rest<'a, 's>), Fault<'a, 's>>
-    ensures reads { Reads body_item (N g.Body) room toks.entry.tokens.now result }
-    ensures shorter { IfOk result (λ p. length p.1.tokens.now < length toks.entry.tokens.now) }
+    ensures reads { Reads body_item (N g.Body) room start.entry.tokens.now result }
+    ensures shorter { IfOk result (λ p. length p.1.tokens.now < length start.entry.tokens.now) }
 {
-    let (begin, rest) = token(toks, Kind::Begin)?;
-    let (stmts, rest) = stmts(alloc, rest, room)?;
+    let (begin, rest) = token(start, Kind::Begin)?;
+    let (statements, rest) = statements(alloc, rest, room)?;
     let (end, rest) = token(rest, Kind::End)?;
     let (name, rest) = opt_ident(alloc, rest)?;
     let rest = word(rest, Kind::Semicolon)?;
     Ok((
         Body {
             begin: begin.at(),
-            stmts,
+            statements,
             end: end.at(),
             name,
         },

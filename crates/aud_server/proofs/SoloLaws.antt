@@ -3,7 +3,7 @@ use Rattle.std.proofs.Common.{◌≡◌, ℕ, ◌+◌, ◌<◌, List, [], ◌∷
 use Rattle.std.proofs.lemmas.List.{take_more, take_all, take-append-drop}
 use Rattle.std.specs.Io.KnownBytes.{Appends, Keeps}
 use Rattle.aud_bench.specs.declared.request.Answer.{Answer}
-use Rattle.aud_text.specs.declared.code.Code.TheVariants as code
+use Rattle.aud_text.specs.declared.refusal.Refusal.TheVariants as refusal
 use Rattle.aud_bench.specs.declared.request.Answer.TheVariants as answer
 use Rattle.aud_server.specs.Solo.{AppendsFront, AppendsSome, IsCutShort, AreAnswers}
 use Rattle.aud_server.specs.Text.{answer_text, text_from, text}
@@ -78,20 +78,20 @@ next_front old middle new answers i d said below h e (xs, ys, k, f) =
     )
 
 -- a front of the answers, and then that memory is out
-pub cut_short : (old middle new : Option (List ℕ)) (all : List Answer) (said : List ℕ) → said ≡ answer_text (answer.Refused code.OutOfMemory) →
+pub cut_short : (old middle new : Option (List ℕ)) (all : List Answer) (said : List ℕ) → said ≡ answer_text (answer.Refused refusal.OutOfMemory) →
     AppendsSome old middle all → Appends middle new said → (answers : List Answer) × IsCutShort all answers × Appends old new (text answers)
 unfolding text
 cut_short old middle new all said e (some, rest, f, h) k =
-    let last : List Answer = answer.Refused code.OutOfMemory ∷ [] in
+    let last : List Answer = answer.Refused refusal.OutOfMemory ∷ [] in
     let is : text_from (some ++ last) ≡ text_from some ++ said =
-    text_from-append some last ∙ ap (λ t. text_from some ++ t) (append-nil (answer_text (answer.Refused code.OutOfMemory)) ∙ sym e) in
+    text_from-append some last ∙ ap (λ t. text_from some ++ t) (append-nil (answer_text (answer.Refused refusal.OutOfMemory)) ∙ sym e) in
     (some ++ last, (some, rest, f, refl), subst (Appends old new) (sym is) (appends_more old middle new (text_from some) said h k))
 
-pub cut_front : (old middle new : Option (List ℕ)) (all : List Answer) (said : List ℕ) → said ≡ answer_text (answer.Refused code.OutOfMemory) →
+pub cut_front : (old middle new : Option (List ℕ)) (all : List Answer) (said : List ℕ) → said ≡ answer_text (answer.Refused refusal.OutOfMemory) →
     AppendsSome old middle all → AppendsFront middle new said → (answers : List Answer) × AreAnswers all answers × AppendsFront old new (text answers)
 unfolding text
 cut_front old middle new all said e (some, rest, f, h) (xs, ys, k, j) =
-    let last : List Answer = answer.Refused code.OutOfMemory ∷ [] in (
+    let last : List Answer = answer.Refused refusal.OutOfMemory ∷ [] in (
       some ++ last,
       inr (some, rest, f, refl),
       (
@@ -99,7 +99,7 @@ cut_front old middle new all said e (some, rest, f, h) (xs, ys, k, j) =
         ys,
         appends_more old middle new (text_from some) xs h k,
         text_from-append some last
-            ∙ ap (λ t. text_from some ++ t) (append-nil (answer_text (answer.Refused code.OutOfMemory)) ∙ sym e ∙ j)
+            ∙ ap (λ t. text_from some ++ t) (append-nil (answer_text (answer.Refused refusal.OutOfMemory)) ∙ sym e ∙ j)
             ∙ sym (append_assoc (text_from some) xs ys),
       ),
     )

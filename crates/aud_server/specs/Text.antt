@@ -1,8 +1,8 @@
 -- The text of answers.
 use Rattle.std.specs.Prelude.{ℕ, ◌+◌, List, [], ◌∷◌, ◌++◌, length, Option, Some, None, Bool, true, false, ◌==◌, if◌then◌else◌, codes, count_by}
 use Rattle.std.specs.Fmt.{decimal}
-use Rattle.aud_text.specs.declared.code.Code.{Code}
-use Rattle.aud_text.specs.Code.{number, words}
+use Rattle.aud_text.specs.declared.refusal.Refusal.{Refusal}
+use Rattle.aud_text.specs.Refusal.{number, words}
 use Rattle.aud_text.specs.Raise.{raise_name}
 use Rattle.aud_meaning.specs.View.{state_words}
 use Rattle.aud_bench.specs.declared.request.Raised.{Raised}
@@ -44,7 +44,7 @@ abbrev pub output_text : List ℕ → List ℕ
 output_text bytes =
     head (output_lines bytes + 1) ++ codes "bytes " ++ decimal (length bytes) ++ line_end ++ bytes ++ (if is_open bytes then line_end else [])
 
-abbrev pub refusal : Code → List ℕ
+abbrev pub refusal : Refusal → List ℕ
 refusal why = codes "- E" ++ decimal (number why) ++ codes " "
 
 abbrev pub answer_text : Answer → List ℕ

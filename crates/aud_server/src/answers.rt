@@ -2,13 +2,13 @@
 
 ghost use Rattle.std.specs.Prelude.{◌≡◌, ◌++◌, IfOk, OnOk, Some, None, codes};
 ghost use Rattle.std.specs.Fmt.{decimal};
-ghost use Rattle.aud_text.specs.Code.{words};
+ghost use Rattle.aud_text.specs.Refusal.{words};
 ghost use Rattle.aud_meaning.specs.View.{state_words};
 ghost use Rattle.aud_server.specs.Text.{line_end, head, ran_line, raised_name, report_text, is_open, output_lines, output_text, refusal, answer_text};
 
 use aud_bench::request::{Answer, Raised, Report};
 use aud_meaning::state::State;
-use aud_text::code::Code;
+use aud_text::refusal::Refusal;
 use aud_text::digits::push_decimal;
 use aud_text::place::Pos;
 use std::alloc::{AllocError, Global};
@@ -154,7 +154,7 @@ fn is_open(bytes: &[u8]) -> bool
     }
 }
 
-fn push_refusal(out: &mut Vec<u8>, why: Code) -> Result<(), AllocError>
+fn push_refusal(out: &mut Vec<u8>, why: Refusal) -> Result<(), AllocError>
     ensures { OnOk result (out.new.items ≡ out.old.items ++ (refusal why ++ words why ++ line_end)) }
 {
     push_code(out, why)?;
@@ -162,7 +162,7 @@ fn push_refusal(out: &mut Vec<u8>, why: Code) -> Result<(), AllocError>
     push_line_end(out)
 }
 
-fn push_refusal_at(out: &mut Vec<u8>, why: Code, at: Pos) -> Result<(), AllocError>
+fn push_refusal_at(out: &mut Vec<u8>, why: Refusal, at: Pos) -> Result<(), AllocError>
     ensures { OnOk result (out.new.items ≡ out.old.items ++ (refusal why ++ decimal at.line ++ codes ":" ++ decimal at.col ++ codes " " ++ words why ++ line_end)) }
 {
     push_code(out, why)?;
@@ -175,7 +175,7 @@ fn push_refusal_at(out: &mut Vec<u8>, why: Code, at: Pos) -> Result<(), AllocErr
 }
 
 // What refusals begin with.
-fn push_code(out: &mut Vec<u8>, why: Code) -> Result<(), AllocError>
+fn push_code(out: &mut Vec<u8>, why: Refusal) -> Result<(), AllocError>
     ensures { OnOk result (out.new.items ≡ out.old.items ++ refusal why) }
 {
     out.extend_from_slice(b"- E")?;

@@ -9,7 +9,7 @@ ghost use Rattle.aud_server.specs.Requests.{has_high_byte, line_fault, Command a
 
 use crate::lines::{first_word, number, trimmed};
 use aud_bench::request::Request;
-use aud_text::code::Code;
+use aud_text::refusal::Refusal;
 use aud_text::limits::{LINE, LINES, RUN};
 
 /// What a request's first line asks.
@@ -23,14 +23,14 @@ pub enum Command {
 
 /// What is wrong with a line, as it came without its line feed: that it is too long, or else that
 /// a byte of it is not ASCII.
-pub fn line_fault(line: &[u8]) -> Option<Code>
+pub fn line_fault(line: &[u8]) -> Option<Refusal>
     ensures { result ≡ line_fault line.now }
 {
     if line.len() > LINE as usize {
-        return Some(Code::LineTooLong);
+        return Some(Refusal::LineTooLong);
     }
     if has_high_byte(line) {
-        return Some(Code::NotAscii);
+        return Some(Refusal::NotAscii);
     }
     None
 }
@@ -56,7 +56,7 @@ fn command_of(line: &[u8]) -> Command
 {
     match first_word(line) {
         Some((word, arguments)) => command_with(word, arguments),
-        None => Command::Whole(Request::Bad(Code::UnknownCommand)),
+        None => Command::Whole(Request::Bad(Refusal::UnknownCommand)),
     }
 }
 
@@ -72,7 +72,7 @@ fn command_with(word: &[u8], arguments: &[u8]) -> Command
     } else if is(word, b"QUIT") {
         no_argument(arguments, Request::Quit)
     } else {
-        Command::Whole(Request::Bad(Code::UnknownCommand))
+        Command::Whole(Request::Bad(Refusal::UnknownCommand))
     }
 }
 
@@ -112,7 +112,7 @@ fn no_argument(arguments: &[u8], request: Request) -> Command
 fn wrong_argument() -> Command
     ensures { asked result ≡ wrong_argument }
 {
-    Command::Whole(Request::Bad(Code::BadArgument))
+    Command::Whole(Request::Bad(Refusal::BadArgument))
 }
 
 // The one number that stands there, if it lies in the range.

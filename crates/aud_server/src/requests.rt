@@ -7,7 +7,7 @@ ghost use Rattle.aud_server.specs.Requests.{load_of, gathered, requests_from, re
 use crate::commands::{Command, line_fault, read_command};
 use crate::lines::{first_line, trimmed};
 use aud_bench::request::Request;
-use aud_text::code::Code;
+use aud_text::refusal::Refusal;
 use aud_text::text::Text;
 use std::alloc::{AllocError, Global};
 
@@ -59,7 +59,7 @@ fn load(alloc: Global, lines: u32, bytes: &[u8]) -> Result<Option<(Request, &[u8
     Ok(Some((load_of(source, fault), rest)))
 }
 
-fn load_of(source: Vec<u8>, fault: Option<Code>) -> Request
+fn load_of(source: Vec<u8>, fault: Option<Refusal>) -> Request
     ensures { result ≡ load_of source.items fault }
 {
     match fault {

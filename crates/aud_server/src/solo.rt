@@ -4,7 +4,7 @@ ghost use Rattle.std.specs.Prelude.{◌≡◌, ◌++◌, ℕ, List, IfSome, OnOk
 ghost use Rattle.std.specs.Io.KnownBytes.{Appends, Consumes};
 ghost use Rattle.aud_text.specs.declared.limits.TheConstants.{STANDARD};
 ghost use Rattle.aud_bench.specs.Alone.{alone};
-ghost use Rattle.aud_text.specs.declared.code.Code.TheVariants as code;
+ghost use Rattle.aud_text.specs.declared.refusal.Refusal.TheVariants as refusal;
 ghost use Rattle.aud_bench.specs.declared.request.Answer.{Answer};
 ghost use Rattle.aud_bench.specs.declared.request.Answer.TheVariants as answer;
 ghost use Rattle.aud_server.specs.declared.solo.SoloFault.TheVariants as fault;
@@ -142,7 +142,7 @@ fn write<W: Write>(writer: &mut W, bytes: &[u8]) -> Result<(), SoloFault>
 
 // The text of the answer that memory is out, for which no memory is needed.
 fn out_of_memory() -> &'static [u8]
-    ensures { result.now ≡ answer_text (answer.Refused code.OutOfMemory) }
+    ensures { result.now ≡ answer_text (answer.Refused refusal.OutOfMemory) }
 {
     b"- E90 out of memory\n"
 }

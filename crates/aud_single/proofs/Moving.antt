@@ -13,9 +13,9 @@ use Rattle.aud_code.specs.declared.line.Ending.TheVariants.{Declare, Null, Assig
 use Rattle.aud_code.specs.declared.line.Last.{Last}
 use Rattle.aud_code.specs.declared.line.Last.TheVariants.{Does, Guards, Ends}
 use Rattle.aud_code.specs.Places.{Spot}
-use Rattle.aud_code.specs.Instr.{Ended, no_operands}
+use Rattle.aud_code.specs.Instruction.{Ended, no_operands}
 use Rattle.aud_code.specs.Eval.{eval}
-use Rattle.aud_code.specs.Flat.{Flat, flat_controls, instrs_at, no_scene, coming_last, coming_at}
+use Rattle.aud_code.specs.Flat.{Flat, flat_controls, instructions_at, no_scene, coming_last, coming_at}
 use Rattle.aud_code.specs.Flat as flat
 use Rattle.aud_code.specs.View.{plain_last, EndsPlainly}
 use Rattle.aud_single.specs.Moving.{Enables, IsIn, moves_of, state_of}
@@ -44,7 +44,7 @@ module _ (plan : Plan) (code : Flat) (plain : EndsPlainly code) where
   coming_single : (pending : Option Pending) (s : Sight) (t : Spot) → Single_move (coming_at code plan pending s t)
   coming_single None s t =
       let found = plain t.place in
-      let x = eval true (no_scene s) (instrs_at code t.place) 0 no_operands in
+      let x = eval true (no_scene s) (instructions_at code t.place) 0 no_operands in
       subst (λ (e : flat.EndLine). Single_move (coming_last plan e.last s x)) found.1 (of_last found.0.last s x)
   coming_single (Some p) s t = of_raised _
 

@@ -16,9 +16,9 @@ use Rattle.aud_code.specs.declared.line.Ending.TheVariants.{Declare, Null, Assig
 use Rattle.aud_code.specs.declared.line.Last.{Last}
 use Rattle.aud_code.specs.declared.line.Last.TheVariants.{Does, Guards, Ends}
 use Rattle.aud_code.specs.Places.{Spot, is_there}
-use Rattle.aud_code.specs.Instr.{Ended, no_operands}
+use Rattle.aud_code.specs.Instruction.{Ended, no_operands}
 use Rattle.aud_code.specs.Eval.{eval}
-use Rattle.aud_code.specs.Flat.{Flat, flat_controls, instrs_at, end_at, no_scene, coming_last}
+use Rattle.aud_code.specs.Flat.{Flat, flat_controls, instructions_at, end_at, no_scene, coming_last}
 use Rattle.aud_code.specs.Flat as flat
 use Rattle.aud_code.specs.View.{plain_last, plain_end, EndsPlainly}
 use Rattle.aud_single.specs.Next.{kind_of, next_in}
@@ -46,7 +46,7 @@ module _ (code : Flat) (plain : EndsPlainly code) (q : Single Spot) (l : EndLine
   running : next_in l (unit_of plan 0).end (runs None) ≡ Shown (runs None)
   running =
       let s = (scene_in plan name (record q { stage = runs None })).sight in
-      let x = eval true (no_scene s) (instrs_at code q.control.place) 0 no_operands in
+      let x = eval true (no_scene s) (instructions_at code q.control.place) 0 no_operands in
       ap (λ k. Some (record { kind = k; at = l.at })) (sym (by_kind l.last s x))
       ∙ ap (λ (e : flat.EndLine). Some (record { kind = kind_in (runs None) (coming_last plan e.last s x); at = e.at })) is_end
 

@@ -19,9 +19,9 @@ use Rattle.aud_code.specs.declared.line.Ending.TheVariants.{Declare, Null, Assig
 use Rattle.aud_code.specs.declared.line.Last.{Last}
 use Rattle.aud_code.specs.declared.line.Last.TheVariants.{Does, Guards, Ends}
 use Rattle.aud_code.specs.Places.{Spot, goes, goes_there, loops_of, is_there}
-use Rattle.aud_code.specs.Instr.{Operands, Ended, Reached, Raised, no_operands}
+use Rattle.aud_code.specs.Instruction.{Operands, Ended, Reached, Raised, no_operands}
 use Rattle.aud_code.specs.Eval.{eval}
-use Rattle.aud_code.specs.Flat.{FlatLine, Flat, flat_controls, instrs_at, end_at, end_from, no_end, op, end, asked_last, left_by, handler_in, handler_at}
+use Rattle.aud_code.specs.Flat.{FlatLine, Flat, flat_controls, instructions_at, end_at, end_from, no_end, instructs, end, asked_last, left_by, handler_in, handler_at}
 use Rattle.aud_code.specs.Flat as flat
 use Rattle.aud_code.specs.Sound.{IsStart, IsSound, LastFine, counts_of}
 use Rattle.aud_code.specs.View.{plain_end, plain_last, ways_of}
@@ -34,7 +34,7 @@ EndsAs code place l = plain_end l ≡ end_at code place
 
 -- what its evaluation leads to, in every scene that sees the frames
 abbrev LeadsTo : Flat → Single Spot → Ended → Type 0
-LeadsTo code q o = (s : Scene) → s.sight.display ≡ 0 ∷ [] → s.sight.frames ≡ q.frames → o ≡ eval false s (instrs_at code q.control.place) 0 no_operands
+LeadsTo code q o = (s : Scene) → s.sight.display ≡ 0 ∷ [] → s.sight.frames ≡ q.frames → o ≡ eval false s (instructions_at code q.control.place) 0 no_operands
 
 module _ (plan : Plan) (name : List ℕ) (limits : Limits) (code : Flat) (q : Single Spot) where
   abbrev In : Single Spot → All Spot
@@ -52,7 +52,7 @@ module _ (plan : Plan) (name : List ℕ) (limits : Limits) (code : Flat) (q : Si
   module _ (l : EndLine) (is_end : EndsAs code q.control.place l) (o : Ended) (evaluated : LeadsTo code q o) where
     asks_so : (flat_controls plan code).asks None scene q.control ≡ asked_last (plain_last l.last) 0 l.at scene o
     asks_so =
-        ap (λ (e : flat.EndLine). asked_last e.last (loops_of e.exit) e.at scene (eval false scene (instrs_at code q.control.place) 0 no_operands)) (sym is_end)
+        ap (λ (e : flat.EndLine). asked_last e.last (loops_of e.exit) e.at scene (eval false scene (instructions_at code q.control.place) 0 no_operands)) (sym is_end)
         ∙ ap (asked_last (plain_last l.last) 0 l.at scene) (sym (evaluated scene refl refl))
 
     takes_so : (flat_controls plan code).takes 0 q.control ≡ goes_there (slice_get (ways_of l.last) 0) q.control
@@ -77,32 +77,32 @@ module _ (plan : Plan) (name : List ℕ) (limits : Limits) (code : Flat) (q : Si
 
   -- each ending
   ended_by : (last : Last) (at : Pos) (out : ℕ) (o : Operands) → EndsAs code q.control.place (record { last = last; at = at; out = out }) → LeadsTo code q (Reached o) → LastFine (plain_last last) (counts_of o) → q.control.returns ≡ [] → In (ends_by last (length code.lines) o now) ≡ Stepped now
-  ended_by (Does Declare next) at out o is_end evaluated fine alone = by o.ints refl
+  ended_by (Does Declare next) at out o is_end evaluated fine alone = by o.integers refl
     where
-      by : (zs : List ℤ) → o.ints ≡ zs → In (ends_by (Does Declare next) (length code.lines) o now) ≡ Stepped now
+      by : (zs : List ℤ) → o.integers ≡ zs → In (ends_by (Does Declare next) (length code.lines) o now) ≡ Stepped now
       by [] e = absurd (rw e at fine)
       by (z ∷ zs) e =
           let l : EndLine = record { last = Does Declare next; at = at; out = out } in
-          let asks = asks_so l is_end (Reached o) evaluated ∙ ap (λ ints. asked_last (plain_last (Does Declare next)) 0 at scene (Reached (record o { ints = ints }))) e in
+          let asks = asks_so l is_end (Reached o) evaluated ∙ ap (λ integers. asked_last (plain_last (Does Declare next)) 0 at scene (Reached (record o { integers = integers }))) e in
           let done = declares_step plan name (flat_controls plan code) limits q z asks in
           let there = ap (λ (t : Spot). In (record now { control = t; elaborated = suc q.elaborated; frames = slice_set q.frames 0 (slice_index_or q.frames 0 [] ++ z ∷ []); steps = suc q.steps })) (takes_so l is_end (Reached o) evaluated) in
-          ap (λ ints. In (ends_by (Does Declare next) (length code.lines) (record o { ints = ints }) now)) e ∙ sym (done ∙ there)
+          ap (λ integers. In (ends_by (Does Declare next) (length code.lines) (record o { integers = integers }) now)) e ∙ sym (done ∙ there)
   ended_by (Does Null next) at out o is_end evaluated fine alone =
       let l : EndLine = record { last = Does Null next; at = at; out = out } in
       let done = goes_on_step plan name (flat_controls plan code) limits q (asks_so l is_end (Reached o) evaluated) in
       sym (done ∙ ap (λ (t : Spot). In (record now { control = t; steps = suc q.steps })) (takes_so l is_end (Reached o) evaluated))
-  ended_by (Does Assign next) at out o is_end evaluated fine alone = by o.targets o.ints refl refl
+  ended_by (Does Assign next) at out o is_end evaluated fine alone = by o.targets o.integers refl refl
     where
-      by : (ts : List Target) (zs : List ℤ) → o.targets ≡ ts → o.ints ≡ zs → In (ends_by (Does Assign next) (length code.lines) o now) ≡ Stepped now
+      by : (ts : List Target) (zs : List ℤ) → o.targets ≡ ts → o.integers ≡ zs → In (ends_by (Does Assign next) (length code.lines) o now) ≡ Stepped now
       by [] zs d e = absurd (rw d at fine)
       by (t ∷ ts) [] d e = absurd (rw (d, e) at fine)
       by (t ∷ ts) (z ∷ zs) d e =
           let l : EndLine = record { last = Does Assign next; at = at; out = out } in
-          let asks = asks_so l is_end (Reached o) evaluated ∙ ap (λ targets. asked_last (plain_last (Does Assign next)) 0 at scene (Reached (record o { targets = targets }))) d ∙ ap (λ ints. asked_last (plain_last (Does Assign next)) 0 at scene (Reached (record o { targets = t ∷ ts; ints = ints }))) e in
+          let asks = asks_so l is_end (Reached o) evaluated ∙ ap (λ targets. asked_last (plain_last (Does Assign next)) 0 at scene (Reached (record o { targets = targets }))) d ∙ ap (λ integers. asked_last (plain_last (Does Assign next)) 0 at scene (Reached (record o { targets = t ∷ ts; integers = integers }))) e in
           let done = assigns_step plan name (flat_controls plan code) limits q t z asks in
           let there = ap (λ (c : Spot). In (record now { control = c; frames = assigned t.frame t.index z q.frames; steps = suc q.steps })) (takes_so l is_end (Reached o) evaluated) in
           ap (λ targets. In (ends_by (Does Assign next) (length code.lines) (record o { targets = targets }) now)) d
-          ∙ ap (λ ints. In (ends_by (Does Assign next) (length code.lines) (record o { targets = t ∷ ts; ints = ints }) now)) e
+          ∙ ap (λ integers. In (ends_by (Does Assign next) (length code.lines) (record o { targets = t ∷ ts; integers = integers }) now)) e
           ∙ sym (done ∙ there)
   ended_by (Does Put next) at out o is_end evaluated fine alone =
       let l : EndLine = record { last = Does Put next; at = at; out = out } in
@@ -178,7 +178,7 @@ module _ (code : Flat) (place at : ℕ) (l : EndLine) (is_end : plain_end l ≡ 
           ap (λ n. plain_end (record l { out = n })) (ap (λ (x : flat.EndLine). x.out) h)
           ∙ ap (λ (x : flat.EndLine). record x { out = place }) (is_end ∙ end_none code.lines at at e)
           ∙ sym h
-      by (Some (op i)) e h = absurd h
+      by (Some (instructs i)) e h = absurd h
       by (Some (end x)) e h =
           let same : plain_end l ≡ end_at code place = is_end ∙ end_some code.lines at at x e ∙ sym h in
           ap (λ n. plain_end (record l { out = n })) (sym (ap (λ (y : flat.EndLine). y.out) same)) ∙ same
@@ -194,7 +194,7 @@ module _ (code : Flat) (place at : ℕ) (l : EndLine) (is_end : plain_end l ≡ 
           let last = ap (λ (y : flat.EndLine). y.last) (is_end ∙ end_none code.lines at at e) in
           let other = ap plain_last is in
           absurd (cc)
-      by (Some (op i)) e h ending next is = absurd h
+      by (Some (instructs i)) e h ending next is = absurd h
       by (Some (end x)) e h ending next is =
           let ways : x.ways ≡ next ∷ [] = sym (ap (λ (y : flat.EndLine). y.ways) (is_end ∙ end_some code.lines at at x e)) ∙ ap ways_of is in
           (rw ways at (sound.leads at x e).ways).0
@@ -208,15 +208,15 @@ standing lines place (terminated raised) h = tt
 
 module _ (lines : List FlatLine) (q : Single Spot) (here : IsStart lines q.control.place) where
   stands_ended : (last : Last) (behind : ℕ) (o : Operands) → ((e : Ending) (next : ℕ) → last ≡ Does e next → IsStart lines next) → Stands lines (ends_by last behind o q)
-  stands_ended (Does Declare next) behind o leads = by o.ints
+  stands_ended (Does Declare next) behind o leads = by o.integers
     where
-      by : (zs : List ℤ) → Stands lines (does Declare next (record o { ints = zs }) q)
+      by : (zs : List ℤ) → Stands lines (does Declare next (record o { integers = zs }) q)
       by [] = standing lines q.control.place q.stage here
       by (z ∷ zs) = standing lines next q.stage (leads Declare next refl)
   stands_ended (Does Null next) behind o leads = standing lines next q.stage (leads Null next refl)
-  stands_ended (Does Assign next) behind o leads = by o.targets o.ints
+  stands_ended (Does Assign next) behind o leads = by o.targets o.integers
     where
-      by : (ts : List Target) (zs : List ℤ) → Stands lines (does Assign next (record o { targets = ts; ints = zs }) q)
+      by : (ts : List Target) (zs : List ℤ) → Stands lines (does Assign next (record o { targets = ts; integers = zs }) q)
       by [] zs = standing lines q.control.place q.stage here
       by (t ∷ ts) [] = standing lines q.control.place q.stage here
       by (t ∷ ts) (z ∷ zs) = standing lines next q.stage (leads Assign next refl)

@@ -12,7 +12,7 @@ use Rattle.aud_code.specs.declared.line.Last.TheVariants.{Does, Guards, Ends}
 
 -- the kind of a step, by how it ends
 abbrev pub kind_of : Last → StepKind
-kind_of (Does Declare next) = kind.Decl
+kind_of (Does Declare next) = kind.Declaration
 kind_of (Does Null next) = kind.Null
 kind_of (Does Assign next) = kind.Assign
 kind_of (Does Put next) = kind.Put

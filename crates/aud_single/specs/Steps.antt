@@ -13,7 +13,7 @@ use Rattle.aud_code.specs.declared.line.Ending.TheVariants.{Declare, Null, Assig
 use Rattle.aud_code.specs.declared.line.Last.{Last}
 use Rattle.aud_code.specs.declared.line.Last.TheVariants.{Does, Guards, Ends}
 use Rattle.aud_code.specs.Places.{Spot, goes}
-use Rattle.aud_code.specs.Instr.{Operands}
+use Rattle.aud_code.specs.Instruction.{Operands}
 use Rattle.aud_code.specs.Flat.{FlatLine, Flat, flat_controls}
 use Rattle.aud_code.specs.Sound.{IsStart}
 use Rattle.aud_single.specs.Shown.{shared_in}
@@ -40,11 +40,11 @@ with_newest (x ∷ xs) p go = go x
 -- what a statement does, before the place where the next step begins
 abbrev pub does : Ending → ℕ → Operands → Single Spot → Single Spot
 does Declare next o p =
-    with_newest o.ints p (λ z.
+    with_newest o.integers p (λ z.
     record p { control = goes next p.control; elaborated = suc p.elaborated; frames = slice_set p.frames 0 (slice_index_or p.frames 0 [] ++ z ∷ []); steps = suc p.steps })
 does Null next o p = record p { control = goes next p.control; steps = suc p.steps }
 does Assign next o p =
-    with_newest o.targets p (λ t. with_newest o.ints p (λ z.
+    with_newest o.targets p (λ t. with_newest o.integers p (λ z.
     record p { control = goes next p.control; frames = assigned t.frame t.index z p.frames; steps = suc p.steps }))
 does Put next o p =
     let shared = put_out o.text (shared_in p) in

@@ -10,8 +10,8 @@ use Rattle.aud_meaning.specs.Run.{Move, moves_at, take_one}
 use Rattle.aud_meaning.specs.Single.{Stage, Single, runs, completed, terminated}
 use Rattle.aud_meaning.specs.Parts.{facts_in}
 use Rattle.aud_code.specs.Places.{Spot}
-use Rattle.aud_code.specs.Instr.{no_operands}
-use Rattle.aud_code.specs.Flat.{Flat, instrs_at, flat_controls}
+use Rattle.aud_code.specs.Instruction.{no_operands}
+use Rattle.aud_code.specs.Flat.{Flat, instructions_at, flat_controls}
 use Rattle.aud_expr.specs.Ticks.{ticks_of}
 
 -- what the instructions of the main procedure see: they ask nothing of tasks
@@ -20,7 +20,7 @@ scene_at frames clock = record { sight = record { display = 0 ∷ []; frames = f
 
 -- a step evaluates, unless an exception is pending or the body has ended
 abbrev pub ticks_pending : Flat → Option Pending → List Frame → ℕ → Spot → ℕ
-ticks_pending code None frames clock t = ticks_of false (scene_at frames clock) (instrs_at code t.place) 0 no_operands
+ticks_pending code None frames clock t = ticks_of false (scene_at frames clock) (instructions_at code t.place) 0 no_operands
 ticks_pending code (Some pending) frames clock t = 0
 
 abbrev pub ticks_by : Flat → Stage → Single Spot → ℕ

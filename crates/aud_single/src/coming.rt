@@ -53,7 +53,7 @@ fn kind_of(last: Last) -> StepKind
     ensures { result ≡ plain_kind last }
 {
     match last {
-        Last::Does(Ending::Declare, _) => StepKind::Decl,
+        Last::Does(Ending::Declare, _) => StepKind::Declaration,
         Last::Does(Ending::Null, _) => StepKind::Null,
         Last::Does(Ending::Assign, _) => StepKind::Assign,
         Last::Does(Ending::Put, _) => StepKind::Put,

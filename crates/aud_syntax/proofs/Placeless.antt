@@ -6,7 +6,7 @@ use Rattle.aud_syntax.specs.declared.tree.Ident.{Ident}
 use Rattle.aud_syntax.specs.declared.tree.Signed.{Signed}
 use Rattle.aud_syntax.specs.declared.tree.Operator.{Operator}
 use Rattle.aud_syntax.specs.Plain as m
-use Rattle.aud_syntax.specs.Bare.{bare_ident, bare_sign, bare_highest, bare_end, bare_expr, bare_rel, bare_name, bare_part, bare_args, bare_simple, bare_addeds, bare_added, bare_term, bare_multiplieds, bare_multiplied, bare_factor, bare_primary, bare_maybe, bare_decl, bare_decls, bare_stmt, bare_stmts, bare_body, bare}
+use Rattle.aud_syntax.specs.Bare.{bare_ident, bare_sign, bare_highest, bare_end, bare_expression, bare_relation, bare_name, bare_part, bare_args, bare_simple, bare_addeds, bare_added, bare_term, bare_multiplieds, bare_multiplied, bare_factor, bare_primary, bare_maybe, bare_declaration, bare_declarations, bare_statement, bare_statements, bare_body, bare}
 use Rattle.aud_syntax.specs.Printed as w
 use Rattle.aud_syntax.specs.Laws.{WithoutPlaces}
 
@@ -23,11 +23,11 @@ end_same None = refl
 end_same (Some x) = refl
 
 mutual
-  expr_same : (e : m.Expr) → w.expr_words (bare_expr e) ≡ w.expr_words e
-  expr_same (m.alone x) = rel_same x
+  expression_same : (e : m.Expression) → w.expression_words (bare_expression e) ≡ w.expression_words e
+  expression_same (m.alone x) = relation_same x
 
-  rel_same : (e : m.Rel) → w.rel_words (bare_rel e) ≡ w.rel_words e
-  rel_same (m.unrelated x) = simple_same x
+  relation_same : (e : m.Relation) → w.relation_words (bare_relation e) ≡ w.relation_words e
+  relation_same (m.unrelated x) = simple_same x
 
   simple_same : (e : m.Simple) → w.simple_words (bare_simple e) ≡ w.simple_words e
   simple_same (m.simple s t rest) = cc (sign_same s, term_same t, addeds_same rest)
@@ -37,7 +37,7 @@ mutual
   addeds_same (m.more_addeds x xs) = cc (added_same x, addeds_same xs)
 
   added_same : (x : m.Added) → w.added_words (bare_added x) ≡ w.added_words x
-  added_same (m.added op t) = cc (term_same t)
+  added_same (m.added operator t) = cc (term_same t)
 
   term_same : (t : m.Term) → w.term_words (bare_term t) ≡ w.term_words t
   term_same (m.term x rest) = cc (factor_same x, multiplieds_same rest)
@@ -47,39 +47,39 @@ mutual
   multiplieds_same (m.more_multiplieds x xs) = cc (multiplied_same x, multiplieds_same xs)
 
   multiplied_same : (x : m.Multiplied) → w.multiplied_words (bare_multiplied x) ≡ w.multiplied_words x
-  multiplied_same (m.multiplied op x) = cc (factor_same x)
+  multiplied_same (m.multiplied operator x) = cc (factor_same x)
 
   factor_same : (x : m.Factor) → w.factor_words (bare_factor x) ≡ w.factor_words x
-  factor_same (m.factor op x) = cc (operator_same op, primary_same x)
+  factor_same (m.factor operator x) = cc (operator_same operator, primary_same x)
 
   primary_same : (x : m.Primary) → w.primary_words (bare_primary x) ≡ w.primary_words x
   primary_same (m.integer x) = refl
   primary_same (m.text x) = refl
   primary_same (m.name x) = name_same x
   primary_same (m.attribute x y e) = cc (name_same x, maybe_same e)
-  primary_same (m.group at e) = cc (expr_same e)
+  primary_same (m.group at e) = cc (expression_same e)
 
-  maybe_same : (e : m.MaybeExpr) → w.argument_words (bare_maybe e) ≡ w.argument_words e
-  maybe_same m.no_expr = refl
-  maybe_same (m.an_expr e) = cc (expr_same e)
+  maybe_same : (e : m.MaybeExpression) → w.argument_words (bare_maybe e) ≡ w.argument_words e
+  maybe_same m.no_expression = refl
+  maybe_same (m.an_expression e) = cc (expression_same e)
 
   name_same : (x : m.Name) → w.name_words (bare_name x) ≡ w.name_words x
   name_same (m.named x m.no_parts) = part_same x
 
-  part_same : (x : m.Part) → w.part_words (bare_part x) ≡ w.part_words x
+  part_same : (x : m.NamePart) → w.part_words (bare_part x) ≡ w.part_words x
   part_same (m.part i xs) = cc (args_same xs)
 
   args_same : (xs : m.Args) → w.args_words (bare_args xs) ≡ w.args_words xs
   args_same m.no_args = refl
-  args_same (m.more_args e xs) = cc (expr_same e, more_args_same xs)
+  args_same (m.more_args e xs) = cc (expression_same e, more_args_same xs)
 
   more_args_same : (xs : m.Args) → w.more_args_words (bare_args xs) ≡ w.more_args_words xs
   more_args_same m.no_args = refl
-  more_args_same (m.more_args e xs) = cc (expr_same e, more_args_same xs)
+  more_args_same (m.more_args e xs) = cc (expression_same e, more_args_same xs)
 
-initial_same : (e : m.MaybeExpr) → w.initial_words (bare_maybe e) ≡ w.initial_words e
-initial_same m.no_expr = refl
-initial_same (m.an_expr e) = cc (expr_same e)
+initial_same : (e : m.MaybeExpression) → w.initial_words (bare_maybe e) ≡ w.initial_words e
+initial_same m.no_expression = refl
+initial_same (m.an_expression e) = cc (expression_same e)
 
 more_idents_same : (xs : List Ident) → w.more_ident_words (map bare_ident xs) ≡ w.more_ident_words xs
 more_idents_same [] = refl
@@ -89,27 +89,27 @@ idents_same : (xs : List Ident) → w.idents_words (map bare_ident xs) ≡ w.ide
 idents_same [] = refl
 idents_same (x ∷ xs) = cc (more_idents_same xs)
 
-decl_same : (x : m.Decl) → w.decl_words (bare_decl x) ≡ w.decl_words x
-decl_same (m.object names subtype value) = cc (idents_same names, initial_same value)
+declaration_same : (x : m.Declaration) → w.declaration_words (bare_declaration x) ≡ w.declaration_words x
+declaration_same (m.object names subtype value) = cc (idents_same names, initial_same value)
 
-decls_same : (xs : m.Decls) → w.decls_words (bare_decls xs) ≡ w.decls_words xs
-decls_same m.no_decls = refl
-decls_same (m.more_decls x xs) = cc (decl_same x, decls_same xs)
+declarations_same : (xs : m.Declarations) → w.declarations_words (bare_declarations xs) ≡ w.declarations_words xs
+declarations_same m.no_declarations = refl
+declarations_same (m.more_declarations x xs) = cc (declaration_same x, declarations_same xs)
 
-stmt_same : (x : m.Stmt) → w.stmt_words (bare_stmt x) ≡ w.stmt_words x
-stmt_same (m.null at) = refl
-stmt_same (m.assign x e) = cc (name_same x, expr_same e)
-stmt_same (m.call x) = cc (name_same x)
+statement_same : (x : m.Statement) → w.statement_words (bare_statement x) ≡ w.statement_words x
+statement_same (m.null at) = refl
+statement_same (m.assign x e) = cc (name_same x, expression_same e)
+statement_same (m.call x) = cc (name_same x)
 
-stmts_same : (xs : m.Stmts) → w.stmts_words (bare_stmts xs) ≡ w.stmts_words xs
-stmts_same m.no_stmts = refl
-stmts_same (m.more_stmts x xs) = cc (stmt_same x, stmts_same xs)
+statements_same : (xs : m.Statements) → w.statements_words (bare_statements xs) ≡ w.statements_words xs
+statements_same m.no_statements = refl
+statements_same (m.more_statements x xs) = cc (statement_same x, statements_same xs)
 
 body_same : (x : m.Body) → w.body_words (bare_body x) ≡ w.body_words x
-body_same (m.body begin stmts end last) = cc (stmts_same stmts, end_same last)
+body_same (m.body begin statements end last) = cc (statements_same statements, end_same last)
 
 unit_same : (u : m.Unit) → w.unit_words (bare u) ≡ w.unit_words u
-unit_same (m.unit at x decls rest) = cc (decls_same decls, body_same rest)
+unit_same (m.unit at x declarations rest) = cc (declarations_same declarations, body_same rest)
 
 pub without_places : WithoutPlaces
 without_places u v e = ap spaced (sym (unit_same u) ∙ ap w.unit_words e ∙ unit_same v)

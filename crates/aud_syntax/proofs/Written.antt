@@ -5,7 +5,7 @@ use Rattle.std.specs.Prelude.{Result, Ok, Err, OnOk}
 use Rattle.std.proofs.Common.{false, ◌==◌}
 use Rattle.std.specs.Prelude.{codes}
 use Rattle.aud_lex.specs.Spaced.{Word, word, separator, spaced}
-use Rattle.aud_syntax.specs.declared.tree.Expr.{Expr}
+use Rattle.aud_syntax.specs.declared.tree.Expression.{Expression}
 use Rattle.aud_syntax.specs.Plain as m
 use Rattle.std.specs.Prelude.{Option, None, Box}
 use Rattle.std.specs.Global.{Global}
@@ -13,8 +13,8 @@ use Rattle.std.proofs.Common.{append-nil, subst}
 use Rattle.aud_syntax.specs.declared.tree.Ident.{Ident}
 use Rattle.aud_syntax.specs.declared.tree.Name as name
 use Rattle.aud_syntax.specs.declared.tree.Primary as primary
-use Rattle.aud_syntax.specs.View.{plain_expr, plain_boxed, plain_exprs, plain_name, plain_primary}
-use Rattle.aud_syntax.specs.Printed.{ident_word, expr_words, name_words, primary_words, argument_words, args_words, more_args_words}
+use Rattle.aud_syntax.specs.View.{plain_expression, plain_boxed, plain_expressions, plain_name, plain_primary}
+use Rattle.aud_syntax.specs.Printed.{ident_word, expression_words, name_words, primary_words, argument_words, args_words, more_args_words}
 use Rattle.aud_syntax.proofs.Opened.{name_open, attribute_open}
 
 pub spaced_append : (a b : List Word) → spaced (a ++ b) ≡ spaced a ++ spaced b
@@ -51,35 +51,35 @@ loop_begins old new a b items all e h k = ap (λ z. new ++ spaced z) e ∙ one_w
 -- arguments, the first behind this word and each other one behind a comma
 abbrev pub listed : List ℕ → m.Args → List Word
 listed before m.no_args = []
-listed before (m.more_args e xs) = word before ∷ (expr_words e ++ more_args_words xs)
+listed before (m.more_args e xs) = word before ∷ (expression_words e ++ more_args_words xs)
 
 more_listed : (xs : m.Args) → more_args_words xs ≡ listed (codes ",") xs
 more_listed m.no_args = refl
 more_listed (m.more_args e xs) = refl
 
-pub argument_written : (out mid new all before : List ℕ) (x : Expr) (xs ys : List Expr) → xs ≡ x ∷ ys → out ++ spaced (listed before (plain_exprs xs)) ≡ all →
-    mid ≡ out ++ spaced (word before ∷ []) → new ≡ mid ++ spaced (expr_words (plain_expr x)) → new ++ spaced (listed (codes ",") (plain_exprs ys)) ≡ all
+pub argument_written : (out mid new all before : List ℕ) (x : Expression) (xs ys : List Expression) → xs ≡ x ∷ ys → out ++ spaced (listed before (plain_expressions xs)) ≡ all →
+    mid ≡ out ++ spaced (word before ∷ []) → new ≡ mid ++ spaced (expression_words (plain_expression x)) → new ++ spaced (listed (codes ",") (plain_expressions ys)) ≡ all
 argument_written out mid new all before x xs ys e h k l =
-    one_written out new all (word before ∷ expr_words (plain_expr x)) (listed (codes ",") (plain_exprs ys))
-    (ap (λ z. out ++ spaced (word before ∷ (expr_words (plain_expr x) ++ z))) (sym (more_listed (plain_exprs ys))) ∙ sym (ap (λ z. out ++ spaced (listed before (plain_exprs z))) e) ∙ h)
-    (both_written out mid new (word before ∷ []) (expr_words (plain_expr x)) k l)
+    one_written out new all (word before ∷ expression_words (plain_expression x)) (listed (codes ",") (plain_expressions ys))
+    (ap (λ z. out ++ spaced (word before ∷ (expression_words (plain_expression x) ++ z))) (sym (more_listed (plain_expressions ys))) ∙ sym (ap (λ z. out ++ spaced (listed before (plain_expressions z))) e) ∙ h)
+    (both_written out mid new (word before ∷ []) (expression_words (plain_expression x)) k l)
 
-some_arguments : (xs : List Expr) → (length xs == 0) ≡ false → listed (codes "(") (plain_exprs xs) ++ (word (codes ")") ∷ []) ≡ args_words (plain_exprs xs)
+some_arguments : (xs : List Expression) → (length xs == 0) ≡ false → listed (codes "(") (plain_expressions xs) ++ (word (codes ")") ∷ []) ≡ args_words (plain_expressions xs)
 some_arguments [] e = cc
 some_arguments (x ∷ xs) e = refl
 
 -- the last argument is written, and the parenthesis that closes
-pub arguments_end : {X E : Type 0} (r : Result X E) (old out new before : List ℕ) (xs ys : List Expr) → ys ≡ [] → out ++ spaced (listed before (plain_exprs ys)) ≡ old ++ spaced (listed (codes "(") (plain_exprs xs)) →
-    (length xs == 0) ≡ false → OnOk r (new ≡ out ++ spaced (word (codes ")") ∷ [])) → OnOk r (new ≡ old ++ spaced (args_words (plain_exprs xs)))
+pub arguments_end : {X E : Type 0} (r : Result X E) (old out new before : List ℕ) (xs ys : List Expression) → ys ≡ [] → out ++ spaced (listed before (plain_expressions ys)) ≡ old ++ spaced (listed (codes "(") (plain_expressions xs)) →
+    (length xs == 0) ≡ false → OnOk r (new ≡ out ++ spaced (word (codes ")") ∷ [])) → OnOk r (new ≡ old ++ spaced (args_words (plain_expressions xs)))
 arguments_end r old out new before xs ys e h n k =
-    let all : out ≡ old ++ spaced (listed (codes "(") (plain_exprs xs)) = sym (append-nil out) ∙ sym (ap (λ z. out ++ spaced (listed before (plain_exprs z))) e) ∙ h in
-    subst (λ z. OnOk r (new ≡ old ++ spaced z)) (some_arguments xs n) (all_written r old out new (listed (codes "(") (plain_exprs xs)) (word (codes ")") ∷ []) all k)
+    let all : out ≡ old ++ spaced (listed (codes "(") (plain_expressions xs)) = sym (append-nil out) ∙ sym (ap (λ z. out ++ spaced (listed before (plain_expressions z))) e) ∙ h in
+    subst (λ z. OnOk r (new ≡ old ++ spaced z)) (some_arguments xs n) (all_written r old out new (listed (codes "(") (plain_expressions xs)) (word (codes ")") ∷ []) all k)
 
 -- a name, and an attribute, as primaries
 pub name_written : {X E : Type 0} (r : Result X E) (old new : List ℕ) (x : Box name.Name Global) → OnOk r (new ≡ old ++ spaced (name_words (plain_name x.value))) → OnOk r (new ≡ old ++ spaced (primary_words (plain_primary (primary.Name x))))
 name_written r old new x h = subst (λ z. OnOk r (new ≡ old ++ spaced (primary_words z))) (sym (name_open x)) h
 
-pub attribute_written : {X E : Type 0} (r : Result X E) (old a b c new : List ℕ) (x : Box name.Name Global) (i : Ident) (e : Option (Box Expr Global)) → a ≡ old ++ spaced (name_words (plain_name x.value)) → b ≡ a ++ spaced (word (codes "'") ∷ []) →
+pub attribute_written : {X E : Type 0} (r : Result X E) (old a b c new : List ℕ) (x : Box name.Name Global) (i : Ident) (e : Option (Box Expression Global)) → a ≡ old ++ spaced (name_words (plain_name x.value)) → b ≡ a ++ spaced (word (codes "'") ∷ []) →
     c ≡ b ++ spaced (ident_word i ∷ []) → OnOk r (new ≡ c ++ spaced (argument_words (plain_boxed e))) → OnOk r (new ≡ old ++ spaced (primary_words (plain_primary (primary.Attribute x i e))))
 attribute_written r old a b c new x i e h k l n =
     subst (λ z. OnOk r (new ≡ old ++ spaced (primary_words z))) (sym (attribute_open x i e))

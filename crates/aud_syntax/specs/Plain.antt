@@ -12,11 +12,11 @@ use Rattle.aud_syntax.specs.declared.tree.Operator.{Operator}
 -- expressions and names (RM 4.1, 4.4)
 mutual
   -- one relation
-  pub data Expr : Type 0 where
-    alone : Rel → Expr
+  pub data Expression : Type 0 where
+    alone : Relation → Expression
 
-  pub data Rel : Type 0 where
-    unrelated : Simple → Rel
+  pub data Relation : Type 0 where
+    unrelated : Simple → Relation
 
   pub data Simple : Type 0 where
     simple : Option Signed → Term → Addeds → Simple
@@ -45,53 +45,53 @@ mutual
     integer : Number → Primary
     text : Literal → Primary
     name : Name → Primary
-    attribute : Name → Ident → MaybeExpr → Primary
+    attribute : Name → Ident → MaybeExpression → Primary
     -- in parentheses, which open at a place
-    group : Pos → Expr → Primary
+    group : Pos → Expression → Primary
 
-  pub data MaybeExpr : Type 0 where
-    no_expr : MaybeExpr
-    an_expr : Expr → MaybeExpr
+  pub data MaybeExpression : Type 0 where
+    no_expression : MaybeExpression
+    an_expression : Expression → MaybeExpression
 
   -- the first part, and those after points
   pub data Name : Type 0 where
-    named : Part → Parts → Name
+    named : NamePart → Parts → Name
 
   pub data Parts : Type 0 where
     no_parts : Parts
 
-  pub data Part : Type 0 where
-    part : Ident → Args → Part
+  pub data NamePart : Type 0 where
+    part : Ident → Args → NamePart
 
   -- no arguments: no parentheses
   pub data Args : Type 0 where
     no_args : Args
-    more_args : Expr → Args → Args
+    more_args : Expression → Args → Args
 
 mutual
   -- RM 3.1, 3.3.1
-  pub data Decl : Type 0 where
-    object : List Ident → Ident → MaybeExpr → Decl
+  pub data Declaration : Type 0 where
+    object : List Ident → Ident → MaybeExpression → Declaration
 
-  pub data Decls : Type 0 where
-    no_decls : Decls
-    more_decls : Decl → Decls → Decls
+  pub data Declarations : Type 0 where
+    no_declarations : Declarations
+    more_declarations : Declaration → Declarations → Declarations
 
   -- RM 5.1
-  pub data Stmt : Type 0 where
-    null : Pos → Stmt
-    assign : Name → Expr → Stmt
+  pub data Statement : Type 0 where
+    null : Pos → Statement
+    assign : Name → Expression → Statement
     -- its arguments are those of the name
-    call : Name → Stmt
+    call : Name → Statement
 
-  pub data Stmts : Type 0 where
-    no_stmts : Stmts
-    more_stmts : Stmt → Stmts → Stmts
+  pub data Statements : Type 0 where
+    no_statements : Statements
+    more_statements : Statement → Statements → Statements
 
   -- where the statements begin, the statements, where they end, and the name after `end` (RM 11.2)
   pub data Body : Type 0 where
-    body : Pos → Stmts → Pos → Option Ident → Body
+    body : Pos → Statements → Pos → Option Ident → Body
 
 -- where it begins, its name, its declarations and its body (RM 10.1.1)
 pub data Unit : Type 0 where
-  unit : Pos → Ident → Decls → Body → Unit
+  unit : Pos → Ident → Declarations → Body → Unit

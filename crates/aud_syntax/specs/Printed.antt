@@ -15,7 +15,7 @@ use Rattle.aud_syntax.specs.declared.tree.Multiplying.TheVariants as multiplying
 use Rattle.aud_syntax.specs.declared.tree.Highest.{Highest}
 use Rattle.aud_syntax.specs.declared.tree.Highest.TheVariants as highest
 use Rattle.aud_syntax.specs.declared.tree.Operator.{Operator}
-use Rattle.aud_syntax.specs.Plain.{Expr, alone, Rel, unrelated, Simple, simple, Addeds, no_addeds, more_addeds, Added, added, Term, term, Multiplieds, no_multiplieds, more_multiplieds, Multiplied, multiplied, Factor, factor, Primary, integer, text, name, attribute, group, MaybeExpr, no_expr, an_expr, Name, named, no_parts, Part, part, Args, no_args, more_args, Decl, object, Decls, no_decls, more_decls, Stmt, null, assign, call, Stmts, no_stmts, more_stmts, Body, body, Unit, unit}
+use Rattle.aud_syntax.specs.Plain.{Expression, alone, Relation, unrelated, Simple, simple, Addeds, no_addeds, more_addeds, Added, added, Term, term, Multiplieds, no_multiplieds, more_multiplieds, Multiplied, multiplied, Factor, factor, Primary, integer, text, name, attribute, group, MaybeExpression, no_expression, an_expression, Name, named, no_parts, NamePart, part, Args, no_args, more_args, Declaration, object, Declarations, no_declarations, more_declarations, Statement, null, assign, call, Statements, no_statements, more_statements, Body, body, Unit, unit}
 
 -- a name as the tree has it, in capitals (RM 2.3)
 abbrev pub ident_word : Ident → Word
@@ -74,11 +74,11 @@ in_parentheses ws = word (codes "(") ∷ (ws ++ (word (codes ")") ∷ []))
 
 -- RM 4.1, 4.4
 abbrev mutual
-  pub expr_words : Expr → List Word
-  expr_words (alone x) = rel_words x
+  pub expression_words : Expression → List Word
+  expression_words (alone x) = relation_words x
 
-  pub rel_words : Rel → List Word
-  rel_words (unrelated x) = simple_words x
+  pub relation_words : Relation → List Word
+  relation_words (unrelated x) = simple_words x
 
   pub simple_words : Simple → List Word
   simple_words (simple s t rest) = sign_words s ++ term_words t ++ addeds_words rest
@@ -88,7 +88,7 @@ abbrev mutual
   addeds_words (more_addeds x xs) = added_words x ++ addeds_words xs
 
   pub added_words : Added → List Word
-  added_words (added op t) = word (adding_spelling op) ∷ term_words t
+  added_words (added operator t) = word (adding_spelling operator) ∷ term_words t
 
   pub term_words : Term → List Word
   term_words (term x rest) = factor_words x ++ multiplieds_words rest
@@ -98,38 +98,38 @@ abbrev mutual
   multiplieds_words (more_multiplieds x xs) = multiplied_words x ++ multiplieds_words xs
 
   pub multiplied_words : Multiplied → List Word
-  multiplied_words (multiplied op x) = word (multiplying_spelling op) ∷ factor_words x
+  multiplied_words (multiplied operator x) = word (multiplying_spelling operator) ∷ factor_words x
 
   pub factor_words : Factor → List Word
-  factor_words (factor op x) = operator_words op ++ primary_words x
+  factor_words (factor operator x) = operator_words operator ++ primary_words x
 
   pub primary_words : Primary → List Word
   primary_words (integer x) = number_word x ∷ []
   primary_words (text x) = literal_word x ∷ []
   primary_words (name x) = name_words x
   primary_words (attribute x y e) = name_words x ++ (word (codes "'") ∷ ident_word y ∷ argument_words e)
-  primary_words (group at e) = in_parentheses (expr_words e)
+  primary_words (group at e) = in_parentheses (expression_words e)
 
   -- an attribute's argument (RM 4.1.4)
-  pub argument_words : MaybeExpr → List Word
-  argument_words no_expr = []
-  argument_words (an_expr e) = in_parentheses (expr_words e)
+  pub argument_words : MaybeExpression → List Word
+  argument_words no_expression = []
+  argument_words (an_expression e) = in_parentheses (expression_words e)
 
   -- RM 4.1
   pub name_words : Name → List Word
   name_words (named x no_parts) = part_words x
 
-  pub part_words : Part → List Word
+  pub part_words : NamePart → List Word
   part_words (part i xs) = ident_word i ∷ args_words xs
 
   -- RM 6.4
   pub args_words : Args → List Word
   args_words no_args = []
-  args_words (more_args e xs) = in_parentheses (expr_words e ++ more_args_words xs)
+  args_words (more_args e xs) = in_parentheses (expression_words e ++ more_args_words xs)
 
   pub more_args_words : Args → List Word
   more_args_words no_args = []
-  more_args_words (more_args e xs) = word (codes ",") ∷ (expr_words e ++ more_args_words xs)
+  more_args_words (more_args e xs) = word (codes ",") ∷ (expression_words e ++ more_args_words xs)
 
 -- RM 3.3.1
 abbrev pub more_ident_words : List Ident → List Word
@@ -140,41 +140,41 @@ abbrev pub idents_words : List Ident → List Word
 idents_words [] = []
 idents_words (x ∷ xs) = ident_word x ∷ more_ident_words xs
 
-abbrev pub initial_words : MaybeExpr → List Word
-initial_words no_expr = []
-initial_words (an_expr e) = word (codes ":=") ∷ expr_words e
+abbrev pub initial_words : MaybeExpression → List Word
+initial_words no_expression = []
+initial_words (an_expression e) = word (codes ":=") ∷ expression_words e
 
-abbrev pub object_words : List Ident → Ident → MaybeExpr → List Word
+abbrev pub object_words : List Ident → Ident → MaybeExpression → List Word
 object_words names subtype value = idents_words names ++ (word (codes ":") ∷ ident_word subtype ∷ (initial_words value ++ (last_word (codes ";") ∷ [])))
 
-abbrev pub decl_words : Decl → List Word
-decl_words (object names subtype value) = object_words names subtype value
+abbrev pub declaration_words : Declaration → List Word
+declaration_words (object names subtype value) = object_words names subtype value
 
-abbrev pub decls_words : Decls → List Word
-decls_words no_decls = []
-decls_words (more_decls x xs) = decl_words x ++ decls_words xs
+abbrev pub declarations_words : Declarations → List Word
+declarations_words no_declarations = []
+declarations_words (more_declarations x xs) = declaration_words x ++ declarations_words xs
 
 -- RM 5.1(6)
 abbrev pub null_words : List Word
 null_words = word (codes "null") ∷ last_word (codes ";") ∷ []
 
 -- RM 5.2
-abbrev pub assignment_words : Name → Expr → List Word
-assignment_words x e = name_words x ++ (word (codes ":=") ∷ (expr_words e ++ (last_word (codes ";") ∷ [])))
+abbrev pub assignment_words : Name → Expression → List Word
+assignment_words x e = name_words x ++ (word (codes ":=") ∷ (expression_words e ++ (last_word (codes ";") ∷ [])))
 
 -- RM 6.4
 abbrev pub call_words : Name → List Word
 call_words x = name_words x ++ (last_word (codes ";") ∷ [])
 
 -- RM 5.1
-abbrev pub stmt_words : Stmt → List Word
-stmt_words (null at) = null_words
-stmt_words (assign x e) = assignment_words x e
-stmt_words (call x) = call_words x
+abbrev pub statement_words : Statement → List Word
+statement_words (null at) = null_words
+statement_words (assign x e) = assignment_words x e
+statement_words (call x) = call_words x
 
-abbrev pub stmts_words : Stmts → List Word
-stmts_words no_stmts = []
-stmts_words (more_stmts x xs) = stmt_words x ++ stmts_words xs
+abbrev pub statements_words : Statements → List Word
+statements_words no_statements = []
+statements_words (more_statements x xs) = statement_words x ++ statements_words xs
 
 -- the name after `end` (RM 6.3)
 abbrev pub end_words : Option Ident → List Word
@@ -183,11 +183,11 @@ end_words (Some x) = ident_word x ∷ []
 
 -- RM 11.2
 abbrev pub body_words : Body → List Word
-body_words (body begin stmts end last) = last_word (codes "begin") ∷ (stmts_words stmts ++ (word (codes "end") ∷ (end_words last ++ (last_word (codes ";") ∷ []))))
+body_words (body begin statements end last) = last_word (codes "begin") ∷ (statements_words statements ++ (word (codes "end") ∷ (end_words last ++ (last_word (codes ";") ∷ []))))
 
 -- RM 6.3, 10.1.1
 abbrev pub unit_words : Unit → List Word
-unit_words (unit at x decls rest) = word (codes "procedure") ∷ ident_word x ∷ last_word (codes "is") ∷ (decls_words decls ++ body_words rest)
+unit_words (unit at x declarations rest) = word (codes "procedure") ∷ ident_word x ∷ last_word (codes "is") ∷ (declarations_words declarations ++ body_words rest)
 
 abbrev pub printed : Unit → List ℕ
 printed u = spaced (unit_words u)

@@ -6,7 +6,7 @@ use Rattle.aud_syntax.specs.declared.tree.Sign.TheVariants as sign
 use Rattle.aud_syntax.specs.declared.tree.Adding.{Adding}
 use Rattle.aud_syntax.specs.declared.tree.Multiplying.{Multiplying}
 use Rattle.aud_syntax.specs.declared.tree.Highest.TheVariants as highest
-use Rattle.aud_syntax.specs.Plain.{Expr, alone, unrelated, simple, Addeds, no_addeds, more_addeds, Added, added, Term, term, Multiplieds, no_multiplieds, more_multiplieds, Multiplied, multiplied, Factor, factor, Primary, integer, text, name, Name, named, no_parts, part, no_args, more_args, Decl, Decls, no_decls, more_decls, Stmt, call, Stmts, no_stmts, more_stmts}
+use Rattle.aud_syntax.specs.Plain.{Expression, alone, unrelated, simple, Addeds, no_addeds, more_addeds, Added, added, Term, term, Multiplieds, no_multiplieds, more_multiplieds, Multiplied, multiplied, Factor, factor, Primary, integer, text, name, Name, named, no_parts, part, no_args, more_args, Declaration, Declarations, no_declarations, more_declarations, Statement, call, Statements, no_statements, more_statements}
 
 abbrev pub at : ℕ → ℕ → Pos
 at line col = record { line = line; col = col }
@@ -22,7 +22,7 @@ named_as i = named (part i no_args) no_parts
 abbrev pub var_at : List ℕ → Pos → Name
 var_at spelling place = named_as (id spelling place)
 
-abbrev pub called : Ident → Expr → Stmt
+abbrev pub called : Ident → Expression → Statement
 called i e = call (named (part i (more_args e no_args)) no_parts)
 
 -- primaries
@@ -61,7 +61,7 @@ abbrev pub product : Factor → List Multiplied → Term
 product first further = term first (multiplieds further)
 
 abbrev pub multiplying : Multiplying → Primary → Multiplied
-multiplying op p = multiplied op (just p)
+multiplying operator p = multiplied operator (just p)
 
 abbrev pub one : Primary → Term
 one p = product (just p) []
@@ -72,30 +72,30 @@ abbrev pub addeds : List Added → Addeds
 addeds [] = no_addeds
 addeds (x ∷ xs) = more_addeds x (addeds xs)
 
-abbrev pub sum : Term → List Added → Expr
+abbrev pub sum : Term → List Added → Expression
 sum first further = alone (unrelated (simple None first (addeds further)))
 
 abbrev pub adding : Adding → Primary → Added
-adding op p = added op (one p)
+adding operator p = added operator (one p)
 
-abbrev pub only_term : Term → Expr
+abbrev pub only_term : Term → Expression
 only_term t = sum t []
 
-abbrev pub only : Primary → Expr
+abbrev pub only : Primary → Expression
 only p = only_term (one p)
 
-abbrev pub positive : Pos → Term → List Added → Expr
+abbrev pub positive : Pos → Term → List Added → Expression
 positive place first further = alone (unrelated (simple (Some (record { sign = sign.Plus; at = place })) first (addeds further)))
 
-abbrev pub negative : Pos → Term → List Added → Expr
+abbrev pub negative : Pos → Term → List Added → Expression
 negative place first further = alone (unrelated (simple (Some (record { sign = sign.Minus; at = place })) first (addeds further)))
 
 -- lists
 
-abbrev pub decls : List Decl → Decls
-decls [] = no_decls
-decls (x ∷ xs) = more_decls x (decls xs)
+abbrev pub declarations : List Declaration → Declarations
+declarations [] = no_declarations
+declarations (x ∷ xs) = more_declarations x (declarations xs)
 
-abbrev pub stmts : List Stmt → Stmts
-stmts [] = no_stmts
-stmts (x ∷ xs) = more_stmts x (stmts xs)
+abbrev pub statements : List Statement → Statements
+statements [] = no_statements
+statements (x ∷ xs) = more_statements x (statements xs)

@@ -3,12 +3,12 @@
 
 ghost use Rattle.std.specs.Prelude.{◌≡◌, ◌++◌, ◌∷◌, [], IfOk, OnOk};
 ghost use Rattle.aud_lex.specs.Spaced.{word, last_word, spaced};
-ghost use Rattle.aud_syntax.specs.View.{plain_expr, plain_relation, plain_name, plain_part, plain_exprs, plain_simple, plain_added, plain_term, plain_multiplied, plain_factor, plain_primary, plain_maybe, plain_decl, plain_decls, plain_stmt, plain_stmts, plain_body, plain_unit};
-ghost use Rattle.aud_syntax.specs.Printed.{ident_word, number_word, doubled, literal_word, sign_words, adding_spelling, multiplying_spelling, operator_words, expr_words, rel_words, name_words, part_words, args_words, simple_words, added_words, term_words, multiplied_words, factor_words, primary_words, in_parentheses, more_ident_words, idents_words, initial_words, object_words, decl_words, decls_words, null_words, assignment_words, call_words, stmt_words, stmts_words, end_words, body_words, unit_words, printed};
+ghost use Rattle.aud_syntax.specs.View.{plain_expression, plain_relation, plain_name, plain_part, plain_expressions, plain_simple, plain_added, plain_term, plain_multiplied, plain_factor, plain_primary, plain_maybe, plain_declaration, plain_declarations, plain_statement, plain_statements, plain_body, plain_unit};
+ghost use Rattle.aud_syntax.specs.Printed.{ident_word, number_word, doubled, literal_word, sign_words, adding_spelling, multiplying_spelling, operator_words, expression_words, relation_words, name_words, part_words, args_words, simple_words, added_words, term_words, multiplied_words, factor_words, primary_words, in_parentheses, more_ident_words, idents_words, initial_words, object_words, declaration_words, declarations_words, null_words, assignment_words, call_words, statement_words, statements_words, end_words, body_words, unit_words, printed};
 
 use crate::tree::{
-    Added, Adding, Body, Decl, Expr, Factor, Highest, Ident, Literal, Multiplied, Multiplying,
-    Name, NamePart, Number, Operator, Primary, Relation, Sign, Signed, Simple, Stmt, Term, Unit,
+    Added, Adding, Body, Declaration, Expression, Factor, Highest, Ident, Literal, Multiplied, Multiplying,
+    Name, NamePart, Number, Operator, Primary, Relation, Sign, Signed, Simple, Statement, Term, Unit,
 };
 use aud_text::digits::push_decimal;
 use aud_text::text::Text;
@@ -39,7 +39,7 @@ fn push_unit(out: &mut Vec<u8>, unit: &Unit) -> Result<(), AllocError>
     push_word(out, b"procedure")?;
     push_ident(out, &unit.name)?;
     push_last_word(out, b"is")?;
-    push_decls(out, &unit.decls)?;
+    push_declarations(out, &unit.declarations)?;
     push_body(out, &unit.body)
 }
 
@@ -48,7 +48,7 @@ fn push_body(out: &mut Vec<u8>, body: &Body) -> Result<(), AllocError>
     ensures { OnOk result (out.new.items ≡ out.old.items ++ spaced (body_words (plain_body body.now))) }
 {
     push_last_word(out, b"begin")?;
-    push_stmts(out, &body.stmts)?;
+    push_statements(out, &body.statements)?;
     push_word(out, b"end")?;
     push_end_name(out, &body.name)?;
     push_last_word(out, b";")
@@ -63,23 +63,23 @@ fn push_end_name(out: &mut Vec<u8>, name: &Option<Ident>) -> Result<(), AllocErr
     }
 }
 
-fn push_stmts(out: &mut Vec<u8>, stmts: &[Stmt]) -> Result<(), AllocError>
-    ensures { OnOk result (out.new.items ≡ out.old.items ++ spaced (stmts_words (plain_stmts stmts.now))) }
+fn push_statements(out: &mut Vec<u8>, statements: &[Statement]) -> Result<(), AllocError>
+    ensures { OnOk result (out.new.items ≡ out.old.items ++ spaced (statements_words (plain_statements statements.now))) }
 {
-    for next in stmts {
-        push_stmt(out, next)?;
+    for next in statements {
+        push_statement(out, next)?;
     }
     Ok(())
 }
 
 // RM 5.1
-fn push_stmt(out: &mut Vec<u8>, stmt: &Stmt) -> Result<(), AllocError>
-    ensures { OnOk result (out.new.items ≡ out.old.items ++ spaced (stmt_words (plain_stmt stmt.now))) }
+fn push_statement(out: &mut Vec<u8>, statement: &Statement) -> Result<(), AllocError>
+    ensures { OnOk result (out.new.items ≡ out.old.items ++ spaced (statement_words (plain_statement statement.now))) }
 {
-    match stmt {
-        Stmt::Null(_) => push_null(out),
-        Stmt::Assign(target, value) => push_assignment(out, target, value),
-        Stmt::Call(name) => push_call(out, name),
+    match statement {
+        Statement::Null(_) => push_null(out),
+        Statement::Assign(target, value) => push_assignment(out, target, value),
+        Statement::Call(name) => push_call(out, name),
     }
 }
 
@@ -91,12 +91,12 @@ fn push_null(out: &mut Vec<u8>) -> Result<(), AllocError>
 }
 
 // RM 5.2
-fn push_assignment(out: &mut Vec<u8>, target: &Name, value: &Expr) -> Result<(), AllocError>
-    ensures { OnOk result (out.new.items ≡ out.old.items ++ spaced (assignment_words (plain_name target.now) (plain_expr value.now))) }
+fn push_assignment(out: &mut Vec<u8>, target: &Name, value: &Expression) -> Result<(), AllocError>
+    ensures { OnOk result (out.new.items ≡ out.old.items ++ spaced (assignment_words (plain_name target.now) (plain_expression value.now))) }
 {
     push_name(out, target)?;
     push_word(out, b":=")?;
-    push_expr(out, value)?;
+    push_expression(out, value)?;
     push_last_word(out, b";")
 }
 
@@ -108,20 +108,20 @@ fn push_call(out: &mut Vec<u8>, name: &Name) -> Result<(), AllocError>
     push_last_word(out, b";")
 }
 
-fn push_decls(out: &mut Vec<u8>, decls: &[Decl]) -> Result<(), AllocError>
-    ensures { OnOk result (out.new.items ≡ out.old.items ++ spaced (decls_words (plain_decls decls.now))) }
+fn push_declarations(out: &mut Vec<u8>, declarations: &[Declaration]) -> Result<(), AllocError>
+    ensures { OnOk result (out.new.items ≡ out.old.items ++ spaced (declarations_words (plain_declarations declarations.now))) }
 {
-    for next in decls {
-        push_decl(out, next)?;
+    for next in declarations {
+        push_declaration(out, next)?;
     }
     Ok(())
 }
 
 // RM 3.3.1
-fn push_decl(out: &mut Vec<u8>, decl: &Decl) -> Result<(), AllocError>
-    ensures { OnOk result (out.new.items ≡ out.old.items ++ spaced (decl_words (plain_decl decl.now))) }
+fn push_declaration(out: &mut Vec<u8>, declaration: &Declaration) -> Result<(), AllocError>
+    ensures { OnOk result (out.new.items ≡ out.old.items ++ spaced (declaration_words (plain_declaration declaration.now))) }
 {
-    let Decl::Object(names, subtype, value) = decl;
+    let Declaration::Object(names, subtype, value) = declaration;
     push_object(out, names, subtype, value)
 }
 
@@ -129,7 +129,7 @@ fn push_object(
     out: &mut Vec<u8>,
     names: &[Ident],
     subtype: &Ident,
-    value: &Option<Expr>,
+    value: &Option<Expression>,
 ) -> Result<(), AllocError>
     ensures { OnOk result (out.new.items ≡ out.old.items ++ spaced (object_words names.now subtype.now (plain_maybe value.now))) }
 {
@@ -140,14 +140,14 @@ fn push_object(
     push_last_word(out, b";")
 }
 
-fn push_initial(out: &mut Vec<u8>, value: &Option<Expr>) -> Result<(), AllocError>
+fn push_initial(out: &mut Vec<u8>, value: &Option<Expression>) -> Result<(), AllocError>
     ensures { OnOk result (out.new.items ≡ out.old.items ++ spaced (initial_words (plain_maybe value.now))) }
 {
     match value {
         None => Ok(()),
         Some(value) => {
             push_word(out, b":=")?;
-            push_expr(out, value)
+            push_expression(out, value)
         }
     }
 }
@@ -175,26 +175,26 @@ fn push_more_idents(out: &mut Vec<u8>, names: &[Ident]) -> Result<(), AllocError
 }
 
 #[cycle(print)]
-fn push_in_parentheses(out: &mut Vec<u8>, inner: &Expr) -> Result<(), AllocError>
-    ensures { OnOk result (out.new.items ≡ out.old.items ++ spaced (in_parentheses (expr_words (plain_expr inner.now)))) }
+fn push_in_parentheses(out: &mut Vec<u8>, inner: &Expression) -> Result<(), AllocError>
+    ensures { OnOk result (out.new.items ≡ out.old.items ++ spaced (in_parentheses (expression_words (plain_expression inner.now)))) }
 {
     push_word(out, b"(")?;
-    push_expr(out, inner)?;
+    push_expression(out, inner)?;
     push_word(out, b")")
 }
 
 // RM 4.4
 #[cycle(print)]
-fn push_expr(out: &mut Vec<u8>, expr: &Expr) -> Result<(), AllocError>
-    ensures { OnOk result (out.new.items ≡ out.old.items ++ spaced (expr_words (plain_expr expr.now))) }
+fn push_expression(out: &mut Vec<u8>, expression: &Expression) -> Result<(), AllocError>
+    ensures { OnOk result (out.new.items ≡ out.old.items ++ spaced (expression_words (plain_expression expression.now))) }
 {
-    let Expr::Alone(relation) = expr;
+    let Expression::Alone(relation) = expression;
     push_relation(out, relation)
 }
 
 #[cycle(print)]
 fn push_relation(out: &mut Vec<u8>, relation: &Relation) -> Result<(), AllocError>
-    ensures { OnOk result (out.new.items ≡ out.old.items ++ spaced (rel_words (plain_relation relation.now))) }
+    ensures { OnOk result (out.new.items ≡ out.old.items ++ spaced (relation_words (plain_relation relation.now))) }
 {
     let Relation::Unrelated(simple) = relation;
     push_simple(out, simple)
@@ -216,7 +216,7 @@ fn push_simple(out: &mut Vec<u8>, simple: &Simple) -> Result<(), AllocError>
 fn push_added(out: &mut Vec<u8>, added: &Added) -> Result<(), AllocError>
     ensures { OnOk result (out.new.items ≡ out.old.items ++ spaced (added_words (plain_added added.now))) }
 {
-    push_adding(out, added.op)?;
+    push_adding(out, added.operator)?;
     push_term(out, &added.term)
 }
 
@@ -235,7 +235,7 @@ fn push_term(out: &mut Vec<u8>, term: &Term) -> Result<(), AllocError>
 fn push_multiplied(out: &mut Vec<u8>, multiplied: &Multiplied) -> Result<(), AllocError>
     ensures { OnOk result (out.new.items ≡ out.old.items ++ spaced (multiplied_words (plain_multiplied multiplied.now))) }
 {
-    push_multiplying(out, multiplied.op)?;
+    push_multiplying(out, multiplied.operator)?;
     push_factor(out, &multiplied.factor)
 }
 
@@ -243,7 +243,7 @@ fn push_multiplied(out: &mut Vec<u8>, multiplied: &Multiplied) -> Result<(), All
 fn push_factor(out: &mut Vec<u8>, factor: &Factor) -> Result<(), AllocError>
     ensures { OnOk result (out.new.items ≡ out.old.items ++ spaced (factor_words (plain_factor factor.now))) }
 {
-    push_operator(out, factor.op)?;
+    push_operator(out, factor.operator)?;
     push_primary(out, &factor.primary)
 }
 
@@ -286,13 +286,13 @@ fn push_part(out: &mut Vec<u8>, part: &NamePart) -> Result<(), AllocError>
 
 // The arguments of a part, if it has any (RM 6.4).
 #[cycle(print)]
-fn push_args(out: &mut Vec<u8>, args: &[Expr]) -> Result<(), AllocError>
-    ensures { OnOk result (out.new.items ≡ out.old.items ++ spaced (args_words (plain_exprs args.now))) }
+fn push_args(out: &mut Vec<u8>, args: &[Expression]) -> Result<(), AllocError>
+    ensures { OnOk result (out.new.items ≡ out.old.items ++ spaced (args_words (plain_expressions args.now))) }
 {
     let mut before: &[u8] = b"(";
     for next in args {
         push_word(out, before)?;
-        push_expr(out, next)?;
+        push_expression(out, next)?;
         before = b",";
     }
     if args.is_empty() {
@@ -315,10 +315,10 @@ fn push_sign(out: &mut Vec<u8>, sign: Option<Signed>) -> Result<(), AllocError>
 }
 
 // RM 4.5.3
-fn push_adding(out: &mut Vec<u8>, op: Adding) -> Result<(), AllocError>
-    ensures { OnOk result (out.new.items ≡ out.old.items ++ spaced (word (adding_spelling op) ∷ [])) }
+fn push_adding(out: &mut Vec<u8>, operator: Adding) -> Result<(), AllocError>
+    ensures { OnOk result (out.new.items ≡ out.old.items ++ spaced (word (adding_spelling operator) ∷ [])) }
 {
-    match op {
+    match operator {
         Adding::Plus => push_word(out, b"+"),
         Adding::Minus => push_word(out, b"-"),
         Adding::Join => push_word(out, b"&"),
@@ -326,10 +326,10 @@ fn push_adding(out: &mut Vec<u8>, op: Adding) -> Result<(), AllocError>
 }
 
 // RM 4.5.5
-fn push_multiplying(out: &mut Vec<u8>, op: Multiplying) -> Result<(), AllocError>
-    ensures { OnOk result (out.new.items ≡ out.old.items ++ spaced (word (multiplying_spelling op) ∷ [])) }
+fn push_multiplying(out: &mut Vec<u8>, operator: Multiplying) -> Result<(), AllocError>
+    ensures { OnOk result (out.new.items ≡ out.old.items ++ spaced (word (multiplying_spelling operator) ∷ [])) }
 {
-    match op {
+    match operator {
         Multiplying::Times => push_word(out, b"*"),
         Multiplying::Divide => push_word(out, b"/"),
         Multiplying::Modulo => push_word(out, b"mod"),
@@ -338,13 +338,13 @@ fn push_multiplying(out: &mut Vec<u8>, op: Multiplying) -> Result<(), AllocError
 }
 
 // RM 4.5.6
-fn push_operator(out: &mut Vec<u8>, op: Option<Operator>) -> Result<(), AllocError>
-    ensures { OnOk result (out.new.items ≡ out.old.items ++ spaced (operator_words op)) }
+fn push_operator(out: &mut Vec<u8>, operator: Option<Operator>) -> Result<(), AllocError>
+    ensures { OnOk result (out.new.items ≡ out.old.items ++ spaced (operator_words operator)) }
 {
-    let Some(op) = op else {
+    let Some(operator) = operator else {
         return Ok(());
     };
-    match op.highest {
+    match operator.highest {
         Highest::Magnitude => push_word(out, b"abs"),
         Highest::Not => push_word(out, b"not"),
     }

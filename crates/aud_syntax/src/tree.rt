@@ -73,15 +73,15 @@ pub struct Operator {
 
 /// An expression (RM 4.4).
 #[derive(Drop)]
-#[cycle(expr)]
-pub enum Expr {
+#[cycle(expression)]
+pub enum Expression {
     /// One relation, with no logical operator.
     Alone(Relation),
 }
 
 /// A relation (RM 4.4(3)).
 #[derive(Drop)]
-#[cycle(expr)]
+#[cycle(expression)]
 pub enum Relation {
     /// What is compared with nothing.
     Unrelated(Simple),
@@ -89,7 +89,7 @@ pub enum Relation {
 
 /// Terms that are added (RM 4.4(4)).
 #[derive(Drop)]
-#[cycle(expr)]
+#[cycle(expression)]
 pub struct Simple {
     pub sign: Option<Signed>,
     pub first: Term,
@@ -98,15 +98,15 @@ pub struct Simple {
 
 /// A further term.
 #[derive(Drop)]
-#[cycle(expr)]
+#[cycle(expression)]
 pub struct Added {
-    pub op: Adding,
+    pub operator: Adding,
     pub term: Term,
 }
 
 /// Factors that are multiplied (RM 4.4(5)).
 #[derive(Drop)]
-#[cycle(expr)]
+#[cycle(expression)]
 pub struct Term {
     pub first: Factor,
     pub rest: Vec<Multiplied>,
@@ -114,61 +114,61 @@ pub struct Term {
 
 /// A further factor.
 #[derive(Drop)]
-#[cycle(expr)]
+#[cycle(expression)]
 pub struct Multiplied {
-    pub op: Multiplying,
+    pub operator: Multiplying,
     pub factor: Factor,
 }
 
 /// A primary with the operator before it (RM 4.4(6)).
 #[derive(Drop)]
-#[cycle(expr)]
+#[cycle(expression)]
 pub struct Factor {
-    pub op: Option<Operator>,
+    pub operator: Option<Operator>,
     pub primary: Primary,
 }
 
 /// A primary (RM 4.4(7)).
 #[derive(Drop)]
-#[cycle(expr)]
+#[cycle(expression)]
 pub enum Primary {
     Integer(Number),
     Text(Literal),
     Name(Box<Name>),
     /// The prefix, the attribute's name and its argument (RM 4.1.4).
-    Attribute(Box<Name>, Ident, Option<Box<Expr>>),
+    Attribute(Box<Name>, Ident, Option<Box<Expression>>),
     /// An expression in parentheses, and where they open.
-    Group(Pos, Box<Expr>),
+    Group(Pos, Box<Expression>),
 }
 
 /// A name (RM 4.1).
 #[derive(Drop)]
-#[cycle(expr)]
+#[cycle(expression)]
 pub struct Name {
     pub first: NamePart,
 }
 
 /// An identifier of a name, and the arguments in the parentheses behind it.
 #[derive(Drop)]
-#[cycle(expr)]
+#[cycle(expression)]
 pub struct NamePart {
     pub ident: Ident,
-    pub args: Vec<Expr>,
+    pub args: Vec<Expression>,
 }
 
 /// A declaration (RM 3.1).
 #[derive(Drop)]
-pub enum Decl {
+pub enum Declaration {
     /// Variables, their subtype and their initial value (RM 3.3.1).
-    Object(Vec<Ident>, Ident, Option<Expr>),
+    Object(Vec<Ident>, Ident, Option<Expression>),
 }
 
 /// A statement (RM 5.1).
 #[derive(Drop)]
-pub enum Stmt {
+pub enum Statement {
     /// A null statement, and where it stands.
     Null(Pos),
-    Assign(Name, Expr),
+    Assign(Name, Expression),
     /// What is called; the arguments are those of the name.
     Call(Name),
 }
@@ -177,7 +177,7 @@ pub enum Stmt {
 #[derive(Drop)]
 pub struct Body {
     pub begin: Pos,
-    pub stmts: Vec<Stmt>,
+    pub statements: Vec<Statement>,
     pub end: Pos,
     pub name: Option<Ident>,
 }
@@ -188,6 +188,6 @@ pub struct Unit {
     /// Where its first word stands.
     pub at: Pos,
     pub name: Ident,
-    pub decls: Vec<Decl>,
+    pub declarations: Vec<Declaration>,
     pub body: Body,
 }

@@ -2,7 +2,7 @@
 -- is said of programs that are their main procedure alone, with the statements below, and of no others.
 use Rattle.std.specs.Prelude.{◌≡◌, ℕ, suc, ◌<◌, List, [], ◌∷◌, length, slice_index}
 use Rattle.aud_typed.specs.declared.program.Variable.{Variable}
-use Rattle.aud_typed.specs.Tree.{IntegerExpr, number, variable, element, unary, binary, count, ValueExpr, whole, boolean, Reference, scalar, component, TextExpr, literal, image, image_truth, join, new_line, Stmt, sequence, declare, null, assign, put, Part, nothing, some, Body, body, Named, Program}
+use Rattle.aud_typed.specs.Tree.{IntegerExpression, number, variable, element, unary, binary, count, ValueExpression, whole, boolean, Reference, scalar, component, TextExpression, literal, image, image_truth, join, new_line, Statement, sequence, declare, null, assign, put, Part, nothing, some, Body, body, Named, Program}
 
 -- the number of variables elaborated so far in each open frame, outermost first
 abbrev pub Scope : Type 0
@@ -12,15 +12,15 @@ Scope = List ℕ
 abbrev pub IsElaborated : Variable → Scope → Type 0
 IsElaborated v scope = v.index < slice_index scope v.level
 
-abbrev pub IntegerScoped : IntegerExpr → Scope → Type 0
+abbrev pub IntegerScoped : IntegerExpression → Scope → Type 0
 IntegerScoped (number value) scope = Unit {0}
 IntegerScoped (variable v) scope = IsElaborated v scope
 IntegerScoped (element a index) scope = ⊥
-IntegerScoped (unary op x) scope = IntegerScoped x scope
-IntegerScoped (binary op x y) scope = IntegerScoped x scope × IntegerScoped y scope
+IntegerScoped (unary operator x) scope = IntegerScoped x scope
+IntegerScoped (binary operator x y) scope = IntegerScoped x scope × IntegerScoped y scope
 IntegerScoped (count v entry) scope = ⊥
 
-abbrev pub ValueScoped : ValueExpr → Scope → Type 0
+abbrev pub ValueScoped : ValueExpression → Scope → Type 0
 ValueScoped (whole subtype x) scope = IntegerScoped x scope
 ValueScoped (boolean x) scope = ⊥
 
@@ -28,7 +28,7 @@ abbrev pub ReferenceScoped : Reference → Scope → Type 0
 ReferenceScoped (scalar v subtype) scope = IsElaborated v scope
 ReferenceScoped (component a index subtype) scope = ⊥
 
-abbrev pub TextScoped : TextExpr → Scope → Type 0
+abbrev pub TextScoped : TextExpression → Scope → Type 0
 TextScoped (literal text) scope = Unit {0}
 TextScoped (image e) scope = IntegerScoped e scope
 TextScoped (image_truth e) scope = ⊥
@@ -41,18 +41,18 @@ elaborated [] = []
 elaborated (n ∷ []) = suc n ∷ []
 elaborated (n ∷ ns) = n ∷ elaborated ns
 
-abbrev pub scope_after : Stmt → Scope → Scope
+abbrev pub scope_after : Statement → Scope → Scope
 scope_after (sequence a b) scope = scope_after b (scope_after a scope)
 scope_after (declare at e) scope = elaborated scope
 scope_after _ scope = scope
 
-abbrev pub StmtScoped : Stmt → Scope → Type 0
-StmtScoped (sequence a b) scope = StmtScoped a scope × StmtScoped b (scope_after a scope)
-StmtScoped (declare at e) scope = ValueScoped e scope
-StmtScoped (null at) scope = Unit {0}
-StmtScoped (assign at r e) scope = ReferenceScoped r scope × ValueScoped e scope
-StmtScoped (put at t) scope = TextScoped t scope
-StmtScoped _ scope = ⊥
+abbrev pub StatementScoped : Statement → Scope → Type 0
+StatementScoped (sequence a b) scope = StatementScoped a scope × StatementScoped b (scope_after a scope)
+StatementScoped (declare at e) scope = ValueScoped e scope
+StatementScoped (null at) scope = Unit {0}
+StatementScoped (assign at r e) scope = ReferenceScoped r scope × ValueScoped e scope
+StatementScoped (put at t) scope = TextScoped t scope
+StatementScoped _ scope = ⊥
 
 abbrev pub scope_behind : Part → Scope → Scope
 scope_behind nothing scope = scope
@@ -60,19 +60,19 @@ scope_behind (some s) scope = scope_after s scope
 
 abbrev pub PartScoped : Part → Scope → Type 0
 PartScoped nothing scope = Unit {0}
-PartScoped (some s) scope = StmtScoped s scope
+PartScoped (some s) scope = StatementScoped s scope
 
 abbrev declarations_of : Body → Part
 declarations_of (body declarations begin statements _ end) = declarations
 
-abbrev statements_of : Body → Stmt
+abbrev statements_of : Body → Statement
 statements_of (body declarations begin statements _ end) = statements
 
 -- the body's own frame is open, at first with no variables, and behind its declarations with those of its table
 pub record BodyScoped (b : Body) (region : List Named) : Type 0 where
   pub declarations : PartScoped (declarations_of b) (0 ∷ [])
   pub variables : scope_behind (declarations_of b) (0 ∷ []) ≡ length region ∷ []
-  pub statements : StmtScoped (statements_of b) (length region ∷ [])
+  pub statements : StatementScoped (statements_of b) (length region ∷ [])
 
 -- a program of one body
 abbrev pub ScopedBy : List Body → List (List Named) → Type 0

@@ -78,42 +78,42 @@ pub enum Exception {
 /// An expression of type Integer.
 #[derive(Drop, Debug)]
 #[cycle(integer)]
-pub enum IntegerExpr {
+pub enum IntegerExpression {
     Number(Int32),
     Variable(Variable),
-    Unary(Unary, Box<IntegerExpr>),
+    Unary(Unary, Box<IntegerExpression>),
     /// An operand, and operations one after the other on what stands before them.
-    Chain(Box<IntegerExpr>, Vec<Operation>),
+    Chain(Box<IntegerExpression>, Vec<Operation>),
 }
 
 /// An operator and its right operand; the left one is all that stands before it in its chain.
 #[derive(Drop, Debug)]
 #[cycle(integer)]
 pub struct Operation {
-    pub op: Binary,
-    pub right: IntegerExpr,
+    pub operator: Binary,
+    pub right: IntegerExpression,
 }
 
 /// A text, which is put out.
 #[derive(Drop, Debug)]
-pub enum TextExpr {
+pub enum TextExpression {
     Literal(Text),
     /// Integer'Image of a value (RM 4.10).
-    Image(IntegerExpr),
+    Image(IntegerExpression),
     /// A text, and those that follow it.
-    Join(Box<TextExpr>, Vec<TextExpr>),
+    Join(Box<TextExpression>, Vec<TextExpression>),
     /// What ends a line.
     NewLine,
 }
 
 /// A statement, or the elaboration of one name of an object declaration, with the place of its first token.
 #[derive(Drop, Debug)]
-pub enum Stmt {
+pub enum Statement {
     /// The next variable of the innermost frame, and its initial value.
-    Declare(Pos, IntegerExpr),
+    Declare(Pos, IntegerExpression),
     Null(Pos),
-    Assign(Pos, Variable, IntegerExpr),
-    Put(Pos, TextExpr),
+    Assign(Pos, Variable, IntegerExpression),
+    Put(Pos, TextExpression),
 }
 
 /// A typed program: its main procedure, whose variables are Integers.
@@ -125,11 +125,11 @@ pub struct Program {
     /// The names of its variables, in the order of their declarations.
     pub variables: Vec<Name>,
     /// Its declarations, name by name, in their order.
-    pub declarations: Vec<Stmt>,
+    pub declarations: Vec<Statement>,
     /// Where the `begin` of its body stands.
     pub begin: Pos,
     /// Its statements, in their order; there is at least one.
-    pub statements: Vec<Stmt>,
+    pub statements: Vec<Statement>,
     /// Where the `end` of its body stands.
     pub end: Pos,
 }

@@ -2,12 +2,12 @@
 use Rattle.std.proofs.Common.{◌≡◌, ℕ, suc, ◌+◌, ◌-◌, ◌<◌, ◌⊎◌, inl, inr, List, [], ◌∷◌, ◌++◌, length, Bool, true, false, Result, Ok, Err, nat_eq, if◌then◌else◌, refl, sym, ap, subst, ◌∙◌, arith, append_assoc, append-nil}
 use Rattle.std.proofs.lemmas.Bool.Decides.{eqb_tells}
 use Rattle.aud_text.specs.declared.raise.Raise.{Raise}
-use Rattle.aud_typed.specs.Tree.{DelayExpr, BooleanExpr, Part, Alternatives, no_alternatives, accepting, delaying, terminating}
+use Rattle.aud_typed.specs.Tree.{DelayExpression, BooleanExpression, Part, Alternatives, no_alternatives, accepting, delaying, terminating}
 use Rattle.aud_meaning.specs.Configuration.{OpenDelay, Waits}
 use Rattle.aud_meaning.specs.Evaluation.{Sight, with_value, delay_of, decided}
 use Rattle.aud_meaning.specs.Control.{Scene}
-use Rattle.aud_meaning.specs.Items.{if_open, guards_from, delay_expr, timed_from, region_of}
-use Rattle.aud_code.specs.Instr.{Instr, PassUnlessNext, SetTime, Operands, Ended}
+use Rattle.aud_meaning.specs.Items.{if_open, guards_from, delay_expression, timed_from, region_of}
+use Rattle.aud_code.specs.Instruction.{Instruction, PassUnlessNext, SetTime, Operands, Ended}
 use Rattle.aud_code.specs.Eval.{on_result, sees, eval, is_next, later}
 use Rattle.aud_gen.specs.Instructions.{delay_code, timed_code, delays_code}
 use Rattle.aud_gen.proofs.Asking.Evals.{then_value, Ends, passes, eval_delay}
@@ -40,13 +40,13 @@ guards_open (terminating g more) n s =
     guard_opens (decided g s) (λ w. record w { terminate = true }) (guards_from (suc n) more s) (λ w. Opens (suc n) more w.delays) (λ w. Opens (suc n) more w.delays) (guards_open more (suc n) s) (λ w h. h) (λ w h. h)
 
 -- with the expressions found in another way
-abbrev pub timed_by : (ℕ → DelayExpr) → List OpenDelay → ℕ → Sight → Result (List OpenDelay) Raise
+abbrev pub timed_by : (ℕ → DelayExpression) → List OpenDelay → ℕ → Sight → Result (List OpenDelay) Raise
 timed_by f [] clock s = Ok []
 timed_by f (d ∷ ds) clock s = with_value (delay_of (f d.alternative) s) (λ ms. with_value (timed_by f ds clock s) (λ rest. Ok (record d { time = clock + ms } ∷ rest)))
 
-pub same_timed : (ds : List OpenDelay) (offered : Alternatives) (clock : ℕ) (s : Sight) → timed_by (λ k. delay_expr k offered) ds clock s ≡ timed_from ds offered clock s
+pub same_timed : (ds : List OpenDelay) (offered : Alternatives) (clock : ℕ) (s : Sight) → timed_by (λ k. delay_expression k offered) ds clock s ≡ timed_from ds offered clock s
 same_timed [] offered clock s = refl
-same_timed (d ∷ ds) offered clock s = ap (λ r. with_value (delay_of (delay_expr d.alternative offered) s) (λ ms. with_value r (λ rest. Ok (record d { time = clock + ms } ∷ rest)))) (same_timed ds offered clock s)
+same_timed (d ∷ ds) offered clock s = ap (λ r. with_value (delay_of (delay_expression d.alternative offered) s) (λ ms. with_value r (λ rest. Ok (record d { time = clock + ms } ∷ rest)))) (same_timed ds offered clock s)
 
 -- an open delay is none of an alternative before
 not_next : (offered : Alternatives) (m n : ℕ) (ds : List OpenDelay) → m < n → Opens n offered ds → is_next m ds ≡ false
@@ -81,25 +81,25 @@ not_one k = go (eqb_tells (suc (suc k)) 1)
     go (inr x) = x.0
 
 -- the expressions of the alternatives behind a delay
-behind_delay : (g : BooleanExpr) (e : DelayExpr) (p : Part) (more : Alternatives) (n : ℕ) (f : ℕ → DelayExpr) → ((k : ℕ) → f (n + k) ≡ delay_expr (suc k) (delaying g e p more)) → (k : ℕ) → f (suc n + k) ≡ delay_expr (suc k) more
+behind_delay : (g : BooleanExpression) (e : DelayExpression) (p : Part) (more : Alternatives) (n : ℕ) (f : ℕ → DelayExpression) → ((k : ℕ) → f (n + k) ≡ delay_expression (suc k) (delaying g e p more)) → (k : ℕ) → f (suc n + k) ≡ delay_expression (suc k) more
 behind_delay g e p more n f found k =
-    let a : delay_expr (suc (suc k)) (delaying g e p more) ≡ delay_expr (suc (suc k) - 1) more = ap (λ b. if b then e else delay_expr (suc (suc k) - 1) more) (not_one k) in
-    let b : f (n + suc k) ≡ delay_expr (suc (suc k) - 1) more = found (suc k) ∙ a in
-    ap f (step n k) ∙ b ∙ ap (λ j. delay_expr j more) (less k)
+    let a : delay_expression (suc (suc k)) (delaying g e p more) ≡ delay_expression (suc (suc k) - 1) more = ap (λ b. if b then e else delay_expression (suc (suc k) - 1) more) (not_one k) in
+    let b : f (n + suc k) ≡ delay_expression (suc (suc k) - 1) more = found (suc k) ∙ a in
+    ap f (step n k) ∙ b ∙ ap (λ j. delay_expression j more) (less k)
 
 module _ (stops : Bool) (s : Scene) where
   -- with these delays left without a time
   abbrev pub left : List OpenDelay → Operands → Operands
   left ds o = record o { delay = 0; waits = record o.waits { delays = ds } }
 
-  abbrev Timed : Operands → List Instr → List OpenDelay → Ended
+  abbrev Timed : Operands → List Instruction → List OpenDelay → Ended
   Timed o rest ts = Ends stops s rest (record (left [] o) { timed = o.timed ++ ts })
 
-  pub eval_delays : (offered : Alternatives) (n : ℕ) (f : ℕ → DelayExpr) (ds : List OpenDelay) (rest : List Instr) (o : Operands) → Opens n offered ds → ((k : ℕ) → f (n + k) ≡ delay_expr (suc k) offered) → Ends stops s (delays_code n offered ++ rest) (left ds o) ≡ on_result (timed_by f ds s.clock (sees stops s o)) (λ ts. Ends stops s rest (record (left [] o) { timed = o.timed ++ ts }))
+  pub eval_delays : (offered : Alternatives) (n : ℕ) (f : ℕ → DelayExpression) (ds : List OpenDelay) (rest : List Instruction) (o : Operands) → Opens n offered ds → ((k : ℕ) → f (n + k) ≡ delay_expression (suc k) offered) → Ends stops s (delays_code n offered ++ rest) (left ds o) ≡ on_result (timed_by f ds s.clock (sees stops s o)) (λ ts. Ends stops s rest (record (left [] o) { timed = o.timed ++ ts }))
   eval_delays no_alternatives n f ds rest o h found =
       subst (λ ds. Ends stops s rest (left ds o) ≡ on_result (timed_by f ds s.clock (sees stops s o)) (Timed o rest)) (sym h) (ap (λ ts. Ends stops s rest (record (left [] o) { timed = ts })) (sym (append-nil o.timed)))
-  eval_delays (accepting g at e d p more) n f ds rest o h found = eval_delays more (suc n) f ds rest o h (λ k. ap f (step n k) ∙ found (suc k) ∙ ap (λ j. delay_expr j more) (less k))
-  eval_delays (terminating g more) n f ds rest o h found = eval_delays more (suc n) f ds rest o h (λ k. ap f (step n k) ∙ found (suc k) ∙ ap (λ j. delay_expr j more) (less k))
+  eval_delays (accepting g at e d p more) n f ds rest o h found = eval_delays more (suc n) f ds rest o h (λ k. ap f (step n k) ∙ found (suc k) ∙ ap (λ j. delay_expression j more) (less k))
+  eval_delays (terminating g more) n f ds rest o h found = eval_delays more (suc n) f ds rest o h (λ k. ap f (step n k) ∙ found (suc k) ∙ ap (λ j. delay_expression j more) (less k))
   eval_delays (delaying g e p more) n f ds rest o (inr h) found =
       let cs = delays_code (suc n) more in
       let ct = timed_code n e in

@@ -4,21 +4,21 @@ use Rattle.std.specs.Prelude.{pos}
 use Rattle.aud_text.specs.declared.place.Pos.{Pos}
 use Rattle.aud_text.specs.declared.raise.Raise.{Raise}
 use Rattle.aud_typed.specs.Tree as tree
-use Rattle.aud_typed.specs.Tree.{ValueExpr, Argument, CallForm, plainly, conditionally, timed, Callee, of_task, of_object, TaskName, Stmt, declare_object, if_then, while_loop, exit, return_value, procedure_call, own_entry_call, operation_call, delay, abort, Part}
+use Rattle.aud_typed.specs.Tree.{ValueExpression, Argument, CallForm, plainly, conditionally, timed, Callee, of_task, of_object, TaskName, Statement, declare_object, if_then, while_loop, exit, return_value, procedure_call, own_entry_call, operation_call, delay, abort, Part}
 use Rattle.aud_meaning.specs.Configuration.{Target, timed_to}
 use Rattle.aud_meaning.specs.declared.state.Owner.TheVariants as owner
 use Rattle.aud_meaning.specs.Evaluation.{with_value, evaluated, decided, value_of, delay_of, task_named, number_in, option_target, passed, Passed}
 use Rattle.aud_meaning.specs.Control.{Scene, Asked, Called}
 use Rattle.aud_meaning.specs.Control as asked
-use Rattle.aud_meaning.specs.Items.{or_raises, or_raises_in_part, branch, both, components, names_tasks, called, Entered, entered_with, asked_stmt, asked_call}
-use Rattle.aud_code.specs.Instr.{Instr, Name, Mark, Ending, DeclareObject, If, While, Loop, Exit, ReturnValue, Proc, OwnCall, Operation, CallTask, CallObject, Delay, Abort, Operands, no_operands, Ended}
+use Rattle.aud_meaning.specs.Items.{or_raises, or_raises_in_part, branch, both, components, names_tasks, called, Entered, entered_with, asked_statement, asked_call}
+use Rattle.aud_code.specs.Instruction.{Instruction, Name, Mark, Ending, DeclareObject, If, While, Loop, Exit, ReturnValue, Proc, OwnCall, Operation, CallTask, CallObject, Delay, Abort, Operands, no_operands, Ended}
 use Rattle.aud_code.specs.Eval.{on_result, eval, form_in, asked_end, raised_by, asked_ended}
-use Rattle.aud_gen.specs.Instructions.{value_code, integer_code, condition_code, delay_code, arguments_code, names_code, components_code, form_kind, called_code, call_code, call_end, entered_code, instrs_of, ending_of}
+use Rattle.aud_gen.specs.Instructions.{value_code, integer_code, condition_code, delay_code, arguments_code, names_code, components_code, form_kind, called_code, call_code, call_end, entered_code, instructions_of, ending_of}
 use Rattle.aud_gen.proofs.Asking.Evals.{Ends, with_assoc, with_into, with_passed, eval_integer, eval_condition, eval_value, eval_into, eval_delay, eval_arguments, eval_task}
 use Rattle.aud_gen.proofs.Asking.Lists.{eval_names, eval_components}
 
 -- code that ends a step
-pub at_end : (stops : Bool) (s : Scene) (is : List Instr) (o : Operands) → eval stops s is 0 o ≡ eval stops s (is ++ []) 0 o
+pub at_end : (stops : Bool) (s : Scene) (is : List Instruction) (o : Operands) → eval stops s is 0 o ≡ eval stops s (is ++ []) 0 o
 at_end stops s is o = ap (λ js. eval stops s js 0 o) (sym (append-nil is))
 
 module _ (loops : ℕ) (at : Pos) (s : Scene) where
@@ -70,34 +70,34 @@ module _ (loops : ℕ) (at : Pos) (s : Scene) where
   asks_in_part e (Err raise) ask go x here is next = ap (asked_ended e loops at s) is ∙ here raise
 
   -- a statement's code, from the step's first instruction
-  abbrev pub Asks : Stmt → Asked
-  Asks a = asked_ended (ending_of a) loops at s (eval false s (instrs_of a) 0 no_operands)
+  abbrev pub Asks : Statement → Asked
+  Asks a = asked_ended (ending_of a) loops at s (eval false s (instructions_of a) 0 no_operands)
 
-  pub asks_object : (n : ℕ) (es : List ValueExpr) → Asks (declare_object at n es) ≡ asked_stmt (declare_object at n es) loops s
+  pub asks_object : (n : ℕ) (es : List ValueExpression) → Asks (declare_object at n es) ≡ asked_statement (declare_object at n es) loops s
   asks_object n es =
       let cells = pos s.objects ∷ [] in
       let o = record no_operands { cells = Some cells } in
       asks_in_part (DeclareObject n) (components es cells s.sight) (λ zs. asked.declares_object at n zs) (λ zs. Ends false s [] (record no_operands { cells = Some zs })) _ (λ raise. refl)
       (at_end false s (components_code es) o ∙ eval_components false s es cells [] no_operands) (λ zs. refl)
 
-  asks_truth : (e : Ending) (here : (raise : Raise) → raised_by e raise at ≡ asked.raises_here raise at) (c : tree.BooleanExpr) (ask : Bool → Asked) → ((b : Bool) → asked_end e loops at s (record no_operands { bools = b ∷ [] }) ≡ ask b) → asked_ended e loops at s (Ends false s (condition_code c) no_operands) ≡ or_raises (decided c s.sight) at ask
-  asks_truth e here c ask k = asks_last e here (decided c s.sight) ask (λ b. Ends false s [] (record no_operands { bools = b ∷ [] })) _ (at_end false s (condition_code c) no_operands ∙ eval_condition false s c [] no_operands) k
+  asks_truth : (e : Ending) (here : (raise : Raise) → raised_by e raise at ≡ asked.raises_here raise at) (c : tree.BooleanExpression) (ask : Bool → Asked) → ((b : Bool) → asked_end e loops at s (record no_operands { booleans = b ∷ [] }) ≡ ask b) → asked_ended e loops at s (Ends false s (condition_code c) no_operands) ≡ or_raises (decided c s.sight) at ask
+  asks_truth e here c ask k = asks_last e here (decided c s.sight) ask (λ b. Ends false s [] (record no_operands { booleans = b ∷ [] })) _ (at_end false s (condition_code c) no_operands ∙ eval_condition false s c [] no_operands) k
 
-  pub asks_return : (e : ValueExpr) → Asks (return_value at e) ≡ asked_stmt (return_value at e) loops s
-  asks_return e = asks_last ReturnValue (λ raise. refl) (value_of e s.sight) (λ z. asked.goes_out loops (Some z)) (λ z. Ends false s [] (record no_operands { ints = z ∷ [] })) _ (at_end false s (value_code e) no_operands ∙ eval_value false s e [] no_operands) (λ z. refl)
+  pub asks_return : (e : ValueExpression) → Asks (return_value at e) ≡ asked_statement (return_value at e) loops s
+  asks_return e = asks_last ReturnValue (λ raise. refl) (value_of e s.sight) (λ z. asked.goes_out loops (Some z)) (λ z. Ends false s [] (record no_operands { integers = z ∷ [] })) _ (at_end false s (value_code e) no_operands ∙ eval_value false s e [] no_operands) (λ z. refl)
 
-  pub asks_delay : (e : tree.DelayExpr) → Asks (delay at e) ≡ asked_stmt (delay at e) loops s
+  pub asks_delay : (e : tree.DelayExpression) → Asks (delay at e) ≡ asked_statement (delay at e) loops s
   asks_delay e = asks_last Delay (λ raise. refl) (delay_of e s.sight) (λ ms. asked.delays ms at) (λ ms. Ends false s [] (record no_operands { delay = ms })) _ (at_end false s (delay_code e) no_operands ∙ eval_delay false s e [] no_operands) (λ ms. refl)
 
-  pub asks_abort : (ts : List TaskName) → Asks (abort at ts) ≡ asked_stmt (abort at ts) loops s
+  pub asks_abort : (ts : List TaskName) → Asks (abort at ts) ≡ asked_statement (abort at ts) loops s
   asks_abort ts = asks_last Abort (λ raise. refl) (names_tasks ts s.sight) (λ ns. asked.aborts ns at) (λ ns. Ends false s [] (record no_operands { names = ns })) _ (at_end false s (names_code ts) no_operands ∙ eval_names false s ts [] no_operands) (λ ns. refl)
 
   -- the bounds of a for loop
-  pub asks_for : (f : tree.For) (a b : tree.IntegerExpr) → asked_ended (Loop f) loops at s (Ends false s (integer_code a ++ integer_code b) no_operands) ≡ or_raises (both (evaluated a s.sight) (evaluated b s.sight)) at (λ (xy : ℤ × ℤ). asked.enters_loop f xy.0 xy.1)
+  pub asks_for : (f : tree.For) (a b : tree.IntegerExpression) → asked_ended (Loop f) loops at s (Ends false s (integer_code a ++ integer_code b) no_operands) ≡ or_raises (both (evaluated a s.sight) (evaluated b s.sight)) at (λ (xy : ℤ × ℤ). asked.enters_loop f xy.0 xy.1)
   asks_for f a b =
-      asks_then (Loop f) (λ raise. refl) (evaluated a s.sight) _ (λ (xy : ℤ × ℤ). asked.enters_loop f xy.0 xy.1) (λ x. Ends false s (integer_code b) (record no_operands { ints = x ∷ [] })) _ (eval_integer false s a (integer_code b) no_operands) (λ x.
-      let o = record no_operands { ints = x ∷ [] } in
-      asks_then (Loop f) (λ raise. refl) (evaluated b s.sight) _ (λ (xy : ℤ × ℤ). asked.enters_loop f xy.0 xy.1) (λ y. Ends false s [] (record no_operands { ints = y ∷ x ∷ [] })) _ (at_end false s (integer_code b) o ∙ eval_integer false s b [] o) (λ y. refl))
+      asks_then (Loop f) (λ raise. refl) (evaluated a s.sight) _ (λ (xy : ℤ × ℤ). asked.enters_loop f xy.0 xy.1) (λ x. Ends false s (integer_code b) (record no_operands { integers = x ∷ [] })) _ (eval_integer false s a (integer_code b) no_operands) (λ x.
+      let o = record no_operands { integers = x ∷ [] } in
+      asks_then (Loop f) (λ raise. refl) (evaluated b s.sight) _ (λ (xy : ℤ × ℤ). asked.enters_loop f xy.0 xy.1) (λ y. Ends false s [] (record no_operands { integers = y ∷ x ∷ [] })) _ (at_end false s (integer_code b) o ∙ eval_integer false s b [] o) (λ y. refl))
 
   pub asks_call : (c : tree.EntryCall) (callee : Callee) → asked_ended (call_end callee c.entry c.form) loops at s (Ends false s (call_code callee c.arguments c.form) no_operands) ≡ asked_call at c callee s
   asks_call c (of_object v) =
@@ -115,28 +115,28 @@ module _ (loops : ℕ) (at : Pos) (s : Scene) where
       told n (Ok call) = refl
       told n (Err raise) = refl
 
-  pub asks_procedure : (c : tree.Calling) → Asks (procedure_call at c) ≡ asked_stmt (procedure_call at c) loops s
+  pub asks_procedure : (c : tree.Calling) → Asks (procedure_call at c) ≡ asked_statement (procedure_call at c) loops s
   asks_procedure c = asks_entered (Proc c.unit) (λ raise. refl) c (λ into p. asked.calls_procedure at c.unit p into) (go)
     where
       go : (into : Option Target) (p : Passed) → asked_end (Proc c.unit) loops at s (with_passed p (with_into into no_operands)) ≡ asked.calls_procedure at c.unit p into
       go None p = refl
       go (Some t) p = refl
 
-  pub asks_operation : (v : _) (c : tree.Calling) → Asks (operation_call at v c) ≡ asked_stmt (operation_call at v c) loops s
+  pub asks_operation : (v : _) (c : tree.Calling) → Asks (operation_call at v c) ≡ asked_statement (operation_call at v c) loops s
   asks_operation v c = asks_entered (Operation v c.unit) (λ raise. refl) c (λ into p. asked.calls_operation at (number_in v s.sight) c.unit p into) (go)
     where
       go : (into : Option Target) (p : Passed) → asked_end (Operation v c.unit) loops at s (with_passed p (with_into into no_operands)) ≡ asked.calls_operation at (number_in v s.sight) c.unit p into
       go None p = refl
       go (Some t) p = refl
 
-  pub asks_own : (es : List Argument) (form : CallForm) → Asks (own_entry_call at es form) ≡ asked_stmt (own_entry_call at es form) loops s
+  pub asks_own : (es : List Argument) (form : CallForm) → Asks (own_entry_call at es form) ≡ asked_statement (own_entry_call at es form) loops s
   asks_own es form = asks_called OwnCall (λ raise. refl) 0 es form [] (λ e. asked.calls_own_entry at) (λ p d. refl)
 
-  pub asks_if : (e : tree.BooleanExpr) (a : Stmt) (p : Part) → Asks (if_then at e a p) ≡ asked_stmt (if_then at e a p) loops s
+  pub asks_if : (e : tree.BooleanExpression) (a : Statement) (p : Part) → Asks (if_then at e a p) ≡ asked_statement (if_then at e a p) loops s
   asks_if e a p = asks_truth If (λ raise. refl) e (λ b. asked.goes_on (branch b)) (λ b. refl)
 
-  pub asks_while : (e : tree.BooleanExpr) (a : Stmt) → Asks (while_loop at e a) ≡ asked_stmt (while_loop at e a) loops s
+  pub asks_while : (e : tree.BooleanExpression) (a : Statement) → Asks (while_loop at e a) ≡ asked_statement (while_loop at e a) loops s
   asks_while e a = asks_truth While (λ raise. refl) e (λ b. asked.goes_on (branch b)) (λ b. refl)
 
-  pub asks_exit : (n : ℕ) (e : tree.BooleanExpr) → Asks (exit at n e) ≡ asked_stmt (exit at n e) loops s
+  pub asks_exit : (n : ℕ) (e : tree.BooleanExpression) → Asks (exit at n e) ≡ asked_statement (exit at n e) loops s
   asks_exit n e = asks_truth Exit (λ raise. refl) e (λ b. if b then asked.goes_out loops None else asked.goes_on 0) (λ b. refl)

@@ -8,8 +8,8 @@ use Rattle.aud_meaning.specs.Configuration.{OpenDelay, Waits}
 use Rattle.aud_meaning.specs.Evaluation.{Sight, with_value, decided, task_named}
 use Rattle.aud_meaning.specs.Control.{Scene, Asked}
 use Rattle.aud_meaning.specs.Control as asked
-use Rattle.aud_meaning.specs.Items.{or_raises, has_else, guards_from, delay_expr, timed_from, waits_of, coming_call, open_or_none, task_or_none}
-use Rattle.aud_code.specs.Instr.{Name, Mark, Select, Operands, no_operands, Reached, Marked}
+use Rattle.aud_meaning.specs.Items.{or_raises, has_else, guards_from, delay_expression, timed_from, waits_of, coming_call, open_or_none, task_or_none}
+use Rattle.aud_code.specs.Instruction.{Name, Mark, Select, Operands, no_operands, Reached, Marked}
 use Rattle.aud_code.specs.Eval.{on_result, eval, asked_ended, coming_end, accepts_in, named_in}
 use Rattle.aud_gen.specs.Instructions.{condition_code, guards_code, delays_code, called_code, call_code, call_end}
 use Rattle.aud_code.specs.Flat.{no_scene, decided_by}
@@ -49,7 +49,7 @@ module _ (loops : ℕ) (at : Pos) (s : Scene) where
           ap (asked_ended (Select (has_else p)) loops at s) is
           ∙ asks_then loops at s (Select (has_else p)) (λ raise. refl) (timed_from w.delays offered s.clock s.sight) (λ ds. Ok (record w { delays = ds })) (λ w. asked.selects (has_else p) w at) end _
           (at_end false s code o
-          ∙ eval_delays false s offered 1 (λ k. delay_expr k offered) w.delays [] o h (λ k. ap (λ j. delay_expr j offered) (one_and k))
+          ∙ eval_delays false s offered 1 (λ k. delay_expression k offered) w.delays [] o h (λ k. ap (λ j. delay_expression j offered) (one_and k))
           ∙ ap (λ r. on_result r end) (same_timed w.delays offered s.clock s.sight))
           (λ ts. refl)
 
@@ -134,6 +134,6 @@ coming_law plan (abort at ts) s = refl
 pub barrier_law : BarrierLaw
 barrier_law b s = ap decided_by (at_end false (no_scene s) (condition_code b) no_operands ∙ eval_condition false (no_scene s) b [] no_operands) ∙ told (decided b s)
   where
-    told : (r : Result Bool Raise) → decided_by (on_result r (λ b. Reached (record no_operands { bools = b ∷ [] }))) ≡ r
+    told : (r : Result Bool Raise) → decided_by (on_result r (λ b. Reached (record no_operands { booleans = b ∷ [] }))) ≡ r
     told (Ok b) = refl
     told (Err raise) = refl

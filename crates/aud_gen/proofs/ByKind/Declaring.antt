@@ -2,7 +2,7 @@
 use Rattle.std.proofs.Common.{[], ◌∷◌, false, refl, ◌∙◌}
 use Rattle.aud_meaning.specs.Evaluation.{value_of}
 use Rattle.aud_meaning.specs.Control as asked
-use Rattle.aud_code.specs.Instr.{Declare, no_operands}
+use Rattle.aud_code.specs.Instruction.{Declare, no_operands}
 use Rattle.aud_gen.specs.Instructions.{value_code}
 use Rattle.aud_gen.specs.Asking.{DeclarationLaw}
 use Rattle.aud_gen.proofs.Asking.Evals.{Ends, eval_value}
@@ -10,5 +10,5 @@ use Rattle.aud_gen.proofs.Asking.Statements.{at_end, asks_in_part}
 
 pub declaration_law : DeclarationLaw
 declaration_law at e loops s =
-    asks_in_part loops at s Declare (value_of e s.sight) (λ z. asked.declares z) (λ z. Ends false s [] (record no_operands { ints = z ∷ [] })) _ (λ raise. refl)
+    asks_in_part loops at s Declare (value_of e s.sight) (λ z. asked.declares z) (λ z. Ends false s [] (record no_operands { integers = z ∷ [] })) _ (λ raise. refl)
     (at_end false s (value_code e) no_operands ∙ eval_value false s e [] no_operands) (λ z. refl)

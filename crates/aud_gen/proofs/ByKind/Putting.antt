@@ -2,7 +2,7 @@
 use Rattle.std.proofs.Common.{[], false, refl, ◌∙◌}
 use Rattle.aud_meaning.specs.Evaluation.{text_of}
 use Rattle.aud_meaning.specs.Control as asked
-use Rattle.aud_code.specs.Instr.{Put, no_operands}
+use Rattle.aud_code.specs.Instruction.{Put, no_operands}
 use Rattle.aud_gen.specs.Instructions.{text_code}
 use Rattle.aud_gen.specs.Asking.{PutLaw}
 use Rattle.aud_gen.proofs.Asking.Evals.{Ends, eval_text}

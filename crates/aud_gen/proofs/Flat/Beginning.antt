@@ -5,9 +5,9 @@ use Rattle.aud_meaning.specs.declared.state.Construct.TheVariants as construct
 use Rattle.aud_meaning.specs.Items.{no_body}
 use Rattle.aud_gen.specs.Layout.{Line, in_call, body_size, end_place, unit_code, units_code, code_of}
 use Rattle.aud_gen.proofs.Standing.Places.{length-unit}
-use Rattle.aud_code.specs.Instr.{Instr}
-use Rattle.aud_code.specs.Flat.{EndLine, FlatLine, op, end}
-use Rattle.aud_gen.specs.Assembly.{instrs_by, offset, end_line, assembled_from}
+use Rattle.aud_code.specs.Instruction.{Instruction}
+use Rattle.aud_code.specs.Flat.{EndLine, FlatLine, instructs, end}
+use Rattle.aud_gen.specs.Assembly.{instructions_by, offset, end_line, assembled_from}
 use Rattle.aud_code.specs.Sound.{IsStart}
 use Rattle.aud_gen.proofs.Flat.Within.{LinesIn, both, last_is, call_in, body_in}
 
@@ -34,17 +34,17 @@ abbrev EndAt : List FlatLine → ℕ → Type 0
 EndAt ls k = (l : EndLine) × (slice_get ls k ≡ Some (end l))
 
 -- behind one line of the layout
-got : (is : List Instr) (e : EndLine) (rest : List FlatLine) (m : ℕ) → IsStart rest m → EndAt ((map op is ++ end e ∷ []) ++ rest) (length is + m)
+got : (is : List Instruction) (e : EndLine) (rest : List FlatLine) (m : ℕ) → IsStart rest m → EndAt ((map instructs is ++ end e ∷ []) ++ rest) (length is + m)
 got [] e rest zero h = (e, refl)
 got [] e rest (suc j) h =
     let same : suc j ≡ 0 + suc j = omega arith in
     let found : EndAt (end e ∷ rest) (suc j) = h in
     subst (λ k. EndAt (end e ∷ rest) k) same found
 got (i ∷ is) e rest m h =
-    let more = (map op is ++ end e ∷ []) ++ rest in
+    let more = (map instructs is ++ end e ∷ []) ++ rest in
     let same : suc (length is + m) ≡ suc (length is) + m = omega arith in
-    let found : EndAt (op i ∷ more) (suc (length is + m)) = got is e rest m h in
-    subst (λ k. EndAt (op i ∷ more) k) same found
+    let found : EndAt (instructs i ∷ more) (suc (length is + m)) = got is e rest m h in
+    subst (λ k. EndAt (instructs i ∷ more) k) same found
 
 -- so a place of the layout is moved to where a step begins
 pub begins : (f : ℕ → ℕ) (lines : List Line) (n : ℕ) → n ≤ length lines → IsStart (assembled_from f lines) (offset lines n)
@@ -52,8 +52,8 @@ begins f [] zero h = tt
 begins f [] (suc n) h = absurd (omega (arith, h))
 begins f (l ∷ ls) zero h = tt
 begins f (l ∷ ls) (suc n) h =
-    let is = instrs_by l.what in
+    let is = instructions_by l.what in
     let e = end_line f l in
     let same : suc (length is + offset ls n) ≡ suc (length is) + offset ls n = omega arith in
-    let found : IsStart ((map op is ++ end e ∷ []) ++ assembled_from f ls) (suc (length is + offset ls n)) = got is e (assembled_from f ls) (offset ls n) (begins f ls n (omega (arith, h))) in
-    subst (λ k. IsStart ((map op is ++ end e ∷ []) ++ assembled_from f ls) k) same found
+    let found : IsStart ((map instructs is ++ end e ∷ []) ++ assembled_from f ls) (suc (length is + offset ls n)) = got is e (assembled_from f ls) (offset ls n) (begins f ls n (omega (arith, h))) in
+    subst (λ k. IsStart ((map instructs is ++ end e ∷ []) ++ assembled_from f ls) k) same found

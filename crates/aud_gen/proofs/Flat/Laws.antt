@@ -1,6 +1,6 @@
 -- The laws.
 use Rattle.std.proofs.Common.{◌≡◌, ℕ, List, [], ◌∷◌, map, ap, sym, subst, ◌∙◌, slice_get, arith}
-use Rattle.aud_typed.specs.Tree.{Program, BooleanExpr}
+use Rattle.aud_typed.specs.Tree.{Program, BooleanExpression}
 use Rattle.aud_meaning.specs.Configuration.{Item}
 use Rattle.aud_meaning.specs.Control.{Controls}
 use Rattle.aud_meaning.specs.Items.{controls}
@@ -25,7 +25,7 @@ module _ (program : Program) where
   abbrev C : Code
   C = code_of program
 
-  abbrev B : List BooleanExpr
+  abbrev B : List BooleanExpression
   B = program.barriers
 
   abbrev F : ℕ → ℕ

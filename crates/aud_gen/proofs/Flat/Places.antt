@@ -5,7 +5,7 @@ use Rattle.std.proofs.lemmas.Option.{slice_get-map}
 use Rattle.std.proofs.Math.ListN.{get_or-map}
 use Rattle.aud_text.specs.declared.place.Pos.{Pos}
 use Rattle.aud_typed.specs.declared.program.Exception.{Exception}
-use Rattle.aud_typed.specs.Tree.{Program, BooleanExpr, truth}
+use Rattle.aud_typed.specs.Tree.{Program, BooleanExpression, truth}
 use Rattle.aud_meaning.specs.declared.state.Construct.TheVariants as construct
 use Rattle.aud_meaning.specs.Configuration.{Pending}
 use Rattle.aud_meaning.specs.Evaluation.{Sight, decided}
@@ -14,12 +14,12 @@ use Rattle.aud_meaning.specs.Items.{names_it, coming_raised, handled_or_left}
 use Rattle.aud_code.specs.Places.{Way, Guard, Spot, goes_there, goes_way, loops_of, guarded, is_there}
 use Rattle.aud_gen.specs.Layout.{What, does, continues, guards, ends, leaves, Code, line_at, handler_by, asked_by, coming_by, start_of}
 use Rattle.aud_gen.specs.Layout as layout
-use Rattle.aud_code.specs.Instr.{no_operands}
+use Rattle.aud_code.specs.Instruction.{no_operands}
 use Rattle.aud_code.specs.Eval.{eval}
 use Rattle.aud_gen.specs.Instructions.{condition_code}
-use Rattle.aud_code.specs.Flat.{EndLine, Flat, instrs_at, end_at, back_to, ended_in, out_of_end, end_by, left_by, handler_in, handler_at, asked_last, coming_last, asked_at, coming_at, start_at, barrier_at, no_scene, decided_by}
-use Rattle.aud_gen.specs.Assembly.{offset, guard_moved, last_by, way_moved, end_line, flat_of, instrs_by}
-use Rattle.aud_gen.proofs.Flat.Assembly.{offset_zero, instrs_at_step, end_at_step, length_assembled}
+use Rattle.aud_code.specs.Flat.{EndLine, Flat, instructions_at, end_at, back_to, ended_in, out_of_end, end_by, left_by, handler_in, handler_at, asked_last, coming_last, asked_at, coming_at, start_at, barrier_at, no_scene, decided_by}
+use Rattle.aud_gen.specs.Assembly.{offset, guard_moved, last_by, way_moved, end_line, flat_of, instructions_by}
+use Rattle.aud_gen.proofs.Flat.Assembly.{offset_zero, instructions_at_step, end_at_step, length_assembled}
 use Rattle.aud_gen.proofs.Asking.Steps.{asked_law, coming_law, barrier_law}
 use Rattle.aud_gen.specs.Law.{spot_at}
 use Rattle.aud_gen.proofs.Flat.Ats.{AtIs, AtsAre, at_is}
@@ -64,7 +64,7 @@ module _ (f : ℕ → ℕ) where
   pub goes_handler : (x : Exception) (w : What) (c : Spot) → goes_there (handler_in (last_by f w) x) (spot_at f c) ≡ spot_at f (goes_there (handler_by w x) c)
   goes_handler x w c = ap (λ o. goes_there o (spot_at f c)) (handlers_moved x w) ∙ goes_option (handler_by w x) c
 
-module _ (code : Code) (barriers : List BooleanExpr) where
+module _ (code : Code) (barriers : List BooleanExpression) where
   abbrev F : ℕ → ℕ
   F = offset code.lines
 
@@ -74,8 +74,8 @@ module _ (code : Code) (barriers : List BooleanExpr) where
   pub end_is : (n : ℕ) → end_at X (F n) ≡ end_line F (line_at code n)
   end_is n = end_at_step F code.lines n n (offset_zero code.lines)
 
-  pub instrs_are : (n : ℕ) → instrs_at X (F n) ≡ instrs_by (line_at code n).what
-  instrs_are n = instrs_at_step F code.lines n n
+  pub instructions_are : (n : ℕ) → instructions_at X (F n) ≡ instructions_by (line_at code n).what
+  instructions_are n = instructions_at_step F code.lines n n
 
   -- Behind a construct.
   goes_back : (returns : List ℕ) → back_to X (map F returns) ≡ spot_at F (layout.back_to code returns)
@@ -127,14 +127,14 @@ module _ (code : Code) (barriers : List BooleanExpr) where
       ap (λ (l : EndLine). goes_there (handler_in (end_at X l.out).last x) (spot_at F c)) (end_is c.place) ∙ ap (λ (l : EndLine). goes_there (handler_in l.last x) (spot_at F c)) (end_is n)
       ∙ goes_handler F x (line_at code n).what c
 
-  pub asks_by : (w : What) (at : Pos) (loops : ℕ) (s : Scene) → AtIs w at → asked_last (last_by F w) loops at s (eval false s (instrs_by w) 0 no_operands) ≡ asked_by w loops s
-  asks_by (does a) at loops s h = ap (λ p. asked_last (last_by F (does a)) loops p s (eval false s (instrs_by (does a)) 0 no_operands)) h ∙ asked_law a loops s
+  pub asks_by : (w : What) (at : Pos) (loops : ℕ) (s : Scene) → AtIs w at → asked_last (last_by F w) loops at s (eval false s (instructions_by w) 0 no_operands) ≡ asked_by w loops s
+  asks_by (does a) at loops s h = ap (λ p. asked_last (last_by F (does a)) loops p s (eval false s (instructions_by (does a)) 0 no_operands)) h ∙ asked_law a loops s
   asks_by (continues g) at loops s h = refl
   asks_by (guards gs) at loops s h = refl
   asks_by (ends c next) at loops s h = refl
   asks_by (leaves n next) at loops s h = refl
 
-  pub comes_by : (program : Program) (w : What) (s : Sight) → coming_last program.plan (last_by F w) s (eval true (no_scene s) (instrs_by w) 0 no_operands) ≡ coming_by program w s
+  pub comes_by : (program : Program) (w : What) (s : Sight) → coming_last program.plan (last_by F w) s (eval true (no_scene s) (instructions_by w) 0 no_operands) ≡ coming_by program w s
   comes_by program (does a) s = coming_law program.plan a s
   comes_by program (continues g) s = refl
   comes_by program (guards gs) s = refl
@@ -144,17 +144,17 @@ module _ (code : Code) (barriers : List BooleanExpr) where
   pub asked_same : (program : Program) → AtsAre code.lines → (p : Option Pending) (s : Scene) (c : Spot) → asked_at X p s (spot_at F c) ≡ layout.asked_at program code p s c
   asked_same program ats None s c =
       let l = line_at code c.place in
-      ap (λ (e : EndLine). asked_last e.last (loops_of e.exit) e.at s (eval false s (instrs_at X (F c.place)) 0 no_operands)) (end_is c.place)
-      ∙ ap (λ is. asked_last (last_by F l.what) (loops_of (way_moved F l.exit)) l.at s (eval false s is 0 no_operands)) (instrs_are c.place)
-      ∙ ap (λ n. asked_last (last_by F l.what) n l.at s (eval false s (instrs_by l.what) 0 no_operands)) (same_loops F l.exit)
+      ap (λ (e : EndLine). asked_last e.last (loops_of e.exit) e.at s (eval false s (instructions_at X (F c.place)) 0 no_operands)) (end_is c.place)
+      ∙ ap (λ is. asked_last (last_by F l.what) (loops_of (way_moved F l.exit)) l.at s (eval false s is 0 no_operands)) (instructions_are c.place)
+      ∙ ap (λ n. asked_last (last_by F l.what) n l.at s (eval false s (instructions_by l.what) 0 no_operands)) (same_loops F l.exit)
       ∙ asks_by l.what l.at (loops_of l.exit) s (at_is code.lines c.place c.place ats)
   asked_same program ats (Some p) s c = ap (λ b. handled_or_left b p) (handler_is p.exception c)
 
   pub coming_same : (program : Program) (p : Option Pending) (s : Sight) (c : Spot) → coming_at X program.plan p s (spot_at F c) ≡ layout.coming_at program code p s c
   coming_same program None s c =
       let l = line_at code c.place in
-      ap (λ (e : EndLine). coming_last program.plan e.last s (eval true (no_scene s) (instrs_at X (F c.place)) 0 no_operands)) (end_is c.place)
-      ∙ ap (λ is. coming_last program.plan (last_by F l.what) s (eval true (no_scene s) is 0 no_operands)) (instrs_are c.place)
+      ap (λ (e : EndLine). coming_last program.plan e.last s (eval true (no_scene s) (instructions_at X (F c.place)) 0 no_operands)) (end_is c.place)
+      ∙ ap (λ is. coming_last program.plan (last_by F l.what) s (eval true (no_scene s) is 0 no_operands)) (instructions_are c.place)
       ∙ comes_by program l.what s
   coming_same program (Some p) s c = ap coming_raised (handler_is p.exception c)
 

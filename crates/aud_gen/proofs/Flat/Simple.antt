@@ -1,15 +1,15 @@
 -- The code of a program without branches is what is written out from its first line to its last.
 use Rattle.std.proofs.Common.{◌≡◌, ℕ, zero, suc, ◌+◌, List, [], ◌∷◌, ◌++◌, length, drop, refl, sym, ap, ◌∙◌, subst, arith, append_assoc, append-nil}
 use Rattle.aud_text.specs.declared.place.Pos.{Pos}
-use Rattle.aud_typed.specs.Tree.{Stmt, sequence, no_handlers, Program}
+use Rattle.aud_typed.specs.Tree.{Statement, sequence, no_handlers, Program}
 use Rattle.aud_meaning.specs.declared.state.Construct.TheVariants as construct
 use Rattle.aud_meaning.specs.Items.{nowhere}
 use Rattle.aud_code.specs.Flat.{end}
-use Rattle.aud_gen.specs.Layout.{Line, Around, around_out, in_call, stmt_size, part_size, main_size, stmt_code, part_code, guard_line, end_line, end_place, body_size, unit_code, units_code, starts_from, spare_from}
+use Rattle.aud_gen.specs.Layout.{Line, Around, around_out, in_call, statement_size, part_size, main_size, statement_code, part_code, guard_line, end_line, end_place, body_size, unit_code, units_code, starts_from, spare_from}
 use Rattle.aud_gen.specs.Assembly.{line_size, offset, step_lines, assembled_from, flat_of, flat_program}
-use Rattle.aud_gen.specs.Simple.{Simple, declares, idles, assigns, puts, stmt_of, in_order, step_size, step_to, steps_from, steps_at, steps_size, part_in, guard_end, unit_end, the_body, places_at, body_at, spare_at, size_of, SimpleCodeLaw}
+use Rattle.aud_gen.specs.Simple.{Simple, declares, idles, assigns, puts, statement_of, in_order, step_size, step_to, steps_from, steps_at, steps_size, part_in, guard_end, unit_end, the_body, places_at, body_at, spare_at, size_of, SimpleCodeLaw}
 use Rattle.aud_gen.specs.Shows.{HasAt}
-use Rattle.aud_gen.proofs.Standing.Places.{has_front, has_back, has_tail, length-stmt, length-part, length-body}
+use Rattle.aud_gen.proofs.Standing.Places.{has_front, has_back, has_tail, length-statement, length-part, length-body}
 use Rattle.aud_gen.proofs.Flat.Assembly.{offset_zero}
 
 pub assembled_append : (f : ℕ → ℕ) (xs ys : List Line) → assembled_from f (xs ++ ys) ≡ assembled_from f xs ++ assembled_from f ys
@@ -27,37 +27,37 @@ module _ (lines : List Line) where
   F = offset lines
 
   -- one step
-  emitted_one : (s : Simple) (at next : ℕ) (a : Around) → assembled_from F (stmt_code (stmt_of s) at next a) ≡ step_to s (F a.out) (F next)
+  emitted_one : (s : Simple) (at next : ℕ) (a : Around) → assembled_from F (statement_code (statement_of s) at next a) ≡ step_to s (F a.out) (F next)
   emitted_one (declares pos e) at next a = append-nil _
   emitted_one (idles pos) at next a = append-nil _
   emitted_one (assigns pos r e) at next a = append-nil _
   emitted_one (puts pos t) at next a = append-nil _
 
   -- the place behind a step
-  behind_one : (s : Simple) (at next : ℕ) (a : Around) → HasAt lines at (stmt_code (stmt_of s) at next a) → F (suc at) ≡ F at + step_size s
+  behind_one : (s : Simple) (at next : ℕ) (a : Around) → HasAt lines at (statement_code (statement_of s) at next a) → F (suc at) ≡ F at + step_size s
   behind_one (declares pos e) at next a h = next_offset lines at _ h.rest h.is
   behind_one (idles pos) at next a h = next_offset lines at _ h.rest h.is
   behind_one (assigns pos r e) at next a h = next_offset lines at _ h.rest h.is
   behind_one (puts pos t) at next a h = next_offset lines at _ h.rest h.is
 
   -- one step, and those behind it
-  split : (s : Simple) (y : Stmt) (at next : ℕ) (a : Around) → stmt_code (sequence (stmt_of s) y) at next a ≡ stmt_code (stmt_of s) at (at + 1) a ++ stmt_code y (at + 1) next a
+  split : (s : Simple) (y : Statement) (at next : ℕ) (a : Around) → statement_code (sequence (statement_of s) y) at next a ≡ statement_code (statement_of s) at (at + 1) a ++ statement_code y (at + 1) next a
   split (declares pos e) y at next a = refl
   split (idles pos) y at next a = refl
   split (assigns pos r e) y at next a = refl
   split (puts pos t) y at next a = refl
 
-  one_line : (s : Simple) (at next : ℕ) (a : Around) → length (stmt_code (stmt_of s) at next a) ≡ 1
+  one_line : (s : Simple) (at next : ℕ) (a : Around) → length (statement_code (statement_of s) at next a) ≡ 1
   one_line (declares pos e) at next a = refl
   one_line (idles pos) at next a = refl
   one_line (assigns pos r e) at next a = refl
   one_line (puts pos t) at next a = refl
 
-  pub emitted : (s : Simple) (ss : List Simple) (at next : ℕ) (a : Around) → HasAt lines at (stmt_code (in_order s ss) at next a) → assembled_from F (stmt_code (in_order s ss) at next a) ≡ steps_from s ss (F a.out) (F next) (F at)
+  pub emitted : (s : Simple) (ss : List Simple) (at next : ℕ) (a : Around) → HasAt lines at (statement_code (in_order s ss) at next a) → assembled_from F (statement_code (in_order s ss) at next a) ≡ steps_from s ss (F a.out) (F next) (F at)
   emitted s [] at next a h = emitted_one s at next a
   emitted s (t ∷ ts) at next a h =
-      let x = stmt_code (stmt_of s) at (at + 1) a in
-      let y = stmt_code (in_order t ts) (at + 1) next a in
+      let x = statement_code (statement_of s) at (at + 1) a in
+      let y = statement_code (in_order t ts) (at + 1) next a in
       let both : HasAt lines at (x ++ y) = subst (λ ls. HasAt lines at ls) (split s (in_order t ts) at next a) h in
       let first : F (at + 1) ≡ F at + step_size s = ap F (omega arith) ∙ behind_one s at (at + 1) a (has_front lines at x y both) in
       ap (assembled_from F) (split s (in_order t ts) at next a)
@@ -66,13 +66,13 @@ module _ (lines : List Line) where
       ∙ ap (λ ls. step_to s (F a.out) (F (at + 1)) ++ ls) (emitted t ts (at + 1) next a (has_back lines at 1 x y (one_line s at (at + 1) a) both))
       ∙ ap (λ p. step_to s (F a.out) p ++ steps_from t ts (F a.out) (F next) p) first
 
-one_size : (s : Simple) (e : ℕ) → stmt_size (stmt_of s) e ≡ 1
+one_size : (s : Simple) (e : ℕ) → statement_size (statement_of s) e ≡ 1
 one_size (declares at x) e = refl
 one_size (idles at) e = refl
 one_size (assigns at r x) e = refl
 one_size (puts at t) e = refl
 
-size_in : (s : Simple) (ss : List Simple) (e : ℕ) → stmt_size (in_order s ss) e ≡ length (s ∷ ss)
+size_in : (s : Simple) (ss : List Simple) (e : ℕ) → statement_size (in_order s ss) e ≡ length (s ∷ ss)
 size_in s [] e = one_size s e
 size_in s (t ∷ ts) e = omega (arith, one_size s e, size_in t ts e)
 
@@ -84,14 +84,14 @@ module _ (lines : List Line) where
   abbrev G : ℕ → ℕ
   G = offset lines
 
-  behind_all : (s : Simple) (ss : List Simple) (at next : ℕ) (a : Around) → HasAt lines at (stmt_code (in_order s ss) at next a) → G (at + length (s ∷ ss)) ≡ G at + steps_size (s ∷ ss)
+  behind_all : (s : Simple) (ss : List Simple) (at next : ℕ) (a : Around) → HasAt lines at (statement_code (in_order s ss) at next a) → G (at + length (s ∷ ss)) ≡ G at + steps_size (s ∷ ss)
   behind_all s [] at next a h =
       let same : at + length (s ∷ []) ≡ suc at = omega arith in
       let one = behind_one lines s at next a h in
       omega (arith, ap G same, one)
   behind_all s (t ∷ ts) at next a h =
-      let x = stmt_code (stmt_of s) at (at + 1) a in
-      let y = stmt_code (in_order t ts) (at + 1) next a in
+      let x = statement_code (statement_of s) at (at + 1) a in
+      let y = statement_code (in_order t ts) (at + 1) next a in
       let both : HasAt lines at (x ++ y) = subst (λ ls. HasAt lines at ls) (split lines s (in_order t ts) at next a) h in
       let one : G (at + 1) ≡ G at + step_size s = ap G (omega arith) ∙ behind_one lines s at (at + 1) a (has_front lines at x y both) in
       let more = behind_all t ts (at + 1) next a (has_back lines at 1 x y (one_line lines s at (at + 1) a) both) in
@@ -111,15 +111,15 @@ module _ (lines : List Line) where
     body_emitted at h =
         let m = in_order s ss in
         let first = at + part_size (part_in ds) 1 in
-        let guard = first + stmt_size m 1 in
+        let guard = first + statement_size m 1 in
         let last = first + main_size m no_handlers 1 in
         let a = in_call last in
         let x1 = part_code (part_in ds) at first (around_out last a) in
-        let x2 = stmt_code m first last (around_out guard a) in
+        let x2 = statement_code m first last (around_out guard a) in
         let g = guard_line no_handlers pos (suc guard) last 1 in
         let e = end_line construct.Unit pos 0 last in
         let h2 : HasAt lines first (x2 ++ (g ∷ e ∷ [])) = has_back lines at (part_size (part_in ds) 1) x1 _ (length-part (part_in ds) at first (around_out last a)) h in
-        let h3 : HasAt lines guard (g ∷ e ∷ []) = has_back lines first (stmt_size m 1) x2 _ (length-stmt m first last (around_out guard a)) h2 in
+        let h3 : HasAt lines guard (g ∷ e ∷ []) = has_back lines first (statement_size m 1) x2 _ (length-statement m first last (around_out guard a)) h2 in
         let h1 : HasAt lines at x1 = has_front lines at x1 (x2 ++ (g ∷ e ∷ [])) h in
         let firsts : first ≡ at + length ds = omega (arith, part_size_in ds 1) in
         let guards : guard ≡ first + length (s ∷ ss) = omega (arith, size_in s ss 1) in
@@ -141,15 +141,15 @@ module _ (lines : List Line) where
     body_behind at h =
         let m = in_order s ss in
         let first = at + part_size (part_in ds) 1 in
-        let guard = first + stmt_size m 1 in
+        let guard = first + statement_size m 1 in
         let last = first + main_size m no_handlers 1 in
         let a = in_call last in
         let x1 = part_code (part_in ds) at first (around_out last a) in
-        let x2 = stmt_code m first last (around_out guard a) in
+        let x2 = statement_code m first last (around_out guard a) in
         let g = guard_line no_handlers pos (suc guard) last 1 in
         let e = end_line construct.Unit pos 0 last in
         let h2 : HasAt lines first (x2 ++ (g ∷ e ∷ [])) = has_back lines at (part_size (part_in ds) 1) x1 _ (length-part (part_in ds) at first (around_out last a)) h in
-        let h3 : HasAt lines guard (g ∷ e ∷ []) = has_back lines first (stmt_size m 1) x2 _ (length-stmt m first last (around_out guard a)) h2 in
+        let h3 : HasAt lines guard (g ∷ e ∷ []) = has_back lines first (statement_size m 1) x2 _ (length-statement m first last (around_out guard a)) h2 in
         let h4 : HasAt lines (suc guard) (e ∷ []) = has_tail lines guard g (e ∷ []) h3 in
         let h1 : HasAt lines at x1 = has_front lines at x1 (x2 ++ (g ∷ e ∷ [])) h in
         let firsts : first ≡ at + length ds = omega (arith, part_size_in ds 1) in

@@ -4,9 +4,9 @@ use Rattle.aud_typed.specs.Tree.{Body, Program}
 use Rattle.aud_gen.specs.Layout.{What, does, continues, guards, ends, leaves, Line, body_size, unit_code, units_code, starts_from, spare_from, code_of}
 use Rattle.aud_code.specs.Places.{Way, Guard}
 use Rattle.aud_gen.proofs.Standing.Places.{length-unit}
-use Rattle.aud_code.specs.Instr.{Instr}
-use Rattle.aud_code.specs.Flat.{EndLine, FlatLine, op, end}
-use Rattle.aud_gen.specs.Assembly.{offset, guard_moved, last_by, way_moved, end_line, instrs_by, assembled_from, flat_program}
+use Rattle.aud_code.specs.Instruction.{Instruction}
+use Rattle.aud_code.specs.Flat.{EndLine, FlatLine, instructs, end}
+use Rattle.aud_gen.specs.Assembly.{offset, guard_moved, last_by, way_moved, end_line, instructions_by, assembled_from, flat_program}
 use Rattle.aud_code.specs.Sound.{IsStart, EachStart, WayStart, GuardsStart, LastLeads, Leads, IsSound}
 use Rattle.aud_gen.proofs.Flat.Starting.{starts_fine}
 use Rattle.aud_gen.proofs.Flat.Within.{PlacesIn, WayIn, GuardsIn, WhatIn, LineIn, LinesIn}
@@ -14,12 +14,12 @@ use Rattle.aud_gen.proofs.Flat.Beginning.{places_within, begins}
 
 abbrev IsEnd : Option FlatLine → Type 0
 IsEnd None = ⊥
-IsEnd (Some (op i)) = ⊥
+IsEnd (Some (instructs i)) = ⊥
 IsEnd (Some (end l)) = Unit {0}
 
 abbrev end_or : EndLine → Option FlatLine → EndLine
 end_or d None = d
-end_or d (Some (op i)) = d
+end_or d (Some (instructs i)) = d
 end_or d (Some (end l)) = l
 
 module _ (f : ℕ → ℕ) (T : ℕ) (X : List FlatLine) (start : (n : ℕ) → n ≤ T → IsStart X (f n)) where
@@ -45,7 +45,7 @@ module _ (f : ℕ → ℕ) (T : ℕ) (X : List FlatLine) (start : (n : ℕ) → 
   line_leads : (l : Line) → LineIn T l → Leads X (end_line f l)
   line_leads l h = record { out = start l.out h.out; ways = each l.ways h.ways; bodies = each l.bodies h.bodies; exit = way l.exit h.exit; last = lasts l.what h.what }
 
-  among : (is : List Instr) (e : EndLine) (rest : List FlatLine) (n : ℕ) → Leads X e → ((m : ℕ) (l : EndLine) → slice_get rest m ≡ Some (end l) → Leads X l) → (l : EndLine) → slice_get ((map op is ++ end e ∷ []) ++ rest) n ≡ Some (end l) → Leads X l
+  among : (is : List Instruction) (e : EndLine) (rest : List FlatLine) (n : ℕ) → Leads X e → ((m : ℕ) (l : EndLine) → slice_get rest m ≡ Some (end l) → Leads X l) → (l : EndLine) → slice_get ((map instructs is ++ end e ∷ []) ++ rest) n ≡ Some (end l) → Leads X l
   among [] e rest zero h more l g = subst (Leads X) (ap (end_or e) g) h
   among [] e rest (suc n) h more l g = more n l g
   among (i ∷ is) e rest zero h more l g = absurd (subst IsEnd (sym g) tt)
@@ -54,7 +54,7 @@ module _ (f : ℕ → ℕ) (T : ℕ) (X : List FlatLine) (start : (n : ℕ) → 
   leads_in : (ls : List Line) → LinesIn T ls → (n : ℕ) (l : EndLine) → slice_get (assembled_from f ls) n ≡ Some (end l) → Leads X l
   leads_in [] h zero l g = absurd (subst IsEnd (sym g) tt)
   leads_in [] h (suc n) l g = absurd (subst IsEnd (sym g) tt)
-  leads_in (x ∷ ls) h n l g = among (instrs_by x.what) (end_line f x) (assembled_from f ls) n (line_leads x h.0) (λ m k e. leads_in ls h.1 m k e) l g
+  leads_in (x ∷ ls) h n l g = among (instructions_by x.what) (end_line f x) (assembled_from f ls) n (line_leads x h.0) (λ m k e. leads_in ls h.1 m k e) l g
 
 starts_in : (T : ℕ) (bs : List Body) (at : ℕ) → at + length (units_code bs at) ≤ T → PlacesIn T (starts_from bs at)
 starts_in T [] at h = tt

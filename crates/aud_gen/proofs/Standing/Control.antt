@@ -2,25 +2,25 @@
 use Rattle.std.proofs.Common.{◌≡◌, ℕ, suc, ◌+◌, List, [], ◌∷◌, ◌++◌, length, le_refl, inr, refl, sym, subst, arith, append_assoc, append-nil, Option}
 use Rattle.std.proofs.lemmas.List.{get_or_past}
 use Rattle.aud_text.specs.declared.place.Pos.{Pos}
-use Rattle.aud_typed.specs.Tree.{Stmt, sequence, declare, declare_array, declare_tasks, declare_object, activated, activate, null, assign, put, if_then, plain_loop, while_loop, for_loop, exit, return, return_value, raising, raising_again, block, procedure_call, own_entry_call, operation_call, entry_call, delay, accept, select, abort, Part, nothing, some, Handlers, Body, body, Doing, without_do, with_do}
+use Rattle.aud_typed.specs.Tree.{Statement, sequence, declare, declare_array, declare_tasks, declare_object, activated, activate, null, assign, put, if_then, plain_loop, while_loop, for_loop, exit, return, return_value, raising, raising_again, block, procedure_call, own_entry_call, operation_call, entry_call, delay, accept, select, abort, Part, nothing, some, Handlers, Body, body, Doing, without_do, with_do}
 use Rattle.aud_meaning.specs.declared.state.Construct.{Construct}
 use Rattle.aud_meaning.specs.declared.state.Construct.TheVariants as construct
 use Rattle.aud_meaning.specs.Configuration.{Item, Do, InLoop, InFor, Begin, Ends, Leaving}
 use Rattle.aud_meaning.specs.Items.{entered, resumed, before, body_before, doing_by}
 use Rattle.aud_code.specs.Places.{Way, Spot}
-use Rattle.aud_gen.specs.Layout.{Line, Around, in_loop, in_call, around_out, ways_count, stmt_size, part_size, handlers_size, main_size, end_place, end_line, guard_line, line, stmt_code, part_code, part_place, doing_place, handlers_code, body_code, main_code, doing_code, Code, no_line}
+use Rattle.aud_gen.specs.Layout.{Line, Around, in_loop, in_call, around_out, ways_count, statement_size, part_size, handlers_size, main_size, end_place, end_line, guard_line, line, statement_code, part_code, part_place, doing_place, handlers_code, body_code, main_code, doing_code, Code, no_line}
 use Rattle.aud_gen.specs.Shows.{HasAt, IsStep, EndsAt, Stands, ShowsControl}
-use Rattle.aud_gen.proofs.Standing.Places.{has_front, has_back, has_tail, has_moved, has_same, length-stmt, length-part, length-handlers}
+use Rattle.aud_gen.proofs.Standing.Places.{has_front, has_back, has_tail, has_moved, has_same, length-statement, length-part, length-handlers}
 
 -- the line of a step says what it is and where its exceptions go
-pub record First (s : Stmt) (place next : ℕ) (a : Around) : Type 0 where
+pub record First (s : Statement) (place next : ℕ) (a : Around) : Type 0 where
   pub ways : List ℕ
   pub bodies : List ℕ
   pub out : Option Way
   pub more : List Line
-  pub is : stmt_code s place next a ≡ line s ways bodies out a ∷ more
+  pub is : statement_code s place next a ≡ line s ways bodies out a ∷ more
 
-pub first : (s : Stmt) (place next : ℕ) (a : Around) → IsStep s → First s place next a
+pub first : (s : Statement) (place next : ℕ) (a : Around) → IsStep s → First s place next a
 first (sequence x y) place next a is = absurd is
 first (plain_loop x) place next a is = absurd is
 first (declare pos e) place next a is = record { ways = _; bodies = _; out = _; more = _; is = refl }
@@ -59,17 +59,17 @@ module _ (code : Code) where
   shown_none = record { around = in_call (length code.lines); stands = (get_or_past code.lines (length code.lines) (no_line (length code.lines)) (le_refl (length code.lines)), refl, refl); settled = tt }
 
   module _ (returns : List ℕ) where
-    comes_first : (s : Stmt) (around : Around) (place next : ℕ) (rest : List Item) → IsStep s → HasAt code.lines place (stmt_code s place next around) → Stands code around next returns rest → ShowsControl code (at_place place returns) (Do s ∷ rest)
+    comes_first : (s : Statement) (around : Around) (place next : ℕ) (rest : List Item) → IsStep s → HasAt code.lines place (statement_code s place next around) → Stands code around next returns rest → ShowsControl code (at_place place returns) (Do s ∷ rest)
     comes_first s around place next rest is has st = record { around = around; stands = (next, has, st); settled = is }
 
     -- a statement is entered without a step
-    pub enters : (s : Stmt) (around : Around) (place next : ℕ) (rest : List Item) → HasAt code.lines place (stmt_code s place next around) → Stands code around next returns rest → ShowsControl code (at_place place returns) (entered s rest)
+    pub enters : (s : Statement) (around : Around) (place next : ℕ) (rest : List Item) → HasAt code.lines place (statement_code s place next around) → Stands code around next returns rest → ShowsControl code (at_place place returns) (entered s rest)
     enters (sequence x y) around place next rest has st =
-        let size = stmt_size x (ways_count around) in
+        let size = statement_size x (ways_count around) in
         let middle = place + size in
-        let cx = stmt_code x place middle around in
-        let cy = stmt_code y middle next around in
-        enters x around place middle (Do y ∷ rest) (has_front code.lines place cx cy has) (next, has_back code.lines place size cx cy (length-stmt x place middle around) has, st)
+        let cx = statement_code x place middle around in
+        let cy = statement_code y middle next around in
+        enters x around place middle (Do y ∷ rest) (has_front code.lines place cx cy has) (next, has_back code.lines place size cx cy (length-statement x place middle around) has, st)
     enters (plain_loop x) around place next rest has st = enters x (in_loop next around) place place (InLoop (plain_loop x) ∷ rest) has (next, around, refl, has, st)
     enters (declare pos e) around place next rest has st = comes_first (declare pos e) around place next rest tt has st
     enters (declare_array pos t n) around place next rest has st = comes_first (declare_array pos t n) around place next rest tt has st
@@ -99,16 +99,16 @@ module _ (code : Code) where
     enters (abort pos ns) around place next rest has st = comes_first (abort pos ns) around place next rest tt has st
 
     -- the statements of a construct, whose end stands behind them
-    pub main_stands : (c : Construct) (s : Stmt) (h : Handlers) (end : Pos) (around : Around) (place next out : ℕ) (rest : List Item) → HasAt code.lines place (main_code c s h end place next out around) → EndsAt c (λ a p rs. Stands code a p rs rest) code end around.exits around.back (place + main_size s h (ways_count around)) returns rest → ShowsControl code (at_place place returns) (entered s (Ends c h end ∷ rest))
+    pub main_stands : (c : Construct) (s : Statement) (h : Handlers) (end : Pos) (around : Around) (place next out : ℕ) (rest : List Item) → HasAt code.lines place (main_code c s h end place next out around) → EndsAt c (λ a p rs. Stands code a p rs rest) code end around.exits around.back (place + main_size s h (ways_count around)) returns rest → ShowsControl code (at_place place returns) (entered s (Ends c h end ∷ rest))
     main_stands c s h end around place next out rest has ends =
         let e = ways_count around in
-        let size = stmt_size s e in
+        let size = statement_size s e in
         let guard = place + size in
         let last = place + main_size s h e in
-        let cs = stmt_code s place last (around_out guard around) in
+        let cs = statement_code s place last (around_out guard around) in
         let ch = handlers_code h (suc guard) last (around_out last around) in
         let g = guard_line h end (suc guard) last e in
-        let hs : HasAt code.lines guard (g ∷ ch) = has_front code.lines guard (g ∷ ch) (end_line c end next out ∷ []) (has_back code.lines place size cs (g ∷ (ch ++ end_line c end next out ∷ [])) (length-stmt s place last (around_out guard around)) has) in
+        let hs : HasAt code.lines guard (g ∷ ch) = has_front code.lines guard (g ∷ ch) (end_line c end next out ∷ []) (has_back code.lines place size cs (g ∷ (ch ++ end_line c end next out ∷ [])) (length-statement s place last (around_out guard around)) has) in
         enters s (around_out guard around) place last (Ends c h end ∷ rest) (has_front code.lines place cs (g ∷ (ch ++ end_line c end next out ∷ [])) has) (inr hs, ends)
 
     -- what is no step is passed
@@ -133,13 +133,13 @@ module _ (code : Code) where
         subst (λ p. ShowsControl code (at_place p returns) (entered s (Ends c h end ∷ rest))) zero_more (main_stands c s h end around (place + 0) next out rest moved ends)
     body_stands c (body (some d) begin s h end) around place next out rest has ends =
         let e = ways_count around in
-        let size = stmt_size d e in
+        let size = statement_size d e in
         let middle = place + size in
         let last = middle + main_size s h e in
-        let cd = stmt_code d place middle (around_out last around) in
+        let cd = statement_code d place middle (around_out last around) in
         let cm = main_code c s h end middle next out around in
         enters d (around_out last around) place middle (Begin c s h end ∷ rest) (has_front code.lines place cd cm has)
-        (next, out, refl, has_back code.lines place size cd cm (length-stmt d place middle (around_out last around)) has, ends)
+        (next, out, refl, has_back code.lines place size cd cm (length-statement d place middle (around_out last around)) has, ends)
 
     -- a part that may be missing, and what follows
     pub before_stands : (p : Part) (around : Around) (place next : ℕ) (rest : List Item) → HasAt code.lines place (part_code p place next around) → Stands code around next returns rest → Stands code around (part_place p place next) returns (before p rest)
@@ -150,21 +150,21 @@ module _ (code : Code) where
     part_stands p around place next rest has st = resumes (before p rest) around (part_place p place next) (before_stands p around place next rest has st)
 
   -- the end of a construct, and what stands behind it
-  pub has_end : (c : Construct) (d : Part) (begin : Pos) (s : Stmt) (h : Handlers) (end : Pos) (place next out : ℕ) (a : Around) (more : List Line) → HasAt code.lines place (body_code c (body d begin s h end) place next out a ++ more) → HasAt code.lines (end_place (body d begin s h end) place (ways_count a)) (end_line c end next out ∷ more)
+  pub has_end : (c : Construct) (d : Part) (begin : Pos) (s : Statement) (h : Handlers) (end : Pos) (place next out : ℕ) (a : Around) (more : List Line) → HasAt code.lines place (body_code c (body d begin s h end) place next out a ++ more) → HasAt code.lines (end_place (body d begin s h end) place (ways_count a)) (end_line c end next out ∷ more)
   has_end c d begin s h end place next out a more has =
       let e = ways_count a in
       let middle = place + part_size d e in
-      let guard = middle + stmt_size s e in
+      let guard = middle + statement_size s e in
       let last = middle + main_size s h e in
       let cd = part_code d place middle (around_out last a) in
-      let cs = stmt_code s middle last (around_out guard a) in
+      let cs = statement_code s middle last (around_out guard a) in
       let ch = handlers_code h (suc guard) last (around_out last a) in
       let g = guard_line h end (suc guard) last e in
       let l = end_line c end next out in
       let one = has_same code.lines place _ _ (append_assoc cd (cs ++ (g ∷ (ch ++ l ∷ []))) more) has in
       let two = has_back code.lines place (part_size d e) cd ((cs ++ (g ∷ (ch ++ l ∷ []))) ++ more) (length-part d place middle (around_out last a)) one in
       let three = has_same code.lines middle _ _ (append_assoc cs (g ∷ (ch ++ l ∷ [])) more) two in
-      let four = has_back code.lines middle (stmt_size s e) cs (g ∷ ((ch ++ l ∷ []) ++ more)) (length-stmt s middle last (around_out guard a)) three in
+      let four = has_back code.lines middle (statement_size s e) cs (g ∷ ((ch ++ l ∷ []) ++ more)) (length-statement s middle last (around_out guard a)) three in
       let five = has_tail code.lines guard g ((ch ++ l ∷ []) ++ more) four in
       let six = has_same code.lines (suc guard) _ _ (append_assoc ch (l ∷ []) more) five in
       let seven = has_back code.lines (suc guard) (handlers_size h e) ch (l ∷ more) (length-handlers h (suc guard) last (around_out last a)) six in

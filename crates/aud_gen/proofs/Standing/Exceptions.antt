@@ -2,15 +2,15 @@
 use Rattle.std.proofs.Common.{◌≡◌, ℕ, suc, ◌+◌, List, [], ◌∷◌, inl, inr, refl, sym, ap, ◌∙◌, subst, Option, Some, None, Bool, true, false, ◌||◌, if◌then◌else◌}
 use Rattle.aud_text.specs.declared.place.Pos.{Pos}
 use Rattle.aud_typed.specs.declared.program.Exception.{Exception}
-use Rattle.aud_typed.specs.Tree.{Stmt, Part, nothing, some, Handlers, no_handlers, handler}
+use Rattle.aud_typed.specs.Tree.{Statement, Part, nothing, some, Handlers, no_handlers, handler}
 use Rattle.aud_meaning.specs.declared.state.Construct.{Construct}
 use Rattle.aud_meaning.specs.declared.state.Construct.TheVariants as construct
 use Rattle.aud_meaning.specs.Configuration.{Item, Do, InLoop, InFor, Begin, Ends, Leaving}
 use Rattle.aud_meaning.specs.Items.{entered, place, nowhere, names_it, handler_for, Reached, reached, reached_behind, reached_at, is_some_part, handling_by, left_from}
-use Rattle.aud_gen.specs.Layout.{ends, guards_of, handler_by, end_by, out_of_end, left_by, Line, Around, around_out, ways_count, stmt_size, end_line, stub_line, guard_line, stmt_code, handlers_code, Code, no_line, line_at, back_to}
+use Rattle.aud_gen.specs.Layout.{ends, guards_of, handler_by, end_by, out_of_end, left_by, Line, Around, around_out, ways_count, statement_size, end_line, stub_line, guard_line, statement_code, handlers_code, Code, no_line, line_at, back_to}
 use Rattle.aud_code.specs.Places.{guarded, is_there, Way, Spot, goes, goes_there}
 use Rattle.aud_gen.specs.Shows.{HasAt, IsSettled, HandlersAt, EndsAt, Stands, ShowsControl}
-use Rattle.aud_gen.proofs.Standing.Places.{has_front, has_back, has_tail, line_is, length-stmt}
+use Rattle.aud_gen.proofs.Standing.Places.{has_front, has_back, has_tail, line_is, length-statement}
 use Rattle.aud_gen.proofs.Standing.Orders.{step_line}
 use Rattle.aud_gen.proofs.Standing.Items.{end_is, for_is, callers_shown}
 use Rattle.aud_gen.proofs.Standing.Control.{first, at_place, shown_none, enters}
@@ -44,19 +44,19 @@ module _ (code : Code) where
       pub catches : Catches r.handler (handler_by (line_at code out).what x) r.from
       pub left : (p : ℕ) → ShowsControl code (left_by code out (at_place code p returns)) (left_from r.from)
 
-    catches_if : (b : Bool) (s : Stmt) (at : ℕ) (p : Part) (w : Option ℕ) (from : List Item) → Catches (some s) (Some at) from → Catches p w from → Catches (if b then some s else p) (if b then Some at else w) from
+    catches_if : (b : Bool) (s : Statement) (at : ℕ) (p : Part) (w : Option ℕ) (from : List Item) → Catches (some s) (Some at) from → Catches p w from → Catches (if b then some s else p) (if b then Some at else w) from
     catches_if true s at p w from g h = g
     catches_if false s at p w from g h = h
 
     catches_in : (x : Exception) (h : Handlers) (around : Around) (at last : ℕ) (from : List Item) → HasAt code.lines at (handlers_code h at last around) → Stands code around last returns from → Catches (handler_for x h) (guarded x (guards_of h at (ways_count around))) from
     catches_in x no_handlers around at last from has st = tt
     catches_in x (handler others choices s more) around at last from has st =
-        let size = stmt_size s (ways_count around) in
-        let cs = stmt_code s at last around in
+        let size = statement_size s (ways_count around) in
+        let cs = statement_code s at last around in
         let cm = handlers_code more (at + size) last around in
         catches_if (others || names_it x choices) s at (handler_for x more) (guarded x (guards_of more (at + size) (ways_count around))) from
         (enters code returns s around at last from (has_front code.lines at cs cm has) st)
-        (catches_in x more around (at + size) last from (has_back code.lines at size cs cm (length-stmt s at last around) has) st)
+        (catches_in x more around (at + size) last from (has_back code.lines at size cs cm (length-statement s at last around) has) st)
 
     -- out of a construct
     end_shown : (c : Construct) (end : Pos) (exits : List Way) (back : Way) (next place : ℕ) (rest : List Item) (p : ℕ) → EndsAt c (λ a p rs. Stands code a p rs rest) code end exits back place returns rest → ShowsControl code (out_of_end code (ends c next) place (at_place code p returns)) (left_from (Ends c no_handlers end ∷ rest))

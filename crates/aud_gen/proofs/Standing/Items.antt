@@ -1,14 +1,14 @@
 -- What is read and ordered at each item.
 use Rattle.std.proofs.Common.{◌≡◌, ℕ, zero, suc, ◌+◌, List, [], ◌∷◌, ◌++◌, refl, sym, ap, ◌∙◌, subst, None, false}
 use Rattle.aud_text.specs.declared.place.Pos.{Pos}
-use Rattle.aud_typed.specs.Tree.{IntegerExpr, For, Stmt, sequence, declare, declare_array, declare_tasks, declare_object, activated, activate, null, assign, put, if_then, plain_loop, while_loop, for_loop, exit, return, return_value, raising, raising_again, block, procedure_call, own_entry_call, operation_call, entry_call, delay, accept, select, abort, Handlers, Program}
+use Rattle.aud_typed.specs.Tree.{IntegerExpression, For, Statement, sequence, declare, declare_array, declare_tasks, declare_object, activated, activate, null, assign, put, if_then, plain_loop, while_loop, for_loop, exit, return, return_value, raising, raising_again, block, procedure_call, own_entry_call, operation_call, entry_call, delay, accept, select, abort, Handlers, Program}
 use Rattle.aud_meaning.specs.declared.state.Construct.{Construct}
 use Rattle.aud_meaning.specs.declared.state.Construct.TheVariants as construct
 use Rattle.aud_meaning.specs.Configuration.{Item, Do, InLoop, InFor, Begin, Ends, Leaving}
 use Rattle.aud_meaning.specs.Evaluation.{Sight}
 use Rattle.aud_meaning.specs.Control.{Scene, next_of_loop}
-use Rattle.aud_meaning.specs.Items.{entered, resumed, doing_by, ended, takes, takes_next, accepts, accepts_by, accepts_offer, offer_at, place, nowhere, next_at, loops_out, out_from, asked_stmt, next_asked, asked_item, coming_item}
-use Rattle.aud_gen.specs.Layout.{continues, asked_by, coming_by, Line, Around, in_for, ways_count, offered_size, end_line, stmt_code, part_code, offered_code, Code, line_at, back_to, ended_by}
+use Rattle.aud_meaning.specs.Items.{entered, resumed, doing_by, ended, takes, takes_next, accepts, accepts_by, accepts_offer, offer_at, place, nowhere, next_at, loops_out, out_from, asked_statement, next_asked, asked_item, coming_item}
+use Rattle.aud_gen.specs.Layout.{continues, asked_by, coming_by, Line, Around, in_for, ways_count, offered_size, end_line, statement_code, part_code, offered_code, Code, line_at, back_to, ended_by}
 use Rattle.aud_code.specs.Places.{Way}
 use Rattle.aud_gen.specs.Shows.{HasAt, IsStep, IsSettled, IsFor, Callers, EndsAt, Stands, ShowsControl}
 use Rattle.aud_gen.proofs.Standing.Places.{has_front, has_tail, line_is}
@@ -16,7 +16,7 @@ use Rattle.aud_gen.proofs.Standing.Orders.{step_line, Leads, offers_do, takes_do
 use Rattle.aud_gen.proofs.Standing.Control.{first, at_place, shown_none, enters, resumes, doing_stands}
 
 -- the end of a for loop's statements is that of a for loop
-pub for_by : (P : Stmt → Type 0) → ((f : For) (x y : IntegerExpr) (b : Stmt) → P (for_loop f x y b)) → (s : Stmt) → IsFor s → P s
+pub for_by : (P : Statement → Type 0) → ((f : For) (x y : IntegerExpression) (b : Statement) → P (for_loop f x y b)) → (s : Statement) → IsFor s → P s
 for_by P go (sequence x y) is = absurd is
 for_by P go (plain_loop x) is = absurd is
 for_by P go (declare pos e) is = absurd is
@@ -49,14 +49,14 @@ for_by P go (abort pos ns) is = absurd is
 abbrev pub no_for : For
 no_for = record { at = nowhere; next_at = nowhere; region = 0; backward = false }
 
-abbrev pub for_of : Stmt → For
+abbrev pub for_of : Statement → For
 for_of (for_loop f x y b) = f
 for_of s = no_for
 
-next_asked_is : (s : Stmt) → IsFor s → next_asked s ≡ next_of_loop (for_of s)
+next_asked_is : (s : Statement) → IsFor s → next_asked s ≡ next_of_loop (for_of s)
 next_asked_is s is = for_by (λ s. next_asked s ≡ next_of_loop (for_of s)) (λ f x y b. refl) s is
 
-next_at_is : (s : Stmt) → IsFor s → next_at s ≡ (for_of s).next_at
+next_at_is : (s : Statement) → IsFor s → next_at s ≡ (for_of s).next_at
 next_at_is s is = for_by (λ s. next_at s ≡ (for_of s).next_at) (λ f x y b. refl) s is
 
 module _ (code : Code) where
@@ -64,16 +64,16 @@ module _ (code : Code) where
   abbrev pub next_line : For → ℕ → ℕ → Around → Line
   next_line f at next outer = record { what = continues f; at = f.next_at; out = outer.out; ways = next ∷ suc (suc at) ∷ []; bodies = []; exit = None }
 
-  pub for_is : (s : Stmt) (at next : ℕ) (outer : Around) → IsFor s → HasAt code.lines at (stmt_code s at next outer) → (f : For) × (line_at code (suc at) ≡ next_line f at next outer) × (f ≡ for_of s)
+  pub for_is : (s : Statement) (at next : ℕ) (outer : Around) → IsFor s → HasAt code.lines at (statement_code s at next outer) → (f : For) × (line_at code (suc at) ≡ next_line f at next outer) × (f ≡ for_of s)
   for_is s at next outer is has =
-      for_by (λ s. HasAt code.lines at (stmt_code s at next outer) → (f : For) × (line_at code (suc at) ≡ next_line f at next outer) × (f ≡ for_of s))
+      for_by (λ s. HasAt code.lines at (statement_code s at next outer) → (f : For) × (line_at code (suc at) ≡ next_line f at next outer) × (f ≡ for_of s))
       (λ f x y b h. (f, line_is code (suc at) _ _ (has_tail code.lines at _ _ h), refl)) s is has
 
   module _ (returns : List ℕ) where
     with_line : (P : Line → Type 0) (place : ℕ) (l : Line) → line_at code place ≡ l → P l → P (line_at code place)
     with_line P place l e h = subst P (sym e) h
 
-    takes_for : (f : For) (x y : IntegerExpr) (b : Stmt) (at next : ℕ) (outer : Around) (rest : List Item) → HasAt code.lines at (stmt_code (for_loop f x y b) at next outer) → Stands code outer next returns rest → (n : ℕ) → Leads code returns (suc at) (line_at code (suc at)).ways n (takes_next (for_loop f x y b) n rest)
+    takes_for : (f : For) (x y : IntegerExpression) (b : Statement) (at next : ℕ) (outer : Around) (rest : List Item) → HasAt code.lines at (statement_code (for_loop f x y b) at next outer) → Stands code outer next returns rest → (n : ℕ) → Leads code returns (suc at) (line_at code (suc at)).ways n (takes_next (for_loop f x y b) n rest)
     takes_for f x y b at next outer rest has st zero =
         with_line (λ l. Leads code returns (suc at) l.ways zero (resumed rest)) (suc at) _ (line_is code (suc at) _ _ (has_tail code.lines at _ _ has)) (resumes code returns rest outer next st)
     takes_for f x y b at next outer rest has st (suc zero) =
@@ -94,7 +94,7 @@ module _ (code : Code) where
     takes_at (Do s ∷ rest) around place st is n = takes_do code returns s around place st.0 rest is st.1 st.2 n
     takes_at (InLoop s ∷ rest) around place st is n = absurd is
     takes_at (InFor s ∷ rest) around place st is n =
-        for_by (λ s. HasAt code.lines st.2 (stmt_code s st.2 st.0 st.1) → Leads code returns place (line_at code place).ways n (takes_next s n rest))
+        for_by (λ s. HasAt code.lines st.2 (statement_code s st.2 st.0 st.1) → Leads code returns place (line_at code place).ways n (takes_next s n rest))
         (λ f x y b has. subst (λ p. Leads code returns p (line_at code p).ways n (takes_next (for_loop f x y b) n rest)) (sym st.3) (takes_for f x y b st.2 st.0 st.1 rest has st.7 n)) s st.5 st.6
     takes_at (Begin c s h end ∷ rest) around place st is n = absurd is
     takes_at (Ends c h end ∷ rest) around place st is n =
@@ -102,7 +102,7 @@ module _ (code : Code) where
         with_line (λ l. Leads code returns place l.ways n (Ends c h end ∷ rest)) place _ l.2 (record { around = around; stands = st; settled = tt })
     takes_at (Leaving m end ∷ rest) around place st is n = with_line (λ l. Leads code returns place l.ways n (Leaving m end ∷ rest)) place _ (line_is code place _ _ st.3) (record { around = around; stands = st; settled = tt })
 
-    accepts_do : (s : Stmt) (around : Around) (place next : ℕ) (rest : List Item) → IsStep s → HasAt code.lines place (stmt_code s place next around) → Stands code around next returns rest → (k : ℕ) → Leads code returns place (line_at code place).bodies k (accepts_by s k rest)
+    accepts_do : (s : Statement) (around : Around) (place next : ℕ) (rest : List Item) → IsStep s → HasAt code.lines place (statement_code s place next around) → Stands code around next returns rest → (k : ℕ) → Leads code returns place (line_at code place).bodies k (accepts_by s k rest)
     accepts_do (sequence x y) around place next rest is has st k = absurd is
     accepts_do (plain_loop x) around place next rest is has st k = absurd is
     accepts_do (declare pos e) around place next rest is has st k = with_line (λ l. Leads code returns place l.bodies k (Do (declare pos e) ∷ rest)) place _ (line_is code place _ _ has) (record { around = around; stands = (next, has, st); settled = tt })
@@ -195,7 +195,7 @@ module _ (code : Code) where
     pub reads_asked : (s : Scene) (n : ℕ) (items : List Item) (around : Around) (place : ℕ) → Stands code around place returns items → IsSettled items → n ≡ loops_out (out_from items) → asked_by (line_at code place).what n s ≡ asked_item items s
     reads_asked s n [] around place st is e = ap (λ (l : Line). asked_by l.what n s) st.0
     reads_asked s n (Do a ∷ rest) around place st is e =
-        ap (λ (l : Line). asked_by l.what n s) (step_line code a around place st.0 is st.1 (first a place st.0 around is)) ∙ ap (λ k. asked_stmt a k s) e
+        ap (λ (l : Line). asked_by l.what n s) (step_line code a around place st.0 is st.1 (first a place st.0 around is)) ∙ ap (λ k. asked_statement a k s) e
     reads_asked s n (InLoop a ∷ rest) around place st is e = absurd is
     reads_asked s n (InFor a ∷ rest) around place st is e =
         let l = for_is a st.2 st.0 st.1 st.5 st.6 in

@@ -1,18 +1,18 @@
 -- What orders do: wherever a task stands, its place in code and what it has left to do stay together.
 use Rattle.std.proofs.Common.{◌≡◌, ℕ, zero, suc, ◌+◌, List, [], ◌∷◌, ◌++◌, refl, sym, ap, subst, slice_get}
-use Rattle.aud_typed.specs.Tree.{Stmt, sequence, declare, declare_array, declare_tasks, declare_object, activated, activate, null, assign, put, if_then, plain_loop, while_loop, for_loop, exit, return, return_value, raising, raising_again, block, procedure_call, own_entry_call, operation_call, entry_call, delay, accept, select, abort, Body, body, Alternatives, no_alternatives, accepting, delaying, terminating}
+use Rattle.aud_typed.specs.Tree.{Statement, sequence, declare, declare_array, declare_tasks, declare_object, activated, activate, null, assign, put, if_then, plain_loop, while_loop, for_loop, exit, return, return_value, raising, raising_again, block, procedure_call, own_entry_call, operation_call, entry_call, delay, accept, select, abort, Body, body, Alternatives, no_alternatives, accepting, delaying, terminating}
 use Rattle.aud_meaning.specs.declared.state.Construct.TheVariants as construct
 use Rattle.aud_meaning.specs.Configuration.{Item, Do, InLoop, InFor}
 use Rattle.aud_meaning.specs.Items.{before, body_before, takes_by, follows, one_part, accepts_offer, part_in, offer_at, place}
 use Rattle.aud_code.specs.Places.{goes_there}
-use Rattle.aud_gen.specs.Layout.{Line, Around, in_loop, in_for, in_block, ways_count, stmt_size, part_size, doing_size, offered_size, end_place, end_line, stubs, stubs_of, line, stmt_code, part_code, part_place, parts_from, bodies_from, body_code, doing_code, offered_code, Code, line_at}
+use Rattle.aud_gen.specs.Layout.{Line, Around, in_loop, in_for, in_block, ways_count, statement_size, part_size, doing_size, offered_size, end_place, end_line, stubs, stubs_of, line, statement_code, part_code, part_place, parts_from, bodies_from, body_code, doing_code, offered_code, Code, line_at}
 use Rattle.aud_gen.specs.Shows.{HasAt, IsStep, EndsAt, Stands, ShowsControl}
-use Rattle.aud_gen.proofs.Standing.Places.{has_front, has_back, has_tail, has_moved, has_same, line_is, length-stmt, length-part, length-doing, length-offered, count-block}
+use Rattle.aud_gen.proofs.Standing.Places.{has_front, has_back, has_tail, has_moved, has_same, line_is, length-statement, length-part, length-doing, length-offered, count-block}
 use Rattle.aud_gen.proofs.Standing.Control.{First, at_place, enters, resumes, body_stands, before_stands, part_stands, has_end, doing_stands}
 
 module _ (code : Code) where
   -- the line where the next item stands
-  pub step_line : (s : Stmt) (around : Around) (place next : ℕ) → IsStep s → HasAt code.lines place (stmt_code s place next around) → (f : First s place next around) → line_at code place ≡ line s f.ways f.bodies f.out around
+  pub step_line : (s : Statement) (around : Around) (place next : ℕ) → IsStep s → HasAt code.lines place (statement_code s place next around) → (f : First s place next around) → line_at code place ≡ line s f.ways f.bodies f.out around
   step_line s around place next is has f = line_is code place (line s f.ways f.bodies f.out around) f.more (has_same code.lines place _ _ f.is has)
 
   -- in a block or a loop
@@ -34,12 +34,12 @@ module _ (code : Code) where
     Leads place ways n items = ShowsControl code (goes_there (slice_get ways n) (at_place code place returns)) items
 
     -- a statement with one way
-    one_way : (s : Stmt) (around : Around) (place next : ℕ) (rest : List Item) → IsStep s → HasAt code.lines place (stmt_code s place next around) → Stands code around next returns rest → (n : ℕ) → Leads place (next ∷ []) n (follows (one_part n) s rest)
+    one_way : (s : Statement) (around : Around) (place next : ℕ) (rest : List Item) → IsStep s → HasAt code.lines place (statement_code s place next around) → Stands code around next returns rest → (n : ℕ) → Leads place (next ∷ []) n (follows (one_part n) s rest)
     one_way s around place next rest is has st zero = resumes code returns rest around next st
     one_way s around place next rest is has st (suc n) = record { around = around; stands = (next, has, st); settled = is }
 
     -- what follows the alternatives of a selective accept
-    pub offers : (offered : Alternatives) (s : Stmt) (around : Around) (place at next : ℕ) (rest : List Item) → ShowsControl code (at_place code place returns) (Do s ∷ rest) → HasAt code.lines at (offered_code offered at next around) → Stands code around next returns rest → (n : ℕ) → Leads place (parts_from offered at next (ways_count around)) n (follows (part_in (offer_at offered n)) s rest)
+    pub offers : (offered : Alternatives) (s : Statement) (around : Around) (place at next : ℕ) (rest : List Item) → ShowsControl code (at_place code place returns) (Do s ∷ rest) → HasAt code.lines at (offered_code offered at next around) → Stands code around next returns rest → (n : ℕ) → Leads place (parts_from offered at next (ways_count around)) n (follows (part_in (offer_at offered n)) s rest)
     offers no_alternatives s around place at next rest all has st n = all
     offers (accepting g pos m d p more) s around place at next rest all has st zero =
         let after = at + doing_size d in
@@ -64,7 +64,7 @@ module _ (code : Code) where
     offers (terminating g more) s around place at next rest all has st (suc n) = offers more s around place at next rest all has st n
 
     -- what their accepts do
-    pub offers_do : (offered : Alternatives) (s : Stmt) (around : Around) (place at next : ℕ) (rest : List Item) → ShowsControl code (at_place code place returns) (Do s ∷ rest) → HasAt code.lines at (offered_code offered at next around) → Stands code around next returns rest → (n : ℕ) → Leads place (bodies_from offered at next (ways_count around)) n (accepts_offer (offer_at offered n) s rest)
+    pub offers_do : (offered : Alternatives) (s : Statement) (around : Around) (place at next : ℕ) (rest : List Item) → ShowsControl code (at_place code place returns) (Do s ∷ rest) → HasAt code.lines at (offered_code offered at next around) → Stands code around next returns rest → (n : ℕ) → Leads place (bodies_from offered at next (ways_count around)) n (accepts_offer (offer_at offered n) s rest)
     offers_do no_alternatives s around place at next rest all has st n = all
     offers_do (accepting g pos m d p more) s around place at next rest all has st zero =
         let after = at + doing_size d in
@@ -89,13 +89,13 @@ module _ (code : Code) where
     offers_do (terminating g more) s around place at next rest all has st zero = resumes code returns rest around next st
     offers_do (terminating g more) s around place at next rest all has st (suc n) = offers_do more s around place at next rest all has st n
 
-    abbrev pub Taken : Stmt → ℕ → List Item → ℕ → Type 0
+    abbrev pub Taken : Statement → ℕ → List Item → ℕ → Type 0
     Taken s place rest n = Leads place (line_at code place).ways n (takes_by s n rest)
 
     by_line : (place : ℕ) (l : Line) (n : ℕ) (items : List Item) → line_at code place ≡ l → Leads place l.ways n items → Leads place (line_at code place).ways n items
     by_line place l n items e h = subst (λ x. Leads place x.ways n items) (sym e) h
 
-    pub takes_do : (s : Stmt) (around : Around) (place next : ℕ) (rest : List Item) → IsStep s → HasAt code.lines place (stmt_code s place next around) → Stands code around next returns rest → (n : ℕ) → Taken s place rest n
+    pub takes_do : (s : Statement) (around : Around) (place next : ℕ) (rest : List Item) → IsStep s → HasAt code.lines place (statement_code s place next around) → Stands code around next returns rest → (n : ℕ) → Taken s place rest n
     takes_do (sequence x y) around place next rest is has st n = absurd is
     takes_do (plain_loop x) around place next rest is has st n = absurd is
     takes_do (declare pos e) around place next rest is has st way = by_line place _ way _ (line_is code place _ _ has) (one_way (declare pos e) around place next rest tt has st way)
@@ -119,14 +119,14 @@ module _ (code : Code) where
     takes_do (abort pos ns) around place next rest is has st way = by_line place _ way _ (line_is code place _ _ has) (one_way (abort pos ns) around place next rest tt has st way)
     takes_do (accept pos m d) around place next rest is has st way = by_line place _ way _ (line_is code place _ _ has) (one_way (accept pos m d) around place next rest tt has st way)
     takes_do (if_then pos c x p) around place next rest is has st zero =
-        let size = stmt_size x (ways_count around) in
+        let size = statement_size x (ways_count around) in
         let second = suc place + size in
-        let cx = stmt_code x (suc place) next around in
+        let cx = statement_code x (suc place) next around in
         let cp = part_code p second next around in
-        by_line place _ zero _ (line_is code place _ _ has) (part_stands code returns p around second next rest (has_back code.lines (suc place) size cx cp (length-stmt x (suc place) next around) (has_tail code.lines place _ (cx ++ cp) has)) st)
+        by_line place _ zero _ (line_is code place _ _ has) (part_stands code returns p around second next rest (has_back code.lines (suc place) size cx cp (length-statement x (suc place) next around) (has_tail code.lines place _ (cx ++ cp) has)) st)
     takes_do (if_then pos c x p) around place next rest is has st (suc zero) =
-        let second = suc place + stmt_size x (ways_count around) in
-        let cx = stmt_code x (suc place) next around in
+        let second = suc place + statement_size x (ways_count around) in
+        let cx = statement_code x (suc place) next around in
         let cp = part_code p second next around in
         by_line place _ 1 _ (line_is code place _ _ has) (enters code returns x around (suc place) next rest (has_front code.lines (suc place) cx cp (has_tail code.lines place _ (cx ++ cp) has)) st)
     takes_do (if_then pos c x p) around place next rest is has st (suc (suc n)) = by_line place _ (suc (suc n)) _ (line_is code place _ _ has) (record { around = around; stands = (next, has, st); settled = tt })

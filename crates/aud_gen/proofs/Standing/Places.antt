@@ -2,12 +2,12 @@
 use Rattle.std.proofs.Common.{◌≡◌, ℕ, zero, suc, ◌+◌, List, [], ◌∷◌, ◌++◌, length, drop, get_or, map, refl, sym, ap, ◌∙◌, subst, arith, append_assoc, append-nil, length-append}
 use Rattle.std.proofs.lemmas.List.{drop-drop, drop_at, get_or-drop}
 use Rattle.aud_text.specs.declared.place.Pos.{Pos}
-use Rattle.aud_typed.specs.Tree.{Stmt, sequence, declare, declare_array, declare_tasks, declare_object, activated, activate, null, assign, put, if_then, plain_loop, while_loop, for_loop, exit, return, return_value, raising, raising_again, block, procedure_call, own_entry_call, operation_call, entry_call, delay, accept, select, abort, Part, nothing, some, Handlers, no_handlers, handler, Body, body, Doing, without_do, with_do, Alternatives, no_alternatives, accepting, delaying, terminating, Program}
+use Rattle.aud_typed.specs.Tree.{Statement, sequence, declare, declare_array, declare_tasks, declare_object, activated, activate, null, assign, put, if_then, plain_loop, while_loop, for_loop, exit, return, return_value, raising, raising_again, block, procedure_call, own_entry_call, operation_call, entry_call, delay, accept, select, abort, Part, nothing, some, Handlers, no_handlers, handler, Body, body, Doing, without_do, with_do, Alternatives, no_alternatives, accepting, delaying, terminating, Program}
 use Rattle.aud_meaning.specs.declared.state.Construct.{Construct}
 use Rattle.aud_meaning.specs.declared.state.Construct.TheVariants as construct
 use Rattle.aud_meaning.specs.Items.{no_body}
 use Rattle.aud_code.specs.Places.{Way}
-use Rattle.aud_gen.specs.Layout.{Line, Around, in_loop, in_for, in_block, in_call, one_more, around_out, ways_count, stmt_size, part_size, handlers_size, body_size, doing_size, offered_size, main_size, end_place, stubs, stub_ways, stubs_of, end_line, guard_line, stmt_code, part_code, part_place, handlers_code, body_code, doing_code, offered_code, unit_code, units_code, starts_from, spare_from, Code, no_line, line_at, code_of}
+use Rattle.aud_gen.specs.Layout.{Line, Around, in_loop, in_for, in_block, in_call, one_more, around_out, ways_count, statement_size, part_size, handlers_size, body_size, doing_size, offered_size, main_size, end_place, stubs, stub_ways, stubs_of, end_line, guard_line, statement_code, part_code, part_place, handlers_code, body_code, doing_code, offered_code, unit_code, units_code, starts_from, spare_from, Code, no_line, line_at, code_of}
 use Rattle.aud_gen.specs.Shows.{HasAt, UnitsAt}
 
 pub has_front : (lines : List Line) (place : ℕ) (a b : List Line) → HasAt lines place (a ++ b) → HasAt lines place a
@@ -70,20 +70,20 @@ length_end : (a : List Line) (l : Line) (n : ℕ) → length a ≡ n → length 
 length_end a l n e = omega (arith, length-append a (l ∷ []))
 
 mutual
-  pub length-stmt : (s : Stmt) (at next : ℕ) (a : Around) → length (stmt_code s at next a) ≡ stmt_size s (ways_count a)
-  length-stmt (sequence x y) at next a =
-      let middle = at + stmt_size x (ways_count a) in
-      length_two (stmt_code x at middle a) (stmt_code y middle next a) _ _ (length-stmt x at middle a) (length-stmt y middle next a)
-  length-stmt (plain_loop x) at next a = length-stmt x at at (in_loop next a)
-  length-stmt (if_then pos c x p) at next a =
-      let second = suc at + stmt_size x (ways_count a) in
-      let n = length_two (stmt_code x (suc at) next a) (part_code p second next a) _ _ (length-stmt x (suc at) next a) (length-part p second next a) in
+  pub length-statement : (s : Statement) (at next : ℕ) (a : Around) → length (statement_code s at next a) ≡ statement_size s (ways_count a)
+  length-statement (sequence x y) at next a =
+      let middle = at + statement_size x (ways_count a) in
+      length_two (statement_code x at middle a) (statement_code y middle next a) _ _ (length-statement x at middle a) (length-statement y middle next a)
+  length-statement (plain_loop x) at next a = length-statement x at at (in_loop next a)
+  length-statement (if_then pos c x p) at next a =
+      let second = suc at + statement_size x (ways_count a) in
+      let n = length_two (statement_code x (suc at) next a) (part_code p second next a) _ _ (length-statement x (suc at) next a) (length-part p second next a) in
       omega (arith, n)
-  length-stmt (while_loop pos c x) at next a = let n = length-stmt x (suc at) at (in_loop next a) in omega (arith, n)
-  length-stmt (for_loop f x y s) at next a =
-      let n = length-stmt s (suc (suc at)) (suc at) (in_for next a) ∙ ap (stmt_size s) (count-for next a) in
+  length-statement (while_loop pos c x) at next a = let n = length-statement x (suc at) at (in_loop next a) in omega (arith, n)
+  length-statement (for_loop f x y s) at next a =
+      let n = length-statement s (suc (suc at)) (suc at) (in_for next a) ∙ ap (statement_size s) (count-for next a) in
       omega (arith, n)
-  length-stmt (block pos n b) at next a =
+  length-statement (block pos n b) at next a =
       let e = ways_count a in
       let end = end_place b (suc at) e in
       let inner = in_block end a in
@@ -91,62 +91,62 @@ mutual
       let k = length-stubs_of b a.exits a.back (suc end) in
       let both = length_two (body_code construct.Block b (suc at) next a.out inner) (stubs_of b (a.exits ++ a.back ∷ []) (suc end)) _ _ m k in
       omega (arith, both)
-  length-stmt (entry_call pos c p q) at next a =
+  length-statement (entry_call pos c p q) at next a =
       let second = suc at + part_size p (ways_count a) in
       let n = length_two (part_code p (suc at) next a) (part_code q second next a) _ _ (length-part p (suc at) next a) (length-part q second next a) in
       omega (arith, n)
-  length-stmt (accept pos n d) at next a = let m = length-doing d (suc at) next a.out in omega (arith, m)
-  length-stmt (select pos offered p) at next a =
+  length-statement (accept pos n d) at next a = let m = length-doing d (suc at) next a.out in omega (arith, m)
+  length-statement (select pos offered p) at next a =
       let second = suc at + offered_size offered (ways_count a) in
       let n = length_two (offered_code offered (suc at) next a) (part_code p second next a) _ _ (length-offered offered (suc at) next a) (length-part p second next a) in
       omega (arith, n)
-  length-stmt (declare pos e) at next a = refl
-  length-stmt (declare_array pos t n) at next a = refl
-  length-stmt (declare_tasks pos ts) at next a = refl
-  length-stmt (declare_object pos n es) at next a = refl
-  length-stmt (activated pos) at next a = refl
-  length-stmt (activate pos) at next a = refl
-  length-stmt (null pos) at next a = refl
-  length-stmt (assign pos r e) at next a = refl
-  length-stmt (put pos t) at next a = refl
-  length-stmt (exit pos n e) at next a = refl
-  length-stmt (return pos) at next a = refl
-  length-stmt (return_value pos e) at next a = refl
-  length-stmt (raising pos x) at next a = refl
-  length-stmt (raising_again pos) at next a = refl
-  length-stmt (procedure_call pos c) at next a = refl
-  length-stmt (own_entry_call pos es f) at next a = refl
-  length-stmt (operation_call pos v c) at next a = refl
-  length-stmt (delay pos e) at next a = refl
-  length-stmt (abort pos ns) at next a = refl
+  length-statement (declare pos e) at next a = refl
+  length-statement (declare_array pos t n) at next a = refl
+  length-statement (declare_tasks pos ts) at next a = refl
+  length-statement (declare_object pos n es) at next a = refl
+  length-statement (activated pos) at next a = refl
+  length-statement (activate pos) at next a = refl
+  length-statement (null pos) at next a = refl
+  length-statement (assign pos r e) at next a = refl
+  length-statement (put pos t) at next a = refl
+  length-statement (exit pos n e) at next a = refl
+  length-statement (return pos) at next a = refl
+  length-statement (return_value pos e) at next a = refl
+  length-statement (raising pos x) at next a = refl
+  length-statement (raising_again pos) at next a = refl
+  length-statement (procedure_call pos c) at next a = refl
+  length-statement (own_entry_call pos es f) at next a = refl
+  length-statement (operation_call pos v c) at next a = refl
+  length-statement (delay pos e) at next a = refl
+  length-statement (abort pos ns) at next a = refl
 
   pub length-stubs_of : (b : Body) (ws : List Way) (w : Way) (at : ℕ) → length (stubs_of b (ws ++ w ∷ []) at) ≡ suc (length ws)
   length-stubs_of (body d begin s h end) ws w at = let n = length-append ws (w ∷ []) in let k = length-stubs (ws ++ w ∷ []) end at in omega (arith, n, k)
 
   pub length-part : (p : Part) (at next : ℕ) (a : Around) → length (part_code p at next a) ≡ part_size p (ways_count a)
   length-part nothing at next a = refl
-  length-part (some s) at next a = length-stmt s at next a
+  length-part (some s) at next a = length-statement s at next a
 
   pub length-handlers : (h : Handlers) (at next : ℕ) (a : Around) → length (handlers_code h at next a) ≡ handlers_size h (ways_count a)
   length-handlers no_handlers at next a = refl
   length-handlers (handler others choices s more) at next a =
-      let middle = at + stmt_size s (ways_count a) in
-      length_two (stmt_code s at next a) (handlers_code more middle next a) _ _ (length-stmt s at next a) (length-handlers more middle next a)
+      let middle = at + statement_size s (ways_count a) in
+      length_two (statement_code s at next a) (handlers_code more middle next a) _ _ (length-statement s at next a) (length-handlers more middle next a)
 
   pub length-body : (c : Construct) (b : Body) (at next out : ℕ) (a : Around) → length (body_code c b at next out a) ≡ body_size b (ways_count a)
   length-body c (body d begin s h end) at next out a =
       let e = ways_count a in
       let first = at + part_size d e in
-      let guard = first + stmt_size s e in
+      let guard = first + statement_size s e in
       let last = first + main_size s h e in
       let cd = part_code d at first (around_out last a) in
-      let cs = stmt_code s first last (around_out guard a) in
+      let cs = statement_code s first last (around_out guard a) in
       let ch = handlers_code h (suc guard) last (around_out last a) in
       let l = end_line c end next out in
       let g = guard_line h end (suc guard) last e in
       let n = length_end ch l _ (length-handlers h (suc guard) last (around_out last a)) in
       length_two cd (cs ++ (g ∷ (ch ++ l ∷ []))) _ _ (length-part d at first (around_out last a))
-      (length_two cs (g ∷ (ch ++ l ∷ [])) _ _ (length-stmt s first last (around_out guard a)) (ap suc n))
+      (length_two cs (g ∷ (ch ++ l ∷ [])) _ _ (length-statement s first last (around_out guard a)) (ap suc n))
 
   pub length-doing : (d : Doing) (at next out : ℕ) → length (doing_code d at next out) ≡ doing_size d
   length-doing without_do at next out = refl

@@ -5,7 +5,7 @@ use Rattle.aud_meaning.specs.declared.state.Construct.{Construct}
 use Rattle.aud_meaning.specs.declared.state.Construct.TheVariants as construct
 use Rattle.aud_meaning.specs.Configuration.{Item, Do, InLoop, InFor, Begin, Ends, Leaving}
 use Rattle.aud_code.specs.Places.{Way, Spot}
-use Rattle.aud_gen.specs.Layout.{Line, Around, Code, line, stmt_code}
+use Rattle.aud_gen.specs.Layout.{Line, Around, Code, line, statement_code}
 use Rattle.aud_gen.specs.Shows.{HasAt, IsSettled, EndsAt, Stands, ShowsControl}
 use Rattle.aud_gen.specs.Law.{IsLeft}
 use Rattle.aud_gen.proofs.Standing.Places.{has_same, has_tail}
@@ -30,7 +30,7 @@ module _ (code : Code) where
       in_range place (line s f.ways f.bodies f.out around) f.more (has_same code.lines place _ _ f.is st.1)
   at_line (InLoop s ∷ rest) around place returns st is some = absurd is
   at_line (InFor s ∷ rest) around place returns st is some =
-      for_by (λ s. HasAt code.lines st.2 (stmt_code s st.2 st.0 st.1) → place < length code.lines)
+      for_by (λ s. HasAt code.lines st.2 (statement_code s st.2 st.0 st.1) → place < length code.lines)
       (λ f x y b has. subst (λ p. p < length code.lines) (sym st.3) (in_range (suc st.2) _ _ (has_tail code.lines st.2 _ _ has))) s st.5 st.6
   at_line (Begin c s h end ∷ rest) around place returns st is some = absurd is
   at_line (Ends c h end ∷ rest) around place returns st is some = end_in_range c end around.exits around.back place returns rest st.1

@@ -2,12 +2,12 @@
 use Rattle.std.proofs.Common.{◌≡◌, ℕ, zero, suc, ◌+◌, List, [], ◌∷◌, ◌++◌, length, inl, refl, sym, ap, ◌∙◌, subst, arith, slice_get, unwrap_or, map, Option, Some, None}
 use Rattle.std.proofs.lemmas.Option.{unwrap_or-slice_get}
 use Rattle.aud_text.specs.declared.place.Pos.{Pos}
-use Rattle.aud_typed.specs.Tree.{Stmt, sequence, declare, declare_array, declare_tasks, declare_object, activated, activate, null, assign, put, if_then, plain_loop, while_loop, for_loop, exit, return, return_value, raising, raising_again, block, procedure_call, own_entry_call, operation_call, entry_call, delay, accept, select, abort, no_handlers}
+use Rattle.aud_typed.specs.Tree.{Statement, sequence, declare, declare_array, declare_tasks, declare_object, activated, activate, null, assign, put, if_then, plain_loop, while_loop, for_loop, exit, return, return_value, raising, raising_again, block, procedure_call, own_entry_call, operation_call, entry_call, delay, accept, select, abort, no_handlers}
 use Rattle.aud_meaning.specs.declared.state.Construct.{Construct}
 use Rattle.aud_meaning.specs.declared.state.Construct.TheVariants as construct
 use Rattle.aud_meaning.specs.Configuration.{Item, Do, InLoop, InFor, Begin, Ends, Leaving}
 use Rattle.aud_meaning.specs.Items.{place, Out, one_loop_more, through_block, if_out, out_through, out_of_loop, call_through, out_of_call, exits_to, out_by, out_from, loops_out, goes_out_to}
-use Rattle.aud_gen.specs.Layout.{one_more, Around, in_call, stub_line, stubs, stub_ways, stmt_code, Code, line_at}
+use Rattle.aud_gen.specs.Layout.{one_more, Around, in_call, stub_line, stubs, stub_ways, statement_code, Code, line_at}
 use Rattle.aud_code.specs.Places.{loops_of, goes_way, Way}
 use Rattle.aud_gen.specs.Shows.{HasAt, IsStep, IsSettled, EndsAt, Stands, ShowsControl}
 use Rattle.aud_gen.proofs.Standing.Places.{has_line, has_tail, line_is}
@@ -115,7 +115,7 @@ module _ (code : Code) (returns : List ℕ) where
   exit_found (Some o) None around next rest st h = absurd h
   exit_found (Some o) (Some w) around next rest st h = h
 
-  out_do : (s : Stmt) (around : Around) (place next : ℕ) (rest : List Item) → IsStep s → HasAt code.lines place (stmt_code s place next around) → Stands code around next returns rest → FoundAt (out_by s rest) (line_at code place).exit
+  out_do : (s : Statement) (around : Around) (place next : ℕ) (rest : List Item) → IsStep s → HasAt code.lines place (statement_code s place next around) → Stands code around next returns rest → FoundAt (out_by s rest) (line_at code place).exit
   out_do (sequence x y) around place next rest is has st = absurd is
   out_do (plain_loop x) around place next rest is has st = absurd is
   out_do (declare pos e) around place next rest is has st = subst (λ l. FoundAt None l.exit) (sym (line_is code place _ _ has)) tt

@@ -4,7 +4,7 @@ use crate::tests::finds;
 use aud_bench::request::{Answer, Raised, Report};
 use aud_meaning::state::State;
 use aud_server::answers::answer_text;
-use aud_text::code::Code;
+use aud_text::refusal::Refusal;
 use aud_text::name::Name;
 use aud_text::place::Pos;
 use aud_text::raise::Raise;
@@ -87,9 +87,9 @@ fn cuts_output_at_line_feeds(rt: HostRuntime) -> Result<(), AllocError> {
 #[test]
 fn says_why_not(rt: HostRuntime) -> Result<(), AllocError> {
     let alloc = rt.alloc();
-    let refused = Answer::Refused(Code::UnknownCommand);
+    let refused = Answer::Refused(Refusal::UnknownCommand);
     says(&rt, alloc, refused, b"- E10 unknown command\n")?;
     let at = Pos { line: 2, col: 15 };
-    let refused = Answer::RefusedAt(Code::NameNotDeclared, at);
+    let refused = Answer::RefusedAt(Refusal::NameNotDeclared, at);
     says(&rt, alloc, refused, b"- E30 2:15 name not declared\n")
 }

@@ -38,7 +38,7 @@ fn told(alloc: Global, code: &SoundCode) -> Result<String, AllocError> {
     let mut out = String::new(alloc);
     for place in 0..code.len() {
         let line = match code.line(place) {
-            Line::Op(instr) => format!(in alloc; "{:?}\n", instr)?,
+            Line::Instruction(instruction) => format!(in alloc; "{:?}\n", instruction)?,
             Line::End(end) => format!(in alloc; "{} {} {:?}\n", end.out, end.at.col, end.last)?,
         };
         out.push_str(&line)?;

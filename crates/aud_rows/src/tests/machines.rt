@@ -160,7 +160,7 @@ fn meets(rt: &impl Abort, alloc: Global, source: &[u8], rows: &[Row]) -> Result<
 // What comes next of the main procedure of FAILING, step by step.
 const COMING: [Option<NextStep>; 4] = [
     Some(NextStep {
-        kind: StepKind::Decl,
+        kind: StepKind::Declaration,
         at: Pos { line: 1, col: 16 },
     }),
     // the exception is shown where it was raised

@@ -1,6 +1,6 @@
 // Values that the reference manual gives, and each call once where it succeeds.
 
-use aud_text::code::Code;
+use aud_text::refusal::Refusal;
 use aud_text::digits::push_decimal;
 use aud_text::int32::Int32;
 use aud_text::name::Name;
@@ -128,8 +128,8 @@ fn names_have_no_case(rt: HostRuntime) -> Result<(), AllocError> {
 
 #[test]
 fn says_why(rt: HostRuntime) {
-    assert!(rt; Code::NameNotDeclared.number() == 30);
-    assert!(rt; Code::NameNotDeclared.words() == b"name not declared".as_slice());
+    assert!(rt; Refusal::NameNotDeclared.number() == 30);
+    assert!(rt; Refusal::NameNotDeclared.words() == b"name not declared".as_slice());
     assert!(rt; Raise::Constraint.name() == b"CONSTRAINT_ERROR".as_slice());
 }
 

@@ -54,7 +54,7 @@ fn counts(
     assert_eq!(rt; tokens.len(), count);
     let mut code = first;
     for token in &tokens {
-        assert_eq!(rt; token.kind().code(), code);
+        assert_eq!(rt; token.kind().number(), code);
         code = code.saturating_add(1);
     }
     Ok(())

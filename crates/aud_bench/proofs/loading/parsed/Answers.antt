@@ -3,8 +3,8 @@ use Rattle.aud_bench.specs.Loading.{after_parsing}
 use Rattle.aud_bench.specs.Loads.{Gives}
 use Rattle.aud_bench.proofs.loading.parsed.Goals as goal
 
-pub returns-in-Ok : goal.returns-in-Ok
-returns-in-Ok c = subst (λ read. Gives (after_parsing c.args.source.now c.args.tokens.now read) c.checked.result) (sym c.in-Ok.ensures) c.checked.ensures
+pub returns-in-Ok-clause-answer : goal.returns-in-Ok-clause-answer
+returns-in-Ok-clause-answer c = subst (λ read. Gives (after_parsing c.args.source.now c.args.tokens.now read) c.checked.result) (sym c.in-Ok.ensures) c.checked.ensures.answer
 
-pub returns-in-Err : goal.returns-in-Err
-returns-in-Err c = c.syntax_refusal.ensures _ c.in-Err.ensures
+pub returns-in-Err-clause-answer : goal.returns-in-Err-clause-answer
+returns-in-Err-clause-answer c = c.syntax_refusal.ensures _ c.in-Err.ensures

@@ -11,15 +11,15 @@ start_within lines zero h = omega arith
 start_within lines (suc n) h = let w = slice_get_within lines n (end h.0) h.1 in omega arith
 
 pub eval_step-requires-clause-fine : goal.eval_step-requires-clause-fine
-eval_step-requires-clause-fine c = needed _ _ _ _ _ _ _ c.loop-at.invariant.stands c.in-Op.instr (rw c.in-Op.is at c.line.ensures)
+eval_step-requires-clause-fine c = needed _ _ _ _ _ _ _ c.loop-at.invariant.stands c.in-Instruction.instruction (rw c.in-Instruction.is at c.line.ensures)
 
 pub returns-in-Raises-clause-ends : goal.returns-in-Raises-clause-ends
 returns-in-Raises-clause-ends c =
-    raised _ _ _ _ _ _ _ c.loop-at.invariant.stands c.in-Op.instr (rw c.in-Op.is at c.line.ensures) c.eval_step.new.operands c.in-Raises.raise (rw c.in-Raises.is at c.in_ok-eval_step-in-Op.ensures.acts)
+    raised _ _ _ _ _ _ _ c.loop-at.invariant.stands c.in-Instruction.instruction (rw c.in-Instruction.is at c.line.ensures) c.eval_step.new.operands c.in-Raises.raise (rw c.in-Raises.is at c.in_ok-eval_step-in-Instruction.ensures.acts)
 
 pub returns-in-Raises-clause-ticks : goal.returns-in-Raises-clause-ticks
 returns-in-Raises-clause-ticks c =
-    rw c.eval_step.ensures.tick (raised_ticks _ _ _ _ _ _ _ c.loop-at.invariant.stands c.in-Op.instr (rw c.in-Op.is at c.line.ensures) c.eval_step.new.operands c.in-Raises.raise (rw c.in-Raises.is at c.in_ok-eval_step-in-Op.ensures.acts))
+    rw c.eval_step.ensures.tick (raised_ticks _ _ _ _ _ _ _ c.loop-at.invariant.stands c.in-Instruction.instruction (rw c.in-Instruction.is at c.line.ensures) c.eval_step.new.operands c.in-Raises.raise (rw c.in-Raises.is at c.in_ok-eval_step-in-Instruction.ensures.acts))
 
 pub returns-in-End-clause-ends : goal.returns-in-End-clause-ends
 returns-in-End-clause-ends c = at_end _ _ _ _ _ _ _ c.loop-at.invariant.stands (plain_end c.in-End.field-0) (rw c.in-End.is at c.line.ensures)
@@ -36,7 +36,7 @@ returns-in-End-clause-ticks c = end_ticks _ _ _ _ _ _ _ c.loop-at.invariant.stan
 
 pub loop-at-preserved : goal.loop-at-preserved
 loop-at-preserved c = record {
-  stands = rw c.eval_step.ensures.tick (goes_on _ _ _ _ _ _ _ c.loop-at.invariant.stands c.in-Op.instr (rw c.in-Op.is at c.line.ensures) c.eval_step.new.operands (rw c.in-On.is at c.in_ok-eval_step-in-Op.ensures.acts));
+  stands = rw c.eval_step.ensures.tick (goes_on _ _ _ _ _ _ _ c.loop-at.invariant.stands c.in-Instruction.instruction (rw c.in-Instruction.is at c.line.ensures) c.eval_step.new.operands (rw c.in-On.is at c.in_ok-eval_step-in-Instruction.ensures.acts));
   few = omega (arith, c.eval_step.ensures.tick, c.loop-at.invariant.few);
 }
 

@@ -14,7 +14,7 @@ loop-next-init t c =
 
 pub loop-next-preserved : goal.loop-next-preserved
 loop-next-preserved t c =
-    loop_goes_on chained plain_operation (λ d o. binary o.op d o.right) (λ d o os. refl) c.deref-next-items.result.now c.loop-next.next-index c.next-item.result (omega arith) c.next-item.is (plain_integer c.args.e.now) (λ done. c.loop-next.total ≡ length (integer_code done)) (λ done. c.in_ok-total-in-Chain-2.total ≡ length (integer_code done))
+    loop_goes_on chained plain_operation (λ d o. binary o.operator d o.right) (λ d o os. refl) c.deref-next-items.result.now c.loop-next.next-index c.next-item.result (omega arith) c.next-item.is (plain_integer c.args.e.now) (λ done. c.loop-next.total ≡ length (integer_code done)) (λ done. c.in_ok-total-in-Chain-2.total ≡ length (integer_code done))
     (λ d h. omega (arith, h, c.in_ok-integer_length-in-Chain.ensures, c.in_ok-sum-in-Chain.ensures, c.in_ok-total-in-Chain-2.ensures, operation_length d (plain_operation c.next-item.result))) c.loop-next.invariant
 
 pub returns-after-loop-next : goal.returns-after-loop-next

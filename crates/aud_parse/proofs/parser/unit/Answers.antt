@@ -1,5 +1,5 @@
-use Rattle.aud_parse.specs.Machine.{o_rule}
-use Rattle.aud_parse.specs.Actions.{tok}
+use Rattle.aud_parse.specs.Outcome.{o_rule}
+use Rattle.aud_parse.specs.Actions.{token}
 use Rattle.aud_parse.proofs.Passing.{to, exit}
 use Rattle.aud_parse.proofs.Rolls.{unit_items}
 use Rattle.aud_parse.proofs.parser.unit.Goals as goal
@@ -13,11 +13,11 @@ returns-in_err-name c = exit _ _ _ c.from_residual-in_err-name.ensures.1 (c.in_e
 pub returns-in_err-rest : goal.returns-in_err-rest
 returns-in_err-rest c = exit _ _ _ c.from_residual-in_err-rest.ensures.1 (c.in_err-rest.ensures.reads c.args.room) (λ k ds v o. o_rule (c.in_ok-first.ensures.reads _ _ _ _ (c.in_ok-name.ensures.reads _ _ _ _ o)))
 
-pub returns-in_err-decls : goal.returns-in_err-decls
-returns-in_err-decls c = exit _ _ _ c.from_residual-in_err-decls.ensures.1 c.in_err-decls.ensures.reads (λ k ds v o. o_rule (c.in_ok-first.ensures.reads _ _ _ _ (c.in_ok-name.ensures.reads _ _ _ _ (c.in_ok-rest.ensures.reads _ _ _ _ o))))
+pub returns-in_err-declarations : goal.returns-in_err-declarations
+returns-in_err-declarations c = exit _ _ _ c.from_residual-in_err-declarations.ensures.1 c.in_err-declarations.ensures.reads (λ k ds v o. o_rule (c.in_ok-first.ensures.reads _ _ _ _ (c.in_ok-name.ensures.reads _ _ _ _ (c.in_ok-rest.ensures.reads _ _ _ _ o))))
 
 pub returns-in_err-body : goal.returns-in_err-body
-returns-in_err-body c = exit _ _ _ c.from_residual-in_err-body.ensures.1 c.in_err-body.ensures.reads (λ k ds v o. o_rule (c.in_ok-first.ensures.reads _ _ _ _ (c.in_ok-name.ensures.reads _ _ _ _ (c.in_ok-rest.ensures.reads _ _ _ _ (c.in_ok-decls.ensures.reads _ _ _ o)))))
+returns-in_err-body c = exit _ _ _ c.from_residual-in_err-body.ensures.1 c.in_err-body.ensures.reads (λ k ds v o. o_rule (c.in_ok-first.ensures.reads _ _ _ _ (c.in_ok-name.ensures.reads _ _ _ _ (c.in_ok-rest.ensures.reads _ _ _ _ (c.in_ok-declarations.ensures.reads _ _ _ o)))))
 
 pub returns : goal.returns
-returns c k ds v o = rw c.at.ensures (to (o_rule (c.in_ok-first.ensures.reads _ _ _ _ (c.in_ok-name.ensures.reads _ _ _ _ (c.in_ok-rest.ensures.reads _ _ _ _ (c.in_ok-decls.ensures.reads _ _ _ (c.in_ok-body.ensures.reads _ _ _ o)))))) (unit_items (tok c.in_ok-first.first.now) _ c.in_ok-decls.decls c.in_ok-body.body ds))
+returns c k ds v o = rw c.at.ensures (to (o_rule (c.in_ok-first.ensures.reads _ _ _ _ (c.in_ok-name.ensures.reads _ _ _ _ (c.in_ok-rest.ensures.reads _ _ _ _ (c.in_ok-declarations.ensures.reads _ _ _ (c.in_ok-body.ensures.reads _ _ _ o)))))) (unit_items (token c.in_ok-first.first.now) _ c.in_ok-declarations.declarations c.in_ok-body.body ds))

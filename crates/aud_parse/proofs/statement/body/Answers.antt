@@ -1,5 +1,5 @@
-use Rattle.aud_parse.specs.Machine.{o_rule}
-use Rattle.aud_parse.specs.Actions.{tok}
+use Rattle.aud_parse.specs.Outcome.{o_rule}
+use Rattle.aud_parse.specs.Actions.{token}
 use Rattle.aud_parse.proofs.Passing.{to, exit}
 use Rattle.aud_parse.proofs.Rolls.{body_items}
 use Rattle.aud_parse.proofs.statement.body.Goals as goal
@@ -7,17 +7,17 @@ use Rattle.aud_parse.proofs.statement.body.Goals as goal
 pub returns-in_err-begin-clause-reads : goal.returns-in_err-begin-clause-reads
 returns-in_err-begin-clause-reads c = exit _ _ _ c.from_residual.ensures.1 (c.in_err-begin.ensures.reads c.args.room) (λ k ds v o. o_rule o)
 
-pub returns-in_err-stmts-clause-reads : goal.returns-in_err-stmts-clause-reads
-returns-in_err-stmts-clause-reads c = exit _ _ _ c.from_residual-in_err-stmts.ensures.1 c.in_err-stmts.ensures.reads (λ k ds v o. o_rule (c.in_ok-begin.ensures.reads _ _ _ _ o))
+pub returns-in_err-statements-clause-reads : goal.returns-in_err-statements-clause-reads
+returns-in_err-statements-clause-reads c = exit _ _ _ c.from_residual-in_err-statements.ensures.1 c.in_err-statements.ensures.reads (λ k ds v o. o_rule (c.in_ok-begin.ensures.reads _ _ _ _ o))
 
 pub returns-in_err-end-clause-reads : goal.returns-in_err-end-clause-reads
-returns-in_err-end-clause-reads c = exit _ _ _ c.from_residual-in_err-end.ensures.1 (c.in_err-end.ensures.reads c.args.room) (λ k ds v o. o_rule (c.in_ok-begin.ensures.reads _ _ _ _ (c.in_ok-stmts.ensures.reads _ _ _ o)))
+returns-in_err-end-clause-reads c = exit _ _ _ c.from_residual-in_err-end.ensures.1 (c.in_err-end.ensures.reads c.args.room) (λ k ds v o. o_rule (c.in_ok-begin.ensures.reads _ _ _ _ (c.in_ok-statements.ensures.reads _ _ _ o)))
 
 pub returns-in_err-name-clause-reads : goal.returns-in_err-name-clause-reads
-returns-in_err-name-clause-reads c = exit _ _ _ c.from_residual-in_err-name.ensures.1 (c.in_err-name.ensures.reads c.args.room) (λ k ds v o. o_rule (c.in_ok-begin.ensures.reads _ _ _ _ (c.in_ok-stmts.ensures.reads _ _ _ (c.in_ok-end.ensures.reads _ _ _ _ o))))
+returns-in_err-name-clause-reads c = exit _ _ _ c.from_residual-in_err-name.ensures.1 (c.in_err-name.ensures.reads c.args.room) (λ k ds v o. o_rule (c.in_ok-begin.ensures.reads _ _ _ _ (c.in_ok-statements.ensures.reads _ _ _ (c.in_ok-end.ensures.reads _ _ _ _ o))))
 
 pub returns-in_err-rest-clause-reads : goal.returns-in_err-rest-clause-reads
-returns-in_err-rest-clause-reads c = exit _ _ _ c.from_residual-in_err-rest.ensures.1 (c.in_err-rest.ensures.reads c.args.room) (λ k ds v o. o_rule (c.in_ok-begin.ensures.reads _ _ _ _ (c.in_ok-stmts.ensures.reads _ _ _ (c.in_ok-end.ensures.reads _ _ _ _ (c.in_ok-name.ensures.reads _ _ _ _ o)))))
+returns-in_err-rest-clause-reads c = exit _ _ _ c.from_residual-in_err-rest.ensures.1 (c.in_err-rest.ensures.reads c.args.room) (λ k ds v o. o_rule (c.in_ok-begin.ensures.reads _ _ _ _ (c.in_ok-statements.ensures.reads _ _ _ (c.in_ok-end.ensures.reads _ _ _ _ (c.in_ok-name.ensures.reads _ _ _ _ o)))))
 
 pub returns-clause-reads : goal.returns-clause-reads
-returns-clause-reads c k ds v o = rw (c.at.ensures, c.at-2.ensures) (to (o_rule (c.in_ok-begin.ensures.reads _ _ _ _ (c.in_ok-stmts.ensures.reads _ _ _ (c.in_ok-end.ensures.reads _ _ _ _ (c.in_ok-name.ensures.reads _ _ _ _ (c.in_ok-rest.ensures.reads _ _ _ _ o)))))) (body_items (tok c.in_ok-begin.begin.now) (tok c.in_ok-end.end.now) c.in_ok-stmts.stmts c.in_ok-name.name ds))
+returns-clause-reads c k ds v o = rw (c.at.ensures, c.at-2.ensures) (to (o_rule (c.in_ok-begin.ensures.reads _ _ _ _ (c.in_ok-statements.ensures.reads _ _ _ (c.in_ok-end.ensures.reads _ _ _ _ (c.in_ok-name.ensures.reads _ _ _ _ (c.in_ok-rest.ensures.reads _ _ _ _ o)))))) (body_items (token c.in_ok-begin.begin.now) (token c.in_ok-end.end.now) c.in_ok-statements.statements c.in_ok-name.name ds))

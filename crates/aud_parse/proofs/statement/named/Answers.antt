@@ -1,8 +1,8 @@
 use Rattle.std.proofs.Common.{ap, sym, ◌∙◌, ◌∷◌}
 use Rattle.aud_syntax.specs.Plain as m
-use Rattle.aud_syntax.specs.View.{plain_expr, plain_exprs}
-use Rattle.aud_parse.specs.Actions.{a_stmt}
-use Rattle.aud_parse.specs.Machine.{o_rule, o_this, o_other, o_last}
+use Rattle.aud_syntax.specs.View.{plain_expression, plain_expressions}
+use Rattle.aud_parse.specs.Actions.{a_statement}
+use Rattle.aud_parse.specs.Outcome.{o_rule, o_this, o_other, o_last}
 use Rattle.aud_parse.proofs.Passing.{to, exit}
 use Rattle.aud_parse.proofs.statement.named.Goals as goal
 
@@ -15,7 +15,7 @@ returns-in_err-value-clause-reads c = exit _ _ _ c.from_residual-in_err-value.en
 pub returns-then-is-clause-reads : goal.returns-then-is-clause-reads
 returns-then-is-clause-reads c k ds v o =
     to (o_rule (c.in_ok-ident.ensures.reads _ _ _ _ (o_rule (o_this (sym c.is.ensures ∙ c.if-is.true) (c.in_ok-value.ensures.reads _ _ _ o)))))
-    (ap (λ l. a_stmt (m.assign (m.named (m.part c.in_ok-ident.ident (plain_exprs l)) m.no_parts) (plain_expr c.in_ok-value.value)) ∷ ds) (sym c.new-args.ensures.items))
+    (ap (λ l. a_statement (m.assign (m.named (m.part c.in_ok-ident.ident (plain_expressions l)) m.no_parts) (plain_expression c.in_ok-value.value)) ∷ ds) (sym c.new-args.ensures.items))
 
 pub returns-in_err-args-clause-reads : goal.returns-in_err-args-clause-reads
 returns-in_err-args-clause-reads c = exit _ _ _ c.from_residual-in_err-args.ensures.1 c.in_err-args.ensures.reads (λ k ds v o. o_rule (c.in_ok-ident.ensures.reads _ _ _ _ (o_rule (o_other (sym c.is.ensures ∙ c.if-is.false) (o_last o)))))

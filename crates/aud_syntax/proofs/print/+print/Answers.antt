@@ -4,8 +4,8 @@ use Rattle.std.proofs.lemmas.List.{drop_all}
 use Rattle.aud_lex.specs.Spaced.{word}
 use Rattle.aud_syntax.specs.declared.tree.Simple.{out-Simple}
 use Rattle.aud_syntax.specs.declared.tree.Term.{out-Term}
-use Rattle.aud_syntax.specs.View.{plain_expr, plain_simple, plain_added, plain_term, plain_multiplied, plain_factor}
-use Rattle.aud_syntax.specs.Printed.{expr_words, sign_words, simple_words, addeds_words, added_words, term_words, multiplieds_words, multiplied_words, factor_words}
+use Rattle.aud_syntax.specs.View.{plain_expression, plain_simple, plain_added, plain_term, plain_multiplied, plain_factor}
+use Rattle.aud_syntax.specs.Printed.{expression_words, sign_words, simple_words, addeds_words, added_words, term_words, multiplieds_words, multiplied_words, factor_words}
 use Rattle.aud_syntax.proofs.Opened.{added_list, multiplied_list, simple_open, term_open}
 use Rattle.aud_syntax.proofs.Written.{both_written, all_written, next_written, loop_begins, dropped, argument_written, arguments_end, name_written, attribute_written, attribute_alone}
 use Rattle.aud_syntax.proofs.print.+print.Goals as goal
@@ -23,8 +23,8 @@ push_simple-loop-next-preserved t c =
 
 pub push_in_parentheses-returns : goal.push_in_parentheses-returns
 push_in_parentheses-returns t c =
-    all_written c.push_word-2.result c.args.out.now.items c.push_word.new.out.items c.push_word-2.new.out.items (word (codes "(") ∷ []) (expr_words (plain_expr c.args.inner.now) ++ (word (codes ")") ∷ [])) c.in_ok-push_word.ensures
-    (all_written c.push_word-2.result c.push_word.new.out.items c.push_expr.new.out.items c.push_word-2.new.out.items (expr_words (plain_expr c.args.inner.now)) (word (codes ")") ∷ []) c.in_ok-push_expr.ensures c.push_word-2.ensures)
+    all_written c.push_word-2.result c.args.out.now.items c.push_word.new.out.items c.push_word-2.new.out.items (word (codes "(") ∷ []) (expression_words (plain_expression c.args.inner.now) ++ (word (codes ")") ∷ [])) c.in_ok-push_word.ensures
+    (all_written c.push_word-2.result c.push_word.new.out.items c.push_expression.new.out.items c.push_word-2.new.out.items (expression_words (plain_expression c.args.inner.now)) (word (codes ")") ∷ []) c.in_ok-push_expression.ensures c.push_word-2.ensures)
 
 pub push_term-loop-next-init : goal.push_term-loop-next-init
 push_term-loop-next-init t c =
@@ -39,8 +39,8 @@ push_term-loop-next-preserved t c =
 
 pub push_args-loop-next-preserved : goal.push_args-loop-next-preserved
 push_args-loop-next-preserved t c =
-    argument_written c.loop-next.out.items c.push_word.new.out.items c.push_expr.new.out.items _ c.loop-next.before.now c.next-item.result (drop c.loop-next.next-index c.args.args.now) (drop (c.loop-next.next-index + 1) c.args.args.now)
-    (dropped c.args.args.now c.loop-next.next-index c.next-item.result (omega arith) c.next-item.is) c.loop-next.invariant c.in_ok-push_word.ensures c.in_ok-push_expr.ensures
+    argument_written c.loop-next.out.items c.push_word.new.out.items c.push_expression.new.out.items _ c.loop-next.before.now c.next-item.result (drop c.loop-next.next-index c.args.args.now) (drop (c.loop-next.next-index + 1) c.args.args.now)
+    (dropped c.args.args.now c.loop-next.next-index c.next-item.result (omega arith) c.next-item.is) c.loop-next.invariant c.in_ok-push_word.ensures c.in_ok-push_expression.ensures
 
 pub push_args-returns : goal.push_args-returns
 push_args-returns t c =

@@ -1,6 +1,6 @@
 use Rattle.std.proofs.Common.{◌≡◌, ◌++◌, drop}
 use Rattle.aud_lex.specs.Spaced.{spaced}
-use Rattle.aud_syntax.specs.View.{plain_simple, plain_term, plain_exprs}
+use Rattle.aud_syntax.specs.View.{plain_simple, plain_term, plain_expressions}
 use Rattle.aud_syntax.specs.Printed.{simple_words, addeds_words, term_words, multiplieds_words}
 use Rattle.aud_syntax.proofs.Opened.{added_list, multiplied_list}
 use Rattle.std.specs.Prelude.{codes}
@@ -14,4 +14,4 @@ abbrev pub invariant-push_term-loop-next : goal.invariant-push_term-loop-next
 invariant-push_term-loop-next l = l.out.items ++ spaced (multiplieds_words (multiplied_list (drop l.next-index l.next-items))) ≡ l.fn.out.items ++ spaced (term_words (plain_term l.fn.term))
 
 abbrev pub invariant-push_args-loop-next : goal.invariant-push_args-loop-next
-invariant-push_args-loop-next l = l.out.items ++ spaced (listed l.before (plain_exprs (drop l.next-index l.args))) ≡ l.fn.out.items ++ spaced (listed (codes "(") (plain_exprs l.fn.args))
+invariant-push_args-loop-next l = l.out.items ++ spaced (listed l.before (plain_expressions (drop l.next-index l.args))) ≡ l.fn.out.items ++ spaced (listed (codes "(") (plain_expressions l.fn.args))

@@ -1,14 +1,14 @@
 use Rattle.std.proofs.Common.{◌++◌, ◌∷◌, [], ap, ◌∙◌}
 use Rattle.std.specs.Prelude.{codes}
 use Rattle.aud_lex.specs.Spaced.{word, last_word, spaced}
-use Rattle.aud_syntax.specs.View.{plain_stmts}
-use Rattle.aud_syntax.specs.Printed.{stmts_words, end_words}
+use Rattle.aud_syntax.specs.View.{plain_statements}
+use Rattle.aud_syntax.specs.Printed.{statements_words, end_words}
 use Rattle.aud_syntax.proofs.Written.{all_written}
 use Rattle.aud_syntax.proofs.print.push_body.Goals as goal
 
 pub returns : goal.returns
 returns c =
-    all_written c.push_last_word-2.result c.args.out.now.items c.push_last_word.new.out.items c.push_last_word-2.new.out.items (last_word (codes "begin") ∷ []) (stmts_words (plain_stmts c.args.body.now.stmts.items) ++ (word (codes "end") ∷ (end_words c.args.body.now.name ++ (last_word (codes ";") ∷ [])))) (c.in_ok-push_last_word.ensures)
-    (all_written c.push_last_word-2.result c.push_last_word.new.out.items c.push_stmts.new.out.items c.push_last_word-2.new.out.items (stmts_words (plain_stmts c.args.body.now.stmts.items)) (word (codes "end") ∷ (end_words c.args.body.now.name ++ (last_word (codes ";") ∷ []))) (c.in_ok-push_stmts.ensures ∙ ap (λ z. c.push_last_word.new.out.items ++ spaced (stmts_words (plain_stmts z))) c.deref.ensures.value)
-    (all_written c.push_last_word-2.result c.push_stmts.new.out.items c.push_word.new.out.items c.push_last_word-2.new.out.items (word (codes "end") ∷ []) (end_words c.args.body.now.name ++ (last_word (codes ";") ∷ [])) (c.in_ok-push_word.ensures)
+    all_written c.push_last_word-2.result c.args.out.now.items c.push_last_word.new.out.items c.push_last_word-2.new.out.items (last_word (codes "begin") ∷ []) (statements_words (plain_statements c.args.body.now.statements.items) ++ (word (codes "end") ∷ (end_words c.args.body.now.name ++ (last_word (codes ";") ∷ [])))) (c.in_ok-push_last_word.ensures)
+    (all_written c.push_last_word-2.result c.push_last_word.new.out.items c.push_statements.new.out.items c.push_last_word-2.new.out.items (statements_words (plain_statements c.args.body.now.statements.items)) (word (codes "end") ∷ (end_words c.args.body.now.name ++ (last_word (codes ";") ∷ []))) (c.in_ok-push_statements.ensures ∙ ap (λ z. c.push_last_word.new.out.items ++ spaced (statements_words (plain_statements z))) c.deref.ensures.value)
+    (all_written c.push_last_word-2.result c.push_statements.new.out.items c.push_word.new.out.items c.push_last_word-2.new.out.items (word (codes "end") ∷ []) (end_words c.args.body.now.name ++ (last_word (codes ";") ∷ [])) (c.in_ok-push_word.ensures)
     (all_written c.push_last_word-2.result c.push_word.new.out.items c.push_end_name.new.out.items c.push_last_word-2.new.out.items (end_words c.args.body.now.name) (last_word (codes ";") ∷ []) (c.in_ok-push_end_name.ensures) c.push_last_word-2.ensures)))

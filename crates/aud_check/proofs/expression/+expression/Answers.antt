@@ -1,0 +1,36 @@
+use Rattle.std.proofs.Common.{◌+◌, drop, arith}
+use Rattle.std.specs.Prelude.{Some}
+use Rattle.aud_check.specs.Names.{visible}
+use Rattle.aud_syntax.specs.declared.tree.Added.{out-Added}
+use Rattle.aud_syntax.specs.View.{plain_expression, plain_simple, plain_term, plain_primary, plain_factor}
+use Rattle.aud_check.specs.Expressions.{checked_expression, expression_at, checked_simple, checked_term, checked_factor, checked_primary, adding_operator, arithmetic, multiplying, highest, checked_attribute, term_at, factor_at, primary_at}
+use Rattle.aud_check.specs.Typing.{plain_typed}
+use Rattle.aud_syntax.proofs.Opened.{added_open}
+use Rattle.aud_syntax.proofs.Written.{dropped}
+use Rattle.aud_check.proofs.Opened.{term_ahead, multiplied_ahead, simple_ahead, added_ahead}
+use Rattle.aud_check.proofs.Notes.{shows_with}
+use Rattle.aud_check.proofs.expression.+expression.Goals as goal
+
+pub added-returns : goal.added-returns
+added-returns t c = rw added_open (shows_with c.args.faults.now c.term.new.faults c.adding_operator.new.faults (checked_term (plain_term (out-Added c.args.added.now).term) c.args.scope.now) (λ right. adding_operator (out-Added c.args.added.now).operator c.args.at (plain_typed c.args.left) (term_at (plain_term (out-Added c.args.added.now).term)) right) c.in_ok-right.right c.adding_operator.result c.in_ok-right.ensures (rw c.term_at.ensures at c.adding_operator.ensures))
+
+pub multiplied-returns : goal.multiplied-returns
+multiplied-returns t c = shows_with c.args.faults.now c.factor.new.faults c.arithmetic.new.faults (checked_factor (plain_factor c.args.multiplied.now.factor) c.args.scope.now) (λ right. arithmetic (multiplying c.args.multiplied.now.operator) c.args.at (plain_typed c.args.left) (factor_at (plain_factor c.args.multiplied.now.factor)) right) c.in_ok-right.right c.arithmetic.result c.in_ok-right.ensures (rw (c.factor_at.ensures, c.multiplying-operator.ensures) at c.arithmetic.ensures)
+
+pub factor-returns-in-Some : goal.factor-returns-in-Some
+factor-returns-in-Some t c = rw c.in-Some.is (shows_with c.args.faults.now c.primary.new.faults c.highest.new.faults (checked_primary (plain_primary c.args.factor.now.primary) c.args.scope.now) (λ x. highest c.in-Some.operator.highest (primary_at (plain_primary c.args.factor.now.primary)) x) c.in_ok-operand.operand c.highest.result c.in_ok-operand.ensures (rw c.primary_at.ensures at c.highest.ensures))
+
+pub simple-loop-next-init : goal.simple-loop-next-init
+simple-loop-next-init t c = simple_ahead c.args.e.now c.args.scope.now c.args.faults.now c.term.new.faults c.signed.new.faults c.in_ok-first.first c.in_ok-left.left c.simple_at-at.result c.deref-next-items.result.now c.simple_at-at.ensures c.deref-next-items.ensures.value c.in_ok-first.ensures (rw c.term_at.ensures at c.in_ok-left.ensures)
+
+pub simple-loop-next-preserved : goal.simple-loop-next-preserved
+simple-loop-next-preserved t c = added_ahead c.args.scope.now c.args.faults.now c.loop-next.faults c.added.new.faults (checked_simple (plain_simple c.args.e.now) c.args.scope.now) c.next-item.result (drop c.loop-next.next-index c.deref-next-items.result.now) (drop (c.loop-next.next-index + 1) c.deref-next-items.result.now) c.simple_at-at.result (plain_typed c.loop-next.left) c.in_ok-left-2.left (dropped c.deref-next-items.result.now c.loop-next.next-index c.next-item.result (omega arith) c.next-item.is) c.loop-next.invariant c.in_ok-left-2.ensures
+
+pub term-loop-next-init : goal.term-loop-next-init
+term-loop-next-init t c = term_ahead c.args.term.now c.args.scope.now c.args.faults.now c.factor.new.faults c.in_ok-left.left c.term_at-at.result c.deref-next-items.result.now c.term_at-at.ensures c.deref-next-items.ensures.value c.in_ok-left.ensures
+
+pub term-loop-next-preserved : goal.term-loop-next-preserved
+term-loop-next-preserved t c = multiplied_ahead c.args.scope.now c.args.faults.now c.loop-next.faults c.multiplied.new.faults (checked_term (plain_term c.args.term.now) c.args.scope.now) c.next-item.result (drop c.loop-next.next-index c.deref-next-items.result.now) (drop (c.loop-next.next-index + 1) c.deref-next-items.result.now) c.term_at-at.result (plain_typed c.loop-next.left) c.in_ok-left-2.left (dropped c.deref-next-items.result.now c.loop-next.next-index c.next-item.result (omega arith) c.next-item.is) c.loop-next.invariant c.in_ok-left-2.ensures
+
+pub primary-returns-in_ok-typed-in-Some : goal.primary-returns-in_ok-typed-in-Some
+primary-returns-in_ok-typed-in-Some t c = rw (c.in-Attribute.is, c.in-Some.is) (shows_with c.args.faults.now c.expression.new.faults c.attribute-in-Some.new.faults (checked_expression (plain_expression c.in-Some.e.value) c.args.scope.now) (λ x. checked_attribute (visible c.in-Attribute.prefix.value.first.ident.name c.args.scope.now) c.in-Attribute.prefix.value.first.ident c.in-Attribute.designator (Some (expression_at (plain_expression c.in-Some.e.value), x))) c.in_ok-typed-in-Some.typed c.attribute-in-Some.result (rw c.deref-in-Some.ensures at c.in_ok-typed-in-Some.ensures) (rw (c.visible-meaning.ensures, c.deref-in-Attribute.ensures, c.expression_at.ensures, c.deref-in-Some-2.ensures) at c.attribute-in-Some.ensures))

@@ -1,0 +1,13 @@
+use Rattle.std.proofs.Common.{drop}
+use Rattle.aud_syntax.specs.View.{plain_simple, plain_term}
+use Rattle.aud_check.specs.Expressions.{checked_simple, checked_term, checked_addeds, checked_multiplieds}
+use Rattle.aud_check.specs.Typing.{plain_typed}
+use Rattle.aud_check.proofs.Notes.{Ahead}
+use Rattle.aud_syntax.proofs.Opened.{added_list, multiplied_list}
+use Rattle.aud_check.proofs.expression.+expression.Given as goal
+
+abbrev pub invariant-simple-loop-next : goal.invariant-simple-loop-next
+invariant-simple-loop-next l = Ahead l.faults (checked_addeds (added_list (drop l.next-index l.next-items)) l.scope l.at (plain_typed l.left)) l.fn.faults (checked_simple (plain_simple l.fn.e) l.fn.scope)
+
+abbrev pub invariant-term-loop-next : goal.invariant-term-loop-next
+invariant-term-loop-next l = Ahead l.faults (checked_multiplieds (multiplied_list (drop l.next-index l.next-items)) l.scope l.at (plain_typed l.left)) l.fn.faults (checked_term (plain_term l.fn.term) l.fn.scope)

@@ -1,0 +1,362 @@
+// Expressions.
+
+ghost use Rattle.std.specs.Prelude.{◌≡◌, option_map};
+ghost use Rattle.aud_syntax.specs.View.{plain_expression, plain_relation, plain_simple, plain_added, plain_term, plain_multiplied, plain_factor, plain_primary, plain_maybe};
+ghost use Rattle.aud_check.specs.Expressions.{expression_at, relation_at, simple_at, term_at, factor_at, primary_at, multiplying, checked_number, checked_name, checked_expression, checked_relation, checked_simple, checked_added, checked_term, checked_multiplied, checked_factor, checked_primary, checked_image, checked_attribute, image_alone, image_with, variable_faults};
+ghost use Rattle.aud_check.specs.Least.{noted};
+ghost use Rattle.aud_check.specs.Typing.{plain_typed, Shows};
+
+use crate::fault::Least;
+use crate::names::{Meaning, Scope};
+use crate::rules::{
+    name_not_declared, number_too_large, wrong_kind_of_name, wrong_number_of_arguments,
+};
+use crate::typed::{Typed, adding_operator, arithmetic, highest, image_of, signed, wants_integer};
+use aud_syntax::tree::{
+    Added, Expression, Factor, Ident, Multiplied, Multiplying, Number, Primary, Relation, Simple, Term,
+};
+use aud_text::place::Pos;
+use aud_typed::program::{Binary, IntegerExpression, TextExpression};
+use std::alloc::{AllocError, Global};
+
+const IMAGE: &[u8] = b"IMAGE";
+
+/// Where a primary begins.
+fn primary_at(primary: &Primary) -> Pos
+    ensures { result ≡ primary_at (plain_primary primary.now) }
+{
+    match primary {
+        Primary::Integer(number) => number.at,
+        Primary::Text(literal) => literal.at,
+        Primary::Name(name) => name.first.ident.at,
+        Primary::Attribute(prefix, _, _) => prefix.first.ident.at,
+        Primary::Group(at, _) => *at,
+    }
+}
+
+fn factor_at(factor: &Factor) -> Pos
+    ensures { result ≡ factor_at (plain_factor factor.now) }
+{
+    match &factor.operator {
+        Some(operator) => operator.at,
+        None => primary_at(&factor.primary),
+    }
+}
+
+fn term_at(term: &Term) -> Pos
+    ensures { result ≡ term_at (plain_term term.now) }
+{
+    factor_at(&term.first)
+}
+
+fn simple_at(simple: &Simple) -> Pos
+    ensures { result ≡ simple_at (plain_simple simple.now) }
+{
+    match &simple.sign {
+        Some(sign) => sign.at,
+        None => term_at(&simple.first),
+    }
+}
+
+fn relation_at(relation: &Relation) -> Pos
+    ensures { result ≡ relation_at (plain_relation relation.now) }
+{
+    let Relation::Unrelated(simple) = relation;
+    simple_at(simple)
+}
+
+/// Where an expression begins: its first token.
+pub fn expression_at(expression: &Expression) -> Pos
+    ensures { result ≡ expression_at (plain_expression expression.now) }
+{
+    let Expression::Alone(relation) = expression;
+    relation_at(relation)
+}
+
+// The operator of RM 4.5.5.
+fn multiplying(operator: Multiplying) -> Binary
+    ensures { result ≡ multiplying operator }
+{
+    match operator {
+        Multiplying::Times => Binary::Product,
+        Multiplying::Divide => Binary::Quotient,
+        Multiplying::Modulo => Binary::Modulus,
+        Multiplying::Remainder => Binary::Remainder,
+    }
+}
+
+fn checked_number(number: Number, faults: &mut Least) -> Result<Typed, AllocError>
+    ensures { Shows faults.old faults.new (checked_number number.value number.at) result }
+{
+    match number.value {
+        Some(value) => Ok(Typed::Number(IntegerExpression::Number(value))),
+        None => {
+            number_too_large(number.at, faults);
+            Ok(Typed::Unknown)
+        }
+    }
+}
+
+/// Notes where what is read or assigned is not a variable (RM 4.1, 4.4, 5.2).
+pub fn check_variable(meaning: Option<Meaning>, at: Pos, faults: &mut Least)
+    ensures { faults.new ≡ noted faults.old (variable_faults meaning at) }
+{
+    match meaning {
+        None => name_not_declared(at, faults),
+        Some(Meaning::Variable(_) | Meaning::Faulty) => {}
+        Some(_) => wrong_kind_of_name(at, faults),
+    }
+}
+
+fn checked_name(meaning: Option<Meaning>, at: Pos, faults: &mut Least) -> Result<Typed, AllocError>
+    ensures { Shows faults.old faults.new (checked_name meaning at) result }
+{
+    check_variable(meaning, at, faults);
+    match meaning {
+        Some(Meaning::Variable(variable)) => Ok(Typed::Number(IntegerExpression::Variable(variable))),
+        _ => Ok(Typed::Unknown),
+    }
+}
+
+// Image with no argument.
+fn image_alone(
+    meaning: Meaning,
+    prefix: &Ident,
+    designator: &Ident,
+    faults: &mut Least,
+) -> Result<Typed, AllocError>
+    ensures { Shows faults.old faults.new (image_alone meaning prefix.now designator.now) result }
+{
+    match meaning {
+        Meaning::IntegerType => {
+            wrong_number_of_arguments(designator.at, faults);
+            Ok(Typed::Unknown)
+        }
+        Meaning::Variable(variable) => {
+            Ok(Typed::Text(TextExpression::Image(IntegerExpression::Variable(variable))))
+        }
+        Meaning::Faulty => Ok(Typed::Unknown),
+        Meaning::PutLine | Meaning::MainProcedure => {
+            wrong_kind_of_name(prefix.at, faults);
+            Ok(Typed::Unknown)
+        }
+    }
+}
+
+// Image with an argument that begins at a place.
+fn image_with(
+    meaning: Meaning,
+    prefix: &Ident,
+    designator: &Ident,
+    at: Pos,
+    argument: Typed,
+    faults: &mut Least,
+) -> Result<Typed, AllocError>
+    ensures { Shows faults.old faults.new (image_with meaning prefix.now designator.now at (plain_typed argument)) result }
+{
+    match meaning {
+        Meaning::IntegerType => {
+            wants_integer(at, &argument, faults);
+            Ok(image_of(argument))
+        }
+        Meaning::Variable(_) => {
+            wrong_number_of_arguments(designator.at, faults);
+            Ok(Typed::Unknown)
+        }
+        Meaning::Faulty => Ok(Typed::Unknown),
+        Meaning::PutLine | Meaning::MainProcedure => {
+            wrong_kind_of_name(prefix.at, faults);
+            Ok(Typed::Unknown)
+        }
+    }
+}
+
+// An attribute: its argument and what it begins with, and the prefix's meaning.
+fn attribute(
+    meaning: Option<Meaning>,
+    prefix: &Ident,
+    designator: &Ident,
+    argument: Option<(Pos, Typed)>,
+    faults: &mut Least,
+) -> Result<Typed, AllocError>
+    ensures { Shows faults.old faults.new (checked_attribute meaning prefix.now designator.now (option_map (λ p. (p.0, plain_typed p.1)) argument)) result }
+{
+    let Some(meaning) = meaning else {
+        name_not_declared(prefix.at, faults);
+        return Ok(Typed::Unknown);
+    };
+    if designator.name.as_bytes() != IMAGE {
+        wrong_kind_of_name(designator.at, faults);
+        return Ok(Typed::Unknown);
+    }
+    match argument {
+        None => image_alone(meaning, prefix, designator, faults),
+        Some((at, argument)) => image_with(meaning, prefix, designator, at, argument, faults),
+    }
+}
+
+#[cycle(expression)]
+fn primary(
+    alloc: Global,
+    primary: &Primary,
+    scope: &Scope<'_>,
+    faults: &mut Least,
+) -> Result<Typed, AllocError>
+    ensures { Shows faults.old faults.new (checked_primary (plain_primary primary.now) scope.now) result }
+{
+    match primary {
+        Primary::Integer(number) => checked_number(*number, faults),
+        Primary::Text(literal) => {
+            let text = literal.text.try_clone(alloc)?;
+            Ok(Typed::Text(TextExpression::Literal(text)))
+        }
+        Primary::Name(name) => {
+            let ident = &name.first.ident;
+            checked_name(scope.visible(&ident.name), ident.at, faults)
+        }
+        Primary::Attribute(prefix, designator, argument) => {
+            let prefix = &prefix.first.ident;
+            let meaning = scope.visible(&prefix.name);
+            match argument {
+                None => attribute(meaning, prefix, designator, None, faults),
+                Some(e) => {
+                    let typed = expression(alloc, e, scope, faults)?;
+                    let argument = Some((expression_at(e), typed));
+                    attribute(meaning, prefix, designator, argument, faults)
+                }
+            }
+        }
+        Primary::Group(_, e) => expression(alloc, e, scope, faults),
+    }
+}
+
+#[cycle(expression)]
+fn factor(
+    alloc: Global,
+    factor: &Factor,
+    scope: &Scope<'_>,
+    faults: &mut Least,
+) -> Result<Typed, AllocError>
+    ensures { Shows faults.old faults.new (checked_factor (plain_factor factor.now) scope.now) result }
+{
+    let operand = primary(alloc, &factor.primary, scope, faults)?;
+    match &factor.operator {
+        None => Ok(operand),
+        Some(operator) => highest(
+            alloc,
+            operator.highest,
+            primary_at(&factor.primary),
+            operand,
+            faults,
+        ),
+    }
+}
+
+#[cycle(expression)]
+fn multiplied(
+    alloc: Global,
+    multiplied: &Multiplied,
+    scope: &Scope<'_>,
+    at: Pos,
+    left: Typed,
+    faults: &mut Least,
+) -> Result<Typed, AllocError>
+    ensures { Shows faults.old faults.new (checked_multiplied (plain_multiplied multiplied.now) scope.now at (plain_typed left)) result }
+{
+    let right = factor(alloc, &multiplied.factor, scope, faults)?;
+    let operator = multiplying(multiplied.operator);
+    arithmetic(
+        alloc,
+        operator,
+        at,
+        left,
+        factor_at(&multiplied.factor),
+        right,
+        faults,
+    )
+}
+
+#[cycle(expression)]
+fn term(
+    alloc: Global,
+    term: &Term,
+    scope: &Scope<'_>,
+    faults: &mut Least,
+) -> Result<Typed, AllocError>
+    ensures { Shows faults.old faults.new (checked_term (plain_term term.now) scope.now) result }
+{
+    let at = term_at(term);
+    let mut left = factor(alloc, &term.first, scope, faults)?;
+    for next in &term.rest {
+        left = multiplied(alloc, next, scope, at, left, faults)?;
+    }
+    Ok(left)
+}
+
+#[cycle(expression)]
+fn added(
+    alloc: Global,
+    added: &Added,
+    scope: &Scope<'_>,
+    at: Pos,
+    left: Typed,
+    faults: &mut Least,
+) -> Result<Typed, AllocError>
+    ensures { Shows faults.old faults.new (checked_added (plain_added added.now) scope.now at (plain_typed left)) result }
+{
+    let right = term(alloc, &added.term, scope, faults)?;
+    adding_operator(
+        alloc,
+        added.operator,
+        at,
+        left,
+        term_at(&added.term),
+        right,
+        faults,
+    )
+}
+
+#[cycle(expression)]
+fn simple(
+    alloc: Global,
+    e: &Simple,
+    scope: &Scope<'_>,
+    faults: &mut Least,
+) -> Result<Typed, AllocError>
+    ensures { Shows faults.old faults.new (checked_simple (plain_simple e.now) scope.now) result }
+{
+    let at = simple_at(e);
+    let first = term(alloc, &e.first, scope, faults)?;
+    let mut left = signed(alloc, e.sign, term_at(&e.first), first, faults)?;
+    for next in &e.rest {
+        left = added(alloc, next, scope, at, left, faults)?;
+    }
+    Ok(left)
+}
+
+#[cycle(expression)]
+fn relation(
+    alloc: Global,
+    relation: &Relation,
+    scope: &Scope<'_>,
+    faults: &mut Least,
+) -> Result<Typed, AllocError>
+    ensures { Shows faults.old faults.new (checked_relation (plain_relation relation.now) scope.now) result }
+{
+    let Relation::Unrelated(e) = relation;
+    simple(alloc, e, scope, faults)
+}
+
+/// Checks an expression (RM 4.4): notes its faults, and answers with its type what is left of it.
+#[cycle(expression)]
+pub fn expression(
+    alloc: Global,
+    e: &Expression,
+    scope: &Scope<'_>,
+    faults: &mut Least,
+) -> Result<Typed, AllocError>
+    ensures { Shows faults.old faults.new (checked_expression (plain_expression e.now) scope.now) result }
+{
+    let Expression::Alone(alone) = e;
+    relation(alloc, alone, scope, faults)
+}

@@ -1,0 +1,9 @@
+use Rattle.std.proofs.Common.{refl, arith}
+use Rattle.aud_syntax.specs.View.{plain_statement, plain_statements}
+use Rattle.aud_syntax.specs.Printed.{statement_words, statements_words}
+use Rattle.aud_syntax.proofs.Written.{next_written}
+use Rattle.aud_syntax.proofs.print.push_statements.Goals as goal
+
+pub loop-next-preserved : goal.loop-next-preserved
+loop-next-preserved c =
+    next_written (λ xs. statements_words (plain_statements xs)) (λ x. statement_words (plain_statement x)) (λ x xs. refl) c.args.statements.now c.loop-next.next-index c.next-item.result (omega arith) c.next-item.is c.loop-next.out.items c.push_statement.new.out.items _ c.loop-next.invariant c.in_ok-push_statement.ensures
