@@ -14,8 +14,8 @@ use Rattle.aud_bench.specs.declared.request.Answer.TheVariants.{Refused}
 use Rattle.aud_bench.specs.contracts.request.Answer as contract
 use Rattle.aud_bench.specs.declared.service.Served.{Served}
 use Rattle.aud_bench.specs.Alone.{Loaded, replied, cost_from, cost, made}
-use Rattle.aud_bench.specs.Serving.{UnderWay, ServesBy, Serves}
-use Rattle.aud_bench.specs.Standing.{loaded_after, answers_to, units_done, AtFirst, told, IsAt}
+use Rattle.aud_bench.specs.Ties.Serving.{UnderWay, ServesBy, Serves}
+use Rattle.aud_bench.specs.Ties.Standing.{loaded_after, answers_to, units_done, AtFirst, told, IsAt}
 use Rattle.aud_bench.proofs.Standing.{cost_append, opens, still_first, loaded_append, answers_append, made_is, units_within}
 
 answers_prop : (xs ys : List Answer) → IsProp (xs ≡ ys)

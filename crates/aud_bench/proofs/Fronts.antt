@@ -6,9 +6,9 @@ use Rattle.aud_bench.specs.declared.request.Request.{Request}
 use Rattle.aud_bench.specs.declared.request.Answer.{Answer}
 use Rattle.aud_bench.specs.Alone.{Loaded, Server, is_quit, fits, kept, fresh, replied, answers_from, alone, cost_from, cost, made_from, made}
 use Rattle.aud_bench.specs.Size.{size, bytes_of}
-use Rattle.aud_bench.specs.Seen.{has_quit}
-use Rattle.aud_bench.specs.Kept.{ends_there, kept_behind, FrontLaw, WholeLaw}
-use Rattle.aud_bench.specs.Standing.{answers_to}
+use Rattle.aud_bench.specs.Ties.Seen.{has_quit}
+use Rattle.aud_bench.specs.Ties.Kept.{ends_there, kept_behind, FrontLaw, WholeLaw}
+use Rattle.aud_bench.specs.Ties.Standing.{answers_to}
 use Rattle.aud_bench.proofs.Sessions.{last_one, goes_on}
 use Rattle.aud_bench.proofs.Standing.{made_past}
 use Rattle.aud_bench.proofs.Journals.{or_left, or_right}

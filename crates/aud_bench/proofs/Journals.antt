@@ -4,7 +4,7 @@ use Rattle.std.proofs.Common.{◌≡◌, ℕ, ◌+◌, ◌≤◌, List, [], ◌�
 use Rattle.aud_text.specs.declared.limits.TheConstants.{REQUESTS, REQUEST_BYTES}
 use Rattle.aud_bench.specs.declared.request.Request.{Request}
 use Rattle.aud_bench.specs.Alone.{is_quit, has_room, fits}
-use Rattle.aud_bench.specs.Seen.{has_quit}
+use Rattle.aud_bench.specs.Ties.Seen.{has_quit}
 use Rattle.aud_bench.specs.Size.{size, bytes_of}
 
 pub or_left : (a b : Bool) → (a || b) ≡ false → a ≡ false

@@ -5,7 +5,7 @@ use Rattle.aud_text.specs.declared.refusal.Refusal.TheVariants as refusal
 use Rattle.aud_text.specs.declared.limits.Limits.{Limits}
 use Rattle.aud_text.specs.declared.limits.TheConstants.{STEPS}
 use Rattle.aud_typed.specs.Tree as tree
-use Rattle.aud_typed.specs.View.{plain_program}
+use Rattle.aud_typed.specs.Ties.View.{plain_program}
 use Rattle.aud_meaning.specs.declared.state.State.TheVariants as state
 use Rattle.aud_meaning.specs.Configuration.{Item, Configuration}
 use Rattle.aud_meaning.specs.Control.{Controls}
@@ -22,7 +22,7 @@ use Rattle.aud_bench.specs.declared.request.Answer.TheVariants as answer
 use Rattle.aud_bench.specs.declared.request.Raised.{Raised}
 use Rattle.aud_bench.specs.Alone.{Loaded, answers_only, named_if, ended_by, report, ran_reply, steps_left, run_reply, load_reply, output_reply, replied}
 use Rattle.aud_bench.specs.Loading.{program_of}
-use Rattle.aud_bench.specs.Serving.{Holds, Replies, UnderWay, ServesBy}
+use Rattle.aud_bench.specs.Ties.Serving.{Holds, Replies, UnderWay, ServesBy}
 
 is_none : (n : ℕ) → n ≡ 0 → (n == 0) ≡ true
 is_none n e = ap (λ k. k == 0) e

@@ -7,8 +7,8 @@ use Rattle.aud_bench.specs.declared.request.Request.{Request}
 use Rattle.aud_bench.specs.declared.request.Request.TheVariants as request
 use Rattle.aud_bench.specs.declared.request.Answer.{Answer}
 use Rattle.aud_bench.specs.Alone.{Loaded, Reply, replied, cost_from, cost, made_after, made_from, made}
-use Rattle.aud_bench.specs.Serving.{IsLoaded, UnderWay}
-use Rattle.aud_bench.specs.Standing.{loaded_after, answers_to, units_done, AtFirst}
+use Rattle.aud_bench.specs.Ties.Serving.{IsLoaded, UnderWay}
+use Rattle.aud_bench.specs.Ties.Standing.{loaded_after, answers_to, units_done, AtFirst}
 use Rattle.aud_bench.proofs.Serving.{costs_some}
 
 le_true : (a b : ℕ) → a ≤ b → nat_le a b ≡ true

@@ -1,8 +1,4 @@
 pub mod Size
 pub mod Loading
 pub mod Alone
-pub mod Loads
-pub mod Seen
-pub mod Kept
-pub mod Serving
-pub mod Standing
+pub mod Ties

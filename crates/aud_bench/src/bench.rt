@@ -2,8 +2,8 @@
 
 ghost use Rattle.std.specs.Prelude.{◌≡◌, ℕ, ◌+◌, ◌-◌, ◌<◌, ◌≤◌, ◌++◌, min, List, [], ◌∷◌, Err, false, true, length, vec_len, vec_capacity, None, IfSome, OnOk, OnErr, IsErrOf};
 ghost use Rattle.aud_bench.specs.Alone.{cost, fits};
-ghost use Rattle.aud_bench.specs.Kept.{is_kept};
-ghost use Rattle.aud_bench.specs.Seen.{Seen, HasMade, is_closed, unanswered};
+ghost use Rattle.aud_bench.specs.Ties.Kept.{is_kept};
+ghost use Rattle.aud_bench.specs.Ties.Seen.{Seen, HasMade, is_closed, unanswered};
 ghost use Rattle.aud_bench.specs.Size.{bytes_of};
 ghost use Rattle.aud_bench.specs.declared.bench.GiveFault.TheVariants as fault;
 
@@ -55,9 +55,9 @@ pub struct Bench {
 
 impl Model for Bench {
     ghost use Rattle.std.specs.Prelude.{◌≡◌, ◌≤◌, ◌-◌, length, true, false, vec_capacity};
-    ghost use Rattle.aud_bench.specs.Standing.{IsAt, units_done};
-    ghost use Rattle.aud_bench.specs.Seen.{Seen, has_quit};
-    ghost use Rattle.aud_bench.specs.Kept.{is_kept};
+    ghost use Rattle.aud_bench.specs.Ties.Standing.{IsAt, units_done};
+    ghost use Rattle.aud_bench.specs.Ties.Seen.{Seen, has_quit};
+    ghost use Rattle.aud_bench.specs.Ties.Kept.{is_kept};
     ghost use Rattle.aud_bench.specs.Size.{bytes_of};
 
     ghost Value = { Seen };

@@ -1,15 +1,15 @@
 // From a source text to a typed program.
 
 ghost use Rattle.std.specs.Prelude.{◌≡◌, IfOk, Result, Err};
-ghost use Rattle.aud_typed.specs.Scoped.{IsScoped};
-ghost use Rattle.aud_typed.specs.View.{plain_program};
+ghost use Rattle.aud_typed.specs.Why.Scoped.{IsScoped};
+ghost use Rattle.aud_typed.specs.Ties.View.{plain_program};
 ghost use Rattle.aud_lex.specs.Lexed.{lexed};
-ghost use Rattle.aud_syntax.specs.View.{plain_unit};
+ghost use Rattle.aud_syntax.specs.Ties.View.{plain_unit};
 ghost use Rattle.aud_bench.specs.Loading.{after_checking, after_lexing, after_parsing, place_of, program_of};
-ghost use Rattle.aud_bench.specs.Loads.{Gives};
+ghost use Rattle.aud_bench.specs.Ties.Loads.{Gives};
 ghost use Rattle.aud_bench.specs.Size.{line_count};
 ghost use Rattle.aud_check.specs.Checked as rules;
-ghost use Rattle.aud_parse.specs.Gives as parses;
+ghost use Rattle.aud_parse.specs.Ties.Gives as parses;
 ghost use Rattle.aud_parse.specs.Parsed as syntax;
 ghost use Rattle.aud_syntax.specs.Plain as plain;
 ghost use Rattle.aud_bench.specs.declared.loading.LoadFault.TheVariants as fault;

@@ -2,13 +2,13 @@
 
 ghost use Rattle.std.specs.Prelude.{◌≡◌, ◌≤◌, min, true, false, Option, Some, Ok, IfOk, IsSome};
 ghost use Rattle.aud_typed.specs.declared.program.Program.{Program as Programs};
-ghost use Rattle.aud_typed.specs.View.{plain_program};
+ghost use Rattle.aud_typed.specs.Ties.View.{plain_program};
 ghost use Rattle.aud_meaning.specs.declared.state.State.TheVariants as states;
 ghost use Rattle.aud_text.specs.declared.limits.Limits.{Limits as Bounds};
 ghost use Rattle.aud_bench.specs.declared.request.Request.TheVariants as asked;
 ghost use Rattle.aud_bench.specs.Loading.{program_of};
 ghost use Rattle.aud_bench.specs.Alone.{Loaded, named, named_if, ended_by, load_reply, output_reply, replied};
-ghost use Rattle.aud_bench.specs.Serving.{IsLoaded, Replies, UnderWay, Serves};
+ghost use Rattle.aud_bench.specs.Ties.Serving.{IsLoaded, Replies, UnderWay, Serves};
 
 use crate::loading::{LoadFault, load};
 use crate::request::{Answer, Raised, Report, Request};

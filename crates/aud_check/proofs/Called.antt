@@ -2,7 +2,7 @@
 use Rattle.std.proofs.Common.{◌≡◌, List, [], ◌∷◌, length, refl}
 use Rattle.aud_syntax.specs.declared.tree.Ident.{Ident}
 use Rattle.aud_syntax.specs.declared.tree.Expression.{Expression}
-use Rattle.aud_syntax.specs.View.{plain_expressions}
+use Rattle.aud_syntax.specs.Ties.View.{plain_expressions}
 use Rattle.aud_typed.specs.Tree as tree
 use Rattle.aud_check.specs.Names.{Place}
 use Rattle.aud_check.specs.Rules.{wrong_number_of_arguments}

@@ -8,7 +8,7 @@ use Rattle.aud_typed.specs.declared.program.IntegerExpression.{IntegerExpression
 use Rattle.aud_typed.specs.declared.program.IntegerExpression.TheVariants.{Chain}
 use Rattle.aud_typed.specs.declared.program.TextExpression.{TextExpression}
 use Rattle.aud_typed.specs.declared.program.TextExpression.TheVariants.{Join}
-use Rattle.aud_typed.specs.View.{plain_integer, plain_text}
+use Rattle.aud_typed.specs.Ties.View.{plain_integer, plain_text}
 use Rattle.aud_typed.specs.Tree.{chained, joined, binary, join}
 use Rattle.aud_typed.proofs.Chains.{plain_operation, chain_open, chained_more, join_open, joined_more}
 

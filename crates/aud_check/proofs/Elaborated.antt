@@ -5,17 +5,17 @@ use Rattle.std.proofs.lemmas.List.{map-append}
 use Rattle.aud_text.specs.declared.place.Pos.{Pos}
 use Rattle.aud_typed.specs.declared.program.Statement as memory
 use Rattle.aud_typed.specs.Tree as tree
-use Rattle.aud_typed.specs.View.{plain_statement, plain_statements as plain_typed_statements}
+use Rattle.aud_typed.specs.Ties.View.{plain_statement, plain_statements as plain_typed_statements}
 use Rattle.aud_syntax.specs.declared.tree.Statement as source
 use Rattle.aud_syntax.specs.declared.tree.Declaration.{Declaration}
-use Rattle.aud_syntax.specs.View.{plain_statements, plain_declarations, plain_declaration, plain_statement as plain_source}
+use Rattle.aud_syntax.specs.Ties.View.{plain_statements, plain_declarations, plain_declaration, plain_statement as plain_source}
 use Rattle.aud_check.specs.Names.{Place}
-use Rattle.aud_check.specs.Regions.{plain_place}
+use Rattle.aud_check.specs.Ties.Regions.{plain_place}
 use Rattle.aud_check.specs.declared.declaration.DeclarativePart.{DeclarativePart}
 use Rattle.aud_check.specs.declared.fault.Fault.{Fault}
 use Rattle.aud_check.specs.Least.{noted}
 use Rattle.aud_check.specs.Declarations.{Declared, checked_declaration, checked_declarations}
-use Rattle.aud_check.specs.DeclarativePart.{Declares}
+use Rattle.aud_check.specs.Ties.DeclarativePart.{Declares}
 use Rattle.aud_check.specs.Statements.{statement_faults, statements_faults, typed_statements}
 use Rattle.aud_check.specs.Checked.{or_null}
 use Rattle.aud_check.proofs.Notes.{noted_append}

@@ -6,7 +6,7 @@ use Rattle.aud_check.specs.declared.fault.Fault.{Fault}
 use Rattle.aud_check.specs.declared.typed.Typed as memory
 use Rattle.aud_check.specs.Least.{note, noted}
 use Rattle.aud_check.specs.Expressions.{Typed, Checked, with}
-use Rattle.aud_check.specs.Typing.{plain_typed, Shows}
+use Rattle.aud_check.specs.Ties.Typing.{plain_typed, Shows}
 
 pub noted_append : (o : Option Fault) (fs gs : List Fault) → noted o (fs ++ gs) ≡ noted (noted o fs) gs
 noted_append o [] gs = refl

@@ -6,7 +6,7 @@ use Rattle.aud_syntax.specs.declared.tree.Multiplied.{Multiplied}
 use Rattle.aud_syntax.specs.declared.tree.Simple.{Simple, out-Simple}
 use Rattle.aud_syntax.specs.declared.tree.Added.{Added}
 use Rattle.aud_syntax.specs.declared.tree.Term.{Term, out-Term}
-use Rattle.aud_syntax.specs.View.{plain_simple, plain_added, plain_term, plain_multiplied, plain_factor}
+use Rattle.aud_syntax.specs.Ties.View.{plain_simple, plain_added, plain_term, plain_multiplied, plain_factor}
 use Rattle.aud_syntax.proofs.Opened.{multiplied_list, added_list, term_open, simple_open}
 use Rattle.aud_syntax.specs.Plain as m
 use Rattle.std.specs.Prelude.{Ok}
@@ -14,7 +14,7 @@ use Rattle.aud_check.specs.declared.fault.Fault.{Fault}
 use Rattle.aud_check.specs.declared.typed.Typed as memory
 use Rattle.aud_check.specs.Names.{Place}
 use Rattle.aud_check.specs.Expressions.{Typed, Checked, with, simple_at, term_at, signed_at, factor_at, signed, checked_simple, checked_addeds, checked_added, checked_term, checked_multiplieds, checked_multiplied, checked_factor}
-use Rattle.aud_check.specs.Typing.{plain_typed, Shows}
+use Rattle.aud_check.specs.Ties.Typing.{plain_typed, Shows}
 use Rattle.aud_check.proofs.Notes.{Ahead, ahead_all, ahead_with}
 
 -- where they begin

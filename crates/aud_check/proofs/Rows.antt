@@ -11,7 +11,7 @@ use Rattle.aud_syntax.specs.declared.tree.Sign.TheVariants as sign
 use Rattle.aud_syntax.specs.declared.tree.Highest.TheVariants.{Not}
 use Rattle.aud_syntax.specs.declared.tree.Multiplying.TheVariants.{Times}
 use Rattle.aud_syntax.specs.Plain.{Expression, alone, unrelated, simple, Addeds, no_addeds, more_addeds, added, Term, term, no_multiplieds, more_multiplieds, multiplied, factor, integer, name, attribute, group, no_expression, an_expression, named, no_parts, part, no_args, Declaration, object, no_declarations, Statement, null, assign, call, no_statements, more_statements, body, Unit, unit}
-use Rattle.aud_syntax.specs.Shorthand.{at, id, only, var_at, called, num, str, statements, declarations}
+use Rattle.aud_syntax.specs.Why.Shorthand.{at, id, only, var_at, called, num, str, statements, declarations}
 use Rattle.aud_typed.specs.declared.program.Variable.{Variable}
 use Rattle.aud_typed.specs.declared.program.Unary.TheVariants.{Negative}
 use Rattle.aud_typed.specs.declared.program.Binary.TheVariants.{Sum, Difference}

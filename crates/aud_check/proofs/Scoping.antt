@@ -20,7 +20,7 @@ use Rattle.aud_typed.specs.declared.program.Unary.{Unary}
 use Rattle.aud_typed.specs.declared.program.Unary.TheVariants as unary
 use Rattle.aud_typed.specs.declared.program.Binary.{Binary}
 use Rattle.aud_typed.specs.Tree as tree
-use Rattle.aud_typed.specs.Scoped.{Scope, IntegerScoped, ValueScoped, TextScoped, scope_after, StatementScoped, scope_behind, PartScoped, IsScoped}
+use Rattle.aud_typed.specs.Why.Scoped.{Scope, IntegerScoped, ValueScoped, TextScoped, scope_after, StatementScoped, scope_behind, PartScoped, IsScoped}
 use Rattle.aud_check.specs.declared.fault.Fault.{Fault}
 use Rattle.aud_check.specs.declared.names.Meaning.{Meaning}
 use Rattle.aud_check.specs.declared.names.Meaning.TheVariants.{IntegerType, PutLine, MainProcedure, Variable}

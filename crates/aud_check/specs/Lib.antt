@@ -1,11 +1,8 @@
 pub mod Least
 pub mod Names
-pub mod Regions
 pub mod Rules
 pub mod Expressions
-pub mod Typing
 pub mod Declarations
-pub mod DeclarativePart
 pub mod Statements
 pub mod Checked
-pub mod Gives
+pub mod Ties

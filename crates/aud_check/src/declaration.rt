@@ -1,14 +1,14 @@
 // Declarations of variables.
 
 ghost use Rattle.std.specs.Prelude.{◌≡◌, ◌++◌, IfOk, OnOk};
-ghost use Rattle.aud_syntax.specs.View.{plain_maybe, plain_declaration, plain_declarations};
-ghost use Rattle.aud_typed.specs.View.{plain_integer, plain_statements as plain_typed_statements};
+ghost use Rattle.aud_syntax.specs.Ties.View.{plain_maybe, plain_declaration, plain_declarations};
+ghost use Rattle.aud_typed.specs.Ties.View.{plain_integer, plain_statements as plain_typed_statements};
 ghost use Rattle.aud_check.specs.Least.{noted};
 ghost use Rattle.aud_check.specs.Rules.{declared_once};
 ghost use Rattle.aud_check.specs.Declarations.{subtype_faults, is_integer_type, initial_faults, initial_value, integer_or_zero, new_meaning, with_name, declared_names, twice_faults, first_at, elaboration, checked_declaration, checked_declarations};
-ghost use Rattle.aud_check.specs.Typing.{plain_typed};
-ghost use Rattle.aud_check.specs.DeclarativePart.{Declares};
-ghost use Rattle.aud_check.specs.Regions.{plain_region, plain_place};
+ghost use Rattle.aud_check.specs.Ties.Typing.{plain_typed};
+ghost use Rattle.aud_check.specs.Ties.DeclarativePart.{Declares};
+ghost use Rattle.aud_check.specs.Ties.Regions.{plain_region, plain_place};
 
 use crate::expression::{expression, expression_at};
 use crate::fault::Least;

@@ -1,10 +1,10 @@
 // Expressions.
 
 ghost use Rattle.std.specs.Prelude.{◌≡◌, option_map};
-ghost use Rattle.aud_syntax.specs.View.{plain_expression, plain_relation, plain_simple, plain_added, plain_term, plain_multiplied, plain_factor, plain_primary, plain_maybe};
+ghost use Rattle.aud_syntax.specs.Ties.View.{plain_expression, plain_relation, plain_simple, plain_added, plain_term, plain_multiplied, plain_factor, plain_primary, plain_maybe};
 ghost use Rattle.aud_check.specs.Expressions.{expression_at, relation_at, simple_at, term_at, factor_at, primary_at, multiplying, checked_number, checked_name, checked_expression, checked_relation, checked_simple, checked_added, checked_term, checked_multiplied, checked_factor, checked_primary, checked_image, checked_attribute, image_alone, image_with, variable_faults};
 ghost use Rattle.aud_check.specs.Least.{noted};
-ghost use Rattle.aud_check.specs.Typing.{plain_typed, Shows};
+ghost use Rattle.aud_check.specs.Ties.Typing.{plain_typed, Shows};
 
 use crate::fault::Least;
 use crate::names::{Meaning, Scope};

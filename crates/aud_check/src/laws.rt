@@ -2,7 +2,7 @@
 
 ghost use Rattle.std.specs.Prelude.{◌≡◌, []};
 ghost use Rattle.aud_syntax.specs.Plain as plain;
-ghost use Rattle.aud_typed.specs.Scoped.{IsScoped};
+ghost use Rattle.aud_typed.specs.Why.Scoped.{IsScoped};
 ghost use Rattle.aud_check.specs.Checked.{faults, typed};
 ghost use Rattle.aud_check.specs.Least.{LeastIsFirst};
 

@@ -2,11 +2,11 @@
 #![tactic(auto)]
 
 ghost use Rattle.std.specs.Prelude.{IfOk};
-ghost use Rattle.aud_syntax.specs.View.{plain_unit};
-ghost use Rattle.aud_typed.specs.Scoped.{IsScoped};
-ghost use Rattle.aud_typed.specs.View.{plain_program};
+ghost use Rattle.aud_syntax.specs.Ties.View.{plain_unit};
+ghost use Rattle.aud_typed.specs.Why.Scoped.{IsScoped};
+ghost use Rattle.aud_typed.specs.Ties.View.{plain_program};
 ghost use Rattle.aud_check.specs.Checked.{checked};
-ghost use Rattle.aud_check.specs.Gives.{Gives};
+ghost use Rattle.aud_check.specs.Ties.Gives.{Gives};
 
 mod declaration;
 mod expression;

@@ -2,7 +2,7 @@
 
 ghost use Rattle.std.specs.Prelude.{◌≡◌, IfOk};
 ghost use Rattle.aud_check.specs.Names.{Place as Plain, empty_region, named_in, predefined, declared, hiding, is_hidden, visible, main_place};
-ghost use Rattle.aud_check.specs.Regions.{plain_region, plain_regions, plain_place};
+ghost use Rattle.aud_check.specs.Ties.Regions.{plain_region, plain_regions, plain_place};
 
 use aud_syntax::tree::Ident;
 use aud_text::name::Name;

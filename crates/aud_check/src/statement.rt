@@ -1,12 +1,12 @@
 // Statements.
 
 ghost use Rattle.std.specs.Prelude.{◌≡◌, ◌++◌, IfOk, OnOk};
-ghost use Rattle.aud_syntax.specs.View.{plain_expression, plain_expressions, plain_statement, plain_statements};
+ghost use Rattle.aud_syntax.specs.Ties.View.{plain_expression, plain_expressions, plain_statement, plain_statements};
 ghost use Rattle.aud_syntax.specs.Plain.{no_args, more_args};
-ghost use Rattle.aud_typed.specs.View.{plain_statement as plain_typed_statement, plain_statements as plain_typed_statements};
+ghost use Rattle.aud_typed.specs.Ties.View.{plain_statement as plain_typed_statement, plain_statements as plain_typed_statements};
 ghost use Rattle.aud_check.specs.Least.{noted};
 ghost use Rattle.aud_check.specs.Statements.{target_base, assign_faults, assigned, callee_faults, formal_base, called, args_faults, called_with, statement_faults, typed_statement, statements_faults, typed_statements};
-ghost use Rattle.aud_check.specs.Typing.{plain_typed};
+ghost use Rattle.aud_check.specs.Ties.Typing.{plain_typed};
 
 use crate::expression::{check_variable, expression, expression_at};
 use crate::fault::Least;

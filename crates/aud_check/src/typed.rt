@@ -3,10 +3,10 @@
 ghost use Rattle.std.specs.Prelude.{◌≡◌, IfOk};
 ghost use Rattle.aud_typed.specs.Tree.{binary, join};
 ghost use Rattle.aud_typed.specs.declared.program.Operation.{out-Operation};
-ghost use Rattle.aud_typed.specs.View.{plain_integer, plain_text};
+ghost use Rattle.aud_typed.specs.Ties.View.{plain_integer, plain_text};
 ghost use Rattle.aud_check.specs.Least.{noted};
 ghost use Rattle.aud_check.specs.Expressions.{base_of, not_integer, not_text, not_boolean, combined, joined, one, integer_only, image_of, arithmetic, joining, adding_operator, signed, highest};
-ghost use Rattle.aud_check.specs.Typing.{plain_typed, Shows};
+ghost use Rattle.aud_check.specs.Ties.Typing.{plain_typed, Shows};
 
 use crate::fault::Least;
 use crate::rules::{Base, right_type};

@@ -1,8 +1,8 @@
 // Programs.
 
 ghost use Rattle.std.specs.Prelude.{◌≡◌, map, IfOk, OnOk};
-ghost use Rattle.aud_syntax.specs.View.{plain_statements, plain_unit};
-ghost use Rattle.aud_typed.specs.View.{plain_statements as plain_typed_statements, plain_program};
+ghost use Rattle.aud_syntax.specs.Ties.View.{plain_statements, plain_unit};
+ghost use Rattle.aud_typed.specs.Ties.View.{plain_statements as plain_typed_statements, plain_program};
 ghost use Rattle.aud_check.specs.Least.{noted};
 ghost use Rattle.aud_check.specs.Statements.{typed_statements, statements_faults};
 ghost use Rattle.aud_check.specs.Checked.{or_null, faults as program_faults, typed as typed_program};

@@ -9,7 +9,7 @@ use Rattle.aud_typed.specs.declared.program.Operation.{Operation}
 use Rattle.aud_typed.specs.declared.program.TextExpression.{TextExpression}
 use Rattle.aud_typed.specs.declared.program.TextExpression.TheVariants.{Join}
 use Rattle.aud_typed.specs.declared.program.Statement.{Statement}
-use Rattle.aud_typed.specs.View.{plain_integer, plain_text}
+use Rattle.aud_typed.specs.Ties.View.{plain_integer, plain_text}
 use Rattle.aud_typed.specs.Tree as tree
 use Rattle.aud_typed.proofs.Chains.{plain_operation, chain_open, join_open}
 use Rattle.aud_code.specs.Instruction.{Instruction, OnTwo}

@@ -6,7 +6,7 @@ use Rattle.aud_meaning.specs.Configuration.{Item, All, Configuration}
 use Rattle.aud_meaning.specs.Control.{Moved, Controls, ordered}
 use Rattle.aud_meaning.specs.Items.{controls}
 use Rattle.aud_meaning.specs.Run.{Move, seen, moves_at, state_at, step_with, run_with, run, step, supplied, advanced, opening, opening_with, main_raised}
-use Rattle.aud_meaning.specs.Agree.{Agrees, ShowsAll}
+use Rattle.aud_meaning.specs.Why.Agree.{Agrees, ShowsAll}
 use Rattle.aud_code.specs.Places.{Spot}
 use Rattle.aud_code.specs.Flat.{flat_controls}
 use Rattle.aud_code.specs.Sound.{IsStart, IsSound}

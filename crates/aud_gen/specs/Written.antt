@@ -5,7 +5,7 @@ use Rattle.aud_typed.specs.declared.program.Statement.{Statement}
 use Rattle.aud_typed.specs.declared.program.Statement.TheVariants.{Declare, Null, Assign, Put}
 use Rattle.aud_typed.specs.declared.program.Subtype.TheVariants.{Integer}
 use Rattle.aud_typed.specs.Tree.{whole, scalar}
-use Rattle.aud_typed.specs.View.{plain_integer, plain_text}
+use Rattle.aud_typed.specs.Ties.View.{plain_integer, plain_text}
 use Rattle.aud_meaning.specs.Items.{nowhere}
 use Rattle.aud_code.specs.Flat.{FlatLine, Flat}
 use Rattle.aud_gen.specs.Simple.{Simple, declares, idles, assigns, puts, body_at, size_of, code_from}

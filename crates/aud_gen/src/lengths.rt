@@ -1,7 +1,7 @@
 // How many lines each part of a program becomes.
 
 ghost use Rattle.std.specs.Prelude.{◌≡◌, ◌+◌, length, map, IfOk};
-ghost use Rattle.aud_typed.specs.View.{plain_integer, plain_text};
+ghost use Rattle.aud_typed.specs.Ties.View.{plain_integer, plain_text};
 ghost use Rattle.aud_gen.specs.Instructions.{integer_code, text_code};
 ghost use Rattle.aud_gen.specs.Simple.{step_size, steps_size};
 ghost use Rattle.aud_gen.specs.Written.{simple_of};

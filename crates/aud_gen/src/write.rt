@@ -3,7 +3,7 @@
 ghost use Rattle.std.specs.Prelude.{◌≡◌, List, [], ◌∷◌, ◌++◌, ◌+◌, map, OnOk, IfOk};
 ghost use Rattle.aud_typed.specs.declared.program.Subtype.TheVariants.{Integer};
 ghost use Rattle.aud_typed.specs.Tree.{whole};
-ghost use Rattle.aud_typed.specs.View.{plain_integer, plain_text, plain_program};
+ghost use Rattle.aud_typed.specs.Ties.View.{plain_integer, plain_text, plain_program};
 ghost use Rattle.aud_meaning.specs.Items.{statement_at, nowhere};
 ghost use Rattle.aud_code.specs.Flat.{instructs, end};
 ghost use Rattle.aud_code.specs.View.{plain_instruction, plain_ending, plain_line, plain_code};

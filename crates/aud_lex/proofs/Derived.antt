@@ -11,7 +11,7 @@ use Rattle.aud_lex.specs.declared.automaton.State.TheVariants.{Start, InWord, Wo
 use Rattle.aud_lex.specs.Bytes.{class}
 use Rattle.aud_lex.specs.Kinds.{Spelled, spelled, reserved, delimiters}
 use Rattle.aud_lex.specs.Tokens.{run, step, in_string, accepts, is_token, kind_of, kind_in, found, small}
-use Rattle.aud_lex.specs.Manual.{The, One, Anything, Optional, ◌then◌, ◌or◌, Repeated, never, again, Letter, Digit, Underline, Identifier, ReservedWord, Numeral, RealLiteral, StringElement, StringLiteral, Delimiter, IsElement, identifier, reserved_word, integer, real, string, delimiter}
+use Rattle.aud_lex.specs.Why.Manual.{The, One, Anything, Optional, ◌then◌, ◌or◌, Repeated, never, again, Letter, Digit, Underline, Identifier, ReservedWord, Numeral, RealLiteral, StringElement, StringLiteral, Delimiter, IsElement, identifier, reserved_word, integer, real, string, delimiter}
 use Rattle.aud_lex.proofs.Characters.{is_plain, of_plain, plains_agree, letter_class, digit_class, small_class}
 use Rattle.aud_lex.proofs.Listed.{all_at, found_listed, none_found}
 

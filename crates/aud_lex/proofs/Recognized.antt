@@ -12,8 +12,8 @@ use Rattle.aud_lex.specs.declared.automaton.State.TheVariants.{Dead, InWord, Wor
 use Rattle.aud_lex.specs.Bytes as bytes
 use Rattle.aud_lex.specs.Kinds.{reserved, delimiters}
 use Rattle.aud_lex.specs.Tokens.{run, step, from_start, in_word, word_underscore, accepts, is_token, kind_of, kind_in, found, small}
-use Rattle.aud_lex.specs.Manual.{The, Optional, ◌then◌, ◌or◌, Repeated, never, again, Letter, Digit, Underline, Numeral, StringElement, IsElement, identifier, reserved_word, integer, real, string, delimiter}
-use Rattle.aud_lex.specs.Laws.{TokensAreElements, IsNone, Examples}
+use Rattle.aud_lex.specs.Why.Manual.{The, Optional, ◌then◌, ◌or◌, Repeated, never, again, Letter, Digit, Underline, Numeral, StringElement, IsElement, identifier, reserved_word, integer, real, string, delimiter}
+use Rattle.aud_lex.specs.Why.Laws.{TokensAreElements, IsNone, Examples}
 use Rattle.aud_lex.proofs.Fronts.{run_dead}
 use Rattle.aud_lex.proofs.Characters.{is_letter, is_digit, is_plain, of_letter, of_digit, of_plain, letters_agree, digits_agree, plains_agree, control_above, byte_of, of_one, byte_is}
 use Rattle.aud_lex.proofs.Listed.{found_or_not, is_listed, listed}

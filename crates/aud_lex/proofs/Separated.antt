@@ -1,9 +1,9 @@
 -- What stands between two tokens, and behind the last, as the manual says it.
 use Rattle.std.proofs.Common.{◌≡◌, ◌⊎◌, ℕ, zero, suc, ◌≤◌, List, [], ◌∷◌, ◌++◌, length, Bool, true, false, refl, ap, ◌∙◌, sym, subst, arith, inl, inr, ⊎_elim, append_assoc, append-nil}
 use Rattle.std.proofs.lemmas.Bool.{true≢false}
-use Rattle.aud_lex.specs.Cut.{is_gap}
-use Rattle.aud_lex.specs.Manual.{The, ◌then◌, ◌or◌, Repeated, never, again, EndOfLine, Separator, CommentCharacter, Comment, Between, BehindLast}
-use Rattle.aud_lex.specs.Laws.{GapsAreSeparators}
+use Rattle.aud_lex.specs.Why.Cut.{is_gap}
+use Rattle.aud_lex.specs.Why.Manual.{The, ◌then◌, ◌or◌, Repeated, never, again, EndOfLine, Separator, CommentCharacter, Comment, Between, BehindLast}
+use Rattle.aud_lex.specs.Why.Laws.{GapsAreSeparators}
 use Rattle.aud_lex.proofs.Gaps.{Piece, passed, Split, passes, view, no_gap, shorter}
 use Rattle.aud_lex.proofs.Recognized.{longer}
 

@@ -5,7 +5,7 @@ use Rattle.std.proofs.lemmas.Option.{slice_get_past}
 use Rattle.std.proofs.lemmas.List.{length-replicate}
 use Rattle.aud_text.specs.declared.limits.Limits.{Limits}
 use Rattle.aud_typed.specs.declared.program.Program.{Program}
-use Rattle.aud_typed.specs.View.{plain_program}
+use Rattle.aud_typed.specs.Ties.View.{plain_program}
 use Rattle.aud_typed.specs.Tree as tree
 use Rattle.aud_meaning.specs.declared.state.State.{State}
 use Rattle.aud_meaning.specs.declared.state.NextStep.{NextStep}
@@ -14,7 +14,7 @@ use Rattle.aud_meaning.specs.Items.{controls}
 use Rattle.aud_meaning.specs.Run.{own_move, seen, moves_at, state_at, step_with, run_with, moves_in, state_in, step, run, opening, opening_with}
 use Rattle.aud_meaning.specs.Parts.{unit_of}
 use Rattle.aud_meaning.specs.View.{coming_step, coming_step_at, coming_step_in}
-use Rattle.aud_meaning.specs.Single.{Single, all_of}
+use Rattle.aud_meaning.specs.Ties.Single.{Single, all_of}
 use Rattle.aud_code.specs.Places.{Spot}
 use Rattle.aud_code.specs.Flat.{Flat, flat_controls}
 use Rattle.aud_gen.specs.Assembly.{flat_program}

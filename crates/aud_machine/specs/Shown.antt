@@ -2,7 +2,7 @@
 use Rattle.std.specs.Prelude.{Bool}
 use Rattle.aud_text.specs.declared.limits.Limits.{Limits}
 use Rattle.aud_typed.specs.declared.program.Program.{Program}
-use Rattle.aud_typed.specs.View.{plain_program}
+use Rattle.aud_typed.specs.Ties.View.{plain_program}
 use Rattle.aud_typed.specs.Tree as tree
 use Rattle.aud_meaning.specs.Configuration.{All}
 use Rattle.aud_code.specs.Places.{Spot}

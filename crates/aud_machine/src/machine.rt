@@ -1,10 +1,10 @@
 // A machine and its runs.
 
 ghost use Rattle.std.specs.Prelude.{◌≡◌, ◌+◌, ◌*◌, ◌<◌, ◌≤◌, [], ◌∷◌, length, map, min, slice_get, IfOk, IfSome, OnOk};
-ghost use Rattle.aud_typed.specs.View.{plain_program};
+ghost use Rattle.aud_typed.specs.Ties.View.{plain_program};
 ghost use Rattle.aud_meaning.specs.Configuration.{Configuration};
 ghost use Rattle.aud_meaning.specs.Run.{moves_in, state_in, main_raised, supplied, advanced, opening};
-ghost use Rattle.aud_meaning.specs.Single.{own_in};
+ghost use Rattle.aud_meaning.specs.Ties.Single.{own_in};
 ghost use Rattle.aud_meaning.specs.View.{coming_step_in};
 ghost use Rattle.aud_single.specs.Shown.{plain_stage};
 ghost use Rattle.aud_single.specs.Ticks.{ticks_in, run_ticks};
@@ -36,8 +36,8 @@ pub struct Machine {
 
 impl Model for Machine {
     ghost use Rattle.std.specs.Prelude.{◌≡◌, false};
-    ghost use Rattle.aud_typed.specs.View.{plain_program};
-    ghost use Rattle.aud_meaning.specs.Single.{all_of};
+    ghost use Rattle.aud_typed.specs.Ties.View.{plain_program};
+    ghost use Rattle.aud_meaning.specs.Ties.Single.{all_of};
     ghost use Rattle.aud_gen.specs.Assembly.{flat_program};
     ghost use Rattle.aud_single.specs.Steps.{Stands};
     ghost use Rattle.aud_machine.specs.Shown.{Shown};

@@ -11,7 +11,7 @@ use Rattle.aud_meaning.specs.Control.{Controls, Asked, raises_here, raises_in_pa
 use Rattle.aud_meaning.specs.Run.{own_move, seen, orders, step_with}
 use Rattle.aud_meaning.specs.Control as control
 use Rattle.aud_meaning.specs.Effects.{assigned, put_out}
-use Rattle.aud_meaning.specs.Single.{runs, completed, Single, all_of, scene_in}
+use Rattle.aud_meaning.specs.Ties.Single.{runs, completed, Single, all_of, scene_in}
 
 module _ {C : Type 0} (plan : Plan) (name : List ℕ) (k : Controls C) (limits : Limits) where
   abbrev In : Single C → All C

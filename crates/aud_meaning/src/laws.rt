@@ -1,6 +1,6 @@
 // Laws of the meaning. Each function does nothing: its contract is the law.
 
-ghost use Rattle.aud_meaning.specs.Laws.{CutLaw, ClockLaw, StepsLaw};
+ghost use Rattle.aud_meaning.specs.Why.Laws.{CutLaw, ClockLaw, StepsLaw};
 
 /// A run may be cut anywhere.
 pub fn cut_law()

@@ -9,10 +9,10 @@ use Rattle.aud_parse.specs.Grammar as g
 use Rattle.aud_parse.specs.Grammar.{Symbol, N}
 use Rattle.aud_parse.specs.Actions.{Item, the_unit}
 use Rattle.aud_parse.specs.Parsed.{Fault, wrong_at, deep_at, Verdict, Good, Wrong, Deep, budget, parsed, judged}
-use Rattle.aud_parse.specs.Outcome.{Out}
-use Rattle.aud_parse.specs.Derives.{Derives, Viable}
-use Rattle.aud_parse.specs.Begun.{Within}
-use Rattle.aud_parse.specs.Laws.{SyntaxFaultAt, LevelFaultAt, IsRight, TheSpelled, WrongPlace, FirstDeep, DeepPlace, OneParser}
+use Rattle.aud_parse.specs.Ties.Outcome.{Out}
+use Rattle.aud_parse.specs.Why.Derives.{Derives, Viable}
+use Rattle.aud_parse.specs.Why.Begun.{Within}
+use Rattle.aud_parse.specs.Why.Laws.{SyntaxFaultAt, LevelFaultAt, IsRight, TheSpelled, WrongPlace, FirstDeep, DeepPlace, OneParser}
 use Rattle.aud_parse.proofs.Reading.{enough_budget}
 use Rattle.aud_parse.proofs.Total.{out}
 use Rattle.aud_parse.proofs.Sound.{sound}

@@ -15,11 +15,11 @@ use Rattle.aud_lex.specs.declared.automaton.State.TheVariants.{Start, Dead, InWo
 use Rattle.aud_lex.specs.Bytes.{between, is_single, class}
 use Rattle.aud_lex.specs.Element.{Element}
 use Rattle.aud_lex.specs.Kinds.{Spelled, kind_number, reserved, delimiters}
-use Rattle.aud_lex.specs.Spaced.{Word}
+use Rattle.aud_lex.specs.Why.Spaced.{Word}
 use Rattle.aud_lex.specs.Tokens.{step, accepts, run, is_token, small, found, kind_in, kind_of}
 use Rattle.std.specs.Str.{bytes_eq}
 use Rattle.aud_lex.proofs.Fronts.{run_dead}
-use Rattle.aud_syntax.specs.Printed.{number_digits, doubled, quoted}
+use Rattle.aud_syntax.specs.Why.Printed.{number_digits, doubled, quoted}
 use Rattle.aud_parse.specs.Values.{with_digit, digits_value, number_value, inner, unquoted}
 use Rattle.aud_parse.proofs.Literals.{fits}
 

@@ -1,4 +1,4 @@
--- Where the machine ends, the grammar ends: at the first token that no derivation has.
+-- Where reading ends, the grammar ends: at the first token that no derivation has.
 use Rattle.std.specs.Prelude.{Option, Some, None, ◌≡◌, ℕ, suc, List, [], ◌∷◌, ◌++◌, Bool, true, false, ◌==◌, refl}
 use Rattle.std.proofs.Common.{sym, ap, ◌∙◌, subst, ⊎_elim, ◌≤◌, arith}
 use Rattle.std.proofs.lemmas.Bool.{eqb-true, eq-eqb}
@@ -9,9 +9,9 @@ use Rattle.aud_parse.specs.Grammar.{Word, Phrase, Symbol, T, P, W, N, L, rule}
 use Rattle.aud_parse.specs.First.{next_in, is_word, next_word, firsts}
 use Rattle.aud_parse.specs.Parsed.{Verdict, Good, Wrong, Deep}
 use Rattle.aud_parse.specs.Actions.{Item}
-use Rattle.aud_parse.specs.Outcome.{Out, o_end, o_rest, o_word, o_token, o_no_word, o_no_token, o_spelled, o_misspelled, o_rule, o_level, o_deep, o_shut, o_down, o_this, o_other, o_last, o_yes, o_no, o_more, o_stop}
-use Rattle.aud_parse.specs.Derives.{here}
-use Rattle.aud_parse.specs.Begun.{Begun, b_stop, b_word, b_token, b_spelled, b_rule, b_level, b_down, b_one, b_yes, b_no, b_more, b_last}
+use Rattle.aud_parse.specs.Ties.Outcome.{Out, o_end, o_rest, o_word, o_token, o_no_word, o_no_token, o_spelled, o_misspelled, o_rule, o_level, o_deep, o_shut, o_down, o_this, o_other, o_last, o_yes, o_no, o_more, o_stop}
+use Rattle.aud_parse.specs.Why.Derives.{here}
+use Rattle.aud_parse.specs.Why.Begun.{Begun, b_stop, b_word, b_token, b_spelled, b_rule, b_level, b_down, b_one, b_yes, b_no, b_more, b_last}
 use Rattle.aud_parse.proofs.Tables.{follow}
 use Rattle.aud_parse.proofs.Choices.{mem, next_code, or_in, not_both, not_the_end, next_is, first_seq, Clean, clean_rule, fin}
 use Rattle.aud_parse.proofs.Gets.{Gets, gets_word, gets_token, gets_spelled, gets_rule, gets_level, gets_down, gets_one, gets_other, gets_yes, gets_no, gets_more, gets_stop, Full, full_append, table_full, can, reach_of, deep_gets}

@@ -11,7 +11,7 @@ use Rattle.aud_parse.specs.Grammar.{Word, Phrase, Symbol, T, P, W, N, L, Down, A
 use Rattle.aud_parse.specs.First.{spelling, among, is_word, next_in, firsts, first_of, first_of_all, first_within}
 use Rattle.aud_parse.specs.Parsed.{Verdict, Good, Wrong, Deep}
 use Rattle.aud_parse.specs.Actions.{Item, token, none, listed, made}
-use Rattle.aud_parse.specs.Derives.{Member, here, Derives, d_end, d_word, d_token, d_spelled, d_rule, d_level, d_down, d_one, d_yes, d_no, d_more, d_stop}
+use Rattle.aud_parse.specs.Why.Derives.{Member, here, Derives, d_end, d_word, d_token, d_spelled, d_rule, d_level, d_down, d_one, d_yes, d_no, d_more, d_stop}
 use Rattle.aud_parse.proofs.Choices.{or_in, or_left, or_right, and_in, both}
 use Rattle.aud_parse.proofs.Sound.{push_one}
 

@@ -10,10 +10,10 @@ use Rattle.aud_syntax.specs.Plain as m
 use Rattle.aud_parse.specs.Grammar as g
 use Rattle.aud_parse.specs.Grammar.{N}
 use Rattle.aud_parse.specs.Parsed.{Fault, wrong_at, deep_at}
-use Rattle.aud_parse.specs.Derives.{Derives, Viable}
-use Rattle.aud_parse.specs.Spells.{Spells}
-use Rattle.aud_parse.specs.Begun.{Within}
-use Rattle.aud_parse.specs.Laws.{SyntaxFaultAt, LevelFaultAt, IsRight}
+use Rattle.aud_parse.specs.Why.Derives.{Derives, Viable}
+use Rattle.aud_parse.specs.Why.Spells.{Spells}
+use Rattle.aud_parse.specs.Why.Begun.{Within}
+use Rattle.aud_parse.specs.Why.Laws.{SyntaxFaultAt, LevelFaultAt, IsRight}
 use Rattle.aud_parse.proofs.Ways.{begun_take, derives_begun}
 use Rattle.aud_parse.proofs.Spelled.{one_tree}
 

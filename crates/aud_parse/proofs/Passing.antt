@@ -9,12 +9,12 @@ use Rattle.aud_parse.specs.Grammar.{Phrase, Symbol, T, P, N, L, Down, Rep, rule}
 use Rattle.aud_parse.specs.First.{next_in, firsts}
 use Rattle.aud_parse.specs.Parsed.{Verdict, Wrong, Deep}
 use Rattle.aud_parse.specs.Actions.{Item, token, none, listed, made}
-use Rattle.aud_parse.specs.Outcome.{Out, o_level, o_down, o_rule, o_deep, o_shut, o_word, o_token, o_more, o_stop}
-use Rattle.aud_parse.specs.Items.{list_item}
+use Rattle.aud_parse.specs.Ties.Outcome.{Out, o_level, o_down, o_rule, o_deep, o_shut, o_word, o_token, o_more, o_stop}
+use Rattle.aud_parse.specs.Ties.Items.{list_item}
 use Rattle.aud_parse.specs.declared.cursor.Rest.{Rest}
 use Rattle.aud_parse.specs.declared.cursor.Fault.{Fault}
 use Rattle.aud_parse.specs.declared.cursor.Fault.TheVariants as fault
-use Rattle.aud_parse.specs.Reads.{Passes, FailsAt, Reads}
+use Rattle.aud_parse.specs.Ties.Reads.{Passes, FailsAt, Reads}
 use Rattle.aud_parse.proofs.Choices.{or_left, or_right}
 
 pub next_there : (ks : List Kind) (ts : List Element) → next_in ks ts ≡ true → 1 ≤ length ts

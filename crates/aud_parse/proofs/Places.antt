@@ -8,16 +8,16 @@ use Rattle.aud_lex.specs.declared.token.Kind.TheVariants as kind
 use Rattle.aud_lex.specs.Element.{Element}
 use Rattle.aud_lex.specs.Kinds.{kind_number}
 use Rattle.aud_text.specs.Name.{capitals}
-use Rattle.aud_syntax.specs.Bare.{nowhere, bare}
+use Rattle.aud_syntax.specs.Why.Bare.{nowhere, bare}
 use Rattle.aud_parse.specs.Grammar as g
 use Rattle.aud_parse.specs.Grammar.{Word, Phrase, Symbol, T, P, W, N, L, Down, A, Opt, Rep, rule}
 use Rattle.aud_parse.specs.First.{spelling, among, same_text, is_word, next_word, next_in, firsts}
 use Rattle.aud_parse.specs.Actions as a
 use Rattle.aud_parse.specs.Actions.{Item, token, none, top, listed, made, the_unit}
 use Rattle.aud_parse.specs.Parsed.{Verdict, Good, Wrong, Deep, budget, parsed, judged}
-use Rattle.aud_parse.specs.Outcome.{Out, o_end, o_rest, o_word, o_token, o_no_word, o_no_token, o_spelled, o_misspelled, o_rule, o_level, o_deep, o_shut, o_down, o_this, o_other, o_last, o_yes, o_no, o_more, o_stop}
-use Rattle.aud_parse.specs.Alike.{Alike, AllAlike, stripped}
-use Rattle.aud_parse.specs.Laws.{AlikeRead}
+use Rattle.aud_parse.specs.Ties.Outcome.{Out, o_end, o_rest, o_word, o_token, o_no_word, o_no_token, o_spelled, o_misspelled, o_rule, o_level, o_deep, o_shut, o_down, o_this, o_other, o_last, o_yes, o_no, o_more, o_stop}
+use Rattle.aud_parse.specs.Why.Alike.{Alike, AllAlike, stripped}
+use Rattle.aud_parse.specs.Why.Laws.{AlikeRead}
 use Rattle.aud_parse.proofs.Reading.{enough_budget}
 use Rattle.aud_parse.proofs.Total.{out}
 use Rattle.aud_parse.proofs.Verdicts.{parsed_is}

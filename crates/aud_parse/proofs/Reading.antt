@@ -1,4 +1,4 @@
--- The function `read` computes what the machine ends in.
+-- The function `read` computes what reading ends in.
 use Rattle.std.specs.Prelude.{◌≡◌, ℕ, zero, suc, ◌-◌, ◌≤◌, List, [], ◌∷◌, ◌++◌, Bool, true, false, ◌==◌, nat_le, if◌then◌else◌, refl}
 use Rattle.std.proofs.Common.{sym, ap, ◌∙◌, arith, leb-true, le-leb}
 use Rattle.aud_lex.specs.declared.token.Kind.{Kind}
@@ -11,7 +11,7 @@ use Rattle.aud_parse.specs.Parsed.{Verdict, Wrong, Deep}
 use Rattle.aud_parse.specs.Actions.{Item, token, none, listed, made}
 use Rattle.aud_parse.proofs.Tables.{rank}
 use Rattle.aud_parse.specs.Parsed.{pick, Ran, onto, budget, read}
-use Rattle.aud_parse.specs.Outcome.{Out, o_end, o_rest, o_word, o_token, o_no_word, o_no_token, o_spelled, o_misspelled, o_rule, o_level, o_deep, o_shut, o_down, o_this, o_other, o_last, o_yes, o_no, o_more, o_stop}
+use Rattle.aud_parse.specs.Ties.Outcome.{Out, o_end, o_rest, o_word, o_token, o_no_word, o_no_token, o_spelled, o_misspelled, o_rule, o_level, o_deep, o_shut, o_down, o_this, o_other, o_last, o_yes, o_no, o_more, o_stop}
 
 -- how many rules are entered before the next token is passed
 
@@ -43,7 +43,7 @@ pub table_rank_some : (p : Phrase) → nat_le 1 (rank p) ≡ true
 table_rank_some g.Expression = refl
 table_rank_some _ = refl
 
--- so the function takes the machine's way
+-- so the function takes the way of reading
 
 up : (a m n : ℕ) → nat_le a m ≡ true → m ≤ n → nat_le a n ≡ true
 up a m n h le = let i : a ≤ m = leb-true a m h in let j : a ≤ n = omega arith in le-leb a n j
@@ -176,7 +176,7 @@ pick_yes p q ps ts h = if_yes (next_in (firsts p) ts) p (pick q ps ts) h
 pub pick_no : (p q : Phrase) (ps : List Phrase) (ts : List Element) → next_in (firsts p) ts ≡ false → pick p (q ∷ ps) ts ≡ pick q ps ts
 pick_no p q ps ts h = if_no (next_in (firsts p) ts) p (pick q ps ts) h
 
--- what the machine ends in, however many rules may still be entered, if they are enough
+-- what reading ends in, however many rules may still be entered, if they are enough
 abbrev Same : List Symbol → ℕ → List Element → List Item → Verdict → Type 0
 Same s r ts ds v = (n : ℕ) → enough n s ≡ true → read ts n s r ≡ (ds, v)
 

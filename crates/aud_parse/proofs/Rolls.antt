@@ -23,10 +23,10 @@ use Rattle.aud_syntax.specs.declared.tree.Declaration.TheVariants as declaration
 use Rattle.aud_syntax.specs.declared.tree.Statement.{Statement}
 use Rattle.aud_syntax.specs.declared.tree.Body.{Body}
 use Rattle.aud_syntax.specs.Plain as m
-use Rattle.aud_syntax.specs.View.{plain_name, plain_primary, plain_factor, plain_multiplieds, plain_term, plain_added, plain_addeds, plain_simple, plain_maybe, plain_declaration, plain_declarations, plain_statements, plain_statement, plain_body}
+use Rattle.aud_syntax.specs.Ties.View.{plain_name, plain_primary, plain_factor, plain_multiplieds, plain_term, plain_added, plain_addeds, plain_simple, plain_maybe, plain_declaration, plain_declarations, plain_statements, plain_statement, plain_body}
 use Rattle.aud_parse.specs.Grammar as g
 use Rattle.aud_parse.specs.Actions.{Item, made, none, with_attribute, place, an_ident, a_sign, an_operator, a_primary, a_factor, a_declaration, a_body, a_unit, the_idents, the_declarations, the_statements, opt_ident, opt_expression, opt_sign, opt_operator, the_multiplieds, the_addeds}
-use Rattle.aud_parse.specs.Items.{list_item, opt_item, name_item, attribute_item, factor_item, multiplied_item, primary_item, added_item, expression_item, declaration_item, statement_item, body_item, unit_item}
+use Rattle.aud_parse.specs.Ties.Items.{list_item, opt_item, name_item, attribute_item, factor_item, multiplied_item, primary_item, added_item, expression_item, declaration_item, statement_item, body_item, unit_item}
 
 pub multiplied_rows : (n : _) (row : Row_of-Multiplied n) → plain_multiplieds row ≡ the_multiplieds (list_item multiplied_item (items-the_row-Multiplied n row))
 multiplied_rows n end_of-Multiplied = refl

@@ -8,16 +8,16 @@ use Rattle.aud_lex.specs.Element.{Element}
 use Rattle.aud_lex.specs.Kinds.{kind_number}
 use Rattle.aud_lex.specs.Tokens.{is_token, kind_of}
 use Rattle.aud_lex.specs.Lexed.{lexed, element}
-use Rattle.aud_lex.specs.Spaced.{spaced}
+use Rattle.aud_lex.specs.Why.Spaced.{spaced}
 use Rattle.aud_lex.proofs.Elements.{are_tokens}
 use Rattle.aud_lex.proofs.Spacing.{read_back}
 use Rattle.aud_syntax.specs.Plain as m
-use Rattle.aud_syntax.specs.Bare.{bare}
-use Rattle.aud_syntax.specs.Printed.{unit_words, printed}
+use Rattle.aud_syntax.specs.Why.Bare.{bare}
+use Rattle.aud_syntax.specs.Why.Printed.{unit_words, printed}
 use Rattle.aud_parse.specs.Values.{number_value, unquoted}
 use Rattle.aud_parse.specs.Parsed.{parsed, Fault}
-use Rattle.aud_parse.specs.Alike.{Alike, AllAlike, stripped}
-use Rattle.aud_parse.specs.Laws.{RoundTrip, OneText}
+use Rattle.aud_parse.specs.Why.Alike.{Alike, AllAlike, stripped}
+use Rattle.aud_parse.specs.Why.Laws.{RoundTrip, OneText}
 use Rattle.aud_parse.proofs.Answered.{the_spelled}
 use Rattle.aud_parse.proofs.Places.{alike_read}
 use Rattle.aud_parse.proofs.Canonical.{Stays, spelling, written, stays}

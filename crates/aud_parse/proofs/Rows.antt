@@ -1,6 +1,6 @@
 -- Small texts are read by computing.
 use Rattle.std.proofs.Common.{refl}
-use Rattle.aud_parse.specs.Rows.{Programs, Declarations, Statements, Primaries, Operators, WrongPrograms, WrongDeclarations, WrongStatements, WrongExpressions, FewLevels, AllLevels}
+use Rattle.aud_parse.specs.Why.Rows.{Programs, Declarations, Statements, Primaries, Operators, WrongPrograms, WrongDeclarations, WrongStatements, WrongExpressions, FewLevels, AllLevels}
 
 pub programs : Programs
 programs = (refl, refl, refl, refl, refl)

@@ -1,4 +1,4 @@
--- What the machine reads is derived, and what is derived it reads.
+-- What is read is derived, and what is derived is read.
 use Rattle.std.specs.Prelude.{◌≡◌, ℕ, List, [], ◌∷◌, true, false}
 use Rattle.std.proofs.Common.{◌∙◌}
 use Rattle.aud_lex.specs.Element.{Element}
@@ -6,12 +6,12 @@ use Rattle.aud_parse.specs.Grammar.{Phrase, Symbol, N, A}
 use Rattle.aud_parse.specs.First.{next_in, firsts}
 use Rattle.aud_parse.specs.Parsed.{Verdict, Good}
 use Rattle.aud_parse.specs.Actions.{Item}
-use Rattle.aud_parse.specs.Outcome.{Out, o_end, o_rest, o_word, o_token, o_no_word, o_no_token, o_spelled, o_misspelled, o_rule, o_level, o_deep, o_shut, o_down, o_this, o_other, o_last, o_yes, o_no, o_more, o_stop}
-use Rattle.aud_parse.specs.Derives.{Member, here, later, Derives, d_end, d_word, d_token, d_spelled, d_rule, d_level, d_down, d_one, d_yes, d_no, d_more, d_stop}
+use Rattle.aud_parse.specs.Ties.Outcome.{Out, o_end, o_rest, o_word, o_token, o_no_word, o_no_token, o_spelled, o_misspelled, o_rule, o_level, o_deep, o_shut, o_down, o_this, o_other, o_last, o_yes, o_no, o_more, o_stop}
+use Rattle.aud_parse.specs.Why.Derives.{Member, here, later, Derives, d_end, d_word, d_token, d_spelled, d_rule, d_level, d_down, d_one, d_yes, d_no, d_more, d_stop}
 use Rattle.aud_parse.proofs.Tables.{follow}
 use Rattle.aud_parse.proofs.Choices.{mem, next_code, next_is, is_false, Sub, Apart, fs, fs_all, first_seq, AllFollow, Distinct, Clean, clean_rule, fin, member_first, starts}
 
--- what the machine reads is derived
+-- what is read is derived
 
 pub push_one : (p : Phrase) {ps : List Phrase} {k : List Symbol} {r : ℕ} {ds : List Item} {ts : List Element} → Derives (A ps ∷ k) r ds ts → Derives (A (p ∷ ps) ∷ k) r ds ts
 push_one p (d_one m d) = d_one (later m) d
@@ -38,7 +38,7 @@ sound (o_no h o) e = d_no (sound o e)
 sound (o_more h o) e = d_more (sound o e)
 sound (o_stop h o) e = d_stop (sound o e)
 
--- so the machine, which looks one token ahead, takes the one way that there is
+-- so reading, which looks one token ahead, takes the one way that there is
 
 next_yes : (p : Phrase) (ts : List Element) → mem (fs p) (next_code ts) ≡ true → next_in (firsts p) ts ≡ true
 next_yes p ts h = next_is (firsts p) ts ∙ h

@@ -7,7 +7,7 @@ use Rattle.aud_parse.specs.Grammar as g
 use Rattle.aud_parse.specs.Grammar.{Phrase, N}
 use Rattle.aud_parse.specs.Parsed.{Ran, parsed, parsed_as, judged}
 use Rattle.aud_parse.specs.Actions.{Item, the_unit}
-use Rattle.aud_parse.specs.Spells.{SpellsAs, Spells}
+use Rattle.aud_parse.specs.Why.Spells.{SpellsAs, Spells}
 use Rattle.aud_parse.proofs.Reading.{read_is}
 use Rattle.aud_parse.proofs.Ends.{may_end, whole_clean}
 use Rattle.aud_parse.proofs.Sound.{complete}

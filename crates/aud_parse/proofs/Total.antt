@@ -1,4 +1,4 @@
--- The function takes the machine's way: what it answers is derived, or is a fault.
+-- The function takes the way of reading: what it answers is derived, or is a fault.
 use Rattle.std.specs.Prelude.{◌≡◌, ℕ, zero, suc, ◌≤◌, List, [], ◌∷◌, ◌++◌, Bool, true, false, ◌==◌, nat_le, if◌then◌else◌, refl}
 use Rattle.std.proofs.Common.{sym, ap, subst, arith, leb-true}
 use Rattle.aud_lex.specs.declared.token.Kind.{Kind}
@@ -10,7 +10,7 @@ use Rattle.aud_parse.specs.Parsed.{Verdict}
 use Rattle.aud_parse.specs.Actions.{Item}
 use Rattle.aud_parse.proofs.Tables.{rank}
 use Rattle.aud_parse.specs.Parsed.{pick, Ran, budget, read}
-use Rattle.aud_parse.specs.Outcome.{Out, o_end, o_rest, o_word, o_token, o_no_word, o_no_token, o_spelled, o_misspelled, o_rule, o_level, o_deep, o_shut, o_down, o_this, o_other, o_last, o_yes, o_no, o_more, o_stop}
+use Rattle.aud_parse.specs.Ties.Outcome.{Out, o_end, o_rest, o_word, o_token, o_no_word, o_no_token, o_spelled, o_misspelled, o_rule, o_level, o_deep, o_shut, o_down, o_this, o_other, o_last, o_yes, o_no, o_more, o_stop}
 use Rattle.aud_parse.proofs.Reading.{is_yes, no_word, no_token, no_spelled, run_down, run_rule, run_level, run_deep, run_shut, run_one, run_yes, run_no, run_more, run_stop, pick_yes, pick_no, none_left, less, and_in, table_rank_some, enough_rule, enough_budget, below, enough}
 use Rattle.aud_parse.proofs.Gets.{Full, full_append, table_full}
 

@@ -6,8 +6,8 @@ use Rattle.aud_lex.specs.Kinds.{kind_number}
 use Rattle.aud_parse.specs.Grammar.{Phrase, Symbol, T, P, W, N, L, Down, A, Opt, Rep, rule}
 use Rattle.aud_parse.specs.First.{is_word, next_in, firsts}
 use Rattle.aud_parse.specs.Actions.{Item}
-use Rattle.aud_parse.specs.Derives.{Member, here, later, Derives, d_end, d_word, d_token, d_spelled, d_rule, d_level, d_down, d_one, d_yes, d_no, d_more, d_stop}
-use Rattle.aud_parse.specs.Begun.{Begun, b_stop, b_word, b_token, b_spelled, b_rule, b_level, b_down, b_one, b_yes, b_no, b_more, b_last}
+use Rattle.aud_parse.specs.Why.Derives.{Member, here, later, Derives, d_end, d_word, d_token, d_spelled, d_rule, d_level, d_down, d_one, d_yes, d_no, d_more, d_stop}
+use Rattle.aud_parse.specs.Why.Begun.{Begun, b_stop, b_word, b_token, b_spelled, b_rule, b_level, b_down, b_one, b_yes, b_no, b_more, b_last}
 use Rattle.aud_parse.proofs.Choices.{and_in, mem, mem_left, mem_right, fs, fs_all, fin, first_seq, first_append, table_first, member_first, next_code, next_is, not_both, Apart, starts}
 
 -- a whole derivation of the tokens, or one that has come so far

@@ -6,7 +6,7 @@ use Rattle.aud_lex.specs.declared.token.Kind.{Kind}
 use Rattle.aud_lex.specs.declared.token.Kind.TheVariants as kind
 use Rattle.aud_lex.specs.Element.{Element}
 use Rattle.aud_lex.specs.Kinds.{kind_number}
-use Rattle.aud_lex.specs.Spaced.{Word, word, last_word}
+use Rattle.aud_lex.specs.Why.Spaced.{Word, word, last_word}
 use Rattle.aud_text.specs.Name.{capitals}
 use Rattle.aud_text.specs.declared.place.Pos.{Pos}
 use Rattle.aud_syntax.specs.declared.tree.Ident.{Ident}
@@ -21,14 +21,14 @@ use Rattle.aud_syntax.specs.declared.tree.Adding.TheVariants as adding
 use Rattle.aud_syntax.specs.declared.tree.Multiplying.TheVariants as multiplying
 use Rattle.aud_syntax.specs.declared.tree.Highest.TheVariants as highest
 use Rattle.aud_syntax.specs.Plain as m
-use Rattle.aud_syntax.specs.Printed as w
+use Rattle.aud_syntax.specs.Why.Printed as w
 use Rattle.aud_parse.specs.Grammar as g
 use Rattle.aud_parse.specs.Grammar.{Phrase, Symbol, T, P, W, N, L, Down, A, Opt, Rep, rule}
 use Rattle.aud_parse.specs.First as f
 use Rattle.aud_parse.specs.Actions as a
 use Rattle.aud_parse.specs.Actions.{Item, token, none, cons, made, listed, top, the_unit}
-use Rattle.aud_parse.specs.Spells.{Spells}
-use Rattle.aud_parse.specs.Derives.{Member, here, later, Derives, d_end, d_word, d_token, d_spelled, d_rule, d_level, d_down, d_one, d_yes, d_no, d_more, d_stop}
+use Rattle.aud_parse.specs.Why.Spells.{Spells}
+use Rattle.aud_parse.specs.Why.Derives.{Member, here, later, Derives, d_end, d_word, d_token, d_spelled, d_rule, d_level, d_down, d_one, d_yes, d_no, d_more, d_stop}
 use Rattle.aud_parse.proofs.Canonical.{written_as, written}
 use Rattle.aud_parse.proofs.Choices.{and_in}
 use Rattle.aud_parse.proofs.Places.{is_code}

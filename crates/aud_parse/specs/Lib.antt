@@ -3,13 +3,5 @@ pub mod Values
 pub mod First
 pub mod Actions
 pub mod Parsed
-pub mod Outcome
-pub mod Derives
-pub mod Spells
-pub mod Items
-pub mod Reads
-pub mod Gives
-pub mod Begun
-pub mod Alike
-pub mod Rows
-pub mod Laws
+pub mod Ties
+pub mod Why

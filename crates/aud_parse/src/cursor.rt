@@ -3,7 +3,7 @@
 ghost use Rattle.std.specs.Prelude.{◌≡◌, ◌∷◌, [], length, ◌<◌, ◌≤◌, IfOk, IfSome};
 ghost use Rattle.aud_parse.specs.First.{next_in};
 ghost use Rattle.aud_parse.specs.declared.cursor.Fault.TheVariants as fault;
-ghost use Rattle.aud_parse.specs.Reads.{Accepts, ReadsWord, ReadsToken, Deepens};
+ghost use Rattle.aud_parse.specs.Ties.Reads.{Accepts, ReadsWord, ReadsToken, Deepens};
 
 use aud_lex::token::{Kind, Token};
 use std::alloc::{AllocError, AllocFailed};

@@ -4,8 +4,8 @@ ghost use Rattle.std.specs.Prelude.{ℕ, length, ◌<◌, ◌≤◌, IfOk};
 ghost use Rattle.aud_parse.specs.Grammar as g;
 ghost use Rattle.aud_parse.specs.Grammar.{N, Opt};
 ghost use Rattle.aud_parse.specs.Actions.{an_ident};
-ghost use Rattle.aud_parse.specs.Items.{list_item, opt_item, expression_item, declaration_item};
-ghost use Rattle.aud_parse.specs.Reads.{Reads};
+ghost use Rattle.aud_parse.specs.Ties.Items.{list_item, opt_item, expression_item, declaration_item};
+ghost use Rattle.aud_parse.specs.Ties.Reads.{Reads};
 
 use crate::cursor::{Fault, Rest, accept, deeper, is, word};
 use crate::expression::expression;

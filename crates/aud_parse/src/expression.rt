@@ -7,8 +7,8 @@ ghost use Rattle.std.specs.Prelude.{ℕ, ◌∷◌, length, ◌<◌, ◌≤◌, 
 ghost use Rattle.aud_parse.specs.Grammar as g;
 ghost use Rattle.aud_parse.specs.Grammar.{N, Opt, Rep};
 ghost use Rattle.aud_parse.specs.Actions.{a_sign, an_adding, a_multiplying, an_operator};
-ghost use Rattle.aud_parse.specs.Items.{list_item, opt_item, parens_item, name_item, args_item, attribute_item, primary_item, factor_item, multiplied_item, term_item, added_item, simple_item, boxed_item};
-ghost use Rattle.aud_parse.specs.Reads.{Reads, Takes, Passes};
+ghost use Rattle.aud_parse.specs.Ties.Items.{list_item, opt_item, parens_item, name_item, args_item, attribute_item, primary_item, factor_item, multiplied_item, term_item, added_item, simple_item, boxed_item};
+ghost use Rattle.aud_parse.specs.Ties.Reads.{Reads, Takes, Passes};
 
 use crate::cursor::{Fault, Rest, accept, deeper, is, token, word};
 use crate::leaf::{ident, literal};

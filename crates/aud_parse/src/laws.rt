@@ -1,7 +1,7 @@
 // Laws of the definitions, each proved as what a function ensures.
 
-ghost use Rattle.aud_parse.specs.Laws as laws;
-ghost use Rattle.aud_parse.specs.Rows as rows;
+ghost use Rattle.aud_parse.specs.Why.Laws as laws;
+ghost use Rattle.aud_parse.specs.Why.Rows as rows;
 
 /// The tree that is read is the tree that the tokens spell.
 pub fn spells_law()

@@ -4,7 +4,7 @@ ghost use Rattle.std.specs.Prelude.{ℕ, length, ◌<◌, IfOk};
 ghost use Rattle.aud_parse.specs.Grammar as g;
 ghost use Rattle.aud_parse.specs.Grammar.{N};
 ghost use Rattle.aud_parse.specs.Actions.{an_ident, a_literal};
-ghost use Rattle.aud_parse.specs.Reads.{Reads};
+ghost use Rattle.aud_parse.specs.Ties.Reads.{Reads};
 
 use crate::cursor::{Fault, Rest, token};
 use crate::value::unquoted;

@@ -1,13 +1,13 @@
 // Programs (RM 10.1.1).
 
 ghost use Rattle.std.specs.Prelude.{◌≡◌, ◌-◌, length};
-ghost use Rattle.aud_syntax.specs.View.{plain_unit};
+ghost use Rattle.aud_syntax.specs.Ties.View.{plain_unit};
 ghost use Rattle.aud_parse.specs.Grammar as g;
 ghost use Rattle.aud_parse.specs.Grammar.{N};
 ghost use Rattle.aud_parse.specs.Parsed.{parsed};
-ghost use Rattle.aud_parse.specs.Items.{unit_item};
-ghost use Rattle.aud_parse.specs.Reads.{Reads};
-ghost use Rattle.aud_parse.specs.Gives.{Gives};
+ghost use Rattle.aud_parse.specs.Ties.Items.{unit_item};
+ghost use Rattle.aud_parse.specs.Ties.Reads.{Reads};
+ghost use Rattle.aud_parse.specs.Ties.Gives.{Gives};
 
 use crate::cursor::{Fault, Rest, token, word};
 use crate::declaration::opt_declarations;

@@ -4,8 +4,8 @@ ghost use Rattle.std.specs.Prelude.{ℕ, length, ◌<◌, ◌≤◌, IfOk};
 ghost use Rattle.aud_parse.specs.Grammar as g;
 ghost use Rattle.aud_parse.specs.Grammar.{N, Opt};
 ghost use Rattle.aud_parse.specs.Actions.{an_ident};
-ghost use Rattle.aud_parse.specs.Items.{list_item, opt_item, assigned_item, called_item, statement_item, body_item};
-ghost use Rattle.aud_parse.specs.Reads.{Reads};
+ghost use Rattle.aud_parse.specs.Ties.Items.{list_item, opt_item, assigned_item, called_item, statement_item, body_item};
+ghost use Rattle.aud_parse.specs.Ties.Reads.{Reads};
 
 use crate::cursor::{Fault, Rest, deeper, is, is_one_of, token, word};
 use crate::expression::{args, expression};

@@ -1,6 +1,6 @@
-pub mod Asked
 pub mod Lines
 pub mod Program
 pub mod Requests
 pub mod Solo
 pub mod Text
+pub mod Ties

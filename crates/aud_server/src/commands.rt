@@ -3,7 +3,7 @@
 ghost use Rattle.std.specs.Prelude.{◌≡◌, ℕ, ◌∷◌};
 ghost use Rattle.std.specs.Str.{bytes_eq};
 ghost use Rattle.aud_bench.specs.declared.request.Request.TheVariants as request;
-ghost use Rattle.aud_server.specs.Asked.{asked, given};
+ghost use Rattle.aud_server.specs.Ties.Asked.{asked, given};
 ghost use Rattle.aud_server.specs.Lines.{words_of};
 ghost use Rattle.aud_server.specs.Requests.{has_high_byte, line_fault, Command as Asked, Whole, Loads, wrong_argument, no_argument, one_number, command_of, command};
 

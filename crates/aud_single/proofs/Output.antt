@@ -4,7 +4,7 @@ use Rattle.std.proofs.Math.Seq.{take-append-add}
 use Rattle.std.specs.Prelude.{nat_le}
 use Rattle.aud_text.specs.declared.limits.TheConstants.{OUTPUT}
 use Rattle.aud_meaning.specs.Effects.{put_out}
-use Rattle.aud_meaning.specs.Single.{Single}
+use Rattle.aud_meaning.specs.Ties.Single.{Single}
 use Rattle.aud_code.specs.Places.{Spot}
 use Rattle.aud_single.specs.Shown.{shared_in}
 

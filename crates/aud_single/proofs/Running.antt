@@ -5,7 +5,7 @@ use Rattle.aud_text.specs.declared.limits.Limits.{Limits}
 use Rattle.aud_typed.specs.Tree.{Plan}
 use Rattle.aud_meaning.specs.Configuration.{All}
 use Rattle.aud_meaning.specs.Run.{Move, own_move, moves_at, step_with, run_by, run_with}
-use Rattle.aud_meaning.specs.Single.{Stage, Single, runs, completed, terminated, all_of}
+use Rattle.aud_meaning.specs.Ties.Single.{Stage, Single, runs, completed, terminated, all_of}
 use Rattle.aud_code.specs.Places.{Spot}
 use Rattle.aud_code.specs.Flat.{Flat, flat_controls}
 use Rattle.aud_single.specs.Steps.{StepsTo}

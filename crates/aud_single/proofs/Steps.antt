@@ -11,7 +11,7 @@ use Rattle.aud_meaning.specs.Control.{Scene}
 use Rattle.aud_meaning.specs.Run.{own_move, step_with}
 use Rattle.aud_meaning.specs.Items.{handled_or_left}
 use Rattle.aud_meaning.specs.Effects.{assigned, put_out}
-use Rattle.aud_meaning.specs.Single.{Stage, Single, runs, completed, terminated, all_of, scene_in}
+use Rattle.aud_meaning.specs.Ties.Single.{Stage, Single, runs, completed, terminated, all_of, scene_in}
 use Rattle.aud_meaning.proofs.Single.{declares_step, goes_on_step, assigns_step, puts_step, raises_step, raises_in_part_step, ends_step, left_step}
 use Rattle.aud_code.specs.declared.line.EndLine.{EndLine}
 use Rattle.aud_code.specs.declared.line.Ending.{Ending}

@@ -1,8 +1,8 @@
 -- How far a program in memory is.
 use Rattle.std.specs.Prelude.{[]}
 use Rattle.aud_meaning.specs.Configuration.{Shared}
-use Rattle.aud_meaning.specs.Single.{Single, runs, completed, terminated}
-use Rattle.aud_meaning.specs.Single as plain
+use Rattle.aud_meaning.specs.Ties.Single.{Single, runs, completed, terminated}
+use Rattle.aud_meaning.specs.Ties.Single as plain
 use Rattle.aud_code.specs.Places.{Spot}
 use Rattle.aud_single.specs.declared.progress.Stage.{Stage}
 use Rattle.aud_single.specs.declared.progress.Stage.TheVariants.{Runs, Completed, Terminated}

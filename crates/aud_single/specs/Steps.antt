@@ -7,7 +7,7 @@ use Rattle.aud_typed.specs.declared.program.Exception.TheVariants.{Predefined}
 use Rattle.aud_typed.specs.Tree.{Plan}
 use Rattle.aud_meaning.specs.Run.{own_move, step_with}
 use Rattle.aud_meaning.specs.Effects.{assigned, put_out}
-use Rattle.aud_meaning.specs.Single.{Stage, Single, runs, completed, terminated, all_of}
+use Rattle.aud_meaning.specs.Ties.Single.{Stage, Single, runs, completed, terminated, all_of}
 use Rattle.aud_code.specs.declared.line.Ending.{Ending}
 use Rattle.aud_code.specs.declared.line.Ending.TheVariants.{Declare, Null, Assign, Put}
 use Rattle.aud_code.specs.declared.line.Last.{Last}

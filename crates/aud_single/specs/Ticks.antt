@@ -7,7 +7,7 @@ use Rattle.aud_meaning.specs.declared.state.Status.TheVariants.{Created, Running
 use Rattle.aud_meaning.specs.Configuration.{Frame, Pending, TaskAt, All}
 use Rattle.aud_meaning.specs.Control.{Scene}
 use Rattle.aud_meaning.specs.Run.{Move, moves_at, take_one}
-use Rattle.aud_meaning.specs.Single.{Stage, Single, runs, completed, terminated}
+use Rattle.aud_meaning.specs.Ties.Single.{Stage, Single, runs, completed, terminated}
 use Rattle.aud_meaning.specs.Parts.{facts_in}
 use Rattle.aud_code.specs.Places.{Spot}
 use Rattle.aud_code.specs.Instruction.{no_operands}

@@ -3,7 +3,7 @@
 ghost use Rattle.std.specs.Prelude.{◌≡◌, ℕ, List};
 ghost use Rattle.aud_typed.specs.Tree.{Plan};
 ghost use Rattle.aud_meaning.specs.Parts.{unit_of};
-ghost use Rattle.aud_meaning.specs.Single.{all_of};
+ghost use Rattle.aud_meaning.specs.Ties.Single.{all_of};
 ghost use Rattle.aud_meaning.specs.View.{coming_step_at};
 ghost use Rattle.aud_code.specs.Flat.{flat_controls};
 ghost use Rattle.aud_single.specs.Next.{kind_of as plain_kind, next_in};

@@ -4,7 +4,7 @@ ghost use Rattle.std.specs.Prelude.{◌≡◌, ℕ, ◌<◌, ◌≤◌, ◌+◌,
 ghost use Rattle.aud_meaning.specs.Effects.{assigned, put_out};
 ghost use Rattle.aud_typed.specs.Tree.{Plan};
 ghost use Rattle.aud_meaning.specs.Run.{main_raised, supplied, advanced, opening_with};
-ghost use Rattle.aud_meaning.specs.Single.{all_of};
+ghost use Rattle.aud_meaning.specs.Ties.Single.{all_of};
 ghost use Rattle.aud_code.specs.Places.{goes};
 ghost use Rattle.aud_code.specs.Flat.{flat_controls, start_at};
 ghost use Rattle.aud_code.specs.Sound.{IsStart};
@@ -88,7 +88,7 @@ pub struct Progress {
 impl Model for Progress {
     ghost use Rattle.std.specs.Prelude.{ℕ, [], ◌≤◌, length};
     ghost use Rattle.aud_text.specs.declared.limits.TheConstants.{CHOICES, CLOCK, OUTPUT, STEPS};
-    ghost use Rattle.aud_meaning.specs.Single.{Single};
+    ghost use Rattle.aud_meaning.specs.Ties.Single.{Single};
     ghost use Rattle.aud_code.specs.Places.{Spot};
     ghost use Rattle.aud_single.specs.Shown.{plain_stage};
 

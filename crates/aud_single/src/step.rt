@@ -2,7 +2,7 @@
 
 ghost use Rattle.std.specs.Prelude.{◌≡◌, [], ◌<◌, ◌≤◌, ◌+◌, length, Some, None, OnOk, IfOk};
 ghost use Rattle.aud_typed.specs.declared.program.Exception.{Exception as Exceptions};
-ghost use Rattle.aud_meaning.specs.Single.{runs};
+ghost use Rattle.aud_meaning.specs.Ties.Single.{runs};
 ghost use Rattle.aud_code.specs.Flat.{end_at, left_by, handler_at};
 ghost use Rattle.aud_code.specs.Sound.{counts_of, LastFine};
 ghost use Rattle.aud_code.specs.View.{plain_last};

@@ -1,14 +1,14 @@
 -- The words of a tree do not depend on its places.
 use Rattle.std.proofs.Common.{◌≡◌, List, [], ◌∷◌, map, refl, sym, ap, ◌∙◌}
 use Rattle.std.specs.Prelude.{Option, Some, None}
-use Rattle.aud_lex.specs.Spaced.{spaced}
+use Rattle.aud_lex.specs.Why.Spaced.{spaced}
 use Rattle.aud_syntax.specs.declared.tree.Ident.{Ident}
 use Rattle.aud_syntax.specs.declared.tree.Signed.{Signed}
 use Rattle.aud_syntax.specs.declared.tree.Operator.{Operator}
 use Rattle.aud_syntax.specs.Plain as m
-use Rattle.aud_syntax.specs.Bare.{bare_ident, bare_sign, bare_highest, bare_end, bare_expression, bare_relation, bare_name, bare_part, bare_args, bare_simple, bare_addeds, bare_added, bare_term, bare_multiplieds, bare_multiplied, bare_factor, bare_primary, bare_maybe, bare_declaration, bare_declarations, bare_statement, bare_statements, bare_body, bare}
-use Rattle.aud_syntax.specs.Printed as w
-use Rattle.aud_syntax.specs.Laws.{WithoutPlaces}
+use Rattle.aud_syntax.specs.Why.Bare.{bare_ident, bare_sign, bare_highest, bare_end, bare_expression, bare_relation, bare_name, bare_part, bare_args, bare_simple, bare_addeds, bare_added, bare_term, bare_multiplieds, bare_multiplied, bare_factor, bare_primary, bare_maybe, bare_declaration, bare_declarations, bare_statement, bare_statements, bare_body, bare}
+use Rattle.aud_syntax.specs.Why.Printed as w
+use Rattle.aud_syntax.specs.Why.Laws.{WithoutPlaces}
 
 sign_same : (s : Option Signed) → w.sign_words (bare_sign s) ≡ w.sign_words s
 sign_same None = refl

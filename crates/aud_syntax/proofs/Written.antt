@@ -4,7 +4,7 @@ use Rattle.std.proofs.Math.Seq.{drop-cons}
 use Rattle.std.specs.Prelude.{Result, Ok, Err, OnOk}
 use Rattle.std.proofs.Common.{false, ◌==◌}
 use Rattle.std.specs.Prelude.{codes}
-use Rattle.aud_lex.specs.Spaced.{Word, word, separator, spaced}
+use Rattle.aud_lex.specs.Why.Spaced.{Word, word, separator, spaced}
 use Rattle.aud_syntax.specs.declared.tree.Expression.{Expression}
 use Rattle.aud_syntax.specs.Plain as m
 use Rattle.std.specs.Prelude.{Option, None, Box}
@@ -13,8 +13,8 @@ use Rattle.std.proofs.Common.{append-nil, subst}
 use Rattle.aud_syntax.specs.declared.tree.Ident.{Ident}
 use Rattle.aud_syntax.specs.declared.tree.Name as name
 use Rattle.aud_syntax.specs.declared.tree.Primary as primary
-use Rattle.aud_syntax.specs.View.{plain_expression, plain_boxed, plain_expressions, plain_name, plain_primary}
-use Rattle.aud_syntax.specs.Printed.{ident_word, expression_words, name_words, primary_words, argument_words, args_words, more_args_words}
+use Rattle.aud_syntax.specs.Ties.View.{plain_expression, plain_boxed, plain_expressions, plain_name, plain_primary}
+use Rattle.aud_syntax.specs.Why.Printed.{ident_word, expression_words, name_words, primary_words, argument_words, args_words, more_args_words}
 use Rattle.aud_syntax.proofs.Opened.{name_open, attribute_open}
 
 pub spaced_append : (a b : List Word) → spaced (a ++ b) ≡ spaced a ++ spaced b

@@ -1,6 +1,3 @@
 pub mod Plain
-pub mod View
-pub mod Printed
-pub mod Bare
-pub mod Laws
-pub mod Shorthand
+pub mod Ties
+pub mod Why

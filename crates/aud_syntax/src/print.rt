@@ -2,9 +2,9 @@
 // line, a line feed behind it.
 
 ghost use Rattle.std.specs.Prelude.{◌≡◌, ◌++◌, ◌∷◌, [], IfOk, OnOk};
-ghost use Rattle.aud_lex.specs.Spaced.{word, last_word, spaced};
-ghost use Rattle.aud_syntax.specs.View.{plain_expression, plain_relation, plain_name, plain_part, plain_expressions, plain_simple, plain_added, plain_term, plain_multiplied, plain_factor, plain_primary, plain_maybe, plain_declaration, plain_declarations, plain_statement, plain_statements, plain_body, plain_unit};
-ghost use Rattle.aud_syntax.specs.Printed.{ident_word, number_word, doubled, literal_word, sign_words, adding_spelling, multiplying_spelling, operator_words, expression_words, relation_words, name_words, part_words, args_words, simple_words, added_words, term_words, multiplied_words, factor_words, primary_words, in_parentheses, more_ident_words, idents_words, initial_words, object_words, declaration_words, declarations_words, null_words, assignment_words, call_words, statement_words, statements_words, end_words, body_words, unit_words, printed};
+ghost use Rattle.aud_lex.specs.Why.Spaced.{word, last_word, spaced};
+ghost use Rattle.aud_syntax.specs.Ties.View.{plain_expression, plain_relation, plain_name, plain_part, plain_expressions, plain_simple, plain_added, plain_term, plain_multiplied, plain_factor, plain_primary, plain_maybe, plain_declaration, plain_declarations, plain_statement, plain_statements, plain_body, plain_unit};
+ghost use Rattle.aud_syntax.specs.Why.Printed.{ident_word, number_word, doubled, literal_word, sign_words, adding_spelling, multiplying_spelling, operator_words, expression_words, relation_words, name_words, part_words, args_words, simple_words, added_words, term_words, multiplied_words, factor_words, primary_words, in_parentheses, more_ident_words, idents_words, initial_words, object_words, declaration_words, declarations_words, null_words, assignment_words, call_words, statement_words, statements_words, end_words, body_words, unit_words, printed};
 
 use crate::tree::{
     Added, Adding, Body, Declaration, Expression, Factor, Highest, Ident, Literal, Multiplied, Multiplying,

@@ -1,3 +1,3 @@
 pub mod Tree
-pub mod View
-pub mod Scoped
+pub mod Ties
+pub mod Why

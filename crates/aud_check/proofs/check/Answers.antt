@@ -1,8 +1,8 @@
 use Rattle.std.specs.Prelude.{Option, Some, None, Ok}
 use Rattle.std.proofs.Common.{◌≡◌, ◌∙◌, ap, subst, sym}
-use Rattle.aud_syntax.specs.View.{plain_unit}
+use Rattle.aud_syntax.specs.Ties.View.{plain_unit}
 use Rattle.aud_syntax.specs.Plain.{Unit}
-use Rattle.aud_typed.specs.Scoped.{IsScoped}
+use Rattle.aud_typed.specs.Why.Scoped.{IsScoped}
 use Rattle.aud_check.specs.declared.fault.Fault.{Fault}
 use Rattle.aud_check.specs.Least.{noted}
 use Rattle.aud_check.specs.Checked.{faults, typed}

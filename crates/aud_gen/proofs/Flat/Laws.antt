@@ -8,7 +8,7 @@ use Rattle.aud_gen.specs.Layout.{Code, line_at, code_of, code_controls}
 use Rattle.aud_code.specs.Places.{Spot, goes_there, goes_way}
 use Rattle.aud_gen.specs.Layout as layout
 use Rattle.aud_gen.specs.Shows.{ShowsControl}
-use Rattle.aud_meaning.specs.Agree.{Agrees}
+use Rattle.aud_meaning.specs.Why.Agree.{Agrees}
 use Rattle.aud_gen.proofs.Standing.Places.{units_stand}
 use Rattle.aud_gen.proofs.Standing.Agreement.{layout_agreement_law}
 use Rattle.aud_meaning.proofs.Runs.{same_seen, ordered_shown, moves_same, state_same, step_shown, run_shown, supplied_shown, advanced_shown, opening_shown, raised_same}

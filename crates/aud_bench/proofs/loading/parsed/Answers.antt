@@ -1,6 +1,6 @@
 use Rattle.std.proofs.Common.{sym, subst}
 use Rattle.aud_bench.specs.Loading.{after_parsing}
-use Rattle.aud_bench.specs.Loads.{Gives}
+use Rattle.aud_bench.specs.Ties.Loads.{Gives}
 use Rattle.aud_bench.proofs.loading.parsed.Goals as goal
 
 pub returns-in-Ok-clause-answer : goal.returns-in-Ok-clause-answer

@@ -1,6 +1,6 @@
 use Rattle.std.proofs.Common.{[], ◌∷◌, Option, subst}
 use Rattle.aud_bench.specs.declared.request.Answer.{Answer}
-use Rattle.aud_bench.specs.Serving.{ServesBy}
+use Rattle.aud_bench.specs.Ties.Serving.{ServesBy}
 use Rattle.aud_bench.proofs.Standing.{opens}
 use Rattle.aud_bench.proofs.service.answer.Goals as goal
 

@@ -1,8 +1,8 @@
 use Rattle.std.proofs.Common.{Ok, sym, ap, subst}
-use Rattle.aud_typed.specs.View.{plain_program}
+use Rattle.aud_typed.specs.Ties.View.{plain_program}
 use Rattle.aud_bench.specs.declared.request.Answer.TheVariants as answer
 use Rattle.aud_bench.specs.Alone.{load_reply}
-use Rattle.aud_bench.specs.Serving.{Replies}
+use Rattle.aud_bench.specs.Ties.Serving.{Replies}
 use Rattle.aud_bench.proofs.service.begin.Goals as goal
 
 pub returns : goal.returns

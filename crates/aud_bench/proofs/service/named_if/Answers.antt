@@ -1,5 +1,5 @@
 use Rattle.std.proofs.Common.{◌∙◌, Some, ap, sym}
-use Rattle.aud_typed.specs.View.{plain_program}
+use Rattle.aud_typed.specs.Ties.View.{plain_program}
 use Rattle.aud_bench.specs.Alone.{named_if}
 use Rattle.aud_bench.proofs.service.named_if.Goals as goal
 

@@ -5,7 +5,7 @@ use Rattle.aud_machine.specs.Shown.{Shown}
 use Rattle.aud_machine.specs.Shows.{Shows}
 use Rattle.aud_bench.specs.declared.request.Answer.TheVariants as answer
 use Rattle.aud_bench.specs.Alone.{Loaded, output_reply}
-use Rattle.aud_bench.specs.Serving.{IsLoaded}
+use Rattle.aud_bench.specs.Ties.Serving.{IsLoaded}
 use Rattle.aud_bench.proofs.service.output.Goals as goal
 
 told_by : (bounds : Limits) (machine : Shown) (loaded : Option Loaded) (bytes : List ℕ) → IsLoaded bounds (Some machine) loaded → ((c : Configuration) → Shows machine c → bytes ≡ c.shared.output) → answer.Output bytes ≡ (output_reply loaded).answer

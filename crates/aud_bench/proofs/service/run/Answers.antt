@@ -3,7 +3,7 @@ use Rattle.aud_meaning.specs.Configuration.{Configuration}
 use Rattle.aud_meaning.specs.Run.{run, main_raised}
 use Rattle.aud_text.specs.declared.limits.Limits.{Limits}
 use Rattle.aud_typed.specs.Tree as tree
-use Rattle.aud_typed.specs.View.{plain_program}
+use Rattle.aud_typed.specs.Ties.View.{plain_program}
 use Rattle.aud_bench.specs.Alone.{named_if, ended_by}
 use Rattle.aud_bench.proofs.Serving.{goes_on, is_done}
 use Rattle.aud_bench.proofs.service.run.Goals as goal

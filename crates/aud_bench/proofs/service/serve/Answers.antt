@@ -4,7 +4,7 @@ use Rattle.aud_bench.specs.declared.request.Request.TheVariants as request
 use Rattle.aud_bench.specs.declared.service.Served.{Served}
 use Rattle.aud_bench.specs.Alone.{load_reply}
 use Rattle.aud_bench.specs.Loading.{program_of}
-use Rattle.aud_bench.specs.Serving.{Replies, UnderWay, Serves}
+use Rattle.aud_bench.specs.Ties.Serving.{Replies, UnderWay, Serves}
 use Rattle.aud_bench.proofs.Serving.{load_costs, at_once}
 use Rattle.aud_bench.proofs.service.serve.Goals as goal
 

@@ -1,7 +1,7 @@
 use Rattle.std.proofs.Common.{◌≡◌, ◌+◌, [], ◌∷◌, ◌++◌, drop, None, refl, sym, ap, ◌∙◌, subst, append-nil, append_assoc, arith}
 use Rattle.std.proofs.lemmas.List.{drop_more}
 use Rattle.aud_bench.specs.Alone.{Server, answers_from, alone}
-use Rattle.aud_bench.specs.Serving.{IsLoaded}
+use Rattle.aud_bench.specs.Ties.Serving.{IsLoaded}
 use Rattle.aud_bench.proofs.Sessions.{last_one}
 use Rattle.aud_bench.proofs.session.answer_each.Goals as goal
 

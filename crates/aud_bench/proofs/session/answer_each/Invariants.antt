@@ -2,7 +2,7 @@ use Rattle.std.proofs.Common.{◌≡◌, ◌++◌, ◌≤◌, List, drop, Option
 use Rattle.aud_text.specs.declared.limits.TheConstants.{REQUESTS, REQUEST_BYTES}
 use Rattle.aud_bench.specs.declared.request.Answer.{Answer}
 use Rattle.aud_bench.specs.Alone.{Loaded, answers_from, alone}
-use Rattle.aud_bench.specs.Serving.{IsLoaded}
+use Rattle.aud_bench.specs.Ties.Serving.{IsLoaded}
 use Rattle.aud_bench.proofs.session.answer_each.Given as goal
 
 abbrev pub invariant-requests : goal.invariant-requests

@@ -2,7 +2,7 @@ use Rattle.std.proofs.Common.{ap, ◌∙◌, arith}
 use Rattle.std.specs.Prelude.{map}
 use Rattle.std.proofs.lemmas.List.{take_all}
 use Rattle.aud_typed.specs.Tree.{Operation}
-use Rattle.aud_typed.specs.View.{plain_integer}
+use Rattle.aud_typed.specs.Ties.View.{plain_integer}
 use Rattle.aud_typed.proofs.Chains.{plain_operation}
 use Rattle.aud_check.proofs.Chains.{copied_more, chain_copied}
 use Rattle.aud_check.proofs.declaration.+copy.Goals as goal

@@ -1,6 +1,6 @@
 use Rattle.std.proofs.Common.{drop}
-use Rattle.aud_syntax.specs.View.{plain_declarations}
-use Rattle.aud_check.specs.Regions.{plain_place}
+use Rattle.aud_syntax.specs.Ties.View.{plain_declarations}
+use Rattle.aud_check.specs.Ties.Regions.{plain_place}
 use Rattle.aud_check.specs.Declarations.{checked_declarations}
 use Rattle.aud_check.proofs.Elaborated.{DeclaresAhead}
 use Rattle.aud_check.proofs.declaration.declarations.Given as goal

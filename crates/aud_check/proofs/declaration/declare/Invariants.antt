@@ -1,7 +1,7 @@
 use Rattle.std.proofs.Common.{◌≡◌, drop}
 use Rattle.aud_check.specs.Least.{noted}
 use Rattle.aud_check.specs.Declarations.{declared_names, twice_faults}
-use Rattle.aud_check.specs.Regions.{plain_region}
+use Rattle.aud_check.specs.Ties.Regions.{plain_region}
 use Rattle.aud_check.proofs.declaration.declare.Given as goal
 
 abbrev pub invariant-loop-ident : goal.invariant-loop-ident

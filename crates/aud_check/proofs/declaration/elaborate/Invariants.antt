@@ -1,5 +1,5 @@
 use Rattle.std.proofs.Common.{◌≡◌, ◌++◌, drop}
-use Rattle.aud_typed.specs.View.{plain_integer, plain_statements as plain_typed_statements}
+use Rattle.aud_typed.specs.Ties.View.{plain_integer, plain_statements as plain_typed_statements}
 use Rattle.aud_check.specs.Declarations.{elaboration}
 use Rattle.aud_check.proofs.declaration.elaborate.Given as goal
 

@@ -2,9 +2,9 @@ use Rattle.std.proofs.Common.{◌+◌, drop, arith}
 use Rattle.std.specs.Prelude.{Some}
 use Rattle.aud_check.specs.Names.{visible}
 use Rattle.aud_syntax.specs.declared.tree.Added.{out-Added}
-use Rattle.aud_syntax.specs.View.{plain_expression, plain_simple, plain_term, plain_primary, plain_factor}
+use Rattle.aud_syntax.specs.Ties.View.{plain_expression, plain_simple, plain_term, plain_primary, plain_factor}
 use Rattle.aud_check.specs.Expressions.{checked_expression, expression_at, checked_simple, checked_term, checked_factor, checked_primary, adding_operator, arithmetic, multiplying, highest, checked_attribute, term_at, factor_at, primary_at}
-use Rattle.aud_check.specs.Typing.{plain_typed}
+use Rattle.aud_check.specs.Ties.Typing.{plain_typed}
 use Rattle.aud_syntax.proofs.Opened.{added_open}
 use Rattle.aud_syntax.proofs.Written.{dropped}
 use Rattle.aud_check.proofs.Opened.{term_ahead, multiplied_ahead, simple_ahead, added_ahead}

@@ -1,7 +1,7 @@
 use Rattle.std.proofs.Common.{drop}
-use Rattle.aud_syntax.specs.View.{plain_simple, plain_term}
+use Rattle.aud_syntax.specs.Ties.View.{plain_simple, plain_term}
 use Rattle.aud_check.specs.Expressions.{checked_simple, checked_term, checked_addeds, checked_multiplieds}
-use Rattle.aud_check.specs.Typing.{plain_typed}
+use Rattle.aud_check.specs.Ties.Typing.{plain_typed}
 use Rattle.aud_check.proofs.Notes.{Ahead}
 use Rattle.aud_syntax.proofs.Opened.{added_list, multiplied_list}
 use Rattle.aud_check.proofs.expression.+expression.Given as goal

@@ -1,6 +1,6 @@
 use Rattle.std.proofs.Common.{◌≡◌, ◌+◌, ◌++◌, ◌∷◌, drop, arith}
-use Rattle.aud_syntax.specs.View.{plain_statement, plain_statements}
-use Rattle.aud_typed.specs.View.{plain_statements as plain_typed_statements}
+use Rattle.aud_syntax.specs.Ties.View.{plain_statement, plain_statements}
+use Rattle.aud_typed.specs.Ties.View.{plain_statements as plain_typed_statements}
 use Rattle.aud_check.specs.Least.{noted}
 use Rattle.aud_check.specs.Statements.{typed_statement, typed_statements, statements_faults}
 use Rattle.aud_syntax.proofs.Written.{dropped}

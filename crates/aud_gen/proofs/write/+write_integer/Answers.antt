@@ -1,7 +1,7 @@
 use Rattle.std.proofs.Common.{◌≡◌, ◌++◌, refl, arith}
 use Rattle.std.specs.Prelude.{map}
 use Rattle.aud_typed.specs.Tree.{chained, binary}
-use Rattle.aud_typed.specs.View.{plain_integer}
+use Rattle.aud_typed.specs.Ties.View.{plain_integer}
 use Rattle.aud_typed.proofs.Chains.{plain_operation}
 use Rattle.aud_code.specs.Flat.{instructs}
 use Rattle.aud_code.specs.View.{plain_line}

@@ -1,7 +1,7 @@
 use Rattle.std.proofs.Common.{◌≡◌, ◌++◌}
 use Rattle.std.specs.Prelude.{map}
 use Rattle.aud_typed.specs.Tree.{joined}
-use Rattle.aud_typed.specs.View.{plain_text}
+use Rattle.aud_typed.specs.Ties.View.{plain_text}
 use Rattle.aud_code.specs.Flat.{instructs}
 use Rattle.aud_code.specs.View.{plain_line}
 use Rattle.aud_gen.specs.Instructions.{text_code}

@@ -5,7 +5,7 @@ use Rattle.aud_text.specs.declared.place.Pos.{Pos}
 use Rattle.aud_typed.specs.declared.program.Statement.{Statement}
 use Rattle.aud_typed.specs.declared.program.Statement.TheVariants.{Declare, Null, Assign, Put}
 use Rattle.aud_typed.specs.declared.program.Program.{Program}
-use Rattle.aud_typed.specs.View.{plain_statement, plain_program}
+use Rattle.aud_typed.specs.Ties.View.{plain_statement, plain_program}
 use Rattle.aud_typed.specs.Tree.{body, part_of, in_sequence, no_handlers}
 use Rattle.aud_typed.specs.Tree as tree
 use Rattle.aud_meaning.specs.Items.{nowhere}

@@ -1,4 +1,4 @@
-use Rattle.aud_parse.specs.Outcome.{o_rule}
+use Rattle.aud_parse.specs.Ties.Outcome.{o_rule}
 use Rattle.aud_parse.proofs.Passing.{to, exit}
 use Rattle.aud_parse.proofs.Rolls.{declaration_items}
 use Rattle.aud_parse.proofs.declaration.declaration.Goals as goal

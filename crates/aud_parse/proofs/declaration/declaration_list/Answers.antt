@@ -1,5 +1,5 @@
 use Rattle.std.proofs.Common.{sym, ◌∙◌, rules}
-use Rattle.aud_parse.specs.Outcome.{o_rule, o_more}
+use Rattle.aud_parse.specs.Ties.Outcome.{o_rule, o_more}
 use Rattle.aud_parse.proofs.Passing.{exit, heads_none, heads_push, heads_end}
 use Rattle.aud_parse.proofs.declaration.declaration_list.Goals as goal
 

@@ -1,6 +1,6 @@
 use Rattle.aud_parse.specs.Grammar as g
 use Rattle.std.proofs.Common.{refl}
-use Rattle.aud_parse.specs.Outcome.{o_rule}
+use Rattle.aud_parse.specs.Ties.Outcome.{o_rule}
 use Rattle.aud_parse.proofs.Passing.{level_on, no_level}
 use Rattle.aud_parse.proofs.declaration.declarations.Goals as goal
 

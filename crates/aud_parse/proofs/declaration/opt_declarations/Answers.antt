@@ -1,6 +1,6 @@
 use Rattle.std.proofs.Common.{sym, ap, ◌∙◌, ◌∷◌}
-use Rattle.aud_parse.specs.Outcome.{o_yes, o_no}
-use Rattle.aud_parse.specs.Items.{list_item, declaration_item}
+use Rattle.aud_parse.specs.Ties.Outcome.{o_yes, o_no}
+use Rattle.aud_parse.specs.Ties.Items.{list_item, declaration_item}
 use Rattle.aud_parse.proofs.Passing.{to, hand_on}
 use Rattle.aud_parse.proofs.declaration.opt_declarations.Goals as goal
 

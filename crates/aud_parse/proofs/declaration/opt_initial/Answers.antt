@@ -1,4 +1,4 @@
-use Rattle.aud_parse.specs.Outcome.{o_rule, o_yes, o_no}
+use Rattle.aud_parse.specs.Ties.Outcome.{o_rule, o_yes, o_no}
 use Rattle.aud_parse.proofs.Passing.{exit, word_passes}
 use Rattle.aud_parse.proofs.declaration.opt_initial.Goals as goal
 

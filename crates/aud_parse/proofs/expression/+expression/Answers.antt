@@ -1,6 +1,6 @@
 use Rattle.aud_parse.specs.Grammar as g
 use Rattle.std.proofs.Common.{sym, ◌∙◌, refl, rules}
-use Rattle.aud_parse.specs.Outcome.{o_rule, o_this, o_other, o_last, o_yes, o_no, o_more}
+use Rattle.aud_parse.specs.Ties.Outcome.{o_rule, o_this, o_other, o_last, o_yes, o_no, o_more}
 use Rattle.aud_parse.proofs.Passing.{to, exit, hand_on, level_in, level_out, turns_push, turns_end, no_level}
 use Rattle.aud_parse.proofs.Rolls.{term_roll, added_roll, simple_roll, factor_items, name_items, named_items}
 use Rattle.aud_parse.proofs.expression.+expression.Goals as goal

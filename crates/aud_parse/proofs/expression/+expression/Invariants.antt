@@ -1,6 +1,6 @@
 use Rattle.std.proofs.Common.{◌+◌, ◌*◌, ◌≤◌, length}
 use Rattle.aud_parse.specs.Grammar as g
-use Rattle.aud_parse.specs.Items.{multiplied_item, added_item}
+use Rattle.aud_parse.specs.Ties.Items.{multiplied_item, added_item}
 use Rattle.aud_parse.proofs.Passing.{Turns}
 use Rattle.aud_parse.proofs.expression.+expression.Given as goal
 

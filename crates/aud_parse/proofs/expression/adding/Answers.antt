@@ -1,6 +1,6 @@
 use Rattle.std.proofs.Common.{[], ◌∷◌}
 use Rattle.aud_lex.specs.declared.token.Kind.TheVariants as kind
-use Rattle.aud_parse.specs.Outcome.{o_rule, o_this, o_other, o_last}
+use Rattle.aud_parse.specs.Ties.Outcome.{o_rule, o_this, o_other, o_last}
 use Rattle.aud_parse.proofs.Passing.{word_passes, in_this, in_others, in_none}
 use Rattle.aud_parse.proofs.expression.adding.Goals as goal
 

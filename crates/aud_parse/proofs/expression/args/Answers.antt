@@ -1,7 +1,7 @@
 use Rattle.std.proofs.Common.{ap, sym, refl, ◌∙◌, ◌++◌, ◌∷◌, []}
-use Rattle.aud_syntax.specs.View.{plain_expressions}
+use Rattle.aud_syntax.specs.Ties.View.{plain_expressions}
 use Rattle.aud_parse.specs.Grammar as g
-use Rattle.aud_parse.specs.Outcome.{o_rule}
+use Rattle.aud_parse.specs.Ties.Outcome.{o_rule}
 use Rattle.aud_parse.specs.Actions.{some_args}
 use Rattle.aud_parse.proofs.Passing.{to, exit, level_in, level_out, no_level}
 use Rattle.aud_parse.proofs.expression.args.Goals as goal

@@ -1,7 +1,7 @@
 use Rattle.std.proofs.Common.{ap, sym, ◌∷◌}
 use Rattle.aud_syntax.specs.Plain as m
-use Rattle.aud_syntax.specs.View.{plain_expressions}
-use Rattle.aud_parse.specs.Outcome.{o_rule}
+use Rattle.aud_syntax.specs.Ties.View.{plain_expressions}
+use Rattle.aud_parse.specs.Ties.Outcome.{o_rule}
 use Rattle.aud_parse.specs.Actions.{a_name}
 use Rattle.aud_parse.proofs.Passing.{to, exit}
 use Rattle.aud_parse.proofs.expression.name.Goals as goal

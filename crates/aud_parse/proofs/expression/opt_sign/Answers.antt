@@ -1,6 +1,6 @@
 use Rattle.std.proofs.Common.{[], ◌∷◌}
 use Rattle.aud_lex.specs.declared.token.Kind.TheVariants as kind
-use Rattle.aud_parse.specs.Outcome.{o_rule, o_this, o_other, o_last, o_yes, o_no}
+use Rattle.aud_parse.specs.Ties.Outcome.{o_rule, o_this, o_other, o_last, o_yes, o_no}
 use Rattle.aud_parse.proofs.Passing.{token_passes, in_this, in_others, in_none}
 use Rattle.aud_parse.proofs.expression.opt_sign.Goals as goal
 

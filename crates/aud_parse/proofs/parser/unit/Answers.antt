@@ -1,4 +1,4 @@
-use Rattle.aud_parse.specs.Outcome.{o_rule}
+use Rattle.aud_parse.specs.Ties.Outcome.{o_rule}
 use Rattle.aud_parse.specs.Actions.{token}
 use Rattle.aud_parse.proofs.Passing.{to, exit}
 use Rattle.aud_parse.proofs.Rolls.{unit_items}

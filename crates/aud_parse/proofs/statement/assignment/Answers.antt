@@ -1,4 +1,4 @@
-use Rattle.aud_parse.specs.Outcome.{o_rule}
+use Rattle.aud_parse.specs.Ties.Outcome.{o_rule}
 use Rattle.aud_parse.proofs.Passing.{exit}
 use Rattle.aud_parse.proofs.statement.assignment.Goals as goal
 

@@ -1,8 +1,8 @@
 use Rattle.std.proofs.Common.{ap, sym, ◌∙◌, ◌∷◌}
 use Rattle.aud_syntax.specs.Plain as m
-use Rattle.aud_syntax.specs.View.{plain_expression, plain_expressions}
+use Rattle.aud_syntax.specs.Ties.View.{plain_expression, plain_expressions}
 use Rattle.aud_parse.specs.Actions.{a_statement}
-use Rattle.aud_parse.specs.Outcome.{o_rule, o_this, o_other, o_last}
+use Rattle.aud_parse.specs.Ties.Outcome.{o_rule, o_this, o_other, o_last}
 use Rattle.aud_parse.proofs.Passing.{to, exit}
 use Rattle.aud_parse.proofs.statement.named.Goals as goal
 

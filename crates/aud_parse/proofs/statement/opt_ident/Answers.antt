@@ -1,5 +1,5 @@
 use Rattle.std.proofs.Common.{sym, ◌∙◌}
-use Rattle.aud_parse.specs.Outcome.{o_yes, o_no}
+use Rattle.aud_parse.specs.Ties.Outcome.{o_yes, o_no}
 use Rattle.aud_parse.proofs.Passing.{exit}
 use Rattle.aud_parse.proofs.statement.opt_ident.Goals as goal
 

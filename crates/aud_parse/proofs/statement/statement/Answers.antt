@@ -1,5 +1,5 @@
 use Rattle.std.proofs.Common.{sym, ◌∙◌}
-use Rattle.aud_parse.specs.Outcome.{o_rule, o_this, o_other, o_last}
+use Rattle.aud_parse.specs.Ties.Outcome.{o_rule, o_this, o_other, o_last}
 use Rattle.aud_parse.proofs.Passing.{hand_on}
 use Rattle.aud_parse.proofs.statement.statement.Goals as goal
 

@@ -1,6 +1,6 @@
 use Rattle.std.proofs.Common.{◌≤◌, length}
 use Rattle.aud_parse.specs.Grammar as g
-use Rattle.aud_parse.specs.Items.{statement_item}
+use Rattle.aud_parse.specs.Ties.Items.{statement_item}
 use Rattle.aud_parse.proofs.Passing.{Heads}
 use Rattle.aud_parse.proofs.statement.statement_list.Given as goal
 

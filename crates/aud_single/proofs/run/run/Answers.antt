@@ -1,6 +1,6 @@
 use Rattle.std.proofs.Common.{◌≡◌, ◌-◌, ap, ◌∙◌, sym, arith}
 use Rattle.aud_meaning.specs.Run.{run_with}
-use Rattle.aud_meaning.specs.Single.{all_of}
+use Rattle.aud_meaning.specs.Ties.Single.{all_of}
 use Rattle.aud_code.specs.Flat.{flat_controls}
 use Rattle.aud_single.specs.Ticks.{run_ticks}
 use Rattle.aud_single.proofs.Running.{turns, ticks_turn, ends, no_ticks}

@@ -1,11 +1,11 @@
 use Rattle.std.proofs.Common.{◌+◌, ◌++◌, ◌∷◌, [], ◌∙◌, sym, ap, refl, drop, arith}
 use Rattle.std.specs.Prelude.{Some, codes}
 use Rattle.std.proofs.lemmas.List.{drop_all}
-use Rattle.aud_lex.specs.Spaced.{word}
+use Rattle.aud_lex.specs.Why.Spaced.{word}
 use Rattle.aud_syntax.specs.declared.tree.Simple.{out-Simple}
 use Rattle.aud_syntax.specs.declared.tree.Term.{out-Term}
-use Rattle.aud_syntax.specs.View.{plain_expression, plain_simple, plain_added, plain_term, plain_multiplied, plain_factor}
-use Rattle.aud_syntax.specs.Printed.{expression_words, sign_words, simple_words, addeds_words, added_words, term_words, multiplieds_words, multiplied_words, factor_words}
+use Rattle.aud_syntax.specs.Ties.View.{plain_expression, plain_simple, plain_added, plain_term, plain_multiplied, plain_factor}
+use Rattle.aud_syntax.specs.Why.Printed.{expression_words, sign_words, simple_words, addeds_words, added_words, term_words, multiplieds_words, multiplied_words, factor_words}
 use Rattle.aud_syntax.proofs.Opened.{added_list, multiplied_list, simple_open, term_open}
 use Rattle.aud_syntax.proofs.Written.{both_written, all_written, next_written, loop_begins, dropped, argument_written, arguments_end, name_written, attribute_written, attribute_alone}
 use Rattle.aud_syntax.proofs.print.+print.Goals as goal

@@ -1,7 +1,7 @@
 use Rattle.std.proofs.Common.{◌≡◌, ◌++◌, drop}
-use Rattle.aud_lex.specs.Spaced.{spaced}
-use Rattle.aud_syntax.specs.View.{plain_simple, plain_term, plain_expressions}
-use Rattle.aud_syntax.specs.Printed.{simple_words, addeds_words, term_words, multiplieds_words}
+use Rattle.aud_lex.specs.Why.Spaced.{spaced}
+use Rattle.aud_syntax.specs.Ties.View.{plain_simple, plain_term, plain_expressions}
+use Rattle.aud_syntax.specs.Why.Printed.{simple_words, addeds_words, term_words, multiplieds_words}
 use Rattle.aud_syntax.proofs.Opened.{added_list, multiplied_list}
 use Rattle.std.specs.Prelude.{codes}
 use Rattle.aud_syntax.proofs.Written.{listed}

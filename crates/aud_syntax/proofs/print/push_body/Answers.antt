@@ -1,8 +1,8 @@
 use Rattle.std.proofs.Common.{◌++◌, ◌∷◌, [], ap, ◌∙◌}
 use Rattle.std.specs.Prelude.{codes}
-use Rattle.aud_lex.specs.Spaced.{word, last_word, spaced}
-use Rattle.aud_syntax.specs.View.{plain_statements}
-use Rattle.aud_syntax.specs.Printed.{statements_words, end_words}
+use Rattle.aud_lex.specs.Why.Spaced.{word, last_word, spaced}
+use Rattle.aud_syntax.specs.Ties.View.{plain_statements}
+use Rattle.aud_syntax.specs.Why.Printed.{statements_words, end_words}
 use Rattle.aud_syntax.proofs.Written.{all_written}
 use Rattle.aud_syntax.proofs.print.push_body.Goals as goal
 

@@ -1,8 +1,8 @@
 use Rattle.std.proofs.Common.{◌∷◌, []}
 use Rattle.std.specs.Prelude.{codes}
-use Rattle.aud_lex.specs.Spaced.{last_word}
-use Rattle.aud_syntax.specs.View.{plain_name}
-use Rattle.aud_syntax.specs.Printed.{name_words}
+use Rattle.aud_lex.specs.Why.Spaced.{last_word}
+use Rattle.aud_syntax.specs.Ties.View.{plain_name}
+use Rattle.aud_syntax.specs.Why.Printed.{name_words}
 use Rattle.aud_syntax.proofs.Written.{all_written}
 use Rattle.aud_syntax.proofs.print.push_call.Goals as goal
 

@@ -1,6 +1,6 @@
 use Rattle.std.proofs.Common.{refl, arith}
-use Rattle.aud_syntax.specs.View.{plain_declaration, plain_declarations}
-use Rattle.aud_syntax.specs.Printed.{declaration_words, declarations_words}
+use Rattle.aud_syntax.specs.Ties.View.{plain_declaration, plain_declarations}
+use Rattle.aud_syntax.specs.Why.Printed.{declaration_words, declarations_words}
 use Rattle.aud_syntax.proofs.Written.{next_written}
 use Rattle.aud_syntax.proofs.print.push_declarations.Goals as goal
 

@@ -1,7 +1,7 @@
 use Rattle.std.proofs.Common.{◌≡◌, ◌++◌, drop}
-use Rattle.aud_lex.specs.Spaced.{spaced}
-use Rattle.aud_syntax.specs.View.{plain_declarations}
-use Rattle.aud_syntax.specs.Printed.{declarations_words}
+use Rattle.aud_lex.specs.Why.Spaced.{spaced}
+use Rattle.aud_syntax.specs.Ties.View.{plain_declarations}
+use Rattle.aud_syntax.specs.Why.Printed.{declarations_words}
 use Rattle.aud_syntax.proofs.print.push_declarations.Given as goal
 
 abbrev pub invariant-loop-next : goal.invariant-loop-next

@@ -1,5 +1,5 @@
 use Rattle.std.proofs.Common.{◌≡◌, ◌++◌, drop}
-use Rattle.aud_syntax.specs.Printed.{doubled}
+use Rattle.aud_syntax.specs.Why.Printed.{doubled}
 use Rattle.aud_syntax.proofs.print.push_doubled.Given as goal
 
 abbrev pub invariant-loop-byte : goal.invariant-loop-byte

@@ -1,6 +1,6 @@
 use Rattle.std.proofs.Common.{◌≡◌, ◌++◌, drop}
-use Rattle.aud_lex.specs.Spaced.{spaced}
-use Rattle.aud_syntax.specs.Printed.{more_ident_words}
+use Rattle.aud_lex.specs.Why.Spaced.{spaced}
+use Rattle.aud_syntax.specs.Why.Printed.{more_ident_words}
 use Rattle.aud_syntax.proofs.print.push_more_idents.Given as goal
 
 abbrev pub invariant-loop-next : goal.invariant-loop-next

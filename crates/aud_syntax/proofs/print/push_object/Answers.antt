@@ -1,8 +1,8 @@
 use Rattle.std.proofs.Common.{◌++◌, ◌∷◌, []}
 use Rattle.std.specs.Prelude.{codes}
-use Rattle.aud_lex.specs.Spaced.{word, last_word}
-use Rattle.aud_syntax.specs.View.{plain_maybe}
-use Rattle.aud_syntax.specs.Printed.{ident_word, idents_words, initial_words}
+use Rattle.aud_lex.specs.Why.Spaced.{word, last_word}
+use Rattle.aud_syntax.specs.Ties.View.{plain_maybe}
+use Rattle.aud_syntax.specs.Why.Printed.{ident_word, idents_words, initial_words}
 use Rattle.aud_syntax.proofs.Written.{all_written}
 use Rattle.aud_syntax.proofs.print.push_object.Goals as goal
 

@@ -1,6 +1,6 @@
 use Rattle.std.proofs.Common.{refl, arith}
-use Rattle.aud_syntax.specs.View.{plain_statement, plain_statements}
-use Rattle.aud_syntax.specs.Printed.{statement_words, statements_words}
+use Rattle.aud_syntax.specs.Ties.View.{plain_statement, plain_statements}
+use Rattle.aud_syntax.specs.Why.Printed.{statement_words, statements_words}
 use Rattle.aud_syntax.proofs.Written.{next_written}
 use Rattle.aud_syntax.proofs.print.push_statements.Goals as goal
 

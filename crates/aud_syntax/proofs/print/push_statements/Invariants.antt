@@ -1,7 +1,7 @@
 use Rattle.std.proofs.Common.{◌≡◌, ◌++◌, drop}
-use Rattle.aud_lex.specs.Spaced.{spaced}
-use Rattle.aud_syntax.specs.View.{plain_statements}
-use Rattle.aud_syntax.specs.Printed.{statements_words}
+use Rattle.aud_lex.specs.Why.Spaced.{spaced}
+use Rattle.aud_syntax.specs.Ties.View.{plain_statements}
+use Rattle.aud_syntax.specs.Why.Printed.{statements_words}
 use Rattle.aud_syntax.proofs.print.push_statements.Given as goal
 
 abbrev pub invariant-loop-next : goal.invariant-loop-next

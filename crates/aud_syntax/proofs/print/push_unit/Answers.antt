@@ -1,8 +1,8 @@
 use Rattle.std.proofs.Common.{◌++◌, ◌∷◌, [], ap, ◌∙◌}
 use Rattle.std.specs.Prelude.{codes}
-use Rattle.aud_lex.specs.Spaced.{word, last_word, spaced}
-use Rattle.aud_syntax.specs.View.{plain_declarations, plain_body}
-use Rattle.aud_syntax.specs.Printed.{ident_word, declarations_words, body_words}
+use Rattle.aud_lex.specs.Why.Spaced.{word, last_word, spaced}
+use Rattle.aud_syntax.specs.Ties.View.{plain_declarations, plain_body}
+use Rattle.aud_syntax.specs.Why.Printed.{ident_word, declarations_words, body_words}
 use Rattle.aud_syntax.proofs.Written.{all_written}
 use Rattle.aud_syntax.proofs.print.push_unit.Goals as goal
 

@@ -1,7 +1,7 @@
 use Rattle.std.proofs.Common.{◌≡◌, ◌++◌, Bool, true, false, subst, ◌∙◌, append-nil}
 use Rattle.aud_bench.specs.Alone.{made}
-use Rattle.aud_bench.specs.Seen.{Seen, HasMade}
-use Rattle.aud_bench.specs.Standing.{told}
+use Rattle.aud_bench.specs.Ties.Seen.{Seen, HasMade}
+use Rattle.aud_bench.specs.Ties.Standing.{told}
 use Rattle.aud_bench.proofs.Benches.{answers_are}
 use Rattle.aud_bench.proofs.bench.Bench.answers.Goals as goal
 

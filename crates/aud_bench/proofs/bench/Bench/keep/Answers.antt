@@ -3,9 +3,9 @@ use Rattle.aud_bench.specs.declared.request.Request.{Request}
 use Rattle.aud_bench.specs.declared.request.Answer.{Answer}
 use Rattle.aud_bench.specs.Alone.{fits}
 use Rattle.aud_bench.specs.Size.{bytes_of}
-use Rattle.aud_bench.specs.Seen.{Seen, has_quit}
-use Rattle.aud_bench.specs.Standing.{IsAt, units_done}
-use Rattle.aud_bench.specs.Kept.{is_kept}
+use Rattle.aud_bench.specs.Ties.Seen.{Seen, has_quit}
+use Rattle.aud_bench.specs.Ties.Standing.{IsAt, units_done}
+use Rattle.aud_bench.specs.Ties.Kept.{is_kept}
 use Rattle.aud_bench.proofs.Fronts.{kept_more}
 use Rattle.aud_bench.proofs.Benches.{known_is, length_is, given, given_units}
 use Rattle.aud_bench.proofs.Journals.{or_left, or_right, bytes_append, last_quits, room_left}

@@ -1,6 +1,6 @@
 use Rattle.std.proofs.Common.{◌≡◌, ◌-◌, ◌≤◌, ap, ◌∙◌, subst, arith}
 use Rattle.aud_bench.specs.Alone.{cost}
-use Rattle.aud_bench.specs.Seen.{Seen, unanswered}
+use Rattle.aud_bench.specs.Ties.Seen.{Seen, unanswered}
 use Rattle.aud_bench.proofs.Benches.{known_is, left_is, within_is, whole_is}
 use Rattle.aud_bench.proofs.bench.Bench.left.Goals as goal
 

@@ -2,8 +2,8 @@ use Rattle.std.proofs.Common.{List, [], false, ap, ◌∙◌}
 use Rattle.aud_bench.specs.declared.request.Request.{Request}
 use Rattle.aud_bench.specs.declared.request.Answer.{Answer}
 use Rattle.aud_bench.specs.Alone.{cost}
-use Rattle.aud_bench.specs.Seen.{Seen}
-use Rattle.aud_bench.specs.Standing.{units_done}
+use Rattle.aud_bench.specs.Ties.Seen.{Seen}
+use Rattle.aud_bench.specs.Ties.Standing.{units_done}
 use Rattle.aud_bench.proofs.bench.Bench.new.Goals as goal
 
 abbrev seen : goal.After-new-2 → List Request → List Answer → Seen

@@ -1,7 +1,7 @@
 use Rattle.std.proofs.Common.{◌≡◌, ◌+◌, ◌<◌, List, length, vec_len, vec_capacity, drop, true, false, sym, ap, ◌∙◌, subst, arith}
 use Rattle.aud_bench.specs.declared.request.Answer.{Answer}
-use Rattle.aud_bench.specs.Seen.{Seen, unanswered}
-use Rattle.aud_bench.specs.Standing.{IsAt, units_done}
+use Rattle.aud_bench.specs.Ties.Seen.{Seen, unanswered}
+use Rattle.aud_bench.specs.Ties.Standing.{IsAt, units_done}
 use Rattle.aud_bench.proofs.Benches.{left_is, room, next_request, one_more, refused, goes_on, goes_on_units, is_answered, answered_units}
 use Rattle.aud_bench.proofs.bench.Bench.work.Goals as goal
 

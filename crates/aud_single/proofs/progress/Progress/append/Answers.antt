@@ -1,5 +1,5 @@
 use Rattle.std.proofs.Common.{[], ap, ◌∙◌, arith}
-use Rattle.aud_meaning.specs.Single.{Single}
+use Rattle.aud_meaning.specs.Ties.Single.{Single}
 use Rattle.aud_meaning.specs.Effects.{put_out}
 use Rattle.aud_code.specs.Places.{Spot}
 use Rattle.aud_single.specs.Shown.{plain_stage, shared_in}

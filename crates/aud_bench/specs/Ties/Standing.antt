@@ -7,7 +7,7 @@ use Rattle.aud_bench.specs.declared.request.Request.{Request}
 use Rattle.aud_bench.specs.declared.request.Answer.{Answer}
 use Rattle.aud_bench.specs.declared.request.Answer.TheVariants.{Refused}
 use Rattle.aud_bench.specs.Alone.{Loaded, replied, cost}
-use Rattle.aud_bench.specs.Serving.{IsLoaded, UnderWay}
+use Rattle.aud_bench.specs.Ties.Serving.{IsLoaded, UnderWay}
 
 -- what is loaded after requests
 abbrev pub loaded_after : Limits → Option Loaded → List Request → Option Loaded

@@ -1,10 +1,10 @@
 -- What is shown by a check of declarations in memory.
 use Rattle.std.specs.Prelude.{◌≡◌, ◌++◌, Option}
-use Rattle.aud_typed.specs.View.{plain_statements}
+use Rattle.aud_typed.specs.Ties.View.{plain_statements}
 use Rattle.aud_check.specs.declared.declaration.DeclarativePart.{DeclarativePart}
 use Rattle.aud_check.specs.declared.fault.Fault.{Fault}
 use Rattle.aud_check.specs.Least.{noted}
-use Rattle.aud_check.specs.Regions.{plain_place}
+use Rattle.aud_check.specs.Ties.Regions.{plain_place}
 use Rattle.aud_check.specs.Declarations.{Declared}
 
 -- the faults are noted, the place is that after the declarations, and the elaboration is added

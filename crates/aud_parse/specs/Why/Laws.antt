@@ -4,14 +4,14 @@ use Rattle.aud_text.specs.declared.limits.TheConstants.{LEVELS}
 use Rattle.aud_lex.specs.Element.{Element}
 use Rattle.aud_lex.specs.Lexed.{lexed}
 use Rattle.aud_syntax.specs.Plain as m
-use Rattle.aud_syntax.specs.Bare.{bare}
-use Rattle.aud_syntax.specs.Printed.{printed}
+use Rattle.aud_syntax.specs.Why.Bare.{bare}
+use Rattle.aud_syntax.specs.Why.Printed.{printed}
 use Rattle.aud_parse.specs.Grammar as g
 use Rattle.aud_parse.specs.Parsed.{Fault, parsed, wrong_at, deep_at}
-use Rattle.aud_parse.specs.Derives.{Viable}
-use Rattle.aud_parse.specs.Spells.{Spells, StopsAt, DeepAt}
-use Rattle.aud_parse.specs.Begun.{Within}
-use Rattle.aud_parse.specs.Alike.{AllAlike, stripped}
+use Rattle.aud_parse.specs.Why.Derives.{Viable}
+use Rattle.aud_parse.specs.Why.Spells.{Spells, StopsAt, DeepAt}
+use Rattle.aud_parse.specs.Why.Begun.{Within}
+use Rattle.aud_parse.specs.Why.Alike.{AllAlike, stripped}
 
 -- a tree is read where the tokens spell it
 abbrev pub TheSpelled : Type 0

@@ -9,7 +9,7 @@ use Rattle.aud_syntax.specs.Plain.{Expression, added, multiplied, Primary, attri
 use Rattle.aud_parse.specs.Grammar as g
 use Rattle.aud_parse.specs.Actions.{the_unit}
 use Rattle.aud_parse.specs.Parsed.{Fault, wrong_at, deep_at, parsed, parsed_as}
-use Rattle.aud_syntax.specs.Shorthand.{at, id, var_at, called, num, too_large, str, var, just, magnitude, opposite, product, multiplying, one, sum, adding, only, only_term, positive, negative, declarations, statements}
+use Rattle.aud_syntax.specs.Why.Shorthand.{at, id, var_at, called, num, too_large, str, var, just, magnitude, opposite, product, multiplying, one, sum, adding, only, only_term, positive, negative, declarations, statements}
 
 -- how tokens are read, where there are tokens
 abbrev pub read_by : (List Element → Result Unit Fault) → Result (List Element) Pos → Option (Result Unit Fault)

@@ -1,7 +1,7 @@
 -- Work on one request, in one piece or in several.
 use Rattle.std.specs.Prelude.{◌≡◌, ℕ, ◌+◌, ◌<◌, min, ◌⊎◌, Option, Some, None}
 use Rattle.aud_text.specs.declared.limits.Limits.{Limits}
-use Rattle.aud_typed.specs.View.{plain_program}
+use Rattle.aud_typed.specs.Ties.View.{plain_program}
 use Rattle.aud_meaning.specs.Run.{run}
 use Rattle.aud_machine.specs.Shown.{Shown}
 use Rattle.aud_machine.specs.Shows.{Shows}

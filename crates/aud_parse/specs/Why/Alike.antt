@@ -5,7 +5,7 @@ use Rattle.aud_lex.specs.Element.{Element}
 use Rattle.aud_lex.specs.Kinds.{kind_number}
 use Rattle.aud_lex.specs.declared.token.Kind.TheVariants as token
 use Rattle.aud_syntax.specs.Plain as m
-use Rattle.aud_syntax.specs.Bare.{bare}
+use Rattle.aud_syntax.specs.Why.Bare.{bare}
 use Rattle.aud_parse.specs.Values.{number_value, unquoted}
 use Rattle.aud_parse.specs.Parsed.{Fault}
 

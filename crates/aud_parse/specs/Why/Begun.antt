@@ -6,7 +6,7 @@ use Rattle.aud_lex.specs.Kinds.{kind_number}
 use Rattle.aud_parse.specs.Grammar as g
 use Rattle.aud_parse.specs.Grammar.{Word, Phrase, Symbol, T, P, W, N, L, Down, A, Opt, Rep, rule}
 use Rattle.aud_parse.specs.First.{among, is_word}
-use Rattle.aud_parse.specs.Derives.{Member}
+use Rattle.aud_parse.specs.Why.Derives.{Member}
 
 -- Begun s room tokens: the symbols derive the tokens so far, with room for so many levels. The rules are those of Derives, and one may stop anywhere
 pub data Begun : List Symbol → ℕ → List Element → Type 0 where

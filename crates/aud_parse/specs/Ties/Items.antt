@@ -15,7 +15,7 @@ use Rattle.aud_syntax.specs.declared.tree.Declaration.{Declaration}
 use Rattle.aud_syntax.specs.declared.tree.Statement.{Statement}
 use Rattle.aud_syntax.specs.declared.tree.Body.{Body}
 use Rattle.aud_syntax.specs.declared.tree.Unit as declared
-use Rattle.aud_syntax.specs.View.{plain_expression, plain_boxed, plain_expressions, plain_name, plain_primary, plain_factor, plain_multiplied, plain_term, plain_added, plain_simple, plain_declaration, plain_statement, plain_body, plain_unit}
+use Rattle.aud_syntax.specs.Ties.View.{plain_expression, plain_boxed, plain_expressions, plain_name, plain_primary, plain_factor, plain_multiplied, plain_term, plain_added, plain_simple, plain_declaration, plain_statement, plain_body, plain_unit}
 use Rattle.aud_parse.specs.Actions.{Item, none, cons, in_parens, an_attribute, some_args, a_name, a_primary, a_factor, a_multiplied, a_term, an_added, a_simple, an_expression, assigned, called, a_declaration, a_statement, a_body, a_unit}
 
 abbrev pub list_item : {X : Type 0} → (X → Item) → List X → Item

@@ -1,7 +1,7 @@
 -- The canonical text of a syntax tree: its words in order, each with a blank or, at the end of a line, a line feed behind it.
 use Rattle.std.specs.Prelude.{ℕ, ℤ, List, [], ◌∷◌, ◌++◌, ◌==◌, if◌then◌else◌, Option, Some, None, codes, nat_abs}
 use Rattle.std.specs.Fmt.{decimal}
-use Rattle.aud_lex.specs.Spaced.{Word, word, last_word, spaced}
+use Rattle.aud_lex.specs.Why.Spaced.{Word, word, last_word, spaced}
 use Rattle.aud_syntax.specs.declared.tree.Ident.{Ident}
 use Rattle.aud_syntax.specs.declared.tree.Number.{Number}
 use Rattle.aud_syntax.specs.declared.tree.Literal.{Literal}

@@ -7,7 +7,7 @@ use Rattle.aud_parse.specs.Grammar.{Phrase, Symbol, T, P, N}
 use Rattle.aud_parse.specs.First.{next_in, firsts}
 use Rattle.aud_parse.specs.Actions.{Item, token}
 use Rattle.aud_parse.specs.Parsed.{Verdict, Wrong, Deep}
-use Rattle.aud_parse.specs.Outcome.{Out}
+use Rattle.aud_parse.specs.Ties.Outcome.{Out}
 use Rattle.aud_parse.specs.declared.cursor.Rest.{Rest}
 use Rattle.aud_parse.specs.declared.cursor.Fault.{Fault}
 use Rattle.aud_parse.specs.declared.cursor.Fault.TheVariants as fault

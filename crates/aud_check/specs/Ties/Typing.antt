@@ -1,7 +1,7 @@
 -- What is shown by a check of an expression in memory.
 use Rattle.std.specs.Prelude.{◌≡◌, Option, Result, Ok, Err}
 use Rattle.std.specs.declared.alloc.AllocError.{AllocError}
-use Rattle.aud_typed.specs.View.{plain_integer, plain_text}
+use Rattle.aud_typed.specs.Ties.View.{plain_integer, plain_text}
 use Rattle.aud_check.specs.declared.fault.Fault.{Fault}
 use Rattle.aud_check.specs.declared.typed.Typed as memory
 use Rattle.aud_check.specs.declared.typed.Typed.TheVariants.{Number, Text, Unknown}

@@ -1,0 +1,5 @@
+pub mod Kept
+pub mod Loads
+pub mod Seen
+pub mod Serving
+pub mod Standing

@@ -1,0 +1,4 @@
+pub mod DeclarativePart
+pub mod Gives
+pub mod Regions
+pub mod Typing

@@ -1,0 +1,4 @@
+pub mod Cut
+pub mod Laws
+pub mod Manual
+pub mod Spaced

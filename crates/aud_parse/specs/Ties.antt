@@ -1,0 +1,4 @@
+pub mod Gives
+pub mod Items
+pub mod Outcome
+pub mod Reads

@@ -1,0 +1,6 @@
+pub mod Alike
+pub mod Begun
+pub mod Derives
+pub mod Laws
+pub mod Rows
+pub mod Spells
