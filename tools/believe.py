@@ -1,7 +1,8 @@
 """Lists the definitions that the end-to-end theorem is made of, in an order in which each stands behind those that it uses.
 
 The theorem is the contract of `solo`; its words are `text`, `alone` and `requests`. From there the imports are followed
-through the folders specs/. What is not reached ties contracts to these words, or says what does not reach the program.
+through the folders specs/. What is not reached ties contracts to these words, or says why they are right: it stands in Ties/ or
+Why/, or in a crate that has nothing else, and this script stops where a file stands in the wrong folder.
 usage: believe.py [--ties]
 """
 import os
@@ -9,7 +10,9 @@ import re
 import sys
 
 TOP = os.path.join(os.path.dirname(os.path.abspath(__file__)), "..", "crates")
-ROOTS = ("aud_server.specs.Solo", "aud_server.specs.Requests", "aud_server.specs.Text", "aud_bench.specs.Alone")
+ROOTS = ("aud_server.specs.Solo", "aud_server.specs.Requests", "aud_server.specs.Text", "aud_server.specs.Program", "aud_bench.specs.Alone")
+# crates whose words only tie contracts together
+TYING = ("aud_code", "aud_gen", "aud_expr", "aud_single", "aud_machine", "aud_rows")
 USE = re.compile(r"^use Rattle\.(aud_\w+)\.specs\.([\w.]+?)(?:\.\{.*\}| as \w+)$", re.MULTILINE)
 
 
@@ -52,13 +55,21 @@ def every():
         specs = os.path.join(TOP, crate, "specs")
         for folder, _, names in os.walk(specs):
             for name in sorted(names):
-                if name.endswith(".antt") and name != "Lib.antt":
+                if name.endswith(".antt") and name not in ("Lib.antt", "Ties.antt", "Why.antt"):
                     inner = os.path.relpath(os.path.join(folder, name), specs)[:-5].replace(os.sep, ".")
                     yield f"{crate}.specs.{inner}"
 
 
+def ties(module):
+    crate, _, rest = module.partition(".specs.")
+    return crate in TYING or rest.startswith(("Ties.", "Why."))
+
+
 def main():
     order = reached(ROOTS)
+    misplaced = [m for m in every() if (m in order) == ties(m)]
+    if misplaced:
+        sys.exit("in the wrong folder: " + ", ".join(misplaced))
     chosen = [m for m in every() if m not in order] if "--ties" in sys.argv[1:] else order
     for module in chosen:
         print(f"{lines_of(module):5}  {os.path.relpath(path_of(module), os.path.join(TOP, '..'))}")
