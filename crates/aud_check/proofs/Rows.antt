@@ -21,7 +21,7 @@ use Rattle.aud_check.specs.declared.fault.Fault.{Fault}
 use Rattle.aud_check.specs.Checked.{faults, checked}
 
 abbrev fault : Pos → Refusal → Fault
-fault place code = record { at = place; refusal = refusal }
+fault place refusal = record { at = place; refusal = refusal }
 
 abbrev sum : Option Signed → Term → Addeds → Expression
 sum s t rest = alone (unrelated (simple s t rest))

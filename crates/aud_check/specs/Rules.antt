@@ -15,15 +15,15 @@ unless good f = if good then [] else f ∷ []
 
 -- a name is visible (RM 8.3); at the name
 abbrev pub name_not_declared : Pos → List Fault
-name_not_declared at = record { at = at; code = NameNotDeclared } ∷ []
+name_not_declared at = record { at = at; refusal = NameNotDeclared } ∷ []
 
 -- a region declares a name once (RM 8.3(26)); at the second declaration
 abbrev pub declared_once : List ℕ → Pos → List Symbol → List Fault
-declared_once name at symbols = unless (not (is_declared name symbols)) (record { at = at; code = DeclaredTwice })
+declared_once name at symbols = unless (not (is_declared name symbols)) (record { at = at; refusal = DeclaredTwice })
 
 -- a name is of the kind that its place asks; at the name
 abbrev pub wrong_kind_of_name : Pos → List Fault
-wrong_kind_of_name at = record { at = at; code = WrongKindOfName } ∷ []
+wrong_kind_of_name at = record { at = at; refusal = WrongKindOfName } ∷ []
 
 abbrev pub same_base : Base → Base → Bool
 same_base Whole Whole = true
@@ -37,17 +37,17 @@ fits _ _ = true
 
 -- an expression has the type that its place asks, where both are known (RM 8.6); at its first token
 abbrev pub right_type : Option Base → Pos → Option Base → List Fault
-right_type asked at given = unless (fits asked given) (record { at = at; code = WrongType })
+right_type asked at given = unless (fits asked given) (record { at = at; refusal = WrongType })
 
 -- as many arguments as formals, one for Image of a type and none for that of a variable (RM 6.4.1, 3.5(35), 4.10(40)); at the name
 abbrev pub wrong_number_of_arguments : Pos → List Fault
-wrong_number_of_arguments at = record { at = at; code = WrongNumberOfArguments } ∷ []
+wrong_number_of_arguments at = record { at = at; refusal = WrongNumberOfArguments } ∷ []
 
 -- the name after `end` is the procedure's (RM 6.3(4)); at the name
 abbrev pub right_name_at_end : List ℕ → Option Ident → List Fault
 right_name_at_end name None = []
-right_name_at_end name (Some last) = unless (bytes_eq last.name name) (record { at = last.at; code = WrongNameAtEnd })
+right_name_at_end name (Some last) = unless (bytes_eq last.name name) (record { at = last.at; refusal = WrongNameAtEnd })
 
 -- a number is at most the last Integer (RM 3.5.4); at the number
 abbrev pub number_too_large : Pos → List Fault
-number_too_large at = record { at = at; code = NumberTooLarge } ∷ []
+number_too_large at = record { at = at; refusal = NumberTooLarge } ∷ []

@@ -14,7 +14,7 @@ use thiserror::Error;
 #[derive(Clone, Copy, PartialEq, Eq, Debug)]
 pub struct Fault {
     pub at: Pos,
-    pub code: Refusal,
+    pub refusal: Refusal,
 }
 
 /// Why a program is not accepted.
@@ -75,10 +75,10 @@ impl Least {
     }
 
     /// Notes one more fault.
-    pub fn note(&mut self, at: Pos, code: Refusal)
+    pub fn note(&mut self, at: Pos, refusal: Refusal)
         ensures { self.new ≡ note self.old (record { at = at; refusal = refusal }) }
     {
-        let fault = Fault { at, code };
+        let fault = Fault { at, refusal };
         self.first = match self.first {
             Some(first) if !before(fault, first) => Some(first),
             _ => Some(fault),
