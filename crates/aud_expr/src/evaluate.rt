@@ -143,22 +143,17 @@ pub fn evaluate(
     operands.clear();
     let mut ticks = 0;
     for place in first..code.len() {
-        match code.line(place) {
-            Line::Instruction(instruction) => match eval_step(
-                instruction,
-                display,
-                frames,
-                operands,
-                &mut ticks,
-            )? {
-                Flow::On => {}
-                Flow::Raises(raise) => {
-                    let outcome = Outcome::Fails(raise);
-                    return Ok(Evaluation { outcome, ticks });
-                }
-            },
+        let instruction = match code.line(place) {
+            Line::Instruction(instruction) => instruction,
             Line::End(_) => {
                 let outcome = Outcome::Reaches(place);
+                return Ok(Evaluation { outcome, ticks });
+            }
+        };
+        match eval_step(instruction, display, frames, operands, &mut ticks)? {
+            Flow::On => {}
+            Flow::Raises(raise) => {
+                let outcome = Outcome::Fails(raise);
                 return Ok(Evaluation { outcome, ticks });
             }
         }

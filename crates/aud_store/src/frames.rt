@@ -67,7 +67,8 @@ impl Frames {
     /// One more variable of a frame, with its initial value.
     pub fn declare(&mut self, frame: usize, value: Int32) -> Result<(), AllocError>
         requires { frame < length self.old }
-        ensures declared { OnOk result (self.new ≡ with_frame frame (λ vs. vs ++ value ∷ []) self.old) }
+        ensures declared { OnOk result (self.new ≡
+            with_frame frame (λ vs. vs ++ value ∷ []) self.old) }
         ensures kept { length self.new ≡ length self.old }
     {
         let variables = &mut self.frames[frame];

@@ -15,11 +15,11 @@ eval_step-requires-clause-finds c = needed _ _ _ _ _ _ _ c.loop-place.invariant.
 
 pub returns-in-Raises-clause-ends : goal.returns-in-Raises-clause-ends
 returns-in-Raises-clause-ends c =
-    raised _ _ _ _ _ _ _ c.loop-place.invariant.stands c.in-Instruction.instruction (rw c.in-Instruction.is at c.line.ensures) c.eval_step.new.operands c.in-Raises.raise (rw c.in-Raises.is at c.in_ok-eval_step-in-Instruction.ensures.acts)
+    raised _ _ _ _ _ _ _ c.loop-place.invariant.stands c.in-Instruction.instruction (rw c.in-Instruction.is at c.line.ensures) c.eval_step.new.operands c.in-Raises.raise (rw c.in-Raises.is at c.in_ok-eval_step.ensures.acts)
 
 pub returns-in-Raises-clause-ticks : goal.returns-in-Raises-clause-ticks
 returns-in-Raises-clause-ticks c =
-    rw c.eval_step.ensures.tick (raised_ticks _ _ _ _ _ _ _ c.loop-place.invariant.stands c.in-Instruction.instruction (rw c.in-Instruction.is at c.line.ensures) c.eval_step.new.operands c.in-Raises.raise (rw c.in-Raises.is at c.in_ok-eval_step-in-Instruction.ensures.acts))
+    rw c.eval_step.ensures.tick (raised_ticks _ _ _ _ _ _ _ c.loop-place.invariant.stands c.in-Instruction.instruction (rw c.in-Instruction.is at c.line.ensures) c.eval_step.new.operands c.in-Raises.raise (rw c.in-Raises.is at c.in_ok-eval_step.ensures.acts))
 
 pub returns-in-End-clause-ends : goal.returns-in-End-clause-ends
 returns-in-End-clause-ends c = at_end _ _ _ _ _ _ _ c.loop-place.invariant.stands (plain_end c.in-End.field-0) (rw c.in-End.is at c.line.ensures)
@@ -36,7 +36,7 @@ returns-in-End-clause-ticks c = end_ticks _ _ _ _ _ _ _ c.loop-place.invariant.s
 
 pub loop-place-preserved : goal.loop-place-preserved
 loop-place-preserved c = record {
-  stands = rw c.eval_step.ensures.tick (goes_on _ _ _ _ _ _ _ c.loop-place.invariant.stands c.in-Instruction.instruction (rw c.in-Instruction.is at c.line.ensures) c.eval_step.new.operands (rw c.in-On.is at c.in_ok-eval_step-in-Instruction.ensures.acts));
+  stands = rw c.eval_step.ensures.tick (goes_on _ _ _ _ _ _ _ c.loop-place.invariant.stands c.in-Instruction.instruction (rw c.in-Instruction.is at c.line.ensures) c.eval_step.new.operands (rw c.in-On.is at c.in_ok-eval_step.ensures.acts));
   few = omega (arith, c.eval_step.ensures.tick, c.loop-place.invariant.few);
 }
 
