@@ -91,7 +91,17 @@ impl Model for Progress {
 
     ghost Value = { Single Spot };
 
-    ghost view = { λ p. record { control = main_at p.place; stage = plain_stage p.stage; elaborated = p.elaborated; frames = p.frames; output = p.output.items; cut = p.cut; choices = p.choices.items; clock = p.clock; steps = p.steps } };
+    ghost view = { λ p. record {
+      control = main_at p.place;
+      stage = plain_stage p.stage;
+      elaborated = p.elaborated;
+      frames = p.frames;
+      output = p.output.items;
+      cut = p.cut;
+      choices = p.choices.items;
+      clock = p.clock;
+      steps = p.steps;
+    } };
 
     ghost invariant = { λ p. (1 ≤ length p.frames) × (p.elaborated ≤ p.steps)
         × (length p.output.items ≤ OUTPUT) × (length p.choices.items ≤ CHOICES)
@@ -188,7 +198,8 @@ impl Progress {
 
     /// The exception that left the main procedure.
     pub fn raised(&self) -> Option<Exception>
-        ensures { InAnyProgram (λ plan name. result ≡ main_raised (all_of plan name self.now).tasks) }
+        ensures { InAnyProgram (λ plan name.
+            result ≡ main_raised (all_of plan name self.now).tasks) }
     {
         match self.stage {
             Stage::Runs(_) => None,
