@@ -17,7 +17,9 @@ use aud_code::instruction::Instruction;
 use aud_code::line::{Code, EndLine, Ending, Last, Line};
 use aud_code::sound_code::{SoundCode, verify};
 use aud_text::place::Pos;
-use aud_typed::program::{IntegerExpression, Program, Statement, Statements, Subtype, TextExpression};
+use aud_typed::program::{
+    IntegerExpression, Program, Statement, Statements, Subtype, TextExpression,
+};
 use std::alloc::{AllocError, Global};
 
 const NOWHERE: Pos = Pos { line: 0, col: 0 };
@@ -57,7 +59,9 @@ fn write_integer(lines: &mut Vec<Line>, e: &IntegerExpression) -> Result<(), All
 }
 
 fn write_value(lines: &mut Vec<Line>, e: &IntegerExpression) -> Result<(), AllocError>
-    ensures { Writes lines.old lines.new (map instructs (value_code (whole Integer (plain_integer e.now)))) result }
+    ensures { Writes lines.old lines.new
+        (map instructs (value_code (whole Integer (plain_integer e.now))))
+        result }
 {
     write_integer(lines, e)?;
     append_instruction(lines, Instruction::Check(Subtype::Integer))
@@ -87,7 +91,9 @@ fn write_text(alloc: Global, lines: &mut Vec<Line>, t: &TextExpression) -> Resul
 
 // the instructions of a step
 fn write_instructions(alloc: Global, lines: &mut Vec<Line>, s: &Statement) -> Result<(), AllocError>
-    ensures { Writes lines.old lines.new (map instructs (instructions_of (statement_of (simple_of s.now)))) result }
+    ensures { Writes lines.old lines.new
+        (map instructs (instructions_of (statement_of (simple_of s.now))))
+        result }
 {
     match s {
         Statement::Declare(_, e) => write_value(lines, e),
@@ -147,11 +153,9 @@ fn write_steps(
     next: usize,
     place: usize,
 ) -> Result<(), AllocError>
-    ensures {
-        Writes lines.old lines.new
-            (steps_from (simple_of first.now) (map simple_of others.now) out next place)
-            result
-    }
+    ensures { Writes lines.old lines.new
+        (steps_from (simple_of first.now) (map simple_of others.now) out next place)
+        result }
 {
     let mut step = first;
     let mut begin = place;
@@ -172,11 +176,7 @@ fn write_declarations(
     next: usize,
     place: usize,
 ) -> Result<(), AllocError>
-    ensures {
-        Writes lines.old lines.new
-            (steps_at (map simple_of declarations.now) out next place)
-            result
-    }
+    ensures { Writes lines.old lines.new (steps_at (map simple_of declarations.now) out next place) result }
 {
     match declarations {
         [] => Ok(()),
@@ -186,7 +186,7 @@ fn write_declarations(
 
 // behind the statements: where its handlers would be looked for, and its end
 fn write_end(lines: &mut Vec<Line>, at: Pos, out: usize) -> Result<(), AllocError>
-    ensures { Writes lines.old lines.new ((end (guard_end at out) ∷ end (unit_end at 0 out) ∷ [])) result }
+    ensures { Writes lines.old lines.new (end (guard_end at out) ∷ end (unit_end at 0 out) ∷ []) result }
 {
     append(
         lines,
@@ -215,12 +215,8 @@ fn write_body(
     end: Pos,
     place: usize,
 ) -> Result<usize, AllocError>
-    ensures lines {
-        Writes lines.old lines.new (body_lines declarations.now statements.now end place) result
-    }
-    ensures behind {
-        IfOk result (λ behind. behind ≡ place + body_size declarations.now statements.now)
-    }
+    ensures lines { Writes lines.old lines.new (body_lines declarations.now statements.now end place) result }
+    ensures behind { IfOk result (λ behind. behind ≡ place + body_size declarations.now statements.now) }
 {
     let Statements { first, others } = statements;
     let begin = sum(place, steps_length(declarations)?)?;
