@@ -1,7 +1,6 @@
 use Rattle.std.proofs.Common.{◌≡◌, List, [], ◌∷◌, refl, ap, sym, ◌∙◌, subst}
 use Rattle.std.specs.Prelude.{map}
 use Rattle.std.proofs.lemmas.Bool.{false≢true}
-use Rattle.aud_text.specs.declared.place.Pos.{Pos}
 use Rattle.aud_typed.specs.declared.program.Statement.{Statement}
 use Rattle.aud_typed.specs.declared.program.Statement.TheVariants.{Declare, Null, Assign, Put}
 use Rattle.aud_typed.specs.declared.program.Program.{Program}
