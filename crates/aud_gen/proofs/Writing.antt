@@ -38,9 +38,9 @@ join_length x y = length-append (text_code x) (text_code y)
 
 -- instructions are written behind others
 pub instructions_written : (old now new : List FlatLine) (a b : List Instruction) → now ≡ old ++ map instructs a → new ≡ now ++ map instructs b → new ≡ old ++ map instructs (a ++ b)
-instructions_written old now new a b h k = written_more old now new (map instructs a) (map instructs b) h k ∙ ap (λ z. old ++ z) (sym (map-append operator a b))
+instructions_written old now new a b h k = written_more old now new (map instructs a) (map instructs b) h k ∙ ap (λ z. old ++ z) (sym (map-append instructs a b))
 
-pub operation_written : (old now mid new : List FlatLine) (d : tree.IntegerExpression) (o : tree.Operation) → now ≡ old ++ map instructs (integer_code d) → mid ≡ now ++ map instructs (integer_code o.right) → new ≡ mid ++ operator (OnTwo o.operator) ∷ [] → new ≡ old ++ map instructs (integer_code (tree.binary o.operator d o.right))
+pub operation_written : (old now mid new : List FlatLine) (d : tree.IntegerExpression) (o : tree.Operation) → now ≡ old ++ map instructs (integer_code d) → mid ≡ now ++ map instructs (integer_code o.right) → new ≡ mid ++ instructs (OnTwo o.operator) ∷ [] → new ≡ old ++ map instructs (integer_code (tree.binary o.operator d o.right))
 operation_written old now mid new d o h k n =
     instructions_written old now new (integer_code d) (integer_code o.right ++ OnTwo o.operator ∷ []) h (instructions_written now mid new (integer_code o.right) (OnTwo o.operator ∷ []) k n)
 
