@@ -13,7 +13,8 @@ use crate::rules::{
 };
 use crate::typed::{Typed, adding_operator, arithmetic, highest, image_of, signed, wants_integer};
 use aud_syntax::tree::{
-    Added, Expression, Factor, Ident, Multiplied, Multiplying, Number, Primary, Relation, Simple, Term,
+    Added, Expression, Factor, Ident, Multiplied, Multiplying, Number, Primary, Relation, Simple,
+    Term,
 };
 use aud_text::place::Pos;
 use aud_typed::program::{Binary, IntegerExpression, TextExpression};
@@ -113,7 +114,9 @@ fn checked_name(meaning: Option<Meaning>, at: Pos, faults: &mut Least) -> Result
 {
     check_variable(meaning, at, faults);
     match meaning {
-        Some(Meaning::Variable(variable)) => Ok(Typed::Number(IntegerExpression::Variable(variable))),
+        Some(Meaning::Variable(variable)) => Ok(Typed::Number(IntegerExpression::Variable(
+            variable,
+        ))),
         _ => Ok(Typed::Unknown),
     }
 }
@@ -152,7 +155,9 @@ fn image_with(
     argument: Typed,
     faults: &mut Least,
 ) -> Result<Typed, AllocError>
-    ensures { Shows faults.old faults.new (image_with meaning prefix.now designator.now at (plain_typed argument)) result }
+    ensures { Shows faults.old faults.new
+        (image_with meaning prefix.now designator.now at (plain_typed argument))
+        result }
 {
     match meaning {
         Meaning::IntegerType => {
@@ -179,7 +184,10 @@ fn attribute(
     argument: Option<(Pos, Typed)>,
     faults: &mut Least,
 ) -> Result<Typed, AllocError>
-    ensures { Shows faults.old faults.new (checked_attribute meaning prefix.now designator.now (option_map (λ p. (p.0, plain_typed p.1)) argument)) result }
+    ensures { Shows faults.old faults.new
+        (checked_attribute meaning prefix.now designator.now
+        (option_map (λ p. (p.0, plain_typed p.1)) argument))
+        result }
 {
     let Some(meaning) = meaning else {
         name_not_declared(prefix.at, faults);
@@ -202,7 +210,9 @@ fn primary(
     scope: &Scope<'_>,
     faults: &mut Least,
 ) -> Result<Typed, AllocError>
-    ensures { Shows faults.old faults.new (checked_primary (plain_primary primary.now) scope.now) result }
+    ensures { Shows faults.old faults.new
+        (checked_primary (plain_primary primary.now) scope.now)
+        result }
 {
     match primary {
         Primary::Integer(number) => checked_number(*number, faults),
@@ -237,7 +247,9 @@ fn factor(
     scope: &Scope<'_>,
     faults: &mut Least,
 ) -> Result<Typed, AllocError>
-    ensures { Shows faults.old faults.new (checked_factor (plain_factor factor.now) scope.now) result }
+    ensures { Shows faults.old faults.new
+        (checked_factor (plain_factor factor.now) scope.now)
+        result }
 {
     let operand = primary(alloc, &factor.primary, scope, faults)?;
     match &factor.operator {
@@ -261,7 +273,9 @@ fn multiplied(
     left: Typed,
     faults: &mut Least,
 ) -> Result<Typed, AllocError>
-    ensures { Shows faults.old faults.new (checked_multiplied (plain_multiplied multiplied.now) scope.now at (plain_typed left)) result }
+    ensures { Shows faults.old faults.new
+        (checked_multiplied (plain_multiplied multiplied.now) scope.now at (plain_typed left))
+        result }
 {
     let right = factor(alloc, &multiplied.factor, scope, faults)?;
     let operator = multiplying(multiplied.operator);
@@ -302,7 +316,9 @@ fn added(
     left: Typed,
     faults: &mut Least,
 ) -> Result<Typed, AllocError>
-    ensures { Shows faults.old faults.new (checked_added (plain_added added.now) scope.now at (plain_typed left)) result }
+    ensures { Shows faults.old faults.new
+        (checked_added (plain_added added.now) scope.now at (plain_typed left))
+        result }
 {
     let right = term(alloc, &added.term, scope, faults)?;
     adding_operator(
@@ -341,7 +357,9 @@ fn relation(
     scope: &Scope<'_>,
     faults: &mut Least,
 ) -> Result<Typed, AllocError>
-    ensures { Shows faults.old faults.new (checked_relation (plain_relation relation.now) scope.now) result }
+    ensures { Shows faults.old faults.new
+        (checked_relation (plain_relation relation.now) scope.now)
+        result }
 {
     let Relation::Unrelated(e) = relation;
     simple(alloc, e, scope, faults)
@@ -355,7 +373,9 @@ pub fn expression(
     scope: &Scope<'_>,
     faults: &mut Least,
 ) -> Result<Typed, AllocError>
-    ensures { Shows faults.old faults.new (checked_expression (plain_expression e.now) scope.now) result }
+    ensures { Shows faults.old faults.new
+        (checked_expression (plain_expression e.now) scope.now)
+        result }
 {
     let Expression::Alone(alone) = e;
     relation(alloc, alone, scope, faults)
