@@ -66,10 +66,9 @@ fn initial_value(
     scope: &Scope<'_>,
     faults: &mut Least,
 ) -> Result<IntegerExpression, AllocError>
-    ensures { Leaves plain_integer faults.old faults.new
+    ensures { Leaves plain_integer result faults.old faults.new
         (initial_faults (plain_maybe initial.now) scope.now)
-        (initial_value (plain_maybe initial.now) scope.now)
-        result }
+        (initial_value (plain_maybe initial.now) scope.now) }
 {
     match initial {
         None => Ok(IntegerExpression::Number(Int32::new(0))),
@@ -124,7 +123,8 @@ fn declare_name(
     region: &mut Region,
     faults: &mut Least,
 ) -> Result<(), AllocError>
-    ensures region { OnOk result (plain_region region.new ≡ with_name ident.now good (plain_region region.old)) }
+    ensures region { OnOk result
+        (plain_region region.new ≡ with_name ident.now good (plain_region region.old)) }
     ensures noted { OnOk result (faults.new ≡ noted faults.old
         (declared_once ident.now.name ident.now.at region.old.symbols.entries)) }
 {

@@ -41,7 +41,8 @@ fn assigned(
     faults: &mut Least,
 ) -> TypedStatement
     ensures typed { plain_typed_statement result ≡ assigned meaning target (plain_typed value) }
-    ensures noted { faults.new ≡ noted faults.old (assign_faults meaning target at (plain_typed value)) }
+    ensures noted { faults.new
+        ≡ noted faults.old (assign_faults meaning target at (plain_typed value)) }
 {
     check_variable(meaning, target, faults);
     right_type(target_base(meaning), at, base_of(&value), faults);
@@ -81,7 +82,8 @@ fn called(
     name: Pos,
     argument: Typed,
 ) -> Result<TypedStatement, AllocError>
-    ensures { IfOk result (λ typed. plain_typed_statement typed ≡ called meaning name (plain_typed argument)) }
+    ensures { IfOk result (λ typed. plain_typed_statement typed
+        ≡ called meaning name (plain_typed argument)) }
 {
     match (meaning, argument) {
         (Some(Meaning::PutLine), Typed::Text(text)) => {
@@ -101,10 +103,9 @@ fn one_argument(
     scope: &Scope<'_>,
     faults: &mut Least,
 ) -> Result<TypedStatement, AllocError>
-    ensures { Leaves plain_typed_statement faults.old faults.new
+    ensures { Leaves plain_typed_statement result faults.old faults.new
         (args_faults (more_args (plain_expression argument.now) no_args) ident.now scope.now)
-        (called_with (more_args (plain_expression argument.now) no_args) ident.now scope.now)
-        result }
+        (called_with (more_args (plain_expression argument.now) no_args) ident.now scope.now) }
 {
     let typed = expression(alloc, argument, scope, faults)?;
     let meaning = scope.visible(&ident.name);
@@ -126,10 +127,9 @@ fn call(
     scope: &Scope<'_>,
     faults: &mut Least,
 ) -> Result<TypedStatement, AllocError>
-    ensures { Leaves plain_typed_statement faults.old faults.new
+    ensures { Leaves plain_typed_statement result faults.old faults.new
         (args_faults (plain_expressions args.now) ident.now scope.now)
-        (called_with (plain_expressions args.now) ident.now scope.now)
-        result }
+        (called_with (plain_expressions args.now) ident.now scope.now) }
 {
     if args.len() != 1 {
         wrong_number_of_arguments(ident.at, faults);
@@ -146,10 +146,9 @@ pub fn statement(
     scope: &Scope<'_>,
     faults: &mut Least,
 ) -> Result<TypedStatement, AllocError>
-    ensures { Leaves plain_typed_statement faults.old faults.new
+    ensures { Leaves plain_typed_statement result faults.old faults.new
         (statement_faults (plain_statement statement.now) scope.now)
-        (typed_statement (plain_statement statement.now) scope.now)
-        result }
+        (typed_statement (plain_statement statement.now) scope.now) }
 {
     match statement {
         Statement::Null(at) => Ok(TypedStatement::Null(*at)),
@@ -170,10 +169,9 @@ pub fn statements(
     scope: &Scope<'_>,
     faults: &mut Least,
 ) -> Result<TypedStatements, AllocError>
-    ensures { Leaves plain_sequence faults.old faults.new
+    ensures { Leaves plain_sequence result faults.old faults.new
         (statements_faults (plain_statements statements.now) scope.now)
-        (typed_statements (plain_statements statements.now) scope.now)
-        result }
+        (typed_statements (plain_statements statements.now) scope.now) }
 {
     let first = statement(alloc, &statements.first, scope, faults)?;
     let mut others = Vec::with_capacity(alloc, statements.others.len())?;

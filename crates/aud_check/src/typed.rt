@@ -113,7 +113,8 @@ pub fn with_text(
 }
 
 fn joined(alloc: Global, left: Typed, right: Typed) -> Result<Typed, AllocError>
-    ensures { IfOk result (λ typed. plain_typed typed ≡ joined (plain_typed left) (plain_typed right)) }
+    ensures { IfOk result (λ typed. plain_typed typed
+        ≡ joined (plain_typed left) (plain_typed right)) }
 {
     match (left, right) {
         (Typed::Text(left), Typed::Text(right)) => {
@@ -166,9 +167,8 @@ pub fn arithmetic(
     right: Typed,
     faults: &mut Least,
 ) -> Result<Typed, AllocError>
-    ensures { Shows faults.old faults.new
-        (arithmetic operator left_at (plain_typed left) right_at (plain_typed right))
-        result }
+    ensures { Shows result faults.old faults.new
+        (arithmetic operator left_at (plain_typed left) right_at (plain_typed right)) }
 {
     wants_integer(left_at, &left, faults);
     wants_integer(right_at, &right, faults);
@@ -184,9 +184,8 @@ fn joining(
     right: Typed,
     faults: &mut Least,
 ) -> Result<Typed, AllocError>
-    ensures { Shows faults.old faults.new
-        (joining left_at (plain_typed left) right_at (plain_typed right))
-        result }
+    ensures { Shows result faults.old faults.new
+        (joining left_at (plain_typed left) right_at (plain_typed right)) }
 {
     wants_text(left_at, &left, faults);
     wants_text(right_at, &right, faults);
@@ -203,9 +202,8 @@ pub fn adding_operator(
     right: Typed,
     faults: &mut Least,
 ) -> Result<Typed, AllocError>
-    ensures { Shows faults.old faults.new
-        (adding_operator operator left_at (plain_typed left) right_at (plain_typed right))
-        result }
+    ensures { Shows result faults.old faults.new
+        (adding_operator operator left_at (plain_typed left) right_at (plain_typed right)) }
 {
     match operator {
         Adding::Plus => arithmetic(alloc, Binary::Sum, left_at, left, right_at, right, faults),
@@ -230,7 +228,7 @@ pub fn signed(
     operand: Typed,
     faults: &mut Least,
 ) -> Result<Typed, AllocError>
-    ensures { Shows faults.old faults.new (signed sign at (plain_typed operand)) result }
+    ensures { Shows result faults.old faults.new (signed sign at (plain_typed operand)) }
 {
     let Some(signed) = sign else {
         return Ok(operand);
@@ -250,7 +248,7 @@ pub fn highest(
     operand: Typed,
     faults: &mut Least,
 ) -> Result<Typed, AllocError>
-    ensures { Shows faults.old faults.new (highest operator at (plain_typed operand)) result }
+    ensures { Shows result faults.old faults.new (highest operator at (plain_typed operand)) }
 {
     match operator {
         Highest::Magnitude => {

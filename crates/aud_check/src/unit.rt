@@ -26,10 +26,9 @@ fn names_of(alloc: Global, symbols: Symbols) -> Result<Vec<Name>, AllocError>
 /// Checks a program (RM 10.1.1): notes its faults, and answers what is left of it.
 #[tactic(auto, using(crate::proofs::Notes::noted_append))]
 pub fn typed(alloc: Global, unit: &Unit, faults: &mut Least) -> Result<Program, AllocError>
-    ensures { Leaves plain_program faults.old faults.new
+    ensures { Leaves plain_program result faults.old faults.new
         (program_faults (plain_unit unit.now))
-        (typed_program (plain_unit unit.now))
-        result }
+        (typed_program (plain_unit unit.now)) }
 {
     let main = &unit.name.name;
     let place = Place::in_main(alloc, main)?;

@@ -19,9 +19,9 @@ abbrev pub plain_sequence : sequence.Statements → TypedStatements
 plain_sequence ss = record { first = plain_statement ss.first; others = plain_statements ss.others.items }
 
 -- the faults are noted, and this is what is left; nothing is said where memory is refused
-abbrev pub Leaves : {X Y : Type 0} → (X → Y) → Option Fault → Option Fault → List Fault → Y → Result X AllocError → Type 0
-Leaves plain old new faults left (Ok x) = (new ≡ noted old faults) × (plain x ≡ left)
-Leaves plain old new faults left (Err e) = Unit {0}
+abbrev pub Leaves : {X Y : Type 0} → (X → Y) → Result X AllocError → Option Fault → Option Fault → List Fault → Y → Type 0
+Leaves plain (Ok x) old new faults left = (new ≡ noted old faults) × (plain x ≡ left)
+Leaves plain (Err e) old new faults left = Unit {0}
 
-abbrev pub Shows : Option Fault → Option Fault → Checked → Result memory.Typed AllocError → Type 0
-Shows old new c result = Leaves plain_typed old new c.faults c.typed result
+abbrev pub Shows : Result memory.Typed AllocError → Option Fault → Option Fault → Checked → Type 0
+Shows result old new c = Leaves plain_typed result old new c.faults c.typed
