@@ -1,28 +1,27 @@
 // How many operands there are where the instructions of a step stand.
 
-ghost use Rattle.std.specs.Prelude.{◌≡◌, ◌↔◌, ◌+◌, ◌-◌, ◌^◌, ◌≤◌, ◌<◌, List, ◌∷◌, length, map, IsTrue, IfSome};
-ghost use Rattle.aud_code.specs.Instruction.{Instruction as Plain};
-ghost use Rattle.aud_code.specs.Flat.{Last as PlainLast};
-ghost use Rattle.aud_code.specs.Sound.{no_counts, LastFine, AreFine};
+ghost use Rattle.std.specs.Prelude.{◌↔◌, ◌+◌, ◌-◌, ◌≤◌, ◌<◌, map, IsTrue, IfSome};
+ghost use Rattle.aud_code.specs.Sound.{no_counts, LastFine};
 ghost use Rattle.aud_code.specs.View.{plain_instruction, plain_last, plain_line};
-ghost use Rattle.aud_code.specs.Verified.{counts_in, OneFine, StepFine};
+ghost use Rattle.aud_code.specs.Verified.{counts_in, Counted, StepFine};
 
 use crate::instruction::Instruction;
 use crate::line::{Ending, Last, Line};
 
-/// So many Integers and targets.
+/// How many Integers and targets there are.
 #[derive(Clone, Copy, PartialEq, Eq, Debug)]
 pub struct Counts {
     pub integers: usize,
     pub targets: usize,
 }
 
-/// What an instruction leaves of so many operands, or None where it misses one.
+/// How many operands an instruction leaves, or None where it misses one.
 fn counted(instruction: &Instruction, counts: Counts) -> Option<Counts>
     requires integers { counts.integers < usize.MAX }
     requires targets { counts.targets < usize.MAX }
-    ensures exact { (rest : List Plain) → (last : PlainLast) → AreFine (LastFine last) (plain_instruction instruction.now ∷ rest) 0 (counts_in counts) ↔ OneFine result last rest }
-    ensures one_more { IfSome result (λ left. (left.integers ≤ counts.integers + 1) × (left.targets ≤ counts.targets + 1)) }
+    ensures exact { Counted (plain_instruction instruction.now) (counts_in counts) result }
+    ensures integers { IfSome result (λ left. left.integers ≤ counts.integers + 1) }
+    ensures targets { IfSome result (λ left. left.targets ≤ counts.targets + 1) }
 {
     let Counts { integers, targets } = counts;
     match instruction {
@@ -63,15 +62,15 @@ fn ending_is_fine(last: Last, counts: Counts) -> bool
 }
 
 /// Whether the step that begins at a place finds its operands.
-pub fn step_is_fine(lines: &[Line], place: usize) -> bool
-    ensures { IsTrue result ↔ StepFine (map plain_line lines.now) place place no_counts }
+pub fn step_is_fine(lines: &[Line], first: usize) -> bool
+    ensures { IsTrue result ↔ StepFine (map plain_line lines.now) first first no_counts }
 {
     let mut counts = Counts {
         integers: 0,
         targets: 0,
     };
-    for at in place..lines.len() {
-        match &lines[at] {
+    for place in first..lines.len() {
+        match &lines[place] {
             Line::Instruction(instruction) => match counted(instruction, counts) {
                 Some(left) => counts = left,
                 None => return false,
