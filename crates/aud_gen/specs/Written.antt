@@ -32,5 +32,5 @@ abbrev pub body_code : List Statement → Statements → Pos → Flat
 body_code ds ss pos = code_from (map simple_of ds) (simple_of ss.first) (map simple_of ss.others.items) pos
 
 -- these lines are written behind those that are there; nothing is said where memory is refused
-abbrev pub Writes : {X : Type 0} → Vec Line Global → Vec Line Global → List FlatLine → Result X AllocError → Type 0
-Writes old new written result = OnOk result (map plain_line new.items ≡ map plain_line old.items ++ written)
+abbrev pub Writes : {X : Type 0} → Result X AllocError → Vec Line Global → Vec Line Global → List FlatLine → Type 0
+Writes result old new written = OnOk result (map plain_line new.items ≡ map plain_line old.items ++ written)

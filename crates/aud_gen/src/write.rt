@@ -25,20 +25,21 @@ use std::alloc::{AllocError, Global};
 const NOWHERE: Pos = Pos { line: 0, col: 0 };
 
 fn append(lines: &mut Vec<Line>, line: Line) -> Result<(), AllocError>
-    ensures { Writes lines.old lines.new (plain_line line ∷ []) result }
+    ensures { Writes result lines.old lines.new (plain_line line ∷ []) }
 {
     lines.push(line)?;
     Ok(())
 }
 
 fn append_instruction(lines: &mut Vec<Line>, instruction: Instruction) -> Result<(), AllocError>
-    ensures { Writes lines.old lines.new (instructs (plain_instruction instruction) ∷ []) result }
+    ensures { Writes result lines.old lines.new (instructs (plain_instruction instruction) ∷ []) }
 {
     append(lines, Line::Instruction(instruction))
 }
 
 fn write_integer(lines: &mut Vec<Line>, e: &IntegerExpression) -> Result<(), AllocError>
-    ensures { Writes lines.old lines.new (map instructs (integer_code (plain_integer e.now))) result }
+    ensures { Writes result lines.old lines.new
+        (map instructs (integer_code (plain_integer e.now))) }
 {
     match e {
         IntegerExpression::Number(value) => append_instruction(lines, Instruction::Push(*value)),
@@ -59,16 +60,15 @@ fn write_integer(lines: &mut Vec<Line>, e: &IntegerExpression) -> Result<(), All
 }
 
 fn write_value(lines: &mut Vec<Line>, e: &IntegerExpression) -> Result<(), AllocError>
-    ensures { Writes lines.old lines.new
-        (map instructs (value_code (whole Integer (plain_integer e.now))))
-        result }
+    ensures { Writes result lines.old lines.new
+        (map instructs (value_code (whole Integer (plain_integer e.now)))) }
 {
     write_integer(lines, e)?;
     append_instruction(lines, Instruction::Check(Subtype::Integer))
 }
 
 fn write_text(alloc: Global, lines: &mut Vec<Line>, t: &TextExpression) -> Result<(), AllocError>
-    ensures { Writes lines.old lines.new (map instructs (text_code (plain_text t.now))) result }
+    ensures { Writes result lines.old lines.new (map instructs (text_code (plain_text t.now))) }
 {
     match t {
         TextExpression::Literal(text) => {
@@ -91,9 +91,8 @@ fn write_text(alloc: Global, lines: &mut Vec<Line>, t: &TextExpression) -> Resul
 
 // the instructions of a step
 fn write_instructions(alloc: Global, lines: &mut Vec<Line>, s: &Statement) -> Result<(), AllocError>
-    ensures { Writes lines.old lines.new
-        (map instructs (instructions_of (statement_of (simple_of s.now))))
-        result }
+    ensures { Writes result lines.old lines.new
+        (map instructs (instructions_of (statement_of (simple_of s.now)))) }
 {
     match s {
         Statement::Declare(_, e) => write_value(lines, e),
@@ -135,7 +134,7 @@ fn write_step(
     out: usize,
     next: usize,
 ) -> Result<(), AllocError>
-    ensures { Writes lines.old lines.new (step_to (simple_of s.now) out next) result }
+    ensures { Writes result lines.old lines.new (step_to (simple_of s.now) out next) }
 {
     write_instructions(alloc, lines, s)?;
     let last = Last::Does(ending(s), next);
@@ -153,9 +152,8 @@ fn write_steps(
     next: usize,
     place: usize,
 ) -> Result<(), AllocError>
-    ensures { Writes lines.old lines.new
-        (steps_from (simple_of first.now) (map simple_of others.now) out next place)
-        result }
+    ensures { Writes result lines.old lines.new
+        (steps_from (simple_of first.now) (map simple_of others.now) out next place) }
 {
     let mut step = first;
     let mut begin = place;
@@ -176,7 +174,8 @@ fn write_declarations(
     next: usize,
     place: usize,
 ) -> Result<(), AllocError>
-    ensures { Writes lines.old lines.new (steps_at (map simple_of declarations.now) out next place) result }
+    ensures { Writes result lines.old lines.new
+        (steps_at (map simple_of declarations.now) out next place) }
 {
     match declarations {
         [] => Ok(()),
@@ -186,7 +185,8 @@ fn write_declarations(
 
 // behind the statements: where its handlers would be looked for, and its end
 fn write_end(lines: &mut Vec<Line>, at: Pos, out: usize) -> Result<(), AllocError>
-    ensures { Writes lines.old lines.new (end (guard_end at out) ∷ end (unit_end at 0 out) ∷ []) result }
+    ensures { Writes result lines.old lines.new
+        (end (guard_end at out) ∷ end (unit_end at 0 out) ∷ []) }
 {
     append(
         lines,
@@ -215,8 +215,10 @@ fn write_body(
     end: Pos,
     place: usize,
 ) -> Result<usize, AllocError>
-    ensures lines { Writes lines.old lines.new (body_lines declarations.now statements.now end place) result }
-    ensures behind { IfOk result (λ behind. behind ≡ place + body_size declarations.now statements.now) }
+    ensures lines { Writes result lines.old lines.new
+        (body_lines declarations.now statements.now end place) }
+    ensures behind { IfOk result
+        (λ behind. behind ≡ place + body_size declarations.now statements.now) }
 {
     let Statements { first, others } = statements;
     let begin = sum(place, steps_length(declarations)?)?;
@@ -235,7 +237,8 @@ fn write_code(
     statements: &Statements,
     end: Pos,
 ) -> Result<Code, AllocError>
-    ensures { IfOk result (λ code. plain_code code ≡ body_code declarations.now statements.now end) }
+    ensures { IfOk result
+        (λ code. plain_code code ≡ body_code declarations.now statements.now end) }
 {
     let idle = Statements {
         first: Statement::Null(NOWHERE),
