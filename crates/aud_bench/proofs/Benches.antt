@@ -35,7 +35,7 @@ pub one_more : (journal : List Request) (i : ℕ) (r : Request) → r ≡ get_or
 one_more journal i r is below = take_more journal i r below ∙ ap (λ x. take i journal ++ x ∷ []) (sym is)
 
 module _ (limits : Limits) (journal : List Request) (i p : ℕ) (answers : List Answer) (spent : Bool) (machine : Option Shown) (at : ∥ IsAt limits journal i p answers spent machine ∥₁) where
-  -- the answers are those that the units come to, and perhaps that memory was refused
+  -- the answers are those that the units come to, and behind them, where memory is refused, that it is
   pub answers_are : answers ≡ made limits journal (units_done limits journal i p) ++ told spent
   answers_are = ∥∥₁_elim at (answers_prop _ _) (λ a. a.answers_are ∙ ap (λ xs. xs ++ told spent) (sym (made_is limits journal i p a.shown a.next)))
 

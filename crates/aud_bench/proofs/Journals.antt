@@ -3,7 +3,6 @@ use Rattle.std.specs.Prelude.{nat_lt, nat_le, ◌&&◌, ◌||◌}
 use Rattle.std.proofs.Common.{◌≡◌, ℕ, ◌+◌, ◌≤◌, List, [], ◌∷◌, ◌++◌, Bool, true, false, refl, sym, ap, ◌∙◌, arith}
 use Rattle.aud_text.specs.declared.limits.TheConstants.{REQUESTS, REQUEST_BYTES}
 use Rattle.aud_bench.specs.declared.request.Request.{Request}
-use Rattle.aud_bench.specs.declared.request.Request.TheVariants as request
 use Rattle.aud_bench.specs.Alone.{is_quit, has_room, fits}
 use Rattle.aud_bench.specs.Ties.Seen.{has_quit}
 use Rattle.aud_bench.specs.Size.{size, bytes_of}
@@ -45,11 +44,3 @@ room_left requests bytes r fitting other =
     let room : has_room requests bytes (size r) ≡ true = sym (ap (λ b. b || has_room requests bytes (size r)) other) ∙ fitting in
     let within : nat_le (bytes + size r) REQUEST_BYTES ≡ true = and_right (nat_lt requests REQUESTS) (nat_le (bytes + size r) REQUEST_BYTES) room in
     grind (arith, within)
-
--- behind a journal that is within its room the count of bytes does not overflow
-pub bytes_within : (requests bytes : ℕ) (r : Request) → bytes ≤ REQUEST_BYTES → fits requests bytes r ≡ true → bytes + size r ≤ REQUEST_BYTES + 5
-bytes_within requests bytes request.Quit few fitting = omega (arith, few)
-bytes_within requests bytes (request.Load source) few fitting = omega (arith, room_left requests bytes (request.Load source) fitting refl)
-bytes_within requests bytes (request.Run n) few fitting = omega (arith, room_left requests bytes (request.Run n) fitting refl)
-bytes_within requests bytes request.Output few fitting = omega (arith, room_left requests bytes request.Output fitting refl)
-bytes_within requests bytes (request.Bad why) few fitting = omega (arith, room_left requests bytes (request.Bad why) fitting refl)

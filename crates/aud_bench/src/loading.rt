@@ -32,7 +32,7 @@ use std::alloc::Global;
 /// Why a source text is not loaded.
 #[derive(Drop, Debug)]
 pub enum LoadFault {
-    /// Memory was refused.
+    /// Where memory is refused.
     Memory,
     /// It is no program, and this is answered.
     Refused(Answer),

@@ -24,7 +24,7 @@ pub enum ProgramFault {
     /// The standard output cannot be written.
     #[error("write failed")]
     Write,
-    /// Memory was refused.
+    /// Where memory is refused.
     #[error("out of memory")]
     Memory,
 }

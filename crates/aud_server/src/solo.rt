@@ -26,7 +26,7 @@ pub enum SoloFault {
     /// A write failed.
     #[error("write failed")]
     Write,
-    /// Memory was refused.
+    /// Where memory is refused.
     #[error("out of memory")]
     Memory,
 }
