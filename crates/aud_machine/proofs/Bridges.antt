@@ -80,7 +80,7 @@ module _ (p : Program) (lines : Flat) (is : lines ≡ flat_program (plain_progra
 
   -- Moves that are taken.
 
-  -- none has this number
+  -- none has this index
   pub none_taken : (limits : Limits) (q : Single Spot) (n nth : ℕ) (m : Shown) (c : Configuration) → Enables lines q n → n ≤ nth → Showing q c → Takes limits program c (slice_get (moves_in program c) nth) m m None
   none_taken limits q n nth m c enabled past h =
       let none = ap (λ ms. slice_get ms nth) (moves_shown q n c enabled h) ∙ slice_get_past (replicate n (own_move 0)) nth (simp length-replicate past) in

@@ -174,8 +174,10 @@ impl Machine {
     /// Where memory is refused, or the machine is spent. It is spent then.
     pub fn choose(&mut self, choices: &[u32]) -> Result<(), AllocError>
         requires { length self.old.all.choices + length choices.now ≤ CHOICES }
-        ensures shows { OnOk result (IfShows self.old (λ c. Shows self.new (supplied choices.now c))) }
-        ensures exact { OnOk result (self.new ≡ record self.old { all = supplied choices.now self.old.all }) }
+        ensures shows { OnOk result (IfShows self.old (λ c.
+            Shows self.new (supplied choices.now c))) }
+        ensures exact { OnOk result (self.new
+            ≡ record self.old { all = supplied choices.now self.old.all }) }
         ensures leaves { Leaves self.old self.new result }
     {
         if self.spent {
@@ -225,7 +227,8 @@ impl Machine {
             RunsFrom self.old.limits (program_in self.old) n c self.new ran)) }
         ensures few { IfOk result (λ ran. ran.steps ≤ n) }
         ensures ticks { IfOk result (λ ran. ran.ticks ≡ min (ticks_of_run self.old n) u64.MAX) }
-        ensures few_ticks { IfOk result (λ ran. ran.ticks ≤ ran.steps * length self.old.code.lines) }
+        ensures few_ticks { IfOk result (λ ran.
+            ran.ticks ≤ ran.steps * length self.old.code.lines) }
         ensures leaves { Leaves self.old self.new result }
     {
         if self.spent {
@@ -248,8 +251,10 @@ impl Machine {
         ensures takes { IfOk result (λ taken. IfShows self.old (λ c.
             Takes self.old.limits (program_in self.old) c
             (slice_get (moves_in (program_in self.old) c) nth) self.old self.new taken)) }
-        ensures ticks { IfOk result (λ taken. IfSome taken (λ ran. ran.ticks ≡ ticks_of_step self.old)) }
-        ensures few_ticks { IfOk result (λ taken. IfSome taken (λ ran. ran.ticks ≤ length self.old.code.lines)) }
+        ensures ticks { IfOk result (λ taken. IfSome taken (λ ran.
+            ran.ticks ≡ ticks_of_step self.old)) }
+        ensures few_ticks { IfOk result (λ taken. IfSome taken (λ ran.
+            ran.ticks ≤ length self.old.code.lines)) }
         ensures leaves { Leaves self.old self.new result }
     {
         if self.spent {

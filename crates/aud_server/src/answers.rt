@@ -1,16 +1,14 @@
 // The text of answers.
 
-ghost use Rattle.std.specs.Prelude.{◌≡◌, ◌++◌, IfOk, OnOk, Some, None, codes};
-ghost use Rattle.std.specs.Fmt.{decimal};
-ghost use Rattle.aud_text.specs.Refusal.{words};
+ghost use Rattle.std.specs.Prelude.{◌≡◌, ◌++◌, IfOk, OnOk, Some, None};
 ghost use Rattle.aud_meaning.specs.View.{state_words};
-ghost use Rattle.aud_server.specs.Text.{line_end, head, ran_line, raised_name, report_text, is_open, output_lines, output_text, refusal, answer_text};
+ghost use Rattle.aud_server.specs.Text.{line_end, head, loaded_text, ran_line, raised_name, report_text, is_open, output_lines, output_text, refusal, refused_text, refused_at_text, answer_text};
 
 use aud_bench::request::{Answer, Raised, Report};
 use aud_meaning::state::State;
-use aud_text::refusal::Refusal;
 use aud_text::digits::push_decimal;
 use aud_text::place::Pos;
+use aud_text::refusal::Refusal;
 use std::alloc::{AllocError, Global};
 
 /// The text of an answer: `+` and the number of its lines, and the lines; or `-`, the code of the
@@ -37,7 +35,7 @@ fn push_answer(out: &mut Vec<u8>, answer: &Answer) -> Result<(), AllocError>
 }
 
 fn push_loaded(out: &mut Vec<u8>, name: &[u8]) -> Result<(), AllocError>
-    ensures { OnOk result (out.new.items ≡ out.old.items ++ (head 1 ++ codes "loaded " ++ name.now ++ line_end)) }
+    ensures { OnOk result (out.new.items ≡ out.old.items ++ loaded_text name.now) }
 {
     push_head(out, 1)?;
     out.extend_from_slice(b"loaded ")?;
@@ -62,7 +60,8 @@ fn push_line_end(out: &mut Vec<u8>) -> Result<(), AllocError>
 }
 
 fn push_report(out: &mut Vec<u8>, report: &Report) -> Result<(), AllocError>
-    ensures { OnOk result (out.new.items ≡ out.old.items ++ report_text report.now report.now.raised) }
+    ensures { OnOk result (out.new.items
+        ≡ out.old.items ++ report_text report.now report.now.raised) }
 {
     match &report.raised {
         None => push_ran(out, report),
@@ -78,7 +77,8 @@ fn push_ran(out: &mut Vec<u8>, report: &Report) -> Result<(), AllocError>
 }
 
 fn push_raised(out: &mut Vec<u8>, report: &Report, raised: &Raised) -> Result<(), AllocError>
-    ensures { OnOk result (out.new.items ≡ out.old.items ++ report_text report.now (Some raised.now)) }
+    ensures { OnOk result (out.new.items
+        ≡ out.old.items ++ report_text report.now (Some raised.now)) }
 {
     push_head(out, 2)?;
     push_ran_line(out, report)?;
@@ -155,7 +155,7 @@ fn is_open(bytes: &[u8]) -> bool
 }
 
 fn push_refusal(out: &mut Vec<u8>, why: Refusal) -> Result<(), AllocError>
-    ensures { OnOk result (out.new.items ≡ out.old.items ++ (refusal why ++ words why ++ line_end)) }
+    ensures { OnOk result (out.new.items ≡ out.old.items ++ refused_text why) }
 {
     push_code(out, why)?;
     out.extend_from_slice(why.words())?;
@@ -163,7 +163,7 @@ fn push_refusal(out: &mut Vec<u8>, why: Refusal) -> Result<(), AllocError>
 }
 
 fn push_refusal_at(out: &mut Vec<u8>, why: Refusal, at: Pos) -> Result<(), AllocError>
-    ensures { OnOk result (out.new.items ≡ out.old.items ++ (refusal why ++ decimal at.line ++ codes ":" ++ decimal at.col ++ codes " " ++ words why ++ line_end)) }
+    ensures { OnOk result (out.new.items ≡ out.old.items ++ refused_at_text why at) }
 {
     push_code(out, why)?;
     push_decimal(out, at.line as u64)?;
