@@ -2,36 +2,47 @@
 
 ghost use Rattle.std.specs.Prelude.{ℕ, length, ◌<◌, ◌≤◌, IfOk};
 ghost use Rattle.aud_parse.specs.Grammar as g;
-ghost use Rattle.aud_parse.specs.Grammar.{N, Opt};
+ghost use Rattle.aud_parse.specs.Grammar.{N, Opt, Rep};
 ghost use Rattle.aud_parse.specs.Actions.{an_ident};
-ghost use Rattle.aud_parse.specs.Ties.Items.{list_item, opt_item, expression_item, declaration_item};
+ghost use Rattle.aud_parse.specs.Ties.Items.{list_item, opt_item, expression_item, names_item, declaration_item};
 ghost use Rattle.aud_parse.specs.Ties.Reads.{Reads};
 
 use crate::cursor::{Fault, Rest, accept, deeper, is, word};
 use crate::expression::expression;
 use crate::leaf::ident;
 use aud_lex::token::Kind;
-use aud_syntax::tree::{Declaration, Expression, Ident};
+use aud_syntax::tree::{Declaration, Expression, Ident, Identifiers};
 use std::alloc::Global;
+
+/// The further names, each behind a comma.
+fn more_identifiers<'a, 's>(
+    alloc: Global,
+    start: Rest<'a, 's>,
+) -> Result<(Vec<Ident>, Rest<'a, 's>), Fault<'a, 's>>
+    ensures reads { (room : ℕ) → Reads (λ v. list_item an_ident v.items) (Rep g.MoreIdentifiers) room start.entry.tokens.now result }
+    ensures shorter { IfOk result (λ p. length p.1.tokens.now ≤ length start.entry.tokens.now) }
+{
+    let mut all = Vec::new(alloc);
+    let mut rest = start;
+    'turns: while let Some((_, behind)) = accept(rest, Kind::Comma) {
+        let (name, after) = ident(alloc, behind)?;
+        all.push(name)?;
+        rest = after;
+    }
+    Ok((all, rest))
+}
 
 /// Names (RM 3.3.1(4)).
 fn identifiers<'a, 's>(
     alloc: Global,
     start: Rest<'a, 's>,
-) -> Result<(Vec<Ident>, Rest<'a, 's>), Fault<'a, 's>>
-    ensures reads { (room : ℕ) → Reads (λ v. list_item an_ident v.items) (N g.Identifiers) room start.entry.tokens.now result }
+) -> Result<(Identifiers, Rest<'a, 's>), Fault<'a, 's>>
+    ensures reads { (room : ℕ) → Reads names_item (N g.Identifiers) room start.entry.tokens.now result }
     ensures shorter { IfOk result (λ p. length p.1.tokens.now < length start.entry.tokens.now) }
 {
-    let mut all = Vec::new(alloc);
-    let mut rest = start;
-    'turns: loop {
-        let (one, after) = ident(alloc, rest)?;
-        all.push(one)?;
-        match accept(after, Kind::Comma) {
-            Some((_, behind)) => rest = behind,
-            None => return Ok((all, after)),
-        }
-    }
+    let (first, rest) = ident(alloc, start)?;
+    let (others, rest) = more_identifiers(alloc, rest)?;
+    Ok((Identifiers { first, others }, rest))
 }
 
 /// The value with which variables begin, if there is one.

@@ -15,8 +15,8 @@ use crate::leaf::{ident, literal};
 use crate::value::number_value;
 use aud_lex::token::Kind;
 use aud_syntax::tree::{
-    Added, Adding, Expression, Factor, Highest, Ident, Multiplied, Multiplying, Name, NamePart, Number,
-    Operator, Primary, Relation, Sign, Signed, Simple, Term,
+    Added, Adding, Expression, Factor, Highest, Ident, Multiplied, Multiplying, Name, NamePart,
+    Number, Operator, Primary, Relation, Sign, Signed, Simple, Term,
 };
 use aud_text::place::Pos;
 use std::alloc::Global;

@@ -2,16 +2,16 @@
 
 ghost use Rattle.std.specs.Prelude.{ℕ, length, ◌<◌, ◌≤◌, IfOk};
 ghost use Rattle.aud_parse.specs.Grammar as g;
-ghost use Rattle.aud_parse.specs.Grammar.{N, Opt};
+ghost use Rattle.aud_parse.specs.Grammar.{N, Opt, Rep};
 ghost use Rattle.aud_parse.specs.Actions.{an_ident};
-ghost use Rattle.aud_parse.specs.Ties.Items.{list_item, opt_item, assigned_item, called_item, statement_item, body_item};
+ghost use Rattle.aud_parse.specs.Ties.Items.{list_item, opt_item, assigned_item, called_item, statement_item, statements_item, body_item};
 ghost use Rattle.aud_parse.specs.Ties.Reads.{Reads};
 
 use crate::cursor::{Fault, Rest, deeper, is, is_one_of, token, word};
 use crate::expression::{args, expression};
 use crate::leaf::ident;
 use aud_lex::token::Kind;
-use aud_syntax::tree::{Body, Expression, Ident, Name, NamePart, Statement};
+use aud_syntax::tree::{Body, Expression, Ident, Name, NamePart, Statement, Statements};
 use std::alloc::Global;
 
 const STATEMENTS: [Kind; 2] = [Kind::Null, Kind::Identifier];
@@ -91,25 +91,37 @@ fn statement<'a, 's>(
     named(alloc, start, room)
 }
 
+/// The further statements.
+fn more_statements<'a, 's>(
+    alloc: Global,
+    start: Rest<'a, 's>,
+    room: u32,
+) -> Result<(Vec<Statement>, Rest<'a, 's>), Fault<'a, 's>>
+    ensures reads { Reads (λ v. list_item statement_item v.items) (Rep g.Statement) room start.entry.tokens.now result }
+    ensures shorter { IfOk result (λ p. length p.1.tokens.now ≤ length start.entry.tokens.now) }
+{
+    let mut all = Vec::new(alloc);
+    let mut rest = start;
+    'turns: while is_one_of(rest, &STATEMENTS) {
+        let (next, after) = statement(alloc, rest, room)?;
+        all.push(next)?;
+        rest = after;
+    }
+    Ok((all, rest))
+}
+
 /// Statements, at least one.
 fn statement_list<'a, 's>(
     alloc: Global,
     start: Rest<'a, 's>,
     room: u32,
-) -> Result<(Vec<Statement>, Rest<'a, 's>), Fault<'a, 's>>
-    ensures reads { Reads (λ v. list_item statement_item v.items) (N g.StatementList) room start.entry.tokens.now result }
+) -> Result<(Statements, Rest<'a, 's>), Fault<'a, 's>>
+    ensures reads { Reads statements_item (N g.StatementList) room start.entry.tokens.now result }
     ensures shorter { IfOk result (λ p. length p.1.tokens.now < length start.entry.tokens.now) }
 {
-    let mut all = Vec::new(alloc);
-    let mut rest = start;
-    'turns: loop {
-        let (one, after) = statement(alloc, rest, room)?;
-        all.push(one)?;
-        if !is_one_of(after, &STATEMENTS) {
-            return Ok((all, after));
-        }
-        rest = after;
-    }
+    let (first, rest) = statement(alloc, start, room)?;
+    let (others, rest) = more_statements(alloc, rest, room)?;
+    Ok((Statements { first, others }, rest))
 }
 
 /// Statements, which lie one level deeper.
@@ -117,8 +129,8 @@ fn statements<'a, 's>(
     alloc: Global,
     start: Rest<'a, 's>,
     room: u32,
-) -> Result<(Vec<Statement>, Rest<'a, 's>), Fault<'a, 's>>
-    ensures reads { Reads (λ v. list_item statement_item v.items) (N g.Statements) room start.entry.tokens.now result }
+) -> Result<(Statements, Rest<'a, 's>), Fault<'a, 's>>
+    ensures reads { Reads statements_item (N g.Statements) room start.entry.tokens.now result }
     ensures shorter { IfOk result (λ p. length p.1.tokens.now < length start.entry.tokens.now) }
 {
     let inside = deeper(start, room, is_one_of(start, &STATEMENTS))?;

@@ -3,6 +3,7 @@ use Rattle.std.specs.Prelude.{List, [], ◌∷◌, Option, Some, None, Box}
 use Rattle.std.specs.Global.{Global}
 use Rattle.aud_text.specs.declared.place.Pos.{Pos}
 use Rattle.aud_syntax.specs.declared.tree.Ident.{Ident}
+use Rattle.aud_syntax.specs.declared.tree.Identifiers.{Identifiers}
 use Rattle.aud_syntax.specs.declared.tree.Primary.{Primary}
 use Rattle.aud_syntax.specs.declared.tree.Factor.{Factor}
 use Rattle.aud_syntax.specs.declared.tree.Multiplied.{Multiplied}
@@ -13,10 +14,11 @@ use Rattle.aud_syntax.specs.declared.tree.Expression.{Expression}
 use Rattle.aud_syntax.specs.declared.tree.Name.{Name}
 use Rattle.aud_syntax.specs.declared.tree.Declaration.{Declaration}
 use Rattle.aud_syntax.specs.declared.tree.Statement.{Statement}
+use Rattle.aud_syntax.specs.declared.tree.Statements.{Statements}
 use Rattle.aud_syntax.specs.declared.tree.Body.{Body}
 use Rattle.aud_syntax.specs.declared.tree.Unit as declared
-use Rattle.aud_syntax.specs.Ties.View.{plain_expression, plain_boxed, plain_expressions, plain_name, plain_primary, plain_factor, plain_multiplied, plain_term, plain_added, plain_simple, plain_declaration, plain_statement, plain_body, plain_unit}
-use Rattle.aud_parse.specs.Actions.{Item, none, cons, in_parens, an_attribute, some_args, a_name, a_primary, a_factor, a_multiplied, a_term, an_added, a_simple, an_expression, assigned, called, a_declaration, a_statement, a_body, a_unit}
+use Rattle.aud_syntax.specs.Ties.View.{plain_expression, plain_boxed, plain_expressions, plain_name, plain_primary, plain_factor, plain_multiplied, plain_term, plain_added, plain_simple, plain_declaration, plain_statement, plain_statements, plain_body, plain_unit}
+use Rattle.aud_parse.specs.Actions.{Item, none, cons, in_parens, an_attribute, some_args, a_name, a_primary, a_factor, a_multiplied, a_term, an_added, a_simple, an_expression, assigned, called, some_names, a_declaration, a_statement, some_statements, a_body, a_unit}
 
 abbrev pub list_item : {X : Type 0} → (X → Item) → List X → Item
 list_item f [] = none
@@ -68,11 +70,17 @@ assigned_item x = assigned (plain_expression x)
 abbrev pub called_item : List Expression → Item
 called_item xs = called (plain_expressions xs)
 
+abbrev pub names_item : Identifiers → Item
+names_item x = some_names x.first x.others.items
+
 abbrev pub declaration_item : Declaration → Item
 declaration_item x = a_declaration (plain_declaration x)
 
 abbrev pub statement_item : Statement → Item
 statement_item x = a_statement (plain_statement x)
+
+abbrev pub statements_item : Statements → Item
+statements_item x = some_statements (plain_statements x)
 
 abbrev pub body_item : Body → Item
 body_item x = a_body (plain_body x)
