@@ -1,5 +1,5 @@
 -- Trees in memory, as items of the reading.
-use Rattle.std.specs.Prelude.{List, [], ◌∷◌, Option, Some, None, Box}
+use Rattle.std.specs.Prelude.{List, [], ◌∷◌, Option, Some, None, Box, Vec}
 use Rattle.std.specs.Global.{Global}
 use Rattle.aud_text.specs.declared.place.Pos.{Pos}
 use Rattle.aud_syntax.specs.declared.tree.Ident.{Ident}
@@ -24,6 +24,9 @@ abbrev pub list_item : {X : Type 0} → (X → Item) → List X → Item
 list_item f [] = none
 list_item f (x ∷ xs) = cons (f x) (list_item f xs)
 
+abbrev pub vec_item : {X : Type 0} → (X → Item) → Vec X Global → Item
+vec_item f v = list_item f v.items
+
 abbrev pub opt_item : {X : Type 0} → (X → Item) → Option X → Item
 opt_item f None = none
 opt_item f (Some x) = f x
@@ -37,8 +40,8 @@ attribute_item x = an_attribute x.0 (plain_boxed x.1)
 abbrev pub name_item : Name → Item
 name_item x = a_name (plain_name x)
 
-abbrev pub args_item : List Expression → Item
-args_item xs = some_args (plain_expressions xs)
+abbrev pub args_item : Vec Expression Global → Item
+args_item v = some_args (plain_expressions v.items)
 
 abbrev pub primary_item : Primary → Item
 primary_item x = a_primary (plain_primary x)
@@ -67,8 +70,8 @@ boxed_item x = expression_item x.value
 abbrev pub assigned_item : Expression → Item
 assigned_item x = assigned (plain_expression x)
 
-abbrev pub called_item : List Expression → Item
-called_item xs = called (plain_expressions xs)
+abbrev pub called_item : Vec Expression Global → Item
+called_item v = called (plain_expressions v.items)
 
 abbrev pub names_item : Identifiers → Item
 names_item x = some_names x.first x.others.items
