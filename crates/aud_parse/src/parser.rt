@@ -40,7 +40,7 @@ fn unit<'a, 's>(
     start: Rest<'a, 's>,
     room: u32,
 ) -> Result<(Unit, Rest<'a, 's>), Fault<'a, 's>>
-    ensures { Reads unit_item (N g.Unit) room start.entry.tokens.now result }
+    ensures { Reads unit_item (N g.Unit) room start.entry result }
 {
     let (first, rest) = token(start, Kind::Procedure)?;
     let (name, rest) = ident(alloc, rest)?;
