@@ -17,7 +17,7 @@ pub struct Rest<'a, 's> {
 /// Why no tree is read.
 #[derive(Drop)]
 pub enum Fault<'a, 's> {
-    /// Memory ran out.
+    /// Where memory is refused.
     Memory,
     /// No program goes on with the first of these tokens.
     Wrong(Rest<'a, 's>),

@@ -31,14 +31,14 @@ abbrev pub Comes : {X : Type 0} → (X → Item) → Symbol → ℕ → Rest →
 Comes f s room start (Ok p) = Passes s room start.tokens.now (λ ds. f p.0 ∷ ds) room p.1.tokens.now
 Comes f s room start (Err e) = FailsAt s room start.tokens.now e
 
--- a token at least is passed, and none need be
+-- one token at least is passed; or none need be
 abbrev pub Fewer : Rest → Rest → Type 0
 Fewer rest start = length rest.tokens.now < length start.tokens.now
 
 abbrev pub NoMore : Rest → Rest → Type 0
 NoMore rest start = length rest.tokens.now ≤ length start.tokens.now
 
--- a tree with room for this number of levels, and the tokens after it, as few as this
+-- a tree is read with room for this number of levels, and the tokens after it are as few as Left says
 pub record Reading {X : Type 0} (Left : Rest → Rest → Type 0) (f : X → Item) (s : Symbol) (room : ℕ) (start : Rest) (result : Result (X × Rest) Fault) : Type 0 where
   pub reads : Comes f s room start result
   pub shorter : IfOk result (λ p. Left p.1 start)
@@ -85,14 +85,14 @@ pub record Accepts (c : Kind) (start : Rest) (result : Option (Bor Element × Re
   pub shorter : IfSome result (λ p. Fewer p.1 start)
 
 -- the next token begins the phrase, of which a tree is read, or it does not
-abbrev pub Begins : {X : Type 0} → (X → Item) → Phrase → Rest → Option (X × Rest) → Type 0
-Begins f p start None = next_in (firsts p) start.tokens.now ≡ false
-Begins f p start (Some x) =
+abbrev pub Taken : {X : Type 0} → (X → Item) → Phrase → Rest → Option (X × Rest) → Type 0
+Taken f p start None = next_in (firsts p) start.tokens.now ≡ false
+Taken f p start (Some x) =
     (next_in (firsts p) start.tokens.now ≡ true) × ((room : ℕ) → Passes (N p) room start.tokens.now (λ ds. f x.0 ∷ ds) room x.1.tokens.now)
 
 -- a tree, if the next token begins the phrase, and the tokens after it
 pub record Takes {X : Type 0} (f : X → Item) (p : Phrase) (start : Rest) (result : Option (X × Rest)) : Type 0 where
-  pub reads : Begins f p start result
+  pub reads : Taken f p start result
   pub shorter : IfSome result (λ x. Fewer x.1 start)
 
 -- what is there of a symbol that needs no token, and the tokens after it

@@ -252,7 +252,7 @@ WrongExpressions =
 abbrev pub FaultsOfTexts : Type 0
 FaultsOfTexts = WrongPrograms × WrongDeclarations × WrongStatements × WrongExpressions
 
--- so many levels are allowed, fewer than in the language
+-- the same with limit levels, fewer than in the language
 abbrev pub IsReadWithin : ℕ → List ℕ → Result Unit Fault → Type 0
 IsReadWithin limit source what = read_by (parsed_as the_unit g.Unit limit) (lexed source) ≡ Some what
 
@@ -281,7 +281,7 @@ FewLevels =
     × IsReadWithin 2 (codes "procedure P is X : T := (1); begin P (2); P (3); end;")
     (Ok (program (closed_declaration ∷ []) (body (at 1 30) closed_calls (at 1 50) None)))
 
--- an expression in so many parentheses, of which the first opens at this column of the second line
+-- an expression in this number of parentheses, of which the first opens at column n of the second line
 abbrev pub nested : ℕ → ℕ → Expression
 nested zero n = only (num 1 (col n))
 nested (suc deep) n = only (group (col n) (nested deep (n + 1)))
