@@ -13,7 +13,7 @@ use Rattle.aud_meaning.specs.Configuration.{All, Configuration}
 use Rattle.aud_meaning.specs.Statements.{controls}
 use Rattle.aud_meaning.specs.Run.{own_move, seen, moves_at, state_at, step_with, run_with, moves_in, state_in, step, run, opening, opening_with}
 use Rattle.aud_meaning.specs.Parts.{unit_of}
-use Rattle.aud_meaning.specs.View.{coming_step, coming_step_at, coming_step_in}
+use Rattle.aud_meaning.specs.Listings.{coming_step, coming_step_at, coming_step_in}
 use Rattle.aud_meaning.specs.Ties.Single.{Single, all_of}
 use Rattle.aud_code.specs.Places.{Spot}
 use Rattle.aud_code.specs.Flat.{Flat, flat_controls}

@@ -3,7 +3,7 @@
 ghost use Rattle.std.specs.Prelude.{◌≡◌, ◌+◌, ◌*◌, ◌<◌, ◌≤◌, [], ◌∷◌, length, map, min, slice_get, IfOk, IfSome, OnOk};
 ghost use Rattle.aud_typed.specs.Ties.View.{plain_program};
 ghost use Rattle.aud_meaning.specs.Run.{moves_in, state_in, main_raised, supplied, advanced, opening};
-ghost use Rattle.aud_meaning.specs.View.{coming_step_in};
+ghost use Rattle.aud_meaning.specs.Listings.{coming_step_in};
 ghost use Rattle.aud_machine.specs.Shown.{program_in, owns_in, ticks_of_step, ticks_of_run};
 ghost use Rattle.aud_machine.specs.Shows.{Shows, IfShows, Leaves, RunsFrom, Takes};
 

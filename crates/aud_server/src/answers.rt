@@ -1,7 +1,7 @@
 // The text of answers.
 
 ghost use Rattle.std.specs.Prelude.{◌≡◌, IfOk, Some, None};
-ghost use Rattle.aud_meaning.specs.View.{state_words};
+ghost use Rattle.aud_meaning.specs.Listings.{state_words};
 ghost use Rattle.aud_server.specs.Ties.Adds.{Adds};
 ghost use Rattle.aud_server.specs.Text.{line_end, head, loaded_text, ran_line, raised_name, report_text, is_open, output_lines, output_text, refusal, refused_text, refused_at_text, answer_text};
 

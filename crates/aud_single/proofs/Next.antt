@@ -10,7 +10,7 @@ use Rattle.aud_meaning.specs.Control.{Coming}
 use Rattle.aud_meaning.specs.Statements.{coming_raised}
 use Rattle.aud_meaning.specs.Parts.{unit_of}
 use Rattle.aud_meaning.specs.Ties.Single.{Stage, Single, runs, completed, terminated, own_in, all_of, scene_in}
-use Rattle.aud_meaning.specs.View.{coming_kind, coming_step_at}
+use Rattle.aud_meaning.specs.Listings.{coming_kind, coming_step_at}
 use Rattle.aud_code.specs.declared.line.EndLine.{EndLine}
 use Rattle.aud_code.specs.declared.line.Ending.TheVariants.{Declare, Null, Assign, Put}
 use Rattle.aud_code.specs.declared.line.Last.{Last}

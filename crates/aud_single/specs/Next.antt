@@ -5,7 +5,7 @@ use Rattle.aud_meaning.specs.declared.state.StepKind.{StepKind}
 use Rattle.aud_meaning.specs.declared.state.StepKind.TheVariants as kind
 use Rattle.aud_meaning.specs.declared.state.NextStep.{NextStep}
 use Rattle.aud_meaning.specs.Parts.{unit_of}
-use Rattle.aud_meaning.specs.View.{coming_step_at}
+use Rattle.aud_meaning.specs.Listings.{coming_step_at}
 use Rattle.aud_meaning.specs.Ties.Single.{Stage, Single, runs, completed, terminated, all_of}
 use Rattle.aud_code.specs.Places.{Spot}
 use Rattle.aud_code.specs.Flat.{Flat, flat_controls}
