@@ -8,3 +8,8 @@ pub mod Starting
 pub mod Sound
 pub mod Laws
 pub mod Simple
+pub mod Sizes
+pub mod Moving
+pub mod Behind
+pub mod Parts
+pub mod Written

@@ -55,42 +55,10 @@ in_loop next a = record a { exits = record { to = next; loops = 0 } ∷ a.exits 
 abbrev pub in_for : ℕ → Around → Around
 in_for next a = record a { exits = record { to = next; loops = 1 } ∷ map one_more a.exits; back = one_more a.back }
 
--- How many lines; e ways lead out.
-
-abbrev mutual
-  pub statement_size : Statement → ℕ → ℕ
-  statement_size (sequence a b) e = statement_size a e + statement_size b e
-  statement_size (plain_loop a) e = statement_size a (suc e)
-  statement_size (if_then at c a p) e = 1 + (statement_size a e + part_size p e)
-  statement_size (while_loop at c a) e = 1 + statement_size a (suc e)
-  statement_size (for_loop f x y a) e = 2 + statement_size a (suc e)
-  statement_size (block at n b) e = 1 + (body_size b e + e)
-  statement_size (entry_call at c p q) e = 1 + (part_size p e + part_size q e)
-  statement_size (accept at n d) e = 1 + doing_size d
-  statement_size (select at offered p) e = 1 + (offered_size offered e + part_size p e)
-  statement_size s e = 1
-
-  pub part_size : Part → ℕ → ℕ
-  part_size nothing e = 0
-  part_size (some s) e = statement_size s e
-
-  pub handlers_size : Handlers → ℕ → ℕ
-  handlers_size no_handlers e = 0
-  handlers_size (handler others choices s more) e = statement_size s e + handlers_size more e
-
-  -- declarations, statements, the line that guards them, handlers, end
-  pub body_size : Body → ℕ → ℕ
-  body_size (body d begin s h end) e = part_size d e + (statement_size s e + suc (handlers_size h e + 1))
-
-  pub doing_size : Doing → ℕ
-  doing_size without_do = 0
-  doing_size (with_do n b) = body_size b 1
-
-  pub offered_size : Alternatives → ℕ → ℕ
-  offered_size no_alternatives e = 0
-  offered_size (accepting g at n d p more) e = doing_size d + (part_size p e + offered_size more e)
-  offered_size (delaying g x p more) e = part_size p e + offered_size more e
-  offered_size (terminating g more) e = offered_size more e
+pub record Code : Type 0 where
+  pub lines : List Line
+  pub starts : List ℕ
+  pub spare : ℕ
 
 abbrev pub ways_count : Around → ℕ
 ways_count a = suc (length a.exits)
@@ -103,25 +71,6 @@ part_place (some s) at next = at
 abbrev pub doing_place : Doing → ℕ → ℕ → ℕ
 doing_place without_do at next = next
 doing_place (with_do n b) at next = at
-
-abbrev pub guards_of : Handlers → ℕ → ℕ → List Guard
-guards_of no_handlers at e = []
-guards_of (handler others choices s more) at e = record { others = others; choices = choices; to = at } ∷ guards_of more (at + statement_size s e) e
-
--- the places of what follows the alternatives, and of what their accepts do
-abbrev pub parts_from : Alternatives → ℕ → ℕ → ℕ → List ℕ
-parts_from no_alternatives at next e = []
-parts_from (accepting g pos n d p more) at next e =
-    part_place p (at + doing_size d) next ∷ parts_from more (at + doing_size d + part_size p e) next e
-parts_from (delaying g x p more) at next e = part_place p at next ∷ parts_from more (at + part_size p e) next e
-parts_from (terminating g more) at next e = next ∷ parts_from more at next e
-
-abbrev pub bodies_from : Alternatives → ℕ → ℕ → ℕ → List ℕ
-bodies_from no_alternatives at next e = []
-bodies_from (accepting g pos n d p more) at next e =
-    doing_place d at (part_place p (at + doing_size d) next) ∷ bodies_from more (at + doing_size d + part_size p e) next e
-bodies_from (delaying g x p more) at next e = part_place p at next ∷ bodies_from more (at + part_size p e) next e
-bodies_from (terminating g more) at next e = next ∷ bodies_from more at next e
 
 abbrev pub line : Statement → List ℕ → List ℕ → Option Way → Around → Line
 line s ways bodies w a = record { what = does s; at = statement_at s; out = a.out; ways = ways; bodies = bodies; exit = w }
@@ -149,123 +98,253 @@ in_call last = record { out = last; exits = []; back = record { to = last; loops
 abbrev pub end_line : Construct → Pos → ℕ → ℕ → Line
 end_line c end next out = record { what = ends c next; at = end; out = out; ways = []; bodies = []; exit = None }
 
-abbrev pub guard_line : Handlers → Pos → ℕ → ℕ → ℕ → Line
-guard_line h end handling last e = record { what = guards (guards_of h handling e); at = end; out = last; ways = []; bodies = []; exit = None }
-
--- statements, the line that guards them, handlers
-abbrev pub main_size : Statement → Handlers → ℕ → ℕ
-main_size s h e = statement_size s e + suc (handlers_size h e)
-
-abbrev pub end_place : Body → ℕ → ℕ → ℕ
-end_place (body d begin s h end) at e = at + part_size d e + main_size s h e
-
 abbrev pub around_out : ℕ → Around → Around
 around_out out a = record a { out = out }
 
-abbrev mutual
-  -- a statement from the place at on, before the place next
-  pub statement_code : Statement → ℕ → ℕ → Around → List Line
-  statement_code (sequence x y) at next a =
-      let middle = at + statement_size x (ways_count a) in
-      statement_code x at middle a ++ statement_code y middle next a
-  statement_code (plain_loop x) at next a = statement_code x at at (in_loop next a)
-  statement_code (if_then pos c x p) at next a =
-      let second = suc at + statement_size x (ways_count a) in
-      line (if_then pos c x p) (part_place p second next ∷ suc at ∷ []) [] None a ∷ (statement_code x (suc at) next a ++ part_code p second next a)
-  statement_code (while_loop pos c x) at next a =
-      line (while_loop pos c x) (next ∷ suc at ∷ []) [] None a ∷ statement_code x (suc at) at (in_loop next a)
-  statement_code (for_loop f x y s) at next a =
-      line (for_loop f x y s) (next ∷ suc (suc at) ∷ []) [] None a
-      ∷ record { what = continues f; at = f.next_at; out = a.out; ways = next ∷ suc (suc at) ∷ []; bodies = []; exit = None }
-      ∷ statement_code s (suc (suc at)) (suc at) (in_for next a)
-  statement_code (exit pos n c) at next a = line (exit pos n c) (next ∷ []) [] (Some (slice_index_or a.exits n (record { to = next; loops = 0 }))) a ∷ []
-  statement_code (return pos) at next a = line (return pos) (next ∷ []) [] (Some a.back) a ∷ []
-  statement_code (return_value pos x) at next a = line (return_value pos x) (next ∷ []) [] (Some a.back) a ∷ []
-  statement_code (block pos n b) at next a =
-      let end = end_place b (suc at) (ways_count a) in
-      line (block pos n b) (next ∷ suc at ∷ []) [] None a
-      ∷ (body_code construct.Block b (suc at) next a.out (in_block end a) ++ stubs_of b (a.exits ++ a.back ∷ []) (suc end))
-  statement_code (entry_call pos c p q) at next a =
-      let second = suc at + part_size p (ways_count a) in
-      line (entry_call pos c p q) (part_place p (suc at) next ∷ part_place q second next ∷ []) [] None a
-      ∷ (part_code p (suc at) next a ++ part_code q second next a)
-  statement_code (accept pos n d) at next a = line (accept pos n d) (next ∷ []) (doing_place d (suc at) next ∷ []) None a ∷ doing_code d (suc at) next a.out
-  statement_code (select pos offered p) at next a =
-      let second = suc at + offered_size offered (ways_count a) in
-      line (select pos offered p) (part_place p second next ∷ parts_from offered (suc at) next (ways_count a)) (at ∷ bodies_from offered (suc at) next (ways_count a)) None a
-      ∷ (offered_code offered (suc at) next a ++ part_code p second next a)
-  statement_code s at next a = line s (next ∷ []) [] None a ∷ []
+abbrev pub stubs_of : Body → List Way → ℕ → List Line
+stubs_of (body d begin s h end) ws at = stubs ws end at
 
-  pub stubs_of : Body → List Way → ℕ → List Line
-  stubs_of (body d begin s h end) ws at = stubs ws end at
+-- What follows is laid out by what place is behind a statement's own step, counted from a number on.
+module _ (behind : Statement → ℕ → ℕ) where
+  -- How many lines; e ways lead out.
 
-  pub part_code : Part → ℕ → ℕ → Around → List Line
-  part_code nothing at next a = []
-  part_code (some s) at next a = statement_code s at next a
+  abbrev mutual
+    pub statement_size_by : Statement → ℕ → ℕ
+    statement_size_by (sequence a b) e = statement_size_by a e + statement_size_by b e
+    statement_size_by (plain_loop a) e = statement_size_by a (suc e)
+    statement_size_by (if_then at c a p) e = behind (if_then at c a p) (statement_size_by a e + part_size_by p e)
+    statement_size_by (while_loop at c a) e = behind (while_loop at c a) (statement_size_by a (suc e))
+    statement_size_by (for_loop f x y a) e = behind (for_loop f x y a) (suc (statement_size_by a (suc e)))
+    statement_size_by (block at n b) e = behind (block at n b) (body_size_by b e + e)
+    statement_size_by (entry_call at c p q) e = behind (entry_call at c p q) (part_size_by p e + part_size_by q e)
+    statement_size_by (accept at n d) e = behind (accept at n d) (doing_size_by d)
+    statement_size_by (select at offered p) e = behind (select at offered p) (offered_size_by offered e + part_size_by p e)
+    statement_size_by s e = behind s 0
 
-  pub handlers_code : Handlers → ℕ → ℕ → Around → List Line
-  handlers_code no_handlers at next a = []
-  handlers_code (handler others choices s more) at next a =
-      statement_code s at next a ++ handlers_code more (at + statement_size s (ways_count a)) next a
+    pub part_size_by : Part → ℕ → ℕ
+    part_size_by nothing e = 0
+    part_size_by (some s) e = statement_size_by s e
 
-  -- The last place is its end, whose exceptions go to out.
-  pub body_code : Construct → Body → ℕ → ℕ → ℕ → Around → List Line
-  body_code c (body d begin s h end) at next out a =
-      let first = at + part_size d (ways_count a) in
-      let guard = first + statement_size s (ways_count a) in
-      let last = first + main_size s h (ways_count a) in
-      part_code d at first (around_out last a)
-      ++ (statement_code s first last (around_out guard a)
-      ++ (guard_line h end (suc guard) last (ways_count a) ∷ (handlers_code h (suc guard) last (around_out last a) ++ end_line c end next out ∷ [])))
+    pub handlers_size_by : Handlers → ℕ → ℕ
+    handlers_size_by no_handlers e = 0
+    handlers_size_by (handler others choices s more) e = statement_size_by s e + handlers_size_by more e
 
-  pub doing_code : Doing → ℕ → ℕ → ℕ → List Line
-  doing_code without_do at next out = []
-  doing_code (with_do n b) at next out =
-      let end = end_place b at 1 in
-      body_code construct.Accept b at next out (in_call end)
+    -- declarations, statements, the line that guards them, handlers, end
+    pub body_size_by : Body → ℕ → ℕ
+    body_size_by (body d begin s h end) e = part_size_by d e + (statement_size_by s e + suc (handlers_size_by h e + 1))
 
-  pub offered_code : Alternatives → ℕ → ℕ → Around → List Line
-  offered_code no_alternatives at next a = []
-  offered_code (accepting g pos n d p more) at next a =
-      let after = at + doing_size d in
-      doing_code d at (part_place p after next) a.out
-      ++ (part_code p after next a ++ offered_code more (after + part_size p (ways_count a)) next a)
-  offered_code (delaying g x p more) at next a = part_code p at next a ++ offered_code more (at + part_size p (ways_count a)) next a
-  offered_code (terminating g more) at next a = offered_code more at next a
+    pub doing_size_by : Doing → ℕ
+    doing_size_by without_do = 0
+    doing_size_by (with_do n b) = body_size_by b 1
 
--- of a body, from the place first of its statements on
+    pub offered_size_by : Alternatives → ℕ → ℕ
+    offered_size_by no_alternatives e = 0
+    offered_size_by (accepting g at n d p more) e = doing_size_by d + (part_size_by p e + offered_size_by more e)
+    offered_size_by (delaying g x p more) e = part_size_by p e + offered_size_by more e
+    offered_size_by (terminating g more) e = offered_size_by more e
+
+  abbrev pub guards_of_by : Handlers → ℕ → ℕ → List Guard
+  guards_of_by no_handlers at e = []
+  guards_of_by (handler others choices s more) at e = record { others = others; choices = choices; to = at } ∷ guards_of_by more (at + statement_size_by s e) e
+
+  -- the places of what follows the alternatives, and of what their accepts do
+  abbrev pub parts_from_by : Alternatives → ℕ → ℕ → ℕ → List ℕ
+  parts_from_by no_alternatives at next e = []
+  parts_from_by (accepting g pos n d p more) at next e =
+      part_place p (at + doing_size_by d) next ∷ parts_from_by more (at + doing_size_by d + part_size_by p e) next e
+  parts_from_by (delaying g x p more) at next e = part_place p at next ∷ parts_from_by more (at + part_size_by p e) next e
+  parts_from_by (terminating g more) at next e = next ∷ parts_from_by more at next e
+
+  abbrev pub bodies_from_by : Alternatives → ℕ → ℕ → ℕ → List ℕ
+  bodies_from_by no_alternatives at next e = []
+  bodies_from_by (accepting g pos n d p more) at next e =
+      doing_place d at (part_place p (at + doing_size_by d) next) ∷ bodies_from_by more (at + doing_size_by d + part_size_by p e) next e
+  bodies_from_by (delaying g x p more) at next e = part_place p at next ∷ bodies_from_by more (at + part_size_by p e) next e
+  bodies_from_by (terminating g more) at next e = next ∷ bodies_from_by more at next e
+
+  abbrev pub guard_line_by : Handlers → Pos → ℕ → ℕ → ℕ → Line
+  guard_line_by h end handling last e = record { what = guards (guards_of_by h handling e); at = end; out = last; ways = []; bodies = []; exit = None }
+
+  -- statements, the line that guards them, handlers
+  abbrev pub main_size_by : Statement → Handlers → ℕ → ℕ
+  main_size_by s h e = statement_size_by s e + suc (handlers_size_by h e)
+
+  abbrev pub end_place_by : Body → ℕ → ℕ → ℕ
+  end_place_by (body d begin s h end) at e = at + part_size_by d e + main_size_by s h e
+
+  abbrev mutual
+    -- a statement from the place at on, before the place next
+    pub statement_code_by : Statement → ℕ → ℕ → Around → List Line
+    statement_code_by (sequence x y) at next a =
+        let middle = at + statement_size_by x (ways_count a) in
+        statement_code_by x at middle a ++ statement_code_by y middle next a
+    statement_code_by (plain_loop x) at next a = statement_code_by x at at (in_loop next a)
+    statement_code_by (if_then pos c x p) at next a =
+        let second = (behind (if_then pos c x p) at) + statement_size_by x (ways_count a) in
+        line (if_then pos c x p) (part_place p second next ∷ (behind (if_then pos c x p) at) ∷ []) [] None a ∷ (statement_code_by x (behind (if_then pos c x p) at) next a ++ part_code_by p second next a)
+    statement_code_by (while_loop pos c x) at next a =
+        line (while_loop pos c x) (next ∷ (behind (while_loop pos c x) at) ∷ []) [] None a ∷ statement_code_by x (behind (while_loop pos c x) at) at (in_loop next a)
+    statement_code_by (for_loop f x y s) at next a =
+        line (for_loop f x y s) (next ∷ (suc (behind (for_loop f x y s) at)) ∷ []) [] None a
+        ∷ record { what = continues f; at = f.next_at; out = a.out; ways = next ∷ (suc (behind (for_loop f x y s) at)) ∷ []; bodies = []; exit = None }
+        ∷ statement_code_by s (suc (behind (for_loop f x y s) at)) (behind (for_loop f x y s) at) (in_for next a)
+    statement_code_by (exit pos n c) at next a = line (exit pos n c) (next ∷ []) [] (Some (slice_index_or a.exits n (record { to = next; loops = 0 }))) a ∷ []
+    statement_code_by (return pos) at next a = line (return pos) (next ∷ []) [] (Some a.back) a ∷ []
+    statement_code_by (return_value pos x) at next a = line (return_value pos x) (next ∷ []) [] (Some a.back) a ∷ []
+    statement_code_by (block pos n b) at next a =
+        let end = end_place_by b (behind (block pos n b) at) (ways_count a) in
+        line (block pos n b) (next ∷ (behind (block pos n b) at) ∷ []) [] None a
+        ∷ (body_code_by construct.Block b (behind (block pos n b) at) next a.out (in_block end a) ++ stubs_of b (a.exits ++ a.back ∷ []) (suc end))
+    statement_code_by (entry_call pos c p q) at next a =
+        let second = (behind (entry_call pos c p q) at) + part_size_by p (ways_count a) in
+        line (entry_call pos c p q) (part_place p (behind (entry_call pos c p q) at) next ∷ part_place q second next ∷ []) [] None a
+        ∷ (part_code_by p (behind (entry_call pos c p q) at) next a ++ part_code_by q second next a)
+    statement_code_by (accept pos n d) at next a = line (accept pos n d) (next ∷ []) (doing_place d (behind (accept pos n d) at) next ∷ []) None a ∷ doing_code_by d (behind (accept pos n d) at) next a.out
+    statement_code_by (select pos offered p) at next a =
+        let second = (behind (select pos offered p) at) + offered_size_by offered (ways_count a) in
+        line (select pos offered p) (part_place p second next ∷ parts_from_by offered (behind (select pos offered p) at) next (ways_count a)) (at ∷ bodies_from_by offered (behind (select pos offered p) at) next (ways_count a)) None a
+        ∷ (offered_code_by offered (behind (select pos offered p) at) next a ++ part_code_by p second next a)
+    statement_code_by s at next a = line s (next ∷ []) [] None a ∷ []
+
+    pub part_code_by : Part → ℕ → ℕ → Around → List Line
+    part_code_by nothing at next a = []
+    part_code_by (some s) at next a = statement_code_by s at next a
+
+    pub handlers_code_by : Handlers → ℕ → ℕ → Around → List Line
+    handlers_code_by no_handlers at next a = []
+    handlers_code_by (handler others choices s more) at next a =
+        statement_code_by s at next a ++ handlers_code_by more (at + statement_size_by s (ways_count a)) next a
+
+    -- The last place is its end, whose exceptions go to out.
+    pub body_code_by : Construct → Body → ℕ → ℕ → ℕ → Around → List Line
+    body_code_by c (body d begin s h end) at next out a =
+        let first = at + part_size_by d (ways_count a) in
+        let guard = first + statement_size_by s (ways_count a) in
+        let last = first + main_size_by s h (ways_count a) in
+        part_code_by d at first (around_out last a)
+        ++ (statement_code_by s first last (around_out guard a)
+        ++ (guard_line_by h end (suc guard) last (ways_count a) ∷ (handlers_code_by h (suc guard) last (around_out last a) ++ end_line c end next out ∷ [])))
+
+    pub doing_code_by : Doing → ℕ → ℕ → ℕ → List Line
+    doing_code_by without_do at next out = []
+    doing_code_by (with_do n b) at next out =
+        let end = end_place_by b at 1 in
+        body_code_by construct.Accept b at next out (in_call end)
+
+    pub offered_code_by : Alternatives → ℕ → ℕ → Around → List Line
+    offered_code_by no_alternatives at next a = []
+    offered_code_by (accepting g pos n d p more) at next a =
+        let after = at + doing_size_by d in
+        doing_code_by d at (part_place p after next) a.out
+        ++ (part_code_by p after next a ++ offered_code_by more (after + part_size_by p (ways_count a)) next a)
+    offered_code_by (delaying g x p more) at next a = part_code_by p at next a ++ offered_code_by more (at + part_size_by p (ways_count a)) next a
+    offered_code_by (terminating g more) at next a = offered_code_by more at next a
+
+  -- of a body, from the place first of its statements on
+  abbrev pub main_code_by : Construct → Statement → Handlers → Pos → ℕ → ℕ → ℕ → Around → List Line
+  main_code_by c s h end first next out a =
+      let guard = first + statement_size_by s (ways_count a) in
+      let last = first + main_size_by s h (ways_count a) in
+      statement_code_by s first last (around_out guard a)
+      ++ (guard_line_by h end (suc guard) last (ways_count a) ∷ (handlers_code_by h (suc guard) last (around_out last a) ++ end_line c end next out ∷ []))
+
+  -- A program: its bodies one after the other.
+
+  abbrev pub unit_code_by : Body → ℕ → List Line
+  unit_code_by b at = let end = end_place_by b at 1 in body_code_by construct.Unit b at 0 end (in_call end)
+
+  -- and at last one that no program has, for numbers that no body has
+  abbrev pub units_code_by : List Body → ℕ → List Line
+  units_code_by [] at = unit_code_by no_body at
+  units_code_by (b ∷ bs) at = unit_code_by b at ++ units_code_by bs (at + body_size_by b 1)
+
+  abbrev pub starts_from_by : List Body → ℕ → List ℕ
+  starts_from_by [] at = []
+  starts_from_by (b ∷ bs) at = at ∷ starts_from_by bs (at + body_size_by b 1)
+
+  abbrev pub spare_from_by : List Body → ℕ → ℕ
+  spare_from_by [] at = at
+  spare_from_by (b ∷ bs) at = spare_from_by bs (at + body_size_by b 1)
+
+  abbrev pub code_of_by : Program → Code
+  code_of_by program = record { lines = units_code_by program.bodies 0; starts = starts_from_by program.bodies 0; spare = spare_from_by program.bodies 0 }
+
+-- One line a step.
+
+abbrev pub one_line : Statement → ℕ → ℕ
+one_line s n = suc n
+
+abbrev pub statement_size : Statement → ℕ → ℕ
+statement_size = statement_size_by one_line
+
+abbrev pub part_size : Part → ℕ → ℕ
+part_size = part_size_by one_line
+
+abbrev pub handlers_size : Handlers → ℕ → ℕ
+handlers_size = handlers_size_by one_line
+
+abbrev pub body_size : Body → ℕ → ℕ
+body_size = body_size_by one_line
+
+abbrev pub doing_size : Doing → ℕ
+doing_size = doing_size_by one_line
+
+abbrev pub offered_size : Alternatives → ℕ → ℕ
+offered_size = offered_size_by one_line
+
+abbrev pub guards_of : Handlers → ℕ → ℕ → List Guard
+guards_of = guards_of_by one_line
+
+abbrev pub parts_from : Alternatives → ℕ → ℕ → ℕ → List ℕ
+parts_from = parts_from_by one_line
+
+abbrev pub bodies_from : Alternatives → ℕ → ℕ → ℕ → List ℕ
+bodies_from = bodies_from_by one_line
+
+abbrev pub main_size : Statement → Handlers → ℕ → ℕ
+main_size = main_size_by one_line
+
+abbrev pub end_place : Body → ℕ → ℕ → ℕ
+end_place = end_place_by one_line
+
+abbrev pub guard_line : Handlers → Pos → ℕ → ℕ → ℕ → Line
+guard_line = guard_line_by one_line
+
+abbrev pub statement_code : Statement → ℕ → ℕ → Around → List Line
+statement_code = statement_code_by one_line
+
+abbrev pub part_code : Part → ℕ → ℕ → Around → List Line
+part_code = part_code_by one_line
+
+abbrev pub handlers_code : Handlers → ℕ → ℕ → Around → List Line
+handlers_code = handlers_code_by one_line
+
+abbrev pub body_code : Construct → Body → ℕ → ℕ → ℕ → Around → List Line
+body_code = body_code_by one_line
+
+abbrev pub doing_code : Doing → ℕ → ℕ → ℕ → List Line
+doing_code = doing_code_by one_line
+
+abbrev pub offered_code : Alternatives → ℕ → ℕ → Around → List Line
+offered_code = offered_code_by one_line
+
 abbrev pub main_code : Construct → Statement → Handlers → Pos → ℕ → ℕ → ℕ → Around → List Line
-main_code c s h end first next out a =
-    let guard = first + statement_size s (ways_count a) in
-    let last = first + main_size s h (ways_count a) in
-    statement_code s first last (around_out guard a)
-    ++ (guard_line h end (suc guard) last (ways_count a) ∷ (handlers_code h (suc guard) last (around_out last a) ++ end_line c end next out ∷ []))
-
--- A program: its bodies one after the other.
+main_code = main_code_by one_line
 
 abbrev pub unit_code : Body → ℕ → List Line
-unit_code b at = let end = end_place b at 1 in body_code construct.Unit b at 0 end (in_call end)
+unit_code = unit_code_by one_line
 
--- and at last one that no program has, for numbers that no body has
 abbrev pub units_code : List Body → ℕ → List Line
-units_code [] at = unit_code no_body at
-units_code (b ∷ bs) at = unit_code b at ++ units_code bs (at + body_size b 1)
+units_code = units_code_by one_line
 
 abbrev pub starts_from : List Body → ℕ → List ℕ
-starts_from [] at = []
-starts_from (b ∷ bs) at = at ∷ starts_from bs (at + body_size b 1)
+starts_from = starts_from_by one_line
 
 abbrev pub spare_from : List Body → ℕ → ℕ
-spare_from [] at = at
-spare_from (b ∷ bs) at = spare_from bs (at + body_size b 1)
-
-pub record Code : Type 0 where
-  pub lines : List Line
-  pub starts : List ℕ
-  pub spare : ℕ
+spare_from = spare_from_by one_line
 
 abbrev pub code_of : Program → Code
-code_of program = record { lines = units_code program.bodies 0; starts = starts_from program.bodies 0; spare = spare_from program.bodies 0 }
+code_of = code_of_by one_line
 
 -- Control.
 

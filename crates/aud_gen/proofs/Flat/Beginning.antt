@@ -3,18 +3,19 @@ use Rattle.std.proofs.Common.{◌≡◌, ℕ, zero, suc, ◌+◌, ◌≤◌, Lis
 use Rattle.aud_typed.specs.Tree.{Body, Program}
 use Rattle.aud_meaning.specs.declared.state.Construct.TheVariants as construct
 use Rattle.aud_meaning.specs.Items.{no_body}
-use Rattle.aud_gen.specs.Layout.{Line, in_call, body_size, end_place, unit_code, units_code, code_of}
+use Rattle.aud_gen.specs.Layout.{one_line, Line, in_call, body_size, end_place, unit_code, units_code, code_of}
 use Rattle.aud_gen.proofs.Standing.Places.{length-unit}
 use Rattle.aud_code.specs.Instruction.{Instruction}
 use Rattle.aud_code.specs.Flat.{EndLine, FlatLine, instructs, end}
 use Rattle.aud_gen.specs.Assembly.{instructions_by, offset, end_line, assembled_from}
 use Rattle.aud_code.specs.Sound.{IsStart}
-use Rattle.aud_gen.proofs.Flat.Within.{LinesIn, both, last_is, call_in, body_in}
+use Rattle.aud_gen.proofs.Flat.Within.{LinesIn, both, call_in, body_in}
+use Rattle.aud_gen.proofs.Flat.Sizes.{last_is}
 
 module _ (T : ℕ) where
   unit_in : (b : Body) (at : ℕ) → at + body_size b 1 ≤ T → LinesIn T (unit_code b at)
   unit_in b at h =
-      let fits = last_is T b at 1 in
+      let fits = last_is one_line b at 1 in
       let last : end_place b at 1 ≤ T = omega (arith, h, fits) in
       body_in T construct.Unit b at 0 (end_place b at 1) (in_call (end_place b at 1)) h (omega arith) last (call_in T (end_place b at 1) last)
 

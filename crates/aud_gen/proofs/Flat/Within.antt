@@ -5,9 +5,10 @@ use Rattle.aud_typed.specs.Tree.{Statement, sequence, declare, declare_array, de
 use Rattle.aud_meaning.specs.declared.state.Construct.{Construct}
 use Rattle.aud_meaning.specs.declared.state.Construct.TheVariants as construct
 use Rattle.std.proofs.Common.{slice_index_or}
-use Rattle.aud_gen.specs.Layout.{What, does, continues, guards, ends, leaves, Line, Around, one_more, in_loop, in_for, in_block, in_call, around_out, ways_count, statement_size, part_size, handlers_size, body_size, doing_size, offered_size, main_size, end_place, stub_ways, stubs, stubs_of, end_line, guard_line, guards_of, line, statement_code, part_code, part_place, doing_place, parts_from, bodies_from, handlers_code, body_code, doing_code, offered_code}
+use Rattle.aud_gen.specs.Layout.{one_line, What, does, continues, guards, ends, leaves, Line, Around, one_more, in_loop, in_for, in_block, in_call, around_out, ways_count, statement_size, part_size, handlers_size, body_size, doing_size, offered_size, main_size, end_place, stub_ways, stubs, stubs_of, end_line, guard_line, guards_of, line, statement_code, part_code, part_place, doing_place, parts_from, bodies_from, handlers_code, body_code, doing_code, offered_code}
 use Rattle.aud_code.specs.Places.{Way, Guard}
 use Rattle.aud_gen.proofs.Standing.Places.{count-block, count-for}
+use Rattle.aud_gen.proofs.Flat.Sizes.{last_is}
 
 module _ (T : ℕ) where
   abbrev pub PlacesIn : List ℕ → Type 0
@@ -97,9 +98,6 @@ module _ (T : ℕ) where
   stubs_of_in : (b : Body) (ws : List Way) (w : Way) (at : ℕ) → WaysIn ws → w.to ≤ T → at + length ws ≤ T → LinesIn (stubs_of b (ws ++ w ∷ []) at)
   stubs_of_in (body d begin s hs end) ws w at h k l = stubs_in ws w end at h k l
 
-  pub last_is : (b : Body) (at e : ℕ) → suc (end_place b at e) ≡ at + body_size b e
-  last_is (body d begin s hs end) at e = omega arith
-
   guards_in : (h : Handlers) (at e : ℕ) → at + handlers_size h e ≤ T → GuardsIn (guards_of h at e)
   guards_in no_handlers at e k = tt
   guards_in (handler others choices s more) at e k = (omega (arith, k), guards_in more (at + statement_size s e) e (omega (arith, k)))
@@ -143,7 +141,7 @@ module _ (T : ℕ) where
         )
     statement_in (block pos n b) at next a h k i =
         let e = ways_count a in
-        let fits = last_is b (suc at) e in
+        let fits = last_is one_line b (suc at) e in
         let last = end_place b (suc at) e in
         let size = ap (body_size b) (count-block last a) in
         let stubs' = stubs_of b (a.exits ++ a.back ∷ []) (suc last) in (
@@ -217,7 +215,7 @@ module _ (T : ℕ) where
     doing_in : (d : Doing) (at next out : ℕ) → at + doing_size d ≤ T → next ≤ T → out ≤ T → LinesIn (doing_code d at next out)
     doing_in without_do at next out h k o = tt
     doing_in (with_do n b) at next out h k o =
-        let fits = last_is b at 1 in
+        let fits = last_is one_line b at 1 in
         body_in construct.Accept b at next out (in_call (end_place b at 1)) h k o (call_in (end_place b at 1) (omega (arith, h, fits)))
 
     offered_in : (x : Alternatives) (at next : ℕ) (a : Around) → at + offered_size x (ways_count a) ≤ T → next ≤ T → AroundIn a → LinesIn (offered_code x at next a)

@@ -1,0 +1,100 @@
+-- Where the steps begin in a program's code: behind each part of the layout are the instructions and endings of its lines.
+use Rattle.std.proofs.Common.{◌≡◌, ℕ, zero, suc, ◌+◌, List, [], ◌∷◌, ◌++◌, length, drop, refl, sym, ap, ◌∙◌, subst, arith}
+use Rattle.aud_typed.specs.Tree.{Statement, Part, Handlers, Body, body, Doing, Alternatives}
+use Rattle.aud_meaning.specs.declared.state.Construct.{Construct}
+use Rattle.aud_gen.specs.Layout.{What, does, continues, guards, ends, leaves, Line, Around, ways_count, around_out, statement_size, part_size, handlers_size, body_size, doing_size, offered_size, main_size, end_place, statement_code, part_code, handlers_code, body_code, doing_code, offered_code, guard_line, end_line, statement_size_by, part_size_by, handlers_size_by, body_size_by, doing_size_by, offered_size_by, end_place_by}
+use Rattle.aud_gen.specs.Assembly.{instructions_by, line_size, offset}
+use Rattle.aud_gen.specs.Written.{flat_step}
+use Rattle.aud_gen.specs.Shows.{HasAt}
+use Rattle.aud_gen.proofs.Standing.Places.{has_front, has_back, has_tail, length-statement, length-part, length-handlers, length-body, length-doing, length-offered}
+use Rattle.aud_gen.proofs.Flat.Assembly.{offset_zero}
+use Rattle.aud_gen.proofs.Flat.Sizes.{total, total-statement, total-part, total-handlers, total-body, total-doing, total-offered}
+
+-- the place behind a line
+next_offset : (lines : List Line) (n : ℕ) (l : Line) (rest : List Line) → drop n lines ≡ l ∷ rest → offset lines (suc n) ≡ offset lines n + line_size l
+next_offset lines zero l rest e = subst (λ ls. offset ls (suc zero) ≡ offset ls zero + line_size l) (sym e) (omega (arith, offset_zero rest))
+next_offset [] (suc n) l rest e = absurd (omega (arith, ap length e))
+next_offset (x ∷ xs) (suc n) l rest e = omega (arith, next_offset xs n l rest e)
+
+adds : (s : Statement) (m n : ℕ) → flat_step s (m + n) ≡ flat_step s m + n
+adds s m n = omega arith
+
+-- a line counts with its instructions
+total_more : (l : Line) (ls : List Line) → total flat_step adds (l ∷ ls) ≡ line_size l + total flat_step adds ls
+total_more l ls = by_what l.what
+  where
+    by_what : (w : What) → total flat_step adds (record l { what = w } ∷ ls) ≡ suc (length (instructions_by w)) + total flat_step adds ls
+    by_what (does s) = omega arith
+    by_what (continues f) = omega arith
+    by_what (guards gs) = omega arith
+    by_what (ends c next) = omega arith
+    by_what (leaves n next) = omega arith
+
+module _ (lines : List Line) where
+  abbrev F : ℕ → ℕ
+  F = offset lines
+
+  -- behind these lines
+  behind_lines : (part : List Line) (at : ℕ) → HasAt lines at part → F (at + length part) ≡ F at + total flat_step adds part
+  behind_lines [] at h = let same : at + 0 ≡ at = omega arith in omega (arith, ap F same)
+  behind_lines (l ∷ ls) at h =
+      let same : at + suc (length ls) ≡ suc at + length ls = omega arith in
+      let more = behind_lines ls (suc at) (has_tail lines at l ls h) in
+      let one = next_offset lines at l (ls ++ h.rest) h.is in
+      omega (arith, ap F same, more, one, total_more l ls)
+
+  -- behind lines as many as n, which become m
+  past : (part : List Line) (at at' n m m' : ℕ) → HasAt lines at part → length part ≡ n → total flat_step adds part ≡ m → m ≡ m' → F at ≡ at' → F (at + n) ≡ at' + m'
+  past part at at' n m m' h en em e ea = sym (ap (λ k. F (at + k)) en) ∙ behind_lines part at h ∙ ap (λ k. F at + k) (em ∙ e) ∙ ap (λ k. k + m') ea
+
+  pub behind_line : (l : Line) (rest : List Line) (at at' : ℕ) → HasAt lines at (l ∷ rest) → F at ≡ at' → F (suc at) ≡ suc (at' + length (instructions_by l.what))
+  behind_line l rest at at' h e = next_offset lines at l (rest ++ h.rest) h.is ∙ ap (λ k. k + line_size l) e ∙ omega arith
+
+  -- behind a line without instructions
+  pub behind_plain : (l : Line) (rest : List Line) (at at' : ℕ) → instructions_by l.what ≡ [] → HasAt lines at (l ∷ rest) → F at ≡ at' → F (suc at) ≡ suc at'
+  behind_plain l rest at at' none h e = let k = ap length none in omega (arith, behind_line l rest at at' h e, k)
+
+  pub behind_statement : (s : Statement) (at next : ℕ) (a : Around) (at' e : ℕ) → HasAt lines at (statement_code s at next a) → F at ≡ at' → ways_count a ≡ e → F (at + statement_size s (ways_count a)) ≡ at' + statement_size_by flat_step s e
+  behind_statement s at next a at' e h ea ec =
+      past (statement_code s at next a) at at' _ _ _ h (length-statement s at next a) (total-statement flat_step adds s at next a) (ap (statement_size_by flat_step s) ec) ea
+
+  pub behind_part : (p : Part) (at next : ℕ) (a : Around) (at' e : ℕ) → HasAt lines at (part_code p at next a) → F at ≡ at' → ways_count a ≡ e → F (at + part_size p (ways_count a)) ≡ at' + part_size_by flat_step p e
+  behind_part p at next a at' e h ea ec =
+      past (part_code p at next a) at at' _ _ _ h (length-part p at next a) (total-part flat_step adds p at next a) (ap (part_size_by flat_step p) ec) ea
+
+  pub behind_handlers : (hs : Handlers) (at next : ℕ) (a : Around) (at' e : ℕ) → HasAt lines at (handlers_code hs at next a) → F at ≡ at' → ways_count a ≡ e → F (at + handlers_size hs (ways_count a)) ≡ at' + handlers_size_by flat_step hs e
+  behind_handlers hs at next a at' e h ea ec =
+      past (handlers_code hs at next a) at at' _ _ _ h (length-handlers hs at next a) (total-handlers flat_step adds hs at next a) (ap (handlers_size_by flat_step hs) ec) ea
+
+  pub behind_doing : (d : Doing) (at next out : ℕ) (at' : ℕ) → HasAt lines at (doing_code d at next out) → F at ≡ at' → F (at + doing_size d) ≡ at' + doing_size_by flat_step d
+  behind_doing d at next out at' h ea = past (doing_code d at next out) at at' _ _ _ h (length-doing d at next out) (total-doing flat_step adds d at next out) refl ea
+
+  pub behind_offered : (o : Alternatives) (at next : ℕ) (a : Around) (at' e : ℕ) → HasAt lines at (offered_code o at next a) → F at ≡ at' → ways_count a ≡ e → F (at + offered_size o (ways_count a)) ≡ at' + offered_size_by flat_step o e
+  behind_offered o at next a at' e h ea ec =
+      past (offered_code o at next a) at at' _ _ _ h (length-offered o at next a) (total-offered flat_step adds o at next a) (ap (offered_size_by flat_step o) ec) ea
+
+  pub behind_body : (c : Construct) (b : Body) (at next out : ℕ) (a : Around) (at' e : ℕ) → HasAt lines at (body_code c b at next out a) → F at ≡ at' → ways_count a ≡ e → F (at + body_size b (ways_count a)) ≡ at' + body_size_by flat_step b e
+  behind_body c b at next out a at' e h ea ec =
+      past (body_code c b at next out a) at at' _ _ _ h (length-body c b at next out a) (total-body flat_step adds c b at next out a) (ap (body_size_by flat_step b) ec) ea
+
+  -- the end of a body
+  pub behind_main : (c : Construct) (b : Body) (at next out : ℕ) (a : Around) (at' e : ℕ) → HasAt lines at (body_code c b at next out a) → F at ≡ at' → ways_count a ≡ e → F (end_place b at (ways_count a)) ≡ end_place_by flat_step b at' e
+  behind_main c (body d begin s hs end) at next out a at' e h ea ec =
+      let w = ways_count a in
+      let first = at + part_size d w in
+      let guard = first + statement_size s w in
+      let last = first + main_size s hs w in
+      let cd = part_code d at first (around_out last a) in
+      let cs = statement_code s first last (around_out guard a) in
+      let g = guard_line hs end (suc guard) last w in
+      let ch = handlers_code hs (suc guard) last (around_out last a) in
+      let l = end_line c end next out in
+      let h1 : HasAt lines first (cs ++ (g ∷ (ch ++ l ∷ []))) = has_back lines at (part_size d w) cd _ (length-part d at first (around_out last a)) h in
+      let h2 : HasAt lines guard (g ∷ (ch ++ l ∷ [])) = has_back lines first (statement_size s w) cs _ (length-statement s first last (around_out guard a)) h1 in
+      let h3 : HasAt lines (suc guard) (ch ++ l ∷ []) = has_tail lines guard g _ h2 in
+      let p1 = behind_part d at first (around_out last a) at' e (has_front lines at cd _ h) ea ec in
+      let p2 = behind_statement s first last (around_out guard a) _ e (has_front lines first cs _ h1) p1 ec in
+      let p3 = behind_plain g (ch ++ l ∷ []) guard _ refl h2 p2 in
+      let p4 = behind_handlers hs (suc guard) last (around_out last a) _ e (has_front lines (suc guard) ch _ h3) p3 ec in
+      let same : last ≡ suc guard + handlers_size hs w = omega arith in
+      ap F same ∙ p4 ∙ omega arith
