@@ -9,7 +9,7 @@ use Rattle.aud_typed.specs.Ties.View.{plain_program}
 use Rattle.aud_meaning.specs.declared.state.State.TheVariants as state
 use Rattle.aud_meaning.specs.Configuration.{Item, Configuration}
 use Rattle.aud_meaning.specs.Control.{Controls}
-use Rattle.aud_meaning.specs.Items.{controls}
+use Rattle.aud_meaning.specs.Statements.{controls}
 use Rattle.aud_meaning.specs.Run.{moves_in, run, main_raised}
 use Rattle.aud_meaning.proofs.Counts.{run_moves, run_stays, run_full, run_cut, more_moves, no_moves}
 use Rattle.aud_single.specs.declared.run.Ran.{Ran}

@@ -1,9 +1,10 @@
 // What the instructions of a step work on: Integers, targets, and a text that grows.
 
-ghost use Rattle.std.specs.Prelude.{◌≡◌, ◌<◌, [], ◌∷◌, ◌++◌, None, reverse, length, OnOk};
+ghost use Rattle.std.specs.Prelude.{◌≡◌, ◌<◌, [], ◌++◌, None, reverse, length, OnOk};
 ghost use Rattle.aud_text.specs.Integer.{image};
 ghost use Rattle.aud_meaning.specs.Parts.{no_waits};
 ghost use Rattle.aud_code.specs.Instruction.{Operands as Plain, no_operands};
+ghost use Rattle.aud_expr.specs.Operands.{with_integer, with_target};
 
 use crate::target::Target;
 use aud_text::int32::Int32;
@@ -48,7 +49,7 @@ impl Operands {
 
     /// One more Integer. No object is being declared, as yet.
     pub fn push(&mut self, value: Int32) -> Result<(), AllocError>
-        ensures pushed { OnOk result (self.new ≡ record self.old { integers = value ∷ self.old.integers }) }
+        ensures pushed { OnOk result (self.new ≡ with_integer value self.old) }
         ensures no_object { self.old.cells ≡ None }
     {
         self.integers.push(value.get())?;
@@ -58,7 +59,7 @@ impl Operands {
     /// Takes the newest Integer.
     pub fn pop(&mut self) -> Int32
         requires { 0 < length self.old.integers }
-        ensures { self.old ≡ record self.new { integers = result ∷ self.new.integers } }
+        ensures { self.old ≡ with_integer result self.new }
     {
         match self.integers.pop() {
             Some(value) => Int32::new(value),
@@ -68,7 +69,7 @@ impl Operands {
 
     /// One more target. No object is being declared, as yet.
     pub fn push_target(&mut self, target: Target) -> Result<(), AllocError>
-        ensures pushed { OnOk result (self.new ≡ record self.old { targets = target ∷ self.old.targets }) }
+        ensures pushed { OnOk result (self.new ≡ with_target target self.old) }
         ensures no_object { self.old.cells ≡ None }
     {
         self.targets.push(target)?;
@@ -78,7 +79,7 @@ impl Operands {
     /// Takes the newest target.
     pub fn pop_target(&mut self) -> Target
         requires { 0 < length self.old.targets }
-        ensures { self.old ≡ record self.new { targets = result ∷ self.new.targets } }
+        ensures { self.old ≡ with_target result self.new }
     {
         match self.targets.pop() {
             Some(target) => target,

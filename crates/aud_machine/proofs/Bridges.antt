@@ -10,7 +10,7 @@ use Rattle.aud_typed.specs.Tree as tree
 use Rattle.aud_meaning.specs.declared.state.State.{State}
 use Rattle.aud_meaning.specs.declared.state.NextStep.{NextStep}
 use Rattle.aud_meaning.specs.Configuration.{All, Configuration}
-use Rattle.aud_meaning.specs.Items.{controls}
+use Rattle.aud_meaning.specs.Statements.{controls}
 use Rattle.aud_meaning.specs.Run.{own_move, seen, moves_at, state_at, step_with, run_with, moves_in, state_in, step, run, opening, opening_with}
 use Rattle.aud_meaning.specs.Parts.{unit_of}
 use Rattle.aud_meaning.specs.View.{coming_step, coming_step_at, coming_step_in}

@@ -7,7 +7,7 @@ use Rattle.aud_meaning.specs.declared.state.NextStep.{NextStep}
 use Rattle.aud_meaning.specs.Configuration.{Pending, Own}
 use Rattle.aud_meaning.specs.Evaluation.{Sight}
 use Rattle.aud_meaning.specs.Control.{Coming}
-use Rattle.aud_meaning.specs.Items.{coming_raised}
+use Rattle.aud_meaning.specs.Statements.{coming_raised}
 use Rattle.aud_meaning.specs.Parts.{unit_of}
 use Rattle.aud_meaning.specs.Ties.Single.{Stage, Single, runs, completed, terminated, own_in, all_of, scene_in}
 use Rattle.aud_meaning.specs.View.{coming_kind, coming_step_at}

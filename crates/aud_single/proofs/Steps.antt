@@ -9,7 +9,7 @@ use Rattle.aud_typed.specs.Tree.{Plan}
 use Rattle.aud_meaning.specs.Configuration.{Target, Pending, All}
 use Rattle.aud_meaning.specs.Control.{Scene}
 use Rattle.aud_meaning.specs.Run.{own_move, step_with}
-use Rattle.aud_meaning.specs.Items.{handled_or_left}
+use Rattle.aud_meaning.specs.Statements.{handled_or_left}
 use Rattle.aud_meaning.specs.Effects.{assigned, put_out}
 use Rattle.aud_meaning.specs.Ties.Single.{Stage, Single, runs, completed, terminated, all_of, scene_in}
 use Rattle.aud_meaning.proofs.Single.{declares_step, goes_on_step, assigns_step, puts_step, raises_step, raises_in_part_step, ends_step, left_step}
