@@ -76,7 +76,7 @@ pub fn eval_step(
         Instruction::AppendTruth => append_truth(operands)?,
         Instruction::AppendNewLine => operands.append(b"\n")?,
     }
-    Ok(Flow::On)
+    Ok(Flow::Passes(0))
 }
 
 // The number of the frame at a level, or 0 where none is seen there.
@@ -133,7 +133,6 @@ pub fn evaluate(
             continue;
         }
         match eval_step(instruction, display, frames, operands, &mut ticks)? {
-            Flow::On => {}
             Flow::Passes(count) => passed = count,
             Flow::Raises(raise) => {
                 let outcome = Outcome::Fails(raise);

@@ -49,7 +49,7 @@ fn leave(value: Result<Int32, Raise>, operands: &mut Operands) -> Result<Flow, A
     match value {
         Ok(value) => {
             operands.push(value)?;
-            Ok(Flow::On)
+            Ok(Flow::Passes(0))
         }
         Err(raise) => Ok(Flow::Raises(raise)),
     }

@@ -1,6 +1,6 @@
 // What the instructions of a step work on: Integers, truth values, targets, and a text that grows.
 
-ghost use Rattle.std.specs.Prelude.{◌≡◌, ◌<◌, ◌++◌, None, reverse, length, OnOk};
+ghost use Rattle.std.specs.Prelude.{◌≡◌, ◌<◌, [], ◌++◌, None, reverse, length, OnOk};
 ghost use Rattle.aud_text.specs.Integer.{image};
 ghost use Rattle.aud_meaning.specs.Evaluation.{image_of_truth};
 ghost use Rattle.aud_meaning.specs.Parts.{no_waits};
@@ -128,7 +128,8 @@ impl Operands {
 
     /// Puts the image of a truth value at the end of the text (RM 3.5(30)).
     pub fn append_truth(&mut self, value: bool) -> Result<(), AllocError>
-        ensures { OnOk result (self.new ≡ record self.old { text = self.old.text ++ image_of_truth value }) }
+        ensures { OnOk result
+            (self.new ≡ record self.old { text = self.old.text ++ image_of_truth value }) }
     {
         if value {
             self.append(b"TRUE")

@@ -3,7 +3,7 @@
 ghost use Rattle.std.specs.Prelude.{OnOk};
 ghost use Rattle.aud_code.specs.Instruction.{AppendImage, AppendTruth};
 ghost use Rattle.aud_code.specs.Sound.{counts_of};
-ghost use Rattle.aud_expr.specs.declared.flow.Flow.TheVariants.{On};
+ghost use Rattle.aud_expr.specs.declared.flow.Flow.TheVariants.{Passes};
 ghost use Rattle.aud_expr.specs.Flow.{FindsOperands, Does};
 
 use crate::operands::Operands;
@@ -11,7 +11,7 @@ use std::alloc::AllocError;
 
 pub fn append_image(operands: &mut Operands) -> Result<(), AllocError>
     requires { FindsOperands AppendImage (counts_of operands.old) }
-    ensures { OnOk result (Does AppendImage On operands.old operands.new) }
+    ensures { OnOk result (Does AppendImage (Passes 0) operands.old operands.new) }
 {
     let value = operands.pop();
     operands.append_image(value)
@@ -19,7 +19,7 @@ pub fn append_image(operands: &mut Operands) -> Result<(), AllocError>
 
 pub fn append_truth(operands: &mut Operands) -> Result<(), AllocError>
     requires { FindsOperands AppendTruth (counts_of operands.old) }
-    ensures { OnOk result (Does AppendTruth On operands.old operands.new) }
+    ensures { OnOk result (Does AppendTruth (Passes 0) operands.old operands.new) }
 {
     let value = operands.pop_truth();
     operands.append_truth(value)

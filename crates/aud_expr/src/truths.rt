@@ -3,7 +3,7 @@
 ghost use Rattle.std.specs.Prelude.{IfOk, OnOk};
 ghost use Rattle.aud_code.specs.Instruction.{Cell, Truth, Negate, Relate, Compare, Combine};
 ghost use Rattle.aud_code.specs.Sound.{counts_of};
-ghost use Rattle.aud_expr.specs.declared.flow.Flow.TheVariants.{On};
+ghost use Rattle.aud_expr.specs.declared.flow.Flow.TheVariants.{Passes};
 ghost use Rattle.aud_expr.specs.Flow.{FindsOperands, Does, passes_if};
 
 use crate::flow::Flow;
@@ -14,7 +14,7 @@ use std::alloc::AllocError;
 
 pub fn cell(operands: &mut Operands) -> Result<(), AllocError>
     requires { FindsOperands Cell (counts_of operands.old) }
-    ensures { OnOk result (Does Cell On operands.old operands.new) }
+    ensures { OnOk result (Does Cell (Passes 0) operands.old operands.new) }
 {
     let value = operands.pop_truth();
     operands.push(cell_of(value))
@@ -22,7 +22,7 @@ pub fn cell(operands: &mut Operands) -> Result<(), AllocError>
 
 pub fn truth(operands: &mut Operands) -> Result<(), AllocError>
     requires { FindsOperands Truth (counts_of operands.old) }
-    ensures { OnOk result (Does Truth On operands.old operands.new) }
+    ensures { OnOk result (Does Truth (Passes 0) operands.old operands.new) }
 {
     let value = operands.pop();
     operands.push_truth(truth_of(value))
@@ -30,7 +30,7 @@ pub fn truth(operands: &mut Operands) -> Result<(), AllocError>
 
 pub fn negate(operands: &mut Operands) -> Result<(), AllocError>
     requires { FindsOperands Negate (counts_of operands.old) }
-    ensures { OnOk result (Does Negate On operands.old operands.new) }
+    ensures { OnOk result (Does Negate (Passes 0) operands.old operands.new) }
 {
     let value = operands.pop_truth();
     operands.push_truth(!value)
@@ -38,7 +38,7 @@ pub fn negate(operands: &mut Operands) -> Result<(), AllocError>
 
 pub fn relate(relation: Relation, operands: &mut Operands) -> Result<(), AllocError>
     requires { FindsOperands (Relate relation) (counts_of operands.old) }
-    ensures { OnOk result (Does (Relate relation) On operands.old operands.new) }
+    ensures { OnOk result (Does (Relate relation) (Passes 0) operands.old operands.new) }
 {
     let y = operands.pop();
     let x = operands.pop();
@@ -47,7 +47,7 @@ pub fn relate(relation: Relation, operands: &mut Operands) -> Result<(), AllocEr
 
 pub fn compare(relation: Relation, operands: &mut Operands) -> Result<(), AllocError>
     requires { FindsOperands (Compare relation) (counts_of operands.old) }
-    ensures { OnOk result (Does (Compare relation) On operands.old operands.new) }
+    ensures { OnOk result (Does (Compare relation) (Passes 0) operands.old operands.new) }
 {
     let y = operands.pop_truth();
     let x = operands.pop_truth();
@@ -56,7 +56,7 @@ pub fn compare(relation: Relation, operands: &mut Operands) -> Result<(), AllocE
 
 pub fn combine(operator: Logical, operands: &mut Operands) -> Result<(), AllocError>
     requires { FindsOperands (Combine operator) (counts_of operands.old) }
-    ensures { OnOk result (Does (Combine operator) On operands.old operands.new) }
+    ensures { OnOk result (Does (Combine operator) (Passes 0) operands.old operands.new) }
 {
     let y = operands.pop_truth();
     let x = operands.pop_truth();
@@ -73,6 +73,6 @@ pub fn pass_if(stays: bool, count: usize, operands: &mut Operands) -> Result<Flo
         operands.push_truth(value)?;
         Ok(Flow::Passes(count))
     } else {
-        Ok(Flow::On)
+        Ok(Flow::Passes(0))
     }
 }
