@@ -25,7 +25,19 @@ pub struct Operands {
 impl Model for Operands {
     ghost Value = { Plain };
 
-    ghost view = { λ o. record { integers = reverse o.integers.items; booleans = reverse o.booleans.items; targets = reverse o.targets.items; text = o.text.items; values = []; backs = []; names = []; delay = 0; cells = None; waits = no_waits; timed = [] } };
+    ghost view = { λ o. record {
+      integers = reverse o.integers.items;
+      booleans = reverse o.booleans.items;
+      targets = reverse o.targets.items;
+      text = o.text.items;
+      values = [];
+      backs = [];
+      names = [];
+      delay = 0;
+      cells = None;
+      waits = no_waits;
+      timed = [];
+    } };
 }
 
 impl Operands {

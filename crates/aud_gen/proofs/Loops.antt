@@ -1,9 +1,8 @@
 -- Loops over lists.
-use Rattle.std.proofs.Common.{◌≡◌, ℕ, suc, ◌+◌, ◌-◌, ◌<◌, ◌≤◌, List, [], ◌∷◌, ◌++◌, length, take, drop, get_or, add-one, refl, ap, sym, ◌∙◌, subst, arith, append_assoc}
-use Rattle.std.specs.Prelude.{◌==◌, true, map, Result, Ok, Err, OnOk, IfOk}
+use Rattle.std.proofs.Common.{◌≡◌, ℕ, suc, ◌+◌, ◌<◌, ◌≤◌, List, [], ◌∷◌, ◌++◌, length, drop, get_or, add-one, ap, sym, ◌∙◌, subst, append_assoc}
+use Rattle.std.specs.Prelude.{map}
 use Rattle.std.proofs.Math.Seq.{drop-cons}
-use Rattle.std.proofs.lemmas.Bool.{eqb-true}
-use Rattle.std.proofs.lemmas.List.{take_more, take_all, drop_all, nil_from_length}
+use Rattle.std.proofs.lemmas.List.{drop_all}
 
 -- what a loop over a list has before it
 pub dropped : {A : Type 0} (xs : List A) (i : ℕ) (x : A) → i < length xs → x ≡ get_or xs i x → drop i xs ≡ x ∷ drop (i + 1) xs
@@ -32,28 +31,6 @@ module _ {T X Y : Type 0} (all : T → List Y → T) (plain : X → Y) where
   loop_ends ends items i whole Holds h s =
       subst Holds (sym (ends s.done) ∙ ap (λ z. all s.done (map plain z)) (sym (drop_all i items h)) ∙ s.left) s.holds
 
--- what holds where there was no error, of what held there
-pub on_ok : {X E A B : Type 0} (r : Result X E) → (A → B) → OnOk r A → OnOk r B
-on_ok (Ok x) f h = f h
-on_ok (Err e) f h = tt
-
-pub if_ok : {X E : Type 0} {A B : X → Type 0} (r : Result X E) → ((x : X) → A x → B x) → IfOk r A → IfOk r B
-if_ok (Ok x) f h = f x h
-if_ok (Err e) f h = tt
-
 -- some are written behind others
 pub written_more : {A : Type 0} (old now new a b : List A) → now ≡ old ++ a → new ≡ now ++ b → new ≡ old ++ (a ++ b)
 written_more old now new a b h k = k ∙ ap (λ z. z ++ b) h ∙ append_assoc old a b
-
-pub none_at_all : {A : Type 0} (xs : List A) → length xs < 1 → xs ≡ []
-none_at_all [] h = refl
-none_at_all (x ∷ xs) h = absurd (omega (arith, h))
-
-pub empty_list : {A : Type 0} (xs : List A) → length xs == 0 ≡ true → xs ≡ []
-empty_list xs h = nil_from_length xs (eqb-true (length xs) 0 h)
-
-pub all_but_last : {A : Type 0} (xs : List A) (x : A) → 1 ≤ length xs → x ≡ get_or xs (length xs - 1) x → take (length xs - 1) xs ++ x ∷ [] ≡ xs
-all_but_last xs x h e =
-    let within : length xs - 1 < length xs = omega (arith, h) in
-    let all : length xs ≤ length xs - 1 + 1 = omega (arith, h) in
-    ap (λ z. take (length xs - 1) xs ++ z ∷ []) e ∙ sym (take_more xs (length xs - 1) x within) ∙ take_all (length xs - 1 + 1) xs all

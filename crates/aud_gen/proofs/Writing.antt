@@ -15,7 +15,7 @@ use Rattle.aud_typed.proofs.Chains.{plain_operation, chain_open, join_open}
 use Rattle.aud_code.specs.Instruction.{Instruction, OnTwo}
 use Rattle.aud_code.specs.Flat.{FlatLine, instructs}
 use Rattle.aud_gen.specs.Instructions.{integer_code, text_code}
-use Rattle.aud_gen.specs.Simple.{Simple, step_size, steps_size, step_to, steps_at}
+use Rattle.aud_gen.specs.Simple.{Simple, step_size, steps_size, step_to, steps_from}
 use Rattle.aud_gen.specs.Written.{simple_of}
 use Rattle.aud_gen.proofs.Loops.{dropped, written_more}
 
@@ -38,9 +38,9 @@ join_length x y = length-append (text_code x) (text_code y)
 
 -- instructions are written behind others
 pub instructions_written : (old now new : List FlatLine) (a b : List Instruction) → now ≡ old ++ map instructs a → new ≡ now ++ map instructs b → new ≡ old ++ map instructs (a ++ b)
-instructions_written old now new a b h k = written_more old now new (map instructs a) (map instructs b) h k ∙ ap (λ z. old ++ z) (sym (map-append operator a b))
+instructions_written old now new a b h k = written_more old now new (map instructs a) (map instructs b) h k ∙ ap (λ z. old ++ z) (sym (map-append instructs a b))
 
-pub operation_written : (old now mid new : List FlatLine) (d : tree.IntegerExpression) (o : tree.Operation) → now ≡ old ++ map instructs (integer_code d) → mid ≡ now ++ map instructs (integer_code o.right) → new ≡ mid ++ operator (OnTwo o.operator) ∷ [] → new ≡ old ++ map instructs (integer_code (tree.binary o.operator d o.right))
+pub operation_written : (old now mid new : List FlatLine) (d : tree.IntegerExpression) (o : tree.Operation) → now ≡ old ++ map instructs (integer_code d) → mid ≡ now ++ map instructs (integer_code o.right) → new ≡ mid ++ instructs (OnTwo o.operator) ∷ [] → new ≡ old ++ map instructs (integer_code (tree.binary o.operator d o.right))
 operation_written old now mid new d o h k n =
     instructions_written old now new (integer_code d) (integer_code o.right ++ OnTwo o.operator ∷ []) h (instructions_written now mid new (integer_code o.right) (OnTwo o.operator ∷ []) k n)
 
@@ -48,21 +48,18 @@ operation_written old now mid new d o h k n =
 pub next_size : (steps : List Statement) (i : ℕ) (x : Statement) → i < length steps → x ≡ get_or steps i x → steps_size (map simple_of (drop i steps)) ≡ step_size (simple_of x) + steps_size (map simple_of (drop (i + 1) steps))
 next_size steps i x h e = ap (λ z. steps_size (map simple_of z)) (dropped steps i x h e)
 
--- a step that others follow, the last of them among these
-followed : (s : Simple) (ss : List Statement) (last : Statement) (out next place : ℕ) → steps_at (s ∷ map simple_of (ss ++ last ∷ [])) out next place ≡ step_to s out (place + step_size s) ++ steps_at (map simple_of (ss ++ last ∷ [])) out next (place + step_size s)
-followed s [] last out next place = refl
-followed s (t ∷ ss) last out next place = refl
+-- a step that others follow, one more of which is taken from their front
+followed : (s : Simple) (others : List Statement) (i : ℕ) (x : Statement) → i < length others → x ≡ get_or others i x → (out next place : ℕ) → steps_from s (map simple_of (drop i others)) out next place ≡ step_to s out (place + step_size s) ++ steps_from (simple_of x) (map simple_of (drop (i + 1) others)) out next (place + step_size s)
+followed s others i x h is out next place = ap (λ z. steps_from s (map simple_of z) out next place) (dropped others i x h is)
 
 -- one step more is written, behind which the others stand
-pub step_written : (others : List Statement) (i : ℕ) (x last : Statement) → i < length others → x ≡ get_or others i x → (old new all : List FlatLine) (out next begin behind : ℕ) → behind ≡ begin + step_size (simple_of x) → new ≡ old ++ step_to (simple_of x) out behind →
-    old ++ steps_at (map simple_of (drop i others ++ last ∷ [])) out next begin ≡ all → new ++ steps_at (map simple_of (drop (i + 1) others ++ last ∷ [])) out next behind ≡ all
-step_written others i x last h is old new all out next begin behind e k whole =
-    let n = begin + step_size (simple_of x) in
-    let rest = steps_at (map simple_of (drop (i + 1) others ++ last ∷ [])) out next n in
-    let opened : steps_at (map simple_of (drop i others ++ last ∷ [])) out next begin ≡ step_to (simple_of x) out n ++ rest =
-    ap (λ z. steps_at (map simple_of (z ++ last ∷ [])) out next begin) (dropped others i x h is) ∙ followed (simple_of x) (drop (i + 1) others) last out next begin in
-    let first : new ≡ old ++ step_to (simple_of x) out n = k ∙ ap (λ z. old ++ step_to (simple_of x) out z) e in
-    ap (λ z. new ++ steps_at (map simple_of (drop (i + 1) others ++ last ∷ [])) out next z) e
-    ∙ written_more old new (new ++ rest) (step_to (simple_of x) out n) rest first refl
-    ∙ ap (λ z. old ++ z) (sym opened)
+pub step_written : (s : Simple) (others : List Statement) (i : ℕ) (x : Statement) → i < length others → x ≡ get_or others i x → (old new all : List FlatLine) (out next begin behind : ℕ) → behind ≡ begin + step_size s → new ≡ old ++ step_to s out behind →
+    old ++ steps_from s (map simple_of (drop i others)) out next begin ≡ all → new ++ steps_from (simple_of x) (map simple_of (drop (i + 1) others)) out next behind ≡ all
+step_written s others i x h is old new all out next begin behind e k whole =
+    let n = begin + step_size s in
+    let rest = steps_from (simple_of x) (map simple_of (drop (i + 1) others)) out next n in
+    let first : new ≡ old ++ step_to s out n = k ∙ ap (λ z. old ++ step_to s out z) e in
+    ap (λ z. new ++ steps_from (simple_of x) (map simple_of (drop (i + 1) others)) out next z) e
+    ∙ written_more old new (new ++ rest) (step_to s out n) rest first refl
+    ∙ ap (λ z. old ++ z) (sym (followed s others i x h is out next begin))
     ∙ whole

@@ -25,7 +25,7 @@ pub data What : Type 0 where
   guards : List Guard → What
   -- before a place; for a body there is none
   ends : Construct → ℕ → What
-  -- leaves a block and so many loops around it, before a place
+  -- leaves a block and n loops around it, before a place
   leaves : ℕ → ℕ → What
 
 pub record Line : Type 0 where
@@ -126,7 +126,7 @@ bodies_from (terminating g more) at next e = next ∷ bodies_from more at next e
 abbrev pub line : Statement → List ℕ → List ℕ → Option Way → Around → Line
 line s ways bodies w a = record { what = does s; at = statement_at s; out = a.out; ways = ways; bodies = bodies; exit = w }
 
--- a block is left on the way out, and so many loops around it; nothing is raised there
+-- a block is left on the way out, and n loops around it; nothing is raised there
 abbrev pub stub_line : ℕ → ℕ → Pos → ℕ → Line
 stub_line loops to end at = record { what = leaves loops to; at = end; out = at; ways = []; bodies = []; exit = None }
 

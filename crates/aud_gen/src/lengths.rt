@@ -9,7 +9,7 @@ ghost use Rattle.aud_gen.specs.Written.{simple_of};
 use aud_typed::program::{IntegerExpression, Statement, TextExpression};
 use std::alloc::AllocError;
 
-/// A sum of lengths, or want of memory where it passes the type: no memory holds such code.
+/// A sum of lengths; memory is refused where it passes the type, since no memory holds such code.
 pub fn sum(a: usize, b: usize) -> Result<usize, AllocError>
     ensures { IfOk result (λ n. n ≡ a + b) }
 {

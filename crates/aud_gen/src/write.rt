@@ -1,42 +1,44 @@
 // The lines of a program's code, from its first to its last.
 
-ghost use Rattle.std.specs.Prelude.{◌≡◌, List, [], ◌∷◌, ◌++◌, ◌+◌, map, OnOk, IfOk};
+ghost use Rattle.std.specs.Prelude.{◌≡◌, [], ◌∷◌, ◌+◌, map, IfOk};
 ghost use Rattle.aud_typed.specs.declared.program.Subtype.TheVariants.{Integer};
 ghost use Rattle.aud_typed.specs.Tree.{whole};
 ghost use Rattle.aud_typed.specs.Ties.View.{plain_integer, plain_text, plain_program};
-ghost use Rattle.aud_meaning.specs.Items.{statement_at, nowhere};
+ghost use Rattle.aud_meaning.specs.Items.{statement_at};
 ghost use Rattle.aud_code.specs.Flat.{instructs, end};
 ghost use Rattle.aud_code.specs.View.{plain_instruction, plain_ending, plain_line, plain_code};
 ghost use Rattle.aud_gen.specs.Instructions.{integer_code, value_code, text_code, instructions_of, ending_of};
 ghost use Rattle.aud_gen.specs.Assembly.{flat_program};
-ghost use Rattle.aud_gen.specs.Simple.{Simple, statement_of, step_to, steps_at, guard_end, unit_end, body_at, size_of};
-ghost use Rattle.aud_gen.specs.Written.{simple_of, body_lines, body_size, body_code};
+ghost use Rattle.aud_gen.specs.Simple.{statement_of, step_to, steps_from, steps_at, guard_end, unit_end};
+ghost use Rattle.aud_gen.specs.Written.{simple_of, body_lines, body_size, body_code, Writes};
 
 use crate::lengths::{step_length, steps_length, sum};
 use aud_code::instruction::Instruction;
 use aud_code::line::{Code, EndLine, Ending, Last, Line};
 use aud_code::sound_code::{SoundCode, verify};
 use aud_text::place::Pos;
-use aud_typed::program::{IntegerExpression, Program, Statement, Subtype, TextExpression};
+use aud_typed::program::{
+    IntegerExpression, Program, Statement, Statements, Subtype, TextExpression,
+};
 use std::alloc::{AllocError, Global};
 
 const NOWHERE: Pos = Pos { line: 0, col: 0 };
 
 fn append(lines: &mut Vec<Line>, line: Line) -> Result<(), AllocError>
-    ensures { OnOk result (map plain_line lines.new.items ≡ map plain_line lines.old.items ++ plain_line line ∷ []) }
+    ensures { Writes lines.old lines.new (plain_line line ∷ []) result }
 {
     lines.push(line)?;
     Ok(())
 }
 
 fn append_instruction(lines: &mut Vec<Line>, instruction: Instruction) -> Result<(), AllocError>
-    ensures { OnOk result (map plain_line lines.new.items ≡ map plain_line lines.old.items ++ instructs (plain_instruction instruction) ∷ []) }
+    ensures { Writes lines.old lines.new (instructs (plain_instruction instruction) ∷ []) result }
 {
     append(lines, Line::Instruction(instruction))
 }
 
 fn write_integer(lines: &mut Vec<Line>, e: &IntegerExpression) -> Result<(), AllocError>
-    ensures { OnOk result (map plain_line lines.new.items ≡ map plain_line lines.old.items ++ map instructs (integer_code (plain_integer e.now))) }
+    ensures { Writes lines.old lines.new (map instructs (integer_code (plain_integer e.now))) result }
 {
     match e {
         IntegerExpression::Number(value) => append_instruction(lines, Instruction::Push(*value)),
@@ -57,14 +59,16 @@ fn write_integer(lines: &mut Vec<Line>, e: &IntegerExpression) -> Result<(), All
 }
 
 fn write_value(lines: &mut Vec<Line>, e: &IntegerExpression) -> Result<(), AllocError>
-    ensures { OnOk result (map plain_line lines.new.items ≡ map plain_line lines.old.items ++ map instructs (value_code (whole Integer (plain_integer e.now)))) }
+    ensures { Writes lines.old lines.new
+        (map instructs (value_code (whole Integer (plain_integer e.now))))
+        result }
 {
     write_integer(lines, e)?;
     append_instruction(lines, Instruction::Check(Subtype::Integer))
 }
 
 fn write_text(alloc: Global, lines: &mut Vec<Line>, t: &TextExpression) -> Result<(), AllocError>
-    ensures { OnOk result (map plain_line lines.new.items ≡ map plain_line lines.old.items ++ map instructs (text_code (plain_text t.now))) }
+    ensures { Writes lines.old lines.new (map instructs (text_code (plain_text t.now))) result }
 {
     match t {
         TextExpression::Literal(text) => {
@@ -87,7 +91,9 @@ fn write_text(alloc: Global, lines: &mut Vec<Line>, t: &TextExpression) -> Resul
 
 // the instructions of a step
 fn write_instructions(alloc: Global, lines: &mut Vec<Line>, s: &Statement) -> Result<(), AllocError>
-    ensures { OnOk result (map plain_line lines.new.items ≡ map plain_line lines.old.items ++ map instructs (instructions_of (statement_of (simple_of s.now)))) }
+    ensures { Writes lines.old lines.new
+        (map instructs (instructions_of (statement_of (simple_of s.now))))
+        result }
 {
     match s {
         Statement::Declare(_, e) => write_value(lines, e),
@@ -129,7 +135,7 @@ fn write_step(
     out: usize,
     next: usize,
 ) -> Result<(), AllocError>
-    ensures { OnOk result (map plain_line lines.new.items ≡ map plain_line lines.old.items ++ step_to (simple_of s.now) out next) }
+    ensures { Writes lines.old lines.new (step_to (simple_of s.now) out next) result }
 {
     write_instructions(alloc, lines, s)?;
     let last = Last::Does(ending(s), next);
@@ -137,34 +143,50 @@ fn write_step(
     append(lines, Line::End(EndLine { last, at, out }))
 }
 
-// behind each but the last stands the one that follows it
+// a step, and those behind it: behind each but the last stands the one that follows it
 fn write_steps(
     alloc: Global,
     lines: &mut Vec<Line>,
-    steps: &[Statement],
+    first: &Statement,
+    others: &[Statement],
     out: usize,
     next: usize,
     place: usize,
 ) -> Result<(), AllocError>
-    ensures { OnOk result (map plain_line lines.new.items ≡ map plain_line lines.old.items ++ steps_at (map simple_of steps.now) out next place) }
+    ensures { Writes lines.old lines.new
+        (steps_from (simple_of first.now) (map simple_of others.now) out next place)
+        result }
 {
-    match steps {
+    let mut step = first;
+    let mut begin = place;
+    for other in others {
+        let behind = sum(begin, step_length(step)?)?;
+        write_step(alloc, lines, step, out, behind)?;
+        step = other;
+        begin = behind;
+    }
+    write_step(alloc, lines, step, out, next)
+}
+
+fn write_declarations(
+    alloc: Global,
+    lines: &mut Vec<Line>,
+    declarations: &[Statement],
+    out: usize,
+    next: usize,
+    place: usize,
+) -> Result<(), AllocError>
+    ensures { Writes lines.old lines.new (steps_at (map simple_of declarations.now) out next place) result }
+{
+    match declarations {
         [] => Ok(()),
-        [others @ .., last] => {
-            let mut begin = place;
-            for s in others {
-                let behind = sum(begin, step_length(s)?)?;
-                write_step(alloc, lines, s, out, behind)?;
-                begin = behind;
-            }
-            write_step(alloc, lines, last, out, next)
-        }
+        [first, others @ ..] => write_steps(alloc, lines, first, others, out, next, place),
     }
 }
 
 // behind the statements: where its handlers would be looked for, and its end
 fn write_end(lines: &mut Vec<Line>, at: Pos, out: usize) -> Result<(), AllocError>
-    ensures { OnOk result (map plain_line lines.new.items ≡ map plain_line lines.old.items ++ (end (guard_end at out) ∷ end (unit_end at 0 out) ∷ [])) }
+    ensures { Writes lines.old lines.new (end (guard_end at out) ∷ end (unit_end at 0 out) ∷ []) result }
 {
     append(
         lines,
@@ -184,59 +206,44 @@ fn write_end(lines: &mut Vec<Line>, at: Pos, out: usize) -> Result<(), AllocErro
     )
 }
 
-// a body that has statements; the place behind it
-fn write_some(
-    alloc: Global,
-    lines: &mut Vec<Line>,
-    declarations: &[Statement],
-    statements: &[Statement],
-    end: Pos,
-    place: usize,
-) -> Result<usize, AllocError>
-    ensures lines { OnOk result ((s : Simple) (ss : List Simple) → map simple_of statements.now ≡ s ∷ ss → map plain_line lines.new.items ≡ map plain_line lines.old.items ++ body_at (map simple_of declarations.now) s ss nowhere end place) }
-    ensures behind { IfOk result (λ behind. (s : Simple) (ss : List Simple) → map simple_of statements.now ≡ s ∷ ss → behind ≡ place + size_of (map simple_of declarations.now) s ss) }
-{
-    let first = sum(place, steps_length(declarations)?)?;
-    let guard = sum(first, steps_length(statements)?)?;
-    let last = sum(guard, 1)?;
-    write_steps(alloc, lines, declarations, last, first, place)?;
-    write_steps(alloc, lines, statements, guard, last, first)?;
-    write_end(lines, end, last)?;
-    sum(last, 1)
-}
-
-// a body, with or without statements; the place behind it
+// the place behind the body
 fn write_body(
     alloc: Global,
     lines: &mut Vec<Line>,
     declarations: &[Statement],
-    statements: &[Statement],
+    statements: &Statements,
     end: Pos,
     place: usize,
 ) -> Result<usize, AllocError>
-    ensures lines { OnOk result (map plain_line lines.new.items ≡ map plain_line lines.old.items ++ body_lines (map simple_of declarations.now) (map simple_of statements.now) end place) }
-    ensures behind { IfOk result (λ behind. behind ≡ place + body_size (map simple_of declarations.now) (map simple_of statements.now)) }
+    ensures lines { Writes lines.old lines.new (body_lines declarations.now statements.now end place) result }
+    ensures behind { IfOk result (λ behind. behind ≡ place + body_size declarations.now statements.now) }
 {
-    if statements.is_empty() {
-        let idle = [Statement::Null(NOWHERE)];
-        return write_some(alloc, lines, declarations, &idle, end, place);
-    }
-    write_some(alloc, lines, declarations, statements, end, place)
+    let Statements { first, others } = statements;
+    let begin = sum(place, steps_length(declarations)?)?;
+    let guard = sum(begin, sum(step_length(first)?, steps_length(others)?)?)?;
+    let last = sum(guard, 1)?;
+    write_declarations(alloc, lines, declarations, last, begin, place)?;
+    write_steps(alloc, lines, first, others, guard, last, begin)?;
+    write_end(lines, end, last)?;
+    sum(last, 1)
 }
 
-// The code of a body, from its declarations, its statements and the place of its `end`. Behind it stands what is run for a
-// number that no body has: one null statement.
+// The code of a body. Behind it stands what is run for a number that no body has: one null statement.
 fn write_code(
     alloc: Global,
     declarations: &[Statement],
-    statements: &[Statement],
+    statements: &Statements,
     end: Pos,
 ) -> Result<Code, AllocError>
-    ensures { IfOk result (λ code. plain_code code ≡ body_code (map simple_of declarations.now) (map simple_of statements.now) end) }
+    ensures { IfOk result (λ code. plain_code code ≡ body_code declarations.now statements.now end) }
 {
+    let idle = Statements {
+        first: Statement::Null(NOWHERE),
+        others: Vec::new(alloc),
+    };
     let mut lines = Vec::new(alloc);
     let spare = write_body(alloc, &mut lines, declarations, statements, end, 0)?;
-    write_body(alloc, &mut lines, &[], &[], NOWHERE, spare)?;
+    write_body(alloc, &mut lines, &[], &idle, NOWHERE, spare)?;
     let starts = vec![in alloc; 0; 1]?;
     Ok(Code {
         lines,
@@ -245,7 +252,7 @@ fn write_code(
     })
 }
 
-/// The code of a program. Its only refusal is want of memory.
+/// The code of a program. It is refused only where memory is refused.
 pub fn generate(alloc: Global, program: &Program) -> Result<SoundCode, AllocError>
     ensures { IfOk result (λ code. code ≡ flat_program (plain_program program.now)) }
 {

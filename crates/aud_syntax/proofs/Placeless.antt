@@ -6,7 +6,7 @@ use Rattle.aud_syntax.specs.declared.tree.Ident.{Ident}
 use Rattle.aud_syntax.specs.declared.tree.Signed.{Signed}
 use Rattle.aud_syntax.specs.declared.tree.Operator.{Operator}
 use Rattle.aud_syntax.specs.Plain as m
-use Rattle.aud_syntax.specs.Why.Bare.{bare_ident, bare_sign, bare_highest, bare_end, bare_expression, bare_relation, bare_name, bare_part, bare_args, bare_simple, bare_addeds, bare_added, bare_term, bare_multiplieds, bare_multiplied, bare_factor, bare_primary, bare_maybe, bare_declaration, bare_declarations, bare_statement, bare_statements, bare_body, bare}
+use Rattle.aud_syntax.specs.Why.Bare.{bare_ident, bare_sign, bare_highest, bare_end, bare_expression, bare_relation, bare_name, bare_part, bare_args, bare_simple, bare_addeds, bare_added, bare_term, bare_multiplieds, bare_multiplied, bare_factor, bare_primary, bare_maybe, bare_declaration, bare_declarations, bare_statement, bare_more_statements, bare_statements, bare_body, bare}
 use Rattle.aud_syntax.specs.Why.Printed as w
 use Rattle.aud_syntax.specs.Why.Laws.{WithoutPlaces}
 
@@ -85,12 +85,8 @@ more_idents_same : (xs : List Ident) → w.more_ident_words (map bare_ident xs) 
 more_idents_same [] = refl
 more_idents_same (x ∷ xs) = cc (more_idents_same xs)
 
-idents_same : (xs : List Ident) → w.idents_words (map bare_ident xs) ≡ w.idents_words xs
-idents_same [] = refl
-idents_same (x ∷ xs) = cc (more_idents_same xs)
-
 declaration_same : (x : m.Declaration) → w.declaration_words (bare_declaration x) ≡ w.declaration_words x
-declaration_same (m.object names subtype value) = cc (idents_same names, initial_same value)
+declaration_same (m.object x xs subtype value) = cc (more_idents_same xs, initial_same value)
 
 declarations_same : (xs : m.Declarations) → w.declarations_words (bare_declarations xs) ≡ w.declarations_words xs
 declarations_same m.no_declarations = refl
@@ -101,9 +97,12 @@ statement_same (m.null at) = refl
 statement_same (m.assign x e) = cc (name_same x, expression_same e)
 statement_same (m.call x) = cc (name_same x)
 
+more_statements_same : (xs : m.MoreStatements) → w.more_statements_words (bare_more_statements xs) ≡ w.more_statements_words xs
+more_statements_same m.no_statements = refl
+more_statements_same (m.more_statements x xs) = cc (statement_same x, more_statements_same xs)
+
 statements_same : (xs : m.Statements) → w.statements_words (bare_statements xs) ≡ w.statements_words xs
-statements_same m.no_statements = refl
-statements_same (m.more_statements x xs) = cc (statement_same x, statements_same xs)
+statements_same (m.in_order x xs) = cc (statement_same x, more_statements_same xs)
 
 body_same : (x : m.Body) → w.body_words (bare_body x) ≡ w.body_words x
 body_same (m.body begin statements end last) = cc (statements_same statements, end_same last)

@@ -25,7 +25,7 @@ spaced_append (w ∷ a) b = ap (λ z. w.bytes ++ (separator w.is_last ∷ z)) (s
 pub both_written : (old mid new : List ℕ) (a b : List Word) → mid ≡ old ++ spaced a → new ≡ mid ++ spaced b → new ≡ old ++ spaced (a ++ b)
 both_written old mid new a b h k = k ∙ ap (λ z. z ++ spaced b) h ∙ append_assoc old (spaced a) (spaced b) ∙ ap (λ z. old ++ z) (sym (spaced_append a b))
 
--- the same where memory may run out
+-- the same where memory may be refused
 pub all_written : {X E : Type 0} (r : Result X E) (old mid new : List ℕ) (a b : List Word) → mid ≡ old ++ spaced a → OnOk r (new ≡ mid ++ spaced b) → OnOk r (new ≡ old ++ spaced (a ++ b))
 all_written (Ok x) old mid new a b h k = both_written old mid new a b h k
 all_written (Err e) old mid new a b h k = tt

@@ -69,9 +69,9 @@ mutual
     more_args : Expression → Args → Args
 
 mutual
-  -- RM 3.1, 3.3.1
+  -- the first name, the others, the subtype and the initial value (RM 3.1, 3.3.1)
   pub data Declaration : Type 0 where
-    object : List Ident → Ident → MaybeExpression → Declaration
+    object : Ident → List Ident → Ident → MaybeExpression → Declaration
 
   pub data Declarations : Type 0 where
     no_declarations : Declarations
@@ -84,9 +84,13 @@ mutual
     -- its arguments are those of the name
     call : Name → Statement
 
+  -- the first statement, and those behind it (RM 5.1(2))
   pub data Statements : Type 0 where
-    no_statements : Statements
-    more_statements : Statement → Statements → Statements
+    in_order : Statement → MoreStatements → Statements
+
+  pub data MoreStatements : Type 0 where
+    no_statements : MoreStatements
+    more_statements : Statement → MoreStatements → MoreStatements
 
   -- where the statements begin, the statements, where they end, and the name after `end` (RM 11.2)
   pub data Body : Type 0 where

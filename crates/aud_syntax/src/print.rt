@@ -3,12 +3,14 @@
 
 ghost use Rattle.std.specs.Prelude.{◌≡◌, ◌++◌, ◌∷◌, [], IfOk, OnOk};
 ghost use Rattle.aud_lex.specs.Why.Spaced.{word, last_word, spaced};
-ghost use Rattle.aud_syntax.specs.Ties.View.{plain_expression, plain_relation, plain_name, plain_part, plain_expressions, plain_simple, plain_added, plain_term, plain_multiplied, plain_factor, plain_primary, plain_maybe, plain_declaration, plain_declarations, plain_statement, plain_statements, plain_body, plain_unit};
-ghost use Rattle.aud_syntax.specs.Why.Printed.{ident_word, number_word, doubled, literal_word, sign_words, adding_spelling, multiplying_spelling, operator_words, expression_words, relation_words, name_words, part_words, args_words, simple_words, added_words, term_words, multiplied_words, factor_words, primary_words, in_parentheses, more_ident_words, idents_words, initial_words, object_words, declaration_words, declarations_words, null_words, assignment_words, call_words, statement_words, statements_words, end_words, body_words, unit_words, printed};
+ghost use Rattle.aud_syntax.specs.Ties.Writes.{Writes};
+ghost use Rattle.aud_syntax.specs.Ties.View.{plain_expression, plain_relation, plain_name, plain_part, plain_expressions, plain_simple, plain_added, plain_term, plain_multiplied, plain_factor, plain_primary, plain_maybe, plain_declaration, plain_declarations, plain_statement, plain_others, plain_statements, plain_body, plain_unit};
+ghost use Rattle.aud_syntax.specs.Why.Printed.{ident_word, number_word, doubled, literal_word, sign_words, adding_spelling, multiplying_spelling, operator_words, expression_words, relation_words, name_words, part_words, args_words, simple_words, added_words, term_words, multiplied_words, factor_words, primary_words, in_parentheses, more_ident_words, idents_words, initial_words, object_words, declaration_words, declarations_words, null_words, assignment_words, call_words, statement_words, more_statements_words, statements_words, end_words, body_words, unit_words, printed};
 
 use crate::tree::{
-    Added, Adding, Body, Declaration, Expression, Factor, Highest, Ident, Literal, Multiplied, Multiplying,
-    Name, NamePart, Number, Operator, Primary, Relation, Sign, Signed, Simple, Statement, Term, Unit,
+    Added, Adding, Body, Declaration, Expression, Factor, Highest, Ident, Identifiers, Literal,
+    Multiplied, Multiplying, Name, NamePart, Number, Operator, Primary, Relation, Sign, Signed,
+    Simple, Statement, Statements, Term, Unit,
 };
 use aud_text::digits::push_decimal;
 use aud_text::text::Text;
@@ -23,7 +25,7 @@ use std::alloc::{AllocError, Global};
 ///
 /// # Errors
 ///
-/// Memory ran out.
+/// Memory is refused.
 pub fn print(alloc: Global, unit: &Unit) -> Result<Text, AllocError>
     ensures { IfOk result (λ text. text ≡ printed (plain_unit unit.now)) }
 {
@@ -34,7 +36,7 @@ pub fn print(alloc: Global, unit: &Unit) -> Result<Text, AllocError>
 
 // RM 6.3, 10.1.1
 fn push_unit(out: &mut Vec<u8>, unit: &Unit) -> Result<(), AllocError>
-    ensures { OnOk result (out.new.items ≡ out.old.items ++ spaced (unit_words (plain_unit unit.now))) }
+    ensures { Writes result out.old out.new (unit_words (plain_unit unit.now)) }
 {
     push_word(out, b"procedure")?;
     push_ident(out, &unit.name)?;
@@ -45,7 +47,7 @@ fn push_unit(out: &mut Vec<u8>, unit: &Unit) -> Result<(), AllocError>
 
 // RM 11.2
 fn push_body(out: &mut Vec<u8>, body: &Body) -> Result<(), AllocError>
-    ensures { OnOk result (out.new.items ≡ out.old.items ++ spaced (body_words (plain_body body.now))) }
+    ensures { Writes result out.old out.new (body_words (plain_body body.now)) }
 {
     push_last_word(out, b"begin")?;
     push_statements(out, &body.statements)?;
@@ -55,7 +57,7 @@ fn push_body(out: &mut Vec<u8>, body: &Body) -> Result<(), AllocError>
 }
 
 fn push_end_name(out: &mut Vec<u8>, name: &Option<Ident>) -> Result<(), AllocError>
-    ensures { OnOk result (out.new.items ≡ out.old.items ++ spaced (end_words name.now)) }
+    ensures { Writes result out.old out.new (end_words name.now) }
 {
     match name {
         None => Ok(()),
@@ -63,10 +65,17 @@ fn push_end_name(out: &mut Vec<u8>, name: &Option<Ident>) -> Result<(), AllocErr
     }
 }
 
-fn push_statements(out: &mut Vec<u8>, statements: &[Statement]) -> Result<(), AllocError>
-    ensures { OnOk result (out.new.items ≡ out.old.items ++ spaced (statements_words (plain_statements statements.now))) }
+fn push_statements(out: &mut Vec<u8>, statements: &Statements) -> Result<(), AllocError>
+    ensures { Writes result out.old out.new (statements_words (plain_statements statements.now)) }
 {
-    for next in statements {
+    push_statement(out, &statements.first)?;
+    push_more_statements(out, &statements.others)
+}
+
+fn push_more_statements(out: &mut Vec<u8>, others: &[Statement]) -> Result<(), AllocError>
+    ensures { Writes result out.old out.new (more_statements_words (plain_others others.now)) }
+{
+    for next in others {
         push_statement(out, next)?;
     }
     Ok(())
@@ -74,7 +83,7 @@ fn push_statements(out: &mut Vec<u8>, statements: &[Statement]) -> Result<(), Al
 
 // RM 5.1
 fn push_statement(out: &mut Vec<u8>, statement: &Statement) -> Result<(), AllocError>
-    ensures { OnOk result (out.new.items ≡ out.old.items ++ spaced (statement_words (plain_statement statement.now))) }
+    ensures { Writes result out.old out.new (statement_words (plain_statement statement.now)) }
 {
     match statement {
         Statement::Null(_) => push_null(out),
@@ -84,7 +93,7 @@ fn push_statement(out: &mut Vec<u8>, statement: &Statement) -> Result<(), AllocE
 }
 
 fn push_null(out: &mut Vec<u8>) -> Result<(), AllocError>
-    ensures { OnOk result (out.new.items ≡ out.old.items ++ spaced null_words) }
+    ensures { Writes result out.old out.new null_words }
 {
     push_word(out, b"null")?;
     push_last_word(out, b";")
@@ -92,7 +101,7 @@ fn push_null(out: &mut Vec<u8>) -> Result<(), AllocError>
 
 // RM 5.2
 fn push_assignment(out: &mut Vec<u8>, target: &Name, value: &Expression) -> Result<(), AllocError>
-    ensures { OnOk result (out.new.items ≡ out.old.items ++ spaced (assignment_words (plain_name target.now) (plain_expression value.now))) }
+    ensures { Writes result out.old out.new (assignment_words (plain_name target.now) (plain_expression value.now)) }
 {
     push_name(out, target)?;
     push_word(out, b":=")?;
@@ -102,14 +111,14 @@ fn push_assignment(out: &mut Vec<u8>, target: &Name, value: &Expression) -> Resu
 
 // RM 6.4
 fn push_call(out: &mut Vec<u8>, name: &Name) -> Result<(), AllocError>
-    ensures { OnOk result (out.new.items ≡ out.old.items ++ spaced (call_words (plain_name name.now))) }
+    ensures { Writes result out.old out.new (call_words (plain_name name.now)) }
 {
     push_name(out, name)?;
     push_last_word(out, b";")
 }
 
 fn push_declarations(out: &mut Vec<u8>, declarations: &[Declaration]) -> Result<(), AllocError>
-    ensures { OnOk result (out.new.items ≡ out.old.items ++ spaced (declarations_words (plain_declarations declarations.now))) }
+    ensures { Writes result out.old out.new (declarations_words (plain_declarations declarations.now)) }
 {
     for next in declarations {
         push_declaration(out, next)?;
@@ -119,7 +128,7 @@ fn push_declarations(out: &mut Vec<u8>, declarations: &[Declaration]) -> Result<
 
 // RM 3.3.1
 fn push_declaration(out: &mut Vec<u8>, declaration: &Declaration) -> Result<(), AllocError>
-    ensures { OnOk result (out.new.items ≡ out.old.items ++ spaced (declaration_words (plain_declaration declaration.now))) }
+    ensures { Writes result out.old out.new (declaration_words (plain_declaration declaration.now)) }
 {
     let Declaration::Object(names, subtype, value) = declaration;
     push_object(out, names, subtype, value)
@@ -127,11 +136,11 @@ fn push_declaration(out: &mut Vec<u8>, declaration: &Declaration) -> Result<(), 
 
 fn push_object(
     out: &mut Vec<u8>,
-    names: &[Ident],
+    names: &Identifiers,
     subtype: &Ident,
     value: &Option<Expression>,
 ) -> Result<(), AllocError>
-    ensures { OnOk result (out.new.items ≡ out.old.items ++ spaced (object_words names.now subtype.now (plain_maybe value.now))) }
+    ensures { Writes result out.old out.new (object_words names.now.first names.now.others.items subtype.now (plain_maybe value.now)) }
 {
     push_idents(out, names)?;
     push_word(out, b":")?;
@@ -141,7 +150,7 @@ fn push_object(
 }
 
 fn push_initial(out: &mut Vec<u8>, value: &Option<Expression>) -> Result<(), AllocError>
-    ensures { OnOk result (out.new.items ≡ out.old.items ++ spaced (initial_words (plain_maybe value.now))) }
+    ensures { Writes result out.old out.new (initial_words (plain_maybe value.now)) }
 {
     match value {
         None => Ok(()),
@@ -152,20 +161,15 @@ fn push_initial(out: &mut Vec<u8>, value: &Option<Expression>) -> Result<(), All
     }
 }
 
-fn push_idents(out: &mut Vec<u8>, names: &[Ident]) -> Result<(), AllocError>
-    ensures { OnOk result (out.new.items ≡ out.old.items ++ spaced (idents_words names.now)) }
+fn push_idents(out: &mut Vec<u8>, names: &Identifiers) -> Result<(), AllocError>
+    ensures { Writes result out.old out.new (idents_words names.now.first names.now.others.items) }
 {
-    match names {
-        [] => Ok(()),
-        [first, others @ ..] => {
-            push_ident(out, first)?;
-            push_more_idents(out, others)
-        }
-    }
+    push_ident(out, &names.first)?;
+    push_more_idents(out, &names.others)
 }
 
 fn push_more_idents(out: &mut Vec<u8>, names: &[Ident]) -> Result<(), AllocError>
-    ensures { OnOk result (out.new.items ≡ out.old.items ++ spaced (more_ident_words names.now)) }
+    ensures { Writes result out.old out.new (more_ident_words names.now) }
 {
     for next in names {
         push_word(out, b",")?;
@@ -176,7 +180,7 @@ fn push_more_idents(out: &mut Vec<u8>, names: &[Ident]) -> Result<(), AllocError
 
 #[cycle(print)]
 fn push_in_parentheses(out: &mut Vec<u8>, inner: &Expression) -> Result<(), AllocError>
-    ensures { OnOk result (out.new.items ≡ out.old.items ++ spaced (in_parentheses (expression_words (plain_expression inner.now)))) }
+    ensures { Writes result out.old out.new (in_parentheses (expression_words (plain_expression inner.now))) }
 {
     push_word(out, b"(")?;
     push_expression(out, inner)?;
@@ -186,7 +190,7 @@ fn push_in_parentheses(out: &mut Vec<u8>, inner: &Expression) -> Result<(), Allo
 // RM 4.4
 #[cycle(print)]
 fn push_expression(out: &mut Vec<u8>, expression: &Expression) -> Result<(), AllocError>
-    ensures { OnOk result (out.new.items ≡ out.old.items ++ spaced (expression_words (plain_expression expression.now))) }
+    ensures { Writes result out.old out.new (expression_words (plain_expression expression.now)) }
 {
     let Expression::Alone(relation) = expression;
     push_relation(out, relation)
@@ -194,7 +198,7 @@ fn push_expression(out: &mut Vec<u8>, expression: &Expression) -> Result<(), All
 
 #[cycle(print)]
 fn push_relation(out: &mut Vec<u8>, relation: &Relation) -> Result<(), AllocError>
-    ensures { OnOk result (out.new.items ≡ out.old.items ++ spaced (relation_words (plain_relation relation.now))) }
+    ensures { Writes result out.old out.new (relation_words (plain_relation relation.now)) }
 {
     let Relation::Unrelated(simple) = relation;
     push_simple(out, simple)
@@ -202,7 +206,7 @@ fn push_relation(out: &mut Vec<u8>, relation: &Relation) -> Result<(), AllocErro
 
 #[cycle(print)]
 fn push_simple(out: &mut Vec<u8>, simple: &Simple) -> Result<(), AllocError>
-    ensures { OnOk result (out.new.items ≡ out.old.items ++ spaced (simple_words (plain_simple simple.now))) }
+    ensures { Writes result out.old out.new (simple_words (plain_simple simple.now)) }
 {
     push_sign(out, simple.sign)?;
     push_term(out, &simple.first)?;
@@ -214,7 +218,7 @@ fn push_simple(out: &mut Vec<u8>, simple: &Simple) -> Result<(), AllocError>
 
 #[cycle(print)]
 fn push_added(out: &mut Vec<u8>, added: &Added) -> Result<(), AllocError>
-    ensures { OnOk result (out.new.items ≡ out.old.items ++ spaced (added_words (plain_added added.now))) }
+    ensures { Writes result out.old out.new (added_words (plain_added added.now)) }
 {
     push_adding(out, added.operator)?;
     push_term(out, &added.term)
@@ -222,7 +226,7 @@ fn push_added(out: &mut Vec<u8>, added: &Added) -> Result<(), AllocError>
 
 #[cycle(print)]
 fn push_term(out: &mut Vec<u8>, term: &Term) -> Result<(), AllocError>
-    ensures { OnOk result (out.new.items ≡ out.old.items ++ spaced (term_words (plain_term term.now))) }
+    ensures { Writes result out.old out.new (term_words (plain_term term.now)) }
 {
     push_factor(out, &term.first)?;
     for next in &term.rest {
@@ -233,7 +237,7 @@ fn push_term(out: &mut Vec<u8>, term: &Term) -> Result<(), AllocError>
 
 #[cycle(print)]
 fn push_multiplied(out: &mut Vec<u8>, multiplied: &Multiplied) -> Result<(), AllocError>
-    ensures { OnOk result (out.new.items ≡ out.old.items ++ spaced (multiplied_words (plain_multiplied multiplied.now))) }
+    ensures { Writes result out.old out.new (multiplied_words (plain_multiplied multiplied.now)) }
 {
     push_multiplying(out, multiplied.operator)?;
     push_factor(out, &multiplied.factor)
@@ -241,7 +245,7 @@ fn push_multiplied(out: &mut Vec<u8>, multiplied: &Multiplied) -> Result<(), All
 
 #[cycle(print)]
 fn push_factor(out: &mut Vec<u8>, factor: &Factor) -> Result<(), AllocError>
-    ensures { OnOk result (out.new.items ≡ out.old.items ++ spaced (factor_words (plain_factor factor.now))) }
+    ensures { Writes result out.old out.new (factor_words (plain_factor factor.now)) }
 {
     push_operator(out, factor.operator)?;
     push_primary(out, &factor.primary)
@@ -249,7 +253,7 @@ fn push_factor(out: &mut Vec<u8>, factor: &Factor) -> Result<(), AllocError>
 
 #[cycle(print)]
 fn push_primary(out: &mut Vec<u8>, primary: &Primary) -> Result<(), AllocError>
-    ensures { OnOk result (out.new.items ≡ out.old.items ++ spaced (primary_words (plain_primary primary.now))) }
+    ensures { Writes result out.old out.new (primary_words (plain_primary primary.now)) }
 {
     match primary {
         Primary::Integer(number) => push_number(out, *number),
@@ -271,14 +275,14 @@ fn push_primary(out: &mut Vec<u8>, primary: &Primary) -> Result<(), AllocError>
 // RM 4.1
 #[cycle(print)]
 fn push_name(out: &mut Vec<u8>, name: &Name) -> Result<(), AllocError>
-    ensures { OnOk result (out.new.items ≡ out.old.items ++ spaced (name_words (plain_name name.now))) }
+    ensures { Writes result out.old out.new (name_words (plain_name name.now)) }
 {
     push_part(out, &name.first)
 }
 
 #[cycle(print)]
 fn push_part(out: &mut Vec<u8>, part: &NamePart) -> Result<(), AllocError>
-    ensures { OnOk result (out.new.items ≡ out.old.items ++ spaced (part_words (plain_part part.now))) }
+    ensures { Writes result out.old out.new (part_words (plain_part part.now)) }
 {
     push_ident(out, &part.ident)?;
     push_args(out, &part.args)
@@ -287,7 +291,7 @@ fn push_part(out: &mut Vec<u8>, part: &NamePart) -> Result<(), AllocError>
 // The arguments of a part, if it has any (RM 6.4).
 #[cycle(print)]
 fn push_args(out: &mut Vec<u8>, args: &[Expression]) -> Result<(), AllocError>
-    ensures { OnOk result (out.new.items ≡ out.old.items ++ spaced (args_words (plain_expressions args.now))) }
+    ensures { Writes result out.old out.new (args_words (plain_expressions args.now)) }
 {
     let mut before: &[u8] = b"(";
     for next in args {
@@ -303,7 +307,7 @@ fn push_args(out: &mut Vec<u8>, args: &[Expression]) -> Result<(), AllocError>
 
 // RM 4.5.4
 fn push_sign(out: &mut Vec<u8>, sign: Option<Signed>) -> Result<(), AllocError>
-    ensures { OnOk result (out.new.items ≡ out.old.items ++ spaced (sign_words sign)) }
+    ensures { Writes result out.old out.new (sign_words sign) }
 {
     let Some(signed) = sign else {
         return Ok(());
@@ -316,7 +320,7 @@ fn push_sign(out: &mut Vec<u8>, sign: Option<Signed>) -> Result<(), AllocError>
 
 // RM 4.5.3
 fn push_adding(out: &mut Vec<u8>, operator: Adding) -> Result<(), AllocError>
-    ensures { OnOk result (out.new.items ≡ out.old.items ++ spaced (word (adding_spelling operator) ∷ [])) }
+    ensures { Writes result out.old out.new (word (adding_spelling operator) ∷ []) }
 {
     match operator {
         Adding::Plus => push_word(out, b"+"),
@@ -327,7 +331,7 @@ fn push_adding(out: &mut Vec<u8>, operator: Adding) -> Result<(), AllocError>
 
 // RM 4.5.5
 fn push_multiplying(out: &mut Vec<u8>, operator: Multiplying) -> Result<(), AllocError>
-    ensures { OnOk result (out.new.items ≡ out.old.items ++ spaced (word (multiplying_spelling operator) ∷ [])) }
+    ensures { Writes result out.old out.new (word (multiplying_spelling operator) ∷ []) }
 {
     match operator {
         Multiplying::Times => push_word(out, b"*"),
@@ -339,7 +343,7 @@ fn push_multiplying(out: &mut Vec<u8>, operator: Multiplying) -> Result<(), Allo
 
 // RM 4.5.6
 fn push_operator(out: &mut Vec<u8>, operator: Option<Operator>) -> Result<(), AllocError>
-    ensures { OnOk result (out.new.items ≡ out.old.items ++ spaced (operator_words operator)) }
+    ensures { Writes result out.old out.new (operator_words operator) }
 {
     let Some(operator) = operator else {
         return Ok(());
@@ -351,14 +355,14 @@ fn push_operator(out: &mut Vec<u8>, operator: Option<Operator>) -> Result<(), Al
 }
 
 fn push_ident(out: &mut Vec<u8>, ident: &Ident) -> Result<(), AllocError>
-    ensures { OnOk result (out.new.items ≡ out.old.items ++ spaced (ident_word ident.now ∷ [])) }
+    ensures { Writes result out.old out.new (ident_word ident.now ∷ []) }
 {
     push_word(out, ident.name.as_bytes())
 }
 
 // RM 2.4.1
 fn push_number(out: &mut Vec<u8>, number: Number) -> Result<(), AllocError>
-    ensures { OnOk result (out.new.items ≡ out.old.items ++ spaced (number_word number ∷ [])) }
+    ensures { Writes result out.old out.new (number_word number ∷ []) }
 {
     match number.value {
         Some(value) => {
@@ -372,7 +376,7 @@ fn push_number(out: &mut Vec<u8>, number: Number) -> Result<(), AllocError>
 
 // RM 2.6
 fn push_literal(out: &mut Vec<u8>, literal: &Literal) -> Result<(), AllocError>
-    ensures { OnOk result (out.new.items ≡ out.old.items ++ spaced (literal_word literal.now ∷ [])) }
+    ensures { Writes result out.old out.new (literal_word literal.now ∷ []) }
 {
     out.push(b'"')?;
     push_doubled(out, literal.text.as_bytes())?;
@@ -394,7 +398,7 @@ fn push_doubled(out: &mut Vec<u8>, characters: &[u8]) -> Result<(), AllocError>
 
 // The word and a blank.
 fn push_word(out: &mut Vec<u8>, spelling: &[u8]) -> Result<(), AllocError>
-    ensures { OnOk result (out.new.items ≡ out.old.items ++ spaced (word spelling.now ∷ [])) }
+    ensures { Writes result out.old out.new (word spelling.now ∷ []) }
 {
     out.extend_from_slice(spelling)?;
     out.push(b' ')?;
@@ -403,7 +407,7 @@ fn push_word(out: &mut Vec<u8>, spelling: &[u8]) -> Result<(), AllocError>
 
 // The word and a line feed.
 fn push_last_word(out: &mut Vec<u8>, spelling: &[u8]) -> Result<(), AllocError>
-    ensures { OnOk result (out.new.items ≡ out.old.items ++ spaced (last_word spelling.now ∷ [])) }
+    ensures { Writes result out.old out.new (last_word spelling.now ∷ []) }
 {
     out.extend_from_slice(spelling)?;
     out.push(b'\n')?;

@@ -156,11 +156,18 @@ pub struct NamePart {
     pub args: Vec<Expression>,
 }
 
+/// The names of a declaration: the first, and those behind it (RM 3.3.1).
+#[derive(Drop)]
+pub struct Identifiers {
+    pub first: Ident,
+    pub others: Vec<Ident>,
+}
+
 /// A declaration (RM 3.1).
 #[derive(Drop)]
 pub enum Declaration {
     /// Variables, their subtype and their initial value (RM 3.3.1).
-    Object(Vec<Ident>, Ident, Option<Expression>),
+    Object(Identifiers, Ident, Option<Expression>),
 }
 
 /// A statement (RM 5.1).
@@ -173,11 +180,18 @@ pub enum Statement {
     Call(Name),
 }
 
+/// A sequence of statements (RM 5.1(2)): the first, and those behind it.
+#[derive(Drop)]
+pub struct Statements {
+    pub first: Statement,
+    pub others: Vec<Statement>,
+}
+
 /// A body's statements (RM 11.2(2)), where they begin and end, and the name after `end`.
 #[derive(Drop)]
 pub struct Body {
     pub begin: Pos,
-    pub statements: Vec<Statement>,
+    pub statements: Statements,
     pub end: Pos,
     pub name: Option<Ident>,
 }

@@ -116,6 +116,13 @@ pub enum Statement {
     Put(Pos, TextExpression),
 }
 
+/// A sequence of statements (RM 5.1(2)): the first, and those behind it.
+#[derive(Drop, Debug)]
+pub struct Statements {
+    pub first: Statement,
+    pub others: Vec<Statement>,
+}
+
 /// A typed program: its main procedure, whose variables are Integers.
 #[derive(Drop, Debug)]
 pub struct Program {
@@ -128,8 +135,7 @@ pub struct Program {
     pub declarations: Vec<Statement>,
     /// Where the `begin` of its body stands.
     pub begin: Pos,
-    /// Its statements, in their order; there is at least one.
-    pub statements: Vec<Statement>,
+    pub statements: Statements,
     /// Where the `end` of its body stands.
     pub end: Pos,
 }

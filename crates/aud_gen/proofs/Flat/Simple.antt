@@ -107,38 +107,13 @@ module _ (lines : List Line) where
   part_behind (d ∷ ds) at first a is h = ap G is ∙ behind_all d ds at first a h
 
   module _ (ds : List Simple) (s : Simple) (ss : List Simple) (begin pos : Pos) where
-    pub body_emitted : (at : ℕ) → HasAt lines at (unit_code (the_body ds s ss begin pos) at) → assembled_from G (unit_code (the_body ds s ss begin pos) at) ≡ body_at ds s ss begin pos (G at)
-    body_emitted at h =
-        let m = in_order s ss in
-        let first = at + part_size (part_in ds) 1 in
-        let guard = first + statement_size m 1 in
-        let last = first + main_size m no_handlers 1 in
-        let a = in_call last in
-        let x1 = part_code (part_in ds) at first (around_out last a) in
-        let x2 = statement_code m first last (around_out guard a) in
-        let g = guard_line no_handlers pos (suc guard) last 1 in
-        let e = end_line construct.Unit pos 0 last in
-        let h2 : HasAt lines first (x2 ++ (g ∷ e ∷ [])) = has_back lines at (part_size (part_in ds) 1) x1 _ (length-part (part_in ds) at first (around_out last a)) h in
-        let h3 : HasAt lines guard (g ∷ e ∷ []) = has_back lines first (statement_size m 1) x2 _ (length-statement m first last (around_out guard a)) h2 in
-        let h1 : HasAt lines at x1 = has_front lines at x1 (x2 ++ (g ∷ e ∷ [])) h in
-        let firsts : first ≡ at + length ds = omega (arith, part_size_in ds 1) in
-        let guards : guard ≡ first + length (s ∷ ss) = omega (arith, size_in s ss 1) in
-        let lasts : last ≡ suc guard = omega arith in
-        let p1 : G first ≡ G at + steps_size ds = part_behind ds at first (around_out last a) firsts h1 in
-        let p2 : G guard ≡ G first + steps_size (s ∷ ss) = ap G guards ∙ behind_all s ss first last (around_out guard a) (has_front lines first x2 (g ∷ e ∷ []) h2) in
-        let one : G (suc guard) ≡ G guard + 1 = next_offset lines guard g _ h3.is in
-        let p3 : G last ≡ suc (G guard) = ap G lasts ∙ one ∙ omega arith in
-        assembled_append G x1 (x2 ++ (g ∷ e ∷ []))
-        ∙ ap (λ ls. assembled_from G x1 ++ ls) (assembled_append G x2 (g ∷ e ∷ []))
-        ∙ ap (λ ls. ls ++ (assembled_from G x2 ++ (end (guard_end pos (G last)) ∷ end (unit_end pos (G 0) (G last)) ∷ []))) (part_emitted ds at first (around_out last a) h1)
-        ∙ ap (λ ls. steps_at ds (G last) (G first) (G at) ++ (ls ++ (end (guard_end pos (G last)) ∷ end (unit_end pos (G 0) (G last)) ∷ []))) (emitted lines s ss first last (around_out guard a) (has_front lines first x2 (g ∷ e ∷ []) h2))
-        ∙ ap (λ z. places_at ds s ss begin pos (G at) (G first) (G guard) (G last) z) (offset_zero lines)
-        ∙ ap (λ z. places_at ds s ss begin pos (G at) (G first) (G guard) z 0) p3
-        ∙ ap (λ z. places_at ds s ss begin pos (G at) (G first) z (suc z) 0) p2
-        ∙ ap (λ z. places_at ds s ss begin pos (G at) z (z + steps_size (s ∷ ss)) (suc (z + steps_size (s ∷ ss))) 0) p1
+    -- the code of the body, and the place behind it
+    pub record Stands (at : ℕ) : Type 0 where
+      pub emitted : assembled_from G (unit_code (the_body ds s ss begin pos) at) ≡ body_at ds s ss begin pos (G at)
+      pub behind : G (at + body_size (the_body ds s ss begin pos) 1) ≡ suc (suc (G at + steps_size ds + steps_size (s ∷ ss)))
 
-    pub body_behind : (at : ℕ) → HasAt lines at (unit_code (the_body ds s ss begin pos) at) → G (at + body_size (the_body ds s ss begin pos) 1) ≡ suc (suc (G at + steps_size ds + steps_size (s ∷ ss)))
-    body_behind at h =
+    pub body_stands : (at : ℕ) → HasAt lines at (unit_code (the_body ds s ss begin pos) at) → Stands at
+    body_stands at h =
         let m = in_order s ss in
         let first = at + part_size (part_in ds) 1 in
         let guard = first + statement_size m 1 in
@@ -154,12 +129,25 @@ module _ (lines : List Line) where
         let h1 : HasAt lines at x1 = has_front lines at x1 (x2 ++ (g ∷ e ∷ [])) h in
         let firsts : first ≡ at + length ds = omega (arith, part_size_in ds 1) in
         let guards : guard ≡ first + length (s ∷ ss) = omega (arith, size_in s ss 1) in
+        let lasts : last ≡ suc guard = omega arith in
         let all : at + body_size (the_body ds s ss begin pos) 1 ≡ suc (suc guard) = omega arith in
         let p1 : G first ≡ G at + steps_size ds = part_behind ds at first (around_out last a) firsts h1 in
         let p2 : G guard ≡ G first + steps_size (s ∷ ss) = ap G guards ∙ behind_all s ss first last (around_out guard a) (has_front lines first x2 (g ∷ e ∷ []) h2) in
         let one : G (suc guard) ≡ G guard + 1 = next_offset lines guard g _ h3.is in
         let two : G (suc (suc guard)) ≡ G (suc guard) + 1 = next_offset lines (suc guard) e _ h4.is in
-        omega (arith, ap G all, p1, p2, one, two)
+        let p3 : G last ≡ suc (G guard) = ap G lasts ∙ one ∙ omega arith in
+        record {
+          emitted =
+              assembled_append G x1 (x2 ++ (g ∷ e ∷ []))
+              ∙ ap (λ ls. assembled_from G x1 ++ ls) (assembled_append G x2 (g ∷ e ∷ []))
+              ∙ ap (λ ls. ls ++ (assembled_from G x2 ++ (end (guard_end pos (G last)) ∷ end (unit_end pos (G 0) (G last)) ∷ []))) (part_emitted ds at first (around_out last a) h1)
+              ∙ ap (λ ls. steps_at ds (G last) (G first) (G at) ++ (ls ++ (end (guard_end pos (G last)) ∷ end (unit_end pos (G 0) (G last)) ∷ []))) (emitted lines s ss first last (around_out guard a) (has_front lines first x2 (g ∷ e ∷ []) h2))
+              ∙ ap (λ z. places_at ds s ss begin pos (G at) (G first) (G guard) (G last) z) (offset_zero lines)
+              ∙ ap (λ z. places_at ds s ss begin pos (G at) (G first) (G guard) z 0) p3
+              ∙ ap (λ z. places_at ds s ss begin pos (G at) (G first) z (suc z) 0) p2
+              ∙ ap (λ z. places_at ds s ss begin pos (G at) z (z + steps_size (s ∷ ss)) (suc (z + steps_size (s ∷ ss))) 0) p1;
+          behind = omega (arith, ap G all, p1, p2, one, two);
+        }
 
 code_is : (ds : List Simple) (s : Simple) (ss : List Simple) (begin pos : Pos) (program : Program) → program.bodies ≡ the_body ds s ss begin pos ∷ [] → program.barriers ≡ [] → flat_program program ≡ flat_of (record { lines = units_code (the_body ds s ss begin pos ∷ []) 0; starts = 0 ∷ []; spare = 0 + body_size (the_body ds s ss begin pos) 1 }) []
 code_is ds s ss begin pos program is none =
@@ -177,12 +165,13 @@ simple_code_law ds s ss begin pos program is none =
     let hx : HasAt lines 0 x = has_front lines 0 x y all in
     let hy : HasAt lines second y = has_back lines 0 (body_size b 1) x y (length-body construct.Unit b 0 0 (end_place b 0 1) (in_call (end_place b 0 1))) all in
     let zero_is : offset lines 0 ≡ 0 = offset_zero lines in
-    let behind : offset lines second ≡ suc (suc (offset lines 0 + steps_size ds + steps_size (s ∷ ss))) = body_behind lines ds s ss begin pos 0 hx in
-    let spare_is : offset lines second ≡ size_of ds s ss = omega (arith, behind, zero_is) in
+    let main = body_stands lines ds s ss begin pos 0 hx in
+    let spare = body_stands lines [] (idles nowhere) [] nowhere nowhere second hy in
+    let spare_is : offset lines second ≡ size_of ds s ss = omega (arith, main.behind, zero_is) in
     let lines_are : assembled_from (offset lines) lines ≡ body_at ds s ss nowhere pos 0 ++ spare_at (size_of ds s ss) =
     assembled_append (offset lines) x y
-    ∙ ap (λ ls. ls ++ assembled_from (offset lines) y) (body_emitted lines ds s ss begin pos 0 hx)
-    ∙ ap (λ ls. body_at ds s ss begin pos (offset lines 0) ++ ls) (body_emitted lines [] (idles nowhere) [] nowhere nowhere second hy)
+    ∙ ap (λ ls. ls ++ assembled_from (offset lines) y) main.emitted
+    ∙ ap (λ ls. body_at ds s ss begin pos (offset lines 0) ++ ls) spare.emitted
     ∙ ap (λ z. body_at ds s ss begin pos z ++ spare_at (offset lines second)) zero_is
     ∙ ap (λ z. body_at ds s ss begin pos 0 ++ spare_at z) spare_is in
     code_is ds s ss begin pos program is none

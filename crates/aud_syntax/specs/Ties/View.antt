@@ -14,6 +14,7 @@ use Rattle.aud_syntax.specs.declared.tree.Primary.{Primary, Integer, Text, Name'
 use Rattle.aud_syntax.specs.declared.tree.Declaration.{Declaration}
 use Rattle.aud_syntax.specs.declared.tree.Declaration.TheVariants as declaration
 use Rattle.aud_syntax.specs.declared.tree.Statement.{Statement}
+use Rattle.aud_syntax.specs.declared.tree.Statements.{Statements}
 use Rattle.aud_syntax.specs.declared.tree.Statement.TheVariants as statement
 use Rattle.aud_syntax.specs.declared.tree.Body.{Body}
 use Rattle.aud_syntax.specs.declared.tree.Unit as declared
@@ -85,7 +86,7 @@ plain_boxed (Some e) = m.an_expression (plain_expression e.value)
 
 -- RM 3.1
 abbrev pub plain_declaration : Declaration → m.Declaration
-plain_declaration (declaration.Object names subtype value) = m.object names.items subtype (plain_maybe value)
+plain_declaration (declaration.Object names subtype value) = m.object names.first names.others.items subtype (plain_maybe value)
 
 abbrev pub plain_declarations : List Declaration → m.Declarations
 plain_declarations [] = m.no_declarations
@@ -97,13 +98,16 @@ plain_statement (statement.Null at) = m.null at
 plain_statement (statement.Assign x e) = m.assign (plain_name x) (plain_expression e)
 plain_statement (statement.Call x) = m.call (plain_name x)
 
-abbrev pub plain_statements : List Statement → m.Statements
-plain_statements [] = m.no_statements
-plain_statements (x ∷ xs) = m.more_statements (plain_statement x) (plain_statements xs)
+abbrev pub plain_others : List Statement → m.MoreStatements
+plain_others [] = m.no_statements
+plain_others (x ∷ xs) = m.more_statements (plain_statement x) (plain_others xs)
+
+abbrev pub plain_statements : Statements → m.Statements
+plain_statements x = m.in_order (plain_statement x.first) (plain_others x.others.items)
 
 -- RM 11.2
 abbrev pub plain_body : Body → m.Body
-plain_body x = m.body x.begin (plain_statements x.statements.items) x.end x.name
+plain_body x = m.body x.begin (plain_statements x.statements) x.end x.name
 
 -- RM 10.1.1
 abbrev pub plain_unit : declared.Unit → m.Unit

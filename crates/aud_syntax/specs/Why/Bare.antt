@@ -6,7 +6,7 @@ use Rattle.aud_syntax.specs.declared.tree.Number.{Number}
 use Rattle.aud_syntax.specs.declared.tree.Literal.{Literal}
 use Rattle.aud_syntax.specs.declared.tree.Signed.{Signed}
 use Rattle.aud_syntax.specs.declared.tree.Operator.{Operator}
-use Rattle.aud_syntax.specs.Plain.{Expression, alone, Relation, unrelated, Simple, simple, Addeds, no_addeds, more_addeds, Added, added, Term, term, Multiplieds, no_multiplieds, more_multiplieds, Multiplied, multiplied, Factor, factor, Primary, integer, text, name, attribute, group, MaybeExpression, no_expression, an_expression, Name, named, Parts, no_parts, NamePart, part, Args, no_args, more_args, Declaration, object, Declarations, no_declarations, more_declarations, Statement, null, assign, call, Statements, no_statements, more_statements, Body, body, Unit, unit}
+use Rattle.aud_syntax.specs.Plain.{Expression, alone, Relation, unrelated, Simple, simple, Addeds, no_addeds, more_addeds, Added, added, Term, term, Multiplieds, no_multiplieds, more_multiplieds, Multiplied, multiplied, Factor, factor, Primary, integer, text, name, attribute, group, MaybeExpression, no_expression, an_expression, Name, named, Parts, no_parts, NamePart, part, Args, no_args, more_args, Declaration, object, Declarations, no_declarations, more_declarations, Statement, null, assign, call, Statements, in_order, MoreStatements, no_statements, more_statements, Body, body, Unit, unit}
 
 abbrev pub nowhere : Pos
 nowhere = record { line = 1; col = 1 }
@@ -93,7 +93,7 @@ abbrev mutual
   bare_args (more_args e xs) = more_args (bare_expression e) (bare_args xs)
 
 abbrev pub bare_declaration : Declaration → Declaration
-bare_declaration (object names subtype value) = object (map bare_ident names) (bare_ident subtype) (bare_maybe value)
+bare_declaration (object x xs subtype value) = object (bare_ident x) (map bare_ident xs) (bare_ident subtype) (bare_maybe value)
 
 abbrev pub bare_declarations : Declarations → Declarations
 bare_declarations no_declarations = no_declarations
@@ -104,9 +104,12 @@ bare_statement (null at) = null nowhere
 bare_statement (assign x e) = assign (bare_name x) (bare_expression e)
 bare_statement (call x) = call (bare_name x)
 
+abbrev pub bare_more_statements : MoreStatements → MoreStatements
+bare_more_statements no_statements = no_statements
+bare_more_statements (more_statements x xs) = more_statements (bare_statement x) (bare_more_statements xs)
+
 abbrev pub bare_statements : Statements → Statements
-bare_statements no_statements = no_statements
-bare_statements (more_statements x xs) = more_statements (bare_statement x) (bare_statements xs)
+bare_statements (in_order x xs) = in_order (bare_statement x) (bare_more_statements xs)
 
 abbrev pub bare_body : Body → Body
 bare_body (body begin statements end last) = body nowhere (bare_statements statements) nowhere (bare_end last)

@@ -15,7 +15,7 @@ use Rattle.aud_syntax.specs.declared.tree.Multiplying.TheVariants as multiplying
 use Rattle.aud_syntax.specs.declared.tree.Highest.{Highest}
 use Rattle.aud_syntax.specs.declared.tree.Highest.TheVariants as highest
 use Rattle.aud_syntax.specs.declared.tree.Operator.{Operator}
-use Rattle.aud_syntax.specs.Plain.{Expression, alone, Relation, unrelated, Simple, simple, Addeds, no_addeds, more_addeds, Added, added, Term, term, Multiplieds, no_multiplieds, more_multiplieds, Multiplied, multiplied, Factor, factor, Primary, integer, text, name, attribute, group, MaybeExpression, no_expression, an_expression, Name, named, no_parts, NamePart, part, Args, no_args, more_args, Declaration, object, Declarations, no_declarations, more_declarations, Statement, null, assign, call, Statements, no_statements, more_statements, Body, body, Unit, unit}
+use Rattle.aud_syntax.specs.Plain.{Expression, alone, Relation, unrelated, Simple, simple, Addeds, no_addeds, more_addeds, Added, added, Term, term, Multiplieds, no_multiplieds, more_multiplieds, Multiplied, multiplied, Factor, factor, Primary, integer, text, name, attribute, group, MaybeExpression, no_expression, an_expression, Name, named, no_parts, NamePart, part, Args, no_args, more_args, Declaration, object, Declarations, no_declarations, more_declarations, Statement, null, assign, call, Statements, in_order, MoreStatements, no_statements, more_statements, Body, body, Unit, unit}
 
 -- a name as the tree has it, in capitals (RM 2.3)
 abbrev pub ident_word : Ident → Word
@@ -136,19 +136,18 @@ abbrev pub more_ident_words : List Ident → List Word
 more_ident_words [] = []
 more_ident_words (x ∷ xs) = word (codes ",") ∷ ident_word x ∷ more_ident_words xs
 
-abbrev pub idents_words : List Ident → List Word
-idents_words [] = []
-idents_words (x ∷ xs) = ident_word x ∷ more_ident_words xs
+abbrev pub idents_words : Ident → List Ident → List Word
+idents_words x xs = ident_word x ∷ more_ident_words xs
 
 abbrev pub initial_words : MaybeExpression → List Word
 initial_words no_expression = []
 initial_words (an_expression e) = word (codes ":=") ∷ expression_words e
 
-abbrev pub object_words : List Ident → Ident → MaybeExpression → List Word
-object_words names subtype value = idents_words names ++ (word (codes ":") ∷ ident_word subtype ∷ (initial_words value ++ (last_word (codes ";") ∷ [])))
+abbrev pub object_words : Ident → List Ident → Ident → MaybeExpression → List Word
+object_words x xs subtype value = idents_words x xs ++ (word (codes ":") ∷ ident_word subtype ∷ (initial_words value ++ (last_word (codes ";") ∷ [])))
 
 abbrev pub declaration_words : Declaration → List Word
-declaration_words (object names subtype value) = object_words names subtype value
+declaration_words (object x xs subtype value) = object_words x xs subtype value
 
 abbrev pub declarations_words : Declarations → List Word
 declarations_words no_declarations = []
@@ -172,9 +171,12 @@ statement_words (null at) = null_words
 statement_words (assign x e) = assignment_words x e
 statement_words (call x) = call_words x
 
+abbrev pub more_statements_words : MoreStatements → List Word
+more_statements_words no_statements = []
+more_statements_words (more_statements x xs) = statement_words x ++ more_statements_words xs
+
 abbrev pub statements_words : Statements → List Word
-statements_words no_statements = []
-statements_words (more_statements x xs) = statement_words x ++ statements_words xs
+statements_words (in_order x xs) = statement_words x ++ more_statements_words xs
 
 -- the name after `end` (RM 6.3)
 abbrev pub end_words : Option Ident → List Word

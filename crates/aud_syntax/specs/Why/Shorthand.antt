@@ -6,7 +6,7 @@ use Rattle.aud_syntax.specs.declared.tree.Sign.TheVariants as sign
 use Rattle.aud_syntax.specs.declared.tree.Adding.{Adding}
 use Rattle.aud_syntax.specs.declared.tree.Multiplying.{Multiplying}
 use Rattle.aud_syntax.specs.declared.tree.Highest.TheVariants as highest
-use Rattle.aud_syntax.specs.Plain.{Expression, alone, unrelated, simple, Addeds, no_addeds, more_addeds, Added, added, Term, term, Multiplieds, no_multiplieds, more_multiplieds, Multiplied, multiplied, Factor, factor, Primary, integer, text, name, Name, named, no_parts, part, no_args, more_args, Declaration, Declarations, no_declarations, more_declarations, Statement, call, Statements, no_statements, more_statements}
+use Rattle.aud_syntax.specs.Plain.{Expression, alone, unrelated, simple, Addeds, no_addeds, more_addeds, Added, added, Term, term, Multiplieds, no_multiplieds, more_multiplieds, Multiplied, multiplied, Factor, factor, Primary, integer, text, name, Name, named, no_parts, part, no_args, more_args, Declaration, Declarations, no_declarations, more_declarations, Statement, call, Statements, in_order, MoreStatements, no_statements, more_statements}
 
 abbrev pub at : ℕ → ℕ → Pos
 at line col = record { line = line; col = col }
@@ -96,6 +96,9 @@ abbrev pub declarations : List Declaration → Declarations
 declarations [] = no_declarations
 declarations (x ∷ xs) = more_declarations x (declarations xs)
 
-abbrev pub statements : List Statement → Statements
-statements [] = no_statements
-statements (x ∷ xs) = more_statements x (statements xs)
+abbrev pub more : List Statement → MoreStatements
+more [] = no_statements
+more (x ∷ xs) = more_statements x (more xs)
+
+abbrev pub statements : Statement → List Statement → Statements
+statements first others = in_order first (more others)

@@ -46,6 +46,7 @@ plain_program p = tree.program_of_main (record {
   variables = p.variables.items;
   declarations = plain_statements p.declarations.items;
   begin = p.begin;
-  statements = plain_statements p.statements.items;
+  first = plain_statement p.statements.first;
+  others = plain_statements p.statements.others.items;
   end = p.end;
 })

@@ -1,17 +1,14 @@
 use Rattle.std.proofs.Common.{◌≡◌, List, [], ◌∷◌, refl, ap, sym, ◌∙◌, subst}
 use Rattle.std.specs.Prelude.{map}
 use Rattle.std.proofs.lemmas.Bool.{false≢true}
-use Rattle.aud_text.specs.declared.place.Pos.{Pos}
 use Rattle.aud_typed.specs.declared.program.Statement.{Statement}
 use Rattle.aud_typed.specs.declared.program.Statement.TheVariants.{Declare, Null, Assign, Put}
 use Rattle.aud_typed.specs.declared.program.Program.{Program}
 use Rattle.aud_typed.specs.Ties.View.{plain_statement, plain_program}
-use Rattle.aud_typed.specs.Tree.{body, part_of, in_sequence, no_handlers}
-use Rattle.aud_typed.specs.Tree as tree
-use Rattle.aud_meaning.specs.Items.{nowhere}
+use Rattle.aud_typed.specs.Tree.{body, part_of, before, no_handlers}
 use Rattle.aud_code.specs.Sound.{IsSound}
 use Rattle.aud_gen.specs.Assembly.{flat_program}
-use Rattle.aud_gen.specs.Simple.{Simple, idles, statement_of, statements_of}
+use Rattle.aud_gen.specs.Simple.{statement_of, statements_of, part_in}
 use Rattle.aud_gen.specs.Written.{simple_of, body_code}
 use Rattle.aud_gen.proofs.Flat.Sound.{code_is_sound}
 use Rattle.aud_gen.proofs.Flat.Simple.{simple_code_law}
@@ -27,22 +24,21 @@ all_same : (ss : List Statement) → map plain_statement ss ≡ statements_of (m
 all_same [] = refl
 all_same (s ∷ ss) = ap (λ z. z ∷ map plain_statement ss) (same s) ∙ ap (λ z. statement_of (simple_of s) ∷ z) (all_same ss)
 
--- the code of a program with such a body
-of_body : (ds ss : List Simple) (begin end : Pos) (program : tree.Program) → program.bodies ≡ body (part_of (statements_of ds)) begin (in_sequence (statements_of ss)) no_handlers end ∷ [] → program.barriers ≡ [] → flat_program program ≡ body_code ds ss end
-of_body ds [] begin end program is none = simple_code_law ds (idles nowhere) [] begin end program is none
-of_body ds (s ∷ ss) begin end program is none = simple_code_law ds s ss begin end program is none
-
-written : (p : Program) → body_code (map simple_of p.declarations.items) (map simple_of p.statements.items) p.end ≡ flat_program (plain_program p)
+written : (p : Program) → body_code p.declarations.items p.statements p.end ≡ flat_program (plain_program p)
 written p =
-    let is = ap (λ z. body (part_of z) p.begin (in_sequence (map plain_statement p.statements.items)) no_handlers p.end ∷ []) (all_same p.declarations.items)
-    ∙ ap (λ z. body (part_of (statements_of (map simple_of p.declarations.items))) p.begin (in_sequence z) no_handlers p.end ∷ []) (all_same p.statements.items) in
-    sym (of_body (map simple_of p.declarations.items) (map simple_of p.statements.items) p.begin p.end (plain_program p) is refl)
+    let ds = map simple_of p.declarations.items in
+    let s = simple_of p.statements.first in
+    let ss = map simple_of p.statements.others.items in
+    let is = ap (λ z. body (part_of z) p.begin (before (plain_statement p.statements.first) (map plain_statement p.statements.others.items)) no_handlers p.end ∷ []) (all_same p.declarations.items)
+    ∙ ap (λ z. body (part_in ds) p.begin (before z (map plain_statement p.statements.others.items)) no_handlers p.end ∷ []) (same p.statements.first)
+    ∙ ap (λ z. body (part_in ds) p.begin (before (statement_of s) z) no_handlers p.end ∷ []) (all_same p.statements.others.items) in
+    sym (simple_code_law ds s ss p.begin p.end (plain_program p) is refl)
 
 -- what was written is sound, since it is the program's code
 pub unreachable-requires : goal.unreachable-requires
 unreachable-requires c =
-    let is = c.in_ok-code.ensures ∙ rw (c.deref.ensures.value, c.deref-2.ensures.value) (written c.args.program.now) in
+    let is = c.in_ok-code.ensures ∙ rw c.deref.ensures.value (written c.args.program.now) in
     false≢true (c.in-None.ensures.exact.1 (subst IsSound (sym is) (code_is_sound (plain_program c.args.program.now))))
 
 pub returns : goal.returns
-returns c = c.in-Some.ensures.same ∙ c.in_ok-code.ensures ∙ rw (c.deref.ensures.value, c.deref-2.ensures.value) (written c.args.program.now)
+returns c = c.in-Some.ensures.same ∙ c.in_ok-code.ensures ∙ rw c.deref.ensures.value (written c.args.program.now)
