@@ -1,17 +1,18 @@
 // One instruction after the other, up to the ending of the step.
 
 ghost use Rattle.std.specs.Prelude.{◌≡◌, ◌+◌, ◌<◌, ◌≤◌, length, IfOk, slice_index};
-ghost use Rattle.aud_meaning.specs.Evaluation.{unary_of, binary_of, cell};
-ghost use Rattle.aud_code.specs.Eval.{Then, on_result};
+ghost use Rattle.aud_meaning.specs.Evaluation.{cell};
 ghost use Rattle.aud_code.specs.Sound.{counts_of, IsStart};
 ghost use Rattle.aud_code.specs.View.{plain_instruction};
-ghost use Rattle.aud_expr.specs.Operands.{with_integer};
-ghost use Rattle.aud_expr.specs.Flow.{InSight, FindsOperands, Acts, followed, ended, evaluated_at, ReachesEnd, FitsEnd};
+ghost use Rattle.aud_expr.specs.Flow.{InSight, FindsOperands, Acts, ended, evaluated_at, ReachesEnd, FitsEnd};
 ghost use Rattle.aud_expr.specs.Ticks.{ticks_at};
 
+use crate::flow::Flow;
+use crate::integers::{check, on_one, on_two};
 use crate::operands::Operands;
-use crate::operators::{binary_of, in_range, unary_of};
 use crate::target::Target;
+use crate::texts::{append_image, append_truth};
+use crate::truths::{cell, combine, compare, negate, pass_if, relate, truth};
 use aud_code::instruction::Instruction;
 use aud_code::line::Line;
 use aud_code::sound_code::SoundCode;
@@ -20,13 +21,6 @@ use aud_text::int32::Int32;
 use aud_text::raise::Raise;
 use aud_typed::program::Variable;
 use std::alloc::AllocError;
-
-/// Where an instruction leads: on to the next one, or to an exception.
-#[derive(Clone, Copy, PartialEq, Eq, Debug)]
-pub enum Flow {
-    On,
-    Raises(Raise),
-}
 
 /// How an evaluation ended, and how many instructions it executed.
 #[derive(Clone, Copy, PartialEq, Eq, Debug)]
@@ -61,31 +55,28 @@ pub fn eval_step(
     match instruction {
         Instruction::Push(value) => operands.push(*value)?,
         Instruction::Load(variable) => operands.push(value_of(*variable, display, frames))?,
-        Instruction::OnOne(operator) => {
-            let x = operands.pop();
-            return leave(unary_of(*operator, x), operands);
-        }
-        Instruction::OnTwo(operator) => {
-            let y = operands.pop();
-            let x = operands.pop();
-            return leave(binary_of(*operator, x, y), operands);
-        }
-        Instruction::Check(subtype) => {
-            let x = operands.pop();
-            return leave(in_range(*subtype, x), operands);
-        }
+        Instruction::OnOne(operator) => return on_one(*operator, operands),
+        Instruction::OnTwo(operator) => return on_two(*operator, operands),
+        Instruction::Check(subtype) => return check(*subtype, operands),
+        Instruction::Cell => cell(operands)?,
+        Instruction::PushTruth(value) => operands.push_truth(*value)?,
+        Instruction::Truth => truth(operands)?,
+        Instruction::Negate => negate(operands)?,
+        Instruction::Relate(relation) => relate(*relation, operands)?,
+        Instruction::Compare(relation) => compare(*relation, operands)?,
+        Instruction::Combine(operator) => combine(*operator, operands)?,
+        Instruction::PassIfFalse(count) => return pass_if(false, *count, operands),
+        Instruction::PassIfTrue(count) => return pass_if(true, *count, operands),
         Instruction::Find(variable, subtype) => {
             let frame = frame_of(display, variable.level);
             operands.push_target(Target::new(frame, variable.index, *subtype))?
         }
         Instruction::AppendText(text) => operands.append(text.as_bytes())?,
-        Instruction::AppendImage => {
-            let value = operands.pop();
-            operands.append_image(value)?
-        }
+        Instruction::AppendImage => append_image(operands)?,
+        Instruction::AppendTruth => append_truth(operands)?,
         Instruction::AppendNewLine => operands.append(b"\n")?,
     }
-    Ok(Flow::On)
+    Ok(Flow::Passes(0))
 }
 
 // The number of the frame at a level, or 0 where none is seen there.
@@ -104,20 +95,6 @@ fn value_of(variable: Variable, display: &[usize], frames: &Frames) -> Int32
         frames.load(frame, variable.index)
     } else {
         Int32::new(0)
-    }
-}
-
-// The value as the newest Integer, or its exception.
-fn leave(value: Result<Int32, Raise>, operands: &mut Operands) -> Result<Flow, AllocError>
-    ensures { IfOk result (λ flow. (go : Then) →
-        on_result value (λ z. go 0 (with_integer z operands.old)) ≡ followed flow go operands.new) }
-{
-    match value {
-        Ok(value) => {
-            operands.push(value)?;
-            Ok(Flow::On)
-        }
-        Err(raise) => Ok(Flow::Raises(raise)),
     }
 }
 
@@ -142,6 +119,7 @@ pub fn evaluate(
 {
     operands.clear();
     let mut ticks = 0;
+    let mut passed = 0;
     for place in first..code.len() {
         let instruction = match code.line(place) {
             Line::Instruction(instruction) => instruction,
@@ -150,8 +128,12 @@ pub fn evaluate(
                 return Ok(Evaluation { outcome, ticks });
             }
         };
+        if 0 < passed {
+            passed -= 1;
+            continue;
+        }
         match eval_step(instruction, display, frames, operands, &mut ticks)? {
-            Flow::On => {}
+            Flow::Passes(count) => passed = count,
             Flow::Raises(raise) => {
                 let outcome = Outcome::Fails(raise);
                 return Ok(Evaluation { outcome, ticks });

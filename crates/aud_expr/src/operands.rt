@@ -1,10 +1,11 @@
-// What the instructions of a step work on: Integers, targets, and a text that grows.
+// What the instructions of a step work on: Integers, truth values, targets, and a text that grows.
 
 ghost use Rattle.std.specs.Prelude.{◌≡◌, ◌<◌, [], ◌++◌, None, reverse, length, OnOk};
 ghost use Rattle.aud_text.specs.Integer.{image};
+ghost use Rattle.aud_meaning.specs.Evaluation.{image_of_truth};
 ghost use Rattle.aud_meaning.specs.Parts.{no_waits};
 ghost use Rattle.aud_code.specs.Instruction.{Operands as Plain, no_operands};
-ghost use Rattle.aud_expr.specs.Operands.{with_integer, with_target};
+ghost use Rattle.aud_expr.specs.Operands.{with_integer, with_truth, with_target};
 
 use crate::target::Target;
 use aud_text::int32::Int32;
@@ -12,10 +13,11 @@ use smallvec::SmallVec;
 use std::alloc::{AllocError, Global};
 use std::marker::Model;
 
-/// The operands of a step. Few steps have more than eight Integers at once.
+/// The operands of a step. Few steps have more than eight Integers or truth values at once.
 #[derive(Drop)]
 pub struct Operands {
     integers: SmallVec<i32, 8>,
+    booleans: SmallVec<bool, 8>,
     targets: Vec<Target>,
     text: Vec<u8>,
 }
@@ -25,7 +27,7 @@ impl Model for Operands {
 
     ghost view = { λ o. record {
       integers = reverse o.integers.items;
-      booleans = [];
+      booleans = reverse o.booleans.items;
       targets = reverse o.targets.items;
       text = o.text.items;
       values = [];
@@ -45,6 +47,7 @@ impl Operands {
     {
         Operands {
             integers: SmallVec::new(alloc),
+            booleans: SmallVec::new(alloc),
             targets: Vec::new(alloc),
             text: Vec::new(alloc),
         }
@@ -55,6 +58,7 @@ impl Operands {
         ensures { self.new ≡ no_operands }
     {
         self.integers.clear();
+        self.booleans.clear();
         self.targets.clear();
         self.text.clear();
     }
@@ -75,6 +79,26 @@ impl Operands {
     {
         match self.integers.pop() {
             Some(value) => Int32::new(value),
+            None => unreachable!(),
+        }
+    }
+
+    /// One more truth value. No object is being declared, as yet.
+    pub fn push_truth(&mut self, value: bool) -> Result<(), AllocError>
+        ensures pushed { OnOk result (self.new ≡ with_truth value self.old) }
+        ensures no_object { self.old.cells ≡ None }
+    {
+        self.booleans.push(value)?;
+        Ok(())
+    }
+
+    /// Takes the newest truth value.
+    pub fn pop_truth(&mut self) -> bool
+        requires { 0 < length self.old.booleans }
+        ensures { self.old ≡ with_truth result self.new }
+    {
+        match self.booleans.pop() {
+            Some(value) => value,
             None => unreachable!(),
         }
     }
@@ -112,6 +136,18 @@ impl Operands {
         ensures { OnOk result (self.new ≡ record self.old { text = self.old.text ++ image value }) }
     {
         value.push_image(&mut self.text)
+    }
+
+    /// Puts the image of a truth value at the end of the text (RM 3.5(30)).
+    pub fn append_truth(&mut self, value: bool) -> Result<(), AllocError>
+        ensures { OnOk result
+            (self.new ≡ record self.old { text = self.old.text ++ image_of_truth value }) }
+    {
+        if value {
+            self.append(b"TRUE")
+        } else {
+            self.append(b"FALSE")
+        }
     }
 
     /// The text so far.

@@ -266,7 +266,7 @@ pub fn generate(alloc: Global, program: &Program) -> Result<SoundCode, AllocErro
         ..
     } = program;
     let code = write_code(alloc, declarations, statements, *end)?;
-    match verify(code) {
+    match verify(alloc, code)? {
         Some(sound) => Ok(sound),
         None => unreachable!(),
     }
