@@ -22,7 +22,8 @@ use Rattle.aud_code.specs.Instruction.{Instruction, OnTwo}
 use Rattle.aud_code.specs.Flat.{FlatLine, instructs}
 use Rattle.aud_gen.specs.Instructions.{integer_code, text_code}
 use Rattle.aud_gen.specs.Layout.{around_out, in_call, end_line, guard_line_by, main_size_by, part_size_by, body_size_by, statement_code_by, part_code_by, unit_code_by, units_code_by}
-use Rattle.aud_gen.specs.Written.{flat_step, written, written_bodies, statement_length, statements_length, step_to, statement_lines, part_lines, end_lines, body_lines, body_length}
+use Rattle.aud_gen.specs.Written.{flat_step, written, written_bodies}
+use Rattle.aud_gen.specs.Writes.{in_order, inside, statement_length, statements_length, step_to, statement_lines, part_lines, end_lines, body_lines, body_length}
 use Rattle.aud_gen.proofs.Flat.Assembly.{assembled_append}
 use Rattle.aud_gen.proofs.Loops.{dropped, written_more}
 
@@ -65,7 +66,7 @@ part_length [] = refl
 part_length (s ∷ ss) = before_length s ss
 
 -- a statement that is one step
-one_step : (s : Statement) (place next out last : ℕ) → statement_lines (plain_statement s) place next out last ≡ step_to (plain_statement s) next out
+one_step : (s : Statement) (place next out last : ℕ) → statement_lines (plain_statement s) place next (inside out last) ≡ step_to (plain_statement s) next out
 one_step (Declare at e) place next out last = append-nil _
 one_step (Null at) place next out last = append-nil _
 one_step (Assign at v e) place next out last = append-nil _
@@ -73,7 +74,7 @@ one_step (Put at t) place next out last = append-nil _
 
 -- of a statement and those behind it, from a place on
 abbrev pub lines_from : Statement → List Statement → (place next out last : ℕ) → List FlatLine
-lines_from s ss place next out last = statement_lines (before (plain_statement s) (plain_statements ss)) place next out last
+lines_from s ss place next out last = statement_lines (in_order s ss) place next (inside out last)
 
 pub last_step : (s : Statement) (place next out last : ℕ) → lines_from s [] place next out last ≡ step_to (plain_statement s) next out
 last_step s place next out last = one_step s place next out last
@@ -82,8 +83,8 @@ last_step s place next out last = one_step s place next out last
 followed : (s t : Statement) (ts : List Statement) (place next out last : ℕ) → lines_from s (t ∷ ts) place next out last ≡ step_to (plain_statement s) (place + statement_length (plain_statement s)) out ++ lines_from t ts (place + statement_length (plain_statement s)) next out last
 followed s t ts place next out last =
     let middle = place + statement_length (plain_statement s) in
-    let a = around_out out (in_call last) in
-    assembled_append (λ n. n) (statement_code_by flat_step (plain_statement s) place middle a) (statement_code_by flat_step (before (plain_statement t) (plain_statements ts)) middle next a)
+    let a = inside out last in
+    assembled_append (λ n. n) (statement_code_by flat_step (plain_statement s) place middle a) (statement_code_by flat_step (in_order t ts) middle next a)
     ∙ ap (λ ls. ls ++ lines_from t ts middle next out last) (one_step s place middle out last)
 
 -- one step more is written, behind which the others stand
@@ -104,10 +105,10 @@ module _ (ds : List Statement) (ss : Statements) (pos : Pos) (place : ℕ) where
   Declared = plain_statements ds
 
   abbrev Done : tree.Statement
-  Done = before (plain_statement ss.first) (plain_statements ss.others.items)
+  Done = in_order ss.first ss.others.items
 
   abbrev At : (begin guard last : ℕ) → List FlatLine
-  At begin guard last = part_lines Declared place begin last last ++ (statement_lines Done begin last guard last ++ end_lines pos last)
+  At begin guard last = part_lines ds place begin (inside last last) ++ (statement_lines Done begin last (inside guard last) ++ end_lines pos last)
 
   -- where its statements begin, the line that guards them and its end
   pub begins : (begin n : ℕ) → n ≡ statements_length Declared → begin ≡ place + n → begin ≡ place + part_size_by flat_step (part_of Declared) 1
@@ -117,20 +118,20 @@ module _ (ds : List Statement) (ss : Statements) (pos : Pos) (place : ℕ) where
   guards_at begin guard n m k hn hm hk e = omega (arith, hn, hm, hk, e, before_length (plain_statement ss.first) (plain_statements ss.others.items))
 
   pub body_written : (begin guard last : ℕ) (old n1 n2 n3 : List FlatLine) → begin ≡ place + part_size_by flat_step (part_of Declared) 1 → guard ≡ begin + statement_length Done → last ≡ guard + 1 →
-      n1 ≡ old ++ part_lines Declared place begin last last → n2 ≡ n1 ++ statement_lines Done begin last guard last → n3 ≡ n2 ++ end_lines pos last → n3 ≡ old ++ body_lines ds ss pos place
+      n1 ≡ old ++ part_lines ds place begin (inside last last) → n2 ≡ n1 ++ statement_lines Done begin last (inside guard last) → n3 ≡ n2 ++ end_lines pos last → n3 ≡ old ++ body_lines ds ss pos place
   body_written begin guard last old n1 n2 n3 eb eg el h1 h2 h3 =
       let first = place + part_size_by flat_step (part_of Declared) 1 in
       let guarding = first + statement_length Done in
       let ending = first + main_size_by flat_step Done no_handlers 1 in
       let ends : last ≡ ending = omega (arith, eb, eg, el) in
       let guarded : guard ≡ guarding = omega (arith, eb, eg) in
-      let cd = part_code_by flat_step (part_of Declared) place first (around_out ending (in_call ending)) in
-      let cs = statement_code_by flat_step Done first ending (around_out guarding (in_call ending)) in
+      let cd = part_code_by flat_step (part_of Declared) place first (inside ending ending) in
+      let cs = statement_code_by flat_step Done first ending (inside guarding ending) in
       let ce = guard_line_by flat_step no_handlers pos (suc guarding) ending 1 ∷ end_line construct.Unit pos 0 ending ∷ [] in
-      written_more old n1 n3 (part_lines Declared place begin last last) (statement_lines Done begin last guard last ++ end_lines pos last) h1
-      (written_more n1 n2 n3 (statement_lines Done begin last guard last) (end_lines pos last) h2 h3)
+      written_more old n1 n3 (part_lines ds place begin (inside last last)) (statement_lines Done begin last (inside guard last) ++ end_lines pos last) h1
+      (written_more n1 n2 n3 (statement_lines Done begin last (inside guard last)) (end_lines pos last) h2 h3)
       ∙ ap (λ z. old ++ At z guard last) eb ∙ ap (λ z. old ++ At first z last) guarded ∙ ap (λ z. old ++ At first guarding z) ends
-      ∙ ap (λ z. old ++ z) (ap (λ z. part_lines Declared place first ending ending ++ z) (sym (assembled_append (λ n. n) cs ce)) ∙ sym (assembled_append (λ n. n) cd (cs ++ ce)))
+      ∙ ap (λ z. old ++ z) (ap (λ z. part_lines ds place first (inside ending ending) ++ z) (sym (assembled_append (λ n. n) cs ce)) ∙ sym (assembled_append (λ n. n) cd (cs ++ ce)))
 
   pub behind_body : (begin guard last behind : ℕ) → begin ≡ place + part_size_by flat_step (part_of Declared) 1 → guard ≡ begin + statement_length Done → last ≡ guard + 1 → behind ≡ last + 1 → behind ≡ place + body_length ds ss pos
   behind_body begin guard last behind eb eg el e = omega (arith, eb, eg, el, e)

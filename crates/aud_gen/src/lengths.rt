@@ -3,7 +3,7 @@
 ghost use Rattle.std.specs.Prelude.{◌≡◌, ◌+◌, length, IfOk};
 ghost use Rattle.aud_typed.specs.Ties.View.{plain_integer, plain_text, plain_statement, plain_statements};
 ghost use Rattle.aud_gen.specs.Instructions.{integer_code, text_code};
-ghost use Rattle.aud_gen.specs.Written.{statement_length, statements_length};
+ghost use Rattle.aud_gen.specs.Writes.{statement_length, statements_length};
 
 use aud_typed::program::{IntegerExpression, Statement, TextExpression};
 use std::alloc::AllocError;

@@ -2,14 +2,14 @@
 
 ghost use Rattle.std.specs.Prelude.{◌≡◌, ℕ, [], ◌∷◌, ◌+◌, map, IfOk};
 ghost use Rattle.aud_typed.specs.declared.program.Subtype.TheVariants.{Integer};
-ghost use Rattle.aud_typed.specs.Tree.{whole, before};
-ghost use Rattle.aud_typed.specs.Ties.View.{plain_integer, plain_text, plain_statement, plain_statements, plain_program};
+ghost use Rattle.aud_typed.specs.Tree.{whole};
+ghost use Rattle.aud_typed.specs.Ties.View.{plain_integer, plain_text, plain_statement, plain_program};
 ghost use Rattle.aud_meaning.specs.Items.{statement_at};
 ghost use Rattle.aud_code.specs.Flat.{instructs};
 ghost use Rattle.aud_code.specs.View.{plain_instruction, plain_ending, plain_line, plain_code};
 ghost use Rattle.aud_gen.specs.Instructions.{integer_code, value_code, text_code, instructions_of, ending_of};
 ghost use Rattle.aud_gen.specs.Assembly.{flat_program};
-ghost use Rattle.aud_gen.specs.Written.{step_to, statement_lines, part_lines, end_lines, body_of, body_lines, body_length, written_bodies, Writes};
+ghost use Rattle.aud_gen.specs.Writes.{in_order, inside, step_to, statement_lines, part_lines, end_lines, body_lines, body_length, body_code, Writes};
 
 use crate::lengths::{step_length, steps_length, sum};
 use aud_code::instruction::Instruction;
@@ -37,7 +37,9 @@ fn append_instruction(lines: &mut Vec<Line>, instruction: Instruction) -> Result
 }
 
 fn write_integer(lines: &mut Vec<Line>, e: &IntegerExpression) -> Result<(), AllocError>
-    ensures { Writes lines.old lines.new (map instructs (integer_code (plain_integer e.now))) result }
+    ensures { Writes lines.old lines.new
+        (map instructs (integer_code (plain_integer e.now)))
+        result }
 {
     match e {
         IntegerExpression::Number(value) => append_instruction(lines, Instruction::Push(*value)),
@@ -90,7 +92,9 @@ fn write_text(alloc: Global, lines: &mut Vec<Line>, t: &TextExpression) -> Resul
 
 // the instructions of a step
 fn write_instructions(alloc: Global, lines: &mut Vec<Line>, s: &Statement) -> Result<(), AllocError>
-    ensures { Writes lines.old lines.new (map instructs (instructions_of (plain_statement s.now))) result }
+    ensures { Writes lines.old lines.new
+        (map instructs (instructions_of (plain_statement s.now)))
+        result }
 {
     match s {
         Statement::Declare(_, e) => write_value(lines, e),
@@ -151,7 +155,7 @@ fn write_steps(
     place: usize,
 ) -> Result<(), AllocError>
     ensures { (last : ℕ) → Writes lines.old lines.new
-        (statement_lines (before (plain_statement first.now) (plain_statements others.now)) place next out last)
+        (statement_lines (in_order first.now others.now) place next (inside out last))
         result }
 {
     let mut step = first;
@@ -174,7 +178,7 @@ fn write_declarations(
     place: usize,
 ) -> Result<(), AllocError>
     ensures { (last : ℕ) → Writes lines.old lines.new
-        (part_lines (plain_statements declarations.now) place next out last)
+        (part_lines declarations.now place next (inside out last))
         result }
 {
     match declarations {
@@ -214,8 +218,11 @@ fn write_body(
     end: Pos,
     place: usize,
 ) -> Result<usize, AllocError>
-    ensures lines { Writes lines.old lines.new (body_lines declarations.now statements.now end place) result }
-    ensures behind { IfOk result (λ behind. behind ≡ place + body_length declarations.now statements.now end) }
+    ensures lines { Writes lines.old lines.new
+        (body_lines declarations.now statements.now end place)
+        result }
+    ensures behind { IfOk result
+        (λ behind. behind ≡ place + body_length declarations.now statements.now end) }
 {
     let Statements { first, others } = statements;
     let begin = sum(place, steps_length(declarations)?)?;
@@ -234,7 +241,7 @@ fn write_code(
     statements: &Statements,
     end: Pos,
 ) -> Result<Code, AllocError>
-    ensures { IfOk result (λ code. plain_code code ≡ written_bodies (body_of declarations.now statements.now end ∷ []) []) }
+    ensures { IfOk result (λ code. plain_code code ≡ body_code declarations.now statements.now end) }
 {
     let idle = Statements {
         first: Statement::Null(NOWHERE),

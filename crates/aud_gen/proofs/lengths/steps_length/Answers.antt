@@ -1,7 +1,7 @@
 use Rattle.std.proofs.Common.{ap, arith}
 use Rattle.std.proofs.lemmas.List.{drop_all}
 use Rattle.aud_typed.specs.Ties.View.{plain_statements}
-use Rattle.aud_gen.specs.Written.{statements_length}
+use Rattle.aud_gen.specs.Writes.{statements_length}
 use Rattle.aud_gen.proofs.Writing.{next_length}
 use Rattle.aud_gen.proofs.lengths.steps_length.Goals as goal
 

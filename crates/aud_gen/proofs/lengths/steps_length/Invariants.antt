@@ -1,6 +1,6 @@
 use Rattle.std.proofs.Common.{◌≡◌, ◌+◌, drop}
 use Rattle.aud_typed.specs.Ties.View.{plain_statements}
-use Rattle.aud_gen.specs.Written.{statements_length}
+use Rattle.aud_gen.specs.Writes.{statements_length}
 use Rattle.aud_gen.proofs.lengths.steps_length.Given as goal
 
 abbrev pub invariant-loop-s : goal.invariant-loop-s

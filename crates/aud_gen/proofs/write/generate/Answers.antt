@@ -4,12 +4,12 @@ use Rattle.aud_typed.specs.declared.program.Program.{Program}
 use Rattle.aud_typed.specs.Ties.View.{plain_program}
 use Rattle.aud_code.specs.Sound.{IsSound}
 use Rattle.aud_gen.specs.Assembly.{flat_program}
-use Rattle.aud_gen.specs.Written.{body_of, written_bodies}
+use Rattle.aud_gen.specs.Writes.{body_code}
 use Rattle.aud_gen.proofs.Flat.Sound.{code_is_sound}
 use Rattle.aud_gen.proofs.Flat.Written.{written_law}
 use Rattle.aud_gen.proofs.write.generate.Goals as goal
 
-its_code : (p : Program) → written_bodies (body_of p.declarations.items p.statements p.end ∷ []) [] ≡ flat_program (plain_program p)
+its_code : (p : Program) → body_code p.declarations.items p.statements p.end ≡ flat_program (plain_program p)
 its_code p = sym (written_law (plain_program p))
 
 -- what was written is sound, since it is the program's code

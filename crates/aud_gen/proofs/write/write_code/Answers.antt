@@ -6,7 +6,8 @@ use Rattle.aud_typed.specs.Ties.View.{plain_statement, plain_statements}
 use Rattle.aud_meaning.specs.Items.{nowhere}
 use Rattle.aud_code.specs.View.{plain_line}
 use Rattle.aud_gen.specs.Layout.{unit_code_by}
-use Rattle.aud_gen.specs.Written.{flat_step, written, body_of, body_lines}
+use Rattle.aud_gen.specs.Written.{flat_step, written}
+use Rattle.aud_gen.specs.Writes.{body_of, body_lines}
 use Rattle.aud_gen.proofs.Writing.{bodies_written}
 use Rattle.aud_gen.proofs.write.write_code.Goals as goal
 
