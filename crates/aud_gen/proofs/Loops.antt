@@ -1,6 +1,6 @@
 -- Loops over lists.
 use Rattle.std.proofs.Common.{◌≡◌, ℕ, suc, ◌+◌, ◌<◌, ◌≤◌, List, [], ◌∷◌, ◌++◌, length, drop, get_or, add-one, ap, sym, ◌∙◌, subst, append_assoc}
-use Rattle.std.specs.Prelude.{map}
+use Rattle.std.specs.Prelude.{map, Result, Ok, Err, OnOk, IfOk}
 use Rattle.std.proofs.Math.Seq.{drop-cons}
 use Rattle.std.proofs.lemmas.List.{drop_all}
 
@@ -34,3 +34,12 @@ module _ {T X Y : Type 0} (all : T → List Y → T) (plain : X → Y) where
 -- some are written behind others
 pub written_more : {A : Type 0} (old now new a b : List A) → now ≡ old ++ a → new ≡ now ++ b → new ≡ old ++ (a ++ b)
 written_more old now new a b h k = k ∙ ap (λ z. z ++ b) h ∙ append_assoc old a b
+
+-- what holds where there is a value
+pub on_ok : {T E : Type 0} (r : Result T E) {P : Type 0} → P → OnOk r P
+on_ok (Ok x) h = h
+on_ok (Err e) h = tt
+
+pub if_ok : {T E : Type 0} (r : Result T E) {P Q : T → Type 0} → ((x : T) → P x → Q x) → IfOk r P → IfOk r Q
+if_ok (Ok x) f h = f x h
+if_ok (Err e) f h = tt

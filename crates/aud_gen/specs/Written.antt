@@ -1,59 +1,29 @@
--- The code of one body, from its declarations and statements in memory.
-use Rattle.std.specs.Prelude.{◌≡◌, ℕ, suc, ◌+◌, List, ◌++◌, length, map, Vec, Result, OnOk}
-use Rattle.std.specs.Global.{Global}
-use Rattle.std.specs.declared.alloc.AllocError.{AllocError}
-use Rattle.aud_text.specs.declared.place.Pos.{Pos}
-use Rattle.aud_typed.specs.declared.program.Statement.{Statement}
-use Rattle.aud_typed.specs.declared.program.Statement.TheVariants.{Declare, Null, Assign, Put}
-use Rattle.aud_typed.specs.declared.program.Statements.{Statements}
-use Rattle.aud_typed.specs.declared.program.Subtype.TheVariants.{Integer}
-use Rattle.aud_typed.specs.Tree as tree
-use Rattle.aud_typed.specs.Tree.{whole, scalar, BooleanExpression, Program}
-use Rattle.aud_typed.specs.Ties.View.{plain_integer, plain_text}
-use Rattle.aud_meaning.specs.Items.{nowhere}
-use Rattle.aud_code.specs.declared.line.Line.{Line}
+-- The code of a program, line by line from its first to its last, with the places of instructions: the layout, where behind a
+-- statement's own step are the step's instructions and its ending.
+use Rattle.std.specs.Prelude.{◌≡◌, ℕ, suc, ◌+◌, List, length, map}
+use Rattle.aud_typed.specs.Tree.{Statement, Body, BooleanExpression, Program}
 use Rattle.aud_code.specs.Flat.{FlatLine, Flat}
-use Rattle.aud_code.specs.View.{plain_line}
 use Rattle.aud_gen.specs.Instructions.{condition_code, instructions_of}
-use Rattle.aud_gen.specs.Layout as layout
-use Rattle.aud_gen.specs.Layout.{Code, code_of_by}
+use Rattle.aud_gen.specs.Layout.{Line, units_code_by, starts_from_by, spare_from_by}
 use Rattle.aud_gen.specs.Assembly.{assembled_from, flat_program}
-use Rattle.aud_gen.specs.Simple.{Simple, declares, idles, assigns, puts, body_at, size_of, code_from}
 
-abbrev pub simple_of : Statement → Simple
-simple_of (Declare at e) = declares at (whole Integer (plain_integer e))
-simple_of (Null at) = idles at
-simple_of (Assign at v e) = assigns at (scalar v Integer) (whole Integer (plain_integer e))
-simple_of (Put at t) = puts at (plain_text t)
-
--- the lines of a body from a place on, and how many they are
-abbrev pub body_lines : List Statement → Statements → Pos → ℕ → List FlatLine
-body_lines ds ss pos place = body_at (map simple_of ds) (simple_of ss.first) (map simple_of ss.others.items) nowhere pos place
-
-abbrev pub body_size : List Statement → Statements → ℕ
-body_size ds ss = size_of (map simple_of ds) (simple_of ss.first) (map simple_of ss.others.items)
-
-abbrev pub body_code : List Statement → Statements → Pos → Flat
-body_code ds ss pos = code_from (map simple_of ds) (simple_of ss.first) (map simple_of ss.others.items) pos
-
--- these lines are written behind those that are there; nothing is said where memory is refused
-abbrev pub Writes : {X : Type 0} → Result X AllocError → Vec Line Global → Vec Line Global → List FlatLine → Type 0
-Writes result old new written = OnOk result (map plain_line new.items ≡ map plain_line old.items ++ written)
-
--- The layout with the places of instructions: behind a statement's own step are the instructions of the step, and its ending.
-
-abbrev pub flat_step : tree.Statement → ℕ → ℕ
+abbrev pub flat_step : Statement → ℕ → ℕ
 flat_step s n = suc (n + length (instructions_of s))
 
 -- lines of the layout as they stand in code: no place moves
-abbrev pub written : List layout.Line → List FlatLine
+abbrev pub written : List Line → List FlatLine
 written = assembled_from (λ n. n)
 
-abbrev pub written_code : Code → List BooleanExpression → Flat
-written_code code barriers = record { lines = written code.lines; starts = code.starts; spare = code.spare; barriers = map condition_code barriers }
+abbrev pub written_bodies : List Body → List BooleanExpression → Flat
+written_bodies bodies barriers = record {
+  lines = written (units_code_by flat_step bodies 0);
+  starts = starts_from_by flat_step bodies 0;
+  spare = spare_from_by flat_step bodies 0;
+  barriers = map condition_code barriers;
+}
 
 abbrev pub written_program : Program → Flat
-written_program program = written_code (code_of_by flat_step program) program.barriers
+written_program program = written_bodies program.bodies program.barriers
 
 abbrev pub WrittenLaw : Type 0
 WrittenLaw = (program : Program) → flat_program program ≡ written_program program

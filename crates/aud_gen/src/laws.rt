@@ -3,7 +3,6 @@
 
 ghost use Rattle.aud_gen.specs.Asking.{DeclarationLaw, NullLaw, AssignmentLaw, PutLaw, AskedLaw, ComingLaw, BarrierLaw};
 ghost use Rattle.aud_gen.specs.Law.{LayoutAgreementLaw, AgreementLaw, SeenLaw, OrderLaw, MovesLaw, StateLaw, RaisedLaw, StepLaw, RunLaw, OpeningLaw, SupplyLaw, AdvanceLaw, StartLaw, SoundLaw};
-ghost use Rattle.aud_gen.specs.Simple.{SimpleCodeLaw};
 ghost use Rattle.aud_gen.specs.Written.{WrittenLaw};
 
 /// The instructions of a declaration ask for the variable with its initial value (RM 3.3.1).
@@ -97,11 +96,6 @@ pub fn start_law()
 /// The code of every program is sound.
 pub fn sound_law()
     ensures { SoundLaw }
-{}
-
-/// The code of a program of one body without branches, line by line from its first to its last.
-pub fn simple_code_law()
-    ensures { SimpleCodeLaw }
 {}
 
 /// The code of every program, line by line from its first to its last.

@@ -1,10 +1,9 @@
 // How many lines each part of a program becomes.
 
-ghost use Rattle.std.specs.Prelude.{◌≡◌, ◌+◌, length, map, IfOk};
-ghost use Rattle.aud_typed.specs.Ties.View.{plain_integer, plain_text};
+ghost use Rattle.std.specs.Prelude.{◌≡◌, ◌+◌, length, IfOk};
+ghost use Rattle.aud_typed.specs.Ties.View.{plain_integer, plain_text, plain_statement, plain_statements};
 ghost use Rattle.aud_gen.specs.Instructions.{integer_code, text_code};
-ghost use Rattle.aud_gen.specs.Simple.{step_size, steps_size};
-ghost use Rattle.aud_gen.specs.Written.{simple_of};
+ghost use Rattle.aud_gen.specs.Writes.{statement_length, statements_length};
 
 use aud_typed::program::{IntegerExpression, Statement, TextExpression};
 use std::alloc::AllocError;
@@ -54,7 +53,7 @@ pub fn text_length(t: &TextExpression) -> Result<usize, AllocError>
 
 /// Of a step: its instructions and its ending.
 pub fn step_length(s: &Statement) -> Result<usize, AllocError>
-    ensures { IfOk result (λ n. n ≡ step_size (simple_of s.now)) }
+    ensures { IfOk result (λ n. n ≡ statement_length (plain_statement s.now)) }
 {
     match s {
         Statement::Declare(_, e) => sum(integer_length(e)?, 2),
@@ -66,7 +65,7 @@ pub fn step_length(s: &Statement) -> Result<usize, AllocError>
 
 /// Of steps one after the other.
 pub fn steps_length(steps: &[Statement]) -> Result<usize, AllocError>
-    ensures { IfOk result (λ n. n ≡ steps_size (map simple_of steps.now)) }
+    ensures { IfOk result (λ n. n ≡ statements_length (plain_statements steps.now)) }
 {
     let mut total = 0;
     for s in steps {

@@ -1,16 +1,15 @@
 // The lines of a program's code, from its first to its last.
 
-ghost use Rattle.std.specs.Prelude.{◌≡◌, [], ◌∷◌, ◌+◌, map, IfOk};
+ghost use Rattle.std.specs.Prelude.{◌≡◌, ℕ, [], ◌∷◌, ◌+◌, map, IfOk};
 ghost use Rattle.aud_typed.specs.declared.program.Subtype.TheVariants.{Integer};
 ghost use Rattle.aud_typed.specs.Tree.{whole};
-ghost use Rattle.aud_typed.specs.Ties.View.{plain_integer, plain_text, plain_program};
+ghost use Rattle.aud_typed.specs.Ties.View.{plain_integer, plain_text, plain_statement, plain_program};
 ghost use Rattle.aud_meaning.specs.Items.{statement_at};
-ghost use Rattle.aud_code.specs.Flat.{instructs, end};
+ghost use Rattle.aud_code.specs.Flat.{instructs};
 ghost use Rattle.aud_code.specs.View.{plain_instruction, plain_ending, plain_line, plain_code};
 ghost use Rattle.aud_gen.specs.Instructions.{integer_code, value_code, text_code, instructions_of, ending_of};
 ghost use Rattle.aud_gen.specs.Assembly.{flat_program};
-ghost use Rattle.aud_gen.specs.Simple.{statement_of, step_to, steps_from, steps_at, guard_end, unit_end};
-ghost use Rattle.aud_gen.specs.Written.{simple_of, body_lines, body_size, body_code, Writes};
+ghost use Rattle.aud_gen.specs.Writes.{in_order, inside, step_to, statement_lines, part_lines, end_lines, body_lines, body_length, body_code, Writes};
 
 use crate::lengths::{step_length, steps_length, sum};
 use aud_code::instruction::Instruction;
@@ -92,7 +91,7 @@ fn write_text(alloc: Global, lines: &mut Vec<Line>, t: &TextExpression) -> Resul
 // the instructions of a step
 fn write_instructions(alloc: Global, lines: &mut Vec<Line>, s: &Statement) -> Result<(), AllocError>
     ensures { Writes result lines.old lines.new
-        (map instructs (instructions_of (statement_of (simple_of s.now)))) }
+        (map instructs (instructions_of (plain_statement s.now))) }
 {
     match s {
         Statement::Declare(_, e) => write_value(lines, e),
@@ -106,7 +105,7 @@ fn write_instructions(alloc: Global, lines: &mut Vec<Line>, s: &Statement) -> Re
 }
 
 fn ending(s: &Statement) -> Ending
-    ensures { plain_ending result ≡ ending_of (statement_of (simple_of s.now)) }
+    ensures { plain_ending result ≡ ending_of (plain_statement s.now) }
 {
     match s {
         Statement::Declare(_, _) => Ending::Declare,
@@ -117,7 +116,7 @@ fn ending(s: &Statement) -> Ending
 }
 
 fn place_in_text(s: &Statement) -> Pos
-    ensures { result ≡ statement_at (statement_of (simple_of s.now)) }
+    ensures { result ≡ statement_at (plain_statement s.now) }
 {
     match s {
         Statement::Declare(at, _) => *at,
@@ -134,7 +133,7 @@ fn write_step(
     out: usize,
     next: usize,
 ) -> Result<(), AllocError>
-    ensures { Writes result lines.old lines.new (step_to (simple_of s.now) out next) }
+    ensures { Writes result lines.old lines.new (step_to (plain_statement s.now) next out) }
 {
     write_instructions(alloc, lines, s)?;
     let last = Last::Does(ending(s), next);
@@ -152,8 +151,8 @@ fn write_steps(
     next: usize,
     place: usize,
 ) -> Result<(), AllocError>
-    ensures { Writes result lines.old lines.new
-        (steps_from (simple_of first.now) (map simple_of others.now) out next place) }
+    ensures { (last : ℕ) → Writes result lines.old lines.new
+        (statement_lines (in_order first.now others.now) place next (inside out last)) }
 {
     let mut step = first;
     let mut begin = place;
@@ -174,8 +173,8 @@ fn write_declarations(
     next: usize,
     place: usize,
 ) -> Result<(), AllocError>
-    ensures { Writes result lines.old lines.new
-        (steps_at (map simple_of declarations.now) out next place) }
+    ensures { (last : ℕ) → Writes result lines.old lines.new
+        (part_lines declarations.now place next (inside out last)) }
 {
     match declarations {
         [] => Ok(()),
@@ -185,8 +184,7 @@ fn write_declarations(
 
 // behind the statements: where its handlers would be looked for, and its end
 fn write_end(lines: &mut Vec<Line>, at: Pos, out: usize) -> Result<(), AllocError>
-    ensures { Writes result lines.old lines.new
-        (end (guard_end at out) ∷ end (unit_end at 0 out) ∷ []) }
+    ensures { Writes result lines.old lines.new (end_lines at out) }
 {
     append(
         lines,
@@ -218,7 +216,7 @@ fn write_body(
     ensures lines { Writes result lines.old lines.new
         (body_lines declarations.now statements.now end place) }
     ensures behind { IfOk result
-        (λ behind. behind ≡ place + body_size declarations.now statements.now) }
+        (λ behind. behind ≡ place + body_length declarations.now statements.now end) }
 {
     let Statements { first, others } = statements;
     let begin = sum(place, steps_length(declarations)?)?;
@@ -237,8 +235,7 @@ fn write_code(
     statements: &Statements,
     end: Pos,
 ) -> Result<Code, AllocError>
-    ensures { IfOk result
-        (λ code. plain_code code ≡ body_code declarations.now statements.now end) }
+    ensures { IfOk result (λ code. plain_code code ≡ body_code declarations.now statements.now end) }
 {
     let idle = Statements {
         first: Statement::Null(NOWHERE),

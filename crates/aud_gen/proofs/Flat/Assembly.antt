@@ -1,5 +1,5 @@
 -- Where the instructions and the ending of each step stand.
-use Rattle.std.proofs.Common.{◌≡◌, ℕ, zero, suc, ◌+◌, List, [], ◌∷◌, ◌++◌, length, drop, map, get_or, refl, sym, ap, ◌∙◌, length-append}
+use Rattle.std.proofs.Common.{◌≡◌, ℕ, zero, suc, ◌+◌, List, [], ◌∷◌, ◌++◌, length, drop, map, get_or, refl, sym, ap, ◌∙◌, length-append, append_assoc}
 use Rattle.std.proofs.lemmas.List.{drop-drop, drop_at}
 use Rattle.std.proofs.Math.Seq.{drop-nil}
 use Rattle.aud_gen.specs.Layout.{Line, no_line}
@@ -50,3 +50,7 @@ module _ (f : ℕ → ℕ) where
   length_assembled [] = refl
   length_assembled (l ∷ ls) =
       length-append (step_lines f l) (assembled_from f ls) ∙ ap (λ n. n + length (assembled_from f ls)) (its_length (instructions_by l.what) (end_line f l)) ∙ ap (λ n. line_size l + n) (length_assembled ls)
+
+  pub assembled_append : (xs ys : List Line) → assembled_from f (xs ++ ys) ≡ assembled_from f xs ++ assembled_from f ys
+  assembled_append [] ys = refl
+  assembled_append (x ∷ xs) ys = ap (λ ls. step_lines f x ++ ls) (assembled_append xs ys) ∙ sym (append_assoc (step_lines f x) (assembled_from f xs) (assembled_from f ys))

@@ -1,9 +1,9 @@
 -- Lines of the layout with their places moved: what they become stands as it is.
-use Rattle.std.proofs.Common.{◌≡◌, ℕ, suc, List, [], ◌∷◌, ◌++◌, length, map, get_or, Option, Some, None, refl, sym, ap, ◌∙◌}
+use Rattle.std.proofs.Common.{◌≡◌, ℕ, suc, List, [], ◌∷◌, ◌++◌, map, get_or, Option, Some, None, refl, sym, ap, ◌∙◌}
 use Rattle.std.proofs.lemmas.List.{map-append, map-id, length-map}
 use Rattle.std.proofs.Math.ListN.{get_or-map}
 use Rattle.aud_code.specs.Places.{Way, Guard}
-use Rattle.aud_code.specs.Flat.{Last, Guards, instructs, end}
+use Rattle.aud_code.specs.Flat.{Guards, instructs, end}
 use Rattle.aud_gen.specs.Layout.{What, does, continues, guards, ends, leaves, Line, Around, one_more, in_loop, in_for, around_out, ways_count}
 use Rattle.aud_gen.specs.Assembly.{instructions_by, guard_moved, last_by, way_moved, end_line, step_lines, assembled_from}
 

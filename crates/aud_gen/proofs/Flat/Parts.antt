@@ -1,21 +1,17 @@
 -- The places in the layout's lines, the ways out of a block and single lines, moved to where steps begin.
-use Rattle.std.proofs.Common.{◌≡◌, ℕ, suc, ◌+◌, List, [], ◌∷◌, ◌++◌, length, map, Option, Some, None, refl, sym, ap, ◌∙◌, arith, append-nil}
+use Rattle.std.proofs.Common.{◌≡◌, ℕ, suc, ◌+◌, List, [], ◌∷◌, ◌++◌, length, map, Some, None, refl, sym, ap, ◌∙◌, arith}
 use Rattle.std.proofs.lemmas.List.{length-map, map-append}
 use Rattle.aud_text.specs.declared.place.Pos.{Pos}
-use Rattle.aud_typed.specs.Tree.{For, Statement, sequence, declare, declare_array, declare_tasks, declare_object, activated, activate, null, assign, put, if_then, plain_loop, while_loop, for_loop, exit, return, return_value, raising, raising_again, block, procedure_call, own_entry_call, operation_call, entry_call, delay, accept, select, abort, Part, nothing, some, Handlers, no_handlers, handler, Body, body, Doing, without_do, with_do, Alternatives, no_alternatives, accepting, delaying, terminating}
+use Rattle.aud_typed.specs.Tree.{For, Statement, Part, nothing, some, Handlers, no_handlers, handler, Body, body, Doing, without_do, with_do, Alternatives, no_alternatives, accepting, delaying, terminating}
 use Rattle.aud_meaning.specs.declared.state.Construct.{Construct}
-use Rattle.aud_meaning.specs.declared.state.Construct.TheVariants as construct
-use Rattle.aud_meaning.specs.Items.{no_body}
-use Rattle.aud_code.specs.Places.{Way, Guard}
-use Rattle.aud_gen.specs.Layout.{Line, continues, guards, Around, Code, code_of, in_loop, in_for, in_block, in_call, around_out, ways_count, statement_size, part_size, handlers_size, body_size, doing_size, offered_size, main_size, end_place, line, part_place, doing_place, stub_line, stubs, stub_ways, stubs_of, end_line, guard_line, guards_of, parts_from, bodies_from, statement_code, part_code, handlers_code, body_code, doing_code, offered_code, unit_code, units_code, starts_from, spare_from, statement_size_by, part_size_by, handlers_size_by, body_size_by, doing_size_by, offered_size_by, main_size_by, end_place_by, guards_of_by, parts_from_by, bodies_from_by, guard_line_by, statement_code_by, part_code_by, handlers_code_by, body_code_by, doing_code_by, offered_code_by, unit_code_by, units_code_by, starts_from_by, spare_from_by}
-use Rattle.aud_gen.specs.Assembly.{offset, guard_moved, flat_program}
-use Rattle.aud_gen.specs.Instructions.{condition_code}
-use Rattle.aud_gen.specs.Written.{flat_step, written, WrittenLaw}
+use Rattle.aud_code.specs.Places.{Way}
+use Rattle.aud_gen.specs.Layout.{Line, continues, guards, Around, in_block, ways_count, statement_size, part_size, doing_size, line, part_place, doing_place, stub_line, stubs, stub_ways, stubs_of, end_line, guard_line, guards_of, parts_from, bodies_from, statement_code, part_code, handlers_code, doing_code, offered_code, guards_of_by, parts_from_by, bodies_from_by, guard_line_by}
+use Rattle.aud_gen.specs.Assembly.{offset, guard_moved}
+use Rattle.aud_gen.specs.Written.{flat_step}
 use Rattle.aud_gen.specs.Shows.{HasAt}
-use Rattle.aud_gen.proofs.Standing.Places.{has_front, has_back, has_tail, length-statement, length-part, length-handlers, length-body, length-unit, length-doing, length-offered, count-block}
-use Rattle.aud_gen.proofs.Flat.Assembly.{offset_zero}
-use Rattle.aud_gen.proofs.Flat.Moving.{way_to, moved, line_moved, same_lines, both_moved, count_moved, out_moved, loop_moved, for_moved, exit_moved}
-use Rattle.aud_gen.proofs.Flat.Behind.{behind_line, behind_plain, behind_statement, behind_part, behind_doing, behind_offered, behind_body, behind_main}
+use Rattle.aud_gen.proofs.Standing.Places.{has_front, has_back, has_tail, length-statement, length-part, length-doing}
+use Rattle.aud_gen.proofs.Flat.Moving.{way_to, moved, line_moved}
+use Rattle.aud_gen.proofs.Flat.Behind.{behind_plain, behind_statement, behind_part, behind_doing}
 
 module _ (lines : List Line) where
   abbrev F : ℕ → ℕ

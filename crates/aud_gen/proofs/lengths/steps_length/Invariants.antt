@@ -1,8 +1,7 @@
 use Rattle.std.proofs.Common.{◌≡◌, ◌+◌, drop}
-use Rattle.std.specs.Prelude.{map}
-use Rattle.aud_gen.specs.Simple.{steps_size}
-use Rattle.aud_gen.specs.Written.{simple_of}
+use Rattle.aud_typed.specs.Ties.View.{plain_statements}
+use Rattle.aud_gen.specs.Writes.{statements_length}
 use Rattle.aud_gen.proofs.lengths.steps_length.Given as goal
 
 abbrev pub invariant-loop-s : goal.invariant-loop-s
-invariant-loop-s l = l.total + steps_size (map simple_of (drop l.s-index l.steps)) ≡ steps_size (map simple_of l.steps)
+invariant-loop-s l = l.total + statements_length (plain_statements (drop l.s-index l.steps)) ≡ statements_length (plain_statements l.steps)
