@@ -235,7 +235,8 @@ fn write_code(
     statements: &Statements,
     end: Pos,
 ) -> Result<Code, AllocError>
-    ensures { IfOk result (λ code. plain_code code ≡ body_code declarations.now statements.now end) }
+    ensures { IfOk result
+        (λ code. plain_code code ≡ body_code declarations.now statements.now end) }
 {
     let idle = Statements {
         first: Statement::Null(NOWHERE),
