@@ -264,7 +264,8 @@ pub fn generate(alloc: Global, program: &Program) -> Result<SoundCode, AllocErro
         ..
     } = program;
     let code = write_code(alloc, declarations, statements, *end)?;
-    match verify(alloc, code)? {
+    let verified = verify(alloc, code)?;
+    match verified {
         Some(sound) => Ok(sound),
         None => unreachable!(),
     }

@@ -16,7 +16,7 @@ its_code p = sym (written_law (plain_program p))
 pub unreachable-requires : goal.unreachable-requires
 unreachable-requires c =
     let is = c.in_ok-code.ensures ∙ rw c.deref.ensures.value (its_code c.args.program.now) in
-    false≢true (c.in-None.ensures.exact.1 (subst IsSound (sym is) (code_is_sound (plain_program c.args.program.now))))
+    false≢true ((rw c.in-None.is at c.in_ok-verified.ensures.exact).1 (subst IsSound (sym is) (code_is_sound (plain_program c.args.program.now))))
 
 pub returns : goal.returns
-returns c = c.in-Some.ensures.same ∙ c.in_ok-code.ensures ∙ rw c.deref.ensures.value (its_code c.args.program.now)
+returns c = (rw c.in-Some.is at c.in_ok-verified.ensures.same) ∙ c.in_ok-code.ensures ∙ rw c.deref.ensures.value (its_code c.args.program.now)
