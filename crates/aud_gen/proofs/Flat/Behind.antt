@@ -8,7 +8,7 @@ use Rattle.aud_gen.specs.Written.{flat_step}
 use Rattle.aud_gen.specs.Shows.{HasAt}
 use Rattle.aud_gen.proofs.Standing.Places.{has_front, has_back, has_tail, length-statement, length-part, length-handlers, length-body, length-doing, length-offered}
 use Rattle.aud_gen.proofs.Flat.Assembly.{offset_zero}
-use Rattle.aud_gen.proofs.Flat.Sizes.{total, total-statement, total-part, total-handlers, total-body, total-doing, total-offered}
+use Rattle.aud_gen.proofs.Standing.Sizes.{total, total-statement, total-part, total-handlers, total-body, total-doing, total-offered}
 
 -- the place behind a line
 next_offset : (lines : List Line) (n : ℕ) (l : Line) (rest : List Line) → drop n lines ≡ l ∷ rest → offset lines (suc n) ≡ offset lines n + line_size l
