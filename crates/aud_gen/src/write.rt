@@ -144,7 +144,8 @@ fn write_step(
     append(lines, Line::End(EndLine { last, at, out }))
 }
 
-// a step, and those behind it: behind each but the last stands the one that follows it
+// a step, and those behind it: behind each but the last stands the one that follows it; none of them leads to the body's end,
+// wherever that is
 fn write_steps(
     alloc: Global,
     lines: &mut Vec<Line>,
@@ -241,7 +242,8 @@ fn write_code(
     statements: &Statements,
     end: Pos,
 ) -> Result<Code, AllocError>
-    ensures { IfOk result (λ code. plain_code code ≡ body_code declarations.now statements.now end) }
+    ensures { IfOk result
+        (λ code. plain_code code ≡ body_code declarations.now statements.now end) }
 {
     let idle = Statements {
         first: Statement::Null(NOWHERE),
