@@ -45,6 +45,16 @@ def reached(roots):
     return order
 
 
+def sources(modules):
+    """The files of types that the program and these definitions share."""
+    found = set()
+    for module in modules:
+        with open(path_of(module), encoding="utf-8") as it:
+            for crate, name in re.findall(r"^use Rattle\.(aud_\w+)\.specs\.(?:declared|contracts)\.(\w+)\.", it.read(), re.MULTILINE):
+                found.add(os.path.join(TOP, crate, "src", name + ".rt"))
+    return sorted(found)
+
+
 def lines_of(module):
     with open(path_of(module), encoding="utf-8") as it:
         return len(it.readlines())
@@ -74,6 +84,10 @@ def main():
     for module in chosen:
         print(f"{lines_of(module):5}  {os.path.relpath(path_of(module), os.path.join(TOP, '..'))}")
     print(f"{sum(map(lines_of, chosen)):5}  lines in {len(chosen)} files")
+    if chosen is order:
+        print("and the types that the program shares with them, in")
+        for path in sources(order):
+            print("       " + os.path.relpath(path, os.path.join(TOP, "..")))
 
 
 main()

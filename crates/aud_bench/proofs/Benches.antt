@@ -14,7 +14,7 @@ use Rattle.aud_bench.specs.declared.request.Answer.TheVariants.{Refused}
 use Rattle.aud_bench.specs.contracts.request.Answer as contract
 use Rattle.aud_bench.specs.declared.service.Served.{Served}
 use Rattle.aud_bench.specs.Alone.{Loaded, replied, cost_from, cost, made}
-use Rattle.aud_bench.specs.Ties.Serving.{UnderWay, ServesBy, Serves}
+use Rattle.aud_bench.specs.Ties.Serving.{UnderWay, ServesBy, GoesOn}
 use Rattle.aud_bench.specs.Ties.Standing.{loaded_after, answers_to, units_done, AtFirst, told, IsAt}
 use Rattle.aud_bench.proofs.Standing.{cost_append, opens, still_first, loaded_append, answers_append, made_is, units_within}
 
@@ -35,7 +35,7 @@ pub one_more : (journal : List Request) (i : ℕ) (r : Request) → r ≡ get_or
 one_more journal i r is below = take_more journal i r below ∙ ap (λ x. take i journal ++ x ∷ []) (sym is)
 
 module _ (limits : Limits) (journal : List Request) (i p : ℕ) (answers : List Answer) (spent : Bool) (machine : Option Shown) (at : ∥ IsAt limits journal i p answers spent machine ∥₁) where
-  -- the answers are those that the units come to, and perhaps that memory was refused
+  -- the answers are those that the units come to, and behind them, where memory is refused, that it is
   pub answers_are : answers ≡ made limits journal (units_done limits journal i p) ++ told spent
   answers_are = ∥∥₁_elim at (answers_prop _ _) (λ a. a.answers_are ∙ ap (λ xs. xs ++ told spent) (sym (made_is limits journal i p a.shown a.next)))
 
@@ -113,7 +113,7 @@ module _ (limits : Limits) (journal : List Request) (i p : ℕ) (answers : List 
         subst (λ m. UnderWay limits r (loaded_after limits None (take i journal)) p m) (a.at_hand alive)
         (subst (λ rs. AtFirst limits (loaded_after limits None (take i journal)) rs p a.shown) next_is a.next)
 
-    module _ (units : ℕ) (served : Served) (after : Option Shown) (serves : (loaded : Option Loaded) → UnderWay limits r loaded p machine → Serves limits r loaded p units served after) where
+    module _ (units : ℕ) (served : Served) (after : Option Shown) (serves : GoesOn limits r p units machine served after) where
       -- the request is not answered yet
       pub goes_on : served.answer ≡ None → ∥ IsAt limits journal i served.progress answers spent after ∥₁
       goes_on none =

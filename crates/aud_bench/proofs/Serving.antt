@@ -9,7 +9,7 @@ use Rattle.aud_typed.specs.Ties.View.{plain_program}
 use Rattle.aud_meaning.specs.declared.state.State.TheVariants as state
 use Rattle.aud_meaning.specs.Configuration.{Item, Configuration}
 use Rattle.aud_meaning.specs.Control.{Controls}
-use Rattle.aud_meaning.specs.Items.{controls}
+use Rattle.aud_meaning.specs.Statements.{controls}
 use Rattle.aud_meaning.specs.Run.{moves_in, run, main_raised}
 use Rattle.aud_meaning.proofs.Counts.{run_moves, run_stays, run_full, run_cut, more_moves, no_moves}
 use Rattle.aud_single.specs.declared.run.Ran.{Ran}
@@ -20,9 +20,10 @@ use Rattle.aud_bench.specs.declared.request.Request.TheVariants as request
 use Rattle.aud_bench.specs.declared.request.Answer.{Answer}
 use Rattle.aud_bench.specs.declared.request.Answer.TheVariants as answer
 use Rattle.aud_bench.specs.declared.request.Raised.{Raised}
+use Rattle.aud_bench.specs.declared.service.Served.{Served}
 use Rattle.aud_bench.specs.Alone.{Loaded, answers_only, named_if, ended_by, report, ran_reply, steps_left, run_reply, load_reply, output_reply, replied}
 use Rattle.aud_bench.specs.Loading.{program_of}
-use Rattle.aud_bench.specs.Ties.Serving.{Holds, Replies, UnderWay, ServesBy}
+use Rattle.aud_bench.specs.Ties.Serving.{Holds, Replies, UnderWay, ServesBy, Serves, GoesOn}
 
 is_none : (n : ℕ) → n ≡ 0 → (n == 0) ≡ true
 is_none n e = ap (λ k. k == 0) e
@@ -60,6 +61,13 @@ costs_some limits (request.Run n) (Some l) = by (steps_left l.now == 0)
 costs_some limits request.Output loaded = omega (arith, output_costs loaded)
 costs_some limits request.Quit loaded = omega arith
 costs_some limits (request.Bad why) loaded = omega arith
+
+-- where a machine is at hand, a program is loaded
+pub of_program : (limits : Limits) (n p units : ℕ) (old : Shown) (served : Served) (after : Option Shown) →
+    ((l : Loaded) → UnderWay limits (request.Run n) (Some l) p (Some old) → Serves limits (request.Run n) (Some l) p units served after) →
+    GoesOn limits (request.Run n) p units (Some old) served after
+of_program limits n p units old served after each None under = absurd under.is_behind
+of_program limits n p units old served after each (Some l) under = each l under
 
 -- a request that is answered at once
 pub at_once : (limits : Limits) (r : Request) (loaded : Option Loaded) (done units : ℕ) (machine : Option Shown) (a : Answer) → (replied limits loaded r).cost ≡ 1 → done < (replied limits loaded r).cost → Replies limits a machine (replied limits loaded r) → ServesBy (Some a) limits r loaded done units 1 0 machine

@@ -1,5 +1,6 @@
 -- A private server, of one user alone: what it answers to a list of requests, and how many units each costs.
 use Rattle.std.specs.Prelude.{ℕ, ◌+◌, ◌-◌, min, max, List, [], ◌∷◌, Option, Some, None, Result, Ok, Err, Bool, true, false, ◌==◌, nat_lt, nat_le, ◌&&◌, ◌||◌, if◌then◌else◌, slice_index_or}
+use Rattle.aud_text.specs.declared.refusal.Refusal.{Refusal}
 use Rattle.aud_text.specs.declared.refusal.Refusal.TheVariants as refusal
 use Rattle.aud_text.specs.declared.limits.Limits.{Limits}
 use Rattle.aud_text.specs.declared.limits.TheConstants.{STEPS, REQUESTS, REQUEST_BYTES}
@@ -15,6 +16,8 @@ use Rattle.aud_bench.specs.declared.request.Raised.TheVariants.{Predefined, Decl
 use Rattle.aud_bench.specs.declared.request.Report.{Report}
 use Rattle.aud_bench.specs.declared.request.Request.{Request}
 use Rattle.aud_bench.specs.declared.request.Request.TheVariants as request
+use Rattle.aud_bench.specs.declared.request.BadRequest.{BadRequest}
+use Rattle.aud_bench.specs.declared.request.BadRequest.TheVariants as bad
 use Rattle.aud_bench.specs.declared.request.Answer.{Answer}
 use Rattle.aud_bench.specs.declared.request.Answer.TheVariants as answer
 use Rattle.aud_bench.specs.Size.{size}
@@ -90,12 +93,19 @@ abbrev pub output_reply : Option Loaded → Reply
 output_reply None = answers_only (answer.Refused refusal.NoProgram) None
 output_reply (Some loaded) = answers_only (answer.Output loaded.now.shared.output) (Some loaded)
 
+-- what a malformed request is answered
+abbrev pub refusal_of : BadRequest → Refusal
+refusal_of bad.UnknownCommand = refusal.UnknownCommand
+refusal_of bad.BadArgument = refusal.BadArgument
+refusal_of bad.LineTooLong = refusal.LineTooLong
+refusal_of bad.NotAscii = refusal.NotAscii
+
 abbrev pub replied : Limits → Option Loaded → Request → Reply
 replied limits loaded (request.Load source) = load_reply (program_of limits source) loaded
 replied limits loaded (request.Run n) = run_reply limits n loaded
 replied limits loaded request.Output = output_reply loaded
 replied limits loaded request.Quit = answers_only answer.Done loaded
-replied limits loaded (request.Bad why) = answers_only (answer.Refused why) loaded
+replied limits loaded (request.Bad why) = answers_only (answer.Refused (refusal_of why)) loaded
 
 abbrev pub is_quit : Request → Bool
 is_quit request.Quit = true
@@ -107,7 +117,7 @@ is_quit (request.Bad why) = false
 abbrev pub has_room : (requests bytes more : ℕ) → Bool
 has_room requests bytes more = nat_lt requests REQUESTS && nat_le (bytes + more) REQUEST_BYTES
 
--- whether a request fits after so many of so many bytes
+-- whether a request fits behind others, by how many they are and by their bytes
 abbrev pub fits : (requests bytes : ℕ) → Request → Bool
 fits requests bytes r = is_quit r || has_room requests bytes (size r)
 
@@ -146,10 +156,10 @@ cost limits requests = cost_from limits None requests
 abbrev pub made_after : Reply → ℕ → (Option Loaded → ℕ → List Answer) → List Answer
 made_after reply units others = if nat_le reply.cost units then reply.answer ∷ others reply.loaded (units - reply.cost) else []
 
--- the longest front of the answers to kept requests that cost at most so many units together
+-- the longest front of the answers to kept requests that cost at most n units together
 abbrev pub made_from : Limits → Option Loaded → List Request → ℕ → List Answer
-made_from limits loaded [] units = []
-made_from limits loaded (r ∷ rs) units = made_after (replied limits loaded r) units (λ next left. made_from limits next rs left)
+made_from limits loaded [] n = []
+made_from limits loaded (r ∷ rs) n = made_after (replied limits loaded r) n (λ next left. made_from limits next rs left)
 
 unfoldable pub made : Limits → List Request → ℕ → List Answer
 made limits journal units = made_from limits None journal units

@@ -15,13 +15,13 @@ use Rattle.aud_bench.specs.declared.request.Answer.{Answer}
 use Rattle.aud_bench.specs.declared.request.Answer.TheVariants.{Refused, RefusedAt}
 use Rattle.aud_bench.specs.Size.{line_count}
 
--- where a token of this number stands; behind the last one, the line after the last line
+-- where a token of this index stands; behind the last one, the line after the last line
 abbrev pub place_by : Option Element → List ℕ → Pos
 place_by (Some e) source = e.at
 place_by None source = record { line = suc (line_count source); col = 1 }
 
 abbrev pub place_of : List ℕ → List Element → ℕ → Pos
-place_of source tokens i = place_by (slice_get tokens i) source
+place_of source tokens index = place_by (slice_get tokens index) source
 
 abbrev pub after_checking : Result tree.Program Fault → Result tree.Program Answer
 after_checking (Ok program) = Ok program
@@ -29,8 +29,8 @@ after_checking (Err fault) = Err (RefusedAt fault.refusal fault.at)
 
 abbrev pub after_parsing : List ℕ → List Element → Result plain.Unit syntax.Fault → Result tree.Program Answer
 after_parsing source tokens (Ok read) = after_checking (checked read)
-after_parsing source tokens (Err (syntax.wrong_at i)) = Err (RefusedAt refusal.Syntax (place_of source tokens i))
-after_parsing source tokens (Err (syntax.deep_at i)) = Err (RefusedAt refusal.TooDeep (place_of source tokens i))
+after_parsing source tokens (Err (syntax.wrong_at index)) = Err (RefusedAt refusal.Syntax (place_of source tokens index))
+after_parsing source tokens (Err (syntax.deep_at index)) = Err (RefusedAt refusal.TooDeep (place_of source tokens index))
 
 abbrev pub after_lexing : List ℕ → Result (List Element) Pos → Result tree.Program Answer
 after_lexing source (Ok tokens) = after_parsing source tokens (syntax.parsed tokens)

@@ -13,7 +13,7 @@ size (Load source) = 6 + length (decimal (line_count source)) + length source
 size (Run steps) = 5 + length (decimal steps)
 size Output = 7
 size Quit = 5
-size (Bad code) = 1
+size (Bad why) = 1
 
 -- the bytes of all requests
 abbrev pub bytes_of : List Request → ℕ

@@ -1,18 +1,17 @@
 // The bench: the requests of one user, worked off in slices.
 
 ghost use Rattle.std.specs.Prelude.{◌≡◌, ℕ, ◌+◌, ◌-◌, ◌<◌, ◌≤◌, ◌++◌, min, List, [], ◌∷◌, Err, false, true, length, vec_len, vec_capacity, None, IfSome, OnOk, OnErr, IsErrOf};
-ghost use Rattle.aud_bench.specs.Alone.{cost, fits};
+ghost use Rattle.aud_bench.specs.Alone.{cost};
 ghost use Rattle.aud_bench.specs.Ties.Kept.{is_kept};
-ghost use Rattle.aud_bench.specs.Ties.Seen.{Seen, HasMade, is_closed, unanswered};
-ghost use Rattle.aud_bench.specs.Size.{bytes_of};
+ghost use Rattle.aud_bench.specs.Ties.Seen.{Seen, HasMade, is_closed, fits_behind, with_request, unanswered};
 ghost use Rattle.aud_bench.specs.declared.bench.GiveFault.TheVariants as fault;
 
 use crate::journal::{fits, is_quit, size};
 use crate::request::{Answer, Request};
 use crate::service::{Served, serve};
 use aud_machine::machine::Machine;
-use aud_text::refusal::Refusal;
 use aud_text::limits::Limits;
+use aud_text::refusal::Refusal;
 use std::alloc::{AllocError, Global};
 use std::marker::Model;
 use thiserror::Error;
@@ -45,7 +44,8 @@ pub struct Bench {
     bytes: usize,
     // There is room for one for each request, and for one more.
     answers: Vec<Answer>,
-    answered: usize,
+    // The first requests, which have cost all their units: where memory is refused, there is one answer more.
+    finished: usize,
     machine: Option<Machine>,
     // Units that are done of the first unanswered request.
     progress: u32,
@@ -55,6 +55,7 @@ pub struct Bench {
 
 impl Model for Bench {
     ghost use Rattle.std.specs.Prelude.{◌≡◌, ◌≤◌, ◌-◌, length, true, false, vec_capacity};
+    ghost use Rattle.aud_text.specs.declared.limits.TheConstants.{REQUEST_BYTES};
     ghost use Rattle.aud_bench.specs.Ties.Standing.{IsAt, units_done};
     ghost use Rattle.aud_bench.specs.Ties.Seen.{Seen, has_quit};
     ghost use Rattle.aud_bench.specs.Ties.Kept.{is_kept};
@@ -62,22 +63,34 @@ impl Model for Bench {
 
     ghost Value = { Seen };
 
-    ghost view = { λ b. record { limits = b.limits; journal = b.journal.items; units = units_done b.limits b.journal.items b.answered b.progress; answers = b.answers.items; spent = b.spent } };
+    ghost view = { λ b. record {
+      limits = b.limits;
+      journal = b.journal.items;
+      units = units_done b.limits b.journal.items b.finished b.progress;
+      answers = b.answers.items;
+      spent = b.spent;
+    } };
 
-    ghost invariant = { λ b. ∥ IsAt b.limits b.journal.items b.answered b.progress b.answers.items b.spent b.machine ∥₁ × (length b.journal.items ≤ vec_capacity b.answers - 1) × (b.quit ≡ false → b.bytes ≡ bytes_of b.journal.items) × (b.quit ≡ has_quit b.journal.items) × (is_kept b.journal.items ≡ true) };
+    ghost invariant = { λ b.
+        ∥ IsAt b.limits b.journal.items b.finished b.progress b.answers.items b.spent b.machine ∥₁
+        × (length b.journal.items ≤ vec_capacity b.answers - 1)
+        × (b.quit ≡ false → (b.bytes ≡ bytes_of b.journal.items) × (b.bytes ≤ REQUEST_BYTES))
+        × (b.quit ≡ has_quit b.journal.items)
+        × (is_kept b.journal.items ≡ true) };
 }
 
 impl Bench {
     /// A bench with an empty journal.
     pub fn new(alloc: Global, limits: Limits) -> Self
-        ensures { result ≡ record { limits = limits; journal = []; units = 0; answers = []; spent = false } }
+        ensures { result
+            ≡ record { limits = limits; journal = []; units = 0; answers = []; spent = false } }
     {
         Bench {
             limits,
             journal: Vec::new(alloc),
             bytes: 0,
             answers: Vec::new(alloc),
-            answered: 0,
+            finished: 0,
             machine: None,
             progress: 0,
             quit: false,
@@ -93,8 +106,8 @@ impl Bench {
         self.journal.as_slice()
     }
 
-    /// The answers made, one for each of the first requests: those that the units of work come to. Where memory was
-    /// refused, that is the last one.
+    /// The answers made, one for each of the first requests: those that the units of work come to. Where memory is
+    /// refused, the last one says so.
     pub fn answers(&self) -> &[Answer]
         ensures answers { result.now ≡ self.now.answers }
         ensures made { HasMade self.now.spent self.now }
@@ -109,15 +122,16 @@ impl Bench {
         self.answers().len()
     }
 
-    /// Adds a request at the journal's end. It is refused where the session is over, by a QUIT or for want of memory,
-    /// and where it does not fit; a QUIT always fits. A refusal changes nothing.
+    /// Adds a request at the journal's end. It is refused where the session is over, by a QUIT or an answer that memory
+    /// is out, where it does not fit, and where memory is refused; a QUIT always fits. A refusal changes nothing.
     pub fn give(&mut self, request: Request) -> Result<(), GiveFault>
-        ensures ok { OnOk result (self.new ≡ record self.old { journal = self.old.journal ++ request ∷ [] }) }
+        ensures ok { OnOk result (self.new ≡ with_request self.old request) }
         ensures err { OnErr result (self.new ≡ self.old) }
         ensures closed { is_closed self.old ≡ true → result ≡ Err fault.Closed }
         ensures open { IsErrOf result fault.Closed → is_closed self.old ≡ true }
-        ensures full { is_closed self.old ≡ false → fits (length self.old.journal) (bytes_of self.old.journal) request ≡ false → result ≡ Err fault.Full }
-        ensures room { IsErrOf result fault.Full → fits (length self.old.journal) (bytes_of self.old.journal) request ≡ false }
+        ensures full { is_closed self.old ≡ false → fits_behind self.old request ≡ false →
+            result ≡ Err fault.Full }
+        ensures room { IsErrOf result fault.Full → fits_behind self.old request ≡ false }
     {
         if self.quit || self.spent {
             return Err(GiveFault::Closed);
@@ -134,8 +148,8 @@ impl Bench {
     // Keeps a request that fits, and room for one answer more.
     fn keep(&mut self, request: Request) -> Result<(), AllocError>
         requires open { is_closed self.old ≡ false }
-        requires fits { fits (length self.old.journal) (bytes_of self.old.journal) request ≡ true }
-        ensures ok { OnOk result (self.new ≡ record self.old { journal = self.old.journal ++ request ∷ [] }) }
+        requires fits { fits_behind self.old request ≡ true }
+        ensures ok { OnOk result (self.new ≡ with_request self.old request) }
         ensures err { OnErr result (self.new ≡ self.old) }
     {
         let room = self.journal.len() + 2 - self.answers.len();
@@ -143,19 +157,21 @@ impl Bench {
         let quit = is_quit(&request);
         let size = size(&request);
         self.journal.push(request)?;
-        self.bytes = self.bytes.saturating_add(size);
+        self.bytes += size;
         self.quit = quit;
         Ok(())
     }
 
-    /// Does so many units of work, or all that is left: a RUN costs its steps, at least one, and any other request one.
+    /// Does this many units of work, or all that is left: a RUN costs its steps, at least one, and any other request one.
     /// A RUN that the slice cuts goes on in the next one. Where memory is refused, the bench closes: the last answer
     /// tells it, and those before it stay.
     pub fn slice(&mut self, alloc: Global, units: u64) -> Work
         ensures within { result.done ≤ units }
-        ensures done { self.new.spent ≡ false → result.done ≡ min units (cost self.old.limits self.old.journal - self.old.units) }
+        ensures done { self.new.spent ≡ false →
+            result.done ≡ min units (cost self.old.limits self.old.journal - self.old.units) }
         ensures units { self.new.units ≡ self.old.units + result.done }
-        ensures journal { (self.new.journal ≡ self.old.journal) × (self.new.limits ≡ self.old.limits) }
+        ensures journal { (self.new.journal ≡ self.old.journal)
+            × (self.new.limits ≡ self.old.limits) }
         ensures left { result.left ≡ unanswered self.new }
         ensures front { (more : List Answer) × (self.new.answers ≡ self.old.answers ++ more) }
         ensures spent { self.old.spent ≡ true → (self.new ≡ self.old) × (result.done ≡ 0) }
@@ -190,21 +206,22 @@ impl Bench {
         ensures within { self.now.units ≤ cost self.now.limits self.now.journal }
         ensures whole { result ≡ 0 → self.now.units ≡ cost self.now.limits self.now.journal }
     {
-        self.journal.len() - self.answered
+        self.journal.len() - self.finished
     }
 
-    // Works on the first unanswered request, for so many units at most, and tells those done; nothing where memory is
-    // refused.
+    // Does at most this many units of the first unanswered request, and tells how many; nothing where memory is refused.
     fn work(&mut self, alloc: Global, units: u64) -> Option<u64>
         requires some { 1 ≤ units }
         requires alive { self.old.spent ≡ false }
         requires unanswered { 1 ≤ unanswered self.old }
         ensures kept { (self.new.journal ≡ self.old.journal) × (self.new.limits ≡ self.old.limits) }
         ensures front { (more : List Answer) × (self.new.answers ≡ self.old.answers ++ more) }
-        ensures works { IfSome result (λ done. (self.new.spent ≡ false) × (1 ≤ done) × (done ≤ units) × (self.new.units ≡ self.old.units + done)) }
-        ensures spent { result ≡ None → (self.new.spent ≡ true) × (self.new.units ≡ self.old.units) }
+        ensures works { IfSome result (λ done. (self.new.spent ≡ false)
+            × (1 ≤ done) × (done ≤ units) × (self.new.units ≡ self.old.units + done)) }
+        ensures spent { result ≡ None →
+            (self.new.spent ≡ true) × (self.new.units ≡ self.old.units) }
     {
-        let request = &self.journal[self.answered];
+        let request = &self.journal[self.finished];
         let Ok(served) = serve(
             alloc,
             self.limits,
@@ -225,7 +242,7 @@ impl Bench {
         self.progress = progress;
         if let Some(answer) = answer {
             add(&mut self.answers, answer);
-            self.answered += 1;
+            self.finished += 1;
         }
         Some(cost)
     }

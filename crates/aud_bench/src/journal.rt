@@ -33,10 +33,11 @@ pub fn is_quit(request: &Request) -> bool
     matches!(request, Request::Quit)
 }
 
-/// Whether a request fits behind so many requests of so many bytes; a QUIT always does.
+/// Whether a request fits behind others, by how many they are and by their bytes; a QUIT always does.
 pub fn fits(requests: usize, bytes: usize, request: &Request) -> bool
     ensures answer { result ≡ fits requests bytes request.now }
-    ensures room { result ≡ true → is_quit request.now ≡ false → (requests < REQUESTS) × (bytes + size request.now ≤ REQUEST_BYTES) }
+    ensures room { result ≡ true → is_quit request.now ≡ false →
+        (requests < REQUESTS) × (bytes + size request.now ≤ REQUEST_BYTES) }
 {
     is_quit(request) || has_room(requests, bytes, size(request))
 }

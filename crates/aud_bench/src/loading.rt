@@ -24,15 +24,15 @@ use aud_lex::token::Token;
 use aud_parse::{SyntaxFault, parse};
 use aud_syntax::tree::Unit;
 use aud_text::limits::Limits;
-use aud_text::refusal::Refusal;
 use aud_text::place::Pos;
+use aud_text::refusal::Refusal;
 use aud_typed::program::Program;
 use std::alloc::Global;
 
 /// Why a source text is not loaded.
 #[derive(Drop, Debug)]
 pub enum LoadFault {
-    /// Memory ran out.
+    /// Where memory is refused.
     Memory,
     /// It is no program, and this is answered.
     Refused(Answer),
@@ -58,7 +58,7 @@ fn read(alloc: Global, source: &[u8]) -> Result<Program, LoadFault>
     match lex(alloc, source) {
         Ok(tokens) => parsed(alloc, source, &tokens),
         Err(LexFault::Memory) => Err(LoadFault::Memory),
-        Err(LexFault::Lexical(at)) => Err(LoadFault::Refused(Answer::RefusedAt(Refusal::Lexical, at))),
+        Err(LexFault::Lexical(at)) => Err(fault_at(Refusal::Lexical, at)),
     }
 }
 
@@ -73,12 +73,13 @@ fn parsed(alloc: Global, source: &[u8], tokens: &[Token]) -> Result<Program, Loa
 }
 
 fn syntax_refusal(source: &[u8], tokens: &[Token], fault: SyntaxFault) -> LoadFault
-    ensures { (read : Result plain.Unit syntax.Fault) → parses.Gives plain_unit read (Err fault) → Gives (after_parsing source.now tokens.now read) (Err result) }
+    ensures { (read : Result plain.Unit syntax.Fault) → parses.Gives plain_unit read (Err fault) →
+        Gives (after_parsing source.now tokens.now read) (Err result) }
 {
     match fault {
         SyntaxFault::Memory => LoadFault::Memory,
-        SyntaxFault::Syntax(i) => fault_at(Refusal::Syntax, place_of(source, tokens, i)),
-        SyntaxFault::TooDeep(i) => fault_at(Refusal::TooDeep, place_of(source, tokens, i)),
+        SyntaxFault::Syntax(index) => fault_at(Refusal::Syntax, place_of(source, tokens, index)),
+        SyntaxFault::TooDeep(index) => fault_at(Refusal::TooDeep, place_of(source, tokens, index)),
     }
 }
 
@@ -99,11 +100,11 @@ fn fault_at(refusal: Refusal, at: Pos) -> LoadFault
     LoadFault::Refused(Answer::RefusedAt(refusal, at))
 }
 
-// Where a token of this number stands; behind the last one, the line after the last line.
-fn place_of(source: &[u8], tokens: &[Token], i: usize) -> Pos
-    ensures { result ≡ place_of source.now tokens.now i }
+// Where the token of this index stands; behind the last one, the line after the last line.
+fn place_of(source: &[u8], tokens: &[Token], index: usize) -> Pos
+    ensures { result ≡ place_of source.now tokens.now index }
 {
-    match tokens.get(i) {
+    match tokens.get(index) {
         Some(token) => token.at(),
         None => Pos {
             line: line_count(source) + 1,

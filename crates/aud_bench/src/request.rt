@@ -1,10 +1,13 @@
 // Requests and answers.
 
+ghost use Rattle.std.specs.Prelude.{◌≡◌};
+ghost use Rattle.aud_bench.specs.Alone.{refusal_of};
+
 use aud_meaning::state::State;
-use aud_text::refusal::Refusal;
 use aud_text::name::Name;
 use aud_text::place::Pos;
 use aud_text::raise::Raise;
+use aud_text::refusal::Refusal;
 use aud_text::text::Text;
 
 /// What a user asks.
@@ -12,14 +15,41 @@ use aud_text::text::Text;
 pub enum Request {
     /// Take this source text: its lines, each followed by a line feed.
     Load(Text),
-    /// Do so many steps, or as many as can be done.
+    /// Do this many steps, or as many as can be done.
     Run(u32),
     /// Tell what the program has put out.
     Output,
     /// End the session.
     Quit,
-    /// A request that is malformed, and why.
-    Bad(Refusal),
+    /// A malformed request.
+    Bad(BadRequest),
+}
+
+/// Why a request is malformed.
+#[derive(Clone, Copy, PartialEq, Eq, Debug)]
+pub enum BadRequest {
+    /// Its first word is no command.
+    UnknownCommand,
+    /// What follows the first word is not what the command takes.
+    BadArgument,
+    /// A line of it is longer than a line may be.
+    LineTooLong,
+    /// A byte of it is not ASCII.
+    NotAscii,
+}
+
+impl BadRequest {
+    /// The refusal that answers the request.
+    pub fn refusal(self) -> Refusal
+        ensures { result ≡ refusal_of self }
+    {
+        match self {
+            BadRequest::UnknownCommand => Refusal::UnknownCommand,
+            BadRequest::BadArgument => Refusal::BadArgument,
+            BadRequest::LineTooLong => Refusal::LineTooLong,
+            BadRequest::NotAscii => Refusal::NotAscii,
+        }
+    }
 }
 
 /// An exception: a predefined one, or one that the program declares, by its name (RM 11.1).

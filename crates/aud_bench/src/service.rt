@@ -8,15 +8,15 @@ ghost use Rattle.aud_text.specs.declared.limits.Limits.{Limits as Bounds};
 ghost use Rattle.aud_bench.specs.declared.request.Request.TheVariants as asked;
 ghost use Rattle.aud_bench.specs.Loading.{program_of};
 ghost use Rattle.aud_bench.specs.Alone.{Loaded, named, named_if, ended_by, load_reply, output_reply, replied};
-ghost use Rattle.aud_bench.specs.Ties.Serving.{IsLoaded, Replies, UnderWay, Serves};
+ghost use Rattle.aud_bench.specs.Ties.Serving.{IsLoaded, RepliesAs, GoesOn};
 
 use crate::loading::{LoadFault, load};
 use crate::request::{Answer, Raised, Report, Request};
 use aud_machine::machine::Machine;
 use aud_meaning::state::State;
-use aud_text::refusal::Refusal;
 use aud_text::limits::{Limits, STEPS};
 use aud_text::name::Name;
+use aud_text::refusal::Refusal;
 use aud_text::text::Text;
 use aud_typed::program::{Exception, Program};
 use std::alloc::{AllocError, Global};
@@ -30,8 +30,8 @@ pub struct Served {
     pub cost: u64,
 }
 
-/// Works on a request for so many units at most, behind the units of it that are done already. A RUN costs its steps, at
-/// least one, and any other request one.
+/// Does at most this many units of work on a request, of which the units of `progress` are done already. A RUN costs its
+/// steps, at least one, and any other request one.
 pub fn serve(
     alloc: Global,
     limits: Limits,
@@ -41,7 +41,8 @@ pub fn serve(
     units: u64,
 ) -> Result<Served, AllocError>
     requires { 1 ≤ units }
-    ensures serves { IfOk result (λ served. (loaded : Option Loaded) → UnderWay limits request.now loaded progress machine.old → Serves limits request.now loaded progress units served machine.new) }
+    ensures serves { IfOk result (λ served.
+        GoesOn limits request.now progress units machine.old served machine.new) }
     ensures whole { STEPS ≤ units → IfOk result (λ served. IsSome served.answer) }
     ensures within { IfOk result (λ served. served.cost ≤ units) }
     ensures some { IfOk result (λ served. 1 ≤ served.cost) }
@@ -54,7 +55,7 @@ pub fn serve(
         },
         Request::Output => Ok(answered(output(alloc, machine)?)),
         Request::Quit => Ok(answered(Answer::Done)),
-        Request::Bad(code) => Ok(answered(Answer::Refused(*code))),
+        Request::Bad(why) => Ok(answered(Answer::Refused(why.refusal()))),
     }
 }
 
@@ -65,7 +66,8 @@ pub fn answer(
     machine: &mut Option<Machine>,
     request: &Request,
 ) -> Result<Answer, AllocError>
-    ensures { IfOk result (λ answer. (loaded : Option Loaded) → IsLoaded limits machine.old loaded → Replies limits answer machine.new (replied limits loaded request.now)) }
+    ensures { IfOk result (λ answer. RepliesAs (λ loaded. replied limits loaded request.now)
+        limits machine.old answer machine.new) }
 {
     let Served {
         answer,
@@ -95,7 +97,8 @@ fn take(
     machine: &mut Option<Machine>,
     source: &[u8],
 ) -> Result<Answer, AllocError>
-    ensures { IfOk result (λ answer. (loaded : Option Loaded) → IsLoaded limits machine.old loaded → Replies limits answer machine.new (load_reply (program_of limits source.now) loaded)) }
+    ensures { IfOk result (λ answer. RepliesAs (load_reply (program_of limits source.now))
+        limits machine.old answer machine.new) }
 {
     match load(alloc, limits, source) {
         Ok(program) => begin(alloc, limits, machine, program),
@@ -111,7 +114,8 @@ fn begin(
     machine: &mut Option<Machine>,
     program: Program,
 ) -> Result<Answer, AllocError>
-    ensures { IfOk result (λ answer. (loaded : Option Loaded) → IsLoaded limits machine.old loaded → Replies limits answer machine.new (load_reply (Ok (plain_program program)) loaded)) }
+    ensures { IfOk result (λ answer. RepliesAs (load_reply (Ok (plain_program program)))
+        limits machine.old answer machine.new) }
 {
     let name = program.name.try_clone(alloc)?;
     let new = Machine::new(alloc, program, limits)?;
@@ -127,7 +131,8 @@ fn replace(machine: &mut Option<Machine>, new: Option<Machine>)
 }
 
 fn output(alloc: Global, machine: &Option<Machine>) -> Result<Answer, AllocError>
-    ensures { IfOk result (λ answer. (bounds : Bounds) → (loaded : Option Loaded) → IsLoaded bounds machine.now loaded → answer ≡ (output_reply loaded).answer) }
+    ensures { IfOk result (λ answer. (bounds : Bounds) → (loaded : Option Loaded) →
+        IsLoaded bounds machine.now loaded → answer ≡ (output_reply loaded).answer) }
 {
     match machine {
         None => Ok(Answer::Refused(Refusal::NoProgram)),
@@ -135,7 +140,7 @@ fn output(alloc: Global, machine: &Option<Machine>) -> Result<Answer, AllocError
     }
 }
 
-// Goes on with a RUN of so many steps, of which some are done. It ends where they all are done or the steps of the LOAD
+// Goes on with a RUN, of whose steps some are done. It ends where they all are done or the steps of the LOAD
 // are used up, or where no move is enabled.
 fn run(
     alloc: Global,
@@ -145,12 +150,14 @@ fn run(
     units: u64,
 ) -> Result<Served, AllocError>
     requires { 1 ≤ units }
-    ensures serves { IfOk result (λ served. (bounds : Bounds) → (loaded : Loaded) → UnderWay bounds (asked.Run steps) (Some loaded) progress (Some machine.old) → Serves bounds (asked.Run steps) (Some loaded) progress units served (Some machine.new)) }
+    ensures serves { IfOk result (λ served. (bounds : Bounds) →
+        GoesOn bounds (asked.Run steps) progress units
+        (Some machine.old) served (Some machine.new)) }
     ensures whole { STEPS ≤ units → IfOk result (λ served. IsSome served.answer) }
     ensures within { IfOk result (λ served. served.cost ≤ units) }
     ensures some { IfOk result (λ served. 1 ≤ served.cost) }
 {
-    let left = STEPS.saturating_sub(machine.steps());
+    let left = STEPS - machine.steps();
     if left == 0 {
         return Ok(answered(Answer::Refused(Refusal::StepBudget)));
     }
@@ -209,7 +216,8 @@ fn ended_by(state: State, raised: Option<Raised>) -> Option<Raised>
 }
 
 fn named_if(alloc: Global, raised: Option<Exception>) -> Result<Option<Raised>, AllocError>
-    ensures { IfOk result (λ x. (p : Programs) → x ≡ named_if (plain_program p).plan.exceptions raised) }
+    ensures { IfOk result (λ x. (p : Programs) →
+        x ≡ named_if (plain_program p).plan.exceptions raised) }
 {
     match raised {
         None => Ok(None),
@@ -219,7 +227,8 @@ fn named_if(alloc: Global, raised: Option<Exception>) -> Result<Option<Raised>, 
 
 // An exception with its name; no program declares one yet.
 fn named(alloc: Global, exception: Exception) -> Result<Raised, AllocError>
-    ensures { IfOk result (λ raised. (p : Programs) → raised ≡ named (plain_program p).plan.exceptions exception) }
+    ensures { IfOk result (λ x. (p : Programs) →
+        x ≡ named (plain_program p).plan.exceptions exception) }
 {
     match exception {
         Exception::Predefined(raise) => Ok(Raised::Predefined(raise)),

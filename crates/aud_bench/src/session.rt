@@ -8,8 +8,8 @@ use crate::journal::{fits, is_quit, size};
 use crate::request::{Answer, Request};
 use crate::service::answer;
 use aud_machine::machine::Machine;
-use aud_text::refusal::Refusal;
 use aud_text::limits::Limits;
+use aud_text::refusal::Refusal;
 use std::alloc::{AllocError, Global};
 
 /// Adds the answers to the requests of one user, one a request, up to and with that to the first QUIT. A request that
@@ -21,7 +21,8 @@ pub fn answer_all(
     answers: &mut Vec<Answer>,
 ) -> Result<(), AllocError>
     ensures all { OnOk result (answers.new.items ≡ answers.old.items ++ alone limits requests.now) }
-    ensures front { (some rest : List Answer) × (answers.new.items ≡ answers.old.items ++ some) × (alone limits requests.now ≡ some ++ rest) }
+    ensures front { (some rest : List Answer) × (answers.new.items ≡ answers.old.items ++ some)
+        × (alone limits requests.now ≡ some ++ rest) }
 {
     // Dropped here alone: each way out of the loop would prove the drop once more.
     let mut machine: Option<Machine> = None;
@@ -38,7 +39,8 @@ fn answer_each(
 ) -> Result<(), AllocError>
     requires { machine.old ≡ None }
     ensures all { OnOk result (answers.new.items ≡ answers.old.items ++ alone limits requests.now) }
-    ensures front { (some rest : List Answer) × (answers.new.items ≡ answers.old.items ++ some) × (alone limits requests.now ≡ some ++ rest) }
+    ensures front { (some rest : List Answer) × (answers.new.items ≡ answers.old.items ++ some)
+        × (alone limits requests.now ≡ some ++ rest) }
 {
     let mut kept: usize = 0;
     let mut bytes: usize = 0;

@@ -13,7 +13,7 @@ noted_append o [] gs = refl
 noted_append o (f ∷ fs) gs = noted_append (note o f) fs gs
 
 -- a part is checked, and then the rest with the part's type
-pub shows_with : (old mid new : Option Fault) (c : Checked) (f : Typed → Checked) (t : memory.Typed) (r : Result memory.Typed AllocError) → Shows old mid c (Ok t) → Shows mid new (f (plain_typed t)) r → Shows old new (with c f) r
+pub shows_with : (old mid new : Option Fault) (c : Checked) (f : Typed → Checked) (t : memory.Typed) (r : Result memory.Typed AllocError) → Shows (Ok t) old mid c → Shows r mid new (f (plain_typed t)) → Shows r old new (with c f)
 shows_with old mid new c f t (Ok x) h k =
     (k.0 ∙ ap (λ o. noted o (f (plain_typed t)).faults) h.0 ∙ ap (λ y. noted (noted old c.faults) (f y).faults) h.1 ∙ sym (noted_append old c.faults (f c.typed).faults), k.1 ∙ ap (λ y. (f y).typed) h.1)
 shows_with old mid new c f t (Err e) h k = tt
@@ -27,7 +27,7 @@ pub ahead_all : (old : Option Fault) (all : Checked) → Ahead old all old all
 ahead_all old all = record { faults = refl; typed = refl }
 
 -- a part of it is checked
-pub ahead_with : (old mid new : Option Fault) (all c : Checked) (f : Typed → Checked) (t : memory.Typed) → Ahead mid (with c f) old all → Shows mid new c (Ok t) → Ahead new (f (plain_typed t)) old all
+pub ahead_with : (old mid new : Option Fault) (all c : Checked) (f : Typed → Checked) (t : memory.Typed) → Ahead mid (with c f) old all → Shows (Ok t) mid new c → Ahead new (f (plain_typed t)) old all
 ahead_with old mid new all c f t a h = record {
   faults = ap (λ o. noted o (f (plain_typed t)).faults) h.0 ∙ ap (λ y. noted (noted mid c.faults) (f y).faults) h.1 ∙ sym (noted_append mid c.faults (f c.typed).faults) ∙ a.faults;
   typed = ap (λ y. (f y).typed) h.1 ∙ a.typed;

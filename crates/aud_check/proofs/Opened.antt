@@ -25,18 +25,18 @@ pub simple_begins : (e : Simple) → simple_at (plain_simple e) ≡ signed_at (o
 simple_begins e = ap simple_at (simple_open e)
 
 -- the loops over terms and factors
-pub term_ahead : (t : Term) (place : Place) (old mid : Option Fault) (x : memory.Typed) (at : Pos) (items : List Multiplied) → at ≡ term_at (plain_term t) → items ≡ (out-Term t).rest.items → Shows old mid (checked_factor (plain_factor (out-Term t).first) place) (Ok x) → Ahead mid (checked_multiplieds (multiplied_list items) place at (plain_typed x)) old (checked_term (plain_term t) place)
+pub term_ahead : (t : Term) (place : Place) (old mid : Option Fault) (x : memory.Typed) (at : Pos) (items : List Multiplied) → at ≡ term_at (plain_term t) → items ≡ (out-Term t).rest.items → Shows (Ok x) old mid (checked_factor (plain_factor (out-Term t).first) place) → Ahead mid (checked_multiplieds (multiplied_list items) place at (plain_typed x)) old (checked_term (plain_term t) place)
 term_ahead t place old mid x at items p q h =
     rw (p, q, term_open t) (ahead_with old old mid (checked_term (m.term (plain_factor (out-Term t).first) (multiplied_list (out-Term t).rest.items)) place) (checked_factor (plain_factor (out-Term t).first) place) (λ left. checked_multiplieds (multiplied_list (out-Term t).rest.items) place (factor_at (plain_factor (out-Term t).first)) left) x (ahead_all old _) h)
 
-pub multiplied_ahead : (place : Place) (old mid new : Option Fault) (all : Checked) (x : Multiplied) (xs ys : List Multiplied) (at : Pos) (left : Typed) (t : memory.Typed) → xs ≡ x ∷ ys → Ahead mid (checked_multiplieds (multiplied_list xs) place at left) old all → Shows mid new (checked_multiplied (plain_multiplied x) place at left) (Ok t) → Ahead new (checked_multiplieds (multiplied_list ys) place at (plain_typed t)) old all
+pub multiplied_ahead : (place : Place) (old mid new : Option Fault) (all : Checked) (x : Multiplied) (xs ys : List Multiplied) (at : Pos) (left : Typed) (t : memory.Typed) → xs ≡ x ∷ ys → Ahead mid (checked_multiplieds (multiplied_list xs) place at left) old all → Shows (Ok t) mid new (checked_multiplied (plain_multiplied x) place at left) → Ahead new (checked_multiplieds (multiplied_list ys) place at (plain_typed t)) old all
 multiplied_ahead place old mid new all x xs ys at left t p a h =
     ahead_with old mid new all (checked_multiplied (plain_multiplied x) place at left) (λ z. checked_multiplieds (multiplied_list ys) place at z) t (rw p at a) h
 
-pub simple_ahead : (e : Simple) (place : Place) (old mid new : Option Fault) (x y : memory.Typed) (at : Pos) (items : List Added) → at ≡ simple_at (plain_simple e) → items ≡ (out-Simple e).rest.items → Shows old mid (checked_term (plain_term (out-Simple e).first) place) (Ok x) → Shows mid new (signed (out-Simple e).sign (term_at (plain_term (out-Simple e).first)) (plain_typed x)) (Ok y) → Ahead new (checked_addeds (added_list items) place at (plain_typed y)) old (checked_simple (plain_simple e) place)
+pub simple_ahead : (e : Simple) (place : Place) (old mid new : Option Fault) (x y : memory.Typed) (at : Pos) (items : List Added) → at ≡ simple_at (plain_simple e) → items ≡ (out-Simple e).rest.items → Shows (Ok x) old mid (checked_term (plain_term (out-Simple e).first) place) → Shows (Ok y) mid new (signed (out-Simple e).sign (term_at (plain_term (out-Simple e).first)) (plain_typed x)) → Ahead new (checked_addeds (added_list items) place at (plain_typed y)) old (checked_simple (plain_simple e) place)
 simple_ahead e place old mid new x y at items p q h k =
     rw (p, q, simple_open e) (ahead_with old mid new (checked_simple (m.simple (out-Simple e).sign (plain_term (out-Simple e).first) (added_list (out-Simple e).rest.items)) place) (signed (out-Simple e).sign (term_at (plain_term (out-Simple e).first)) (plain_typed x)) (λ left. checked_addeds (added_list (out-Simple e).rest.items) place (signed_at (out-Simple e).sign (term_at (plain_term (out-Simple e).first))) left) y (ahead_with old old mid _ (checked_term (plain_term (out-Simple e).first) place) (λ z. with (signed (out-Simple e).sign (term_at (plain_term (out-Simple e).first)) z) (λ left. checked_addeds (added_list (out-Simple e).rest.items) place (signed_at (out-Simple e).sign (term_at (plain_term (out-Simple e).first))) left)) x (ahead_all old _) h) k)
 
-pub added_ahead : (place : Place) (old mid new : Option Fault) (all : Checked) (x : Added) (xs ys : List Added) (at : Pos) (left : Typed) (t : memory.Typed) → xs ≡ x ∷ ys → Ahead mid (checked_addeds (added_list xs) place at left) old all → Shows mid new (checked_added (plain_added x) place at left) (Ok t) → Ahead new (checked_addeds (added_list ys) place at (plain_typed t)) old all
+pub added_ahead : (place : Place) (old mid new : Option Fault) (all : Checked) (x : Added) (xs ys : List Added) (at : Pos) (left : Typed) (t : memory.Typed) → xs ≡ x ∷ ys → Ahead mid (checked_addeds (added_list xs) place at left) old all → Shows (Ok t) mid new (checked_added (plain_added x) place at left) → Ahead new (checked_addeds (added_list ys) place at (plain_typed t)) old all
 added_ahead place old mid new all x xs ys at left t p a h =
     ahead_with old mid new all (checked_added (plain_added x) place at left) (λ z. checked_addeds (added_list ys) place at z) t (rw p at a) h

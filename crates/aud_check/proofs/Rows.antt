@@ -10,7 +10,7 @@ use Rattle.aud_syntax.specs.declared.tree.Signed.{Signed}
 use Rattle.aud_syntax.specs.declared.tree.Sign.TheVariants as sign
 use Rattle.aud_syntax.specs.declared.tree.Highest.TheVariants.{Not}
 use Rattle.aud_syntax.specs.declared.tree.Multiplying.TheVariants.{Times}
-use Rattle.aud_syntax.specs.Plain.{Expression, alone, unrelated, simple, Addeds, no_addeds, more_addeds, added, Term, term, no_multiplieds, more_multiplieds, multiplied, factor, integer, name, attribute, group, no_expression, an_expression, named, no_parts, part, no_args, Declaration, object, no_declarations, Statement, null, assign, call, no_statements, more_statements, body, Unit, unit}
+use Rattle.aud_syntax.specs.Plain.{Expression, alone, unrelated, simple, Addeds, no_addeds, more_addeds, added, Term, term, no_multiplieds, more_multiplieds, multiplied, factor, integer, name, attribute, group, no_expression, an_expression, named, no_parts, part, no_args, Declaration, object, no_declarations, Statement, null, assign, call, body, Unit, unit}
 use Rattle.aud_syntax.specs.Why.Shorthand.{at, id, only, var_at, called, num, str, statements, declarations}
 use Rattle.aud_typed.specs.declared.program.Variable.{Variable}
 use Rattle.aud_typed.specs.declared.program.Unary.TheVariants.{Negative}
@@ -27,15 +27,15 @@ abbrev sum : Option Signed → Term → Addeds → Expression
 sum s t rest = alone (unrelated (simple s t rest))
 
 -- procedure P is .. begin .. end P;
-abbrev main : List Declaration → List Statement → Unit
-main ds ss = unit (at 1 1) (id (codes "P") (at 1 11)) (declarations ds) (body (at 5 1) (statements ss) (at 9 1) (Some (id (codes "P") (at 9 5))))
+abbrev main : List Declaration → Statement → List Statement → Unit
+main ds s ss = unit (at 1 1) (id (codes "P") (at 1 11)) (declarations ds) (body (at 5 1) (statements s ss) (at 9 1) (Some (id (codes "P") (at 9 5))))
 
 abbrev integer_type : Pos → Ident
 integer_type place = id (codes "INTEGER") place
 
 -- A, B : Integer := 7;
 abbrev two : Declaration
-two = object (id (codes "A") (at 2 1) ∷ id (codes "B") (at 2 4) ∷ []) (integer_type (at 2 8)) (an_expression (only (num 7 (at 2 19))))
+two = object (id (codes "A") (at 2 1)) (id (codes "B") (at 2 4) ∷ []) (integer_type (at 2 8)) (an_expression (only (num 7 (at 2 19))))
 
 abbrev cell : ℕ → Variable
 cell n = record { level = 0; index = n }
@@ -70,7 +70,7 @@ program names declared s = record {
 abbrev program_of_two : tree.Statement → tree.Program
 program_of_two s = program (codes "A" ∷ codes "B" ∷ []) (tree.some (tree.sequence (tree.declare (at 2 1) (whole (tree.number (pos 7)))) (tree.declare (at 2 1) (whole (tree.number (pos 7)))))) s
 
-fine_row : checked (main (two ∷ []) (assign (var_at (codes "B") (at 6 1)) (sum (Some (record { sign = sign.Minus; at = at 6 6 })) (term (factor None (name (var_at (codes "A") (at 6 7)))) no_multiplieds) (more_addeds (added Plus (term (factor None (num 2 (at 6 11))) no_multiplieds)) no_addeds)) ∷ called (id (codes "PUT_LINE") (at 7 1)) (only (attribute (var_at (codes "B") (at 7 11)) (id (codes "IMAGE") (at 7 13)) no_expression)) ∷ [])) ≡ Ok (program_of_two (tree.sequence (assign_b (tree.binary Sum (tree.unary Negative (variable 0)) (tree.number (pos 2)))) (tree.put (at 7 1) (tree.join (tree.image (variable 1)) tree.new_line))))
+fine_row : checked (main (two ∷ []) (assign (var_at (codes "B") (at 6 1)) (sum (Some (record { sign = sign.Minus; at = at 6 6 })) (term (factor None (name (var_at (codes "A") (at 6 7)))) no_multiplieds) (more_addeds (added Plus (term (factor None (num 2 (at 6 11))) no_multiplieds)) no_addeds))) (called (id (codes "PUT_LINE") (at 7 1)) (only (attribute (var_at (codes "B") (at 7 11)) (id (codes "IMAGE") (at 7 13)) no_expression)) ∷ [])) ≡ Ok (program_of_two (tree.sequence (assign_b (tree.binary Sum (tree.unary Negative (variable 0)) (tree.number (pos 2)))) (tree.put (at 7 1) (tree.join (tree.image (variable 1)) tree.new_line))))
 fine_row = refl
 
 -- operators of one level go from left to right (RM 4.5(8))
@@ -80,65 +80,62 @@ three = sum None (term (factor None (num 9 (at 6 6))) no_multiplieds) (more_adde
 abbrev left_first : tree.IntegerExpression
 left_first = tree.binary Difference (tree.binary Difference (tree.number (pos 9)) (tree.number (pos 3))) (tree.number (pos 2))
 
-chain_row : checked (main (two ∷ []) (assign (var_at (codes "B") (at 6 1)) three ∷ [])) ≡ Ok (program_of_two (assign_b left_first))
+chain_row : checked (main (two ∷ []) (assign (var_at (codes "B") (at 6 1)) three) []) ≡ Ok (program_of_two (assign_b left_first))
 chain_row = refl
 
--- no declarations; and no statements, which the grammar does not make, are a null statement where they would begin
-null_row : checked (main [] (null (at 6 1) ∷ [])) ≡ Ok (program [] tree.nothing (tree.null (at 6 1)))
+-- no declarations
+null_row : checked (main [] (null (at 6 1)) []) ≡ Ok (program [] tree.nothing (tree.null (at 6 1)))
 null_row = refl
 
-empty_row : checked (main [] []) ≡ Ok (program [] tree.nothing (tree.null (at 5 1)))
-empty_row = refl
-
 -- a name that is not declared, and a variable in its own initial value
-undeclared_row : checked (main [] (assign (var_at (codes "C") (at 6 1)) (only (num 1 (at 6 6))) ∷ [])) ≡ Err (fault (at 6 1) NameNotDeclared)
+undeclared_row : checked (main [] (assign (var_at (codes "C") (at 6 1)) (only (num 1 (at 6 6)))) []) ≡ Err (fault (at 6 1) NameNotDeclared)
 undeclared_row = refl
 
-own_value_row : checked (main (object (id (codes "A") (at 2 1) ∷ []) (integer_type (at 2 5)) (an_expression (only (name (var_at (codes "A") (at 2 16))))) ∷ []) (null (at 6 1) ∷ [])) ≡ Err (fault (at 2 16) NameNotDeclared)
+own_value_row : checked (main (object (id (codes "A") (at 2 1)) [] (integer_type (at 2 5)) (an_expression (only (name (var_at (codes "A") (at 2 16))))) ∷ []) (null (at 6 1)) []) ≡ Err (fault (at 2 16) NameNotDeclared)
 own_value_row = refl
 
-own_type_row : checked (main (object (id (codes "INTEGER") (at 2 1) ∷ []) (integer_type (at 2 11)) no_expression ∷ []) (null (at 6 1) ∷ [])) ≡ Err (fault (at 2 11) NameNotDeclared)
+own_type_row : checked (main (object (id (codes "INTEGER") (at 2 1)) [] (integer_type (at 2 11)) no_expression ∷ []) (null (at 6 1)) []) ≡ Err (fault (at 2 11) NameNotDeclared)
 own_type_row = refl
 
-twice_row : checked (main (two ∷ object (id (codes "C") (at 3 1) ∷ id (codes "A") (at 3 4) ∷ []) (integer_type (at 3 8)) no_expression ∷ []) (null (at 6 1) ∷ [])) ≡ Err (fault (at 3 4) DeclaredTwice)
+twice_row : checked (main (two ∷ object (id (codes "C") (at 3 1)) (id (codes "A") (at 3 4) ∷ []) (integer_type (at 3 8)) no_expression ∷ []) (null (at 6 1)) []) ≡ Err (fault (at 3 4) DeclaredTwice)
 twice_row = refl
 
 -- the main procedure is no type, and causes no second fault
-kind_row : faults (main (object (id (codes "C") (at 3 1) ∷ []) (id (codes "P") (at 3 5)) no_expression ∷ []) (assign (var_at (codes "C") (at 6 1)) (only (str (codes "x") (at 6 6))) ∷ [])) ≡ fault (at 3 5) WrongKindOfName ∷ []
+kind_row : faults (main (object (id (codes "C") (at 3 1)) [] (id (codes "P") (at 3 5)) no_expression ∷ []) (assign (var_at (codes "C") (at 6 1)) (only (str (codes "x") (at 6 6)))) []) ≡ fault (at 3 5) WrongKindOfName ∷ []
 kind_row = refl
 
-attribute_row : checked (main (two ∷ []) (called (id (codes "PUT_LINE") (at 7 1)) (only (attribute (var_at (codes "B") (at 7 11)) (id (codes "FIRST") (at 7 13)) no_expression)) ∷ [])) ≡ Err (fault (at 7 13) WrongKindOfName)
+attribute_row : checked (main (two ∷ []) (called (id (codes "PUT_LINE") (at 7 1)) (only (attribute (var_at (codes "B") (at 7 11)) (id (codes "FIRST") (at 7 13)) no_expression))) []) ≡ Err (fault (at 7 13) WrongKindOfName)
 attribute_row = refl
 
 -- (1 + 2) * 3 & "x": the left operand begins at its first token
-left_row : checked (main [] (called (id (codes "PUT_LINE") (at 7 1)) (sum None (term (factor None (group (at 7 11) (only (num 1 (at 7 12))))) (more_multiplieds (multiplied Times (factor None (num 3 (at 7 17)))) no_multiplieds)) (more_addeds (added Join (term (factor None (str (codes "x") (at 7 21))) no_multiplieds)) no_addeds)) ∷ [])) ≡ Err (fault (at 7 11) WrongType)
+left_row : checked (main [] (called (id (codes "PUT_LINE") (at 7 1)) (sum None (term (factor None (group (at 7 11) (only (num 1 (at 7 12))))) (more_multiplieds (multiplied Times (factor None (num 3 (at 7 17)))) no_multiplieds)) (more_addeds (added Join (term (factor None (str (codes "x") (at 7 21))) no_multiplieds)) no_addeds))) []) ≡ Err (fault (at 7 11) WrongType)
 left_row = refl
 
-right_row : checked (main (two ∷ []) (assign (var_at (codes "A") (at 7 1)) (sum None (term (factor None (num 1 (at 7 6))) no_multiplieds) (more_addeds (added Minus (term (factor None (str (codes "x") (at 7 10))) no_multiplieds)) no_addeds)) ∷ [])) ≡ Err (fault (at 7 10) WrongType)
+right_row : checked (main (two ∷ []) (assign (var_at (codes "A") (at 7 1)) (sum None (term (factor None (num 1 (at 7 6))) no_multiplieds) (more_addeds (added Minus (term (factor None (str (codes "x") (at 7 10))) no_multiplieds)) no_addeds))) []) ≡ Err (fault (at 7 10) WrongType)
 right_row = refl
 
-not_row : checked (main (two ∷ []) (assign (var_at (codes "A") (at 7 1)) (sum None (term (factor (Some (record { highest = Not; at = at 7 6 })) (name (var_at (codes "A") (at 7 10)))) no_multiplieds) no_addeds) ∷ [])) ≡ Err (fault (at 7 10) WrongType)
+not_row : checked (main (two ∷ []) (assign (var_at (codes "A") (at 7 1)) (sum None (term (factor (Some (record { highest = Not; at = at 7 6 })) (name (var_at (codes "A") (at 7 10)))) no_multiplieds) no_addeds)) []) ≡ Err (fault (at 7 10) WrongType)
 not_row = refl
 
-put_row : checked (main (two ∷ []) (called (id (codes "PUT_LINE") (at 7 1)) (only (name (var_at (codes "A") (at 7 11)))) ∷ [])) ≡ Err (fault (at 7 11) WrongType)
+put_row : checked (main (two ∷ []) (called (id (codes "PUT_LINE") (at 7 1)) (only (name (var_at (codes "A") (at 7 11))))) []) ≡ Err (fault (at 7 11) WrongType)
 put_row = refl
 
-arguments_row : checked (main (two ∷ []) (called (id (codes "PUT_LINE") (at 7 1)) (only (attribute (named (part (integer_type (at 7 11)) no_args) no_parts) (id (codes "IMAGE") (at 7 19)) no_expression)) ∷ [])) ≡ Err (fault (at 7 19) WrongNumberOfArguments)
+arguments_row : checked (main (two ∷ []) (called (id (codes "PUT_LINE") (at 7 1)) (only (attribute (named (part (integer_type (at 7 11)) no_args) no_parts) (id (codes "IMAGE") (at 7 19)) no_expression))) []) ≡ Err (fault (at 7 19) WrongNumberOfArguments)
 arguments_row = refl
 
-itself_row : checked (main (two ∷ []) (called (id (codes "P") (at 7 1)) (only (num 1 (at 7 4))) ∷ [])) ≡ Err (fault (at 7 1) WrongNumberOfArguments)
+itself_row : checked (main (two ∷ []) (called (id (codes "P") (at 7 1)) (only (num 1 (at 7 4)))) []) ≡ Err (fault (at 7 1) WrongNumberOfArguments)
 itself_row = refl
 
 -- the grammar makes no call without arguments
-alone_row : checked (main [] (call (var_at (codes "PUT_LINE") (at 7 1)) ∷ [])) ≡ Err (fault (at 7 1) WrongNumberOfArguments)
+alone_row : checked (main [] (call (var_at (codes "PUT_LINE") (at 7 1))) []) ≡ Err (fault (at 7 1) WrongNumberOfArguments)
 alone_row = refl
 
-end_row : checked (unit (at 1 1) (id (codes "P") (at 1 11)) no_declarations (body (at 2 1) (more_statements (null (at 3 1)) no_statements) (at 4 1) (Some (id (codes "Q") (at 4 5))))) ≡ Err (fault (at 4 5) WrongNameAtEnd)
+end_row : checked (unit (at 1 1) (id (codes "P") (at 1 11)) no_declarations (body (at 2 1) (statements (null (at 3 1)) []) (at 4 1) (Some (id (codes "Q") (at 4 5))))) ≡ Err (fault (at 4 5) WrongNameAtEnd)
 end_row = refl
 
-large_row : checked (main [] (called (id (codes "PUT_LINE") (at 7 1)) (only (attribute (named (part (integer_type (at 7 11)) no_args) no_parts) (id (codes "IMAGE") (at 7 19)) (an_expression (only (integer (record { value = None; at = at 7 26 })))))) ∷ [])) ≡ Err (fault (at 7 26) NumberTooLarge)
+large_row : checked (main [] (called (id (codes "PUT_LINE") (at 7 1)) (only (attribute (named (part (integer_type (at 7 11)) no_args) no_parts) (id (codes "IMAGE") (at 7 19)) (an_expression (only (integer (record { value = None; at = at 7 26 }))))))) []) ≡ Err (fault (at 7 26) NumberTooLarge)
 large_row = refl
 
 -- of two faults the first in the text, though it is found later
-first_row : checked (main [] (assign (var_at (codes "C") (at 6 1)) (only (name (var_at (codes "D") (at 6 6)))) ∷ [])) ≡ Err (fault (at 6 1) NameNotDeclared)
+first_row : checked (main [] (assign (var_at (codes "C") (at 6 1)) (only (name (var_at (codes "D") (at 6 6))))) []) ≡ Err (fault (at 6 1) NameNotDeclared)
 first_row = refl

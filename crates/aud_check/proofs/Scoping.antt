@@ -203,9 +203,9 @@ module _ (scope : Scope) (n : Place) (sees : Sees scope n) where
   statement_scoped (plain.assign x value) = assigned_scoped (names.visible (e.name_ident x).name n) (e.name_ident x).at _ (sees (e.name_ident x).name) (expression_scoped value)
   statement_scoped (plain.call x) = called_with_scoped (s.name_args x) (e.name_ident x)
 
-  statements_scoped : (x : plain.Statements) → AllByRecursion (IsStatement scope) (s.typed_statements x n)
-  statements_scoped plain.no_statements = tt
-  statements_scoped (plain.more_statements x xs) = (statement_scoped x, statements_scoped xs)
+  others_scoped : (x : plain.MoreStatements) → AllByRecursion (IsStatement scope) (s.typed_others x n)
+  others_scoped plain.no_statements = tt
+  others_scoped (plain.more_statements x xs) = (statement_scoped x, others_scoped xs)
 
   -- the initial value of a declaration
 
@@ -222,17 +222,13 @@ module _ (scope : Scope) where
   before_scoped x [] h i = h.0
   before_scoped x (y ∷ ys) h i = (h.0, rw h.1 (before_scoped y ys i.0 i.1))
 
-  sequence_scoped : (at : Pos) (xs : List tree.Statement) → AllByRecursion (IsStatement scope) xs → StatementScoped (tree.in_sequence (c.or_null at xs)) scope
-  sequence_scoped at [] h = tt
-  sequence_scoped at (x ∷ xs) h = before_scoped x xs h.0 h.1
-
 -- declarations
 
--- where so many variables of the body have been elaborated, and none further out
+-- where k variables of the body have been elaborated, and none further out
 abbrev only : ℕ → Scope
 only k = k ∷ []
 
--- the steps elaborate a variable each, from the first of these numbers on up to the second
+-- each of them elaborates a variable, from the first of these numbers on up to the second
 data Elaborates : ℕ → List tree.Statement → ℕ → Type 0 where
   none : {k : ℕ} → Elaborates k [] k
   one_more : {k m : ℕ} {at : Pos} {x : tree.ValueExpression} {ys : List tree.Statement} → ValueScoped x (only k) → Elaborates (suc k) ys m → Elaborates k (tree.declare at x ∷ ys) m
@@ -272,7 +268,7 @@ new_name : (b : Bool) (f : Fault) → rules.unless (not b) f ≡ [] → b ≡ fa
 new_name true f h = cc
 new_name false f h = refl
 
--- the steps elaborate the variables of the region, from this number on
+-- they elaborate the variables of the region, from this number on
 abbrev RegionElaborated : ℕ → List tree.Statement → Region → Type 0
 RegionElaborated k ys r = RegionScoped r × Elaborates k ys r.cells
 
@@ -283,8 +279,8 @@ names_scoped (i ∷ is) good at x r q h value =
     let new : names.is_declared i.name r.symbols ≡ false = new_name _ _ faults.0 in
     let grown : d.with_name i good r ≡ d.with_variable i.name good r = rw new in
     let rest = names_scoped is good at x (d.with_variable i.name good r) (rw new at faults.1) (variable_scoped i.name good r h) (λ k more. value k (omega arith)) in
-    let steps : Elaborates (suc r.cells) (d.elaboration is at x) (d.declared_names is good (d.with_variable i.name good r)).cells = rw (← add-one r.cells) rest.1 in
-    subst (λ z. RegionElaborated r.cells (d.elaboration (i ∷ is) at x) (d.declared_names is good z)) (sym grown) (rest.0, one_more (value r.cells (omega arith)) steps)
+    let elaborated : Elaborates (suc r.cells) (d.elaboration is at x) (d.declared_names is good (d.with_variable i.name good r)).cells = rw (← add-one r.cells) rest.1 in
+    subst (λ z. RegionElaborated r.cells (d.elaboration (i ∷ is) at x) (d.declared_names is good z)) (sym grown) (rest.0, one_more (value r.cells (omega arith)) elaborated)
 
 -- a place in the main procedure's body: no variable is declared further out
 record InBody (n : Place) : Type 0 where
@@ -300,12 +296,12 @@ body_regions n k h more = regions_scoped (only k) n.regions (h.innermost.symbols
 
 -- declarations without faults, at a place in the body
 abbrev DeclaredScoped : Place → d.Declared → Type 0
-DeclaredScoped n x = InBody x.place × Elaborates (names.innermost n).cells x.steps (names.innermost x.place).cells
+DeclaredScoped n x = InBody x.place × Elaborates (names.innermost n).cells x.elaborations (names.innermost x.place).cells
 
 declaration_scoped : (x : plain.Declaration) (n : Place) → (d.checked_declaration x n).faults ≡ [] → InBody n → DeclaredScoped n (d.checked_declaration x n)
-declaration_scoped (plain.object identifiers subtype initial) n q h =
-    let value = λ (k : ℕ) (more : (names.innermost n).cells ≤ k). initial_scoped (only k) (names.hiding identifiers n) (regions_see (only k) _ (body_regions n k h more)) initial in
-    let all = names_scoped identifiers _ (d.first_at identifiers) _ (names.innermost n) (both_none _ _ (both_none _ _ q).1).1 h.innermost value in
+declaration_scoped (plain.object first others subtype initial) n q h =
+    let value = λ (k : ℕ) (more : (names.innermost n).cells ≤ k). initial_scoped (only k) (names.hiding (first ∷ others) n) (regions_see (only k) (names.hiding (first ∷ others) n) (body_regions n k h more)) initial in
+    let all = names_scoped (first ∷ others) _ first.at _ (names.innermost n) (both_none _ _ (both_none _ _ q).1).1 h.innermost value in
     (record { innermost = all.0; others = h.others }, all.1)
 
 declarations_scoped : (x : plain.Declarations) (n : Place) → (d.checked_declarations x n).faults ≡ [] → InBody n → DeclaredScoped n (d.checked_declarations x n)
@@ -325,15 +321,15 @@ in_main name = record {
 }
 
 body_scoped : (at : Pos) (main : Ident) (x : d.Declared) (b : plain.Body) → DeclaredScoped (names.main_place main.name) x → IsScoped (c.unit_program at main x b)
-body_scoped at main x (plain.body begin xs end last) h =
+body_scoped at main x (plain.body begin (plain.in_order s others) end last) h =
     let r : Region = names.innermost x.place in
     let variables : length (map tree.whole_of (map (λ z. z.0) r.symbols)) ≡ r.cells = length-map _ _ ∙ length-map r.symbols (λ z. z.0) ∙ h.0.innermost.counted in
-    let declarations = part_elaborates 0 r.cells x.steps h.1 in
+    let declarations = part_elaborates 0 r.cells x.elaborations h.1 in
     let sees = regions_see (only r.cells) x.place (body_regions x.place r.cells h.0 (omega arith)) in
     record {
       declarations = declarations.0;
       variables = declarations.1 ∙ ap only (sym variables);
-      statements = rw variables (sequence_scoped (only r.cells) begin _ (statements_scoped (only r.cells) x.place sees xs));
+      statements = rw variables (before_scoped (only r.cells) _ _ (statement_scoped (only r.cells) x.place sees s) (others_scoped (only r.cells) x.place sees others));
     }
 
 pub typed_scoped : (u : plain.Unit) → c.faults u ≡ [] → IsScoped (c.typed u)

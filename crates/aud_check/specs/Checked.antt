@@ -15,19 +15,15 @@ use Rattle.aud_check.specs.Statements.{statements_faults, typed_statements}
 abbrev pub unit_faults : Ident → Declared → Body → List Fault
 unit_faults main d (body begin statements end last) = d.faults ++ (statements_faults statements d.place ++ right_name_at_end main.name last)
 
--- no statements are a null statement where they would begin
-abbrev pub or_null : Pos → List tree.Statement → List tree.Statement
-or_null at [] = tree.null at ∷ []
-or_null at (s ∷ ss) = s ∷ ss
-
 abbrev pub unit_program : Pos → Ident → Declared → Body → tree.Program
 unit_program at main d (body begin statements end last) = tree.program_of_main (record {
   name = main.name;
   at = at;
   variables = map (λ s. s.0) (innermost d.place).symbols;
-  declarations = d.steps;
+  declarations = d.elaborations;
   begin = begin;
-  statements = or_null begin (typed_statements statements d.place);
+  first = (typed_statements statements d.place).first;
+  others = (typed_statements statements d.place).others;
   end = end;
 })
 

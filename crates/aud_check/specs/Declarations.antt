@@ -12,11 +12,11 @@ use Rattle.aud_check.specs.Names.{Region, Place, visible, is_declared, innermost
 use Rattle.aud_check.specs.Rules.{name_not_declared, declared_once, wrong_kind_of_name}
 use Rattle.aud_check.specs.Expressions.{Typed, number, checked_expression, expression_at, not_integer}
 
--- the faults of declarations, the place after them, and their elaboration, name by name (RM 3.11)
+-- the faults of declarations, the place after them, and their elaborations, name by name (RM 3.11)
 pub record Declared : Type 0 where
   pub faults : List Fault
   pub place : Place
-  pub steps : List tree.Statement
+  pub elaborations : List tree.Statement
 
 -- a subtype mark must be that of a type (RM 3.2.2), of which there is only Integer
 abbrev pub subtype_faults : Option Meaning → Pos → List Fault
@@ -67,29 +67,25 @@ abbrev pub twice_faults : List Ident → Bool → Region → List Fault
 twice_faults [] good r = []
 twice_faults (i ∷ is) good r = declared_once i.name i.at r.symbols ++ twice_faults is good (with_name i good r)
 
-abbrev pub first_at : List Ident → Pos
-first_at [] = record { line = 0; col = 0 }
-first_at (i ∷ is) = i.at
-
 -- a declaration of several names stands for one of each, in their order (RM 3.3.1(7))
 abbrev pub elaboration : List Ident → Pos → tree.IntegerExpression → List tree.Statement
 elaboration names at e = map (λ i. tree.declare at (tree.whole Integer e)) names
 
--- within the declaration its names are hidden from all visibility (RM 8.3(16))
-abbrev pub checked_object : List Ident → Ident → MaybeExpression → Place → Declared
-checked_object identifiers subtype initial place = record {
+-- from where it begins: within the declaration its names are hidden from all visibility (RM 8.3(16))
+abbrev pub checked_object : Pos → List Ident → Ident → MaybeExpression → Place → Declared
+checked_object at identifiers subtype initial place = record {
   faults = subtype_faults (visible subtype.name (hiding identifiers place)) subtype.at ++ (initial_faults initial (hiding identifiers place) ++ twice_faults identifiers (is_integer_type (visible subtype.name (hiding identifiers place))) (innermost place));
   place = in_region (declared_names identifiers (is_integer_type (visible subtype.name (hiding identifiers place))) (innermost place)) place;
-  steps = elaboration identifiers (first_at identifiers) (initial_value initial (hiding identifiers place));
+  elaborations = elaboration identifiers at (initial_value initial (hiding identifiers place));
 }
 
 abbrev pub checked_declaration : Declaration → Place → Declared
-checked_declaration (object identifiers subtype initial) place = checked_object identifiers subtype initial place
+checked_declaration (object first others subtype initial) place = checked_object first.at (first ∷ others) subtype initial place
 
 abbrev pub joined_declared : Declared → Declared → Declared
-joined_declared d e = record { faults = d.faults ++ e.faults; place = e.place; steps = d.steps ++ e.steps }
+joined_declared d e = record { faults = d.faults ++ e.faults; place = e.place; elaborations = d.elaborations ++ e.elaborations }
 
 -- the declarations are elaborated in their order (RM 3.11(7))
 abbrev pub checked_declarations : Declarations → Place → Declared
-checked_declarations no_declarations place = record { faults = []; place = place; steps = [] }
+checked_declarations no_declarations place = record { faults = []; place = place; elaborations = [] }
 checked_declarations (more_declarations d ds) place = joined_declared (checked_declaration d place) (checked_declarations ds (checked_declaration d place).place)

@@ -1,5 +1,5 @@
--- The rules of the language that a program may break, each with its code, and where a breach stands. That a target is a variable
--- which may be changed (RM 5.2(5)) has a code and no rule here: each variable of this language may be changed.
+-- The rules of the language that a program may break, each with its refusal, and where a breach stands. That a target is a variable
+-- which may be changed (RM 5.2(5)) has a refusal and no rule here: each variable of this language may be changed.
 use Rattle.std.specs.Prelude.{Bool, true, false, not, List, [], ◌∷◌, Option, Some, None, if◌then◌else◌, ℕ}
 use Rattle.std.specs.Str.{bytes_eq}
 use Rattle.aud_text.specs.declared.place.Pos.{Pos}

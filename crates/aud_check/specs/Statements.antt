@@ -2,7 +2,7 @@
 use Rattle.std.specs.Prelude.{List, [], ◌∷◌, ◌++◌, Option, Some, None}
 use Rattle.aud_text.specs.declared.place.Pos.{Pos}
 use Rattle.aud_syntax.specs.declared.tree.Ident.{Ident}
-use Rattle.aud_syntax.specs.Plain.{Name, named, NamePart, part, Args, no_args, more_args, Statement, null, assign, call, Statements, no_statements, more_statements}
+use Rattle.aud_syntax.specs.Plain.{Name, named, NamePart, part, Args, no_args, more_args, Statement, null, assign, call, Statements, in_order, MoreStatements, no_statements, more_statements}
 use Rattle.aud_typed.specs.declared.program.Subtype.TheVariants.{Integer}
 use Rattle.aud_typed.specs.Tree as tree
 use Rattle.aud_check.specs.declared.fault.Fault.{Fault}
@@ -79,10 +79,22 @@ typed_statement (assign n value) place = assigned (visible (name_ident n).name p
 typed_statement (call n) place = called_with (name_args n) (name_ident n) place
 
 -- a sequence of statements (RM 5.1(2))
-abbrev pub statements_faults : Statements → Place → List Fault
-statements_faults no_statements place = []
-statements_faults (more_statements s ss) place = statement_faults s place ++ statements_faults ss place
 
-abbrev pub typed_statements : Statements → Place → List tree.Statement
-typed_statements no_statements place = []
-typed_statements (more_statements s ss) place = typed_statement s place ∷ typed_statements ss place
+abbrev pub others_faults : MoreStatements → Place → List Fault
+others_faults no_statements place = []
+others_faults (more_statements s ss) place = statement_faults s place ++ others_faults ss place
+
+abbrev pub statements_faults : Statements → Place → List Fault
+statements_faults (in_order s ss) place = statement_faults s place ++ others_faults ss place
+
+-- the first, and those behind it
+pub record TypedStatements : Type 0 where
+  pub first : tree.Statement
+  pub others : List tree.Statement
+
+abbrev pub typed_others : MoreStatements → Place → List tree.Statement
+typed_others no_statements place = []
+typed_others (more_statements s ss) place = typed_statement s place ∷ typed_others ss place
+
+abbrev pub typed_statements : Statements → Place → TypedStatements
+typed_statements (in_order s ss) place = record { first = typed_statement s place; others = typed_others ss place }

@@ -5,28 +5,28 @@ ghost use Rattle.aud_syntax.specs.Ties.View.{plain_maybe, plain_declaration, pla
 ghost use Rattle.aud_typed.specs.Ties.View.{plain_integer, plain_statements as plain_typed_statements};
 ghost use Rattle.aud_check.specs.Least.{noted};
 ghost use Rattle.aud_check.specs.Rules.{declared_once};
-ghost use Rattle.aud_check.specs.Declarations.{subtype_faults, is_integer_type, initial_faults, initial_value, integer_or_zero, new_meaning, with_name, declared_names, twice_faults, first_at, elaboration, checked_declaration, checked_declarations};
-ghost use Rattle.aud_check.specs.Ties.Typing.{plain_typed};
+ghost use Rattle.aud_check.specs.Declarations.{subtype_faults, is_integer_type, initial_faults, initial_value, integer_or_zero, new_meaning, with_name, declared_names, twice_faults, elaboration, checked_declaration, checked_declarations};
+ghost use Rattle.aud_check.specs.Ties.Typing.{plain_typed, Leaves};
 ghost use Rattle.aud_check.specs.Ties.DeclarativePart.{Declares};
-ghost use Rattle.aud_check.specs.Ties.Regions.{plain_region, plain_place};
+ghost use Rattle.aud_check.specs.Ties.Regions.{plain_region, plain_place, names_in};
 
 use crate::expression::{expression, expression_at};
 use crate::fault::Least;
 use crate::names::{Meaning, Place, Region, Scope};
 use crate::rules::{declared_once, name_not_declared, wrong_kind_of_name};
 use crate::typed::{Typed, wants_integer};
-use aud_syntax::tree::{Declaration, Expression, Ident};
+use aud_syntax::tree::{Declaration, Expression, Ident, Identifiers};
 use aud_text::int32::Int32;
 use aud_text::name::Name;
 use aud_text::place::Pos;
 use aud_typed::program::{IntegerExpression, Operation, Statement, Variable};
 use std::alloc::{AllocError, Global};
 
-/// The place after a declarative part, and its elaboration (RM 3.11).
+/// The place after a declarative part, and its elaborations (RM 3.11).
 #[derive(Drop)]
 pub struct DeclarativePart {
     pub place: Place,
-    pub steps: Vec<Statement>,
+    pub elaborations: Vec<Statement>,
 }
 
 // Notes where a subtype mark is not that of a type (RM 3.2.2).
@@ -66,8 +66,9 @@ fn initial_value(
     scope: &Scope<'_>,
     faults: &mut Least,
 ) -> Result<IntegerExpression, AllocError>
-    ensures value { IfOk result (λ value. plain_integer value ≡ initial_value (plain_maybe initial.now) scope.now) }
-    ensures noted { OnOk result (faults.new ≡ noted faults.old (initial_faults (plain_maybe initial.now) scope.now)) }
+    ensures { Leaves plain_integer result faults.old faults.new
+        (initial_faults (plain_maybe initial.now) scope.now)
+        (initial_value (plain_maybe initial.now) scope.now) }
 {
     match initial {
         None => Ok(IntegerExpression::Number(Int32::new(0))),
@@ -94,7 +95,10 @@ fn copy(alloc: Global, value: &IntegerExpression) -> Result<IntegerExpression, A
             let mut copied = Vec::with_capacity(alloc, rest.len())?;
             for next in rest {
                 let right = copy(alloc, &next.right)?;
-                copied.push(Operation { operator: next.operator, right })?;
+                copied.push(Operation {
+                    operator: next.operator,
+                    right,
+                })?;
             }
             Ok(IntegerExpression::Chain(first, copied))
         }
@@ -119,8 +123,10 @@ fn declare_name(
     region: &mut Region,
     faults: &mut Least,
 ) -> Result<(), AllocError>
-    ensures region { OnOk result (plain_region region.new ≡ with_name ident.now good (plain_region region.old)) }
-    ensures noted { OnOk result (faults.new ≡ noted faults.old (declared_once ident.now.name ident.now.at region.old.symbols.entries)) }
+    ensures region { OnOk result
+        (plain_region region.new ≡ with_name ident.now good (plain_region region.old)) }
+    ensures noted { OnOk result (faults.new ≡ noted faults.old
+        (declared_once ident.now.name ident.now.at region.old.symbols.entries)) }
 {
     if declared_once(ident, &region.symbols, faults) {
         let cells = region.cells.checked_add(1).ok_or(AllocError)?;
@@ -135,43 +141,40 @@ fn declare_name(
 // Declares the names one after the other.
 fn declare(
     alloc: Global,
-    names: &[Ident],
+    names: &Identifiers,
     good: bool,
     region: &mut Region,
     faults: &mut Least,
 ) -> Result<(), AllocError>
-    ensures region { OnOk result (plain_region region.new ≡ declared_names names.now good (plain_region region.old)) }
-    ensures noted { OnOk result (faults.new ≡ noted faults.old (twice_faults names.now good (plain_region region.old))) }
+    ensures region { OnOk result (plain_region region.new
+        ≡ declared_names (names_in names.now) good (plain_region region.old)) }
+    ensures noted { OnOk result (faults.new ≡ noted faults.old
+        (twice_faults (names_in names.now) good (plain_region region.old))) }
 {
-    for ident in names {
-        declare_name(alloc, ident, good, region, faults)?;
+    declare_name(alloc, &names.first, good, region, faults)?;
+    for other in &names.others {
+        declare_name(alloc, other, good, region, faults)?;
     }
     Ok(())
-}
-
-fn first_at(names: &[Ident]) -> Pos
-    ensures { result ≡ first_at names.now }
-{
-    match names {
-        [] => Pos { line: 0, col: 0 },
-        [first, ..] => first.at,
-    }
 }
 
 // The elaboration of the names, each with the same initial value.
 fn elaborate(
     alloc: Global,
-    names: &[Ident],
-    value: &IntegerExpression,
-    steps: &mut Vec<Statement>,
+    names: &Identifiers,
+    value: IntegerExpression,
+    elaborations: &mut Vec<Statement>,
 ) -> Result<(), AllocError>
-    ensures { OnOk result (plain_typed_statements steps.new.items ≡ plain_typed_statements steps.old.items ++ elaboration names.now (first_at names.now) (plain_integer value.now)) }
+    ensures { OnOk result (plain_typed_statements elaborations.new.items
+        ≡ plain_typed_statements elaborations.old.items
+        ++ elaboration (names_in names.now) names.now.first.at (plain_integer value)) }
 {
-    let at = first_at(names);
-    for _ident in names {
-        let value = copy(alloc, value)?;
-        steps.push(Statement::Declare(at, value))?;
+    let at = names.first.at;
+    for _other in &names.others {
+        let copied = copy(alloc, &value)?;
+        elaborations.push(Statement::Declare(at, copied))?;
     }
+    elaborations.push(Statement::Declare(at, value))?;
     Ok(())
 }
 
@@ -183,10 +186,11 @@ pub fn declaration(
     part: &mut DeclarativePart,
     faults: &mut Least,
 ) -> Result<(), AllocError>
-    ensures { OnOk result (Declares faults.old faults.new part.old part.new (checked_declaration (plain_declaration declaration.now) (plain_place part.old.place))) }
+    ensures { OnOk result (Declares faults.old faults.new part.old part.new
+        (checked_declaration (plain_declaration declaration.now) (plain_place part.old.place))) }
 {
     let Declaration::Object(names, subtype, initial) = declaration;
-    let scope = Scope::new(&part.place, names);
+    let scope = Scope::within(&part.place, names);
     let meaning = scope.visible(&subtype.name);
     check_subtype(meaning, subtype.at, faults);
     let value = initial_value(alloc, initial, &scope, faults)?;
@@ -197,7 +201,7 @@ pub fn declaration(
         &mut part.place.innermost,
         faults,
     )?;
-    elaborate(alloc, names, &value, &mut part.steps)
+    elaborate(alloc, names, value, &mut part.elaborations)
 }
 
 /// Checks a declarative part (RM 3.11).
@@ -207,7 +211,8 @@ pub fn declarations(
     part: &mut DeclarativePart,
     faults: &mut Least,
 ) -> Result<(), AllocError>
-    ensures { OnOk result (Declares faults.old faults.new part.old part.new (checked_declarations (plain_declarations declarations.now) (plain_place part.old.place))) }
+    ensures { OnOk result (Declares faults.old faults.new part.old part.new
+        (checked_declarations (plain_declarations declarations.now) (plain_place part.old.place))) }
 {
     for next in declarations {
         declaration(alloc, next, part, faults)?;

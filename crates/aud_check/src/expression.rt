@@ -13,7 +13,8 @@ use crate::rules::{
 };
 use crate::typed::{Typed, adding_operator, arithmetic, highest, image_of, signed, wants_integer};
 use aud_syntax::tree::{
-    Added, Expression, Factor, Ident, Multiplied, Multiplying, Number, Primary, Relation, Simple, Term,
+    Added, Expression, Factor, Ident, Multiplied, Multiplying, Number, Primary, Relation, Simple,
+    Term,
 };
 use aud_text::place::Pos;
 use aud_typed::program::{Binary, IntegerExpression, TextExpression};
@@ -86,7 +87,7 @@ fn multiplying(operator: Multiplying) -> Binary
 }
 
 fn checked_number(number: Number, faults: &mut Least) -> Result<Typed, AllocError>
-    ensures { Shows faults.old faults.new (checked_number number.value number.at) result }
+    ensures { Shows result faults.old faults.new (checked_number number.value number.at) }
 {
     match number.value {
         Some(value) => Ok(Typed::Number(IntegerExpression::Number(value))),
@@ -109,11 +110,13 @@ pub fn check_variable(meaning: Option<Meaning>, at: Pos, faults: &mut Least)
 }
 
 fn checked_name(meaning: Option<Meaning>, at: Pos, faults: &mut Least) -> Result<Typed, AllocError>
-    ensures { Shows faults.old faults.new (checked_name meaning at) result }
+    ensures { Shows result faults.old faults.new (checked_name meaning at) }
 {
     check_variable(meaning, at, faults);
     match meaning {
-        Some(Meaning::Variable(variable)) => Ok(Typed::Number(IntegerExpression::Variable(variable))),
+        Some(Meaning::Variable(variable)) => Ok(Typed::Number(IntegerExpression::Variable(
+            variable,
+        ))),
         _ => Ok(Typed::Unknown),
     }
 }
@@ -125,7 +128,7 @@ fn image_alone(
     designator: &Ident,
     faults: &mut Least,
 ) -> Result<Typed, AllocError>
-    ensures { Shows faults.old faults.new (image_alone meaning prefix.now designator.now) result }
+    ensures { Shows result faults.old faults.new (image_alone meaning prefix.now designator.now) }
 {
     match meaning {
         Meaning::IntegerType => {
@@ -152,7 +155,8 @@ fn image_with(
     argument: Typed,
     faults: &mut Least,
 ) -> Result<Typed, AllocError>
-    ensures { Shows faults.old faults.new (image_with meaning prefix.now designator.now at (plain_typed argument)) result }
+    ensures { Shows result faults.old faults.new
+        (image_with meaning prefix.now designator.now at (plain_typed argument)) }
 {
     match meaning {
         Meaning::IntegerType => {
@@ -179,7 +183,9 @@ fn attribute(
     argument: Option<(Pos, Typed)>,
     faults: &mut Least,
 ) -> Result<Typed, AllocError>
-    ensures { Shows faults.old faults.new (checked_attribute meaning prefix.now designator.now (option_map (λ p. (p.0, plain_typed p.1)) argument)) result }
+    ensures { Shows result faults.old faults.new
+        (checked_attribute meaning prefix.now designator.now
+        (option_map (λ p. (p.0, plain_typed p.1)) argument)) }
 {
     let Some(meaning) = meaning else {
         name_not_declared(prefix.at, faults);
@@ -202,7 +208,8 @@ fn primary(
     scope: &Scope<'_>,
     faults: &mut Least,
 ) -> Result<Typed, AllocError>
-    ensures { Shows faults.old faults.new (checked_primary (plain_primary primary.now) scope.now) result }
+    ensures { Shows result faults.old faults.new
+        (checked_primary (plain_primary primary.now) scope.now) }
 {
     match primary {
         Primary::Integer(number) => checked_number(*number, faults),
@@ -237,7 +244,8 @@ fn factor(
     scope: &Scope<'_>,
     faults: &mut Least,
 ) -> Result<Typed, AllocError>
-    ensures { Shows faults.old faults.new (checked_factor (plain_factor factor.now) scope.now) result }
+    ensures { Shows result faults.old faults.new
+        (checked_factor (plain_factor factor.now) scope.now) }
 {
     let operand = primary(alloc, &factor.primary, scope, faults)?;
     match &factor.operator {
@@ -261,7 +269,8 @@ fn multiplied(
     left: Typed,
     faults: &mut Least,
 ) -> Result<Typed, AllocError>
-    ensures { Shows faults.old faults.new (checked_multiplied (plain_multiplied multiplied.now) scope.now at (plain_typed left)) result }
+    ensures { Shows result faults.old faults.new
+        (checked_multiplied (plain_multiplied multiplied.now) scope.now at (plain_typed left)) }
 {
     let right = factor(alloc, &multiplied.factor, scope, faults)?;
     let operator = multiplying(multiplied.operator);
@@ -283,7 +292,7 @@ fn term(
     scope: &Scope<'_>,
     faults: &mut Least,
 ) -> Result<Typed, AllocError>
-    ensures { Shows faults.old faults.new (checked_term (plain_term term.now) scope.now) result }
+    ensures { Shows result faults.old faults.new (checked_term (plain_term term.now) scope.now) }
 {
     let at = term_at(term);
     let mut left = factor(alloc, &term.first, scope, faults)?;
@@ -302,7 +311,8 @@ fn added(
     left: Typed,
     faults: &mut Least,
 ) -> Result<Typed, AllocError>
-    ensures { Shows faults.old faults.new (checked_added (plain_added added.now) scope.now at (plain_typed left)) result }
+    ensures { Shows result faults.old faults.new
+        (checked_added (plain_added added.now) scope.now at (plain_typed left)) }
 {
     let right = term(alloc, &added.term, scope, faults)?;
     adding_operator(
@@ -323,7 +333,7 @@ fn simple(
     scope: &Scope<'_>,
     faults: &mut Least,
 ) -> Result<Typed, AllocError>
-    ensures { Shows faults.old faults.new (checked_simple (plain_simple e.now) scope.now) result }
+    ensures { Shows result faults.old faults.new (checked_simple (plain_simple e.now) scope.now) }
 {
     let at = simple_at(e);
     let first = term(alloc, &e.first, scope, faults)?;
@@ -341,7 +351,8 @@ fn relation(
     scope: &Scope<'_>,
     faults: &mut Least,
 ) -> Result<Typed, AllocError>
-    ensures { Shows faults.old faults.new (checked_relation (plain_relation relation.now) scope.now) result }
+    ensures { Shows result faults.old faults.new
+        (checked_relation (plain_relation relation.now) scope.now) }
 {
     let Relation::Unrelated(e) = relation;
     simple(alloc, e, scope, faults)
@@ -355,7 +366,8 @@ pub fn expression(
     scope: &Scope<'_>,
     faults: &mut Least,
 ) -> Result<Typed, AllocError>
-    ensures { Shows faults.old faults.new (checked_expression (plain_expression e.now) scope.now) result }
+    ensures { Shows result faults.old faults.new
+        (checked_expression (plain_expression e.now) scope.now) }
 {
     let Expression::Alone(alone) = e;
     relation(alloc, alone, scope, faults)

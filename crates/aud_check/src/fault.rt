@@ -4,8 +4,8 @@ ghost use Rattle.std.specs.Prelude.{◌≡◌, Option, None};
 ghost use Rattle.aud_check.specs.declared.fault.Fault.{Fault};
 ghost use Rattle.aud_check.specs.Least.{before, note};
 
-use aud_text::refusal::Refusal;
 use aud_text::place::Pos;
+use aud_text::refusal::Refusal;
 use std::alloc::{AllocError, AllocFailed};
 use std::marker::Model;
 use thiserror::Error;

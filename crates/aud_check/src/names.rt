@@ -1,10 +1,11 @@
 // Names, and what they stand for.
 
 ghost use Rattle.std.specs.Prelude.{◌≡◌, IfOk};
+ghost use Rattle.std.specs.Option.{option_copied};
 ghost use Rattle.aud_check.specs.Names.{Place as Plain, empty_region, named_in, predefined, declared, hiding, is_hidden, visible, main_place};
-ghost use Rattle.aud_check.specs.Ties.Regions.{plain_region, plain_regions, plain_place};
+ghost use Rattle.aud_check.specs.Ties.Regions.{plain_region, plain_regions, plain_place, names_in, hidden_names};
 
-use aud_syntax::tree::Ident;
+use aud_syntax::tree::{Ident, Identifiers};
 use aud_text::name::Name;
 use aud_typed::program::Variable;
 use indexmap::IndexMap;
@@ -75,25 +76,38 @@ impl Place {
     }
 }
 
-/// What is visible at a place within a declaration.
+/// What is visible at a place, which may stand within a declaration.
 #[derive(Drop)]
 pub struct Scope<'a> {
     place: &'a Place,
-    hidden: &'a [Ident],
+    hidden: Option<&'a Identifiers>,
 }
 
 impl<'a> Model for Scope<'a> {
     ghost Value = { Plain };
 
-    ghost view = { λ scope. hiding scope.hidden.now (plain_place scope.place.now) };
+    ghost view = { λ scope. hiding (hidden_names (option_copied scope.hidden)) (plain_place scope.place.now) };
 }
 
 impl<'a> Scope<'a> {
-    /// The place within the declaration of the names that are hidden.
-    pub fn new(place: &'a Place, hidden: &'a [Ident]) -> Self
-        ensures { result ≡ hiding hidden.now (plain_place place.now) }
+    /// A place behind declarations.
+    pub fn new(place: &'a Place) -> Self
+        ensures { result ≡ plain_place place.now }
     {
-        Scope { place, hidden }
+        Scope {
+            place,
+            hidden: None,
+        }
+    }
+
+    /// The place within the declaration of these names.
+    pub fn within(place: &'a Place, names: &'a Identifiers) -> Self
+        ensures { result ≡ hiding (names_in names.now) (plain_place place.now) }
+    {
+        Scope {
+            place,
+            hidden: Some(names),
+        }
     }
 
     /// What a name stands for, none where no declaration of it is visible (RM 8.3).
@@ -110,10 +124,19 @@ impl<'a> Scope<'a> {
     }
 }
 
-fn is_hidden(name: &Name, hidden: &[Ident]) -> bool
-    ensures { result ≡ is_hidden name.now hidden.now }
+fn is_hidden(name: &Name, hidden: Option<&Identifiers>) -> bool
+    ensures { result ≡ is_hidden name.now (hidden_names (option_copied hidden.entry)) }
 {
-    hidden.iter().any(|ident| *name == ident.name)
+    match hidden {
+        None => false,
+        Some(names) => *name == names.first.name || is_named(name, &names.others),
+    }
+}
+
+fn is_named(name: &Name, identifiers: &[Ident]) -> bool
+    ensures { result ≡ is_hidden name.now identifiers.now }
+{
+    identifiers.iter().any(|ident| *name == ident.name)
 }
 
 // What regions declare a name to be.

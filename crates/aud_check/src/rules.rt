@@ -8,9 +8,9 @@ ghost use Rattle.aud_check.specs.Rules.{name_not_declared, declared_once, wrong_
 use crate::fault::Least;
 use crate::names::Symbols;
 use aud_syntax::tree::Ident;
-use aud_text::refusal::Refusal;
 use aud_text::name::Name;
 use aud_text::place::Pos;
+use aud_text::refusal::Refusal;
 
 /// The types that places ask.
 #[derive(Clone, Copy, PartialEq, Eq, Debug)]
@@ -33,7 +33,8 @@ pub fn name_not_declared(at: Pos, faults: &mut Least)
 /// A region declares a name once (RM 8.3(26)): whether this declaration of it is the first.
 pub fn declared_once(ident: &Ident, symbols: &Symbols, faults: &mut Least) -> bool
     ensures first { result ≡ not (is_declared ident.now.name symbols.now.entries) }
-    ensures noted { faults.new ≡ noted faults.old (declared_once ident.now.name ident.now.at symbols.now.entries) }
+    ensures noted { faults.new ≡ noted faults.old
+        (declared_once ident.now.name ident.now.at symbols.now.entries) }
 {
     if symbols.contains_key(&ident.name) {
         faults.note(ident.at, Refusal::DeclaredTwice);

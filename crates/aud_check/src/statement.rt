@@ -1,12 +1,12 @@
 // Statements.
 
-ghost use Rattle.std.specs.Prelude.{◌≡◌, ◌++◌, IfOk, OnOk};
+ghost use Rattle.std.specs.Prelude.{◌≡◌, IfOk};
 ghost use Rattle.aud_syntax.specs.Ties.View.{plain_expression, plain_expressions, plain_statement, plain_statements};
 ghost use Rattle.aud_syntax.specs.Plain.{no_args, more_args};
-ghost use Rattle.aud_typed.specs.Ties.View.{plain_statement as plain_typed_statement, plain_statements as plain_typed_statements};
+ghost use Rattle.aud_typed.specs.Ties.View.{plain_statement as plain_typed_statement};
 ghost use Rattle.aud_check.specs.Least.{noted};
 ghost use Rattle.aud_check.specs.Statements.{target_base, assign_faults, assigned, callee_faults, formal_base, called, args_faults, called_with, statement_faults, typed_statement, statements_faults, typed_statements};
-ghost use Rattle.aud_check.specs.Ties.Typing.{plain_typed};
+ghost use Rattle.aud_check.specs.Ties.Typing.{plain_typed, plain_sequence, Leaves};
 
 use crate::expression::{check_variable, expression, expression_at};
 use crate::fault::Least;
@@ -15,9 +15,11 @@ use crate::rules::{
     Base, name_not_declared, right_type, wrong_kind_of_name, wrong_number_of_arguments,
 };
 use crate::typed::{Typed, base_of, with_text};
-use aud_syntax::tree::{Expression, Ident, Statement};
+use aud_syntax::tree::{Expression, Ident, Statement, Statements};
 use aud_text::place::Pos;
-use aud_typed::program::{Statement as TypedStatement, TextExpression};
+use aud_typed::program::{
+    Statement as TypedStatement, Statements as TypedStatements, TextExpression,
+};
 use std::alloc::{AllocError, Global};
 
 fn target_base(meaning: Option<Meaning>) -> Option<Base>
@@ -38,8 +40,9 @@ fn assigned(
     value: Typed,
     faults: &mut Least,
 ) -> TypedStatement
-    ensures step { plain_typed_statement result ≡ assigned meaning target (plain_typed value) }
-    ensures noted { faults.new ≡ noted faults.old (assign_faults meaning target at (plain_typed value)) }
+    ensures typed { plain_typed_statement result ≡ assigned meaning target (plain_typed value) }
+    ensures noted { faults.new
+        ≡ noted faults.old (assign_faults meaning target at (plain_typed value)) }
 {
     check_variable(meaning, target, faults);
     right_type(target_base(meaning), at, base_of(&value), faults);
@@ -79,7 +82,8 @@ fn called(
     name: Pos,
     argument: Typed,
 ) -> Result<TypedStatement, AllocError>
-    ensures { IfOk result (λ step. plain_typed_statement step ≡ called meaning name (plain_typed argument)) }
+    ensures { IfOk result (λ typed. plain_typed_statement typed
+        ≡ called meaning name (plain_typed argument)) }
 {
     match (meaning, argument) {
         (Some(Meaning::PutLine), Typed::Text(text)) => {
@@ -99,8 +103,9 @@ fn one_argument(
     scope: &Scope<'_>,
     faults: &mut Least,
 ) -> Result<TypedStatement, AllocError>
-    ensures step { IfOk result (λ step. plain_typed_statement step ≡ called_with (more_args (plain_expression argument.now) no_args) ident.now scope.now) }
-    ensures noted { OnOk result (faults.new ≡ noted faults.old (args_faults (more_args (plain_expression argument.now) no_args) ident.now scope.now)) }
+    ensures { Leaves plain_typed_statement result faults.old faults.new
+        (args_faults (more_args (plain_expression argument.now) no_args) ident.now scope.now)
+        (called_with (more_args (plain_expression argument.now) no_args) ident.now scope.now) }
 {
     let typed = expression(alloc, argument, scope, faults)?;
     let meaning = scope.visible(&ident.name);
@@ -122,8 +127,9 @@ fn call(
     scope: &Scope<'_>,
     faults: &mut Least,
 ) -> Result<TypedStatement, AllocError>
-    ensures step { IfOk result (λ step. plain_typed_statement step ≡ called_with (plain_expressions args.now) ident.now scope.now) }
-    ensures noted { OnOk result (faults.new ≡ noted faults.old (args_faults (plain_expressions args.now) ident.now scope.now)) }
+    ensures { Leaves plain_typed_statement result faults.old faults.new
+        (args_faults (plain_expressions args.now) ident.now scope.now)
+        (called_with (plain_expressions args.now) ident.now scope.now) }
 {
     if args.len() != 1 {
         wrong_number_of_arguments(ident.at, faults);
@@ -140,8 +146,9 @@ pub fn statement(
     scope: &Scope<'_>,
     faults: &mut Least,
 ) -> Result<TypedStatement, AllocError>
-    ensures step { IfOk result (λ step. plain_typed_statement step ≡ typed_statement (plain_statement statement.now) scope.now) }
-    ensures noted { OnOk result (faults.new ≡ noted faults.old (statement_faults (plain_statement statement.now) scope.now)) }
+    ensures { Leaves plain_typed_statement result faults.old faults.new
+        (statement_faults (plain_statement statement.now) scope.now)
+        (typed_statement (plain_statement statement.now) scope.now) }
 {
     match statement {
         Statement::Null(at) => Ok(TypedStatement::Null(*at)),
@@ -155,20 +162,22 @@ pub fn statement(
     }
 }
 
-/// Checks statements (RM 5.1), and adds to the steps what is left of them.
+/// Checks a sequence of statements (RM 5.1): notes its faults, and answers what is left of it.
 pub fn statements(
     alloc: Global,
-    statements: &[Statement],
+    statements: &Statements,
     scope: &Scope<'_>,
-    steps: &mut Vec<TypedStatement>,
     faults: &mut Least,
-) -> Result<(), AllocError>
-    ensures steps { OnOk result (plain_typed_statements steps.new.items ≡ plain_typed_statements steps.old.items ++ typed_statements (plain_statements statements.now) scope.now) }
-    ensures noted { OnOk result (faults.new ≡ noted faults.old (statements_faults (plain_statements statements.now) scope.now)) }
+) -> Result<TypedStatements, AllocError>
+    ensures { Leaves plain_sequence result faults.old faults.new
+        (statements_faults (plain_statements statements.now) scope.now)
+        (typed_statements (plain_statements statements.now) scope.now) }
 {
-    for next in statements {
-        let step = statement(alloc, next, scope, faults)?;
-        steps.push(step)?;
+    let first = statement(alloc, &statements.first, scope, faults)?;
+    let mut others = Vec::with_capacity(alloc, statements.others.len())?;
+    for next in &statements.others {
+        let other = statement(alloc, next, scope, faults)?;
+        others.push(other)?;
     }
-    Ok(())
+    Ok(TypedStatements { first, others })
 }

@@ -59,7 +59,9 @@ fn with_operation(
     left: IntegerExpression,
     next: Operation,
 ) -> Result<IntegerExpression, AllocError>
-    ensures { IfOk result (λ value. plain_integer value ≡ binary (out-Operation next).operator (plain_integer left) (plain_integer (out-Operation next).right)) }
+    ensures { let operation = out-Operation next in
+        IfOk result (λ value. plain_integer value
+        ≡ binary operation.operator (plain_integer left) (plain_integer operation.right)) }
 {
     match left {
         IntegerExpression::Chain(first, mut rest) => {
@@ -76,7 +78,8 @@ fn with_operation(
 }
 
 fn combined(alloc: Global, operator: Binary, left: Typed, right: Typed) -> Result<Typed, AllocError>
-    ensures { IfOk result (λ typed. plain_typed typed ≡ combined operator (plain_typed left) (plain_typed right)) }
+    ensures { IfOk result (λ typed. plain_typed typed
+        ≡ combined operator (plain_typed left) (plain_typed right)) }
 {
     match (left, right) {
         (Typed::Number(left), Typed::Number(right)) => {
@@ -88,7 +91,11 @@ fn combined(alloc: Global, operator: Binary, left: Typed, right: Typed) -> Resul
 }
 
 /// A text, and another one that follows it.
-pub fn with_text(alloc: Global, left: TextExpression, next: TextExpression) -> Result<TextExpression, AllocError>
+pub fn with_text(
+    alloc: Global,
+    left: TextExpression,
+    next: TextExpression,
+) -> Result<TextExpression, AllocError>
     ensures { IfOk result (λ text. plain_text text ≡ join (plain_text left) (plain_text next)) }
 {
     match left {
@@ -106,7 +113,8 @@ pub fn with_text(alloc: Global, left: TextExpression, next: TextExpression) -> R
 }
 
 fn joined(alloc: Global, left: Typed, right: Typed) -> Result<Typed, AllocError>
-    ensures { IfOk result (λ typed. plain_typed typed ≡ joined (plain_typed left) (plain_typed right)) }
+    ensures { IfOk result (λ typed. plain_typed typed
+        ≡ joined (plain_typed left) (plain_typed right)) }
 {
     match (left, right) {
         (Typed::Text(left), Typed::Text(right)) => {
@@ -159,7 +167,8 @@ pub fn arithmetic(
     right: Typed,
     faults: &mut Least,
 ) -> Result<Typed, AllocError>
-    ensures { Shows faults.old faults.new (arithmetic operator left_at (plain_typed left) right_at (plain_typed right)) result }
+    ensures { Shows result faults.old faults.new
+        (arithmetic operator left_at (plain_typed left) right_at (plain_typed right)) }
 {
     wants_integer(left_at, &left, faults);
     wants_integer(right_at, &right, faults);
@@ -175,7 +184,8 @@ fn joining(
     right: Typed,
     faults: &mut Least,
 ) -> Result<Typed, AllocError>
-    ensures { Shows faults.old faults.new (joining left_at (plain_typed left) right_at (plain_typed right)) result }
+    ensures { Shows result faults.old faults.new
+        (joining left_at (plain_typed left) right_at (plain_typed right)) }
 {
     wants_text(left_at, &left, faults);
     wants_text(right_at, &right, faults);
@@ -192,7 +202,8 @@ pub fn adding_operator(
     right: Typed,
     faults: &mut Least,
 ) -> Result<Typed, AllocError>
-    ensures { Shows faults.old faults.new (adding_operator operator left_at (plain_typed left) right_at (plain_typed right)) result }
+    ensures { Shows result faults.old faults.new
+        (adding_operator operator left_at (plain_typed left) right_at (plain_typed right)) }
 {
     match operator {
         Adding::Plus => arithmetic(alloc, Binary::Sum, left_at, left, right_at, right, faults),
@@ -217,7 +228,7 @@ pub fn signed(
     operand: Typed,
     faults: &mut Least,
 ) -> Result<Typed, AllocError>
-    ensures { Shows faults.old faults.new (signed sign at (plain_typed operand)) result }
+    ensures { Shows result faults.old faults.new (signed sign at (plain_typed operand)) }
 {
     let Some(signed) = sign else {
         return Ok(operand);
@@ -237,7 +248,7 @@ pub fn highest(
     operand: Typed,
     faults: &mut Least,
 ) -> Result<Typed, AllocError>
-    ensures { Shows faults.old faults.new (highest operator at (plain_typed operand)) result }
+    ensures { Shows result faults.old faults.new (highest operator at (plain_typed operand)) }
 {
     match operator {
         Highest::Magnitude => {

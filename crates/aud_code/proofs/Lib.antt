@@ -1,4 +1,6 @@
 pub mod Counting
 pub mod Fine
+pub mod Needing
+pub mod Passing
 pub mod Verifying
 pub mod Plainly

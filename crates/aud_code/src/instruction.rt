@@ -2,10 +2,10 @@
 
 use aud_text::int32::Int32;
 use aud_text::text::Text;
-use aud_typed::program::{Binary, Subtype, Unary, Variable};
+use aud_typed::program::{Binary, Logical, Relation, Subtype, Unary, Variable};
 
-/// An instruction. They work on the operands of a step: Integers and targets, of which the newest is taken first, and a
-/// text that grows at its end.
+/// An instruction. They work on the operands of a step: Integers, truth values and targets, of which the newest is taken
+/// first, and a text that grows at its end.
 #[derive(Drop, Debug)]
 pub enum Instruction {
     /// One more Integer.
@@ -18,10 +18,30 @@ pub enum Instruction {
     OnTwo(Binary),
     /// The newest Integer is in the subtype's range, or Constraint_Error is raised (RM 4.6(51)).
     Check(Subtype),
+    /// Takes the newest truth value; one more Integer, which a cell holds for it.
+    Cell,
+    /// One more truth value.
+    PushTruth(bool),
+    /// Takes the newest Integer, which a cell held; one more truth value.
+    Truth,
+    /// The other truth value in place of the newest one.
+    Negate,
+    /// Takes the two newest Integers, the newest being the right operand; one more truth value.
+    Relate(Relation),
+    /// A relation in place of the two newest truth values; the newest is its right operand.
+    Compare(Relation),
+    /// An operator in place of the two newest truth values; the newest is its right operand.
+    Combine(Logical),
+    /// Takes the newest truth value where it is true. A false one stays, and this number of instructions is passed.
+    PassIfFalse(usize),
+    /// Takes the newest truth value where it is false. A true one stays, and this number of instructions is passed.
+    PassIfTrue(usize),
     /// The variable's cell, with its subtype, as one more target.
     Find(Variable, Subtype),
     AppendText(Text),
     /// Takes the newest Integer, and puts its image at the text's end.
     AppendImage,
+    /// Takes the newest truth value, and puts its image at the text's end.
+    AppendTruth,
     AppendNewLine,
 }

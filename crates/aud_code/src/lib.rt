@@ -4,4 +4,5 @@
 mod counts;
 pub mod instruction;
 pub mod line;
+mod needs;
 pub mod sound_code;

@@ -2,6 +2,10 @@
 #![tactic(auto)]
 
 pub mod evaluate;
+pub mod flow;
+mod integers;
 pub mod operands;
 mod operators;
 pub mod target;
+mod texts;
+mod truths;

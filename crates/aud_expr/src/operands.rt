@@ -1,9 +1,11 @@
-// What the instructions of a step work on: Integers, targets, and a text that grows.
+// What the instructions of a step work on: Integers, truth values, targets, and a text that grows.
 
-ghost use Rattle.std.specs.Prelude.{◌≡◌, ◌<◌, [], ◌∷◌, ◌++◌, None, reverse, length, OnOk};
+ghost use Rattle.std.specs.Prelude.{◌≡◌, ◌<◌, [], ◌++◌, None, reverse, length, OnOk};
 ghost use Rattle.aud_text.specs.Integer.{image};
+ghost use Rattle.aud_meaning.specs.Evaluation.{image_of_truth};
 ghost use Rattle.aud_meaning.specs.Parts.{no_waits};
 ghost use Rattle.aud_code.specs.Instruction.{Operands as Plain, no_operands};
+ghost use Rattle.aud_expr.specs.Operands.{with_integer, with_truth, with_target};
 
 use crate::target::Target;
 use aud_text::int32::Int32;
@@ -11,10 +13,11 @@ use smallvec::SmallVec;
 use std::alloc::{AllocError, Global};
 use std::marker::Model;
 
-/// The operands of a step. Few steps have more than eight Integers at once.
+/// The operands of a step. Few steps have more than eight Integers or truth values at once.
 #[derive(Drop)]
 pub struct Operands {
     integers: SmallVec<i32, 8>,
+    booleans: SmallVec<bool, 8>,
     targets: Vec<Target>,
     text: Vec<u8>,
 }
@@ -22,7 +25,19 @@ pub struct Operands {
 impl Model for Operands {
     ghost Value = { Plain };
 
-    ghost view = { λ o. record { integers = reverse o.integers.items; booleans = []; targets = reverse o.targets.items; text = o.text.items; values = []; backs = []; names = []; delay = 0; cells = None; waits = no_waits; timed = [] } };
+    ghost view = { λ o. record {
+      integers = reverse o.integers.items;
+      booleans = reverse o.booleans.items;
+      targets = reverse o.targets.items;
+      text = o.text.items;
+      values = [];
+      backs = [];
+      names = [];
+      delay = 0;
+      cells = None;
+      waits = no_waits;
+      timed = [];
+    } };
 }
 
 impl Operands {
@@ -32,6 +47,7 @@ impl Operands {
     {
         Operands {
             integers: SmallVec::new(alloc),
+            booleans: SmallVec::new(alloc),
             targets: Vec::new(alloc),
             text: Vec::new(alloc),
         }
@@ -42,13 +58,14 @@ impl Operands {
         ensures { self.new ≡ no_operands }
     {
         self.integers.clear();
+        self.booleans.clear();
         self.targets.clear();
         self.text.clear();
     }
 
     /// One more Integer. No object is being declared, as yet.
     pub fn push(&mut self, value: Int32) -> Result<(), AllocError>
-        ensures pushed { OnOk result (self.new ≡ record self.old { integers = value ∷ self.old.integers }) }
+        ensures pushed { OnOk result (self.new ≡ with_integer value self.old) }
         ensures no_object { self.old.cells ≡ None }
     {
         self.integers.push(value.get())?;
@@ -58,7 +75,7 @@ impl Operands {
     /// Takes the newest Integer.
     pub fn pop(&mut self) -> Int32
         requires { 0 < length self.old.integers }
-        ensures { self.old ≡ record self.new { integers = result ∷ self.new.integers } }
+        ensures { self.old ≡ with_integer result self.new }
     {
         match self.integers.pop() {
             Some(value) => Int32::new(value),
@@ -66,9 +83,29 @@ impl Operands {
         }
     }
 
+    /// One more truth value. No object is being declared, as yet.
+    pub fn push_truth(&mut self, value: bool) -> Result<(), AllocError>
+        ensures pushed { OnOk result (self.new ≡ with_truth value self.old) }
+        ensures no_object { self.old.cells ≡ None }
+    {
+        self.booleans.push(value)?;
+        Ok(())
+    }
+
+    /// Takes the newest truth value.
+    pub fn pop_truth(&mut self) -> bool
+        requires { 0 < length self.old.booleans }
+        ensures { self.old ≡ with_truth result self.new }
+    {
+        match self.booleans.pop() {
+            Some(value) => value,
+            None => unreachable!(),
+        }
+    }
+
     /// One more target. No object is being declared, as yet.
     pub fn push_target(&mut self, target: Target) -> Result<(), AllocError>
-        ensures pushed { OnOk result (self.new ≡ record self.old { targets = target ∷ self.old.targets }) }
+        ensures pushed { OnOk result (self.new ≡ with_target target self.old) }
         ensures no_object { self.old.cells ≡ None }
     {
         self.targets.push(target)?;
@@ -78,7 +115,7 @@ impl Operands {
     /// Takes the newest target.
     pub fn pop_target(&mut self) -> Target
         requires { 0 < length self.old.targets }
-        ensures { self.old ≡ record self.new { targets = result ∷ self.new.targets } }
+        ensures { self.old ≡ with_target result self.new }
     {
         match self.targets.pop() {
             Some(target) => target,
@@ -99,6 +136,18 @@ impl Operands {
         ensures { OnOk result (self.new ≡ record self.old { text = self.old.text ++ image value }) }
     {
         value.push_image(&mut self.text)
+    }
+
+    /// Puts the image of a truth value at the end of the text (RM 3.5(30)).
+    pub fn append_truth(&mut self, value: bool) -> Result<(), AllocError>
+        ensures { OnOk result
+            (self.new ≡ record self.old { text = self.old.text ++ image_of_truth value }) }
+    {
+        if value {
+            self.append(b"TRUE")
+        } else {
+            self.append(b"FALSE")
+        }
     }
 
     /// The text so far.

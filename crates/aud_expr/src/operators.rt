@@ -1,11 +1,11 @@
-// Operators and ranges of the type Integer.
+// Operators of Integers and of truth values, and the ranges of subtypes.
 
 ghost use Rattle.std.specs.Prelude.{◌≡◌};
-ghost use Rattle.aud_meaning.specs.Evaluation.{unary_of, binary_of, in_range};
+ghost use Rattle.aud_meaning.specs.Evaluation.{unary_of, binary_of, cell_of, truth_of, related, logical_of, in_range};
 
 use aud_text::int32::Int32;
 use aud_text::raise::Raise;
-use aud_typed::program::{Binary, Subtype, Unary};
+use aud_typed::program::{Binary, Logical, Relation, Subtype, Unary};
 
 pub fn unary_of(operator: Unary, x: Int32) -> Result<Int32, Raise>
     ensures { result ≡ unary_of operator x }
@@ -26,6 +26,44 @@ pub fn binary_of(operator: Binary, x: Int32, y: Int32) -> Result<Int32, Raise>
         Binary::Quotient => x.div(y),
         Binary::Modulus => x.modulo(y),
         Binary::Remainder => x.rem(y),
+    }
+}
+
+/// What a cell holds for a truth value.
+pub fn cell_of(value: bool) -> Int32
+    ensures { result ≡ cell_of value }
+{
+    if value { Int32::new(1) } else { Int32::new(0) }
+}
+
+/// The truth value that a cell holds.
+pub fn truth_of(value: Int32) -> bool
+    ensures { result ≡ truth_of value }
+{
+    value.get() != 0
+}
+
+pub fn related(relation: Relation, x: Int32, y: Int32) -> bool
+    ensures { result ≡ related relation x y }
+{
+    let (x, y) = (x.get(), y.get());
+    match relation {
+        Relation::Equal => x == y,
+        Relation::Unequal => x != y,
+        Relation::Less => x < y,
+        Relation::AtMost => x <= y,
+        Relation::Greater => x > y,
+        Relation::AtLeast => x >= y,
+    }
+}
+
+pub fn logical_of(operator: Logical, x: bool, y: bool) -> bool
+    ensures { result ≡ logical_of operator x y }
+{
+    match operator {
+        Logical::And => x && y,
+        Logical::Or => x || y,
+        Logical::Xor => x != y,
     }
 }
 

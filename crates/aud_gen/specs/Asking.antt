@@ -4,7 +4,8 @@ use Rattle.aud_text.specs.declared.place.Pos.{Pos}
 use Rattle.aud_typed.specs.Tree.{BooleanExpression, ValueExpression, TextExpression, Reference, Statement, declare, null, assign, put, Plan}
 use Rattle.aud_meaning.specs.Evaluation.{Sight, decided}
 use Rattle.aud_meaning.specs.Control.{Scene}
-use Rattle.aud_meaning.specs.Items.{statement_at, asked_statement, coming_statement}
+use Rattle.aud_meaning.specs.Items.{statement_at}
+use Rattle.aud_meaning.specs.Statements.{asked_statement, coming_statement}
 use Rattle.aud_code.specs.Instruction.{no_operands}
 use Rattle.aud_code.specs.Eval.{eval, asked_ended, coming_end}
 use Rattle.aud_gen.specs.Instructions.{condition_code, instructions_of, ending_of}

@@ -4,7 +4,7 @@ use Rattle.aud_text.specs.declared.limits.Limits.{Limits}
 use Rattle.aud_typed.specs.Tree.{Program}
 use Rattle.aud_meaning.specs.Configuration.{Item, All, Configuration}
 use Rattle.aud_meaning.specs.Control.{Moved, Controls, ordered}
-use Rattle.aud_meaning.specs.Items.{controls}
+use Rattle.aud_meaning.specs.Statements.{controls}
 use Rattle.aud_meaning.specs.Run.{Move, seen, moves_at, state_at, step_with, run_with, run, step, supplied, advanced, opening, opening_with, main_raised}
 use Rattle.aud_meaning.specs.Why.Agree.{Agrees, ShowsAll}
 use Rattle.aud_code.specs.Places.{Spot}

@@ -7,7 +7,8 @@ use Rattle.aud_typed.specs.Tree.{For, truth, Statement, sequence, if_then, plain
 use Rattle.aud_meaning.specs.declared.state.Construct.{Construct}
 use Rattle.aud_meaning.specs.declared.state.Construct.TheVariants as construct
 use Rattle.aud_meaning.specs.Evaluation.{decided}
-use Rattle.aud_meaning.specs.Items.{no_body, statement_at, asked_statement, coming_statement, coming_raised, handled_or_left}
+use Rattle.aud_meaning.specs.Items.{no_body, statement_at}
+use Rattle.aud_meaning.specs.Statements.{asked_statement, coming_statement, coming_raised, handled_or_left}
 use Rattle.aud_meaning.specs.Configuration.{Pending}
 use Rattle.aud_meaning.specs.Evaluation.{Sight}
 use Rattle.aud_meaning.specs.Control.{Coming, simply, ending, Asked, goes_on, next_of_loop, Scene, Controls}

@@ -61,5 +61,5 @@ abbrev pub body_code : List Statement → Statements → Pos → Flat
 body_code ds ss pos = written_bodies (body_of ds ss pos ∷ []) []
 
 -- these lines are written behind those that are there; nothing is said where memory is refused
-abbrev pub Writes : {X : Type 0} → Vec Line Global → Vec Line Global → List FlatLine → Result X AllocError → Type 0
-Writes old new lines result = OnOk result (map plain_line new.items ≡ map plain_line old.items ++ lines)
+abbrev pub Writes : {X : Type 0} → Result X AllocError → Vec Line Global → Vec Line Global → List FlatLine → Type 0
+Writes result old new lines = OnOk result (map plain_line new.items ≡ map plain_line old.items ++ lines)

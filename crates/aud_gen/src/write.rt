@@ -24,22 +24,21 @@ use std::alloc::{AllocError, Global};
 const NOWHERE: Pos = Pos { line: 0, col: 0 };
 
 fn append(lines: &mut Vec<Line>, line: Line) -> Result<(), AllocError>
-    ensures { Writes lines.old lines.new (plain_line line ∷ []) result }
+    ensures { Writes result lines.old lines.new (plain_line line ∷ []) }
 {
     lines.push(line)?;
     Ok(())
 }
 
 fn append_instruction(lines: &mut Vec<Line>, instruction: Instruction) -> Result<(), AllocError>
-    ensures { Writes lines.old lines.new (instructs (plain_instruction instruction) ∷ []) result }
+    ensures { Writes result lines.old lines.new (instructs (plain_instruction instruction) ∷ []) }
 {
     append(lines, Line::Instruction(instruction))
 }
 
 fn write_integer(lines: &mut Vec<Line>, e: &IntegerExpression) -> Result<(), AllocError>
-    ensures { Writes lines.old lines.new
-        (map instructs (integer_code (plain_integer e.now)))
-        result }
+    ensures { Writes result lines.old lines.new
+        (map instructs (integer_code (plain_integer e.now))) }
 {
     match e {
         IntegerExpression::Number(value) => append_instruction(lines, Instruction::Push(*value)),
@@ -60,16 +59,15 @@ fn write_integer(lines: &mut Vec<Line>, e: &IntegerExpression) -> Result<(), All
 }
 
 fn write_value(lines: &mut Vec<Line>, e: &IntegerExpression) -> Result<(), AllocError>
-    ensures { Writes lines.old lines.new
-        (map instructs (value_code (whole Integer (plain_integer e.now))))
-        result }
+    ensures { Writes result lines.old lines.new
+        (map instructs (value_code (whole Integer (plain_integer e.now)))) }
 {
     write_integer(lines, e)?;
     append_instruction(lines, Instruction::Check(Subtype::Integer))
 }
 
 fn write_text(alloc: Global, lines: &mut Vec<Line>, t: &TextExpression) -> Result<(), AllocError>
-    ensures { Writes lines.old lines.new (map instructs (text_code (plain_text t.now))) result }
+    ensures { Writes result lines.old lines.new (map instructs (text_code (plain_text t.now))) }
 {
     match t {
         TextExpression::Literal(text) => {
@@ -92,9 +90,8 @@ fn write_text(alloc: Global, lines: &mut Vec<Line>, t: &TextExpression) -> Resul
 
 // the instructions of a step
 fn write_instructions(alloc: Global, lines: &mut Vec<Line>, s: &Statement) -> Result<(), AllocError>
-    ensures { Writes lines.old lines.new
-        (map instructs (instructions_of (plain_statement s.now)))
-        result }
+    ensures { Writes result lines.old lines.new
+        (map instructs (instructions_of (plain_statement s.now))) }
 {
     match s {
         Statement::Declare(_, e) => write_value(lines, e),
@@ -136,7 +133,7 @@ fn write_step(
     out: usize,
     next: usize,
 ) -> Result<(), AllocError>
-    ensures { Writes lines.old lines.new (step_to (plain_statement s.now) next out) result }
+    ensures { Writes result lines.old lines.new (step_to (plain_statement s.now) next out) }
 {
     write_instructions(alloc, lines, s)?;
     let last = Last::Does(ending(s), next);
@@ -155,9 +152,8 @@ fn write_steps(
     next: usize,
     place: usize,
 ) -> Result<(), AllocError>
-    ensures { (last : ℕ) → Writes lines.old lines.new
-        (statement_lines (in_order first.now others.now) place next (inside out last))
-        result }
+    ensures { (last : ℕ) → Writes result lines.old lines.new
+        (statement_lines (in_order first.now others.now) place next (inside out last)) }
 {
     let mut step = first;
     let mut begin = place;
@@ -178,9 +174,8 @@ fn write_declarations(
     next: usize,
     place: usize,
 ) -> Result<(), AllocError>
-    ensures { (last : ℕ) → Writes lines.old lines.new
-        (part_lines declarations.now place next (inside out last))
-        result }
+    ensures { (last : ℕ) → Writes result lines.old lines.new
+        (part_lines declarations.now place next (inside out last)) }
 {
     match declarations {
         [] => Ok(()),
@@ -190,7 +185,7 @@ fn write_declarations(
 
 // behind the statements: where its handlers would be looked for, and its end
 fn write_end(lines: &mut Vec<Line>, at: Pos, out: usize) -> Result<(), AllocError>
-    ensures { Writes lines.old lines.new (end_lines at out) result }
+    ensures { Writes result lines.old lines.new (end_lines at out) }
 {
     append(
         lines,
@@ -219,9 +214,8 @@ fn write_body(
     end: Pos,
     place: usize,
 ) -> Result<usize, AllocError>
-    ensures lines { Writes lines.old lines.new
-        (body_lines declarations.now statements.now end place)
-        result }
+    ensures lines { Writes result lines.old lines.new
+        (body_lines declarations.now statements.now end place) }
     ensures behind { IfOk result
         (λ behind. behind ≡ place + body_length declarations.now statements.now end) }
 {
@@ -271,7 +265,7 @@ pub fn generate(alloc: Global, program: &Program) -> Result<SoundCode, AllocErro
         ..
     } = program;
     let code = write_code(alloc, declarations, statements, *end)?;
-    match verify(code) {
+    match verify(alloc, code)? {
         Some(sound) => Ok(sound),
         None => unreachable!(),
     }

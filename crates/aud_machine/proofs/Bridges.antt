@@ -10,10 +10,10 @@ use Rattle.aud_typed.specs.Tree as tree
 use Rattle.aud_meaning.specs.declared.state.State.{State}
 use Rattle.aud_meaning.specs.declared.state.NextStep.{NextStep}
 use Rattle.aud_meaning.specs.Configuration.{All, Configuration}
-use Rattle.aud_meaning.specs.Items.{controls}
+use Rattle.aud_meaning.specs.Statements.{controls}
 use Rattle.aud_meaning.specs.Run.{own_move, seen, moves_at, state_at, step_with, run_with, moves_in, state_in, step, run, opening, opening_with}
 use Rattle.aud_meaning.specs.Parts.{unit_of}
-use Rattle.aud_meaning.specs.View.{coming_step, coming_step_at, coming_step_in}
+use Rattle.aud_meaning.specs.Listings.{coming_step, coming_step_at, coming_step_in}
 use Rattle.aud_meaning.specs.Ties.Single.{Single, all_of}
 use Rattle.aud_code.specs.Places.{Spot}
 use Rattle.aud_code.specs.Flat.{Flat, flat_controls}
@@ -80,7 +80,7 @@ module _ (p : Program) (lines : Flat) (is : lines ≡ flat_program (plain_progra
 
   -- Moves that are taken.
 
-  -- none has this number
+  -- none has this index
   pub none_taken : (limits : Limits) (q : Single Spot) (n nth : ℕ) (m : Shown) (c : Configuration) → Enables lines q n → n ≤ nth → Showing q c → Takes limits program c (slice_get (moves_in program c) nth) m m None
   none_taken limits q n nth m c enabled past h =
       let none = ap (λ ms. slice_get ms nth) (moves_shown q n c enabled h) ∙ slice_get_past (replicate n (own_move 0)) nth (simp length-replicate past) in

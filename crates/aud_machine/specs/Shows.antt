@@ -8,12 +8,16 @@ use Rattle.aud_gen.specs.Law as code
 use Rattle.aud_single.specs.declared.run.Ran.{Ran}
 use Rattle.aud_machine.specs.Shown.{Shown, program_in}
 
--- its code shows the configuration; once memory was refused, it shows none
+-- its code shows the configuration; where memory is refused, it shows none from then on
 pub record Shows (m : Shown) (c : Configuration) : Type 0 where
   pub alive : m.spent ≡ false
   pub all : code.Shows (program_in m) m.all c
 
--- what a call leaves that may need memory: the program, its code and the limits. A machine that was refused memory is spent, and one
+-- it holds of the configuration that the machine shows
+abbrev pub IfShows : Shown → (Configuration → Type 0) → Type 0
+IfShows m holds = (c : Configuration) → Shows m c → holds c
+
+-- what a call leaves that may need memory: the program, its code and the limits. Where memory is refused, the machine is spent, and one
 -- that is spent refuses
 pub record Leaves {A E : Type 0} (old new : Shown) (result : Result A E) : Type 0 where
   pub code : new.code ≡ old.code
@@ -27,12 +31,12 @@ pub record Did (program : Program) (ran : Ran) (from to : Configuration) : Type 
   pub steps : ran.steps + from.steps ≡ to.steps
   pub state : ran.state ≡ state_in program to
 
--- the machine was run for so many steps, or until no move was enabled
+-- the machine was run for n steps, or until no move was enabled
 pub record RunsFrom (limits : Limits) (program : Program) (n : ℕ) (c : Configuration) (new : Shown) (ran : Ran) : Type 0 where
   pub shows : Shows new (run limits program n c)
   pub did : Did program ran c (run limits program n c)
 
--- the machine took the move; where there is none of this number, nothing has changed
+-- the machine took the move; where there is none, nothing has changed
 abbrev pub Takes : Limits → Program → Configuration → Option Move → Shown → Shown → Option Ran → Type 0
 Takes limits program c None old new taken = (taken ≡ None) × (new ≡ old)
 Takes limits program c (Some m) old new taken =

@@ -2,14 +2,10 @@
 
 ghost use Rattle.std.specs.Prelude.{◌≡◌, ◌+◌, ◌*◌, ◌<◌, ◌≤◌, [], ◌∷◌, length, map, min, slice_get, IfOk, IfSome, OnOk};
 ghost use Rattle.aud_typed.specs.Ties.View.{plain_program};
-ghost use Rattle.aud_meaning.specs.Configuration.{Configuration};
 ghost use Rattle.aud_meaning.specs.Run.{moves_in, state_in, main_raised, supplied, advanced, opening};
-ghost use Rattle.aud_meaning.specs.Ties.Single.{own_in};
-ghost use Rattle.aud_meaning.specs.View.{coming_step_in};
-ghost use Rattle.aud_single.specs.Shown.{plain_stage};
-ghost use Rattle.aud_single.specs.Ticks.{ticks_in, run_ticks};
-ghost use Rattle.aud_machine.specs.Shown.{program_in};
-ghost use Rattle.aud_machine.specs.Shows.{Shows, Leaves, RunsFrom, Takes};
+ghost use Rattle.aud_meaning.specs.Listings.{coming_step_in};
+ghost use Rattle.aud_machine.specs.Shown.{program_in, owns_in, ticks_of_step, ticks_of_run};
+ghost use Rattle.aud_machine.specs.Shows.{Shows, IfShows, Leaves, RunsFrom, Takes};
 
 use crate::parts::Parts;
 use aud_code::sound_code::SoundCode;
@@ -24,7 +20,7 @@ use aud_typed::program::{Exception, Program};
 use std::alloc::{AllocError, Global};
 use std::marker::Model;
 
-/// A program under way. Once memory was refused to it, it is spent, and refuses each call that might need more.
+/// A program under way. Where memory is refused to it, it is spent, and then refuses each call that might need more.
 #[derive(Drop)]
 pub struct Machine {
     program: Program,
@@ -58,7 +54,7 @@ impl Machine {
     ///
     /// # Errors
     ///
-    /// Memory is refused.
+    /// Where memory is refused.
     pub fn new(alloc: Global, program: Program, limits: Limits) -> Result<Machine, AllocError>
         ensures shows { IfOk result (λ m. Shows m (opening (plain_program program))) }
         ensures program { IfOk result (λ m. m.program ≡ program) }
@@ -91,7 +87,7 @@ impl Machine {
 
     /// The output so far (RM A.10.7).
     pub fn output(&self) -> &[u8]
-        ensures shown { (c : Configuration) → Shows self.now c → result.now ≡ c.shared.output }
+        ensures shown { IfShows self.now (λ c. result.now ≡ c.shared.output) }
         ensures within { length result.now ≤ OUTPUT }
     {
         self.progress.output()
@@ -99,30 +95,30 @@ impl Machine {
 
     /// Whether a text was cut at the output's limit.
     pub fn is_cut(&self) -> bool
-        ensures { (c : Configuration) → Shows self.now c → result ≡ c.shared.cut }
+        ensures { IfShows self.now (λ c. result ≡ c.shared.cut) }
     {
         self.progress.is_cut()
     }
 
     /// What can happen next.
     pub fn state(&self) -> State
-        ensures { (c : Configuration) → Shows self.now c → result ≡ state_in (program_in self.now) c }
+        ensures { IfShows self.now (λ c. result ≡ state_in (program_in self.now) c) }
     {
         self.progress.state(&self.code)
     }
 
     /// The exception that left the main procedure (RM 11.4).
     pub fn raised(&self) -> Option<Exception>
-        ensures { (c : Configuration) → Shows self.now c → result ≡ main_raised c.tasks }
+        ensures { IfShows self.now (λ c. result ≡ main_raised c.tasks) }
     {
         self.progress.raised()
     }
 
-    /// What comes next of the task of this number, counted from 0: the kind of its step, and where that stands in the
+    /// What comes next of the task of this index: the kind of its step, and where that stands in the
     /// text; while an exception is pending, that is where it was raised. None where there is no such task, or it is
     /// terminated.
     pub fn coming(&self, task: usize) -> Option<NextStep>
-        ensures { (c : Configuration) → Shows self.now c → result ≡ coming_step_in (program_in self.now) task c }
+        ensures { IfShows self.now (λ c. result ≡ coming_step_in (program_in self.now) task c) }
     {
         self.progress.coming(&self.code, self.program.end, task)
     }
@@ -130,7 +126,7 @@ impl Machine {
     /// How many choices wait.
     pub fn choices(&self) -> usize
         ensures value { result ≡ length self.now.all.choices }
-        ensures shown { (c : Configuration) → Shows self.now c → result ≡ length c.choices }
+        ensures shown { IfShows self.now (λ c. result ≡ length c.choices) }
         ensures within { result ≤ CHOICES }
     {
         self.progress.choices()
@@ -139,7 +135,7 @@ impl Machine {
     /// The time on the clock, in milliseconds.
     pub fn clock(&self) -> u64
         ensures value { result ≡ self.now.all.clock }
-        ensures shown { (c : Configuration) → Shows self.now c → result ≡ c.clock }
+        ensures shown { IfShows self.now (λ c. result ≡ c.clock) }
         ensures within { result ≤ CLOCK }
     {
         self.progress.clock()
@@ -148,7 +144,7 @@ impl Machine {
     /// The steps taken.
     pub fn steps(&self) -> u32
         ensures value { result ≡ self.now.all.steps }
-        ensures shown { (c : Configuration) → Shows self.now c → result ≡ c.steps }
+        ensures shown { IfShows self.now (λ c. result ≡ c.steps) }
         ensures within { result ≤ STEPS }
     {
         self.progress.steps()
@@ -156,10 +152,11 @@ impl Machine {
 
     /// The frames, how far the main procedure is, the time and the steps.
     pub fn parts(&self) -> Parts<'_>
-        ensures frames { (c : Configuration) → Shows self.now c → result.frames.now ≡ c.shared.frames }
-        ensures main { (c : Configuration) → Shows self.now c → own_in (program_in self.now).plan self.now.program.name (plain_stage result.main) result.elaborated ∷ [] ≡ map (λ t. t.own) c.tasks }
-        ensures clock { (c : Configuration) → Shows self.now c → result.clock ≡ c.clock }
-        ensures steps { (c : Configuration) → Shows self.now c → result.steps ≡ c.steps }
+        ensures frames { IfShows self.now (λ c. result.frames.now ≡ c.shared.frames) }
+        ensures main { IfShows self.now (λ c.
+            owns_in self.now result.main result.elaborated ≡ map (λ t. t.own) c.tasks) }
+        ensures clock { IfShows self.now (λ c. result.clock ≡ c.clock) }
+        ensures steps { IfShows self.now (λ c. result.steps ≡ c.steps) }
     {
         Parts {
             frames: self.progress.frames(),
@@ -174,11 +171,13 @@ impl Machine {
     ///
     /// # Errors
     ///
-    /// Memory is refused, or the machine is spent. It is spent then.
+    /// Where memory is refused, or the machine is spent. It is spent then.
     pub fn choose(&mut self, choices: &[u32]) -> Result<(), AllocError>
         requires { length self.old.all.choices + length choices.now ≤ CHOICES }
-        ensures shows { OnOk result ((c : Configuration) → Shows self.old c → Shows self.new (supplied choices.now c)) }
-        ensures exact { OnOk result (self.new ≡ record self.old { all = supplied choices.now self.old.all }) }
+        ensures shows { OnOk result (IfShows self.old (λ c.
+            Shows self.new (supplied choices.now c))) }
+        ensures exact { OnOk result (self.new
+            ≡ record self.old { all = supplied choices.now self.old.all }) }
         ensures leaves { Leaves self.old self.new result }
     {
         if self.spent {
@@ -190,10 +189,10 @@ impl Machine {
         Ok(())
     }
 
-    /// Lets the clock go on by so many milliseconds (RM 9.6). Steps take no time.
+    /// Lets the clock go on (RM 9.6). Steps take no time.
     pub fn advance(&mut self, milliseconds: u64)
         requires { self.old.all.clock + milliseconds ≤ CLOCK }
-        ensures shows { (c : Configuration) → Shows self.old c → Shows self.new (advanced milliseconds c) }
+        ensures shows { IfShows self.old (λ c. Shows self.new (advanced milliseconds c)) }
         ensures exact { self.new ≡ record self.old { all = advanced milliseconds self.old.all } }
     {
         self.progress.advance(milliseconds);
@@ -203,7 +202,7 @@ impl Machine {
     ///
     /// # Errors
     ///
-    /// Memory is refused, or the machine is spent. It is spent then.
+    /// Where memory is refused, or the machine is spent. It is spent then.
     pub fn reset(&mut self, alloc: Global) -> Result<(), AllocError>
         ensures shows { OnOk result (Shows self.new (opening (plain_program self.old.program))) }
         ensures leaves { Leaves self.old self.new result }
@@ -217,17 +216,19 @@ impl Machine {
         Ok(())
     }
 
-    /// So many steps, or until no move is enabled.
+    /// Takes n steps, or those until no move is enabled.
     ///
     /// # Errors
     ///
-    /// Memory is refused, or the machine is spent. It is spent then.
+    /// Where memory is refused, or the machine is spent. It is spent then.
     pub fn slice(&mut self, alloc: Global, n: u32) -> Result<Ran, AllocError>
         requires { self.old.all.steps + n ≤ STEPS }
-        ensures runs { IfOk result (λ ran. (c : Configuration) → Shows self.old c → RunsFrom self.old.limits (program_in self.old) n c self.new ran) }
+        ensures runs { IfOk result (λ ran. IfShows self.old (λ c.
+            RunsFrom self.old.limits (program_in self.old) n c self.new ran)) }
         ensures few { IfOk result (λ ran. ran.steps ≤ n) }
-        ensures ticks { IfOk result (λ ran. ran.ticks ≡ min (run_ticks (program_in self.old).plan self.old.code self.old.limits n self.old.all) u64.MAX) }
-        ensures few_ticks { IfOk result (λ ran. ran.ticks ≤ ran.steps * length self.old.code.lines) }
+        ensures ticks { IfOk result (λ ran. ran.ticks ≡ min (ticks_of_run self.old n) u64.MAX) }
+        ensures few_ticks { IfOk result (λ ran.
+            ran.ticks ≤ ran.steps * length self.old.code.lines) }
         ensures leaves { Leaves self.old self.new result }
     {
         if self.spent {
@@ -240,16 +241,20 @@ impl Machine {
         Ok(ran)
     }
 
-    /// The step of the enabled move of this number, counted from 0, or nothing where there is none.
+    /// Takes the enabled move of this index, or nothing where there is none.
     ///
     /// # Errors
     ///
-    /// Memory is refused, or the machine is spent. It is spent then.
+    /// Where memory is refused, or the machine is spent. It is spent then.
     pub fn take(&mut self, alloc: Global, nth: usize) -> Result<Option<Ran>, AllocError>
         requires { self.old.all.steps < STEPS }
-        ensures takes { IfOk result (λ taken. (c : Configuration) → Shows self.old c → Takes self.old.limits (program_in self.old) c (slice_get (moves_in (program_in self.old) c) nth) self.old self.new taken) }
-        ensures ticks { IfOk result (λ taken. IfSome taken (λ ran. ran.ticks ≡ ticks_in self.old.code self.old.all.tasks self.old.all)) }
-        ensures few_ticks { IfOk result (λ taken. IfSome taken (λ ran. ran.ticks ≤ length self.old.code.lines)) }
+        ensures takes { IfOk result (λ taken. IfShows self.old (λ c.
+            Takes self.old.limits (program_in self.old) c
+            (slice_get (moves_in (program_in self.old) c) nth) self.old self.new taken)) }
+        ensures ticks { IfOk result (λ taken. IfSome taken (λ ran.
+            ran.ticks ≡ ticks_of_step self.old)) }
+        ensures few_ticks { IfOk result (λ taken. IfSome taken (λ ran.
+            ran.ticks ≤ length self.old.code.lines)) }
         ensures leaves { Leaves self.old self.new result }
     {
         if self.spent {

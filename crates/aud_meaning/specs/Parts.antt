@@ -7,12 +7,12 @@ use Rattle.aud_typed.specs.declared.program.Exception.{Exception}
 use Rattle.aud_typed.specs.declared.program.Exception.TheVariants.{Predefined}
 use Rattle.aud_typed.specs.Tree.{Plan, UnitPlan, TaskPlan, ObjectPlan, EntryPlan, Tasks}
 use Rattle.aud_meaning.specs.declared.state.Status.{Status}
-use Rattle.aud_meaning.specs.declared.state.Status.TheVariants.{Created, Running, Activating, Accepting, Delaying, Calling, Completed, Terminated}
+use Rattle.aud_meaning.specs.declared.state.Status.TheVariants.{Created, Running, Accepting, Calling, Completed, Terminated}
 use Rattle.aud_meaning.specs.declared.state.CallState.{CallState}
 use Rattle.aud_meaning.specs.declared.state.CallState.TheVariants.{Queued, Selected, Done, Cancelled}
 use Rattle.aud_meaning.specs.declared.state.Owner.{Owner}
 use Rattle.aud_meaning.specs.declared.state.Owner.TheVariants as owner
-use Rattle.aud_meaning.specs.Configuration.{Frame, Pending, Purpose, for_body, for_block, for_loop, for_procedure, for_operation, for_entry, for_accept, Opened, OpenAccept, Waits, Own, plain, Call, Action, Object, Shared, TaskAt, All, Acting}
+use Rattle.aud_meaning.specs.Configuration.{Frame, Pending, Purpose, for_body, for_block, for_procedure, Opened, OpenAccept, Waits, Own, plain, Call, Action, Object, Shared, TaskAt, All, Acting}
 use Rattle.aud_meaning.specs.Evaluation.{Facts, Sight}
 use Rattle.aud_meaning.specs.Effects.{pends, outermost}
 
@@ -130,15 +130,11 @@ insert w (x ∷ xs) = if nat_lt w.arrival x.arrival then w ∷ x ∷ xs else x �
 
 abbrev pub is_queued : CallState → Bool
 is_queued Queued = true
-is_queued Selected = false
-is_queued Done = false
-is_queued Cancelled = false
+is_queued _ = false
 
 abbrev pub is_selected : CallState → Bool
-is_selected Queued = false
 is_selected Selected = true
-is_selected Done = false
-is_selected Cancelled = false
+is_selected _ = false
 
 abbrev pub owner_number : Owner → ℕ
 owner_number (owner.Task n) = n
@@ -166,44 +162,21 @@ queue owner entry calls = queue_from 0 owner entry calls
 -- What tasks ask of each other (RM 9.9).
 
 abbrev pub is_over : Status → Bool
-is_over Created = false
-is_over Running = false
-is_over Activating = false
-is_over Accepting = false
-is_over Delaying = false
-is_over Calling = false
 is_over Completed = true
 is_over Terminated = true
+is_over _ = false
 
 abbrev pub is_terminated : Status → Bool
-is_terminated Created = false
-is_terminated Running = false
-is_terminated Activating = false
-is_terminated Accepting = false
-is_terminated Delaying = false
-is_terminated Calling = false
-is_terminated Completed = false
 is_terminated Terminated = true
+is_terminated _ = false
 
 abbrev pub is_created : Status → Bool
 is_created Created = true
-is_created Running = false
-is_created Activating = false
-is_created Accepting = false
-is_created Delaying = false
-is_created Calling = false
-is_created Completed = false
-is_created Terminated = false
+is_created _ = false
 
 abbrev pub is_accepting : Status → Bool
-is_accepting Created = false
-is_accepting Running = false
-is_accepting Activating = false
 is_accepting Accepting = true
-is_accepting Delaying = false
-is_accepting Calling = false
-is_accepting Completed = false
-is_accepting Terminated = false
+is_accepting _ = false
 
 abbrev pub is_callable : Own → Bool
 is_callable own = not (is_over own.status) && not own.abnormal
@@ -233,11 +206,8 @@ is_master o = by o.purpose
     by : Purpose → Bool
     by for_body = true
     by for_block = true
-    by for_loop = false
     by (for_procedure r) = true
-    by (for_operation n r) = false
-    by (for_entry n i s b) = false
-    by (for_accept i) = false
+    by _ = false
 
 -- those that a task depends on that this one creates
 abbrev pub masters_under_way : Own → List ℕ

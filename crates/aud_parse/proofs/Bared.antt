@@ -7,7 +7,7 @@ use Rattle.aud_syntax.specs.declared.tree.Ident.{Ident}
 use Rattle.aud_syntax.specs.declared.tree.Sign.TheVariants as sign
 use Rattle.aud_syntax.specs.declared.tree.Highest.TheVariants as highest
 use Rattle.aud_syntax.specs.Plain as m
-use Rattle.aud_syntax.specs.Why.Bare.{nowhere, bare_ident, bare_number, bare_literal, bare_signed, bare_operator, bare_sign, bare_highest, bare_end, bare_expression, bare_relation, bare_name, bare_part, bare_args, bare_simple, bare_addeds, bare_added, bare_term, bare_multiplieds, bare_multiplied, bare_factor, bare_primary, bare_maybe, bare_declaration, bare_declarations, bare_statement, bare_statements, bare_body, bare}
+use Rattle.aud_syntax.specs.Why.Bare.{nowhere, bare_ident, bare_number, bare_literal, bare_signed, bare_operator, bare_sign, bare_highest, bare_end, bare_expression, bare_relation, bare_name, bare_part, bare_args, bare_simple, bare_addeds, bare_added, bare_term, bare_multiplieds, bare_multiplied, bare_factor, bare_primary, bare_maybe, bare_declaration, bare_declarations, bare_statement, bare_more_statements, bare_statements, bare_body, bare}
 use Rattle.aud_parse.specs.Grammar as g
 use Rattle.aud_parse.specs.Grammar.{Phrase, Symbol, T, P, N, L, Down, A, Opt, Rep, rule}
 use Rattle.aud_parse.specs.Actions as a
@@ -44,7 +44,9 @@ bare_item (a.an_expression x) = a.an_expression (bare_expression x)
 bare_item (a.assigned x) = a.assigned (bare_expression x)
 bare_item (a.called x) = a.called (bare_args x)
 bare_item (a.a_statement x) = a.a_statement (bare_statement x)
+bare_item (a.some_statements x) = a.some_statements (bare_statements x)
 bare_item (a.a_body x) = a.a_body (bare_body x)
+bare_item (a.some_names x xs) = a.some_names (bare_ident x) (map bare_ident xs)
 bare_item (a.a_declaration x) = a.a_declaration (bare_declaration x)
 bare_item (a.a_unit x) = a.a_unit (bare x)
 
@@ -177,9 +179,21 @@ bare_the_addeds : (x : Item) → a.the_addeds (bare_item x) ≡ bare_addeds (a.t
 bare_the_addeds (cons x y) = cc (bare_the_added x, bare_the_addeds y)
 bare_the_addeds _ = refl
 
+bare_more : (x : Item) → a.more_statements (bare_item x) ≡ bare_more_statements (a.more_statements x)
+bare_more (cons x y) = cc (bare_the_statement x, bare_more y)
+bare_more _ = refl
+
 bare_the_statements : (x : Item) → a.the_statements (bare_item x) ≡ bare_statements (a.the_statements x)
-bare_the_statements (cons x y) = cc (bare_the_statement x, bare_the_statements y)
+bare_the_statements (a.some_statements y) = refl
 bare_the_statements _ = refl
+
+bare_first_name : (x : Item) → a.first_name (bare_item x) ≡ bare_ident (a.first_name x)
+bare_first_name (a.some_names y ys) = refl
+bare_first_name _ = refl
+
+bare_other_names : (x : Item) → a.other_names (bare_item x) ≡ map bare_ident (a.other_names x)
+bare_other_names (a.some_names y ys) = refl
+bare_other_names _ = refl
 
 bare_the_declarations : (x : Item) → a.the_declarations (bare_item x) ≡ bare_declarations (a.the_declarations x)
 bare_the_declarations (cons x y) = cc (bare_the_declaration x, bare_the_declarations y)
@@ -240,10 +254,10 @@ is_leaf _ = false
 pub bare_made : (p : Phrase) → is_leaf p ≡ false → (st : List Item) → bares (made p st) ≡ made p (bares st)
 bare_made g.Unit e = made_4 (λ x y z w. a.a_unit (m.unit (a.place x) (a.the_ident y) (a.the_declarations z) (a.the_body w))) (λ x y z w. cc (bare_place x, bare_the_ident y, bare_the_declarations z, bare_the_body w))
 bare_made g.DeclarationList e = bare_listed
-bare_made g.Declaration e = made_3 (λ x y z. a.a_declaration (m.object (a.the_idents x) (a.the_ident y) (a.opt_expression z))) (λ x y z. cc (bare_the_idents x, bare_the_ident y, bare_opt_expression z))
-bare_made g.Identifiers e = bare_listed
+bare_made g.Declaration e = made_3 (λ x y z. a.a_declaration (m.object (a.first_name x) (a.other_names x) (a.the_ident y) (a.opt_expression z))) (λ x y z. cc (bare_first_name x, bare_other_names x, bare_the_ident y, bare_opt_expression z))
+bare_made g.Identifiers e = made_2 (λ x y. a.some_names (a.the_ident x) (a.the_idents y)) (λ x y. cc (bare_the_ident x, bare_the_idents y))
 bare_made g.Body e = made_4 (λ x y z w. a.a_body (m.body (a.place x) (a.the_statements y) (a.place z) (a.opt_ident w))) (λ x y z w. cc (bare_place x, bare_the_statements y, bare_place z, bare_opt_ident w))
-bare_made g.StatementList e = bare_listed
+bare_made g.StatementList e = made_2 (λ x y. a.some_statements (m.in_order (a.the_statement x) (a.more_statements y))) (λ x y. cc (bare_the_statement x, bare_more y))
 bare_made g.NullStatement e = made_1 (λ x. a.a_statement (m.null (a.place x))) (λ x. cc (bare_place x))
 bare_made g.NameStatement e = made_2 (λ x y. a.a_statement (a.begun (a.the_ident x) y)) (λ x y. cc (bare_the_ident x, bare_begun (a.the_ident x) y))
 bare_made g.Assignment e = made_1 (λ x. a.assigned (a.the_expression x)) (λ x. cc (bare_the_expression x))

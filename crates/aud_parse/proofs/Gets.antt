@@ -40,7 +40,7 @@ more_room (d_stop d) q le = d_stop (more_room d q le)
 abbrev pub Gets : List Symbol → List Element → Type 0
 Gets k front = (r : ℕ) × (es : List Item) × (us : List Element) × Derives k r es (front ++ us)
 
--- a test that symbols, looked at so many rules deep, begin with no identifier that the grammar names: then each kind with which they can begin does begin some tokens
+-- a test that symbols, looked at n rules deep, begin with no identifier that the grammar names: then each kind with which they can begin does begin some tokens
 abbrev all_of : (Phrase → Bool) → List Phrase → Bool
 all_of f [] = true
 all_of f (p ∷ ps) = both (f p) (all_of f ps)
@@ -168,7 +168,7 @@ gets_more p k front h = (h.0, listed h.1, h.2, d_more h.3)
 pub gets_stop : (p : Phrase) (k : List Symbol) (front : List Element) → Gets k front → Gets (Rep p ∷ k) front
 gets_stop p k front h = (h.0, none ∷ h.1, h.2, d_stop h.3)
 
--- a test that a phrase derives some tokens in so many steps down
+-- a test that a phrase derives some tokens in n steps down
 abbrev some_of : (Phrase → Bool) → List Phrase → Bool
 some_of f [] = false
 some_of f (p ∷ ps) = if f p then true else some_of f ps

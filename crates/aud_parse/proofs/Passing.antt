@@ -14,7 +14,7 @@ use Rattle.aud_parse.specs.Ties.Items.{list_item}
 use Rattle.aud_parse.specs.declared.cursor.Rest.{Rest}
 use Rattle.aud_parse.specs.declared.cursor.Fault.{Fault}
 use Rattle.aud_parse.specs.declared.cursor.Fault.TheVariants as fault
-use Rattle.aud_parse.specs.Ties.Reads.{Passes, FailsAt, Reads}
+use Rattle.aud_parse.specs.Ties.Reads.{Passes, FailsAt, Comes, Reading, FlatReading}
 use Rattle.aud_parse.proofs.Choices.{or_left, or_right}
 
 pub next_there : (ks : List Kind) (ts : List Element) → next_in ks ts ≡ true → 1 ≤ length ts
@@ -97,30 +97,37 @@ fails_through {K = K} {f} (fault.Wrong rest) h g = λ k. let o = h (K k) in (f o
 fails_through {K = K} {f} (fault.Deep rest) h g = λ k. let o = h (K k) in (f o.0, g k o.0 _ o.1)
 
 -- the exit by a `?`
-pub exit : {s0 s : Symbol} {r r' : ℕ} {ts ts' : List Element} {K : List Symbol → List Symbol} {f : List Item → List Item} {X : Type 0} (x : X → Item) (e : Fault) (res : Result (X × Rest) Fault) →
-    IsErrAnd res (λ y. y ≡ e) → FailsAt s r' ts' e → ((k : List Symbol) (ds : List Item) (v : Verdict) → Out (s ∷ K k) r' ts' ds v → Out (s0 ∷ k) r ts (f ds) v) → Reads x s0 r ts res
+pub exit : {Left : Rest → Rest → Type 0} {s0 s : Symbol} {r r' : ℕ} {start : Rest} {ts' : List Element} {K : List Symbol → List Symbol} {f : List Item → List Item} {X : Type 0} (x : X → Item) (e : Fault) (res : Result (X × Rest) Fault) →
+    IsErrAnd res (λ y. y ≡ e) → FailsAt s r' ts' e → ((k : List Symbol) (ds : List Item) (v : Verdict) → Out (s ∷ K k) r' ts' ds v → Out (s0 ∷ k) r start.tokens.now (f ds) v) → Reading Left x s0 r start res
 exit x e res is h g =
     let p = err_from_is_err_and res is in
-    rw (p.1, p.2) (fails_through e h g)
+    rw (p.1, p.2) (record { reads = fails_through e h g; shorter = tt })
+
+-- the same where no level is opened
+pub exit_flat : {Left : Rest → Rest → Type 0} {s0 s : Symbol} {start : Rest} {ts' : List Element} {K : List Symbol → List Symbol} {f : List Item → List Item} {X : Type 0} (x : X → Item) (e : Fault) (res : Result (X × Rest) Fault) →
+    IsErrAnd res (λ y. y ≡ e) → ((room : ℕ) → FailsAt s room ts' e) → ((room : ℕ) (k : List Symbol) (ds : List Item) (v : Verdict) → Out (s ∷ K k) room ts' ds v → Out (s0 ∷ k) room start.tokens.now (f ds) v) → FlatReading Left x s0 start res
+exit_flat x e res is h g =
+    let p = err_from_is_err_and res is in
+    rw (p.1, p.2) (record { reads = λ room. fails_through e (h room) (g room); shorter = tt })
 
 -- a function that hands on the answer of another
-pub hand_on : {s0 s : Symbol} {r : ℕ} {ts : List Element} {X : Type 0} (x : X → Item) (res : Result (X × Rest) Fault) → Reads x s r ts res →
-    ((k : List Symbol) (ds : List Item) (v : Verdict) → Out (s ∷ k) r ts ds v → Out (s0 ∷ k) r ts ds v) → Reads x s0 r ts res
-hand_on x (Ok p) h g = λ k ds v o. g k _ v (h k ds v o)
-hand_on x (Err e) h g = fails_through e h g
+pub hand_on : {s0 s : Symbol} {r : ℕ} {X : Type 0} (x : X → Item) (start : Rest) (res : Result (X × Rest) Fault) → Comes x s r start res →
+    ((k : List Symbol) (ds : List Item) (v : Verdict) → Out (s ∷ k) r start.tokens.now ds v → Out (s0 ∷ k) r start.tokens.now ds v) → Comes x s0 r start res
+hand_on x start (Ok p) h g = λ k ds v o. g k _ v (h k ds v o)
+hand_on x start (Err e) h g = fails_through e h g
 
 -- the same one level deeper
-pub level_on : {s0 : Symbol} {q : Phrase} {r : ℕ} {ts : List Element} {X : Type 0} (x : X → Item) (i : ℕ) (res : Result (X × Rest) Fault) → r ≡ i + 1 → Reads x (N q) i ts res →
-    ((k : List Symbol) (ds : List Item) (v : Verdict) → Out (L q ∷ Down ∷ k) r ts ds v → Out (s0 ∷ k) r ts ds v) → Reads x s0 r ts res
-level_on x i (Ok p) e h g = λ k ds v o. g k _ v (level_in e (h (Down ∷ k) ds v (level_out e o)))
-level_on x i (Err e') e h g = fails_through {K = λ k. Down ∷ k} {f = λ ds. ds} e' h (λ k ds v o. g k ds v (level_in e o))
+pub level_on : {s0 : Symbol} {q : Phrase} {r : ℕ} {X : Type 0} (x : X → Item) (start : Rest) (i : ℕ) (res : Result (X × Rest) Fault) → r ≡ i + 1 → Comes x (N q) i start res →
+    ((k : List Symbol) (ds : List Item) (v : Verdict) → Out (L q ∷ Down ∷ k) r start.tokens.now ds v → Out (s0 ∷ k) r start.tokens.now ds v) → Comes x s0 r start res
+level_on x start i (Ok p) e h g = λ k ds v o. g k _ v (level_in e (h (Down ∷ k) ds v (level_out e o)))
+level_on x start i (Err e') e h g = fails_through {K = λ k. Down ∷ k} {f = λ ds. ds} e' h (λ k ds v o. g k ds v (level_in e o))
 
 -- the exit where no level is left
-pub no_level : {X : Type 0} (x : X → Item) (p q : Phrase) (r : ℕ) (ts : Rest) (b : Bool) (e : Fault) (res : Result (X × Rest) Fault) → rule p ≡ L q ∷ Down ∷ [] →
-    IsErrAnd res (λ y. y ≡ e) → (r ≡ 0) × (e ≡ (if b then fault.Deep ts else fault.Wrong ts)) → b ≡ next_in (firsts q) ts.tokens.now → Reads x (N p) r ts.tokens.now res
+pub no_level : {Left : Rest → Rest → Type 0} {X : Type 0} (x : X → Item) (p q : Phrase) (r : ℕ) (ts : Rest) (b : Bool) (e : Fault) (res : Result (X × Rest) Fault) → rule p ≡ L q ∷ Down ∷ [] →
+    IsErrAnd res (λ y. y ≡ e) → (r ≡ 0) × (e ≡ (if b then fault.Deep ts else fault.Wrong ts)) → b ≡ next_in (firsts q) ts.tokens.now → Reading Left x (N p) r ts res
 no_level x p q r ts b e res h is at t =
     let i = err_from_is_err_and res is in
-    rw (i.1, i.2, at.0, at.1) (here b t)
+    rw (i.1, i.2, at.0, at.1) (record { reads = here b t; shorter = tt })
   where
     here : (b : Bool) → b ≡ next_in (firsts q) ts.tokens.now → FailsAt (N p) 0 ts.tokens.now (if b then fault.Deep ts else fault.Wrong ts)
     here true t = λ k. (made p [], o_rule (subst (λ l. Out (l ++ k) 0 ts.tokens.now [] (Deep ts.tokens.now)) (sym h) (o_deep (sym t))))

@@ -20,13 +20,15 @@ use Rattle.aud_syntax.proofs.Opened.{name_open, attribute_open}
 use Rattle.aud_syntax.specs.declared.tree.Expression.TheBlock.{hidden-the_row-Multiplied-2, hidden-the_row-Added-1}
 use Rattle.aud_syntax.specs.declared.tree.Declaration.{Declaration}
 use Rattle.aud_syntax.specs.declared.tree.Declaration.TheVariants as declaration
+use Rattle.aud_syntax.specs.declared.tree.Identifiers.{Identifiers}
 use Rattle.aud_syntax.specs.declared.tree.Statement.{Statement}
+use Rattle.aud_syntax.specs.declared.tree.Statements.{Statements}
 use Rattle.aud_syntax.specs.declared.tree.Body.{Body}
 use Rattle.aud_syntax.specs.Plain as m
-use Rattle.aud_syntax.specs.Ties.View.{plain_name, plain_primary, plain_factor, plain_multiplieds, plain_term, plain_added, plain_addeds, plain_simple, plain_maybe, plain_declaration, plain_declarations, plain_statements, plain_statement, plain_body}
+use Rattle.aud_syntax.specs.Ties.View.{plain_name, plain_primary, plain_factor, plain_multiplieds, plain_term, plain_added, plain_addeds, plain_simple, plain_maybe, plain_declaration, plain_declarations, plain_others, plain_statements, plain_statement, plain_body}
 use Rattle.aud_parse.specs.Grammar as g
-use Rattle.aud_parse.specs.Actions.{Item, made, none, with_attribute, place, an_ident, a_sign, an_operator, a_primary, a_factor, a_declaration, a_body, a_unit, the_idents, the_declarations, the_statements, opt_ident, opt_expression, opt_sign, opt_operator, the_multiplieds, the_addeds}
-use Rattle.aud_parse.specs.Ties.Items.{list_item, opt_item, name_item, attribute_item, factor_item, multiplied_item, primary_item, added_item, expression_item, declaration_item, statement_item, body_item, unit_item}
+use Rattle.aud_parse.specs.Actions.{Item, made, none, with_attribute, place, an_ident, a_sign, an_operator, a_primary, a_factor, some_names, some_statements, a_declaration, a_body, a_unit, the_idents, the_declarations, more_statements, opt_ident, opt_expression, opt_sign, opt_operator, the_multiplieds, the_addeds}
+use Rattle.aud_parse.specs.Ties.Items.{list_item, opt_item, name_item, attribute_item, factor_item, multiplied_item, primary_item, added_item, expression_item, names_item, declaration_item, statement_item, statements_item, body_item, unit_item}
 
 pub multiplied_rows : (n : _) (row : Row_of-Multiplied n) → plain_multiplieds row ≡ the_multiplieds (list_item multiplied_item (items-the_row-Multiplied n row))
 multiplied_rows n end_of-Multiplied = refl
@@ -74,20 +76,26 @@ opt_expression_is : (e : Option Expression) → opt_expression (opt_item express
 opt_expression_is None = refl
 opt_expression_is (Some e) = refl
 
-pub declaration_items : (v : Vec Ident Global) (i : Ident) (e : Option Expression) (ds : List Item) → made g.Declaration (list_item an_ident v.items ∷ an_ident i ∷ opt_item expression_item e ∷ ds) ≡ declaration_item (declaration.Object v i e) ∷ ds
-declaration_items v i e ds = ap (λ z. a_declaration (m.object z i (opt_expression (opt_item expression_item e))) ∷ ds) (idents_items v.items) ∙ ap (λ z. a_declaration (m.object v.items i z) ∷ ds) (opt_expression_is e)
+pub names_items : (x : Ident) (v : Vec Ident Global) (ds : List Item) → made g.Identifiers (an_ident x ∷ list_item an_ident v.items ∷ ds) ≡ names_item (record { first = x; others = v }) ∷ ds
+names_items x v ds = ap (λ z. some_names x z ∷ ds) (idents_items v.items)
+
+pub declaration_items : (x : Identifiers) (i : Ident) (e : Option Expression) (ds : List Item) → made g.Declaration (names_item x ∷ an_ident i ∷ opt_item expression_item e ∷ ds) ≡ declaration_item (declaration.Object x i e) ∷ ds
+declaration_items x i e ds = ap (λ z. a_declaration (m.object x.first x.others.items i z) ∷ ds) (opt_expression_is e)
 
 declarations_items : (xs : List Declaration) → the_declarations (list_item declaration_item xs) ≡ plain_declarations xs
 declarations_items [] = refl
 declarations_items (x ∷ xs) = ap (λ z. m.more_declarations (plain_declaration x) z) (declarations_items xs)
 
-statements_items : (xs : List Statement) → the_statements (list_item statement_item xs) ≡ plain_statements xs
-statements_items [] = refl
-statements_items (x ∷ xs) = ap (λ z. m.more_statements (plain_statement x) z) (statements_items xs)
+others_items : (xs : List Statement) → more_statements (list_item statement_item xs) ≡ plain_others xs
+others_items [] = refl
+others_items (x ∷ xs) = ap (λ z. m.more_statements (plain_statement x) z) (others_items xs)
 
-pub body_items : (begin end : Item) (v : Vec Statement Global) (i : Option Ident) (ds : List Item) →
-    made g.Body (begin ∷ list_item statement_item v.items ∷ end ∷ opt_item an_ident i ∷ ds) ≡ a_body (m.body (place begin) (plain_statements v.items) (place end) i) ∷ ds
-body_items begin end v i ds = ap (λ z. a_body (m.body (place begin) z (place end) (opt_ident (opt_item an_ident i))) ∷ ds) (statements_items v.items) ∙ ap (λ z. a_body (m.body (place begin) (plain_statements v.items) (place end) z) ∷ ds) (opt_ident_is i)
+pub statements_items : (x : Statement) (v : Vec Statement Global) (ds : List Item) → made g.StatementList (statement_item x ∷ list_item statement_item v.items ∷ ds) ≡ statements_item (record { first = x; others = v }) ∷ ds
+statements_items x v ds = ap (λ z. some_statements (m.in_order (plain_statement x) z) ∷ ds) (others_items v.items)
+
+pub body_items : (begin end : Item) (x : Statements) (i : Option Ident) (ds : List Item) →
+    made g.Body (begin ∷ statements_item x ∷ end ∷ opt_item an_ident i ∷ ds) ≡ a_body (m.body (place begin) (plain_statements x) (place end) i) ∷ ds
+body_items begin end x i ds = ap (λ z. a_body (m.body (place begin) (plain_statements x) (place end) z) ∷ ds) (opt_ident_is i)
 
 pub unit_items : (first : Item) (i : Ident) (v : Vec Declaration Global) (b : Body) (ds : List Item) →
     made g.Unit (first ∷ an_ident i ∷ list_item declaration_item v.items ∷ body_item b ∷ ds) ≡ unit_item (record { at = place first; name = i; declarations = v; body = b }) ∷ ds

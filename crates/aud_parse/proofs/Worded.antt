@@ -105,11 +105,11 @@ data Says : Sort → Item → List Word → Type 0 where
   says_unit : (u : m.Unit) → Says s_unit (a.a_unit u) (w.unit_words u)
   says_declarations : (x : Item) → Says s_declarations x (w.declarations_words (a.the_declarations x))
   says_declaration : (d : m.Declaration) → Says s_declaration (a.a_declaration d) (w.declaration_words d)
-  says_idents : (x : Item) → Says s_idents x (w.idents_words (a.the_idents x))
+  says_idents : (x : Ident) (xs : List Ident) → Says s_idents (a.some_names x xs) (w.idents_words x xs)
   says_more_ident : (i : Ident) → Says s_more_ident (a.an_ident i) (word (codes ",") ∷ w.ident_word i ∷ [])
   says_initial : (e : m.Expression) → Says s_initial (a.an_expression e) (word (codes ":=") ∷ expression_words e)
   says_body : (b : m.Body) → Says s_body (a.a_body b) (w.body_words b)
-  says_statements : (x : Item) → Says s_statements x (w.statements_words (a.the_statements x))
+  says_statements : (x : m.Statements) → Says s_statements (a.some_statements x) (w.statements_words x)
   says_statement : (s : m.Statement) → Says s_statement (a.a_statement s) (w.statement_words s)
   says_assigned : (e : m.Expression) → Says s_rest (a.assigned e) (word (codes ":=") ∷ (expression_words e ++ (last_word (codes ";") ∷ [])))
   says_called : (xs : m.Args) → Says s_rest (a.called xs) (w.args_words xs ++ (last_word (codes ";") ∷ []))
@@ -160,7 +160,7 @@ declarations_row : {x : Item} {us : List Word} → Row s_declaration x us → us
 declarations_row row_end = refl
 declarations_row (row_more (says_declaration d) r) = ap (λ z. w.declaration_words d ++ z) (declarations_row r)
 
-statements_row : {x : Item} {us : List Word} → Row s_statement x us → us ≡ w.statements_words (a.the_statements x)
+statements_row : {x : Item} {us : List Word} → Row s_statement x us → us ≡ w.more_statements_words (a.more_statements x)
 statements_row row_end = refl
 statements_row (row_more (says_statement s) r) = ap (λ z. w.statement_words s ++ z) (statements_row r)
 
@@ -194,25 +194,25 @@ told_rule g.Unit (t_token u (t_part (says_ident i) (t_word y (t_none (t_part (sa
 told_rule g.Declarations (t_level s (t_down r)) = t_part s r
 told_rule g.DeclarationList (t_part (says_declaration d) (t_row {x = x} {us = us} {ws = ws} row r)) =
     so (t_part (says_declarations (cons (a.a_declaration d) x)) r) (two (w.declaration_words d) (w.declarations_words (a.the_declarations x)) us ws (declarations_row row))
-told_rule g.Declaration (t_part (says_idents x) (t_word c (t_part (says_ident i) (t_some (says_initial e) (t_word {ws = ws} s r))))) =
-    so (t_part (says_declaration (m.object (a.the_idents x) i (m.an_expression e))) r)
-    (append_assoc (w.idents_words (a.the_idents x)) (word (codes ":") ∷ w.ident_word i ∷ word (codes ":=") ∷ (expression_words e ++ (last_word (codes ";") ∷ []))) ws
-    ∙ ap (λ z. w.idents_words (a.the_idents x) ++ (word (codes ":") ∷ w.ident_word i ∷ word (codes ":=") ∷ z)) (append_assoc (expression_words e) (last_word (codes ";") ∷ []) ws))
-told_rule g.Declaration (t_part (says_idents x) (t_word c (t_part (says_ident i) (t_none (t_word {ws = ws} s r))))) =
-    so (t_part (says_declaration (m.object (a.the_idents x) i m.no_expression)) r) (append_assoc (w.idents_words (a.the_idents x)) (word (codes ":") ∷ w.ident_word i ∷ last_word (codes ";") ∷ []) ws)
+told_rule g.Declaration (t_part (says_idents x xs) (t_word c (t_part (says_ident i) (t_some (says_initial e) (t_word {ws = ws} s r))))) =
+    so (t_part (says_declaration (m.object x xs i (m.an_expression e))) r)
+    (append_assoc (w.idents_words x xs) (word (codes ":") ∷ w.ident_word i ∷ word (codes ":=") ∷ (expression_words e ++ (last_word (codes ";") ∷ []))) ws
+    ∙ ap (λ z. w.idents_words x xs ++ (word (codes ":") ∷ w.ident_word i ∷ word (codes ":=") ∷ z)) (append_assoc (expression_words e) (last_word (codes ";") ∷ []) ws))
+told_rule g.Declaration (t_part (says_idents x xs) (t_word c (t_part (says_ident i) (t_none (t_word {ws = ws} s r))))) =
+    so (t_part (says_declaration (m.object x xs i m.no_expression)) r) (append_assoc (w.idents_words x xs) (word (codes ":") ∷ w.ident_word i ∷ last_word (codes ";") ∷ []) ws)
 told_rule g.Identifiers (t_part (says_ident i) (t_row {x = x} {us = us} {ws = ws} row r)) =
-    so (t_part (says_idents (cons (a.an_ident i) x)) r) (ap (λ z. w.ident_word i ∷ (z ++ ws)) (sym (idents_row row)))
+    so (t_part (says_idents i (a.the_idents x)) r) (ap (λ z. w.ident_word i ∷ (z ++ ws)) (sym (idents_row row)))
 told_rule g.MoreIdentifiers (t_word c (t_part (says_ident i) r)) = t_part (says_more_ident i) r
 told_rule g.Initial (t_word c (t_part (says_expression e) r)) = t_part (says_initial e) r
 told_rule g.Body (t_token b (t_part (says_statements x) (t_token e (t_some (says_ident i) (t_word {ws = ws} s r))))) =
-    so (t_part (says_body (m.body b.at (a.the_statements x) e.at (Some i))) r)
-    (ap (λ z. last_word (codes "begin") ∷ z) (append_assoc (w.statements_words (a.the_statements x)) (word (codes "end") ∷ w.ident_word i ∷ last_word (codes ";") ∷ []) ws))
+    so (t_part (says_body (m.body b.at x e.at (Some i))) r)
+    (ap (λ z. last_word (codes "begin") ∷ z) (append_assoc (w.statements_words x) (word (codes "end") ∷ w.ident_word i ∷ last_word (codes ";") ∷ []) ws))
 told_rule g.Body (t_token b (t_part (says_statements x) (t_token e (t_none (t_word {ws = ws} s r))))) =
-    so (t_part (says_body (m.body b.at (a.the_statements x) e.at None)) r)
-    (ap (λ z. last_word (codes "begin") ∷ z) (append_assoc (w.statements_words (a.the_statements x)) (word (codes "end") ∷ last_word (codes ";") ∷ []) ws))
+    so (t_part (says_body (m.body b.at x e.at None)) r)
+    (ap (λ z. last_word (codes "begin") ∷ z) (append_assoc (w.statements_words x) (word (codes "end") ∷ last_word (codes ";") ∷ []) ws))
 told_rule g.Statements (t_level s (t_down r)) = t_part s r
 told_rule g.StatementList (t_part (says_statement d) (t_row {x = x} {us = us} {ws = ws} row r)) =
-    so (t_part (says_statements (cons (a.a_statement d) x)) r) (two (w.statement_words d) (w.statements_words (a.the_statements x)) us ws (statements_row row))
+    so (t_part (says_statements (m.in_order d (a.more_statements x))) r) (two (w.statement_words d) (w.more_statements_words (a.more_statements x)) us ws (statements_row row))
 told_rule g.Statement (t_one here s r) = t_part s r
 told_rule g.Statement (t_one (later here) s r) = t_part s r
 told_rule g.Statement (t_one (later (later h)) s r) = absurd (no_member h)

@@ -49,7 +49,10 @@ pub data Item : Type 0 where
   assigned : m.Expression → Item
   called : m.Args → Item
   a_statement : m.Statement → Item
+  some_statements : m.Statements → Item
   a_body : m.Body → Item
+  -- the first name of a declaration, and the others
+  some_names : Ident → List Ident → Item
   a_declaration : m.Declaration → Item
   a_unit : m.Unit → Item
 
@@ -88,6 +91,14 @@ opt_ident _ = None
 abbrev pub the_idents : Item → List Ident
 the_idents (cons x xs) = the_ident x ∷ the_idents xs
 the_idents _ = []
+
+abbrev pub first_name : Item → Ident
+first_name (some_names x xs) = x
+first_name _ = no_ident
+
+abbrev pub other_names : Item → List Ident
+other_names (some_names x xs) = xs
+other_names _ = []
 
 abbrev pub the_number : Item → Number
 the_number (a_number x) = x
@@ -211,20 +222,27 @@ abbrev pub the_statement : Item → m.Statement
 the_statement (a_statement x) = x
 the_statement _ = no_statement
 
+abbrev pub more_statements : Item → m.MoreStatements
+more_statements (cons x xs) = m.more_statements (the_statement x) (more_statements xs)
+more_statements _ = m.no_statements
+
+abbrev no_statements : m.Statements
+no_statements = m.in_order no_statement m.no_statements
+
 abbrev pub the_statements : Item → m.Statements
-the_statements (cons x xs) = m.more_statements (the_statement x) (the_statements xs)
-the_statements _ = m.no_statements
+the_statements (some_statements x) = x
+the_statements _ = no_statements
 
 abbrev pub the_declaration : Item → m.Declaration
 the_declaration (a_declaration x) = x
-the_declaration _ = m.object [] no_ident m.no_expression
+the_declaration _ = m.object no_ident [] no_ident m.no_expression
 
 abbrev pub the_declarations : Item → m.Declarations
 the_declarations (cons x xs) = m.more_declarations (the_declaration x) (the_declarations xs)
 the_declarations _ = m.no_declarations
 
 abbrev no_body : m.Body
-no_body = m.body no_place m.no_statements no_place None
+no_body = m.body no_place no_statements no_place None
 
 abbrev pub the_body : Item → m.Body
 the_body (a_body x) = x
@@ -267,10 +285,10 @@ listed st = cons (top st) (top (pop st)) ∷ pop (pop st)
 abbrev pub made : g.Phrase → List Item → List Item
 made g.Unit st = a_unit (m.unit (place (top st)) (the_ident (top (pop st))) (the_declarations (top (pop (pop st)))) (the_body (top (pop (pop (pop st)))))) ∷ pop (pop (pop (pop st)))
 made g.DeclarationList st = listed st
-made g.Declaration st = a_declaration (m.object (the_idents (top st)) (the_ident (top (pop st))) (opt_expression (top (pop (pop st))))) ∷ pop (pop (pop st))
-made g.Identifiers st = listed st
+made g.Declaration st = a_declaration (m.object (first_name (top st)) (other_names (top st)) (the_ident (top (pop st))) (opt_expression (top (pop (pop st))))) ∷ pop (pop (pop st))
+made g.Identifiers st = some_names (the_ident (top st)) (the_idents (top (pop st))) ∷ pop (pop st)
 made g.Body st = a_body (m.body (place (top st)) (the_statements (top (pop st))) (place (top (pop (pop st)))) (opt_ident (top (pop (pop (pop st)))))) ∷ pop (pop (pop (pop st)))
-made g.StatementList st = listed st
+made g.StatementList st = some_statements (m.in_order (the_statement (top st)) (more_statements (top (pop st)))) ∷ pop (pop st)
 made g.NullStatement st = a_statement (m.null (place (top st))) ∷ pop st
 made g.NameStatement st = a_statement (begun (the_ident (top st)) (top (pop st))) ∷ pop (pop st)
 made g.Assignment st = assigned (the_expression (top st)) ∷ pop st

@@ -56,7 +56,7 @@ first_of first (A ps ∷ s) = first_of_all first ps
 first_of first (Opt p ∷ s) = first p ++ first_of first s
 first_of first (Rep p ∷ s) = first p ++ first_of first s
 
--- so many rules deep
+-- the same of a phrase, looked at n rules deep
 abbrev pub first_within : ℕ → Phrase → List Kind
 first_within zero p = []
 first_within (suc n) p = first_of (first_within n) (rule p)

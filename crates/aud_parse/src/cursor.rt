@@ -1,9 +1,9 @@
 // Looking at the tokens one by one.
 
-ghost use Rattle.std.specs.Prelude.{◌≡◌, ◌∷◌, [], length, ◌<◌, ◌≤◌, IfOk, IfSome};
+ghost use Rattle.std.specs.Prelude.{◌≡◌, ◌∷◌, [], length, ◌≤◌};
 ghost use Rattle.aud_parse.specs.First.{next_in};
 ghost use Rattle.aud_parse.specs.declared.cursor.Fault.TheVariants as fault;
-ghost use Rattle.aud_parse.specs.Ties.Reads.{Accepts, ReadsWord, ReadsToken, Deepens};
+ghost use Rattle.aud_parse.specs.Ties.Reads.{ReadsWord, ReadsToken, Accepts, Deepens};
 
 use aud_lex::token::{Kind, Token};
 use std::alloc::{AllocError, AllocFailed};
@@ -17,7 +17,7 @@ pub struct Rest<'a, 's> {
 /// Why no tree is read.
 #[derive(Drop)]
 pub enum Fault<'a, 's> {
-    /// Memory ran out.
+    /// Where memory is refused.
     Memory,
     /// No program goes on with the first of these tokens.
     Wrong(Rest<'a, 's>),
@@ -63,8 +63,7 @@ fn split<'a, 's>(start: Rest<'a, 's>) -> (&'a Token<'s>, Rest<'a, 's>)
 
 /// The next token, where it is of this kind, and the others.
 pub fn accept<'a, 's>(start: Rest<'a, 's>, kind: Kind) -> Option<(&'a Token<'s>, Rest<'a, 's>)>
-    ensures reads { Accepts kind start.entry.tokens.now result }
-    ensures shorter { IfSome result (λ p. length p.1.tokens.now < length start.entry.tokens.now) }
+    ensures { Accepts kind start.entry result }
 {
     if !is(start, kind) {
         return None;
@@ -74,8 +73,7 @@ pub fn accept<'a, 's>(start: Rest<'a, 's>, kind: Kind) -> Option<(&'a Token<'s>,
 
 /// Passes a word or a delimiter.
 pub fn word<'a, 's>(start: Rest<'a, 's>, kind: Kind) -> Result<Rest<'a, 's>, Fault<'a, 's>>
-    ensures reads { ReadsWord kind start.entry.tokens.now result }
-    ensures shorter { IfOk result (λ rest. length rest.tokens.now < length start.entry.tokens.now) }
+    ensures { ReadsWord kind start.entry result }
 {
     match accept(start, kind) {
         Some((_, rest)) => Ok(rest),
@@ -88,8 +86,7 @@ pub fn token<'a, 's>(
     start: Rest<'a, 's>,
     kind: Kind,
 ) -> Result<(&'a Token<'s>, Rest<'a, 's>), Fault<'a, 's>>
-    ensures reads { ReadsToken kind start.entry.tokens.now result }
-    ensures shorter { IfOk result (λ p. length p.1.tokens.now < length start.entry.tokens.now) }
+    ensures { ReadsToken kind start.entry result }
 {
     match accept(start, kind) {
         Some(found) => Ok(found),

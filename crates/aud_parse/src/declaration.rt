@@ -1,37 +1,45 @@
 // Declarations of variables (RM 3.3.1).
 
-ghost use Rattle.std.specs.Prelude.{ℕ, length, ◌<◌, ◌≤◌, IfOk};
 ghost use Rattle.aud_parse.specs.Grammar as g;
-ghost use Rattle.aud_parse.specs.Grammar.{N, Opt};
+ghost use Rattle.aud_parse.specs.Grammar.{N, Opt, Rep};
 ghost use Rattle.aud_parse.specs.Actions.{an_ident};
-ghost use Rattle.aud_parse.specs.Ties.Items.{list_item, opt_item, expression_item, declaration_item};
-ghost use Rattle.aud_parse.specs.Ties.Reads.{Reads};
+ghost use Rattle.aud_parse.specs.Ties.Items.{vec_item, opt_item, expression_item, names_item, declaration_item};
+ghost use Rattle.aud_parse.specs.Ties.Reads.{Reads, MayRead, ReadsFlat, MayReadFlat};
 
 use crate::cursor::{Fault, Rest, accept, deeper, is, word};
 use crate::expression::expression;
 use crate::leaf::ident;
 use aud_lex::token::Kind;
-use aud_syntax::tree::{Declaration, Expression, Ident};
+use aud_syntax::tree::{Declaration, Expression, Ident, Identifiers};
 use std::alloc::Global;
+
+/// The further names, each behind a comma.
+fn more_identifiers<'a, 's>(
+    alloc: Global,
+    start: Rest<'a, 's>,
+) -> Result<(Vec<Ident>, Rest<'a, 's>), Fault<'a, 's>>
+    ensures { MayReadFlat (vec_item an_ident) (Rep g.MoreIdentifiers) start.entry result }
+{
+    let mut all = Vec::new(alloc);
+    let mut rest = start;
+    'turns: while let Some((_, behind)) = accept(rest, Kind::Comma) {
+        let (name, after) = ident(alloc, behind)?;
+        all.push(name)?;
+        rest = after;
+    }
+    Ok((all, rest))
+}
 
 /// Names (RM 3.3.1(4)).
 fn identifiers<'a, 's>(
     alloc: Global,
     start: Rest<'a, 's>,
-) -> Result<(Vec<Ident>, Rest<'a, 's>), Fault<'a, 's>>
-    ensures reads { (room : ℕ) → Reads (λ v. list_item an_ident v.items) (N g.Identifiers) room start.entry.tokens.now result }
-    ensures shorter { IfOk result (λ p. length p.1.tokens.now < length start.entry.tokens.now) }
+) -> Result<(Identifiers, Rest<'a, 's>), Fault<'a, 's>>
+    ensures { ReadsFlat names_item (N g.Identifiers) start.entry result }
 {
-    let mut all = Vec::new(alloc);
-    let mut rest = start;
-    'turns: loop {
-        let (one, after) = ident(alloc, rest)?;
-        all.push(one)?;
-        match accept(after, Kind::Comma) {
-            Some((_, behind)) => rest = behind,
-            None => return Ok((all, after)),
-        }
-    }
+    let (first, rest) = ident(alloc, start)?;
+    let (others, rest) = more_identifiers(alloc, rest)?;
+    Ok((Identifiers { first, others }, rest))
 }
 
 /// The value with which variables begin, if there is one.
@@ -40,8 +48,7 @@ fn opt_initial<'a, 's>(
     start: Rest<'a, 's>,
     room: u32,
 ) -> Result<(Option<Expression>, Rest<'a, 's>), Fault<'a, 's>>
-    ensures reads { Reads (opt_item expression_item) (Opt g.Initial) room start.entry.tokens.now result }
-    ensures shorter { IfOk result (λ p. length p.1.tokens.now ≤ length start.entry.tokens.now) }
+    ensures { MayRead (opt_item expression_item) (Opt g.Initial) room start.entry result }
 {
     if let Some((_, behind)) = accept(start, Kind::Becomes) {
         let (value, rest) = expression(alloc, behind, room)?;
@@ -56,8 +63,7 @@ fn declaration<'a, 's>(
     start: Rest<'a, 's>,
     room: u32,
 ) -> Result<(Declaration, Rest<'a, 's>), Fault<'a, 's>>
-    ensures reads { Reads declaration_item (N g.Declaration) room start.entry.tokens.now result }
-    ensures shorter { IfOk result (λ p. length p.1.tokens.now < length start.entry.tokens.now) }
+    ensures { Reads declaration_item (N g.Declaration) room start.entry result }
 {
     let (names, rest) = identifiers(alloc, start)?;
     let rest = word(rest, Kind::Colon)?;
@@ -73,8 +79,7 @@ fn declaration_list<'a, 's>(
     start: Rest<'a, 's>,
     room: u32,
 ) -> Result<(Vec<Declaration>, Rest<'a, 's>), Fault<'a, 's>>
-    ensures reads { Reads (λ v. list_item declaration_item v.items) (N g.DeclarationList) room start.entry.tokens.now result }
-    ensures shorter { IfOk result (λ p. length p.1.tokens.now < length start.entry.tokens.now) }
+    ensures { Reads (vec_item declaration_item) (N g.DeclarationList) room start.entry result }
 {
     let mut all = Vec::new(alloc);
     let mut rest = start;
@@ -94,8 +99,7 @@ fn declarations<'a, 's>(
     start: Rest<'a, 's>,
     room: u32,
 ) -> Result<(Vec<Declaration>, Rest<'a, 's>), Fault<'a, 's>>
-    ensures reads { Reads (λ v. list_item declaration_item v.items) (N g.Declarations) room start.entry.tokens.now result }
-    ensures shorter { IfOk result (λ p. length p.1.tokens.now < length start.entry.tokens.now) }
+    ensures { Reads (vec_item declaration_item) (N g.Declarations) room start.entry result }
 {
     let inside = deeper(start, room, is(start, Kind::Identifier))?;
     declaration_list(alloc, start, inside)
@@ -107,8 +111,7 @@ pub fn opt_declarations<'a, 's>(
     start: Rest<'a, 's>,
     room: u32,
 ) -> Result<(Vec<Declaration>, Rest<'a, 's>), Fault<'a, 's>>
-    ensures reads { Reads (λ v. list_item declaration_item v.items) (Opt g.Declarations) room start.entry.tokens.now result }
-    ensures shorter { IfOk result (λ p. length p.1.tokens.now ≤ length start.entry.tokens.now) }
+    ensures { MayRead (vec_item declaration_item) (Opt g.Declarations) room start.entry result }
 {
     if is(start, Kind::Identifier) {
         return declarations(alloc, start, room);

@@ -3,20 +3,19 @@
 // What is not called at each level of parentheses is not inlined, so that its values do not stand in
 // the stack frames of each level.
 
-ghost use Rattle.std.specs.Prelude.{ℕ, ◌∷◌, length, ◌<◌, ◌≤◌, IfOk, IfSome};
 ghost use Rattle.aud_parse.specs.Grammar as g;
 ghost use Rattle.aud_parse.specs.Grammar.{N, Opt, Rep};
 ghost use Rattle.aud_parse.specs.Actions.{a_sign, an_adding, a_multiplying, an_operator};
-ghost use Rattle.aud_parse.specs.Ties.Items.{list_item, opt_item, parens_item, name_item, args_item, attribute_item, primary_item, factor_item, multiplied_item, term_item, added_item, simple_item, boxed_item};
-ghost use Rattle.aud_parse.specs.Ties.Reads.{Reads, Takes, Passes};
+ghost use Rattle.aud_parse.specs.Ties.Items.{vec_item, opt_item, parens_item, name_item, args_item, attribute_item, primary_item, factor_item, multiplied_item, term_item, added_item, simple_item, boxed_item};
+ghost use Rattle.aud_parse.specs.Ties.Reads.{Reads, MayRead, ReadsFlat, Takes, TakesAny};
 
 use crate::cursor::{Fault, Rest, accept, deeper, is, token, word};
 use crate::leaf::{ident, literal};
 use crate::value::number_value;
 use aud_lex::token::Kind;
 use aud_syntax::tree::{
-    Added, Adding, Expression, Factor, Highest, Ident, Multiplied, Multiplying, Name, NamePart, Number,
-    Operator, Primary, Relation, Sign, Signed, Simple, Term,
+    Added, Adding, Expression, Factor, Highest, Ident, Multiplied, Multiplying, Name, NamePart,
+    Number, Operator, Primary, Relation, Sign, Signed, Simple, Term,
 };
 use aud_text::place::Pos;
 use std::alloc::Global;
@@ -28,8 +27,7 @@ pub fn parens<'a, 's>(
     start: Rest<'a, 's>,
     room: u32,
 ) -> Result<((Pos, Box<Expression>), Rest<'a, 's>), Fault<'a, 's>>
-    ensures reads { Reads parens_item (N g.Parens) room start.entry.tokens.now result }
-    ensures shorter { IfOk result (λ p. length p.1.tokens.now < length start.entry.tokens.now) }
+    ensures { Reads parens_item (N g.Parens) room start.entry result }
 {
     let inside = deeper(start, room, is(start, Kind::LeftParenthesis))?;
     let (open, rest) = token(start, Kind::LeftParenthesis)?;
@@ -45,8 +43,7 @@ fn attribute<'a, 's>(
     start: Rest<'a, 's>,
     room: u32,
 ) -> Result<((Ident, Option<Box<Expression>>), Rest<'a, 's>), Fault<'a, 's>>
-    ensures reads { Reads attribute_item (N g.Attribute) room start.entry.tokens.now result }
-    ensures shorter { IfOk result (λ p. length p.1.tokens.now < length start.entry.tokens.now) }
+    ensures { Reads attribute_item (N g.Attribute) room start.entry result }
 {
     let rest = word(start, Kind::Apostrophe)?;
     let (name, rest) = ident(alloc, rest)?;
@@ -59,8 +56,7 @@ fn attribute<'a, 's>(
 
 /// A name without arguments (RM 4.1).
 fn name<'a, 's>(alloc: Global, start: Rest<'a, 's>) -> Result<(Name, Rest<'a, 's>), Fault<'a, 's>>
-    ensures reads { (room : ℕ) → Reads name_item (N g.Name) room start.entry.tokens.now result }
-    ensures shorter { IfOk result (λ p. length p.1.tokens.now < length start.entry.tokens.now) }
+    ensures { ReadsFlat name_item (N g.Name) start.entry result }
 {
     let (ident, rest) = ident(alloc, start)?;
     let args = Vec::new(alloc);
@@ -76,8 +72,7 @@ fn named<'a, 's>(
     start: Rest<'a, 's>,
     room: u32,
 ) -> Result<(Primary, Rest<'a, 's>), Fault<'a, 's>>
-    ensures reads { Reads primary_item (N g.Named) room start.entry.tokens.now result }
-    ensures shorter { IfOk result (λ p. length p.1.tokens.now < length start.entry.tokens.now) }
+    ensures { Reads primary_item (N g.Named) room start.entry result }
 {
     let (name, rest) = name(alloc, start)?;
     let prefix = Box::new(alloc, name)?;
@@ -96,8 +91,7 @@ fn primary<'a, 's>(
     start: Rest<'a, 's>,
     room: u32,
 ) -> Result<(Primary, Rest<'a, 's>), Fault<'a, 's>>
-    ensures reads { Reads primary_item (N g.Primary) room start.entry.tokens.now result }
-    ensures shorter { IfOk result (λ p. length p.1.tokens.now < length start.entry.tokens.now) }
+    ensures { Reads primary_item (N g.Primary) room start.entry result }
 {
     if is(start, Kind::Integer) {
         let (t, rest) = token(start, Kind::Integer)?;
@@ -117,8 +111,7 @@ fn primary<'a, 's>(
 
 /// An operator before a primary, if there is one (RM 4.5.6).
 fn opt_operator<'a, 's>(start: Rest<'a, 's>) -> (Option<Operator>, Rest<'a, 's>)
-    ensures reads { (room : ℕ) → Passes (Opt g.Operator) room start.entry.tokens.now (λ ds. opt_item an_operator result.0 ∷ ds) room result.1.tokens.now }
-    ensures shorter { length result.1.tokens.now ≤ length start.entry.tokens.now }
+    ensures { TakesAny (opt_item an_operator) (Opt g.Operator) start.entry result }
 {
     if let Some((t, rest)) = accept(start, Kind::Abs) {
         let highest = Highest::Magnitude;
@@ -150,8 +143,7 @@ fn factor<'a, 's>(
     start: Rest<'a, 's>,
     room: u32,
 ) -> Result<(Factor, Rest<'a, 's>), Fault<'a, 's>>
-    ensures reads { Reads factor_item (N g.Factor) room start.entry.tokens.now result }
-    ensures shorter { IfOk result (λ p. length p.1.tokens.now < length start.entry.tokens.now) }
+    ensures { Reads factor_item (N g.Factor) room start.entry result }
 {
     let (operator, rest) = opt_operator(start);
     let (primary, rest) = primary(alloc, rest, room)?;
@@ -160,8 +152,7 @@ fn factor<'a, 's>(
 
 /// A multiplying operator, if one comes next (RM 4.5.5).
 fn multiplying<'a, 's>(start: Rest<'a, 's>) -> Option<(Multiplying, Rest<'a, 's>)>
-    ensures reads { Takes a_multiplying g.MultiplyingOperator start.entry.tokens.now result }
-    ensures shorter { IfSome result (λ p. length p.1.tokens.now < length start.entry.tokens.now) }
+    ensures { Takes a_multiplying g.MultiplyingOperator start.entry result }
 {
     if let Some((_, rest)) = accept(start, Kind::Star) {
         return Some((Multiplying::Times, rest));
@@ -186,8 +177,7 @@ fn multiplieds<'a, 's>(
     start: Rest<'a, 's>,
     room: u32,
 ) -> Result<(Vec<Multiplied>, Rest<'a, 's>), Fault<'a, 's>>
-    ensures reads { Reads (λ v. list_item multiplied_item v.items) (Rep g.Multiplied) room start.entry.tokens.now result }
-    ensures shorter { IfOk result (λ p. length p.1.tokens.now ≤ length start.entry.tokens.now) }
+    ensures { MayRead (vec_item multiplied_item) (Rep g.Multiplied) room start.entry result }
 {
     let mut all = Vec::new(alloc);
     let mut rest = start;
@@ -206,8 +196,7 @@ fn term<'a, 's>(
     start: Rest<'a, 's>,
     room: u32,
 ) -> Result<(Term, Rest<'a, 's>), Fault<'a, 's>>
-    ensures reads { Reads term_item (N g.Term) room start.entry.tokens.now result }
-    ensures shorter { IfOk result (λ p. length p.1.tokens.now < length start.entry.tokens.now) }
+    ensures { Reads term_item (N g.Term) room start.entry result }
 {
     let (first, rest) = factor(alloc, start, room)?;
     let (more, rest) = multiplieds(alloc, rest, room)?;
@@ -216,8 +205,7 @@ fn term<'a, 's>(
 
 /// A binary adding operator, if one comes next (RM 4.5.3).
 fn adding<'a, 's>(start: Rest<'a, 's>) -> Option<(Adding, Rest<'a, 's>)>
-    ensures reads { Takes an_adding g.AddingOperator start.entry.tokens.now result }
-    ensures shorter { IfSome result (λ p. length p.1.tokens.now < length start.entry.tokens.now) }
+    ensures { Takes an_adding g.AddingOperator start.entry result }
 {
     if let Some((_, rest)) = accept(start, Kind::Plus) {
         return Some((Adding::Plus, rest));
@@ -239,8 +227,7 @@ fn addeds<'a, 's>(
     start: Rest<'a, 's>,
     room: u32,
 ) -> Result<(Vec<Added>, Rest<'a, 's>), Fault<'a, 's>>
-    ensures reads { Reads (λ v. list_item added_item v.items) (Rep g.Added) room start.entry.tokens.now result }
-    ensures shorter { IfOk result (λ p. length p.1.tokens.now ≤ length start.entry.tokens.now) }
+    ensures { MayRead (vec_item added_item) (Rep g.Added) room start.entry result }
 {
     let mut all = Vec::new(alloc);
     let mut rest = start;
@@ -254,8 +241,7 @@ fn addeds<'a, 's>(
 
 /// A sign, if there is one (RM 4.5.4).
 fn opt_sign<'a, 's>(start: Rest<'a, 's>) -> (Option<Signed>, Rest<'a, 's>)
-    ensures reads { (room : ℕ) → Passes (Opt g.Sign) room start.entry.tokens.now (λ ds. opt_item a_sign result.0 ∷ ds) room result.1.tokens.now }
-    ensures shorter { length result.1.tokens.now ≤ length start.entry.tokens.now }
+    ensures { TakesAny (opt_item a_sign) (Opt g.Sign) start.entry result }
 {
     if let Some((t, rest)) = accept(start, Kind::Plus) {
         let sign = Sign::Plus;
@@ -275,8 +261,7 @@ fn simple<'a, 's>(
     start: Rest<'a, 's>,
     room: u32,
 ) -> Result<(Simple, Rest<'a, 's>), Fault<'a, 's>>
-    ensures reads { Reads simple_item (N g.Simple) room start.entry.tokens.now result }
-    ensures shorter { IfOk result (λ p. length p.1.tokens.now < length start.entry.tokens.now) }
+    ensures { Reads simple_item (N g.Simple) room start.entry result }
 {
     let (sign, rest) = opt_sign(start);
     let (first, rest) = term(alloc, rest, room)?;
@@ -298,8 +283,7 @@ pub fn expression<'a, 's>(
     start: Rest<'a, 's>,
     room: u32,
 ) -> Result<(Box<Expression>, Rest<'a, 's>), Fault<'a, 's>>
-    ensures reads { Reads boxed_item (N g.Expression) room start.entry.tokens.now result }
-    ensures shorter { IfOk result (λ p. length p.1.tokens.now < length start.entry.tokens.now) }
+    ensures { Reads boxed_item (N g.Expression) room start.entry result }
 {
     let (sum, rest) = simple(alloc, start, room)?;
     let boxed = Box::new(alloc, Expression::Alone(Relation::Unrelated(sum)))?;
@@ -312,8 +296,7 @@ pub fn args<'a, 's>(
     start: Rest<'a, 's>,
     room: u32,
 ) -> Result<(Vec<Expression>, Rest<'a, 's>), Fault<'a, 's>>
-    ensures reads { Reads (λ v. args_item v.items) (N g.Args) room start.entry.tokens.now result }
-    ensures shorter { IfOk result (λ p. length p.1.tokens.now < length start.entry.tokens.now) }
+    ensures { Reads args_item (N g.Args) room start.entry result }
 {
     let inside = deeper(start, room, is(start, Kind::LeftParenthesis))?;
     let rest = word(start, Kind::LeftParenthesis)?;

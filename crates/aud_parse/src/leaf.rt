@@ -1,10 +1,9 @@
 // Identifiers and string literals.
 
-ghost use Rattle.std.specs.Prelude.{ℕ, length, ◌<◌, IfOk};
 ghost use Rattle.aud_parse.specs.Grammar as g;
 ghost use Rattle.aud_parse.specs.Grammar.{N};
 ghost use Rattle.aud_parse.specs.Actions.{an_ident, a_literal};
-ghost use Rattle.aud_parse.specs.Ties.Reads.{Reads};
+ghost use Rattle.aud_parse.specs.Ties.Reads.{ReadsFlat};
 
 use crate::cursor::{Fault, Rest, token};
 use crate::value::unquoted;
@@ -18,8 +17,7 @@ pub fn ident<'a, 's>(
     alloc: Global,
     start: Rest<'a, 's>,
 ) -> Result<(Ident, Rest<'a, 's>), Fault<'a, 's>>
-    ensures reads { (room : ℕ) → Reads an_ident (N g.Identifier) room start.entry.tokens.now result }
-    ensures shorter { IfOk result (λ p. length p.1.tokens.now < length start.entry.tokens.now) }
+    ensures { ReadsFlat an_ident (N g.Identifier) start.entry result }
 {
     let (t, rest) = token(start, Kind::Identifier)?;
     let name = Name::from_source(alloc, t.text())?;
@@ -33,8 +31,7 @@ pub fn literal<'a, 's>(
     alloc: Global,
     start: Rest<'a, 's>,
 ) -> Result<(Literal, Rest<'a, 's>), Fault<'a, 's>>
-    ensures reads { (room : ℕ) → Reads a_literal (N g.Literal) room start.entry.tokens.now result }
-    ensures shorter { IfOk result (λ p. length p.1.tokens.now < length start.entry.tokens.now) }
+    ensures { ReadsFlat a_literal (N g.Literal) start.entry result }
 {
     let (t, rest) = token(start, Kind::Text)?;
     let text = unquoted(alloc, t.text())?;

@@ -22,7 +22,7 @@ use thiserror::Error;
 /// Why tokens are no program.
 #[derive(Debug, Drop, Error)]
 pub enum SyntaxFault {
-    /// Memory ran out.
+    /// Where memory is refused.
     #[error("out of memory")]
     Memory,
     /// No program goes on with the token of this number, counted from 0, or ends there where it is
@@ -40,7 +40,7 @@ fn unit<'a, 's>(
     start: Rest<'a, 's>,
     room: u32,
 ) -> Result<(Unit, Rest<'a, 's>), Fault<'a, 's>>
-    ensures { Reads unit_item (N g.Unit) room start.entry.tokens.now result }
+    ensures { Reads unit_item (N g.Unit) room start.entry result }
 {
     let (first, rest) = token(start, Kind::Procedure)?;
     let (name, rest) = ident(alloc, rest)?;
@@ -63,7 +63,7 @@ fn unit<'a, 's>(
 /// # Errors
 ///
 /// [`SyntaxFault::Syntax`] and [`SyntaxFault::TooDeep`] name the first token that is at fault;
-/// [`SyntaxFault::Memory`] says that memory ran out.
+/// [`SyntaxFault::Memory`] is given where memory is refused.
 pub fn parse(alloc: Global, tokens: &[Token]) -> Result<Unit, SyntaxFault>
     ensures { Gives plain_unit (parsed tokens.now) result }
 {

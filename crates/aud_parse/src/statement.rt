@@ -1,25 +1,23 @@
 // Statements (RM 5.1) and bodies (RM 11.2).
 
-ghost use Rattle.std.specs.Prelude.{ℕ, length, ◌<◌, ◌≤◌, IfOk};
 ghost use Rattle.aud_parse.specs.Grammar as g;
-ghost use Rattle.aud_parse.specs.Grammar.{N, Opt};
+ghost use Rattle.aud_parse.specs.Grammar.{N, Opt, Rep};
 ghost use Rattle.aud_parse.specs.Actions.{an_ident};
-ghost use Rattle.aud_parse.specs.Ties.Items.{list_item, opt_item, assigned_item, called_item, statement_item, body_item};
-ghost use Rattle.aud_parse.specs.Ties.Reads.{Reads};
+ghost use Rattle.aud_parse.specs.Ties.Items.{vec_item, opt_item, assigned_item, called_item, statement_item, statements_item, body_item};
+ghost use Rattle.aud_parse.specs.Ties.Reads.{Reads, MayRead, ReadsFlat, MayReadFlat};
 
 use crate::cursor::{Fault, Rest, deeper, is, is_one_of, token, word};
 use crate::expression::{args, expression};
 use crate::leaf::ident;
 use aud_lex::token::Kind;
-use aud_syntax::tree::{Body, Expression, Ident, Name, NamePart, Statement};
+use aud_syntax::tree::{Body, Expression, Ident, Name, NamePart, Statement, Statements};
 use std::alloc::Global;
 
 const STATEMENTS: [Kind; 2] = [Kind::Null, Kind::Identifier];
 
 /// A null statement (RM 5.1(6)).
 fn null<'a, 's>(start: Rest<'a, 's>) -> Result<(Statement, Rest<'a, 's>), Fault<'a, 's>>
-    ensures reads { (room : ℕ) → Reads statement_item (N g.NullStatement) room start.entry.tokens.now result }
-    ensures shorter { IfOk result (λ p. length p.1.tokens.now < length start.entry.tokens.now) }
+    ensures { ReadsFlat statement_item (N g.NullStatement) start.entry result }
 {
     let (t, rest) = token(start, Kind::Null)?;
     let rest = word(rest, Kind::Semicolon)?;
@@ -32,8 +30,7 @@ fn assignment<'a, 's>(
     start: Rest<'a, 's>,
     room: u32,
 ) -> Result<(Expression, Rest<'a, 's>), Fault<'a, 's>>
-    ensures reads { Reads assigned_item (N g.Assignment) room start.entry.tokens.now result }
-    ensures shorter { IfOk result (λ p. length p.1.tokens.now < length start.entry.tokens.now) }
+    ensures { Reads assigned_item (N g.Assignment) room start.entry result }
 {
     let rest = word(start, Kind::Becomes)?;
     let (value, rest) = expression(alloc, rest, room)?;
@@ -47,8 +44,7 @@ fn call<'a, 's>(
     start: Rest<'a, 's>,
     room: u32,
 ) -> Result<(Vec<Expression>, Rest<'a, 's>), Fault<'a, 's>>
-    ensures reads { Reads (λ v. called_item v.items) (N g.Call) room start.entry.tokens.now result }
-    ensures shorter { IfOk result (λ p. length p.1.tokens.now < length start.entry.tokens.now) }
+    ensures { Reads called_item (N g.Call) room start.entry result }
 {
     let (all, rest) = args(alloc, start, room)?;
     let rest = word(rest, Kind::Semicolon)?;
@@ -61,8 +57,7 @@ fn named<'a, 's>(
     start: Rest<'a, 's>,
     room: u32,
 ) -> Result<(Statement, Rest<'a, 's>), Fault<'a, 's>>
-    ensures reads { Reads statement_item (N g.NameStatement) room start.entry.tokens.now result }
-    ensures shorter { IfOk result (λ p. length p.1.tokens.now < length start.entry.tokens.now) }
+    ensures { Reads statement_item (N g.NameStatement) room start.entry result }
 {
     let (ident, rest) = ident(alloc, start)?;
     if is(rest, Kind::Becomes) {
@@ -82,8 +77,7 @@ fn statement<'a, 's>(
     start: Rest<'a, 's>,
     room: u32,
 ) -> Result<(Statement, Rest<'a, 's>), Fault<'a, 's>>
-    ensures reads { Reads statement_item (N g.Statement) room start.entry.tokens.now result }
-    ensures shorter { IfOk result (λ p. length p.1.tokens.now < length start.entry.tokens.now) }
+    ensures { Reads statement_item (N g.Statement) room start.entry result }
 {
     if is(start, Kind::Null) {
         return null(start);
@@ -91,25 +85,35 @@ fn statement<'a, 's>(
     named(alloc, start, room)
 }
 
+/// The further statements.
+fn more_statements<'a, 's>(
+    alloc: Global,
+    start: Rest<'a, 's>,
+    room: u32,
+) -> Result<(Vec<Statement>, Rest<'a, 's>), Fault<'a, 's>>
+    ensures { MayRead (vec_item statement_item) (Rep g.Statement) room start.entry result }
+{
+    let mut all = Vec::new(alloc);
+    let mut rest = start;
+    'turns: while is_one_of(rest, &STATEMENTS) {
+        let (next, after) = statement(alloc, rest, room)?;
+        all.push(next)?;
+        rest = after;
+    }
+    Ok((all, rest))
+}
+
 /// Statements, at least one.
 fn statement_list<'a, 's>(
     alloc: Global,
     start: Rest<'a, 's>,
     room: u32,
-) -> Result<(Vec<Statement>, Rest<'a, 's>), Fault<'a, 's>>
-    ensures reads { Reads (λ v. list_item statement_item v.items) (N g.StatementList) room start.entry.tokens.now result }
-    ensures shorter { IfOk result (λ p. length p.1.tokens.now < length start.entry.tokens.now) }
+) -> Result<(Statements, Rest<'a, 's>), Fault<'a, 's>>
+    ensures { Reads statements_item (N g.StatementList) room start.entry result }
 {
-    let mut all = Vec::new(alloc);
-    let mut rest = start;
-    'turns: loop {
-        let (one, after) = statement(alloc, rest, room)?;
-        all.push(one)?;
-        if !is_one_of(after, &STATEMENTS) {
-            return Ok((all, after));
-        }
-        rest = after;
-    }
+    let (first, rest) = statement(alloc, start, room)?;
+    let (others, rest) = more_statements(alloc, rest, room)?;
+    Ok((Statements { first, others }, rest))
 }
 
 /// Statements, which lie one level deeper.
@@ -117,9 +121,8 @@ fn statements<'a, 's>(
     alloc: Global,
     start: Rest<'a, 's>,
     room: u32,
-) -> Result<(Vec<Statement>, Rest<'a, 's>), Fault<'a, 's>>
-    ensures reads { Reads (λ v. list_item statement_item v.items) (N g.Statements) room start.entry.tokens.now result }
-    ensures shorter { IfOk result (λ p. length p.1.tokens.now < length start.entry.tokens.now) }
+) -> Result<(Statements, Rest<'a, 's>), Fault<'a, 's>>
+    ensures { Reads statements_item (N g.Statements) room start.entry result }
 {
     let inside = deeper(start, room, is_one_of(start, &STATEMENTS))?;
     statement_list(alloc, start, inside)
@@ -130,8 +133,7 @@ fn opt_ident<'a, 's>(
     alloc: Global,
     start: Rest<'a, 's>,
 ) -> Result<(Option<Ident>, Rest<'a, 's>), Fault<'a, 's>>
-    ensures reads { (room : ℕ) → Reads (opt_item an_ident) (Opt g.Identifier) room start.entry.tokens.now result }
-    ensures shorter { IfOk result (λ p. length p.1.tokens.now ≤ length start.entry.tokens.now) }
+    ensures { MayReadFlat (opt_item an_ident) (Opt g.Identifier) start.entry result }
 {
     if is(start, Kind::Identifier) {
         let (name, rest) = ident(alloc, start)?;
@@ -146,8 +148,7 @@ pub fn body<'a, 's>(
     start: Rest<'a, 's>,
     room: u32,
 ) -> Result<(Body, Rest<'a, 's>), Fault<'a, 's>>
-    ensures reads { Reads body_item (N g.Body) room start.entry.tokens.now result }
-    ensures shorter { IfOk result (λ p. length p.1.tokens.now < length start.entry.tokens.now) }
+    ensures { Reads body_item (N g.Body) room start.entry result }
 {
     let (begin, rest) = token(start, Kind::Begin)?;
     let (statements, rest) = statements(alloc, rest, room)?;

@@ -23,7 +23,8 @@ pub fn number_value(text: &[u8]) -> Option<Int32>
 
 // The value with one more digit, where it is not too large.
 fn with_digit(value: u32, byte: u8) -> Option<u32>
-    ensures { MatchOption result (4294967295 < with_digit value byte) (λ x. x ≡ with_digit value byte) }
+    ensures { MatchOption result (4294967295 < with_digit value byte)
+        (λ x. x ≡ with_digit value byte) }
 {
     if byte == b'_' {
         return Some(value);

@@ -12,6 +12,7 @@ mod sessions;
 mod texts;
 mod tokens;
 mod trees;
+mod truths;
 
 use std::process::Abort;
 

@@ -1,7 +1,7 @@
 -- The first request of a stream, and the lines of a LOAD one by one.
 use Rattle.std.proofs.Common.{◌≡◌, ℕ, suc, List, [], ◌∷◌, ◌++◌, Option, Some, None, refl, sym, ◌∙◌, ap}
 use Rattle.std.specs.Option.{option_or}
-use Rattle.aud_text.specs.declared.refusal.Refusal.{Refusal}
+use Rattle.aud_bench.specs.declared.request.BadRequest.{BadRequest}
 use Rattle.aud_bench.specs.declared.request.Request.{Request}
 use Rattle.aud_server.specs.Lines.{lines_of, trimmed}
 use Rattle.aud_server.specs.Requests.{Command, Whole, Loads, command, line_fault, Reading, Ready, Gathering, first_fault, load_of, gathered, requests_from, requests}
@@ -28,22 +28,22 @@ pub requests_ready : (bytes : List ℕ) → requests bytes ≡ requests_from (li
 unfolding requests
 requests_ready bytes = refl
 
-pub first_of_two : (fault other : Option Refusal) → option_or fault other ≡ first_fault fault other
+pub first_of_two : (fault other : Option BadRequest) → option_or fault other ≡ first_fault fault other
 first_of_two None other = refl
 first_of_two (Some why) other = refl
 
 -- one line more of a LOAD
-pub gathered_more : (n m : ℕ) (source : List ℕ) (fault : Option Refusal) (bytes line rest : List ℕ) → n ≡ suc m → lines_of bytes ≡ line ∷ lines_of rest → gathered n source fault (requests_from (lines_of bytes)) ≡ gathered m (source ++ (trimmed line ++ 10 ∷ [])) (option_or fault (line_fault line)) (requests_from (lines_of rest))
+pub gathered_more : (n m : ℕ) (source : List ℕ) (fault : Option BadRequest) (bytes line rest : List ℕ) → n ≡ suc m → lines_of bytes ≡ line ∷ lines_of rest → gathered n source fault (requests_from (lines_of bytes)) ≡ gathered m (source ++ (trimmed line ++ 10 ∷ [])) (option_or fault (line_fault line)) (requests_from (lines_of rest))
 gathered_more n m source fault bytes line rest left e =
     ap (λ k. gathered k source fault (requests_from (lines_of bytes))) left
     ∙ (ap (λ ls. requests_from ls (Gathering (suc m) source fault)) e
     ∙ ap (λ f. gathered m (source ++ (trimmed line ++ 10 ∷ [])) f (requests_from (lines_of rest))) (sym (first_of_two fault (line_fault line))))
 
 -- where no line comes, a LOAD that wants one is none
-pub gathered_none : (n m : ℕ) (source : List ℕ) (fault : Option Refusal) (bytes : List ℕ) → n ≡ suc m → lines_of bytes ≡ [] → gathered n source fault (requests_from (lines_of bytes)) ≡ []
+pub gathered_none : (n m : ℕ) (source : List ℕ) (fault : Option BadRequest) (bytes : List ℕ) → n ≡ suc m → lines_of bytes ≡ [] → gathered n source fault (requests_from (lines_of bytes)) ≡ []
 gathered_none n m source fault bytes left e =
     ap (λ k. gathered k source fault (requests_from (lines_of bytes))) left ∙ ap (λ ls. requests_from ls (Gathering (suc m) source fault)) e
 
-pub gathered_all : (n : ℕ) (source : List ℕ) (fault : Option Refusal) (bytes : List ℕ) → n ≡ 0 → gathered n source fault (requests_from (lines_of bytes)) ≡ load_of source fault ∷ requests bytes
+pub gathered_all : (n : ℕ) (source : List ℕ) (fault : Option BadRequest) (bytes : List ℕ) → n ≡ 0 → gathered n source fault (requests_from (lines_of bytes)) ≡ load_of source fault ∷ requests bytes
 unfolding requests
 gathered_all n source fault bytes none = ap (λ k. gathered k source fault (requests_from (lines_of bytes))) none

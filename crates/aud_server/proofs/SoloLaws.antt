@@ -5,7 +5,7 @@ use Rattle.std.specs.Io.KnownBytes.{Appends, Keeps}
 use Rattle.aud_bench.specs.declared.request.Answer.{Answer}
 use Rattle.aud_text.specs.declared.refusal.Refusal.TheVariants as refusal
 use Rattle.aud_bench.specs.declared.request.Answer.TheVariants as answer
-use Rattle.aud_server.specs.Solo.{AppendsFront, AppendsSome, IsCutShort, AreAnswers}
+use Rattle.aud_server.specs.Solo.{AppendsFront, WritesSome, WritesFront, WritesCut, WritesPart}
 use Rattle.aud_server.specs.Text.{answer_text, text_from, text}
 
 pub appends_none : (a : Option (List ℕ)) → Appends a a []
@@ -38,32 +38,32 @@ pub appends_front : (old new : Option (List ℕ)) (bytes some rest : List ℕ) �
 appends_front old new bytes some rest h e = (some, rest, h, e)
 
 -- a writer that took the text of a front of the answers took a front of their text
-pub some_front : (old new : Option (List ℕ)) (all : List Answer) → AppendsSome old new all → AppendsFront old new (text all)
+pub some_front : (old new : Option (List ℕ)) (all : List Answer) → WritesSome old new all → WritesFront old new all
 unfolding text
 some_front old new all (some, rest, e, h) = (text_from some, text_from rest, h, ap text_from e ∙ text_from-append some rest)
 
 -- a front of a front
-pub front_front : (old new : Option (List ℕ)) (all some rest : List Answer) → all ≡ some ++ rest → AppendsFront old new (text some) → AppendsFront old new (text all)
+pub front_front : (old new : Option (List ℕ)) (all some rest : List Answer) → all ≡ some ++ rest → WritesFront old new some → WritesFront old new all
 unfolding text
 front_front old new all some rest e (xs, ys, h, f) =
     (xs, ys ++ text_from rest, h, ap text_from e ∙ (text_from-append some rest ∙ (ap (λ t. t ++ text_from rest) f ∙ append_assoc xs ys (text_from rest))))
 
-pub some_some : (old new : Option (List ℕ)) (all some rest : List Answer) → all ≡ some ++ rest → AppendsSome old new some → AppendsSome old new all
+pub some_some : (old new : Option (List ℕ)) (all some rest : List Answer) → all ≡ some ++ rest → WritesSome old new some → WritesSome old new all
 some_some old new all some rest e (xs, ys, f, h) = (xs, ys ++ rest, e ∙ (ap (λ t. t ++ rest) f ∙ append_assoc xs ys rest), h)
 
 -- nothing is written yet
-pub none_yet : (a : Option (List ℕ)) (all : List Answer) → AppendsSome a a all
+pub none_yet : (a : Option (List ℕ)) (all : List Answer) → WritesSome a a all
 unfolding text
 none_yet a all = ([], all, refl, appends_none a)
 
--- so many of the answers are written
-pub first_some : (old new : Option (List ℕ)) (answers : List Answer) (i : ℕ) → Appends old new (text_from (take i answers)) → AppendsSome old new answers
+-- the first i answers are written
+pub first_some : (old new : Option (List ℕ)) (answers : List Answer) (i : ℕ) → Appends old new (text_from (take i answers)) → WritesSome old new answers
 unfolding text
 first_some old new answers i h = (take i answers, drop i answers, sym (take-append-drop i answers), h)
 
--- so many of the answers are written, and a front of the next one's text
+-- the first i answers are written, and a front of the next one's text
 pub next_front : (old middle new : Option (List ℕ)) (answers : List Answer) (i : ℕ) (d : Answer) (said : List ℕ) → i < length answers →
-    Appends old middle (text_from (take i answers)) → said ≡ answer_text (get_or answers i d) → AppendsFront middle new said → AppendsFront old new (text answers)
+    Appends old middle (text_from (take i answers)) → said ≡ answer_text (get_or answers i d) → AppendsFront middle new said → WritesFront old new answers
 unfolding text
 next_front old middle new answers i d said below h e (xs, ys, k, f) =
     let before = text_from (take i answers) in
@@ -79,7 +79,7 @@ next_front old middle new answers i d said below h e (xs, ys, k, f) =
 
 -- a front of the answers, and then that memory is out
 pub cut_short : (old middle new : Option (List ℕ)) (all : List Answer) (said : List ℕ) → said ≡ answer_text (answer.Refused refusal.OutOfMemory) →
-    AppendsSome old middle all → Appends middle new said → (answers : List Answer) × IsCutShort all answers × Appends old new (text answers)
+    WritesSome old middle all → Appends middle new said → WritesCut old new all
 unfolding text
 cut_short old middle new all said e (some, rest, f, h) k =
     let last : List Answer = answer.Refused refusal.OutOfMemory ∷ [] in
@@ -88,7 +88,7 @@ cut_short old middle new all said e (some, rest, f, h) k =
     (some ++ last, (some, rest, f, refl), subst (Appends old new) (sym is) (appends_more old middle new (text_from some) said h k))
 
 pub cut_front : (old middle new : Option (List ℕ)) (all : List Answer) (said : List ℕ) → said ≡ answer_text (answer.Refused refusal.OutOfMemory) →
-    AppendsSome old middle all → AppendsFront middle new said → (answers : List Answer) × AreAnswers all answers × AppendsFront old new (text answers)
+    WritesSome old middle all → AppendsFront middle new said → WritesPart old new all
 unfolding text
 cut_front old middle new all said e (some, rest, f, h) (xs, ys, k, j) =
     let last : List Answer = answer.Refused refusal.OutOfMemory ∷ [] in (
@@ -104,7 +104,7 @@ cut_front old middle new all said e (some, rest, f, h) (xs, ys, k, j) =
       ),
     )
 
--- so many bytes more are written
+-- n bytes more are written
 pub written_more : (old middle new : Option (List ℕ)) (bytes rest : List ℕ) (n : ℕ) → (some : List ℕ) × Appends old middle some × (bytes ≡ some ++ rest) →
     Appends middle new (take n rest) → (some : List ℕ) × Appends old new some × (bytes ≡ some ++ drop n rest)
 written_more old middle new bytes rest n (some, h, e) k = (

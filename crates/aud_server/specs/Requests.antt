@@ -1,9 +1,9 @@
 -- The requests of a stream of bytes.
 use Rattle.std.specs.Prelude.{ℕ, zero, suc, List, [], ◌∷◌, ◌++◌, length, Option, Some, None, Bool, true, false, nat_le, nat_lt, ◌&&◌, if◌then◌else◌, codes}
 use Rattle.std.specs.Str.{bytes_eq}
-use Rattle.aud_text.specs.declared.refusal.Refusal.{Refusal}
-use Rattle.aud_text.specs.declared.refusal.Refusal.TheVariants as refusal
 use Rattle.aud_text.specs.declared.limits.TheConstants.{LINE, LINES, RUN}
+use Rattle.aud_bench.specs.declared.request.BadRequest.{BadRequest}
+use Rattle.aud_bench.specs.declared.request.BadRequest.TheVariants as bad
 use Rattle.aud_bench.specs.declared.request.Request.{Request}
 use Rattle.aud_bench.specs.declared.request.Request.TheVariants as request
 use Rattle.aud_server.specs.Lines.{lines_of, trimmed, words_of, number_of}
@@ -13,18 +13,18 @@ has_high_byte [] = false
 has_high_byte (byte ∷ bytes) = if nat_lt 127 byte then true else has_high_byte bytes
 
 -- what is wrong with a line, as it came
-abbrev pub line_fault : List ℕ → Option Refusal
-line_fault line = if nat_lt LINE (length line) then Some refusal.LineTooLong else if has_high_byte line then Some refusal.NotAscii else None
+abbrev pub line_fault : List ℕ → Option BadRequest
+line_fault line = if nat_lt LINE (length line) then Some bad.LineTooLong else if has_high_byte line then Some bad.NotAscii else None
 
 -- what a request's first line asks
 pub data Command : Type 0 where
   -- a request of one line
   Whole : Request → Command
-  -- a LOAD of so many lines
+  -- a LOAD of n lines
   Loads : ℕ → Command
 
 abbrev pub wrong_argument : Command
-wrong_argument = Whole (request.Bad refusal.BadArgument)
+wrong_argument = Whole (request.Bad bad.BadArgument)
 
 abbrev pub ranged : ℕ → ℕ → Option ℕ → (ℕ → Command) → Command
 ranged low high None use_of = wrong_argument
@@ -41,15 +41,15 @@ no_argument [] r = Whole r
 no_argument (word ∷ words) r = wrong_argument
 
 abbrev pub command_of : List (List ℕ) → Command
-command_of [] = Whole (request.Bad refusal.UnknownCommand)
+command_of [] = Whole (request.Bad bad.UnknownCommand)
 command_of (word ∷ arguments) =
     if bytes_eq word (codes "LOAD") then one_number 0 LINES arguments (λ n. Loads n)
     else if bytes_eq word (codes "RUN") then one_number 1 RUN arguments (λ n. Whole (request.Run n))
     else if bytes_eq word (codes "OUTPUT") then no_argument arguments request.Output
     else if bytes_eq word (codes "QUIT") then no_argument arguments request.Quit
-    else Whole (request.Bad refusal.UnknownCommand)
+    else Whole (request.Bad bad.UnknownCommand)
 
-abbrev pub command_by : Option Refusal → List ℕ → Command
+abbrev pub command_by : Option BadRequest → List ℕ → Command
 command_by (Some why) line = Whole (request.Bad why)
 command_by None line = command_of (words_of (trimmed line))
 
@@ -59,19 +59,19 @@ command line = command_by (line_fault line) line
 -- the lines of a LOAD that are still to come, its source so far, and the fault of its first bad line
 pub data Reading : Type 0 where
   Ready : Reading
-  Gathering : ℕ → List ℕ → Option Refusal → Reading
+  Gathering : ℕ → List ℕ → Option BadRequest → Reading
 
 -- the first fault stays
-abbrev pub first_fault : Option Refusal → Option Refusal → Option Refusal
+abbrev pub first_fault : Option BadRequest → Option BadRequest → Option BadRequest
 first_fault (Some why) other = Some why
 first_fault None other = other
 
-abbrev pub load_of : List ℕ → Option Refusal → Request
+abbrev pub load_of : List ℕ → Option BadRequest → Request
 load_of source (Some why) = request.Bad why
 load_of source None = request.Load source
 
 -- with the lines of a LOAD so far: the request where none is left to come
-abbrev pub gathered : ℕ → List ℕ → Option Refusal → (Reading → List Request) → List Request
+abbrev pub gathered : ℕ → List ℕ → Option BadRequest → (Reading → List Request) → List Request
 gathered zero source fault others = load_of source fault ∷ others Ready
 gathered (suc left) source fault others = others (Gathering (suc left) source fault)
 

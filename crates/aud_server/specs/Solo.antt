@@ -1,23 +1,51 @@
--- What is written where the server on one stream stops early.
+-- What the server on one stream reads and writes. Of a reader and a writer a word takes what was left in it, or stood there, before the
+-- call and after it. Nothing is said where that is not known.
 use Rattle.std.specs.Prelude.{◌≡◌, ℕ, List, [], ◌∷◌, ◌++◌, Option, ◌⊎◌}
-use Rattle.std.specs.Io.KnownBytes.{Appends}
+use Rattle.std.specs.Io.KnownBytes.{Appends, Consumes}
+use Rattle.aud_text.specs.declared.limits.TheConstants.{STANDARD}
 use Rattle.aud_text.specs.declared.refusal.Refusal.TheVariants as refusal
 use Rattle.aud_bench.specs.declared.request.Answer.{Answer}
 use Rattle.aud_bench.specs.declared.request.Answer.TheVariants as answer
+use Rattle.aud_bench.specs.Alone.{alone}
+use Rattle.aud_server.specs.Requests.{requests}
 use Rattle.aud_server.specs.Text.{text}
+
+-- the answers of a private server to the requests of all bytes
+abbrev pub answers_to : List ℕ → List Answer
+answers_to input = alone STANDARD (requests input)
+
+-- the call has read bytes, of which this holds
+abbrev pub HasRead : Option (List ℕ) → Option (List ℕ) → (List ℕ → Type 0) → Type 0
+HasRead old new holds = (input : List ℕ) × Consumes old new input × holds input
+
+-- the text of all the answers is written
+abbrev pub WritesAll : Option (List ℕ) → Option (List ℕ) → List Answer → Type 0
+WritesAll old new answers = Appends old new (text answers)
+
+-- the text of a front of the answers is written
+abbrev pub WritesSome : Option (List ℕ) → Option (List ℕ) → List Answer → Type 0
+WritesSome old new all = (some rest : List Answer) × (all ≡ some ++ rest) × Appends old new (text some)
 
 -- a front of the bytes is written
 abbrev pub AppendsFront : Option (List ℕ) → Option (List ℕ) → List ℕ → Type 0
 AppendsFront old new bytes = (some rest : List ℕ) × Appends old new some × (bytes ≡ some ++ rest)
 
--- the text of a front of the answers is written
-abbrev pub AppendsSome : Option (List ℕ) → Option (List ℕ) → List Answer → Type 0
-AppendsSome old new all = (some rest : List Answer) × (all ≡ some ++ rest) × Appends old new (text some)
+-- a front of the text of all the answers is written, and it may end within an answer
+abbrev pub WritesFront : Option (List ℕ) → Option (List ℕ) → List Answer → Type 0
+WritesFront old new answers = AppendsFront old new (text answers)
 
 -- a front of the answers, and then that memory is out
 abbrev pub IsCutShort : List Answer → List Answer → Type 0
 IsCutShort all answers = (some rest : List Answer) × (all ≡ some ++ rest) × (answers ≡ some ++ (answer.Refused refusal.OutOfMemory ∷ []))
 
--- what is there to be written: all the answers, or for want of memory fewer
+-- the text of a front of the answers is written, and then that memory is out
+abbrev pub WritesCut : Option (List ℕ) → Option (List ℕ) → List Answer → Type 0
+WritesCut old new all = (answers : List Answer) × IsCutShort all answers × WritesAll old new answers
+
+-- what is there to be written: all the answers, or where memory is refused fewer
 abbrev pub AreAnswers : List Answer → List Answer → Type 0
 AreAnswers all answers = (answers ≡ all) ⊎ IsCutShort all answers
+
+-- a front of the text of what is there to be written is written, and it may end within an answer
+abbrev pub WritesPart : Option (List ℕ) → Option (List ℕ) → List Answer → Type 0
+WritesPart old new all = (answers : List Answer) × AreAnswers all answers × WritesFront old new answers

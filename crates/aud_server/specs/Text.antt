@@ -1,10 +1,11 @@
 -- The text of answers.
 use Rattle.std.specs.Prelude.{ℕ, ◌+◌, List, [], ◌∷◌, ◌++◌, length, Option, Some, None, Bool, true, false, ◌==◌, if◌then◌else◌, codes, count_by}
 use Rattle.std.specs.Fmt.{decimal}
+use Rattle.aud_text.specs.declared.place.Pos.{Pos}
 use Rattle.aud_text.specs.declared.refusal.Refusal.{Refusal}
 use Rattle.aud_text.specs.Refusal.{number, words}
 use Rattle.aud_text.specs.Raise.{raise_name}
-use Rattle.aud_meaning.specs.View.{state_words}
+use Rattle.aud_meaning.specs.Listings.{state_words}
 use Rattle.aud_bench.specs.declared.request.Raised.{Raised}
 use Rattle.aud_bench.specs.declared.request.Raised.TheVariants.{Predefined, Declared}
 use Rattle.aud_bench.specs.declared.request.Report.{Report}
@@ -14,9 +15,12 @@ use Rattle.aud_bench.specs.declared.request.Answer.TheVariants as answer
 abbrev pub line_end : List ℕ
 line_end = 10 ∷ []
 
--- the head of an answer of so many lines
+-- the head of an answer of n lines
 abbrev pub head : ℕ → List ℕ
-head lines = codes "+ " ++ decimal lines ++ line_end
+head n = codes "+ " ++ decimal n ++ line_end
+
+abbrev pub loaded_text : List ℕ → List ℕ
+loaded_text name = head 1 ++ codes "loaded " ++ name ++ line_end
 
 abbrev pub ran_line : Report → List ℕ
 ran_line r = codes "ran " ++ decimal r.steps ++ codes " " ++ state_words r.state ++ line_end
@@ -47,13 +51,20 @@ output_text bytes =
 abbrev pub refusal : Refusal → List ℕ
 refusal why = codes "- E" ++ decimal (number why) ++ codes " "
 
+abbrev pub refused_text : Refusal → List ℕ
+refused_text why = refusal why ++ words why ++ line_end
+
+-- with the place where the fault stands
+abbrev pub refused_at_text : Refusal → Pos → List ℕ
+refused_at_text why at = refusal why ++ decimal at.line ++ codes ":" ++ decimal at.col ++ codes " " ++ words why ++ line_end
+
 abbrev pub answer_text : Answer → List ℕ
-answer_text (answer.Loaded name) = head 1 ++ codes "loaded " ++ name ++ line_end
+answer_text (answer.Loaded name) = loaded_text name
 answer_text (answer.Ran r) = report_text r r.raised
 answer_text (answer.Output bytes) = output_text bytes
 answer_text answer.Done = head 0
-answer_text (answer.Refused why) = refusal why ++ words why ++ line_end
-answer_text (answer.RefusedAt why at) = refusal why ++ decimal at.line ++ codes ":" ++ decimal at.col ++ codes " " ++ words why ++ line_end
+answer_text (answer.Refused why) = refused_text why
+answer_text (answer.RefusedAt why at) = refused_at_text why at
 
 -- the texts of the answers in order
 abbrev pub text_from : List Answer → List ℕ

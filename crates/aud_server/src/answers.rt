@@ -1,16 +1,15 @@
 // The text of answers.
 
-ghost use Rattle.std.specs.Prelude.{◌≡◌, ◌++◌, IfOk, OnOk, Some, None, codes};
-ghost use Rattle.std.specs.Fmt.{decimal};
-ghost use Rattle.aud_text.specs.Refusal.{words};
-ghost use Rattle.aud_meaning.specs.View.{state_words};
-ghost use Rattle.aud_server.specs.Text.{line_end, head, ran_line, raised_name, report_text, is_open, output_lines, output_text, refusal, answer_text};
+ghost use Rattle.std.specs.Prelude.{◌≡◌, IfOk, Some, None};
+ghost use Rattle.aud_meaning.specs.Listings.{state_words};
+ghost use Rattle.aud_server.specs.Ties.Adds.{Adds};
+ghost use Rattle.aud_server.specs.Text.{line_end, head, loaded_text, ran_line, raised_name, report_text, is_open, output_lines, output_text, refusal, refused_text, refused_at_text, answer_text};
 
 use aud_bench::request::{Answer, Raised, Report};
 use aud_meaning::state::State;
-use aud_text::refusal::Refusal;
 use aud_text::digits::push_decimal;
 use aud_text::place::Pos;
+use aud_text::refusal::Refusal;
 use std::alloc::{AllocError, Global};
 
 /// The text of an answer: `+` and the number of its lines, and the lines; or `-`, the code of the
@@ -24,7 +23,7 @@ pub fn answer_text(alloc: Global, answer: &Answer) -> Result<Vec<u8>, AllocError
 }
 
 fn push_answer(out: &mut Vec<u8>, answer: &Answer) -> Result<(), AllocError>
-    ensures { OnOk result (out.new.items ≡ out.old.items ++ answer_text answer.now) }
+    ensures { Adds result out.old out.new (answer_text answer.now) }
 {
     match answer {
         Answer::Loaded(name) => push_loaded(out, name.as_bytes()),
@@ -37,7 +36,7 @@ fn push_answer(out: &mut Vec<u8>, answer: &Answer) -> Result<(), AllocError>
 }
 
 fn push_loaded(out: &mut Vec<u8>, name: &[u8]) -> Result<(), AllocError>
-    ensures { OnOk result (out.new.items ≡ out.old.items ++ (head 1 ++ codes "loaded " ++ name.now ++ line_end)) }
+    ensures { Adds result out.old out.new (loaded_text name.now) }
 {
     push_head(out, 1)?;
     out.extend_from_slice(b"loaded ")?;
@@ -47,7 +46,7 @@ fn push_loaded(out: &mut Vec<u8>, name: &[u8]) -> Result<(), AllocError>
 
 // What the answers that are not refusals begin with.
 fn push_head(out: &mut Vec<u8>, lines: u64) -> Result<(), AllocError>
-    ensures { OnOk result (out.new.items ≡ out.old.items ++ head lines) }
+    ensures { Adds result out.old out.new (head lines) }
 {
     out.extend_from_slice(b"+ ")?;
     push_decimal(out, lines)?;
@@ -55,14 +54,14 @@ fn push_head(out: &mut Vec<u8>, lines: u64) -> Result<(), AllocError>
 }
 
 fn push_line_end(out: &mut Vec<u8>) -> Result<(), AllocError>
-    ensures { OnOk result (out.new.items ≡ out.old.items ++ line_end) }
+    ensures { Adds result out.old out.new line_end }
 {
     out.push(b'\n')?;
     Ok(())
 }
 
 fn push_report(out: &mut Vec<u8>, report: &Report) -> Result<(), AllocError>
-    ensures { OnOk result (out.new.items ≡ out.old.items ++ report_text report.now report.now.raised) }
+    ensures { Adds result out.old out.new (report_text report.now report.now.raised) }
 {
     match &report.raised {
         None => push_ran(out, report),
@@ -71,14 +70,14 @@ fn push_report(out: &mut Vec<u8>, report: &Report) -> Result<(), AllocError>
 }
 
 fn push_ran(out: &mut Vec<u8>, report: &Report) -> Result<(), AllocError>
-    ensures { OnOk result (out.new.items ≡ out.old.items ++ report_text report.now None) }
+    ensures { Adds result out.old out.new (report_text report.now None) }
 {
     push_head(out, 1)?;
     push_ran_line(out, report)
 }
 
 fn push_raised(out: &mut Vec<u8>, report: &Report, raised: &Raised) -> Result<(), AllocError>
-    ensures { OnOk result (out.new.items ≡ out.old.items ++ report_text report.now (Some raised.now)) }
+    ensures { Adds result out.old out.new (report_text report.now (Some raised.now)) }
 {
     push_head(out, 2)?;
     push_ran_line(out, report)?;
@@ -97,7 +96,7 @@ fn raised_name(raised: &Raised) -> &[u8]
 }
 
 fn push_ran_line(out: &mut Vec<u8>, report: &Report) -> Result<(), AllocError>
-    ensures { OnOk result (out.new.items ≡ out.old.items ++ ran_line report.now) }
+    ensures { Adds result out.old out.new (ran_line report.now) }
 {
     out.extend_from_slice(b"ran ")?;
     push_decimal(out, u64::from(report.steps))?;
@@ -107,7 +106,7 @@ fn push_ran_line(out: &mut Vec<u8>, report: &Report) -> Result<(), AllocError>
 }
 
 fn push_state(out: &mut Vec<u8>, state: State) -> Result<(), AllocError>
-    ensures { OnOk result (out.new.items ≡ out.old.items ++ state_words state) }
+    ensures { Adds result out.old out.new (state_words state) }
 {
     match state {
         State::Ended => out.extend_from_slice(b"ended"),
@@ -122,7 +121,7 @@ fn push_state(out: &mut Vec<u8>, state: State) -> Result<(), AllocError>
 }
 
 fn push_output(out: &mut Vec<u8>, bytes: &[u8]) -> Result<(), AllocError>
-    ensures { OnOk result (out.new.items ≡ out.old.items ++ output_text bytes.now) }
+    ensures { Adds result out.old out.new (output_text bytes.now) }
 {
     push_head(out, output_lines(bytes) + 1)?;
     out.extend_from_slice(b"bytes ")?;
@@ -155,7 +154,7 @@ fn is_open(bytes: &[u8]) -> bool
 }
 
 fn push_refusal(out: &mut Vec<u8>, why: Refusal) -> Result<(), AllocError>
-    ensures { OnOk result (out.new.items ≡ out.old.items ++ (refusal why ++ words why ++ line_end)) }
+    ensures { Adds result out.old out.new (refused_text why) }
 {
     push_code(out, why)?;
     out.extend_from_slice(why.words())?;
@@ -163,7 +162,7 @@ fn push_refusal(out: &mut Vec<u8>, why: Refusal) -> Result<(), AllocError>
 }
 
 fn push_refusal_at(out: &mut Vec<u8>, why: Refusal, at: Pos) -> Result<(), AllocError>
-    ensures { OnOk result (out.new.items ≡ out.old.items ++ (refusal why ++ decimal at.line ++ codes ":" ++ decimal at.col ++ codes " " ++ words why ++ line_end)) }
+    ensures { Adds result out.old out.new (refused_at_text why at) }
 {
     push_code(out, why)?;
     push_decimal(out, at.line as u64)?;
@@ -176,7 +175,7 @@ fn push_refusal_at(out: &mut Vec<u8>, why: Refusal, at: Pos) -> Result<(), Alloc
 
 // What refusals begin with.
 fn push_code(out: &mut Vec<u8>, why: Refusal) -> Result<(), AllocError>
-    ensures { OnOk result (out.new.items ≡ out.old.items ++ refusal why) }
+    ensures { Adds result out.old out.new (refusal why) }
 {
     out.extend_from_slice(b"- E")?;
     push_decimal(out, u64::from(why.number()))?;

@@ -8,8 +8,7 @@ ghost use Rattle.aud_server.specs.Lines.{words_of};
 ghost use Rattle.aud_server.specs.Requests.{has_high_byte, line_fault, Command as Asked, Whole, Loads, wrong_argument, no_argument, one_number, command_of, command};
 
 use crate::lines::{first_word, number, trimmed};
-use aud_bench::request::Request;
-use aud_text::refusal::Refusal;
+use aud_bench::request::{BadRequest, Request};
 use aud_text::limits::{LINE, LINES, RUN};
 
 /// What a request's first line asks.
@@ -17,20 +16,20 @@ use aud_text::limits::{LINE, LINES, RUN};
 pub enum Command {
     /// A request of one line.
     Whole(Request),
-    /// A LOAD of so many lines.
+    /// A LOAD of n lines.
     Loads(u32),
 }
 
 /// What is wrong with a line, as it came without its line feed: that it is too long, or else that
 /// a byte of it is not ASCII.
-pub fn line_fault(line: &[u8]) -> Option<Refusal>
+pub fn line_fault(line: &[u8]) -> Option<BadRequest>
     ensures { result ≡ line_fault line.now }
 {
     if line.len() > LINE as usize {
-        return Some(Refusal::LineTooLong);
+        return Some(BadRequest::LineTooLong);
     }
     if has_high_byte(line) {
-        return Some(Refusal::NotAscii);
+        return Some(BadRequest::NotAscii);
     }
     None
 }
@@ -56,7 +55,7 @@ fn command_of(line: &[u8]) -> Command
 {
     match first_word(line) {
         Some((word, arguments)) => command_with(word, arguments),
-        None => Command::Whole(Request::Bad(Refusal::UnknownCommand)),
+        None => Command::Whole(Request::Bad(BadRequest::UnknownCommand)),
     }
 }
 
@@ -72,7 +71,7 @@ fn command_with(word: &[u8], arguments: &[u8]) -> Command
     } else if is(word, b"QUIT") {
         no_argument(arguments, Request::Quit)
     } else {
-        Command::Whole(Request::Bad(Refusal::UnknownCommand))
+        Command::Whole(Request::Bad(BadRequest::UnknownCommand))
     }
 }
 
@@ -92,7 +91,8 @@ fn load(arguments: &[u8]) -> Command
 }
 
 fn run(arguments: &[u8]) -> Command
-    ensures { asked result ≡ one_number 1 RUN (words_of arguments.now) (λ n. Whole (request.Run n)) }
+    ensures { asked result
+        ≡ one_number 1 RUN (words_of arguments.now) (λ n. Whole (request.Run n)) }
 {
     match number_within(1, RUN, arguments) {
         Some(steps) => Command::Whole(Request::Run(steps)),
@@ -112,12 +112,13 @@ fn no_argument(arguments: &[u8], request: Request) -> Command
 fn wrong_argument() -> Command
     ensures { asked result ≡ wrong_argument }
 {
-    Command::Whole(Request::Bad(Refusal::BadArgument))
+    Command::Whole(Request::Bad(BadRequest::BadArgument))
 }
 
 // The one number that stands there, if it lies in the range.
 fn number_within(low: u32, high: u32, arguments: &[u8]) -> Option<u32>
-    ensures { (use_of : ℕ → Asked) → one_number low high (words_of arguments.now) use_of ≡ given result use_of }
+    ensures { (use_of : ℕ → Asked) →
+        one_number low high (words_of arguments.now) use_of ≡ given result use_of }
 {
     let (word, others) = first_word(arguments)?;
     if first_word(others).is_some() {

@@ -8,7 +8,8 @@ use memchr::memchr;
 /// The first line of the bytes, without its line feed, and what follows it; nothing where no line
 /// feed stands.
 pub fn first_line(bytes: &[u8]) -> Option<(&[u8], &[u8])>
-    ensures line { MatchOption result (lines_of bytes.now ≡ []) (λ found. lines_of bytes.now ≡ found.0.now ∷ lines_of found.1.now) }
+    ensures line { MatchOption result (lines_of bytes.now ≡ [])
+        (λ found. lines_of bytes.now ≡ found.0.now ∷ lines_of found.1.now) }
     ensures shorter { IfSome result (λ found. length found.1.now < length bytes.now) }
 {
     let Some(end) = memchr(b'\n', bytes) else {
@@ -48,7 +49,8 @@ fn before_spaces(line: &[u8]) -> &[u8]
 
 /// The first word of a line, and what follows it; nothing where only spaces are left.
 pub fn first_word(line: &[u8]) -> Option<(&[u8], &[u8])>
-    ensures { MatchOption result (words_of line.now ≡ []) (λ found. words_of line.now ≡ found.0.now ∷ words_of found.1.now) }
+    ensures { MatchOption result (words_of line.now ≡ [])
+        (λ found. words_of line.now ≡ found.0.now ∷ words_of found.1.now) }
 {
     let rest = behind_spaces(line);
     if rest.is_empty() {

@@ -24,7 +24,7 @@ pub enum ProgramFault {
     /// The standard output cannot be written.
     #[error("write failed")]
     Write,
-    /// Memory was refused.
+    /// Where memory is refused.
     #[error("out of memory")]
     Memory,
 }
@@ -98,7 +98,8 @@ pub fn refuse(rt: &impl Eprint, fault: ProgramFault) -> u8
 
 fn run<R: Input + Print + AllocGlobal>(rt: &R, words: &[String]) -> Result<(), ProgramFault>
     ensures solo { AsksSolo (map string_bytes words.now) → IsErrOf result fault.Arguments → ⊥ }
-    ensures other { (AsksSolo (map string_bytes words.now) → ⊥) → IsErrOf result fault.Arguments ⊎ IsErrOf result fault.Memory }
+    ensures other { (AsksSolo (map string_bytes words.now) → ⊥) →
+        IsErrOf result fault.Arguments ⊎ IsErrOf result fault.Memory }
     ensures count { length words.now ≢ 2 → IsErrOf result fault.Arguments }
 {
     // The name of the program, and one argument.
@@ -111,7 +112,8 @@ fn run<R: Input + Print + AllocGlobal>(rt: &R, words: &[String]) -> Result<(), P
 
 // Whether the one argument is `--solo`.
 fn is_solo(alloc: Global, words: &[String]) -> Result<bool, ProgramFault>
-    ensures asked { length words.now ≡ 2 → IfOk result (λ r. IsTrue r ↔ AsksSolo (map string_bytes words.now)) }
+    ensures asked { length words.now ≡ 2 →
+        IfOk result (λ r. IsTrue r ↔ AsksSolo (map string_bytes words.now)) }
     ensures memory { AsksSolo (map string_bytes words.now) → IfErr result (λ e. e ≡ fault.Memory) }
     ensures known { IfErr result (λ e. (e ≡ fault.Arguments) ⊎ (e ≡ fault.Memory)) }
 {

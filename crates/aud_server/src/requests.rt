@@ -1,13 +1,12 @@
 // The requests of a stream of bytes.
 
-ghost use Rattle.std.specs.Prelude.{◌≡◌, ◌<◌, ◌≤◌, [], ◌∷◌, None, length, IfOk, IfSome, MatchOption};
-ghost use Rattle.aud_server.specs.Lines.{lines_of};
-ghost use Rattle.aud_server.specs.Requests.{load_of, gathered, requests_from, requests};
+ghost use Rattle.std.specs.Prelude.{◌≡◌, ◌<◌, ◌≤◌, [], ◌∷◌, length, IfOk, IfSome, MatchOption};
+ghost use Rattle.aud_server.specs.Requests.{load_of, requests};
+ghost use Rattle.aud_server.specs.Ties.Asked.{load_requests};
 
 use crate::commands::{Command, line_fault, read_command};
 use crate::lines::{first_line, trimmed};
-use aud_bench::request::Request;
-use aud_text::refusal::Refusal;
+use aud_bench::request::{BadRequest, Request};
 use aud_text::text::Text;
 use std::alloc::{AllocError, Global};
 
@@ -26,7 +25,8 @@ pub fn read_requests(alloc: Global, bytes: &[u8]) -> Result<Vec<Request>, AllocE
 
 // The first request of the bytes, and what follows it; nothing where no request is whole.
 fn first_request(alloc: Global, bytes: &[u8]) -> Result<Option<(Request, &[u8])>, AllocError>
-    ensures first { IfOk result (λ found. MatchOption found (requests bytes.now ≡ []) (λ f. requests bytes.now ≡ f.0 ∷ requests f.1.now)) }
+    ensures first { IfOk result (λ found. MatchOption found (requests bytes.now ≡ [])
+        (λ f. requests bytes.now ≡ f.0 ∷ requests f.1.now)) }
     ensures shorter { IfOk result (λ found. IfSome found (λ f. length f.1.now < length bytes.now)) }
 {
     let Some((line, behind)) = first_line(bytes) else {
@@ -38,10 +38,11 @@ fn first_request(alloc: Global, bytes: &[u8]) -> Result<Option<(Request, &[u8])>
     }
 }
 
-// A LOAD whose so many lines the bytes begin with, and what follows them; nothing where they do
-// not all come. All of them are read, and the first bad one decides.
+// A LOAD of n lines, with which the bytes begin, and what follows them; nothing where they do not
+// all come. All of them are read, and the first bad one decides.
 fn load(alloc: Global, lines: u32, bytes: &[u8]) -> Result<Option<(Request, &[u8])>, AllocError>
-    ensures first { IfOk result (λ found. MatchOption found (gathered lines [] None (requests_from (lines_of bytes.now)) ≡ []) (λ f. gathered lines [] None (requests_from (lines_of bytes.now)) ≡ f.0 ∷ requests f.1.now)) }
+    ensures first { IfOk result (λ found. MatchOption found (load_requests lines bytes.now ≡ [])
+        (λ f. load_requests lines bytes.now ≡ f.0 ∷ requests f.1.now)) }
     ensures shorter { IfOk result (λ found. IfSome found (λ f. length f.1.now ≤ length bytes.now)) }
 {
     let mut source = Vec::new(alloc);
@@ -59,7 +60,7 @@ fn load(alloc: Global, lines: u32, bytes: &[u8]) -> Result<Option<(Request, &[u8
     Ok(Some((load_of(source, fault), rest)))
 }
 
-fn load_of(source: Vec<u8>, fault: Option<Refusal>) -> Request
+fn load_of(source: Vec<u8>, fault: Option<BadRequest>) -> Request
     ensures { result ≡ load_of source.items fault }
 {
     match fault {

@@ -1,16 +1,12 @@
 // The server on one stream of requests.
 
-ghost use Rattle.std.specs.Prelude.{◌≡◌, ◌++◌, ℕ, List, IfSome, OnOk, IsErrOf};
-ghost use Rattle.std.specs.Io.KnownBytes.{Appends, Consumes};
-ghost use Rattle.aud_text.specs.declared.limits.TheConstants.{STANDARD};
-ghost use Rattle.aud_bench.specs.Alone.{alone};
+ghost use Rattle.std.specs.Prelude.{◌≡◌, IfSome, OnOk, IsErrOf};
+ghost use Rattle.std.specs.Io.KnownBytes.{Appends};
 ghost use Rattle.aud_text.specs.declared.refusal.Refusal.TheVariants as refusal;
-ghost use Rattle.aud_bench.specs.declared.request.Answer.{Answer};
 ghost use Rattle.aud_bench.specs.declared.request.Answer.TheVariants as answer;
 ghost use Rattle.aud_server.specs.declared.solo.SoloFault.TheVariants as fault;
-ghost use Rattle.aud_server.specs.Requests.{requests};
-ghost use Rattle.aud_server.specs.Solo.{AppendsFront, AppendsSome, IsCutShort, AreAnswers};
-ghost use Rattle.aud_server.specs.Text.{answer_text, text};
+ghost use Rattle.aud_server.specs.Solo.{answers_to, HasRead, WritesAll, WritesSome, WritesCut, WritesPart, WritesFront, AppendsFront};
+ghost use Rattle.aud_server.specs.Text.{answer_text};
 
 use crate::answers::answer_text;
 use crate::requests::read_requests;
@@ -30,7 +26,7 @@ pub enum SoloFault {
     /// A write failed.
     #[error("write failed")]
     Write,
-    /// Memory was refused.
+    /// Where memory is refused.
     #[error("out of memory")]
     Memory,
 }
@@ -54,10 +50,17 @@ pub fn solo<R: Read, W: Write>(
     reader: &mut R,
     writer: &mut W,
 ) -> Result<(), SoloFault>
-    ensures all { OnOk result (IfSome (R.remaining reader.old) (λ input. Appends (W.contents writer.old) (W.contents writer.new) (text (alone STANDARD (requests input))))) }
-    ensures read { IsErrOf result fault.Read → (input : List ℕ) × Consumes (R.remaining reader.old) (R.remaining reader.new) input × Appends (W.contents writer.old) (W.contents writer.new) (text (alone STANDARD (requests input))) }
-    ensures memory { IsErrOf result fault.Memory → (input : List ℕ) × (answers : List Answer) × Consumes (R.remaining reader.old) (R.remaining reader.new) input × IsCutShort (alone STANDARD (requests input)) answers × Appends (W.contents writer.old) (W.contents writer.new) (text answers) }
-    ensures write { IsErrOf result fault.Write → (input : List ℕ) × (answers : List Answer) × Consumes (R.remaining reader.old) (R.remaining reader.new) input × AreAnswers (alone STANDARD (requests input)) answers × AppendsFront (W.contents writer.old) (W.contents writer.new) (text answers) }
+    ensures all { OnOk result (IfSome (R.remaining reader.old) (λ input.
+        WritesAll (W.contents writer.old) (W.contents writer.new) (answers_to input))) }
+    ensures read { IsErrOf result fault.Read →
+        HasRead (R.remaining reader.old) (R.remaining reader.new) (λ input.
+        WritesAll (W.contents writer.old) (W.contents writer.new) (answers_to input)) }
+    ensures memory { IsErrOf result fault.Memory →
+        HasRead (R.remaining reader.old) (R.remaining reader.new) (λ input.
+        WritesCut (W.contents writer.old) (W.contents writer.new) (answers_to input)) }
+    ensures write { IsErrOf result fault.Write →
+        HasRead (R.remaining reader.old) (R.remaining reader.new) (λ input.
+        WritesPart (W.contents writer.old) (W.contents writer.new) (answers_to input)) }
 {
     let answered = answer_reader(alloc, reader, writer);
     if matches!(answered, Err(SoloFault::Memory)) {
@@ -71,10 +74,17 @@ fn answer_reader<R: Read, W: Write>(
     reader: &mut R,
     writer: &mut W,
 ) -> Result<(), SoloFault>
-    ensures all { OnOk result (IfSome (R.remaining reader.old) (λ input. Appends (W.contents writer.old) (W.contents writer.new) (text (alone STANDARD (requests input))))) }
-    ensures read { IsErrOf result fault.Read → (input : List ℕ) × Consumes (R.remaining reader.old) (R.remaining reader.new) input × Appends (W.contents writer.old) (W.contents writer.new) (text (alone STANDARD (requests input))) }
-    ensures memory { IsErrOf result fault.Memory → (input : List ℕ) × Consumes (R.remaining reader.old) (R.remaining reader.new) input × AppendsSome (W.contents writer.old) (W.contents writer.new) (alone STANDARD (requests input)) }
-    ensures write { IsErrOf result fault.Write → (input : List ℕ) × Consumes (R.remaining reader.old) (R.remaining reader.new) input × AppendsFront (W.contents writer.old) (W.contents writer.new) (text (alone STANDARD (requests input))) }
+    ensures all { OnOk result (IfSome (R.remaining reader.old) (λ input.
+        WritesAll (W.contents writer.old) (W.contents writer.new) (answers_to input))) }
+    ensures read { IsErrOf result fault.Read →
+        HasRead (R.remaining reader.old) (R.remaining reader.new) (λ input.
+        WritesAll (W.contents writer.old) (W.contents writer.new) (answers_to input)) }
+    ensures memory { IsErrOf result fault.Memory →
+        HasRead (R.remaining reader.old) (R.remaining reader.new) (λ input.
+        WritesSome (W.contents writer.old) (W.contents writer.new) (answers_to input)) }
+    ensures write { IsErrOf result fault.Write →
+        HasRead (R.remaining reader.old) (R.remaining reader.new) (λ input.
+        WritesFront (W.contents writer.old) (W.contents writer.new) (answers_to input)) }
 {
     let mut input = Vec::new(alloc);
     match reader.read_to_end(&mut input) {
@@ -88,10 +98,13 @@ fn answer_reader<R: Read, W: Write>(
 }
 
 fn answer_bytes<W: Write>(alloc: Global, bytes: &[u8], writer: &mut W) -> Result<(), SoloFault>
-    ensures all { OnOk result (Appends (W.contents writer.old) (W.contents writer.new) (text (alone STANDARD (requests bytes.now)))) }
+    ensures all { OnOk result
+        (WritesAll (W.contents writer.old) (W.contents writer.new) (answers_to bytes.now)) }
     ensures read { IsErrOf result fault.Read → ⊥ }
-    ensures memory { IsErrOf result fault.Memory → AppendsSome (W.contents writer.old) (W.contents writer.new) (alone STANDARD (requests bytes.now)) }
-    ensures write { IsErrOf result fault.Write → AppendsFront (W.contents writer.old) (W.contents writer.new) (text (alone STANDARD (requests bytes.now))) }
+    ensures memory { IsErrOf result fault.Memory →
+        WritesSome (W.contents writer.old) (W.contents writer.new) (answers_to bytes.now) }
+    ensures write { IsErrOf result fault.Write →
+        WritesFront (W.contents writer.old) (W.contents writer.new) (answers_to bytes.now) }
 {
     let requests = read_requests(alloc, bytes)?;
     let mut answers = Vec::new(alloc);
@@ -106,10 +119,13 @@ fn write_answers<W: Write>(
     answers: &[Answer],
     writer: &mut W,
 ) -> Result<(), SoloFault>
-    ensures all { OnOk result (Appends (W.contents writer.old) (W.contents writer.new) (text answers.now)) }
+    ensures all { OnOk result
+        (WritesAll (W.contents writer.old) (W.contents writer.new) answers.now) }
     ensures read { IsErrOf result fault.Read → ⊥ }
-    ensures memory { IsErrOf result fault.Memory → AppendsSome (W.contents writer.old) (W.contents writer.new) answers.now }
-    ensures write { IsErrOf result fault.Write → AppendsFront (W.contents writer.old) (W.contents writer.new) (text answers.now) }
+    ensures memory { IsErrOf result fault.Memory →
+        WritesSome (W.contents writer.old) (W.contents writer.new) answers.now }
+    ensures write { IsErrOf result fault.Write →
+        WritesFront (W.contents writer.old) (W.contents writer.new) answers.now }
 {
     for answer in answers {
         let said = answer_text(alloc, answer)?;
@@ -123,7 +139,8 @@ fn write<W: Write>(writer: &mut W, bytes: &[u8]) -> Result<(), SoloFault>
     ensures all { OnOk result (Appends (W.contents writer.old) (W.contents writer.new) bytes.now) }
     ensures read { IsErrOf result fault.Read → ⊥ }
     ensures memory { IsErrOf result fault.Memory → ⊥ }
-    ensures write { IsErrOf result fault.Write → AppendsFront (W.contents writer.old) (W.contents writer.new) bytes.now }
+    ensures write { IsErrOf result fault.Write →
+        AppendsFront (W.contents writer.old) (W.contents writer.new) bytes.now }
 {
     let mut rest = bytes;
     for _ in 0..u64::MAX {

@@ -6,7 +6,7 @@ use Rattle.aud_meaning.specs.declared.state.State.{State}
 use Rattle.aud_meaning.specs.Configuration.{Pending}
 use Rattle.aud_meaning.specs.Evaluation.{Sight}
 use Rattle.aud_meaning.specs.Control.{Coming, simply, ending, selecting, calling, starting}
-use Rattle.aud_meaning.specs.Items.{coming_raised}
+use Rattle.aud_meaning.specs.Statements.{coming_raised}
 use Rattle.aud_meaning.specs.Run.{Move, own_move, moves_at, state_at, acting_moves, some_move, seen}
 use Rattle.aud_meaning.specs.Ties.Single.{Stage, Single, runs, completed, terminated, all_of}
 use Rattle.aud_code.specs.declared.line.Ending.TheVariants.{Declare, Null, Assign, Put}

@@ -7,10 +7,10 @@ use Rattle.aud_meaning.specs.declared.state.NextStep.{NextStep}
 use Rattle.aud_meaning.specs.Configuration.{Pending, Own}
 use Rattle.aud_meaning.specs.Evaluation.{Sight}
 use Rattle.aud_meaning.specs.Control.{Coming}
-use Rattle.aud_meaning.specs.Items.{coming_raised}
+use Rattle.aud_meaning.specs.Statements.{coming_raised}
 use Rattle.aud_meaning.specs.Parts.{unit_of}
 use Rattle.aud_meaning.specs.Ties.Single.{Stage, Single, runs, completed, terminated, own_in, all_of, scene_in}
-use Rattle.aud_meaning.specs.View.{coming_kind, coming_step_at}
+use Rattle.aud_meaning.specs.Listings.{coming_kind, coming_step_at}
 use Rattle.aud_code.specs.declared.line.EndLine.{EndLine}
 use Rattle.aud_code.specs.declared.line.Ending.TheVariants.{Declare, Null, Assign, Put}
 use Rattle.aud_code.specs.declared.line.Last.{Last}
@@ -21,7 +21,7 @@ use Rattle.aud_code.specs.Eval.{eval}
 use Rattle.aud_code.specs.Flat.{Flat, flat_controls, instructions_at, end_at, no_scene, coming_last}
 use Rattle.aud_code.specs.Flat as flat
 use Rattle.aud_code.specs.View.{plain_last, plain_end, EndsPlainly}
-use Rattle.aud_single.specs.Next.{kind_of, next_in}
+use Rattle.aud_single.specs.Next.{step_kind, next_in, ComesNext}
 use Rattle.aud_single.proofs.Steps.{no_handler}
 
 module _ (code : Flat) (plain : EndsPlainly code) (q : Single Spot) (l : EndLine) (is_end : plain_end l ≡ end_at code q.control.place) (plan : Plan) (name : List ℕ) where
@@ -32,7 +32,7 @@ module _ (code : Flat) (plain : EndsPlainly code) (q : Single Spot) (l : EndLine
   abbrev kind_in : Stage → Coming → StepKind
   kind_in s x = coming_kind plan (flat_controls plan code).barrier x (own s)
 
-  by_kind : (last : Last) (s : Sight) (x : Ended) → kind_in (runs None) (coming_last plan (plain_last last) s x) ≡ kind_of last
+  by_kind : (last : Last) (s : Sight) (x : Ended) → kind_in (runs None) (coming_last plan (plain_last last) s x) ≡ step_kind last
   by_kind (Does Declare next) s x = refl
   by_kind (Does Null next) s x = refl
   by_kind (Does Assign next) s x = refl
@@ -62,8 +62,6 @@ module _ (code : Flat) (plain : EndsPlainly code) (q : Single Spot) (l : EndLine
   each (completed r) = refl
   each (terminated r) = refl
 
--- what comes next of the main procedure, whatever the name, where the plan has its `end` at this place
-pub comes : (code : Flat) (q : Single Spot) (l : EndLine) (end : Pos) (next : Option NextStep) → EndsPlainly code → plain_end l ≡ end_at code q.control.place → next ≡ next_in l end q.stage →
-    (plan : Plan) → (name : List ℕ) → (unit_of plan 0).end ≡ end → next ≡ coming_step_at plan (flat_controls plan code) 0 (all_of plan name q)
+pub comes : (code : Flat) (q : Single Spot) (l : EndLine) (end : Pos) (next : Option NextStep) → EndsPlainly code → plain_end l ≡ end_at code q.control.place → next ≡ next_in l end q.stage → ComesNext code end 0 q next
 comes code q l end next plain is_end is plan name there =
     is ∙ ap (λ e. next_in l e q.stage) (sym there) ∙ each code plain q l is_end plan name q.stage

@@ -9,7 +9,7 @@ use Rattle.aud_typed.specs.Tree.{Plan}
 use Rattle.aud_meaning.specs.Configuration.{Target, Pending, All}
 use Rattle.aud_meaning.specs.Control.{Scene}
 use Rattle.aud_meaning.specs.Run.{own_move, step_with}
-use Rattle.aud_meaning.specs.Items.{handled_or_left}
+use Rattle.aud_meaning.specs.Statements.{handled_or_left}
 use Rattle.aud_meaning.specs.Effects.{assigned, put_out}
 use Rattle.aud_meaning.specs.Ties.Single.{Stage, Single, runs, completed, terminated, all_of, scene_in}
 use Rattle.aud_meaning.proofs.Single.{declares_step, goes_on_step, assigns_step, puts_step, raises_step, raises_in_part_step, ends_step, left_step}
@@ -25,8 +25,9 @@ use Rattle.aud_code.specs.Flat.{FlatLine, Flat, flat_controls, instructions_at, 
 use Rattle.aud_code.specs.Flat as flat
 use Rattle.aud_code.specs.Sound.{IsStart, IsSound, LastFine, counts_of}
 use Rattle.aud_code.specs.View.{plain_end, plain_last, ways_of}
-use Rattle.aud_expr.specs.Flow.{EndsWith}
-use Rattle.aud_single.specs.Steps.{StepsTo, Stands, StandsIn, does, ends_by, raises_by}
+use Rattle.aud_expr.specs.Flow.{InSight, evaluated_at, EndsWith}
+use Rattle.aud_single.specs.Shown.{main_at}
+use Rattle.aud_single.specs.Steps.{StepsTo, Stands, StandsIn, moved_to, does, ends_by, raises_by}
 
 -- a place where this ending of a step stands
 abbrev EndsAs : Flat → ℕ → EndLine → Type 0
@@ -34,7 +35,7 @@ EndsAs code place l = plain_end l ≡ end_at code place
 
 -- what its evaluation leads to, in every scene that sees the frames
 abbrev LeadsTo : Flat → Single Spot → Ended → Type 0
-LeadsTo code q o = (s : Scene) → s.sight.display ≡ 0 ∷ [] → s.sight.frames ≡ q.frames → o ≡ eval false s (instructions_at code q.control.place) 0 no_operands
+LeadsTo code q o = InSight (0 ∷ []) q.frames (λ s. o ≡ evaluated_at code q.control.place s)
 
 module _ (plan : Plan) (name : List ℕ) (limits : Limits) (code : Flat) (q : Single Spot) where
   abbrev In : Single Spot → All Spot
@@ -137,7 +138,7 @@ fails code q new l behind raise stage alone is_end evaluated all is plan name li
     ap (all_of plan name) (is ∙ ap (λ n. raises_by l.last raise l.at n q) all)
     ∙ subst (λ s. In plan name limits code q (raises_by l.last raise l.at (length code.lines) (record q { stage = s })) ≡ Stepped plan name limits code q (record q { stage = s })) (sym stage) (raised_by plan name limits code q l.last l.at l.out raise is_end evaluated alone)
 
-pub no_handler : (code : Flat) (place : ℕ) (l : EndLine) (x : Exception) → plain_end l ≡ end_at code (end_at code place).out → handler_at code x (record { place = place; returns = [] }) ≡ None
+pub no_handler : (code : Flat) (place : ℕ) (l : EndLine) (x : Exception) → plain_end l ≡ end_at code (end_at code place).out → handler_at code x (main_at place) ≡ None
 no_handler code place l x is_end = sym (ap (λ (e : flat.EndLine). handler_in e.last x) is_end) ∙ by l.last
   where
     by : (last : Last) → handler_in (plain_last last) x ≡ None
@@ -145,7 +146,7 @@ no_handler code place l x is_end = sym (ap (λ (e : flat.EndLine). handler_in e.
     by Guards = refl
     by Ends = refl
 
-pub leaves : (code : Flat) (q new : Single Spot) (p : Pending) (place : ℕ) → q.stage ≡ runs (Some p) → q.control.returns ≡ [] → handler_at code p.exception (record { place = q.control.place; returns = [] }) ≡ None → record { place = place; returns = [] } ≡ left_by code (end_at code q.control.place).out (record { place = q.control.place; returns = [] }) → new ≡ record q { control = goes place q.control; stage = completed (Some p.exception); steps = suc q.steps } → StepsTo code q new
+pub leaves : (code : Flat) (q new : Single Spot) (p : Pending) (place : ℕ) → q.stage ≡ runs (Some p) → q.control.returns ≡ [] → handler_at code p.exception (main_at q.control.place) ≡ None → main_at place ≡ left_by code (end_at code q.control.place).out (main_at q.control.place) → new ≡ record (moved_to place q) { stage = completed (Some p.exception) } → StepsTo code q new
 leaves code q new p place stage alone unhandled landed is plan name limits =
     let asks = ap (λ h. handled_or_left (is_there h) p) unhandled in
     let done = left_step plan name (flat_controls plan code) limits q p asks in
@@ -156,48 +157,48 @@ leaves code q new p place stage alone unhandled landed is plan name limits =
 
 -- The ending that an evaluation reached.
 
-end_none : (lines : List FlatLine) (at n : ℕ) → slice_get lines at ≡ None → end_from (drop at lines) n ≡ no_end n
+end_none : (lines : List FlatLine) (place n : ℕ) → slice_get lines place ≡ None → end_from (drop place lines) n ≡ no_end n
 end_none [] zero n e = refl
-end_none [] (suc at) n e = refl
+end_none [] (suc place) n e = refl
 end_none (x ∷ lines) zero n e = absurd (cc)
-end_none (x ∷ lines) (suc at) n e = end_none lines at n e
+end_none (x ∷ lines) (suc place) n e = end_none lines place n e
 
-end_some : (lines : List FlatLine) (at n : ℕ) (l : flat.EndLine) → slice_get lines at ≡ Some (end l) → end_from (drop at lines) n ≡ l
-end_some [] at n l e = absurd (cc)
+end_some : (lines : List FlatLine) (place n : ℕ) (l : flat.EndLine) → slice_get lines place ≡ Some (end l) → end_from (drop place lines) n ≡ l
+end_some [] place n l e = absurd (cc)
 end_some (x ∷ lines) zero n l e =
     let is : x ≡ end l = cc in
     ap (λ y. end_from (y ∷ lines) n) is
-end_some (x ∷ lines) (suc at) n l e = end_some lines at n l e
+end_some (x ∷ lines) (suc place) n l e = end_some lines place n l e
 
-module _ (code : Flat) (place at : ℕ) (l : EndLine) (is_end : plain_end l ≡ end_at code at) where
-  pub same_end : EndsWith (slice_get code.lines at) (end_at code place) place → plain_end (record l { out = (end_at code place).out }) ≡ end_at code place
-  same_end = by (slice_get code.lines at) refl
+module _ (code : Flat) (first place : ℕ) (l : EndLine) (is_end : plain_end l ≡ end_at code place) where
+  pub same_end : EndsWith (slice_get code.lines place) (end_at code first) first → plain_end (record l { out = (end_at code first).out }) ≡ end_at code first
+  same_end = by (slice_get code.lines place) refl
     where
-      by : (x : Option FlatLine) → slice_get code.lines at ≡ x → EndsWith x (end_at code place) place → plain_end (record l { out = (end_at code place).out }) ≡ end_at code place
+      by : (x : Option FlatLine) → slice_get code.lines place ≡ x → EndsWith x (end_at code first) first → plain_end (record l { out = (end_at code first).out }) ≡ end_at code first
       by None e h =
           ap (λ n. plain_end (record l { out = n })) (ap (λ (x : flat.EndLine). x.out) h)
-          ∙ ap (λ (x : flat.EndLine). record x { out = place }) (is_end ∙ end_none code.lines at at e)
+          ∙ ap (λ (x : flat.EndLine). record x { out = first }) (is_end ∙ end_none code.lines place place e)
           ∙ sym h
       by (Some (instructs i)) e h = absurd h
       by (Some (end x)) e h =
-          let same : plain_end l ≡ end_at code place = is_end ∙ end_some code.lines at at x e ∙ sym h in
+          let same : plain_end l ≡ end_at code first = is_end ∙ end_some code.lines place place x e ∙ sym h in
           ap (λ n. plain_end (record l { out = n })) (sym (ap (λ (y : flat.EndLine). y.out) same)) ∙ same
 
-  pub fits_here : EndsWith (slice_get code.lines at) (end_at code place) place → (o : Operands) → LastFine (end_at code place).last (counts_of o) → LastFine (plain_last l.last) (counts_of o)
+  pub fits_here : EndsWith (slice_get code.lines place) (end_at code first) first → (o : Operands) → LastFine (end_at code first).last (counts_of o) → LastFine (plain_last l.last) (counts_of o)
   fits_here h o fine = subst (λ (e : flat.EndLine). LastFine e.last (counts_of o)) (sym (same_end h)) fine
 
-  pub leads_on : IsSound code → EndsWith (slice_get code.lines at) (end_at code place) place → (e : Ending) (next : ℕ) → l.last ≡ Does e next → IsStart code.lines next
-  leads_on sound = by (slice_get code.lines at) refl
+  pub leads_on : IsSound code → EndsWith (slice_get code.lines place) (end_at code first) first → (e : Ending) (next : ℕ) → l.last ≡ Does e next → IsStart code.lines next
+  leads_on sound = by (slice_get code.lines place) refl
     where
-      by : (x : Option FlatLine) → slice_get code.lines at ≡ x → EndsWith x (end_at code place) place → (e : Ending) (next : ℕ) → l.last ≡ Does e next → IsStart code.lines next
+      by : (x : Option FlatLine) → slice_get code.lines place ≡ x → EndsWith x (end_at code first) first → (e : Ending) (next : ℕ) → l.last ≡ Does e next → IsStart code.lines next
       by None e h ending next is =
-          let last = ap (λ (y : flat.EndLine). y.last) (is_end ∙ end_none code.lines at at e) in
+          let last = ap (λ (y : flat.EndLine). y.last) (is_end ∙ end_none code.lines place place e) in
           let other = ap plain_last is in
           absurd (cc)
       by (Some (instructs i)) e h ending next is = absurd h
       by (Some (end x)) e h ending next is =
-          let ways : x.ways ≡ next ∷ [] = sym (ap (λ (y : flat.EndLine). y.ways) (is_end ∙ end_some code.lines at at x e)) ∙ ap ways_of is in
-          (rw ways at (sound.leads at x e).ways).0
+          let ways : x.ways ≡ next ∷ [] = sym (ap (λ (y : flat.EndLine). y.ways) (is_end ∙ end_some code.lines place place x e)) ∙ ap ways_of is in
+          (rw ways at (sound.leads place x e).ways).0
 
 -- Where it stands afterwards.
 

@@ -1,27 +1,37 @@
 -- What comes next of a program that is its main procedure alone.
-use Rattle.std.specs.Prelude.{Option, Some, None}
+use Rattle.std.specs.Prelude.{◌≡◌, ℕ, Option, Some, None}
 use Rattle.aud_text.specs.declared.place.Pos.{Pos}
 use Rattle.aud_meaning.specs.declared.state.StepKind.{StepKind}
 use Rattle.aud_meaning.specs.declared.state.StepKind.TheVariants as kind
 use Rattle.aud_meaning.specs.declared.state.NextStep.{NextStep}
-use Rattle.aud_meaning.specs.Ties.Single.{Stage, runs, completed, terminated}
+use Rattle.aud_meaning.specs.Parts.{unit_of}
+use Rattle.aud_meaning.specs.Listings.{coming_step_at}
+use Rattle.aud_meaning.specs.Ties.Single.{Stage, Single, runs, completed, terminated, all_of}
+use Rattle.aud_code.specs.Places.{Spot}
+use Rattle.aud_code.specs.Flat.{Flat, flat_controls}
 use Rattle.aud_code.specs.declared.line.EndLine.{EndLine}
 use Rattle.aud_code.specs.declared.line.Ending.TheVariants.{Declare, Null, Assign, Put}
 use Rattle.aud_code.specs.declared.line.Last.{Last}
 use Rattle.aud_code.specs.declared.line.Last.TheVariants.{Does, Guards, Ends}
+use Rattle.aud_single.specs.Shown.{InAnyProgram}
 
 -- the kind of a step, by how it ends
-abbrev pub kind_of : Last → StepKind
-kind_of (Does Declare next) = kind.Declaration
-kind_of (Does Null next) = kind.Null
-kind_of (Does Assign next) = kind.Assign
-kind_of (Does Put next) = kind.Put
-kind_of Guards = kind.Complete
-kind_of Ends = kind.Complete
+abbrev pub step_kind : Last → StepKind
+step_kind (Does Declare next) = kind.Declaration
+step_kind (Does Null next) = kind.Null
+step_kind (Does Assign next) = kind.Assign
+step_kind (Does Put next) = kind.Put
+step_kind Guards = kind.Complete
+step_kind Ends = kind.Complete
 
 -- with the ending at its place, and where the program's `end` stands
 abbrev pub next_in : EndLine → Pos → Stage → Option NextStep
-next_in l end (runs None) = Some (record { kind = kind_of l.last; at = l.at })
+next_in l end (runs None) = Some (record { kind = step_kind l.last; at = l.at })
 next_in l end (runs (Some pending)) = Some (record { kind = kind.Complete; at = pending.at })
 next_in l end (completed raised) = Some (record { kind = kind.Close; at = end })
 next_in l end (terminated raised) = None
+
+-- what comes next of the task of a number, where the program's `end` stands at this place
+abbrev pub ComesNext : Flat → Pos → ℕ → Single Spot → Option NextStep → Type 0
+ComesNext code end task p next =
+    InAnyProgram (λ plan name. (unit_of plan 0).end ≡ end → next ≡ coming_step_at plan (flat_controls plan code) task (all_of plan name p))

@@ -1,20 +1,20 @@
 -- What a run of a program under way does.
-use Rattle.std.specs.Prelude.{◌≡◌, ℕ, ◌+◌, ◌-◌, ◌*◌, ◌^◌, ◌≤◌, min, List, length}
+use Rattle.std.specs.Prelude.{◌≡◌, ℕ, ◌+◌, ◌-◌, ◌*◌, ◌^◌, ◌≤◌, min, length}
 use Rattle.aud_text.specs.declared.limits.Limits.{Limits}
-use Rattle.aud_typed.specs.Tree.{Plan}
 use Rattle.aud_meaning.specs.Run.{run_with}
 use Rattle.aud_meaning.specs.Ties.Single.{Single, all_of}
 use Rattle.aud_code.specs.Places.{Spot}
 use Rattle.aud_code.specs.Flat.{Flat, flat_controls}
 use Rattle.aud_single.specs.declared.run.Ran.{Ran}
+use Rattle.aud_single.specs.Shown.{InAnyProgram}
 use Rattle.aud_single.specs.Moving.{IsIn}
 use Rattle.aud_single.specs.Ticks.{run_ticks}
 
--- from old, so many steps of the code lead to new, and what was done is told
+-- from old, n steps of the code lead to new, and what was done is told
 pub record RunsTo (code : Flat) (n : ℕ) (old new : Single Spot) (ran : Ran) : Type 0 where
-  pub run : (plan : Plan) → (name : List ℕ) → (limits : Limits) → all_of plan name new ≡ run_with plan (flat_controls plan code) limits n (all_of plan name old)
+  pub run : InAnyProgram (λ plan name. (limits : Limits) → all_of plan name new ≡ run_with plan (flat_controls plan code) limits n (all_of plan name old))
   pub steps : ran.steps + old.steps ≡ new.steps
   pub state : IsIn code new ran.state
   -- a counter that stops at its largest number
-  pub ticks : (plan : Plan) → (name : List ℕ) → (limits : Limits) → ran.ticks ≡ min (run_ticks plan code limits n (all_of plan name old)) (2 ^ 64 - 1)
+  pub ticks : InAnyProgram (λ plan name. (limits : Limits) → ran.ticks ≡ min (run_ticks plan code limits n (all_of plan name old)) (2 ^ 64 - 1))
   pub few : ran.ticks ≤ ran.steps * length code.lines

@@ -1,5 +1,5 @@
 -- How many instructions steps take. Each is a tick.
-use Rattle.std.specs.Prelude.{ℕ, zero, suc, ◌+◌, List, [], ◌∷◌, Option, Some, None, false}
+use Rattle.std.specs.Prelude.{ℕ, zero, suc, ◌+◌, List, [], ◌∷◌, Option, Some, None}
 use Rattle.aud_text.specs.declared.limits.Limits.{Limits}
 use Rattle.aud_typed.specs.Tree.{Plan}
 use Rattle.aud_meaning.specs.declared.state.Status.{Status}
@@ -10,9 +10,8 @@ use Rattle.aud_meaning.specs.Run.{Move, moves_at, take_one}
 use Rattle.aud_meaning.specs.Ties.Single.{Stage, Single, runs, completed, terminated}
 use Rattle.aud_meaning.specs.Parts.{facts_in}
 use Rattle.aud_code.specs.Places.{Spot}
-use Rattle.aud_code.specs.Instruction.{no_operands}
-use Rattle.aud_code.specs.Flat.{Flat, instructions_at, flat_controls}
-use Rattle.aud_expr.specs.Ticks.{ticks_of}
+use Rattle.aud_code.specs.Flat.{Flat, flat_controls}
+use Rattle.aud_expr.specs.Ticks.{ticks_at}
 
 -- what the instructions of the main procedure see: they ask nothing of tasks
 abbrev pub scene_at : List Frame → ℕ → Scene
@@ -20,7 +19,7 @@ scene_at frames clock = record { sight = record { display = 0 ∷ []; frames = f
 
 -- a step evaluates, unless an exception is pending or the body has ended
 abbrev pub ticks_pending : Flat → Option Pending → List Frame → ℕ → Spot → ℕ
-ticks_pending code None frames clock t = ticks_of false (scene_at frames clock) (instructions_at code t.place) 0 no_operands
+ticks_pending code None frames clock t = ticks_at code t.place (scene_at frames clock)
 ticks_pending code (Some pending) frames clock t = 0
 
 abbrev pub ticks_by : Flat → Stage → Single Spot → ℕ
@@ -52,7 +51,7 @@ module _ (plan : Plan) (code : Flat) (limits : Limits) where
   moved_ticks others [] c = 0
   moved_ticks others (m ∷ ms) c = ticks_in code c.tasks c + others (take_one plan (flat_controls plan code) limits m ms c)
 
-  -- so many steps, or those until no move is enabled
+  -- n steps, or those until no move is enabled
   abbrev pub run_ticks : ℕ → All Spot → ℕ
   run_ticks zero c = 0
   run_ticks (suc n) c = moved_ticks (run_ticks n) (moves_at plan (flat_controls plan code) c) c

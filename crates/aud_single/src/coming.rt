@@ -1,12 +1,7 @@
 // What comes next of a program that is its main procedure alone.
 
-ghost use Rattle.std.specs.Prelude.{◌≡◌, ℕ, List};
-ghost use Rattle.aud_typed.specs.Tree.{Plan};
-ghost use Rattle.aud_meaning.specs.Parts.{unit_of};
-ghost use Rattle.aud_meaning.specs.Ties.Single.{all_of};
-ghost use Rattle.aud_meaning.specs.View.{coming_step_at};
-ghost use Rattle.aud_code.specs.Flat.{flat_controls};
-ghost use Rattle.aud_single.specs.Next.{kind_of as plain_kind, next_in};
+ghost use Rattle.std.specs.Prelude.{◌≡◌};
+ghost use Rattle.aud_single.specs.Next.{ComesNext, next_in, step_kind};
 
 use crate::progress::{Progress, Stage};
 use aud_code::line::{EndLine, Ending, Last};
@@ -18,10 +13,9 @@ impl Progress {
     /// What comes next of the task of this number, counted from 0, of which there is one; `end` is where the program's
     /// `end` stands.
     pub fn coming(&self, code: &SoundCode, end: Pos, task: usize) -> Option<NextStep>
-        ensures { (plan : Plan) → (name : List ℕ) → (unit_of plan 0).end ≡ end → result ≡ coming_step_at plan (flat_controls plan code.now) task (all_of plan name self.now) }
+        ensures { ComesNext code.now end task self.now result }
     {
-        // code in memory has no handlers
-        let _ = code.len();
+        code.plain_law();
         if task != 0 {
             return None;
         }
@@ -33,7 +27,7 @@ impl Progress {
     {
         match self.stage() {
             Stage::Runs(None) => Some(NextStep {
-                kind: kind_of(ending.last),
+                kind: step_kind(ending.last),
                 at: ending.at,
             }),
             Stage::Runs(Some(pending)) => Some(NextStep {
@@ -49,8 +43,8 @@ impl Progress {
     }
 }
 
-fn kind_of(last: Last) -> StepKind
-    ensures { result ≡ plain_kind last }
+fn step_kind(last: Last) -> StepKind
+    ensures { result ≡ step_kind last }
 {
     match last {
         Last::Does(Ending::Declare, _) => StepKind::Declaration,

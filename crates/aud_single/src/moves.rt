@@ -13,8 +13,7 @@ impl Progress {
         ensures enabled { Enables code.now self.now result }
         ensures one { result ≤ 1 }
     {
-        // code in memory ends no step with more than one move
-        let _ = code.len();
+        code.plain_law();
         self.count()
     }
 
@@ -22,8 +21,7 @@ impl Progress {
     pub fn state(&self, code: &SoundCode) -> State
         ensures { IsIn code.now self.now result }
     {
-        // code in memory ends no step with more than one move
-        let _ = code.len();
+        code.plain_law();
         self.state_now()
     }
 

@@ -1,15 +1,12 @@
 // How far a program is that is its main procedure alone.
 
-ghost use Rattle.std.specs.Prelude.{◌≡◌, ℕ, ◌<◌, ◌≤◌, ◌+◌, suc, List, [], ◌∷◌, ◌++◌, length, OnOk, IfOk, slice_index_or, slice_set};
-ghost use Rattle.aud_meaning.specs.Effects.{assigned, put_out};
-ghost use Rattle.aud_typed.specs.Tree.{Plan};
-ghost use Rattle.aud_meaning.specs.Run.{main_raised, supplied, advanced, opening_with};
+ghost use Rattle.std.specs.Prelude.{◌≡◌, ◌<◌, ◌≤◌, ◌+◌, [], length, OnOk, IfOk};
+ghost use Rattle.aud_meaning.specs.Run.{main_raised, supplied, advanced};
 ghost use Rattle.aud_meaning.specs.Ties.Single.{all_of};
-ghost use Rattle.aud_code.specs.Places.{goes};
-ghost use Rattle.aud_code.specs.Flat.{flat_controls, start_at};
+ghost use Rattle.aud_code.specs.Flat.{start_at};
 ghost use Rattle.aud_code.specs.Sound.{IsStart};
-ghost use Rattle.aud_single.specs.Steps.{Stands};
-ghost use Rattle.aud_single.specs.Shown.{plain_stage, shared_in};
+ghost use Rattle.aud_single.specs.Steps.{Stands, moved_to, declared, stored, written};
+ghost use Rattle.aud_single.specs.Shown.{plain_stage, InAnyProgram, Becomes, IsOpening};
 
 use aud_code::sound_code::SoundCode;
 use aud_expr::target::Target;
@@ -86,23 +83,35 @@ pub struct Progress {
 }
 
 impl Model for Progress {
-    ghost use Rattle.std.specs.Prelude.{ℕ, [], ◌≤◌, length};
+    ghost use Rattle.std.specs.Prelude.{◌≤◌, length};
     ghost use Rattle.aud_text.specs.declared.limits.TheConstants.{CHOICES, CLOCK, OUTPUT, STEPS};
     ghost use Rattle.aud_meaning.specs.Ties.Single.{Single};
     ghost use Rattle.aud_code.specs.Places.{Spot};
-    ghost use Rattle.aud_single.specs.Shown.{plain_stage};
+    ghost use Rattle.aud_single.specs.Shown.{plain_stage, main_at};
 
     ghost Value = { Single Spot };
 
-    ghost view = { λ p. record { control = record { place = p.place; returns = [] }; stage = plain_stage p.stage; elaborated = p.elaborated; frames = p.frames; output = p.output.items; cut = p.cut; choices = p.choices.items; clock = p.clock; steps = p.steps } };
+    ghost view = { λ p. record {
+      control = main_at p.place;
+      stage = plain_stage p.stage;
+      elaborated = p.elaborated;
+      frames = p.frames;
+      output = p.output.items;
+      cut = p.cut;
+      choices = p.choices.items;
+      clock = p.clock;
+      steps = p.steps;
+    } };
 
-    ghost invariant = { λ p. (1 ≤ length p.frames) × (p.elaborated ≤ p.steps) × (length p.output.items ≤ OUTPUT) × (length p.choices.items ≤ CHOICES) × (p.clock ≤ CLOCK) × (p.steps ≤ STEPS) };
+    ghost invariant = { λ p. (1 ≤ length p.frames) × (p.elaborated ≤ p.steps)
+        × (length p.output.items ≤ OUTPUT) × (length p.choices.items ≤ CHOICES)
+        × (p.clock ≤ CLOCK) × (p.steps ≤ STEPS) };
 }
 
 impl Progress {
     /// The main procedure before its first step (RM 10.2).
     pub fn new(code: &SoundCode, alloc: Global) -> Result<Self, AllocError>
-        ensures opening { IfOk result (λ p. (plan : Plan) → (name : List ℕ) → all_of plan name p ≡ opening_with plan name ((flat_controls plan code.now).begins 0)) }
+        ensures opening { IfOk result (λ p. IsOpening code.now p) }
         ensures stands { IfOk result (λ p. Stands code.now.lines p) }
     {
         let mut frames = Frames::new(alloc);
@@ -189,7 +198,8 @@ impl Progress {
 
     /// The exception that left the main procedure.
     pub fn raised(&self) -> Option<Exception>
-        ensures { (plan : Plan) → (name : List ℕ) → result ≡ main_raised (all_of plan name self.now).tasks }
+        ensures { InAnyProgram (λ plan name.
+            result ≡ main_raised (all_of plan name self.now).tasks) }
     {
         match self.stage {
             Stage::Runs(_) => None,
@@ -200,7 +210,7 @@ impl Progress {
     /// Choices, which wait behind those that wait already.
     pub fn choose(&mut self, choices: &[u32]) -> Result<(), AllocError>
         requires { length self.old.choices + length choices.now ≤ CHOICES }
-        ensures supplied { OnOk result ((plan : Plan) → (name : List ℕ) → all_of plan name self.new ≡ supplied choices.now (all_of plan name self.old)) }
+        ensures supplied { OnOk result (Becomes self.old (supplied choices.now) self.new) }
         ensures kept { OnOk result (self.new ≡ record self.old { choices = self.new.choices }) }
     {
         for choice in choices {
@@ -209,10 +219,10 @@ impl Progress {
         Ok(())
     }
 
-    /// So many milliseconds more on the clock.
+    /// `milliseconds` more on the clock.
     pub fn advance(&mut self, milliseconds: u64)
         requires { self.old.clock + milliseconds ≤ CLOCK }
-        ensures advanced { (plan : Plan) → (name : List ℕ) → all_of plan name self.new ≡ advanced milliseconds (all_of plan name self.old) }
+        ensures advanced { Becomes self.old (advanced milliseconds) self.new }
         ensures kept { self.new ≡ record self.old { clock = self.new.clock } }
     {
         self.clock += milliseconds;
@@ -221,7 +231,7 @@ impl Progress {
     /// One step to a place, with which the program is this far.
     pub(crate) fn turn(&mut self, stage: Stage, place: usize)
         requires { self.old.steps < STEPS }
-        ensures { self.new ≡ record self.old { control = goes place self.old.control; stage = plain_stage stage; steps = suc self.old.steps } }
+        ensures { self.new ≡ record (moved_to place self.old) { stage = plain_stage stage } }
     {
         self.stage = stage;
         self.go(place);
@@ -230,7 +240,7 @@ impl Progress {
     /// One step to a place, where nothing else changes.
     pub(crate) fn go(&mut self, place: usize)
         requires { self.old.steps < STEPS }
-        ensures { self.new ≡ record self.old { control = goes place self.old.control; steps = suc self.old.steps } }
+        ensures { self.new ≡ moved_to place self.old }
     {
         self.place = place;
         self.steps += 1;
@@ -239,7 +249,7 @@ impl Progress {
     /// One more variable of the body, and one step to a place (RM 3.3.1).
     pub(crate) fn declare(&mut self, value: Int32, place: usize) -> Result<(), AllocError>
         requires { self.old.steps < STEPS }
-        ensures { OnOk result (self.new ≡ record self.old { control = goes place self.old.control; elaborated = suc self.old.elaborated; frames = slice_set self.old.frames 0 (slice_index_or self.old.frames 0 [] ++ value ∷ []); steps = suc self.old.steps }) }
+        ensures { OnOk result (self.new ≡ declared value (moved_to place self.old)) }
     {
         self.frames.declare(0, value)?;
         self.go(place);
@@ -250,7 +260,7 @@ impl Progress {
     /// Another value of a variable, and one step to a place (RM 5.2).
     pub(crate) fn assign(&mut self, target: Target, value: Int32, place: usize)
         requires { self.old.steps < STEPS }
-        ensures { self.new ≡ record self.old { control = goes place self.old.control; frames = assigned target.frame target.index value self.old.frames; steps = suc self.old.steps } }
+        ensures { self.new ≡ stored target value (moved_to place self.old) }
     {
         let frame = target.frame();
         if frame < self.frames.len() {
@@ -262,7 +272,7 @@ impl Progress {
     /// A text at the end of the output, and one step to a place.
     pub(crate) fn put(&mut self, text: &[u8], place: usize) -> Result<(), AllocError>
         requires { self.old.steps < STEPS }
-        ensures { OnOk result (self.new ≡ record self.old { control = goes place self.old.control; output = (put_out text.now (shared_in self.old)).output; cut = (put_out text.now (shared_in self.old)).cut; steps = suc self.old.steps }) }
+        ensures { OnOk result (self.new ≡ written text.now (moved_to place self.old)) }
     {
         self.append(text)?;
         self.go(place);
@@ -271,7 +281,7 @@ impl Progress {
 
     // A text at the end of the output (RM A.10.7); one that does not fit is cut.
     fn append(&mut self, text: &[u8]) -> Result<(), AllocError>
-        ensures put { OnOk result (self.new ≡ record self.old { output = (put_out text.now (shared_in self.old)).output; cut = (put_out text.now (shared_in self.old)).cut }) }
+        ensures put { OnOk result (self.new ≡ written text.now self.old) }
         ensures steps { self.new.steps ≡ self.old.steps }
     {
         let room = OUTPUT as usize - self.output.len();
@@ -290,7 +300,6 @@ fn first_place(code: &SoundCode) -> usize
     ensures place { result ≡ start_at code.now 0 }
     ensures begins { IsStart code.now.lines result }
 {
-    let _ = code.len();
     match code.starts().first() {
         Some(place) => *place,
         None => code.spare(),

@@ -19,7 +19,7 @@ pub struct Ran {
     pub state: State,
 }
 
-/// So many steps, or until no move is enabled.
+/// `n` steps, or those until no move is enabled.
 pub fn run(
     progress: &mut Progress,
     code: &SoundCode,

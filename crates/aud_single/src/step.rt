@@ -1,12 +1,13 @@
 // The steps of a program that is its main procedure alone.
 
-ghost use Rattle.std.specs.Prelude.{◌≡◌, [], ◌<◌, ◌≤◌, ◌+◌, length, Some, None, OnOk, IfOk};
+ghost use Rattle.std.specs.Prelude.{◌≡◌, ◌<◌, ◌≤◌, ◌+◌, length, Some, None, OnOk, IfOk};
 ghost use Rattle.aud_typed.specs.declared.program.Exception.{Exception as Exceptions};
 ghost use Rattle.aud_meaning.specs.Ties.Single.{runs};
 ghost use Rattle.aud_code.specs.Flat.{end_at, left_by, handler_at};
 ghost use Rattle.aud_code.specs.Sound.{counts_of, LastFine};
 ghost use Rattle.aud_code.specs.View.{plain_last};
 ghost use Rattle.aud_single.specs.Steps.{StepsTo, Stands, ends_by, raises_by};
+ghost use Rattle.aud_single.specs.Shown.{main_at};
 ghost use Rattle.aud_single.specs.Ticks.{step_ticks};
 
 use crate::progress::{Pending, Progress, Stage};
@@ -55,13 +56,13 @@ impl Progress {
         let place = self.place();
         let Evaluation { outcome, ticks } = evaluate(code, place, &[0], self.frames(), operands)?;
         match outcome {
-            Outcome::Reaches(at) => self.end(code.ending(at).last, code.len(), operands)?,
+            Outcome::Reaches(ending) => self.end(code.ending(ending).last, code.len(), operands)?,
             Outcome::Fails(raise) => self.fail(raise, code.ending(place), code.len()),
         }
         Ok(ticks)
     }
 
-    // What the ending of a step does; behind is the place behind all lines.
+    // What the ending of a step does; `behind` is the place behind all lines.
     fn end(&mut self, last: Last, behind: usize, operands: &mut Operands) -> Result<(), AllocError>
         requires fine { LastFine (plain_last last) (counts_of operands.old) }
         requires steps { self.old.steps < STEPS }
@@ -113,8 +114,8 @@ impl Progress {
 
 // Where the end of the construct leads that an exception leaves which is pending at a place.
 fn left(code: &SoundCode, place: usize) -> usize
-    ensures unhandled { (x : Exceptions) → handler_at code.now x (record { place = place; returns = [] }) ≡ None }
-    ensures left { record { place = result; returns = [] } ≡ left_by code.now (end_at code.now place).out (record { place = place; returns = [] }) }
+    ensures unhandled { (x : Exceptions) → handler_at code.now x (main_at place) ≡ None }
+    ensures left { main_at result ≡ left_by code.now (end_at code.now place).out (main_at place) }
 {
     let out = code.ending(place).out;
     let guarded = code.ending(out);

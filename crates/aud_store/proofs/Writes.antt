@@ -7,5 +7,5 @@ use Rattle.std.specs.declared.alloc.Global.{Global}
 pub write_frame : (xs : List (Vec ℤ Global)) (ys : List (List ℤ)) (k : ℕ) (f g : Vec ℤ Global) (to : List ℤ → List ℤ) → map (λ v. v.items) xs ≡ ys → k < length xs → f ≡ get_or xs k f → g.items ≡ to f.items → map (λ v. v.items) (slice_set xs k g) ≡ slice_set ys k (to (get_or ys k []))
 write_frame xs ys k f g to view within read new =
     let items = λ (v : Vec ℤ Global). v.items in
-    let at : f.items ≡ get_or ys k [] = ap items read ∙ sym (get_or-map items xs k f [] within) ∙ ap (λ l. get_or l k []) view in
-    map-set items xs k g ∙ ap (λ l. slice_set l k g.items) view ∙ ap (λ z. slice_set ys k z) (new ∙ ap to at)
+    let same : f.items ≡ get_or ys k [] = ap items read ∙ sym (get_or-map items xs k f [] within) ∙ ap (λ l. get_or l k []) view in
+    map-set items xs k g ∙ ap (λ l. slice_set l k g.items) view ∙ ap (λ z. slice_set ys k z) (new ∙ ap to same)

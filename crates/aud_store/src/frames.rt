@@ -1,6 +1,7 @@
 // The variables of all executions of bodies.
 
-ghost use Rattle.std.specs.Prelude.{◌≡◌, ℕ, ℤ, pos, ◌<◌, List, [], ◌∷◌, ◌++◌, length, map, OnOk, slice_get, slice_index_or, slice_set};
+ghost use Rattle.std.specs.Prelude.{◌≡◌, ℤ, pos, ◌<◌, List, [], ◌∷◌, ◌++◌, length, map, OnOk, slice_get, slice_index_or, slice_set};
+ghost use Rattle.aud_store.specs.Ties.Frames.{with_frame};
 
 use aud_text::int32::Int32;
 use std::alloc::{AllocError, Global};
@@ -66,7 +67,8 @@ impl Frames {
     /// One more variable of a frame, with its initial value.
     pub fn declare(&mut self, frame: usize, value: Int32) -> Result<(), AllocError>
         requires { frame < length self.old }
-        ensures declared { OnOk result (self.new ≡ slice_set self.old frame (slice_index_or self.old frame [] ++ value ∷ [])) }
+        ensures declared { OnOk result (self.new ≡
+            with_frame frame (λ vs. vs ++ value ∷ []) self.old) }
         ensures kept { length self.new ≡ length self.old }
     {
         let variables = &mut self.frames[frame];
@@ -77,7 +79,7 @@ impl Frames {
     /// Another value of a variable; where the frame has none of this number, nothing changes.
     pub fn assign(&mut self, frame: usize, index: usize, value: Int32)
         requires { frame < length self.old }
-        ensures { self.new ≡ slice_set self.old frame (slice_set (slice_index_or self.old frame []) index value) }
+        ensures { self.new ≡ with_frame frame (λ vs. slice_set vs index value) self.old }
     {
         let variables = &mut self.frames[frame];
         if index < variables.len() {

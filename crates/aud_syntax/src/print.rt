@@ -25,7 +25,7 @@ use std::alloc::{AllocError, Global};
 ///
 /// # Errors
 ///
-/// Memory is refused.
+/// Where memory is refused.
 pub fn print(alloc: Global, unit: &Unit) -> Result<Text, AllocError>
     ensures { IfOk result (λ text. text ≡ printed (plain_unit unit.now)) }
 {
@@ -101,7 +101,8 @@ fn push_null(out: &mut Vec<u8>) -> Result<(), AllocError>
 
 // RM 5.2
 fn push_assignment(out: &mut Vec<u8>, target: &Name, value: &Expression) -> Result<(), AllocError>
-    ensures { Writes result out.old out.new (assignment_words (plain_name target.now) (plain_expression value.now)) }
+    ensures { Writes result out.old out.new
+        (assignment_words (plain_name target.now) (plain_expression value.now)) }
 {
     push_name(out, target)?;
     push_word(out, b":=")?;
@@ -118,7 +119,8 @@ fn push_call(out: &mut Vec<u8>, name: &Name) -> Result<(), AllocError>
 }
 
 fn push_declarations(out: &mut Vec<u8>, declarations: &[Declaration]) -> Result<(), AllocError>
-    ensures { Writes result out.old out.new (declarations_words (plain_declarations declarations.now)) }
+    ensures { Writes result out.old out.new
+        (declarations_words (plain_declarations declarations.now)) }
 {
     for next in declarations {
         push_declaration(out, next)?;
@@ -128,7 +130,8 @@ fn push_declarations(out: &mut Vec<u8>, declarations: &[Declaration]) -> Result<
 
 // RM 3.3.1
 fn push_declaration(out: &mut Vec<u8>, declaration: &Declaration) -> Result<(), AllocError>
-    ensures { Writes result out.old out.new (declaration_words (plain_declaration declaration.now)) }
+    ensures { Writes result out.old out.new
+        (declaration_words (plain_declaration declaration.now)) }
 {
     let Declaration::Object(names, subtype, value) = declaration;
     push_object(out, names, subtype, value)
@@ -140,7 +143,8 @@ fn push_object(
     subtype: &Ident,
     value: &Option<Expression>,
 ) -> Result<(), AllocError>
-    ensures { Writes result out.old out.new (object_words names.now.first names.now.others.items subtype.now (plain_maybe value.now)) }
+    ensures { Writes result out.old out.new
+        (object_words names.now.first names.now.others.items subtype.now (plain_maybe value.now)) }
 {
     push_idents(out, names)?;
     push_word(out, b":")?;
@@ -180,7 +184,8 @@ fn push_more_idents(out: &mut Vec<u8>, names: &[Ident]) -> Result<(), AllocError
 
 #[cycle(print)]
 fn push_in_parentheses(out: &mut Vec<u8>, inner: &Expression) -> Result<(), AllocError>
-    ensures { Writes result out.old out.new (in_parentheses (expression_words (plain_expression inner.now))) }
+    ensures { Writes result out.old out.new
+        (in_parentheses (expression_words (plain_expression inner.now))) }
 {
     push_word(out, b"(")?;
     push_expression(out, inner)?;

@@ -12,7 +12,7 @@ ends_there true [] = true
 ends_there true (r ∷ rs) = false
 ends_there false rs = true
 
--- behind so many requests of so many bytes each fits, and none follows a QUIT
+-- behind others, of which there are this many requests and bytes, each fits, and none follows a QUIT
 abbrev pub kept_behind : (requests bytes : ℕ) → List Request → Bool
 kept_behind requests bytes [] = true
 kept_behind requests bytes (r ∷ rs) = fits requests bytes r && (ends_there (is_quit r) rs && kept_behind (requests + 1) (bytes + size r) rs)

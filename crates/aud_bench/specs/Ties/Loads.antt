@@ -7,7 +7,7 @@ use Rattle.aud_bench.specs.declared.request.Answer.{Answer}
 use Rattle.aud_bench.specs.declared.loading.LoadFault.{LoadFault}
 use Rattle.aud_bench.specs.declared.loading.LoadFault.TheVariants.{Memory, Refused}
 
--- the very program or the very refusal; nothing is said where memory runs out
+-- the very program or the very refusal; nothing is said where memory is refused
 abbrev pub Gives : Result tree.Program Answer → Result Program LoadFault → Type 0
 Gives wanted (Ok program) = wanted ≡ Ok (plain_program program)
 Gives wanted (Err Memory) = Unit {0}

@@ -29,10 +29,14 @@ pub record Replies (limits : Limits) (answer : Answer) (machine : Option Shown) 
   pub answer_is : answer ≡ reply.answer
   pub loaded : IsLoaded limits machine reply.loaded
 
--- the program so many steps on
+-- they are those of the reply by what was loaded before
+abbrev pub RepliesAs : (Option Loaded → Reply) → Limits → Option Shown → Answer → Option Shown → Type 0
+RepliesAs reply limits before answer after = (loaded : Option Loaded) → IsLoaded limits before loaded → Replies limits answer after (reply loaded)
+
+-- the program n steps on
 abbrev pub behind_steps : Limits → ℕ → Option Loaded → Option Loaded
-behind_steps limits done None = None
-behind_steps limits done (Some loaded) = Some (record loaded { now = run limits loaded.program done loaded.now })
+behind_steps limits n None = None
+behind_steps limits n (Some loaded) = Some (record loaded { now = run limits loaded.program n loaded.now })
 
 -- what is loaded while the request is under way: a RUN has done a step for each unit
 abbrev pub behind : Limits → Request → ℕ → Option Loaded → Option Loaded
@@ -42,7 +46,7 @@ behind limits request.Output done loaded = loaded
 behind limits request.Quit done loaded = loaded
 behind limits (request.Bad why) done loaded = loaded
 
--- nothing is done yet, or so many steps of the run, none of them the last that it may do
+-- nothing is done yet, or some steps of the run, none of them the last that it may do
 pub record HasRun (limits : Limits) (n done : ℕ) (loaded : Loaded) : Type 0 where
   pub steps : (run limits loaded.program done loaded.now).steps ≡ loaded.now.steps + done
   pub room : (done ≡ 0) ⊎ (done < min n (steps_left loaded.now))
@@ -55,13 +59,13 @@ EachStepped limits request.Output done loaded = Unit {0}
 EachStepped limits request.Quit done loaded = Unit {0}
 EachStepped limits (request.Bad why) done loaded = Unit {0}
 
--- so many units of the request are done, and it is not answered yet; this was loaded before it
+-- some units of the request are done, and it is not answered yet; this was loaded before it
 pub record UnderWay (limits : Limits) (r : Request) (loaded : Option Loaded) (done : ℕ) (machine : Option Shown) : Type 0 where
   pub unanswered : done < (replied limits loaded r).cost
   pub is_behind : IsLoaded limits machine (behind limits r done loaded)
   pub stepped : EachStepped limits r done loaded
 
--- more work on a request of which so many units were done: it is answered, and all that it costs is done; or it goes on, and the units
+-- more work on a request of which some units were done: it is answered, and all that it costs is done; or it goes on, and the units
 -- are used up
 abbrev pub ServesBy : Option Answer → Limits → Request → Option Loaded → (done units cost after : ℕ) → Option Shown → Type 0
 ServesBy (Some answer) limits r loaded done units cost after machine =
@@ -71,3 +75,7 @@ ServesBy None limits r loaded done units cost after machine =
 
 abbrev pub Serves : Limits → Request → Option Loaded → (done units : ℕ) → Served → Option Shown → Type 0
 Serves limits r loaded done units served machine = ServesBy served.answer limits r loaded done units served.cost served.progress machine
+
+-- it is work on the request, whatever was loaded before that
+abbrev pub GoesOn : Limits → Request → (done units : ℕ) → Option Shown → Served → Option Shown → Type 0
+GoesOn limits r done units before served after = (loaded : Option Loaded) → UnderWay limits r loaded done before → Serves limits r loaded done units served after

@@ -19,25 +19,25 @@ abbrev pub answers_to : Limits → Option Loaded → List Request → List Answe
 answers_to limits loaded [] = []
 answers_to limits loaded (r ∷ rs) = (replied limits loaded r).answer ∷ answers_to limits (replied limits loaded r).loaded rs
 
--- the units that the first requests cost, and those that are done of the next one
-abbrev pub units_done : Limits → List Request → (answered progress : ℕ) → ℕ
-units_done limits journal answered progress = cost limits (take answered journal) + progress
+-- the units that the finished requests cost, and those that are done of the next one
+abbrev pub units_done : Limits → List Request → (finished progress : ℕ) → ℕ
+units_done limits journal finished progress = cost limits (take finished journal) + progress
 
--- so many units of the first of these requests are done, and it is not answered yet
+-- some units of the first of these requests are done, and it is not answered yet
 abbrev pub AtFirst : Limits → Option Loaded → List Request → ℕ → Option Shown → Type 0
 AtFirst limits loaded [] progress machine = (progress ≡ 0) × IsLoaded limits machine loaded
 AtFirst limits loaded (r ∷ rs) progress machine = UnderWay limits r loaded progress machine
 
--- what is answered where memory was refused
+-- what is answered where memory is refused
 abbrev pub told : Bool → List Answer
 told false = []
 told true = Refused OutOfMemory ∷ []
 
--- the first requests are answered, and the next one is under way
-pub record IsAt (limits : Limits) (journal : List Request) (answered progress : ℕ) (answers : List Answer) (spent : Bool) (machine : Option Shown) : Type 0 where
-  pub known : answered ≤ length journal
-  pub answers_are : answers ≡ answers_to limits None (take answered journal) ++ told spent
-  -- a machine, which is the one at hand as long as memory was not refused
+-- the first requests are finished, and the next one is under way
+pub record IsAt (limits : Limits) (journal : List Request) (finished progress : ℕ) (answers : List Answer) (spent : Bool) (machine : Option Shown) : Type 0 where
+  pub known : finished ≤ length journal
+  pub answers_are : answers ≡ answers_to limits None (take finished journal) ++ told spent
+  -- a machine, which is the one at hand as long as memory is not refused
   pub shown : Option Shown
   pub at_hand : spent ≡ false → shown ≡ machine
-  pub next : AtFirst limits (loaded_after limits None (take answered journal)) (drop answered journal) progress shown
+  pub next : AtFirst limits (loaded_after limits None (take finished journal)) (drop finished journal) progress shown

@@ -17,13 +17,13 @@ none_of u first all got p q r e = ap (λ o. noted o (faults u)) (sym p) ∙ sym 
 pub returns-in-None : goal.returns-in-None
 returns-in-None c =
     let u : Unit = plain_unit c.args.unit.now in
-    let e : noted None (faults u) ≡ None = none_of u c.new-faults.result c.typed.new.faults c.get.result c.new-faults.ensures c.in_ok-program.ensures.noted c.get.ensures c.in-None.is in
+    let e : noted None (faults u) ≡ None = none_of u c.new-faults.result c.typed.new.faults c.get.result c.new-faults.ensures c.in_ok-program.ensures.0 c.get.ensures c.in-None.is in
     record {
-      answer = judged_fine (faults u) (typed u) e ∙ ap Ok (sym c.in_ok-program.ensures.program);
-      scoped = subst IsScoped (sym c.in_ok-program.ensures.program) (typed_scoped u (none_noted (faults u) e));
+      answer = judged_fine (faults u) (typed u) e ∙ ap Ok (sym c.in_ok-program.ensures.1);
+      scoped = subst IsScoped (sym c.in_ok-program.ensures.1) (typed_scoped u (none_noted (faults u) e));
     }
 
 pub returns-in-Some-clause-answer : goal.returns-in-Some-clause-answer
 returns-in-Some-clause-answer c =
-    let e : noted None (faults (plain_unit c.args.unit.now)) ≡ Some c.in-Some.fault = ap (λ o. noted o (faults (plain_unit c.args.unit.now))) (sym c.new-faults.ensures) ∙ sym c.in_ok-program.ensures.noted ∙ sym c.get.ensures ∙ c.in-Some.is in
+    let e : noted None (faults (plain_unit c.args.unit.now)) ≡ Some c.in-Some.fault = ap (λ o. noted o (faults (plain_unit c.args.unit.now))) (sym c.new-faults.ensures) ∙ sym c.in_ok-program.ensures.0 ∙ sym c.get.ensures ∙ c.in-Some.is in
     judged_wrong (faults (plain_unit c.args.unit.now)) (typed (plain_unit c.args.unit.now)) c.in-Some.fault e

@@ -1,5 +1,7 @@
--- The plain data of a place in memory.
-use Rattle.std.specs.Prelude.{List, [], ◌∷◌, ◌++◌, map, reverse}
+-- The plain data of a place in memory, and of the names of a declaration.
+use Rattle.std.specs.Prelude.{List, [], ◌∷◌, ◌++◌, map, reverse, Option, Some, None}
+use Rattle.aud_syntax.specs.declared.tree.Ident.{Ident}
+use Rattle.aud_syntax.specs.declared.tree.Identifiers.{Identifiers}
 use Rattle.aud_check.specs.declared.names.Region as memory
 use Rattle.aud_check.specs.declared.names.Place as memory_place
 use Rattle.aud_check.specs.Names.{Region, Place, outermost}
@@ -13,3 +15,11 @@ plain_regions rs = map plain_region (reverse rs) ++ outermost
 
 abbrev pub plain_place : memory_place.Place → Place
 plain_place p = record { regions = plain_region p.innermost ∷ plain_regions p.outer.items; hidden = [] }
+
+abbrev pub names_in : Identifiers → List Ident
+names_in x = x.first ∷ x.others.items
+
+-- the names of the declaration that lasts, if there is one
+abbrev pub hidden_names : Option Identifiers → List Ident
+hidden_names None = []
+hidden_names (Some x) = names_in x

@@ -1,19 +1,27 @@
--- What is shown by a check of an expression in memory.
-use Rattle.std.specs.Prelude.{◌≡◌, Option, Result, Ok, Err}
+-- What is shown by a check of an expression or of statements in memory.
+use Rattle.std.specs.Prelude.{◌≡◌, List, Option, Result, Ok, Err}
 use Rattle.std.specs.declared.alloc.AllocError.{AllocError}
-use Rattle.aud_typed.specs.Ties.View.{plain_integer, plain_text}
+use Rattle.aud_typed.specs.declared.program.Statements as sequence
+use Rattle.aud_typed.specs.Ties.View.{plain_integer, plain_text, plain_statement, plain_statements}
 use Rattle.aud_check.specs.declared.fault.Fault.{Fault}
 use Rattle.aud_check.specs.declared.typed.Typed as memory
 use Rattle.aud_check.specs.declared.typed.Typed.TheVariants.{Number, Text, Unknown}
 use Rattle.aud_check.specs.Least.{noted}
 use Rattle.aud_check.specs.Expressions.{Typed, number, string, unknown, Checked}
+use Rattle.aud_check.specs.Statements.{TypedStatements}
 
 abbrev pub plain_typed : memory.Typed → Typed
 plain_typed (Number e) = number (plain_integer e)
 plain_typed (Text t) = string (plain_text t)
 plain_typed Unknown = unknown
 
--- the faults are noted, and the typed expression is what is left; nothing is said where memory is refused
-abbrev pub Shows : Option Fault → Option Fault → Checked → Result memory.Typed AllocError → Type 0
-Shows old new c (Ok t) = (new ≡ noted old c.faults) × (plain_typed t ≡ c.typed)
-Shows old new c (Err e) = Unit {0}
+abbrev pub plain_sequence : sequence.Statements → TypedStatements
+plain_sequence ss = record { first = plain_statement ss.first; others = plain_statements ss.others.items }
+
+-- the faults are noted, and this is what is left; nothing is said where memory is refused
+abbrev pub Leaves : {X Y : Type 0} → (X → Y) → Result X AllocError → Option Fault → Option Fault → List Fault → Y → Type 0
+Leaves plain (Ok x) old new faults left = (new ≡ noted old faults) × (plain x ≡ left)
+Leaves plain (Err e) old new faults left = Unit {0}
+
+abbrev pub Shows : Result memory.Typed AllocError → Option Fault → Option Fault → Checked → Type 0
+Shows result old new c = Leaves plain_typed result old new c.faults c.typed

@@ -6,7 +6,7 @@ use Rattle.aud_typed.specs.Tree.{DelayExpression, BooleanExpression, Part, Alter
 use Rattle.aud_meaning.specs.Configuration.{OpenDelay, Waits}
 use Rattle.aud_meaning.specs.Evaluation.{Sight, with_value, delay_of, decided}
 use Rattle.aud_meaning.specs.Control.{Scene}
-use Rattle.aud_meaning.specs.Items.{if_open, guards_from, delay_expression, timed_from, region_of}
+use Rattle.aud_meaning.specs.Statements.{if_open, guards_from, delay_expression, timed_from, region_of}
 use Rattle.aud_code.specs.Instruction.{Instruction, PassUnlessNext, SetTime, Operands, Ended}
 use Rattle.aud_code.specs.Eval.{on_result, sees, eval, is_next, later}
 use Rattle.aud_gen.specs.Instructions.{delay_code, timed_code, delays_code}

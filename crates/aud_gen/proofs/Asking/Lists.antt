@@ -5,7 +5,7 @@ use Rattle.aud_typed.specs.Tree.{TaskName, ValueExpression, BooleanExpression, A
 use Rattle.aud_meaning.specs.Configuration.{OpenAccept, OpenDelay, Waits}
 use Rattle.aud_meaning.specs.Evaluation.{with_value, task_named, value_of, decided}
 use Rattle.aud_meaning.specs.Control.{Scene}
-use Rattle.aud_meaning.specs.Items.{names_tasks, components, if_open, guards_from, region_of}
+use Rattle.aud_meaning.specs.Statements.{names_tasks, components, if_open, guards_from, region_of}
 use Rattle.aud_code.specs.Instruction.{Instruction, Name, Component, OpensAccept, OpensDelay, OpensTerminate, Operands}
 use Rattle.aud_code.specs.Eval.{on_result, sees, seen_in, opens_accept, opens_delay, opens_terminate}
 use Rattle.aud_gen.specs.Instructions.{task_code, value_code, condition_code, names_code, components_code, guards_code}

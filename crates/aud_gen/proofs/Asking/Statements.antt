@@ -10,7 +10,7 @@ use Rattle.aud_meaning.specs.declared.state.Owner.TheVariants as owner
 use Rattle.aud_meaning.specs.Evaluation.{with_value, evaluated, decided, value_of, delay_of, task_named, number_in, option_target, passed, Passed}
 use Rattle.aud_meaning.specs.Control.{Scene, Asked, Called}
 use Rattle.aud_meaning.specs.Control as asked
-use Rattle.aud_meaning.specs.Items.{or_raises, or_raises_in_part, branch, both, components, names_tasks, called, Entered, entered_with, asked_statement, asked_call}
+use Rattle.aud_meaning.specs.Statements.{or_raises, or_raises_in_part, branch, both, components, names_tasks, called, Entered, entered_with, asked_statement, asked_call}
 use Rattle.aud_code.specs.Instruction.{Instruction, Name, Mark, Ending, DeclareObject, If, While, Loop, Exit, ReturnValue, Proc, OwnCall, Operation, CallTask, CallObject, Delay, Abort, Operands, no_operands, Ended}
 use Rattle.aud_code.specs.Eval.{on_result, eval, form_in, asked_end, raised_by, asked_ended}
 use Rattle.aud_gen.specs.Instructions.{value_code, integer_code, condition_code, delay_code, arguments_code, names_code, components_code, form_kind, called_code, call_code, call_end, entered_code, instructions_of, ending_of}

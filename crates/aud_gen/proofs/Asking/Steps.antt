@@ -8,7 +8,7 @@ use Rattle.aud_meaning.specs.Configuration.{OpenDelay, Waits}
 use Rattle.aud_meaning.specs.Evaluation.{Sight, with_value, decided, task_named}
 use Rattle.aud_meaning.specs.Control.{Scene, Asked}
 use Rattle.aud_meaning.specs.Control as asked
-use Rattle.aud_meaning.specs.Items.{or_raises, has_else, guards_from, delay_expression, timed_from, waits_of, coming_call, open_or_none, task_or_none}
+use Rattle.aud_meaning.specs.Statements.{or_raises, has_else, guards_from, delay_expression, timed_from, waits_of, coming_call, open_or_none, task_or_none}
 use Rattle.aud_code.specs.Instruction.{Name, Mark, Select, Operands, no_operands, Reached, Marked}
 use Rattle.aud_code.specs.Eval.{on_result, eval, asked_ended, coming_end, accepts_in, named_in}
 use Rattle.aud_gen.specs.Instructions.{condition_code, guards_code, delays_code, called_code, call_code, call_end}

@@ -3,7 +3,7 @@ use Rattle.std.proofs.Common.{◌≡◌, ℕ, List, [], ◌∷◌, map, ap, sym,
 use Rattle.aud_typed.specs.Tree.{Program, BooleanExpression}
 use Rattle.aud_meaning.specs.Configuration.{Item}
 use Rattle.aud_meaning.specs.Control.{Controls}
-use Rattle.aud_meaning.specs.Items.{controls}
+use Rattle.aud_meaning.specs.Statements.{controls}
 use Rattle.aud_gen.specs.Layout.{Code, line_at, code_of, code_controls}
 use Rattle.aud_code.specs.Places.{Spot, goes_there, goes_way}
 use Rattle.aud_gen.specs.Layout as layout

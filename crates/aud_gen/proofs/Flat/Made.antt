@@ -2,7 +2,7 @@
 use Rattle.std.proofs.Common.{◌≡◌, ℕ, suc, ◌+◌, List, [], ◌∷◌, ◌++◌, length, true, false, Option, Some, None, refl, sym, subst, append_assoc, append-nil}
 use Rattle.aud_typed.specs.Tree as tree
 use Rattle.aud_typed.specs.Tree.{IntegerExpression, number, variable, element, unary, binary, count, Reference, scalar, component, TaskName, single, indexed, BooleanExpression, truth, stored, negation, relation, comparison, logical, and_then, or_else, callable, terminated, ValueExpression, whole, boolean, TextExpression, literal, image, image_truth, join, new_line, DelayExpression, milliseconds, seconds, Argument, by_value, by_copy, CallForm, plainly, conditionally, timed, Callee, of_task, of_object, Statement, sequence, declare, declare_array, declare_tasks, declare_object, activated, activate, null, assign, put, if_then, plain_loop, while_loop, for_loop, exit, return, return_value, raising, raising_again, block, procedure_call, own_entry_call, operation_call, entry_call, delay, accept, select, abort, Alternatives, no_alternatives, accepting, delaying, terminating}
-use Rattle.aud_meaning.specs.Items.{region_of}
+use Rattle.aud_meaning.specs.Statements.{region_of}
 use Rattle.aud_code.specs.Instruction.{Instruction, LoadElement, OnOne, OnTwo, Check, Cell, Truth, Negate, Relate, Compare, Combine, PassIfFalse, PassIfTrue, IsCallable, IsTerminated, FindElement, LoadFound, Pass, PassCopy, AppendImage, AppendTruth, Name, Seconds, Component, OpensAccept, OpensDelay, OpensTerminate, Mark, SetTime}
 use Rattle.aud_gen.specs.Instructions.{integer_code, loaded_code, reference_code, task_code, condition_code, value_code, text_code, delay_code, into_code, copied_code, arguments_code, form_code, components_code, names_code, guards_code, timed_code, delays_code, called_code, call_code, call_end, entered_code, instructions_of, ending_of}
 use Rattle.aud_code.specs.Sound.{Counts, no_counts, AreFine, EndingFine}

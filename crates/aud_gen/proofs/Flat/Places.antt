@@ -10,7 +10,8 @@ use Rattle.aud_meaning.specs.declared.state.Construct.TheVariants as construct
 use Rattle.aud_meaning.specs.Configuration.{Pending}
 use Rattle.aud_meaning.specs.Evaluation.{Sight, decided}
 use Rattle.aud_meaning.specs.Control.{Scene}
-use Rattle.aud_meaning.specs.Items.{names_it, coming_raised, handled_or_left}
+use Rattle.aud_meaning.specs.Items.{names_it}
+use Rattle.aud_meaning.specs.Statements.{coming_raised, handled_or_left}
 use Rattle.aud_code.specs.Places.{Way, Guard, Spot, goes_there, goes_way, loops_of, guarded, is_there}
 use Rattle.aud_gen.specs.Layout.{What, does, continues, guards, ends, leaves, Code, line_at, handler_by, asked_by, coming_by, start_of}
 use Rattle.aud_gen.specs.Layout as layout

@@ -6,7 +6,8 @@ use Rattle.std.proofs.Common.{◌≡◌, ℕ, List, [], ◌∷◌, Option, Some,
 use Rattle.aud_meaning.specs.Configuration.{Pending, Item}
 use Rattle.aud_meaning.specs.Evaluation.{Sight}
 use Rattle.aud_meaning.specs.Control.{Scene}
-use Rattle.aud_meaning.specs.Items.{body_before, body_of, reached_at, is_some_part, out_from, coming, coming_raised, asks, handled_or_left}
+use Rattle.aud_meaning.specs.Items.{body_before, body_of, reached_at, is_some_part, out_from}
+use Rattle.aud_meaning.specs.Statements.{coming, coming_raised, asks, handled_or_left}
 use Rattle.aud_gen.specs.Layout.{in_call, end_place, unit_code, body_code, Code, line_at, start_of, handler_by, handler_at, coming_at, asked_at}
 use Rattle.aud_code.specs.Places.{Spot, is_there, loops_of}
 use Rattle.aud_gen.specs.Shows.{HasAt, Callers, Stands, ShowsControl}

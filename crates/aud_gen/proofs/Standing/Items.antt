@@ -7,7 +7,8 @@ use Rattle.aud_meaning.specs.declared.state.Construct.TheVariants as construct
 use Rattle.aud_meaning.specs.Configuration.{Item, Do, InLoop, InFor, Begin, Ends, Leaving}
 use Rattle.aud_meaning.specs.Evaluation.{Sight}
 use Rattle.aud_meaning.specs.Control.{Scene, next_of_loop}
-use Rattle.aud_meaning.specs.Items.{entered, resumed, doing_by, ended, takes, takes_next, accepts, accepts_by, accepts_offer, offer_at, place, nowhere, next_at, loops_out, out_from, asked_statement, next_asked, asked_item, coming_item}
+use Rattle.aud_meaning.specs.Items.{entered, resumed, doing_by, ended, takes, takes_next, accepts, accepts_by, accepts_offer, offer_at, place, nowhere, next_at, loops_out, out_from}
+use Rattle.aud_meaning.specs.Statements.{asked_statement, next_asked, asked_item, coming_item}
 use Rattle.aud_gen.specs.Layout.{continues, asked_by, coming_by, Line, Around, in_for, ways_count, offered_size, end_line, statement_code, part_code, offered_code, Code, line_at, back_to, ended_by}
 use Rattle.aud_code.specs.Places.{Way}
 use Rattle.aud_gen.specs.Shows.{HasAt, IsStep, IsSettled, IsFor, Callers, EndsAt, Stands, ShowsControl}

@@ -1,6 +1,6 @@
 -- What orders do: wherever a task stands, its place in code and what it has left to do stay together.
 use Rattle.std.proofs.Common.{◌≡◌, ℕ, zero, suc, ◌+◌, List, [], ◌∷◌, ◌++◌, refl, sym, ap, subst, slice_get}
-use Rattle.aud_typed.specs.Tree.{Statement, sequence, declare, declare_array, declare_tasks, declare_object, activated, activate, null, assign, put, if_then, plain_loop, while_loop, for_loop, exit, return, return_value, raising, raising_again, block, procedure_call, own_entry_call, operation_call, entry_call, delay, accept, select, abort, Body, body, Alternatives, no_alternatives, accepting, delaying, terminating}
+use Rattle.aud_typed.specs.Tree.{Statement, sequence, declare, declare_array, declare_tasks, declare_object, activated, activate, null, assign, put, if_then, plain_loop, while_loop, for_loop, exit, return, return_value, raising, raising_again, block, procedure_call, own_entry_call, operation_call, entry_call, delay, accept, select, abort, Body, body, Doing, Part, Alternatives, no_alternatives, accepting, delaying, terminating}
 use Rattle.aud_meaning.specs.declared.state.Construct.TheVariants as construct
 use Rattle.aud_meaning.specs.Configuration.{Item, Do, InLoop, InFor}
 use Rattle.aud_meaning.specs.Items.{before, body_before, takes_by, follows, one_part, accepts_offer, part_in, offer_at, place}
@@ -39,28 +39,30 @@ module _ (code : Code) where
     one_way s around place next rest is has st zero = resumes code returns rest around next st
     one_way s around place next rest is has st (suc n) = record { around = around; stands = (next, has, st); settled = is }
 
+    -- behind what an accept does stands what follows it, and behind that the other alternatives
+    behind_do : (d : Doing) (p : Part) (more : Alternatives) (around : Around) (at next : ℕ) → let after = at + doing_size d in HasAt code.lines at (doing_code d at (part_place p after next) around.out ++ (part_code p after next around ++ offered_code more (after + part_size p (ways_count around)) next around)) → HasAt code.lines after (part_code p after next around ++ offered_code more (after + part_size p (ways_count around)) next around)
+    behind_do d p more around at next has =
+        let after = at + doing_size d in
+        has_back code.lines at (doing_size d) (doing_code d at (part_place p after next) around.out) (part_code p after next around ++ offered_code more (after + part_size p (ways_count around)) next around) (length-doing d at (part_place p after next) around.out) has
+
+    part_has : (p : Part) (more : Alternatives) (around : Around) (at next : ℕ) → let later = at + part_size p (ways_count around) in HasAt code.lines at (part_code p at next around ++ offered_code more later next around) → HasAt code.lines at (part_code p at next around)
+    part_has p more around at next has = has_front code.lines at (part_code p at next around) (offered_code more (at + part_size p (ways_count around)) next around) has
+
+    behind_part : (p : Part) (more : Alternatives) (around : Around) (at next : ℕ) → let later = at + part_size p (ways_count around) in HasAt code.lines at (part_code p at next around ++ offered_code more later next around) → HasAt code.lines later (offered_code more later next around)
+    behind_part p more around at next has = has_back code.lines at (part_size p (ways_count around)) (part_code p at next around) (offered_code more (at + part_size p (ways_count around)) next around) (length-part p at next around) has
+
     -- what follows the alternatives of a selective accept
     pub offers : (offered : Alternatives) (s : Statement) (around : Around) (place at next : ℕ) (rest : List Item) → ShowsControl code (at_place code place returns) (Do s ∷ rest) → HasAt code.lines at (offered_code offered at next around) → Stands code around next returns rest → (n : ℕ) → Leads place (parts_from offered at next (ways_count around)) n (follows (part_in (offer_at offered n)) s rest)
     offers no_alternatives s around place at next rest all has st n = all
     offers (accepting g pos m d p more) s around place at next rest all has st zero =
         let after = at + doing_size d in
-        let cd = doing_code d at (part_place p after next) around.out in
-        let cp = part_code p after next around in
-        let cm = offered_code more (after + part_size p (ways_count around)) next around in
-        part_stands code returns p around after next rest (has_front code.lines after cp cm (has_back code.lines at (doing_size d) cd (cp ++ cm) (length-doing d at (part_place p after next) around.out) has)) st
+        part_stands code returns p around after next rest (part_has p more around after next (behind_do d p more around at next has)) st
     offers (accepting g pos m d p more) s around place at next rest all has st (suc n) =
         let after = at + doing_size d in
-        let later = after + part_size p (ways_count around) in
-        let cd = doing_code d at (part_place p after next) around.out in
-        let cp = part_code p after next around in
-        let cm = offered_code more later next around in
-        let has' = has_back code.lines at (doing_size d) cd (cp ++ cm) (length-doing d at (part_place p after next) around.out) has in
-        offers more s around place later next rest all (has_back code.lines after (part_size p (ways_count around)) cp cm (length-part p after next around) has') st n
-    offers (delaying g x p more) s around place at next rest all has st zero =
-        part_stands code returns p around at next rest (has_front code.lines at (part_code p at next around) (offered_code more (at + part_size p (ways_count around)) next around) has) st
+        offers more s around place (after + part_size p (ways_count around)) next rest all (behind_part p more around after next (behind_do d p more around at next has)) st n
+    offers (delaying g x p more) s around place at next rest all has st zero = part_stands code returns p around at next rest (part_has p more around at next has) st
     offers (delaying g x p more) s around place at next rest all has st (suc n) =
-        let later = at + part_size p (ways_count around) in
-        offers more s around place later next rest all (has_back code.lines at (part_size p (ways_count around)) (part_code p at next around) (offered_code more later next around) (length-part p at next around) has) st n
+        offers more s around place (at + part_size p (ways_count around)) next rest all (behind_part p more around at next has) st n
     offers (terminating g more) s around place at next rest all has st zero = resumes code returns rest around next st
     offers (terminating g more) s around place at next rest all has st (suc n) = offers more s around place at next rest all has st n
 
@@ -70,23 +72,15 @@ module _ (code : Code) where
     offers_do (accepting g pos m d p more) s around place at next rest all has st zero =
         let after = at + doing_size d in
         let cd = doing_code d at (part_place p after next) around.out in
-        let cp = part_code p after next around in
-        let cm = offered_code more (after + part_size p (ways_count around)) next around in
-        let part = has_front code.lines after cp cm (has_back code.lines at (doing_size d) cd (cp ++ cm) (length-doing d at (part_place p after next) around.out) has) in
-        doing_stands code returns d around at (part_place p after next) (before p rest) (has_front code.lines at cd (cp ++ cm) has) (before_stands code returns p around after next rest part st)
+        let behind = part_code p after next around ++ offered_code more (after + part_size p (ways_count around)) next around in
+        let part = part_has p more around after next (behind_do d p more around at next has) in
+        doing_stands code returns d around at (part_place p after next) (before p rest) (has_front code.lines at cd behind has) (before_stands code returns p around after next rest part st)
     offers_do (accepting g pos m d p more) s around place at next rest all has st (suc n) =
         let after = at + doing_size d in
-        let later = after + part_size p (ways_count around) in
-        let cd = doing_code d at (part_place p after next) around.out in
-        let cp = part_code p after next around in
-        let cm = offered_code more later next around in
-        let has' = has_back code.lines at (doing_size d) cd (cp ++ cm) (length-doing d at (part_place p after next) around.out) has in
-        offers_do more s around place later next rest all (has_back code.lines after (part_size p (ways_count around)) cp cm (length-part p after next around) has') st n
-    offers_do (delaying g x p more) s around place at next rest all has st zero =
-        part_stands code returns p around at next rest (has_front code.lines at (part_code p at next around) (offered_code more (at + part_size p (ways_count around)) next around) has) st
+        offers_do more s around place (after + part_size p (ways_count around)) next rest all (behind_part p more around after next (behind_do d p more around at next has)) st n
+    offers_do (delaying g x p more) s around place at next rest all has st zero = part_stands code returns p around at next rest (part_has p more around at next has) st
     offers_do (delaying g x p more) s around place at next rest all has st (suc n) =
-        let later = at + part_size p (ways_count around) in
-        offers_do more s around place later next rest all (has_back code.lines at (part_size p (ways_count around)) (part_code p at next around) (offered_code more later next around) (length-part p at next around) has) st n
+        offers_do more s around place (at + part_size p (ways_count around)) next rest all (behind_part p more around at next has) st n
     offers_do (terminating g more) s around place at next rest all has st zero = resumes code returns rest around next st
     offers_do (terminating g more) s around place at next rest all has st (suc n) = offers_do more s around place at next rest all has st n
 

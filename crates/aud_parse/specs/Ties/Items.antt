@@ -1,8 +1,9 @@
 -- Trees in memory, as items of the reading.
-use Rattle.std.specs.Prelude.{List, [], ◌∷◌, Option, Some, None, Box}
+use Rattle.std.specs.Prelude.{List, [], ◌∷◌, Option, Some, None, Box, Vec}
 use Rattle.std.specs.Global.{Global}
 use Rattle.aud_text.specs.declared.place.Pos.{Pos}
 use Rattle.aud_syntax.specs.declared.tree.Ident.{Ident}
+use Rattle.aud_syntax.specs.declared.tree.Identifiers.{Identifiers}
 use Rattle.aud_syntax.specs.declared.tree.Primary.{Primary}
 use Rattle.aud_syntax.specs.declared.tree.Factor.{Factor}
 use Rattle.aud_syntax.specs.declared.tree.Multiplied.{Multiplied}
@@ -13,14 +14,18 @@ use Rattle.aud_syntax.specs.declared.tree.Expression.{Expression}
 use Rattle.aud_syntax.specs.declared.tree.Name.{Name}
 use Rattle.aud_syntax.specs.declared.tree.Declaration.{Declaration}
 use Rattle.aud_syntax.specs.declared.tree.Statement.{Statement}
+use Rattle.aud_syntax.specs.declared.tree.Statements.{Statements}
 use Rattle.aud_syntax.specs.declared.tree.Body.{Body}
 use Rattle.aud_syntax.specs.declared.tree.Unit as declared
-use Rattle.aud_syntax.specs.Ties.View.{plain_expression, plain_boxed, plain_expressions, plain_name, plain_primary, plain_factor, plain_multiplied, plain_term, plain_added, plain_simple, plain_declaration, plain_statement, plain_body, plain_unit}
-use Rattle.aud_parse.specs.Actions.{Item, none, cons, in_parens, an_attribute, some_args, a_name, a_primary, a_factor, a_multiplied, a_term, an_added, a_simple, an_expression, assigned, called, a_declaration, a_statement, a_body, a_unit}
+use Rattle.aud_syntax.specs.Ties.View.{plain_expression, plain_boxed, plain_expressions, plain_name, plain_primary, plain_factor, plain_multiplied, plain_term, plain_added, plain_simple, plain_declaration, plain_statement, plain_statements, plain_body, plain_unit}
+use Rattle.aud_parse.specs.Actions.{Item, none, cons, in_parens, an_attribute, some_args, a_name, a_primary, a_factor, a_multiplied, a_term, an_added, a_simple, an_expression, assigned, called, some_names, a_declaration, a_statement, some_statements, a_body, a_unit}
 
 abbrev pub list_item : {X : Type 0} → (X → Item) → List X → Item
 list_item f [] = none
 list_item f (x ∷ xs) = cons (f x) (list_item f xs)
+
+abbrev pub vec_item : {X : Type 0} → (X → Item) → Vec X Global → Item
+vec_item f v = list_item f v.items
 
 abbrev pub opt_item : {X : Type 0} → (X → Item) → Option X → Item
 opt_item f None = none
@@ -35,8 +40,8 @@ attribute_item x = an_attribute x.0 (plain_boxed x.1)
 abbrev pub name_item : Name → Item
 name_item x = a_name (plain_name x)
 
-abbrev pub args_item : List Expression → Item
-args_item xs = some_args (plain_expressions xs)
+abbrev pub args_item : Vec Expression Global → Item
+args_item v = some_args (plain_expressions v.items)
 
 abbrev pub primary_item : Primary → Item
 primary_item x = a_primary (plain_primary x)
@@ -65,14 +70,20 @@ boxed_item x = expression_item x.value
 abbrev pub assigned_item : Expression → Item
 assigned_item x = assigned (plain_expression x)
 
-abbrev pub called_item : List Expression → Item
-called_item xs = called (plain_expressions xs)
+abbrev pub called_item : Vec Expression Global → Item
+called_item v = called (plain_expressions v.items)
+
+abbrev pub names_item : Identifiers → Item
+names_item x = some_names x.first x.others.items
 
 abbrev pub declaration_item : Declaration → Item
 declaration_item x = a_declaration (plain_declaration x)
 
 abbrev pub statement_item : Statement → Item
 statement_item x = a_statement (plain_statement x)
+
+abbrev pub statements_item : Statements → Item
+statements_item x = some_statements (plain_statements x)
 
 abbrev pub body_item : Body → Item
 body_item x = a_body (plain_body x)

@@ -8,7 +8,7 @@ use Rattle.aud_parse.specs.First.{among, next_in, is_word, next_word, firsts}
 use Rattle.aud_parse.specs.Actions.{Item, token, none, listed, made}
 use Rattle.aud_parse.specs.Parsed.{Verdict, Good, Wrong, Deep}
 
--- Out s room tokens items verdict: reading the tokens by the symbols, with room for so many levels, makes these items and ends so
+-- Out s r tokens items verdict: reading the tokens by the symbols, with room for r levels, makes these items and ends so
 pub data Out : List Symbol → ℕ → List Element → List Item → Verdict → Type 0 where
   o_end : {r : ℕ} → Out [] r [] [] Good
   o_rest : {r : ℕ} {t : Element} {ts : List Element} → Out [] r (t ∷ ts) [] (Wrong (t ∷ ts))

@@ -1,5 +1,5 @@
 -- What a function of the parser promises.
-use Rattle.std.specs.Prelude.{◌≡◌, ℕ, ◌+◌, List, [], ◌∷◌, Bool, true, false, if◌then◌else◌, Option, Some, None, Result, Ok, Err}
+use Rattle.std.specs.Prelude.{◌≡◌, ℕ, ◌+◌, ◌<◌, ◌≤◌, List, [], ◌∷◌, length, Bool, true, false, if◌then◌else◌, Option, Some, None, Result, Ok, Err, IfOk, IfSome}
 use Rattle.std.specs.Borrow.{Bor}
 use Rattle.aud_lex.specs.Element.{Element}
 use Rattle.aud_lex.specs.declared.token.Kind.{Kind}
@@ -20,38 +20,87 @@ Fails s r ts v = (ds : List Item) × Out s r ts ds v
 abbrev pub Passes : Symbol → ℕ → List Element → (List Item → List Item) → ℕ → List Element → Type 0
 Passes s r ts f r' ts' = (k : List Symbol) (ds : List Item) (v : Verdict) → Out k r' ts' ds v → Out (s ∷ k) r ts (f ds) v
 
--- reading by the symbol fails so, whatever symbols follow; want of memory says nothing
+-- reading by the symbol fails so, whatever symbols follow; where memory is refused, nothing is said
 abbrev pub FailsAt : Symbol → ℕ → List Element → Fault → Type 0
 FailsAt s r ts fault.Memory = Unit {0}
 FailsAt s r ts (fault.Wrong rest) = (k : List Symbol) → Fails (s ∷ k) r ts (Wrong rest.tokens.now)
 FailsAt s r ts (fault.Deep rest) = (k : List Symbol) → Fails (s ∷ k) r ts (Deep rest.tokens.now)
 
--- a tree and the tokens after it
-abbrev pub Reads : {X : Type 0} → (X → Item) → Symbol → ℕ → List Element → Result (X × Rest) Fault → Type 0
-Reads f s r ts (Ok p) = Passes s r ts (λ ds. f p.0 ∷ ds) r p.1.tokens.now
-Reads f s r ts (Err e) = FailsAt s r ts e
+-- a tree is read by the symbol, or reading fails
+abbrev pub Comes : {X : Type 0} → (X → Item) → Symbol → ℕ → Rest → Result (X × Rest) Fault → Type 0
+Comes f s room start (Ok p) = Passes s room start.tokens.now (λ ds. f p.0 ∷ ds) room p.1.tokens.now
+Comes f s room start (Err e) = FailsAt s room start.tokens.now e
 
--- the tokens after a word
-abbrev pub ReadsWord : Kind → List Element → Result Rest Fault → Type 0
-ReadsWord c ts (Ok p) = (r : ℕ) → Passes (T c) r ts (λ ds. ds) r p.tokens.now
-ReadsWord c ts (Err e) = (r : ℕ) → FailsAt (T c) r ts e
+-- one token at least is passed; or none need be
+abbrev pub Fewer : Rest → Rest → Type 0
+Fewer rest start = length rest.tokens.now < length start.tokens.now
+
+abbrev pub NoMore : Rest → Rest → Type 0
+NoMore rest start = length rest.tokens.now ≤ length start.tokens.now
+
+-- a tree is read with room for this number of levels, and the tokens after it are as few as Left says
+pub record Reading {X : Type 0} (Left : Rest → Rest → Type 0) (f : X → Item) (s : Symbol) (room : ℕ) (start : Rest) (result : Result (X × Rest) Fault) : Type 0 where
+  pub reads : Comes f s room start result
+  pub shorter : IfOk result (λ p. Left p.1 start)
+
+abbrev pub Reads : {X : Type 0} → (X → Item) → Symbol → ℕ → Rest → Result (X × Rest) Fault → Type 0
+Reads f s room start result = Reading Fewer f s room start result
+
+abbrev pub MayRead : {X : Type 0} → (X → Item) → Symbol → ℕ → Rest → Result (X × Rest) Fault → Type 0
+MayRead f s room start result = Reading NoMore f s room start result
+
+-- the same of what opens no level, with any room
+pub record FlatReading {X : Type 0} (Left : Rest → Rest → Type 0) (f : X → Item) (s : Symbol) (start : Rest) (result : Result (X × Rest) Fault) : Type 0 where
+  pub reads : (room : ℕ) → Comes f s room start result
+  pub shorter : IfOk result (λ p. Left p.1 start)
+
+abbrev pub ReadsFlat : {X : Type 0} → (X → Item) → Symbol → Rest → Result (X × Rest) Fault → Type 0
+ReadsFlat f s start result = FlatReading Fewer f s start result
+
+abbrev pub MayReadFlat : {X : Type 0} → (X → Item) → Symbol → Rest → Result (X × Rest) Fault → Type 0
+MayReadFlat f s start result = FlatReading NoMore f s start result
 
 -- a token of this kind, and the tokens after it
-abbrev pub ReadsToken : Kind → List Element → Result (Bor Element × Rest) Fault → Type 0
-ReadsToken c ts (Ok p) = (r : ℕ) → Passes (P c) r ts (λ ds. token p.0.now ∷ ds) r p.1.tokens.now
-ReadsToken c ts (Err e) = (r : ℕ) → FailsAt (P c) r ts e
+abbrev pub ReadsToken : Kind → Rest → Result (Bor Element × Rest) Fault → Type 0
+ReadsToken c start result = ReadsFlat (λ t. token t.now) (P c) start result
+
+-- a word is passed, or reading fails
+abbrev pub ComesBehind : Kind → Rest → Result Rest Fault → Type 0
+ComesBehind c start (Ok rest) = (room : ℕ) → Passes (T c) room start.tokens.now (λ ds. ds) room rest.tokens.now
+ComesBehind c start (Err e) = (room : ℕ) → FailsAt (T c) room start.tokens.now e
+
+-- the tokens after a word
+pub record ReadsWord (c : Kind) (start : Rest) (result : Result Rest Fault) : Type 0 where
+  pub reads : ComesBehind c start result
+  pub shorter : IfOk result (λ rest. Fewer rest start)
+
+-- the next token is of this kind, or of another
+abbrev pub NextIs : Kind → Rest → Option (Bor Element × Rest) → Type 0
+NextIs c start None = next_in (c ∷ []) start.tokens.now ≡ false
+NextIs c start (Some p) = (next_in (c ∷ []) start.tokens.now ≡ true) × (start.tokens.now ≡ p.0.now ∷ p.1.tokens.now)
 
 -- the next token, if it is of this kind, and the tokens after it
-abbrev pub Accepts : Kind → List Element → Option (Bor Element × Rest) → Type 0
-Accepts c ts None = next_in (c ∷ []) ts ≡ false
-Accepts c ts (Some p) = (next_in (c ∷ []) ts ≡ true) × (ts ≡ p.0.now ∷ p.1.tokens.now)
+pub record Accepts (c : Kind) (start : Rest) (result : Option (Bor Element × Rest)) : Type 0 where
+  pub reads : NextIs c start result
+  pub shorter : IfSome result (λ p. Fewer p.1 start)
+
+-- the next token begins the phrase, of which a tree is read, or it does not
+abbrev pub Taken : {X : Type 0} → (X → Item) → Phrase → Rest → Option (X × Rest) → Type 0
+Taken f p start None = next_in (firsts p) start.tokens.now ≡ false
+Taken f p start (Some x) =
+    (next_in (firsts p) start.tokens.now ≡ true) × ((room : ℕ) → Passes (N p) room start.tokens.now (λ ds. f x.0 ∷ ds) room x.1.tokens.now)
 
 -- a tree, if the next token begins the phrase, and the tokens after it
-abbrev pub Takes : {X : Type 0} → (X → Item) → Phrase → List Element → Option (X × Rest) → Type 0
-Takes f p ts None = next_in (firsts p) ts ≡ false
-Takes f p ts (Some x) = (next_in (firsts p) ts ≡ true) × ((r : ℕ) → Passes (N p) r ts (λ ds. f x.0 ∷ ds) r x.1.tokens.now)
+pub record Takes {X : Type 0} (f : X → Item) (p : Phrase) (start : Rest) (result : Option (X × Rest)) : Type 0 where
+  pub reads : Taken f p start result
+  pub shorter : IfSome result (λ x. Fewer x.1 start)
 
--- one more level is opened, and so many are left in it; or none is left, and the token is at fault
+-- what is there of a symbol that needs no token, and the tokens after it
+pub record TakesAny {X : Type 0} (f : X → Item) (s : Symbol) (start : Rest) (result : X × Rest) : Type 0 where
+  pub reads : (room : ℕ) → Passes s room start.tokens.now (λ ds. f result.0 ∷ ds) room result.1.tokens.now
+  pub shorter : NoMore result.1 start
+
+-- one more level is opened, which leaves room for this number in it; or there is no room, and the token is at fault
 abbrev pub Deepens : ℕ → Bool → Rest → Result ℕ Fault → Type 0
 Deepens room begins start (Ok inside) = room ≡ inside + 1
 Deepens room begins start (Err e) = (room ≡ 0) × (e ≡ (if begins then fault.Deep start else fault.Wrong start))

@@ -8,7 +8,7 @@ use Rattle.aud_parse.specs.Grammar.{Word, Phrase, Symbol, T, P, W, N, L, Down, A
 use Rattle.aud_parse.specs.First.{among, is_word}
 use Rattle.aud_parse.specs.Why.Derives.{Member}
 
--- Begun s room tokens: the symbols derive the tokens so far, with room for so many levels. The rules are those of Derives, and one may stop anywhere
+-- Begun s r tokens: the symbols derive the tokens so far, with room for r levels. The rules are those of Derives, and one may stop anywhere
 pub data Begun : List Symbol → ℕ → List Element → Type 0 where
   b_stop : {s : List Symbol} {r : ℕ} → Begun s r []
   b_word : {c : Kind} {k : List Symbol} {r : ℕ} {t : Element} {ts : List Element} →
@@ -34,6 +34,6 @@ pub data Begun : List Symbol → ℕ → List Element → Type 0 where
   b_last : {p : Phrase} {k : List Symbol} {r : ℕ} {ts : List Element} →
       Begun k r ts → Begun (Rep p ∷ k) r ts
 
--- the tokens begin a program in which no more than so many levels have been open at once
+-- the tokens begin a program in which no more than n levels have been open at once
 abbrev pub Within : ℕ → List Element → Type 0
 Within n front = Begun (N g.Unit ∷ []) n front

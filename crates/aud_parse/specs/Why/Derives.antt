@@ -12,7 +12,7 @@ pub data Member (p : Phrase) : List Phrase → Type 0 where
   here : {ps : List Phrase} → Member p (p ∷ ps)
   later : {q : Phrase} {ps : List Phrase} → Member p ps → Member p (q ∷ ps)
 
--- Derives s room items tokens: the symbols derive the tokens, which make these items, with room for so many levels
+-- Derives s r items tokens: the symbols derive the tokens, which make these items, with room for r levels
 pub data Derives : List Symbol → ℕ → List Item → List Element → Type 0 where
   d_end : {r : ℕ} → Derives [] r [] []
   d_word : {c : Kind} {k : List Symbol} {r : ℕ} {ds : List Item} {t : Element} {ts : List Element} →
@@ -38,7 +38,7 @@ pub data Derives : List Symbol → ℕ → List Item → List Element → Type 0
   d_stop : {p : Phrase} {k : List Symbol} {r : ℕ} {ds : List Item} {ts : List Element} →
       Derives k r ds ts → Derives (Rep p ∷ k) r (none ∷ ds) ts
 
--- some tokens that the phrase derives begin with these, with room for so many levels
+-- some tokens that the phrase derives begin with these, with room for r levels
 abbrev pub Begins : Phrase → ℕ → List Element → Type 0
 Begins p r front = (ds : List Item) × (rest : List Element) × Derives (N p ∷ []) r ds (front ++ rest)
 

@@ -6,6 +6,7 @@ use Rattle.aud_lex.specs.Lexed.{lexed}
 use Rattle.aud_syntax.specs.declared.tree.Adding.TheVariants.{Plus, Minus, Join}
 use Rattle.aud_syntax.specs.declared.tree.Multiplying.TheVariants.{Times, Divide, Modulo, Remainder}
 use Rattle.aud_syntax.specs.Plain.{Expression, added, multiplied, Primary, attribute, group, no_expression, an_expression, Declaration, object, Statement, null, assign, Body, body, Unit, unit}
+use Rattle.aud_syntax.specs.Plain as m
 use Rattle.aud_parse.specs.Grammar as g
 use Rattle.aud_parse.specs.Actions.{the_unit}
 use Rattle.aud_parse.specs.Parsed.{Fault, wrong_at, deep_at, parsed, parsed_as}
@@ -36,13 +37,13 @@ abbrev pub with_expression : List ℕ → List ℕ
 with_expression source = codes "procedure P is begin X :=\n" ++ source ++ codes "\n; end;"
 
 abbrev pub DeclarationsAre : List ℕ → List Declaration → Type 0
-DeclarationsAre source ds = IsRead (with_declarations source) (Ok (program ds (body (at 3 1) (statements (null (at 3 7) ∷ [])) (at 3 13) None)))
+DeclarationsAre source ds = IsRead (with_declarations source) (Ok (program ds (body (at 3 1) (statements (null (at 3 7)) []) (at 3 13) None)))
 
-abbrev pub StatementsAre : List ℕ → List Statement → Type 0
-StatementsAre source ss = IsRead (with_statements source) (Ok (program [] (body (at 1 16) (statements ss) (at 3 1) None)))
+abbrev pub StatementsAre : List ℕ → Statement → List Statement → Type 0
+StatementsAre source first others = IsRead (with_statements source) (Ok (program [] (body (at 1 16) (statements first others) (at 3 1) None)))
 
 abbrev pub ExpressionIs : List ℕ → Expression → Type 0
-ExpressionIs source e = IsRead (with_expression source) (Ok (program [] (body (at 1 16) (statements (assign (var_at (codes "X") (at 1 22)) e ∷ [])) (at 3 3) None)))
+ExpressionIs source e = IsRead (with_expression source) (Ok (program [] (body (at 1 16) (statements (assign (var_at (codes "X") (at 1 22)) e) []) (at 3 3) None)))
 
 abbrev pub col : ℕ → Pos
 col n = at 2 n
@@ -70,7 +71,7 @@ example =
     ++ codes "end Sum;\n"
 
 abbrev pub example_declaration : Declaration
-example_declaration = object (id (codes "X") (at 2 4) ∷ []) (id (codes "INTEGER") (at 2 8)) (an_expression (only (num 40 (at 2 19))))
+example_declaration = object (id (codes "X") (at 2 4)) [] (id (codes "INTEGER") (at 2 8)) (an_expression (only (num 40 (at 2 19))))
 
 abbrev pub example_assign : Statement
 example_assign = assign (var_at (codes "X") (at 4 4)) (sum (one (var (codes "X") (at 4 9))) (adding Plus (num 2 (at 4 13)) ∷ []))
@@ -82,48 +83,48 @@ abbrev pub example_call : Statement
 example_call = called (id (codes "PUT_LINE") (at 5 4)) (sum (one (str (codes "x") (at 5 14))) (adding Join example_image ∷ []))
 
 abbrev pub example_body : Body
-example_body = body (at 3 1) (statements (example_assign ∷ example_call ∷ [])) (at 6 1) (Some (id (codes "SUM") (at 6 5)))
+example_body = body (at 3 1) (statements example_assign (example_call ∷ [])) (at 6 1) (Some (id (codes "SUM") (at 6 5)))
 
 -- programs (RM 6.3)
 abbrev pub Programs : Type 0
 Programs =
     IsRead (codes "procedure P is begin null; end;")
-    (Ok (program [] (body (at 1 16) (statements (null (at 1 22) ∷ [])) (at 1 28) None)))
+    (Ok (program [] (body (at 1 16) (statements (null (at 1 22)) []) (at 1 28) None)))
     × IsRead (codes "PROCEDURE p IS\nBEGIN\n  NULL;\nEND p;")
-    (Ok (program [] (body (at 2 1) (statements (null (at 3 3) ∷ [])) (at 4 1) (Some (id (codes "P") (at 4 5))))))
+    (Ok (program [] (body (at 2 1) (statements (null (at 3 3)) []) (at 4 1) (Some (id (codes "P") (at 4 5))))))
     × IsRead (codes "procedure P is begin null; end Other_Name;")
-    (Ok (program [] (body (at 1 16) (statements (null (at 1 22) ∷ [])) (at 1 28) (Some (id (codes "OTHER_NAME") (at 1 32))))))
+    (Ok (program [] (body (at 1 16) (statements (null (at 1 22)) []) (at 1 28) (Some (id (codes "OTHER_NAME") (at 1 32))))))
     × IsRead (codes "-- a comment\n  procedure P is begin null; end;")
-    (Ok (unit (at 2 3) (id (codes "P") (at 2 13)) (declarations []) (body (at 2 18) (statements (null (at 2 24) ∷ [])) (at 2 30) None)))
+    (Ok (unit (at 2 3) (id (codes "P") (at 2 13)) (declarations []) (body (at 2 18) (statements (null (at 2 24)) []) (at 2 30) None)))
     × IsRead example (Ok (unit (at 1 1) (id (codes "SUM") (at 1 11)) (declarations (example_declaration ∷ [])) example_body))
 
 -- declarations (RM 3.3.1)
 abbrev pub Declarations : Type 0
 Declarations =
     DeclarationsAre (codes "X : Integer;")
-    (object (id (codes "X") (col 1) ∷ []) (id (codes "INTEGER") (col 5)) no_expression ∷ [])
+    (object (id (codes "X") (col 1)) [] (id (codes "INTEGER") (col 5)) no_expression ∷ [])
     × DeclarationsAre (codes "X : T := 1;")
-    (object (id (codes "X") (col 1) ∷ []) (id (codes "T") (col 5)) (an_expression (only (num 1 (col 10)))) ∷ [])
+    (object (id (codes "X") (col 1)) [] (id (codes "T") (col 5)) (an_expression (only (num 1 (col 10)))) ∷ [])
     × DeclarationsAre (codes "A, B, C : T;")
-    (object (id (codes "A") (col 1) ∷ id (codes "B") (col 4) ∷ id (codes "C") (col 7) ∷ []) (id (codes "T") (col 11)) no_expression ∷ [])
+    (object (id (codes "A") (col 1)) (id (codes "B") (col 4) ∷ id (codes "C") (col 7) ∷ []) (id (codes "T") (col 11)) no_expression ∷ [])
     × DeclarationsAre (codes "A : T; B, C : U := -1; D : V;")
-    (object (id (codes "A") (col 1) ∷ []) (id (codes "T") (col 5)) no_expression
-    ∷ object (id (codes "B") (col 8) ∷ id (codes "C") (col 11) ∷ []) (id (codes "U") (col 15)) (an_expression (negative (col 20) (one (num 1 (col 21))) []))
-    ∷ object (id (codes "D") (col 24) ∷ []) (id (codes "V") (col 28)) no_expression
+    (object (id (codes "A") (col 1)) [] (id (codes "T") (col 5)) no_expression
+    ∷ object (id (codes "B") (col 8)) (id (codes "C") (col 11) ∷ []) (id (codes "U") (col 15)) (an_expression (negative (col 20) (one (num 1 (col 21))) []))
+    ∷ object (id (codes "D") (col 24)) [] (id (codes "V") (col 28)) no_expression
     ∷ [])
 
 -- statements (RM 5.1, 5.2, 6.4)
 abbrev pub Statements : Type 0
 Statements =
     StatementsAre (codes "null;")
-    (null (col 1) ∷ [])
+    (null (col 1)) []
     × StatementsAre (codes "X := 1;")
-    (assign (var_at (codes "X") (col 1)) (only (num 1 (col 6))) ∷ [])
+    (assign (var_at (codes "X") (col 1)) (only (num 1 (col 6)))) []
     × StatementsAre (codes "Put_Line (\"x\");")
-    (called (id (codes "PUT_LINE") (col 1)) (only (str (codes "x") (col 11))) ∷ [])
+    (called (id (codes "PUT_LINE") (col 1)) (only (str (codes "x") (col 11)))) []
     × StatementsAre (codes "null; X := 1; P (X); null;")
-    (null (col 1)
-    ∷ assign (var_at (codes "X") (col 7)) (only (num 1 (col 12)))
+    (null (col 1))
+    (assign (var_at (codes "X") (col 7)) (only (num 1 (col 12)))
     ∷ called (id (codes "P") (col 15)) (only (var (codes "X") (col 18)))
     ∷ null (col 22)
     ∷ [])
@@ -251,17 +252,17 @@ WrongExpressions =
 abbrev pub FaultsOfTexts : Type 0
 FaultsOfTexts = WrongPrograms × WrongDeclarations × WrongStatements × WrongExpressions
 
--- so many levels are allowed, fewer than in the language
+-- the same with limit levels, fewer than in the language
 abbrev pub IsReadWithin : ℕ → List ℕ → Result Unit Fault → Type 0
 IsReadWithin limit source what = read_by (parsed_as the_unit g.Unit limit) (lexed source) ≡ Some what
 
 -- a program with two levels open at a time, and no more
 
 abbrev pub closed_declaration : Declaration
-closed_declaration = object (id (codes "X") (at 1 16) ∷ []) (id (codes "T") (at 1 20)) (an_expression (only (group (at 1 25) (only (num 1 (at 1 26))))))
+closed_declaration = object (id (codes "X") (at 1 16)) [] (id (codes "T") (at 1 20)) (an_expression (only (group (at 1 25) (only (num 1 (at 1 26))))))
 
-abbrev pub closed_calls : List Statement
-closed_calls = called (id (codes "P") (at 1 36)) (only (num 2 (at 1 39))) ∷ called (id (codes "P") (at 1 43)) (only (num 3 (at 1 46))) ∷ []
+abbrev pub closed_calls : m.Statements
+closed_calls = statements (called (id (codes "P") (at 1 36)) (only (num 2 (at 1 39)))) (called (id (codes "P") (at 1 43)) (only (num 3 (at 1 46))) ∷ [])
 
 -- declarations, statements and parentheses open a level each, and close it; and the first fault counts
 abbrev pub FewLevels : Type 0
@@ -278,9 +279,9 @@ FewLevels =
     × IsReadWithin 1 (with_statements (codes "X := 1 2 (3);")) (Err (wrong_at (4 + 3)))
     × IsReadWithin 1 (with_statements (codes "X := (1 2);")) (Err (deep_at (4 + 2)))
     × IsReadWithin 2 (codes "procedure P is X : T := (1); begin P (2); P (3); end;")
-    (Ok (program (closed_declaration ∷ []) (body (at 1 30) (statements closed_calls) (at 1 50) None)))
+    (Ok (program (closed_declaration ∷ []) (body (at 1 30) closed_calls (at 1 50) None)))
 
--- an expression in so many parentheses, of which the first opens at this column of the second line
+-- an expression in this number of parentheses, of which the first opens at column n of the second line
 abbrev pub nested : ℕ → ℕ → Expression
 nested zero n = only (num 1 (col n))
 nested (suc deep) n = only (group (col n) (nested deep (n + 1)))

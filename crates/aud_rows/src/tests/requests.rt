@@ -27,7 +27,7 @@ fn tell(out: &mut Vec<u8>, request: &Request) -> Result<(), AllocError> {
         }
         Request::Output => out.extend_from_slice(b"OUTPUT\n"),
         Request::Quit => out.extend_from_slice(b"QUIT\n"),
-        Request::Bad(why) => between(out, b"", why.words(), b"\n"),
+        Request::Bad(why) => between(out, b"", why.refusal().words(), b"\n"),
     }
 }
 

@@ -1,11 +1,11 @@
 // Values that the reference manual gives, and each call once where it succeeds.
 
-use aud_text::refusal::Refusal;
 use aud_text::digits::push_decimal;
 use aud_text::int32::Int32;
 use aud_text::name::Name;
 use aud_text::place::Pos;
 use aud_text::raise::Raise;
+use aud_text::refusal::Refusal;
 use std::alloc::AllocError;
 use std::process::Abort;
 

@@ -1,8 +1,10 @@
 -- What a request's first line asks, as it is kept in memory.
-use Rattle.std.specs.Prelude.{ℕ, Option, Some, None}
+use Rattle.std.specs.Prelude.{ℕ, List, [], Option, Some, None}
+use Rattle.aud_bench.specs.declared.request.Request.{Request}
 use Rattle.aud_server.specs.declared.commands.Command.{Command as Kept}
 use Rattle.aud_server.specs.declared.commands.Command.TheVariants as kept
-use Rattle.aud_server.specs.Requests.{Command, Whole, Loads, wrong_argument}
+use Rattle.aud_server.specs.Lines.{lines_of}
+use Rattle.aud_server.specs.Requests.{Command, Whole, Loads, wrong_argument, gathered, requests_from}
 
 abbrev pub asked : Kept → Command
 asked (kept.Whole r) = Whole r
@@ -12,3 +14,7 @@ asked (kept.Loads n) = Loads n
 abbrev pub given : Option ℕ → (ℕ → Command) → Command
 given None use_of = wrong_argument
 given (Some n) use_of = use_of n
+
+-- the requests behind the first line of a LOAD of n lines, with which the bytes begin
+abbrev pub load_requests : ℕ → List ℕ → List Request
+load_requests n bytes = gathered n [] None (requests_from (lines_of bytes))

@@ -1,9 +1,9 @@
-use Rattle.std.proofs.Common.{◌≡◌, ◌+◌}
+use Rattle.std.proofs.Common.{◌+◌, ◌≤◌}
 use Rattle.aud_expr.proofs.Instructions.{Stands}
 use Rattle.aud_expr.proofs.evaluate.evaluate.Given as goal
 
-abbrev pub invariant-loop-at : goal.invariant-loop-at
-invariant-loop-at l = record {
-  stands : Stands l.display l.frames l.code.lines l.fn.place l.at l.ticks l.operands;
-  few : l.ticks + l.fn.place ≡ l.at;
+abbrev pub invariant-loop-place : goal.invariant-loop-place
+invariant-loop-place l = record {
+  stands : Stands l.display l.frames l.code.lines l.fn.first l.place l.ticks l.passed l.operands;
+  few : l.ticks + l.fn.first ≤ l.place;
 }

@@ -1,4 +1,4 @@
-use Rattle.aud_meaning.specs.Items.{controls}
+use Rattle.aud_meaning.specs.Statements.{controls}
 use Rattle.aud_meaning.proofs.Counts.{clock_kept}
 use Rattle.aud_meaning.proofs.laws.clock_law.Goals as goal
 

@@ -1,4 +1,4 @@
-use Rattle.aud_meaning.specs.Items.{controls}
+use Rattle.aud_meaning.specs.Statements.{controls}
 use Rattle.aud_meaning.proofs.Counts.{run_cut}
 use Rattle.aud_meaning.proofs.laws.cut_law.Goals as goal
 

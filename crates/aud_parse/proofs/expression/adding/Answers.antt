@@ -1,17 +1,17 @@
-use Rattle.std.proofs.Common.{[], ◌∷◌}
+use Rattle.std.proofs.Common.{[], ◌∷◌, rules}
 use Rattle.aud_lex.specs.declared.token.Kind.TheVariants as kind
 use Rattle.aud_parse.specs.Ties.Outcome.{o_rule, o_this, o_other, o_last}
 use Rattle.aud_parse.proofs.Passing.{word_passes, in_this, in_others, in_none}
 use Rattle.aud_parse.proofs.expression.adding.Goals as goal
 
-pub returns-in-Some-clause-reads : goal.returns-in-Some-clause-reads
-returns-in-Some-clause-reads c = (in_this kind.Plus (kind.Minus ∷ kind.Ampersand ∷ []) c.args.start.tokens.now c.in-Some.ensures.reads.0, λ r k ds v o. o_rule (o_this c.in-Some.ensures.reads.0 (o_rule (word_passes c.in-Some.ensures.reads _ _ _ o))))
+pub returns-in-Some : goal.returns-in-Some
+returns-in-Some c = record { reads = (in_this kind.Plus (kind.Minus ∷ kind.Ampersand ∷ []) c.args.start.tokens.now c.in-Some.ensures.reads.0, λ r k ds v o. o_rule (o_this c.in-Some.ensures.reads.0 (o_rule (word_passes c.in-Some.ensures.reads _ _ _ o)))); shorter = search rules }
 
-pub returns-in-Some-accept-clause-reads : goal.returns-in-Some-accept-clause-reads
-returns-in-Some-accept-clause-reads c = (in_others kind.Plus (kind.Minus ∷ kind.Ampersand ∷ []) c.args.start.tokens.now (in_this kind.Minus (kind.Ampersand ∷ []) c.args.start.tokens.now c.in-Some-accept.ensures.reads.0), λ r k ds v o. o_rule (o_other c.in_default.ensures.reads (o_this c.in-Some-accept.ensures.reads.0 (o_rule (word_passes c.in-Some-accept.ensures.reads _ _ _ o)))))
+pub returns-in-Some-accept : goal.returns-in-Some-accept
+returns-in-Some-accept c = record { reads = (in_others kind.Plus (kind.Minus ∷ kind.Ampersand ∷ []) c.args.start.tokens.now (in_this kind.Minus (kind.Ampersand ∷ []) c.args.start.tokens.now c.in-Some-accept.ensures.reads.0), λ r k ds v o. o_rule (o_other c.in_default.ensures.reads (o_this c.in-Some-accept.ensures.reads.0 (o_rule (word_passes c.in-Some-accept.ensures.reads _ _ _ o))))); shorter = search rules }
 
-pub returns-in-Some-accept-2-clause-reads : goal.returns-in-Some-accept-2-clause-reads
-returns-in-Some-accept-2-clause-reads c = (in_others kind.Plus (kind.Minus ∷ kind.Ampersand ∷ []) c.args.start.tokens.now (in_others kind.Minus (kind.Ampersand ∷ []) c.args.start.tokens.now c.in-Some-accept-2.ensures.reads.0), λ r k ds v o. o_rule (o_other c.in_default.ensures.reads (o_other c.in_default-accept.ensures.reads (o_last (o_rule (word_passes c.in-Some-accept-2.ensures.reads _ _ _ o))))))
+pub returns-in-Some-accept-2 : goal.returns-in-Some-accept-2
+returns-in-Some-accept-2 c = record { reads = (in_others kind.Plus (kind.Minus ∷ kind.Ampersand ∷ []) c.args.start.tokens.now (in_others kind.Minus (kind.Ampersand ∷ []) c.args.start.tokens.now c.in-Some-accept-2.ensures.reads.0), λ r k ds v o. o_rule (o_other c.in_default.ensures.reads (o_other c.in_default-accept.ensures.reads (o_last (o_rule (word_passes c.in-Some-accept-2.ensures.reads _ _ _ o)))))); shorter = search rules }
 
-pub returns-clause-reads : goal.returns-clause-reads
-returns-clause-reads c = in_none kind.Plus (kind.Minus ∷ kind.Ampersand ∷ []) c.args.start.tokens.now c.in_default.ensures.reads (in_none kind.Minus (kind.Ampersand ∷ []) c.args.start.tokens.now c.in_default-accept.ensures.reads c.in_default-accept-2.ensures.reads)
+pub returns : goal.returns
+returns c = record { reads = in_none kind.Plus (kind.Minus ∷ kind.Ampersand ∷ []) c.args.start.tokens.now c.in_default.ensures.reads (in_none kind.Minus (kind.Ampersand ∷ []) c.args.start.tokens.now c.in_default-accept.ensures.reads c.in_default-accept-2.ensures.reads); shorter = search rules }

@@ -1,15 +1,16 @@
+use Rattle.std.proofs.Common.{rules}
 use Rattle.aud_parse.specs.Ties.Outcome.{o_rule}
 use Rattle.aud_parse.proofs.Passing.{exit}
 use Rattle.aud_parse.proofs.statement.assignment.Goals as goal
 
-pub returns-in_err-rest-clause-reads : goal.returns-in_err-rest-clause-reads
-returns-in_err-rest-clause-reads c = exit _ _ _ c.from_residual.ensures.1 (c.in_err-rest.ensures.reads c.args.room) (λ k ds v o. o_rule o)
+pub returns-in_err-rest : goal.returns-in_err-rest
+returns-in_err-rest c = exit _ _ _ c.from_residual.ensures.1 (c.in_err-rest.ensures.reads c.args.room) (λ k ds v o. o_rule o)
 
-pub returns-in_err-value-clause-reads : goal.returns-in_err-value-clause-reads
-returns-in_err-value-clause-reads c = exit _ _ _ c.from_residual-in_err-value.ensures.1 c.in_err-value.ensures.reads (λ k ds v o. o_rule (c.in_ok-rest.ensures.reads _ _ _ _ o))
+pub returns-in_err-value : goal.returns-in_err-value
+returns-in_err-value c = exit _ _ _ c.from_residual-in_err-value.ensures.1 c.in_err-value.ensures.reads (λ k ds v o. o_rule (c.in_ok-rest.ensures.reads _ _ _ _ o))
 
-pub returns-in_err-rest-2-clause-reads : goal.returns-in_err-rest-2-clause-reads
-returns-in_err-rest-2-clause-reads c = exit _ _ _ c.from_residual-in_err-rest-2.ensures.1 (c.in_err-rest-2.ensures.reads c.args.room) (λ k ds v o. o_rule (c.in_ok-rest.ensures.reads _ _ _ _ (c.in_ok-value.ensures.reads _ _ _ o)))
+pub returns-in_err-rest-2 : goal.returns-in_err-rest-2
+returns-in_err-rest-2 c = exit _ _ _ c.from_residual-in_err-rest-2.ensures.1 (c.in_err-rest-2.ensures.reads c.args.room) (λ k ds v o. o_rule (c.in_ok-rest.ensures.reads _ _ _ _ (c.in_ok-value.ensures.reads _ _ _ o)))
 
-pub returns-clause-reads : goal.returns-clause-reads
-returns-clause-reads c k ds v o = rw c.into_inner.ensures (o_rule (c.in_ok-rest.ensures.reads _ _ _ _ (c.in_ok-value.ensures.reads _ _ _ (c.in_ok-rest-2.ensures.reads _ _ _ _ o))))
+pub returns : goal.returns
+returns c = record { reads = λ k ds v o. rw c.into_inner.ensures (o_rule (c.in_ok-rest.ensures.reads _ _ _ _ (c.in_ok-value.ensures.reads _ _ _ (c.in_ok-rest-2.ensures.reads _ _ _ _ o)))); shorter = search rules }

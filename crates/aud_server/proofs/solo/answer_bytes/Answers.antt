@@ -2,13 +2,12 @@ use Rattle.std.proofs.Common.{rules, ◌≡◌, subst, sym, ap, ◌∙◌}
 use Rattle.aud_text.specs.declared.limits.TheConstants.{STANDARD}
 use Rattle.aud_bench.specs.Alone.{alone}
 use Rattle.aud_server.specs.Requests.{requests}
-use Rattle.aud_server.specs.Solo.{AppendsFront, AppendsSome}
-use Rattle.aud_server.specs.Text.{text}
+use Rattle.aud_server.specs.Solo.{answers_to, WritesFront, WritesSome}
 use Rattle.aud_server.proofs.SoloLaws.{none_yet, front_front, some_some}
 use Rattle.aud_server.proofs.solo.answer_bytes.Goals as goal
 
 pub returns-in_err-requests-clause-memory : goal.returns-in_err-requests-clause-memory
-returns-in_err-requests-clause-memory g c e = none_yet (g.W.Write.contents c.args.writer.now) (alone STANDARD (requests c.args.bytes.now))
+returns-in_err-requests-clause-memory g c e = none_yet (g.W.Write.contents c.args.writer.now) (answers_to c.args.bytes.now)
 
 pub returns-in_err-write_answers-clause-memory : goal.returns-in_err-write_answers-clause-memory
 returns-in_err-write_answers-clause-memory g c e =
@@ -16,9 +15,9 @@ returns-in_err-write_answers-clause-memory g c e =
     let (some, rest, is, all) = c.answer_all-answered.ensures.front in
     let asked : c.deref.result.now ≡ requests c.args.bytes.now = search rules in
     let told : c.deref-2.result.now ≡ some = search rules in
-    some_some (contents c.args.writer.now) (contents c.write_answers.new.writer) (alone STANDARD (requests c.args.bytes.now)) some rest
+    some_some (contents c.args.writer.now) (contents c.write_answers.new.writer) (answers_to c.args.bytes.now) some rest
     (ap (alone STANDARD) (sym asked) ∙ all)
-    (subst (λ t. AppendsSome (contents c.args.writer.now) (contents c.write_answers.new.writer) t) told (c.write_answers.ensures.memory (search rules)))
+    (subst (λ t. WritesSome (contents c.args.writer.now) (contents c.write_answers.new.writer) t) told (c.write_answers.ensures.memory (search rules)))
 
 pub returns-in_err-write_answers-clause-write : goal.returns-in_err-write_answers-clause-write
 returns-in_err-write_answers-clause-write g c e =
@@ -26,6 +25,6 @@ returns-in_err-write_answers-clause-write g c e =
     let (some, rest, is, all) = c.answer_all-answered.ensures.front in
     let asked : c.deref.result.now ≡ requests c.args.bytes.now = search rules in
     let told : c.deref-2.result.now ≡ some = search rules in
-    front_front (contents c.args.writer.now) (contents c.write_answers.new.writer) (alone STANDARD (requests c.args.bytes.now)) some rest
+    front_front (contents c.args.writer.now) (contents c.write_answers.new.writer) (answers_to c.args.bytes.now) some rest
     (ap (alone STANDARD) (sym asked) ∙ all)
-    (subst (λ t. AppendsFront (contents c.args.writer.now) (contents c.write_answers.new.writer) (text t)) told (c.write_answers.ensures.write (search rules)))
+    (subst (λ t. WritesFront (contents c.args.writer.now) (contents c.write_answers.new.writer) t) told (c.write_answers.ensures.write (search rules)))

@@ -1,11 +1,9 @@
 use Rattle.std.specs.Io.{appended_bytes}
-use Rattle.aud_text.specs.declared.limits.TheConstants.{STANDARD}
-use Rattle.aud_bench.specs.Alone.{alone}
-use Rattle.aud_server.specs.Requests.{requests}
+use Rattle.aud_server.specs.Solo.{answers_to}
 use Rattle.aud_server.proofs.SoloLaws.{none_yet}
 use Rattle.aud_server.proofs.solo.answer_reader.Goals as goal
 
 pub returns-in-Err-clause-memory : goal.returns-in-Err-clause-memory
 returns-in-Err-clause-memory g c e =
     let input = appended_bytes c.new-input.result.items c.read_to_end.new.buf.items in
-    (input, c.read_to_end.ensures.none_lost, none_yet (g.W.Write.contents c.args.writer.now) (alone STANDARD (requests input)))
+    (input, c.read_to_end.ensures.none_lost, none_yet (g.W.Write.contents c.args.writer.now) (answers_to input))

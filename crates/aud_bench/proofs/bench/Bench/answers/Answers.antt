@@ -13,4 +13,4 @@ pub returns-clause-made : goal.returns-clause-made
 returns-clause-made c =
     let s = c.self.inside in
     subst (λ (b : Seen). HasMade b.spent b) c.self.view_is
-    (has_made s.spent _ (answers_are s.limits s.journal.items s.answered s.progress s.answers.items s.spent s.machine c.self.invariant.0))
+    (has_made s.spent _ (answers_are s.limits s.journal.items s.finished s.progress s.answers.items s.spent s.machine c.self.invariant.0))

@@ -16,8 +16,8 @@ overflow_sub-room c =
     let s = c.self.inside in
     let seen : Seen = c.args.self.now in
     let alive : s.spent ≡ false = ap (λ (b : Seen). b.spent) c.self.view_is ∙ or_left seen.spent (has_quit seen.journal) c.requires.open in
-    let known = known_is s.limits s.journal.items s.answered s.progress s.answers.items s.spent s.machine c.self.invariant.0 in
-    let as_many = length_is s.limits s.journal.items s.answered s.progress s.answers.items s.spent s.machine c.self.invariant.0 alive in
+    let known = known_is s.limits s.journal.items s.finished s.progress s.answers.items s.spent s.machine c.self.invariant.0 in
+    let as_many = length_is s.limits s.journal.items s.finished s.progress s.answers.items s.spent s.machine c.self.invariant.0 alive in
     omega (arith, known, as_many, c.len.ensures, c.len-2.ensures, s.journal.ok.0, s.answers.ok.0)
 
 pub invariant_of-self-2 : goal.invariant_of-self-2
@@ -27,17 +27,19 @@ invariant_of-self-2 c =
     let seen : Seen = c.args.self.now in
     let alive : s.spent ≡ false = ap (λ (b : Seen). b.spent) c.self.view_is ∙ or_left seen.spent (has_quit seen.journal) c.requires.open in
     let going : has_quit s.journal.items ≡ false = ap (λ (b : Seen). has_quit b.journal) c.self.view_is ∙ or_right seen.spent (has_quit seen.journal) c.requires.open in
-    let known = known_is s.limits s.journal.items s.answered s.progress s.answers.items s.spent s.machine c.self.invariant.0 in
-    let as_many = length_is s.limits s.journal.items s.answered s.progress s.answers.items s.spent s.machine c.self.invariant.0 alive in
-    let bytes : s.bytes ≡ bytes_of s.journal.items = c.self.invariant.2 (c.self.invariant.3 ∙ going) in
+    let known = known_is s.limits s.journal.items s.finished s.progress s.answers.items s.spent s.machine c.self.invariant.0 in
+    let as_many = length_is s.limits s.journal.items s.finished s.progress s.answers.items s.spent s.machine c.self.invariant.0 alive in
+    let bytes : s.bytes ≡ bytes_of s.journal.items = (c.self.invariant.2 (c.self.invariant.3 ∙ going)).0 in
     let room : fits (length s.journal.items) (bytes_of s.journal.items) r ≡ true = ap (λ (b : Seen). fits (length b.journal) (bytes_of b.journal) r) c.self.view_is ∙ c.requires.fits in (
-      subst (λ (told : List Answer). ∥ IsAt s.limits c.push.new.self.items s.answered s.progress told s.spent s.machine ∥₁) (sym c.in_ok-reserve.ensures.items)
-          (subst (λ (j : List Request). ∥ IsAt s.limits j s.answered s.progress s.answers.items s.spent s.machine ∥₁) (sym c.in_ok-push.ensures.items)
-          (given s.limits s.journal.items s.answered s.progress s.answers.items s.spent s.machine c.self.invariant.0 r)),
+      subst (λ (told : List Answer). ∥ IsAt s.limits c.push.new.self.items s.finished s.progress told s.spent s.machine ∥₁) (sym c.in_ok-reserve.ensures.items)
+          (subst (λ (j : List Request). ∥ IsAt s.limits j s.finished s.progress s.answers.items s.spent s.machine ∥₁) (sym c.in_ok-push.ensures.items)
+          (given s.limits s.journal.items s.finished s.progress s.answers.items s.spent s.machine c.self.invariant.0 r)),
       omega (arith, known, as_many, ap length c.in_ok-push.ensures.items, length-append s.journal.items (r ∷ []), c.in_ok-reserve.ensures.ok, c.in_ok-reserve.ensures.len, c.len.ensures, c.len-2.ensures, s.journal.ok.0, s.answers.ok.0),
       (λ other.
-          let within = room_left (length s.journal.items) (bytes_of s.journal.items) r room (sym c.is_quit-quit.ensures ∙ other) in
-          omega (arith, within, bytes, c.saturating_add-self-inside.ensures, c.size-size.ensures, ap bytes_of c.in_ok-push.ensures.items, bytes_append s.journal.items r)),
+          let within = room_left (length s.journal.items) (bytes_of s.journal.items) r room (sym c.is_quit-quit.ensures ∙ other) in (
+            omega (arith, bytes, c.size-size.ensures, ap bytes_of c.in_ok-push.ensures.items, bytes_append s.journal.items r),
+            omega (arith, within, bytes, c.size-size.ensures),
+          )),
       c.is_quit-quit.ensures ∙ sym (last_quits s.journal.items r going) ∙ ap has_quit (sym c.in_ok-push.ensures.items),
       ap is_kept c.in_ok-push.ensures.items ∙ kept_more 0 0 s.journal.items r c.self.invariant.4 going (ap (λ n. fits n (0 + bytes_of s.journal.items) r) (zero-add (length s.journal.items)) ∙ ap (λ n. fits (length s.journal.items) n r) (zero-add (bytes_of s.journal.items)) ∙ room),
     )
@@ -48,7 +50,7 @@ returns-clause-ok c =
     let r = c.args.request in
     let seen : List Request → ℕ → List Answer → Seen = λ journal units answers. record { limits = s.limits; journal = journal; units = units; answers = answers; spent = s.spent } in
     let longer : Seen → Seen = λ b. record b { journal = b.journal ++ r ∷ [] } in
-    ap (λ j. seen j (units_done s.limits j s.answered s.progress) c.reserve.new.self.items) c.in_ok-push.ensures.items
-    ∙ ap (λ units. seen (s.journal.items ++ r ∷ []) units c.reserve.new.self.items) (given_units s.limits s.journal.items s.answered s.progress s.answers.items s.spent s.machine c.self.invariant.0 r)
-    ∙ ap (seen (s.journal.items ++ r ∷ []) (units_done s.limits s.journal.items s.answered s.progress)) c.in_ok-reserve.ensures.items
+    ap (λ j. seen j (units_done s.limits j s.finished s.progress) c.reserve.new.self.items) c.in_ok-push.ensures.items
+    ∙ ap (λ units. seen (s.journal.items ++ r ∷ []) units c.reserve.new.self.items) (given_units s.limits s.journal.items s.finished s.progress s.answers.items s.spent s.machine c.self.invariant.0 r)
+    ∙ ap (seen (s.journal.items ++ r ∷ []) (units_done s.limits s.journal.items s.finished s.progress)) c.in_ok-reserve.ensures.items
     ∙ ap longer c.self.view_is

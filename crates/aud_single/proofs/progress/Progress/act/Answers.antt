@@ -3,14 +3,14 @@ use Rattle.aud_single.proofs.progress.Progress.act.Goals as goal
 
 pub end-requires-clause-fine : goal.end-requires-clause-fine
 end-requires-clause-fine c =
-    fits_here c.args.code.now c.place-place.result c.in-Reaches.at c.ending.result c.ending.ensures
+    fits_here c.args.code.now c.place-place.result c.in-Reaches.ending c.ending.result c.ending.ensures
     (rw c.in-Reaches.is at c.in_ok-outcome.ensures.reaches) c.evaluate.new.operands (rw c.in-Reaches.is at c.in_ok-outcome.ensures.fits)
 
 pub returns-in_ok-end-in-Reaches-clause-next : goal.returns-in_ok-end-in-Reaches-clause-next
 returns-in_ok-end-in-Reaches-clause-next c =
     let reaches = rw c.in-Reaches.is at c.in_ok-outcome.ensures.reaches in
-    let fine = fits_here c.args.code.now c.place-place.result c.in-Reaches.at c.ending.result c.ending.ensures reaches c.evaluate.new.operands (rw c.in-Reaches.is at c.in_ok-outcome.ensures.fits) in
-    let is_end = same_end c.args.code.now c.place-place.result c.in-Reaches.at c.ending.result c.ending.ensures reaches in
+    let fine = fits_here c.args.code.now c.place-place.result c.in-Reaches.ending c.ending.result c.ending.ensures reaches c.evaluate.new.operands (rw c.in-Reaches.is at c.in_ok-outcome.ensures.fits) in
+    let is_end = same_end c.args.code.now c.place-place.result c.in-Reaches.ending c.ending.result c.ending.ensures reaches in
     acts c.args.code.now c.args.self.now c.end.new.self c.ending.result.last c.ending.result.at _ c.len.result c.evaluate.new.operands c.requires.runs c.place-place.ensures.alone
     (rw c.place-place.ensures.value at is_end)
     (rw (c.in-Reaches.is, c.place-place.ensures.value, c.frames.ensures) at c.in_ok-outcome.ensures.ends)
@@ -21,7 +21,7 @@ returns-in_ok-end-in-Reaches-clause-stands c =
     let reaches = rw c.in-Reaches.is at c.in_ok-outcome.ensures.reaches in
     let here = rw c.requires.runs at c.requires.stands in
     stands_on c.args.code.now.lines c.args.self.now here c.end.new.self c.ending.result.last c.len.result c.evaluate.new.operands
-    (leads_on c.args.code.now c.place-place.result c.in-Reaches.at c.ending.result c.ending.ensures c.len.ensures.sound reaches)
+    (leads_on c.args.code.now c.place-place.result c.in-Reaches.ending c.ending.result c.ending.ensures c.len.ensures.sound reaches)
     c.in_ok-end-in-Reaches.ensures.does
 
 pub returns-in-Fails-clause-next : goal.returns-in-Fails-clause-next

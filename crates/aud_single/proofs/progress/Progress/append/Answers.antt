@@ -1,14 +1,14 @@
-use Rattle.std.proofs.Common.{[], ap, ◌∙◌, arith}
+use Rattle.std.proofs.Common.{ap, ◌∙◌, arith}
 use Rattle.aud_meaning.specs.Ties.Single.{Single}
-use Rattle.aud_meaning.specs.Effects.{put_out}
 use Rattle.aud_code.specs.Places.{Spot}
-use Rattle.aud_single.specs.Shown.{plain_stage, shared_in}
+use Rattle.aud_single.specs.Shown.{plain_stage, main_at}
+use Rattle.aud_single.specs.Steps.{written}
 use Rattle.aud_single.proofs.Output.{put_cut}
 use Rattle.aud_single.proofs.progress.Progress.append.Goals as goal
 
 pub returns-clause-put : goal.returns-clause-put
 returns-clause-put c =
     let inside = c.self.inside in
-    let p : Single Spot = record { control = record { place = inside.place; returns = [] }; stage = plain_stage inside.stage; elaborated = inside.elaborated; frames = inside.frames; output = inside.output.items; cut = inside.cut; choices = inside.choices.items; clock = inside.clock; steps = inside.steps } in
+    let p : Single Spot = record { control = main_at inside.place; stage = plain_stage inside.stage; elaborated = inside.elaborated; frames = inside.frames; output = inside.output.items; cut = inside.cut; choices = inside.choices.items; clock = inside.clock; steps = inside.steps } in
     put_cut c.args.text.now p c.extend_from_slice-2.new.self.items c.self.invariant.2 (omega (arith, c.if-text-room.false)) (grind (arith, c.in_ok-extend_from_slice-2.ensures.items))
-    ∙ ap (λ (x : Single Spot). record x { output = (put_out c.args.text.now (shared_in x)).output; cut = (put_out c.args.text.now (shared_in x)).cut }) c.self.view_is
+    ∙ ap (written c.args.text.now) c.self.view_is

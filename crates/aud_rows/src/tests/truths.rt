@@ -1,0 +1,329 @@
+// Truth values in code that is built by hand: what it evaluates to, or that it is not sound.
+
+use crate::tests::finds;
+use aud_code::instruction::Instruction;
+use aud_code::line::{Code, EndLine, Ending, Last, Line};
+use aud_code::sound_code::{SoundCode, verify};
+use aud_expr::evaluate::{Evaluation, Outcome, evaluate};
+use aud_expr::operands::Operands;
+use aud_store::frames::Frames;
+use aud_text::int32::Int32;
+use aud_text::place::Pos;
+use aud_text::raise::Raise;
+use aud_typed::program::{Binary, Logical, Relation};
+use std::alloc::{AllocError, Global};
+use std::process::Abort;
+use std::test::Fail;
+
+// An instruction of a row.
+#[derive(Clone, Copy)]
+enum Given {
+    Push(i32),
+    Divide,
+    Cell,
+    PushTruth(bool),
+    Truth,
+    Negate,
+    Relate(Relation),
+    Compare(Relation),
+    Combine(Logical),
+    PassIfFalse(usize),
+    PassIfTrue(usize),
+    AppendImage,
+    AppendTruth,
+}
+
+use Given::*;
+
+// What comes of a step.
+#[derive(Clone, Copy)]
+enum Wanted {
+    // Its text, and how many instructions were executed.
+    Puts(&'static [u8], u64),
+    Raises(Raise, u64),
+    // An operand is missing.
+    Refused,
+}
+
+use Wanted::*;
+
+#[derive(Clone, Copy)]
+struct Row {
+    name: &'static str,
+    given: &'static [Given],
+    wanted: Wanted,
+}
+
+const ROWS: [Row; 22] = [
+    Row {
+        name: "a cell holds 1 for True",
+        given: &[PushTruth(true), Cell, AppendImage],
+        wanted: Puts(b" 1", 3),
+    },
+    Row {
+        name: "what is not 0 is True",
+        given: &[Push(5), Truth, AppendTruth],
+        wanted: Puts(b"TRUE", 3),
+    },
+    Row {
+        name: "0 is False",
+        given: &[Push(0), Truth, AppendTruth],
+        wanted: Puts(b"FALSE", 3),
+    },
+    Row {
+        name: "not",
+        given: &[PushTruth(true), Negate, AppendTruth],
+        wanted: Puts(b"FALSE", 3),
+    },
+    Row {
+        name: "the newest Integer is the right operand",
+        given: &[Push(2), Push(3), Relate(Relation::Less), AppendTruth],
+        wanted: Puts(b"TRUE", 4),
+    },
+    Row {
+        name: "at least",
+        given: &[Push(-3), Push(-2), Relate(Relation::AtLeast), AppendTruth],
+        wanted: Puts(b"FALSE", 4),
+    },
+    Row {
+        name: "False is before True",
+        given: &[
+            PushTruth(false),
+            PushTruth(true),
+            Compare(Relation::Less),
+            AppendTruth,
+        ],
+        wanted: Puts(b"TRUE", 4),
+    },
+    Row {
+        name: "and",
+        given: &[
+            PushTruth(true),
+            PushTruth(false),
+            Combine(Logical::And),
+            AppendTruth,
+        ],
+        wanted: Puts(b"FALSE", 4),
+    },
+    Row {
+        name: "or",
+        given: &[
+            PushTruth(true),
+            PushTruth(false),
+            Combine(Logical::Or),
+            AppendTruth,
+        ],
+        wanted: Puts(b"TRUE", 4),
+    },
+    Row {
+        name: "xor",
+        given: &[
+            PushTruth(true),
+            PushTruth(true),
+            Combine(Logical::Xor),
+            AppendTruth,
+        ],
+        wanted: Puts(b"FALSE", 4),
+    },
+    Row {
+        name: "False and then 1 / 0 = 1",
+        given: &[
+            PushTruth(false),
+            PassIfFalse(5),
+            Push(1),
+            Push(0),
+            Divide,
+            Push(1),
+            Relate(Relation::Equal),
+            AppendTruth,
+        ],
+        wanted: Puts(b"FALSE", 3),
+    },
+    Row {
+        name: "True and then 1 / 0 = 1",
+        given: &[
+            PushTruth(true),
+            PassIfFalse(5),
+            Push(1),
+            Push(0),
+            Divide,
+            Push(1),
+            Relate(Relation::Equal),
+            AppendTruth,
+        ],
+        wanted: Raises(Raise::Constraint, 5),
+    },
+    Row {
+        name: "True and then True",
+        given: &[
+            PushTruth(true),
+            PassIfFalse(1),
+            PushTruth(true),
+            AppendTruth,
+        ],
+        wanted: Puts(b"TRUE", 4),
+    },
+    Row {
+        name: "True or else 1 / 0 = 1",
+        given: &[
+            PushTruth(true),
+            PassIfTrue(5),
+            Push(1),
+            Push(0),
+            Divide,
+            Push(1),
+            Relate(Relation::Equal),
+            AppendTruth,
+        ],
+        wanted: Puts(b"TRUE", 3),
+    },
+    Row {
+        name: "False or else 1 / 0 = 1",
+        given: &[
+            PushTruth(false),
+            PassIfTrue(5),
+            Push(1),
+            Push(0),
+            Divide,
+            Push(1),
+            Relate(Relation::Equal),
+            AppendTruth,
+        ],
+        wanted: Raises(Raise::Constraint, 5),
+    },
+    Row {
+        name: "no more is passed than the step",
+        given: &[
+            PushTruth(true),
+            PassIfTrue(9),
+            PushTruth(false),
+            AppendTruth,
+        ],
+        wanted: Puts(b"", 2),
+    },
+    Row {
+        name: "no truth value",
+        given: &[AppendTruth],
+        wanted: Refused,
+    },
+    Row {
+        name: "one truth value for two",
+        given: &[PushTruth(true), Combine(Logical::And), AppendTruth],
+        wanted: Refused,
+    },
+    Row {
+        name: "an Integer for a truth value",
+        given: &[Push(1), AppendTruth],
+        wanted: Refused,
+    },
+    Row {
+        name: "a truth value for an Integer",
+        given: &[PushTruth(true), AppendImage],
+        wanted: Refused,
+    },
+    Row {
+        name: "a pass past an operand",
+        given: &[
+            PushTruth(true),
+            PassIfFalse(2),
+            PushTruth(false),
+            Push(1),
+            AppendTruth,
+            AppendImage,
+        ],
+        wanted: Refused,
+    },
+    Row {
+        name: "no operand behind a value that is taken",
+        given: &[PushTruth(true), PassIfTrue(9), AppendTruth],
+        wanted: Refused,
+    },
+];
+
+fn instruction(given: Given) -> Instruction {
+    match given {
+        Push(value) => Instruction::Push(Int32::new(value)),
+        Divide => Instruction::OnTwo(Binary::Quotient),
+        Cell => Instruction::Cell,
+        PushTruth(value) => Instruction::PushTruth(value),
+        Truth => Instruction::Truth,
+        Negate => Instruction::Negate,
+        Relate(relation) => Instruction::Relate(relation),
+        Compare(relation) => Instruction::Compare(relation),
+        Combine(operator) => Instruction::Combine(operator),
+        PassIfFalse(count) => Instruction::PassIfFalse(count),
+        PassIfTrue(count) => Instruction::PassIfTrue(count),
+        AppendImage => Instruction::AppendImage,
+        AppendTruth => Instruction::AppendTruth,
+    }
+}
+
+// A step that puts its text, and the end of its body.
+fn code(alloc: Global, given: &[Given]) -> Result<Code, AllocError> {
+    let mut lines = Vec::new(alloc);
+    for one in given {
+        lines.push(Line::Instruction(instruction(*one)))?;
+    }
+    let next = given.len().saturating_add(1);
+    for last in [Last::Does(Ending::Put, next), Last::Ends] {
+        lines.push(Line::End(EndLine {
+            last,
+            at: Pos { line: 1, col: 1 },
+            out: next,
+        }))?;
+    }
+    Ok(Code {
+        lines,
+        starts: vec![in alloc; 0; 1]?,
+        spare: 0,
+    })
+}
+
+fn evaluates(
+    rt: &impl Abort,
+    alloc: Global,
+    row: &Row,
+    code: &SoundCode,
+) -> Result<(), AllocError> {
+    let mut operands = Operands::new(alloc);
+    let frames = Frames::new(alloc);
+    let found = evaluate(code, 0, &[], &frames, &mut operands)?;
+    let Evaluation { outcome, ticks } = found;
+    match row.wanted {
+        Puts(text, executed) => {
+            assert!(rt;
+                outcome == Outcome::Reaches(row.given.len()) && ticks == executed,
+                "{}",
+                row.name
+            );
+            finds(rt, row.name, operands.text(), text);
+        }
+        Raises(raise, executed) => {
+            assert!(rt;
+                outcome == Outcome::Fails(raise) && ticks == executed,
+                "{}",
+                row.name
+            );
+        }
+        Refused => assert!(rt; false, "{}", row.name),
+    }
+    Ok(())
+}
+
+fn meets(rt: &impl Abort, alloc: Global, row: &Row) -> Result<(), AllocError> {
+    match verify(alloc, code(alloc, row.given)?)? {
+        Some(sound) => evaluates(rt, alloc, row, &sound),
+        None => {
+            assert!(rt; matches!(row.wanted, Refused), "{}", row.name);
+            Ok(())
+        }
+    }
+}
+
+#[test]
+fn each_row(rt: HostRuntime) -> Result<(), Fail> {
+    for row in &ROWS {
+        meets(&rt, rt.alloc(), row)?;
+    }
+    Ok(())
+}
