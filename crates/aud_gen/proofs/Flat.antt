@@ -7,7 +7,6 @@ pub mod Made
 pub mod Starting
 pub mod Sound
 pub mod Laws
-pub mod Sizes
 pub mod Moving
 pub mod Behind
 pub mod Parts

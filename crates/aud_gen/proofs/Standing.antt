@@ -1,3 +1,4 @@
+pub mod Sizes
 pub mod Places
 pub mod Control
 pub mod Orders

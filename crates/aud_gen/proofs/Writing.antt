@@ -21,7 +21,7 @@ use Rattle.aud_typed.proofs.Chains.{plain_operation, chain_open, join_open}
 use Rattle.aud_code.specs.Instruction.{Instruction, OnTwo}
 use Rattle.aud_code.specs.Flat.{FlatLine, instructs}
 use Rattle.aud_gen.specs.Instructions.{integer_code, text_code}
-use Rattle.aud_gen.specs.Layout.{around_out, in_call, end_line, guard_line_by, main_size_by, part_size_by, body_size_by, statement_code_by, part_code_by, unit_code_by, units_code_by}
+use Rattle.aud_gen.specs.Layout.{end_line, guard_line_by, main_size_by, part_size_by, body_size_by, statement_code_by, part_code_by, unit_code_by, units_code_by}
 use Rattle.aud_gen.specs.Written.{flat_step, written, written_bodies}
 use Rattle.aud_gen.specs.Writes.{in_order, inside, statement_length, statements_length, step_to, statement_lines, part_lines, end_lines, body_lines, body_length}
 use Rattle.aud_gen.proofs.Flat.Assembly.{assembled_append}

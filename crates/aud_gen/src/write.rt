@@ -141,7 +141,8 @@ fn write_step(
     append(lines, Line::End(EndLine { last, at, out }))
 }
 
-// a step, and those behind it: behind each but the last stands the one that follows it
+// a step, and those behind it: behind each but the last stands the one that follows it; none of them leads to the body's end,
+// wherever that is
 fn write_steps(
     alloc: Global,
     lines: &mut Vec<Line>,

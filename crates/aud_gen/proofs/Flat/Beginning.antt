@@ -10,7 +10,7 @@ use Rattle.aud_code.specs.Flat.{EndLine, FlatLine, instructs, end}
 use Rattle.aud_gen.specs.Assembly.{instructions_by, offset, end_line, assembled_from}
 use Rattle.aud_code.specs.Sound.{IsStart}
 use Rattle.aud_gen.proofs.Flat.Within.{LinesIn, both, call_in, body_in}
-use Rattle.aud_gen.proofs.Flat.Sizes.{last_is}
+use Rattle.aud_gen.proofs.Standing.Sizes.{last_is}
 
 module _ (T : ℕ) where
   unit_in : (b : Body) (at : ℕ) → at + body_size b 1 ≤ T → LinesIn T (unit_code b at)

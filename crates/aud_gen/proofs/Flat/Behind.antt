@@ -2,13 +2,13 @@
 use Rattle.std.proofs.Common.{◌≡◌, ℕ, zero, suc, ◌+◌, List, [], ◌∷◌, ◌++◌, length, drop, refl, sym, ap, ◌∙◌, subst, arith}
 use Rattle.aud_typed.specs.Tree.{Statement, Part, Handlers, Body, body, Doing, Alternatives}
 use Rattle.aud_meaning.specs.declared.state.Construct.{Construct}
-use Rattle.aud_gen.specs.Layout.{What, does, continues, guards, ends, leaves, Line, Around, ways_count, around_out, statement_size, part_size, handlers_size, body_size, doing_size, offered_size, main_size, end_place, statement_code, part_code, handlers_code, body_code, doing_code, offered_code, guard_line, end_line, statement_size_by, part_size_by, handlers_size_by, body_size_by, doing_size_by, offered_size_by, end_place_by}
+use Rattle.aud_gen.specs.Layout.{part_place, What, does, continues, guards, ends, leaves, Line, Around, ways_count, around_out, statement_size, part_size, handlers_size, body_size, doing_size, offered_size, main_size, end_place, statement_code, part_code, handlers_code, body_code, doing_code, offered_code, guard_line, end_line, statement_size_by, part_size_by, handlers_size_by, body_size_by, doing_size_by, offered_size_by, end_place_by}
 use Rattle.aud_gen.specs.Assembly.{instructions_by, line_size, offset}
 use Rattle.aud_gen.specs.Written.{flat_step}
 use Rattle.aud_gen.specs.Shows.{HasAt}
 use Rattle.aud_gen.proofs.Standing.Places.{has_front, has_back, has_tail, length-statement, length-part, length-handlers, length-body, length-doing, length-offered}
 use Rattle.aud_gen.proofs.Flat.Assembly.{offset_zero}
-use Rattle.aud_gen.proofs.Flat.Sizes.{total, total-statement, total-part, total-handlers, total-body, total-doing, total-offered}
+use Rattle.aud_gen.proofs.Standing.Sizes.{total, total-statement, total-part, total-handlers, total-body, total-doing, total-offered}
 
 -- the place behind a line
 next_offset : (lines : List Line) (n : ℕ) (l : Line) (rest : List Line) → drop n lines ≡ l ∷ rest → offset lines (suc n) ≡ offset lines n + line_size l
@@ -98,3 +98,24 @@ module _ (lines : List Line) where
       let p4 = behind_handlers hs (suc guard) last (around_out last a) _ e (has_front lines (suc guard) ch _ h3) p3 ec in
       let same : last ≡ suc guard + handlers_size hs w = omega arith in
       ap F same ∙ p4 ∙ omega arith
+
+  -- behind what an accept of a select does, behind what follows it, and the other alternatives there
+  pub record Passed (d : Doing) (p : Part) (more : Alternatives) (at next : ℕ) (a : Around) (at' e : ℕ) : Type 0 where
+    pub after : F (at + doing_size d) ≡ at' + doing_size_by flat_step d
+    pub later : F (at + doing_size d + part_size p (ways_count a)) ≡ at' + doing_size_by flat_step d + part_size_by flat_step p e
+    pub others : HasAt lines (at + doing_size d + part_size p (ways_count a)) (offered_code more (at + doing_size d + part_size p (ways_count a)) next a)
+
+  pub passed : (d : Doing) (p : Part) (more : Alternatives) (at next : ℕ) (a : Around) (at' e : ℕ) → HasAt lines at (doing_code d at (part_place p (at + doing_size d) next) a.out ++ (part_code p (at + doing_size d) next a ++ offered_code more (at + doing_size d + part_size p (ways_count a)) next a)) → F at ≡ at' → ways_count a ≡ e → Passed d p more at next a at' e
+  passed d p more at next a at' e h ea ec =
+      let after = at + doing_size d in
+      let later = after + part_size p (ways_count a) in
+      let cd = doing_code d at (part_place p after next) a.out in
+      let cp = part_code p after next a in
+      let cm = offered_code more later next a in
+      let h1 : HasAt lines after (cp ++ cm) = has_back lines at (doing_size d) cd (cp ++ cm) (length-doing d at (part_place p after next) a.out) h in
+      let behind = behind_doing d at (part_place p after next) a.out at' (has_front lines at cd (cp ++ cm) h) ea in
+      record {
+        after = behind;
+        later = behind_part p after next a _ e (has_front lines after cp cm h1) behind ec;
+        others = has_back lines after (part_size p (ways_count a)) cp cm (length-part p after next a) h1;
+      }

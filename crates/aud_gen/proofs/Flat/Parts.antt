@@ -5,13 +5,13 @@ use Rattle.aud_text.specs.declared.place.Pos.{Pos}
 use Rattle.aud_typed.specs.Tree.{For, Statement, Part, nothing, some, Handlers, no_handlers, handler, Body, body, Doing, without_do, with_do, Alternatives, no_alternatives, accepting, delaying, terminating}
 use Rattle.aud_meaning.specs.declared.state.Construct.{Construct}
 use Rattle.aud_code.specs.Places.{Way}
-use Rattle.aud_gen.specs.Layout.{Line, continues, guards, Around, in_block, ways_count, statement_size, part_size, doing_size, line, part_place, doing_place, stub_line, stubs, stub_ways, stubs_of, end_line, guard_line, guards_of, parts_from, bodies_from, statement_code, part_code, handlers_code, doing_code, offered_code, guards_of_by, parts_from_by, bodies_from_by, guard_line_by}
+use Rattle.aud_gen.specs.Layout.{Line, continues, guards, Around, in_block, ways_count, statement_size, part_size, doing_size, line, part_place, doing_place, stub_line, stubs, stub_ways, stubs_of, end_line, guard_line, guards_of, parts_from, bodies_from, statement_code, part_code, handlers_code, offered_code, guards_of_by, parts_from_by, bodies_from_by, guard_line_by}
 use Rattle.aud_gen.specs.Assembly.{offset, guard_moved}
 use Rattle.aud_gen.specs.Written.{flat_step}
 use Rattle.aud_gen.specs.Shows.{HasAt}
-use Rattle.aud_gen.proofs.Standing.Places.{has_front, has_back, has_tail, length-statement, length-part, length-doing}
+use Rattle.aud_gen.proofs.Standing.Places.{has_front, has_back, has_tail, length-statement, length-part}
 use Rattle.aud_gen.proofs.Flat.Moving.{way_to, moved, line_moved}
-use Rattle.aud_gen.proofs.Flat.Behind.{behind_plain, behind_statement, behind_part, behind_doing}
+use Rattle.aud_gen.proofs.Flat.Behind.{behind_plain, behind_statement, behind_part, passed}
 
 module _ (lines : List Line) where
   abbrev F : ℕ → ℕ
@@ -51,15 +51,10 @@ module _ (lines : List Line) where
   pub parts_moved : (o : Alternatives) (at next : ℕ) (a : Around) (at' next' e : ℕ) → HasAt lines at (offered_code o at next a) → F at ≡ at' → F next ≡ next' → ways_count a ≡ e → map F (parts_from o at next (ways_count a)) ≡ parts_from_by flat_step o at' next' e
   parts_moved no_alternatives at next a at' next' e h ea en ec = refl
   parts_moved (accepting g pos n d p more) at next a at' next' e h ea en ec =
-      let w = ways_count a in
       let after = at + doing_size d in
-      let cd = doing_code d at (part_place p after next) a.out in
-      let cp = part_code p after next a in
-      let hp = has_back lines at (doing_size d) cd _ (length-doing d at (part_place p after next) a.out) h in
-      let e1 = behind_doing lines d at (part_place p after next) a.out at' (has_front lines at cd _ h) ea in
-      let e2 = behind_part lines p after next a _ e (has_front lines after cp _ hp) e1 ec in
-      let hm = has_back lines after (part_size p w) cp _ (length-part p after next a) hp in
-      place_more (part_place p after next) _ (parts_from more (after + part_size p w) next w) _ (part_place_moved p after next _ next' e1 en) (parts_moved more (after + part_size p w) next a _ next' e hm e2 en ec)
+      let later = after + part_size p (ways_count a) in
+      let it = passed lines d p more at next a at' e h ea ec in
+      place_more (part_place p after next) _ (parts_from more later next (ways_count a)) _ (part_place_moved p after next _ next' it.after en) (parts_moved more later next a _ next' e it.others it.later en ec)
   parts_moved (delaying g x p more) at next a at' next' e h ea en ec =
       let w = ways_count a in
       let cp = part_code p at next a in
@@ -71,15 +66,11 @@ module _ (lines : List Line) where
   pub bodies_moved : (o : Alternatives) (at next : ℕ) (a : Around) (at' next' e : ℕ) → HasAt lines at (offered_code o at next a) → F at ≡ at' → F next ≡ next' → ways_count a ≡ e → map F (bodies_from o at next (ways_count a)) ≡ bodies_from_by flat_step o at' next' e
   bodies_moved no_alternatives at next a at' next' e h ea en ec = refl
   bodies_moved (accepting g pos n d p more) at next a at' next' e h ea en ec =
-      let w = ways_count a in
       let after = at + doing_size d in
-      let cd = doing_code d at (part_place p after next) a.out in
-      let cp = part_code p after next a in
-      let hp = has_back lines at (doing_size d) cd _ (length-doing d at (part_place p after next) a.out) h in
-      let e1 = behind_doing lines d at (part_place p after next) a.out at' (has_front lines at cd _ h) ea in
-      let e2 = behind_part lines p after next a _ e (has_front lines after cp _ hp) e1 ec in
-      let hm = has_back lines after (part_size p w) cp _ (length-part p after next a) hp in
-      place_more (doing_place d at (part_place p after next)) _ (bodies_from more (after + part_size p w) next w) _ (doing_place_moved d at (part_place p after next) at' _ ea (part_place_moved p after next _ next' e1 en)) (bodies_moved more (after + part_size p w) next a _ next' e hm e2 en ec)
+      let later = after + part_size p (ways_count a) in
+      let it = passed lines d p more at next a at' e h ea ec in
+      let to = part_place_moved p after next _ next' it.after en in
+      place_more (doing_place d at (part_place p after next)) _ (bodies_from more later next (ways_count a)) _ (doing_place_moved d at (part_place p after next) at' _ ea to) (bodies_moved more later next a _ next' e it.others it.later en ec)
   bodies_moved (delaying g x p more) at next a at' next' e h ea en ec =
       let w = ways_count a in
       let cp = part_code p at next a in

@@ -7,8 +7,8 @@ use Rattle.aud_meaning.specs.declared.state.Construct.TheVariants as construct
 use Rattle.std.proofs.Common.{slice_index_or}
 use Rattle.aud_gen.specs.Layout.{one_line, What, does, continues, guards, ends, leaves, Line, Around, one_more, in_loop, in_for, in_block, in_call, around_out, ways_count, statement_size, part_size, handlers_size, body_size, doing_size, offered_size, main_size, end_place, stub_ways, stubs, stubs_of, end_line, guard_line, guards_of, line, statement_code, part_code, part_place, doing_place, parts_from, bodies_from, handlers_code, body_code, doing_code, offered_code}
 use Rattle.aud_code.specs.Places.{Way, Guard}
-use Rattle.aud_gen.proofs.Standing.Places.{count-block, count-for}
-use Rattle.aud_gen.proofs.Flat.Sizes.{last_is}
+use Rattle.aud_gen.proofs.Standing.Sizes.{count-block, count-for}
+use Rattle.aud_gen.proofs.Standing.Sizes.{last_is}
 
 module _ (T : ℕ) where
   abbrev pub PlacesIn : List ℕ → Type 0

@@ -9,11 +9,11 @@ use Rattle.aud_gen.specs.Assembly.{offset}
 use Rattle.aud_gen.specs.Instructions.{condition_code}
 use Rattle.aud_gen.specs.Written.{flat_step, written, WrittenLaw}
 use Rattle.aud_gen.specs.Shows.{HasAt}
-use Rattle.aud_gen.proofs.Standing.Places.{has_front, has_back, has_tail, has_moved, length-statement, length-part, length-body, length-unit, length-doing, length-offered, count-block}
+use Rattle.aud_gen.proofs.Standing.Places.{has_front, has_back, has_tail, has_moved, length-statement, length-part, length-body, length-unit, length-doing, length-offered}
 use Rattle.aud_gen.proofs.Flat.Assembly.{offset_zero}
 use Rattle.aud_gen.proofs.Flat.Moving.{moved, same_lines, both_moved, count_moved, out_moved, loop_moved, for_moved, exit_moved}
 use Rattle.aud_gen.proofs.Flat.Parts.{Moved, place_more, one_place, two_places, part_place_moved, doing_place_moved, parts_moved, bodies_moved, around_block, stubs_of_moved, out_same, line_same, line_out, line_alone, next_moved, guard_moved_to, end_moved, more_moved}
-use Rattle.aud_gen.proofs.Flat.Sizes.{last_is}
+use Rattle.aud_gen.proofs.Standing.Sizes.{last_is, count-block}
 use Rattle.aud_gen.proofs.Flat.Behind.{behind_line, behind_plain, behind_statement, behind_part, behind_doing, behind_offered, behind_body, behind_main}
 
 module _ (lines : List Line) where

@@ -7,7 +7,8 @@ use Rattle.aud_meaning.specs.Items.{before, body_before, takes_by, follows, one_
 use Rattle.aud_code.specs.Places.{goes_there}
 use Rattle.aud_gen.specs.Layout.{Line, Around, in_loop, in_for, in_block, ways_count, statement_size, part_size, doing_size, offered_size, end_place, end_line, stubs, stubs_of, line, statement_code, part_code, part_place, parts_from, bodies_from, body_code, doing_code, offered_code, Code, line_at}
 use Rattle.aud_gen.specs.Shows.{HasAt, IsStep, EndsAt, Stands, ShowsControl}
-use Rattle.aud_gen.proofs.Standing.Places.{has_front, has_back, has_tail, has_moved, has_same, line_is, length-statement, length-part, length-doing, length-offered, count-block}
+use Rattle.aud_gen.proofs.Standing.Places.{has_front, has_back, has_tail, has_moved, has_same, line_is, length-statement, length-part, length-doing, length-offered}
+use Rattle.aud_gen.proofs.Standing.Sizes.{count-block}
 use Rattle.aud_gen.proofs.Standing.Control.{First, at_place, enters, resumes, body_stands, before_stands, part_stands, has_end, doing_stands}
 
 module _ (code : Code) where

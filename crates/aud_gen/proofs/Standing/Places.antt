@@ -1,14 +1,13 @@
 -- Where the code of each part stands.
-use Rattle.std.proofs.Common.{◌≡◌, ℕ, zero, suc, ◌+◌, List, [], ◌∷◌, ◌++◌, length, drop, get_or, map, refl, sym, ap, ◌∙◌, subst, arith, append_assoc, append-nil, length-append}
+use Rattle.std.proofs.Common.{◌≡◌, ℕ, zero, suc, ◌+◌, List, [], ◌∷◌, ◌++◌, length, drop, get_or, refl, sym, ap, ◌∙◌, subst, arith, append_assoc, append-nil}
 use Rattle.std.proofs.lemmas.List.{drop-drop, drop_at, get_or-drop}
-use Rattle.aud_text.specs.declared.place.Pos.{Pos}
-use Rattle.aud_typed.specs.Tree.{Statement, sequence, declare, declare_array, declare_tasks, declare_object, activated, activate, null, assign, put, if_then, plain_loop, while_loop, for_loop, exit, return, return_value, raising, raising_again, block, procedure_call, own_entry_call, operation_call, entry_call, delay, accept, select, abort, Part, nothing, some, Handlers, no_handlers, handler, Body, body, Doing, without_do, with_do, Alternatives, no_alternatives, accepting, delaying, terminating, Program}
+use Rattle.aud_typed.specs.Tree.{Statement, Part, Handlers, Body, Doing, Alternatives, Program}
 use Rattle.aud_meaning.specs.declared.state.Construct.{Construct}
 use Rattle.aud_meaning.specs.declared.state.Construct.TheVariants as construct
 use Rattle.aud_meaning.specs.Items.{no_body}
-use Rattle.aud_code.specs.Places.{Way}
-use Rattle.aud_gen.specs.Layout.{Line, Around, in_loop, in_for, in_block, in_call, one_more, around_out, ways_count, statement_size, part_size, handlers_size, body_size, doing_size, offered_size, main_size, end_place, stubs, stub_ways, stubs_of, end_line, guard_line, statement_code, part_code, part_place, handlers_code, body_code, doing_code, offered_code, unit_code, units_code, starts_from, spare_from, Code, no_line, line_at, code_of}
+use Rattle.aud_gen.specs.Layout.{one_line, What, does, continues, guards, ends, leaves, Line, Around, in_call, ways_count, statement_size, part_size, handlers_size, body_size, doing_size, offered_size, end_place, statement_code, part_code, handlers_code, body_code, doing_code, offered_code, unit_code, units_code, starts_from, spare_from, Code, no_line, line_at, code_of}
 use Rattle.aud_gen.specs.Shows.{HasAt, UnitsAt}
+use Rattle.aud_gen.proofs.Standing.Sizes.{counted, total, total-statement, total-part, total-handlers, total-body, total-doing, total-offered}
 
 pub has_front : (lines : List Line) (place : ℕ) (a b : List Line) → HasAt lines place (a ++ b) → HasAt lines place a
 has_front lines place a b h = record { rest = b ++ h.rest; is = h.is ∙ append_assoc a b h.rest }
@@ -45,126 +44,37 @@ line_is code place l b h =
 
 -- Lengths.
 
-length_two : (a b : List Line) (m n : ℕ) → length a ≡ m → length b ≡ n → length (a ++ b) ≡ m + n
-length_two a b m n ha hb = omega (arith, length-append a b)
+adds_one : (s : Statement) (m n : ℕ) → one_line s (m + n) ≡ one_line s m + n
+adds_one s m n = omega arith
 
-pub length-stubs : (ws : List Way) (end : Pos) (at : ℕ) → length (stubs ws end at) ≡ length ws
-length-stubs [] end at = refl
-length-stubs (w ∷ ws) end at = ap suc (length-stubs ws end (suc at))
+length_is : (ls : List Line) → total one_line adds_one ls ≡ length ls
+length_is [] = refl
+length_is (l ∷ ls) = counted_one l.what (total one_line adds_one ls) ∙ ap suc (length_is ls)
+  where
+    counted_one : (w : What) (n : ℕ) → counted one_line adds_one w n ≡ suc n
+    counted_one (does s) n = refl
+    counted_one (continues f) n = refl
+    counted_one (guards gs) n = refl
+    counted_one (ends c next) n = refl
+    counted_one (leaves m next) n = refl
 
-pub length-stub_ways : (ws : List Way) (at : ℕ) → length (stub_ways ws at) ≡ length ws
-length-stub_ways [] at = refl
-length-stub_ways (w ∷ ws) at = ap suc (length-stub_ways ws (suc at))
+pub length-statement : (s : Statement) (at next : ℕ) (a : Around) → length (statement_code s at next a) ≡ statement_size s (ways_count a)
+length-statement s at next a = sym (length_is (statement_code s at next a)) ∙ total-statement one_line adds_one s at next a
 
-pub length-more_ways : (ws : List Way) → length (map one_more ws) ≡ length ws
-length-more_ways [] = refl
-length-more_ways (w ∷ ws) = ap suc (length-more_ways ws)
+pub length-part : (p : Part) (at next : ℕ) (a : Around) → length (part_code p at next a) ≡ part_size p (ways_count a)
+length-part p at next a = sym (length_is (part_code p at next a)) ∙ total-part one_line adds_one p at next a
 
-pub count-block : (last : ℕ) (a : Around) → ways_count (in_block last a) ≡ ways_count a
-count-block last a = ap suc (length-stub_ways a.exits (suc last))
+pub length-handlers : (h : Handlers) (at next : ℕ) (a : Around) → length (handlers_code h at next a) ≡ handlers_size h (ways_count a)
+length-handlers h at next a = sym (length_is (handlers_code h at next a)) ∙ total-handlers one_line adds_one h at next a
 
-pub count-for : (next : ℕ) (a : Around) → ways_count (in_for next a) ≡ suc (ways_count a)
-count-for next a = ap (λ n. suc (suc n)) (length-more_ways a.exits)
+pub length-body : (c : Construct) (b : Body) (at next out : ℕ) (a : Around) → length (body_code c b at next out a) ≡ body_size b (ways_count a)
+length-body c b at next out a = sym (length_is (body_code c b at next out a)) ∙ total-body one_line adds_one c b at next out a
 
-length_end : (a : List Line) (l : Line) (n : ℕ) → length a ≡ n → length (a ++ l ∷ []) ≡ n + 1
-length_end a l n e = omega (arith, length-append a (l ∷ []))
+pub length-doing : (d : Doing) (at next out : ℕ) → length (doing_code d at next out) ≡ doing_size d
+length-doing d at next out = sym (length_is (doing_code d at next out)) ∙ total-doing one_line adds_one d at next out
 
-mutual
-  pub length-statement : (s : Statement) (at next : ℕ) (a : Around) → length (statement_code s at next a) ≡ statement_size s (ways_count a)
-  length-statement (sequence x y) at next a =
-      let middle = at + statement_size x (ways_count a) in
-      length_two (statement_code x at middle a) (statement_code y middle next a) _ _ (length-statement x at middle a) (length-statement y middle next a)
-  length-statement (plain_loop x) at next a = length-statement x at at (in_loop next a)
-  length-statement (if_then pos c x p) at next a =
-      let second = suc at + statement_size x (ways_count a) in
-      let n = length_two (statement_code x (suc at) next a) (part_code p second next a) _ _ (length-statement x (suc at) next a) (length-part p second next a) in
-      omega (arith, n)
-  length-statement (while_loop pos c x) at next a = let n = length-statement x (suc at) at (in_loop next a) in omega (arith, n)
-  length-statement (for_loop f x y s) at next a =
-      let n = length-statement s (suc (suc at)) (suc at) (in_for next a) ∙ ap (statement_size s) (count-for next a) in
-      omega (arith, n)
-  length-statement (block pos n b) at next a =
-      let e = ways_count a in
-      let end = end_place b (suc at) e in
-      let inner = in_block end a in
-      let m = length-body construct.Block b (suc at) next a.out inner ∙ ap (body_size b) (count-block end a) in
-      let k = length-stubs_of b a.exits a.back (suc end) in
-      let both = length_two (body_code construct.Block b (suc at) next a.out inner) (stubs_of b (a.exits ++ a.back ∷ []) (suc end)) _ _ m k in
-      omega (arith, both)
-  length-statement (entry_call pos c p q) at next a =
-      let second = suc at + part_size p (ways_count a) in
-      let n = length_two (part_code p (suc at) next a) (part_code q second next a) _ _ (length-part p (suc at) next a) (length-part q second next a) in
-      omega (arith, n)
-  length-statement (accept pos n d) at next a = let m = length-doing d (suc at) next a.out in omega (arith, m)
-  length-statement (select pos offered p) at next a =
-      let second = suc at + offered_size offered (ways_count a) in
-      let n = length_two (offered_code offered (suc at) next a) (part_code p second next a) _ _ (length-offered offered (suc at) next a) (length-part p second next a) in
-      omega (arith, n)
-  length-statement (declare pos e) at next a = refl
-  length-statement (declare_array pos t n) at next a = refl
-  length-statement (declare_tasks pos ts) at next a = refl
-  length-statement (declare_object pos n es) at next a = refl
-  length-statement (activated pos) at next a = refl
-  length-statement (activate pos) at next a = refl
-  length-statement (null pos) at next a = refl
-  length-statement (assign pos r e) at next a = refl
-  length-statement (put pos t) at next a = refl
-  length-statement (exit pos n e) at next a = refl
-  length-statement (return pos) at next a = refl
-  length-statement (return_value pos e) at next a = refl
-  length-statement (raising pos x) at next a = refl
-  length-statement (raising_again pos) at next a = refl
-  length-statement (procedure_call pos c) at next a = refl
-  length-statement (own_entry_call pos es f) at next a = refl
-  length-statement (operation_call pos v c) at next a = refl
-  length-statement (delay pos e) at next a = refl
-  length-statement (abort pos ns) at next a = refl
-
-  pub length-stubs_of : (b : Body) (ws : List Way) (w : Way) (at : ℕ) → length (stubs_of b (ws ++ w ∷ []) at) ≡ suc (length ws)
-  length-stubs_of (body d begin s h end) ws w at = let n = length-append ws (w ∷ []) in let k = length-stubs (ws ++ w ∷ []) end at in omega (arith, n, k)
-
-  pub length-part : (p : Part) (at next : ℕ) (a : Around) → length (part_code p at next a) ≡ part_size p (ways_count a)
-  length-part nothing at next a = refl
-  length-part (some s) at next a = length-statement s at next a
-
-  pub length-handlers : (h : Handlers) (at next : ℕ) (a : Around) → length (handlers_code h at next a) ≡ handlers_size h (ways_count a)
-  length-handlers no_handlers at next a = refl
-  length-handlers (handler others choices s more) at next a =
-      let middle = at + statement_size s (ways_count a) in
-      length_two (statement_code s at next a) (handlers_code more middle next a) _ _ (length-statement s at next a) (length-handlers more middle next a)
-
-  pub length-body : (c : Construct) (b : Body) (at next out : ℕ) (a : Around) → length (body_code c b at next out a) ≡ body_size b (ways_count a)
-  length-body c (body d begin s h end) at next out a =
-      let e = ways_count a in
-      let first = at + part_size d e in
-      let guard = first + statement_size s e in
-      let last = first + main_size s h e in
-      let cd = part_code d at first (around_out last a) in
-      let cs = statement_code s first last (around_out guard a) in
-      let ch = handlers_code h (suc guard) last (around_out last a) in
-      let l = end_line c end next out in
-      let g = guard_line h end (suc guard) last e in
-      let n = length_end ch l _ (length-handlers h (suc guard) last (around_out last a)) in
-      length_two cd (cs ++ (g ∷ (ch ++ l ∷ []))) _ _ (length-part d at first (around_out last a))
-      (length_two cs (g ∷ (ch ++ l ∷ [])) _ _ (length-statement s first last (around_out guard a)) (ap suc n))
-
-  pub length-doing : (d : Doing) (at next out : ℕ) → length (doing_code d at next out) ≡ doing_size d
-  length-doing without_do at next out = refl
-  length-doing (with_do n b) at next out = length-body construct.Accept b at next out (in_call (end_place b at 1))
-
-  pub length-offered : (o : Alternatives) (at next : ℕ) (a : Around) → length (offered_code o at next a) ≡ offered_size o (ways_count a)
-  length-offered no_alternatives at next a = refl
-  length-offered (accepting g pos n d p more) at next a =
-      let after = at + doing_size d in
-      let later = after + part_size p (ways_count a) in
-      let cd = doing_code d at (part_place p after next) a.out in
-      let cp = part_code p after next a in
-      let cm = offered_code more later next a in
-      length_two cd (cp ++ cm) _ _ (length-doing d at (part_place p after next) a.out) (length_two cp cm _ _ (length-part p after next a) (length-offered more later next a))
-  length-offered (delaying g x p more) at next a =
-      let later = at + part_size p (ways_count a) in
-      length_two (part_code p at next a) (offered_code more later next a) _ _ (length-part p at next a) (length-offered more later next a)
-  length-offered (terminating g more) at next a = length-offered more at next a
+pub length-offered : (o : Alternatives) (at next : ℕ) (a : Around) → length (offered_code o at next a) ≡ offered_size o (ways_count a)
+length-offered o at next a = sym (length_is (offered_code o at next a)) ∙ total-offered one_line adds_one o at next a
 
 -- Bodies.
 
