@@ -94,12 +94,51 @@ pub struct Operation {
     pub right: IntegerExpression,
 }
 
+/// An operator of a logical expression (RM 4.4(2)): one that evaluates both sides, or a short circuit.
+#[derive(Clone, Copy, PartialEq, Eq, Debug)]
+pub enum Connective {
+    Logical(Logical),
+    AndThen,
+    OrElse,
+}
+
+/// An expression of type Boolean.
+#[derive(Drop, Debug)]
+pub enum BooleanExpression {
+    Truth(bool),
+    Variable(Variable),
+    Not(Box<BooleanExpression>),
+    /// Of two Integers.
+    Relation(Relation, IntegerExpression, IntegerExpression),
+    /// Of two truth values.
+    Comparison(Relation, Box<BooleanExpression>, Box<BooleanExpression>),
+    /// An operand, and others, each with the same operator on what stands before it.
+    Chain(Connective, Box<BooleanExpression>, Vec<BooleanExpression>),
+}
+
+/// A value for a place that asks for a subtype.
+#[derive(Drop, Debug)]
+pub enum ValueExpression {
+    /// Constraint_Error is raised where it is not in the subtype's range (RM 4.6(51)).
+    Whole(Subtype, IntegerExpression),
+    Truth(BooleanExpression),
+}
+
+/// A variable that is assigned, and its subtype.
+#[derive(Clone, Copy, PartialEq, Eq, Debug)]
+pub struct Reference {
+    pub variable: Variable,
+    pub subtype: Subtype,
+}
+
 /// A text, which is put out.
 #[derive(Drop, Debug)]
 pub enum TextExpression {
     Literal(Text),
     /// Integer'Image of a value (RM 4.10).
     Image(IntegerExpression),
+    /// Boolean'Image of a value.
+    ImageTruth(BooleanExpression),
     /// A text, and those that follow it.
     Join(Box<TextExpression>, Vec<TextExpression>),
     /// What ends a line.
@@ -108,16 +147,35 @@ pub enum TextExpression {
 
 /// A statement, or the elaboration of one name of an object declaration, with the place of its first token.
 #[derive(Drop, Debug)]
+#[cycle(statement)]
 pub enum Statement {
     /// The next variable of the innermost frame, and its initial value.
-    Declare(Pos, IntegerExpression),
+    Declare(Pos, ValueExpression),
     Null(Pos),
-    Assign(Pos, Variable, IntegerExpression),
+    Assign(Pos, Reference, ValueExpression),
     Put(Pos, TextExpression),
+    /// The first arm, those behind each `elsif`, and the statements behind `else` (RM 5.3).
+    If(Box<Arm>, Vec<Arm>, Option<Box<Statements>>),
+    /// While the condition is true, its statements are done again (RM 5.5).
+    While(Pos, BooleanExpression, Box<Statements>),
+    /// A loop that is left by an exit, if at all.
+    Loop(Box<Statements>),
+    /// Out of the loop that is this number of loops further out than the innermost one, where the condition is true (RM 5.7).
+    Exit(Pos, usize, BooleanExpression),
+}
+
+/// A condition, where its `if` or `elsif` stands, and the statements that are done where it is true.
+#[derive(Drop, Debug)]
+#[cycle(statement)]
+pub struct Arm {
+    pub at: Pos,
+    pub condition: BooleanExpression,
+    pub statements: Statements,
 }
 
 /// A sequence of statements (RM 5.1(2)): the first, and those behind it.
 #[derive(Drop, Debug)]
+#[cycle(statement)]
 pub struct Statements {
     pub first: Statement,
     pub others: Vec<Statement>,

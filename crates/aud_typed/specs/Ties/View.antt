@@ -1,12 +1,22 @@
--- The plain program of a program in memory. Its expressions are as yet of type Integer and without elements.
-use Rattle.std.specs.Prelude.{List, [], ◌∷◌, map}
+-- The plain program of a program in memory. It has as yet neither arrays, blocks, for loops and handlers nor anything of tasks.
+use Rattle.std.specs.Prelude.{List, [], ◌∷◌, map, Option, Some, None, Box}
+use Rattle.std.specs.Global.{Global}
 use Rattle.aud_typed.specs.declared.program.IntegerExpression.{IntegerExpression, Number, Variable, Unary', Chain', Row_of-Operation, end_of-Operation, more_of-Operation}
-use Rattle.aud_typed.specs.declared.program.TextExpression.{TextExpression, Literal, Image, Join', NewLine, Row_of-TextExpression, end_of-TextExpression, more_of-TextExpression}
-use Rattle.aud_typed.specs.declared.program.Statement.{Statement}
-use Rattle.aud_typed.specs.declared.program.Statement.TheVariants.{Declare, Null, Assign, Put}
-use Rattle.aud_typed.specs.declared.program.Subtype.TheVariants.{Integer}
+use Rattle.aud_typed.specs.declared.program.Connective.{Connective}
+use Rattle.aud_typed.specs.declared.program.Connective.TheVariants.{Logical, AndThen, OrElse}
+use Rattle.aud_typed.specs.declared.program.BooleanExpression as boolean
+use Rattle.aud_typed.specs.declared.program.BooleanExpression.{BooleanExpression, Row_of-BooleanExpression, end_of-BooleanExpression, more_of-BooleanExpression}
+use Rattle.aud_typed.specs.declared.program.ValueExpression.{ValueExpression}
+use Rattle.aud_typed.specs.declared.program.ValueExpression.TheVariants.{Whole, Truth}
+use Rattle.aud_typed.specs.declared.program.Reference.{Reference}
+use Rattle.aud_typed.specs.declared.program.TextExpression.{TextExpression, Literal, Image, ImageTruth, Join', NewLine, Row_of-TextExpression, end_of-TextExpression, more_of-TextExpression}
+use Rattle.aud_typed.specs.declared.program.Statement.{Statement, Declare, Null, Assign, Put, If', While', Loop', Exit, Row_of-Statement, end_of-Statement, more_of-Statement, Row_of-Arm, end_of-Arm, more_of-Arm, Held-Statement-If-2, None', Some'}
+use Rattle.aud_typed.specs.declared.program.Arm.{Arm}
+use Rattle.aud_typed.specs.declared.program.Statements.{Statements}
+use Rattle.aud_typed.specs.declared.program.Subtype.TheVariants.{Boolean}
 use Rattle.aud_typed.specs.declared.program.Program.{Program}
 use Rattle.aud_typed.specs.Tree as tree
+use Rattle.aud_typed.specs.Tree.{before, Part, nothing, some}
 
 abbrev mutual
   pub plain_integer : IntegerExpression → tree.IntegerExpression
@@ -19,10 +29,41 @@ abbrev mutual
   plain_operations end_of-Operation = []
   plain_operations (more_of-Operation operator right rest) = record { operator = operator; right = plain_integer right } ∷ plain_operations rest
 
+abbrev pub connected : Connective → tree.BooleanExpression → tree.BooleanExpression → tree.BooleanExpression
+connected (Logical operator) x y = tree.logical operator x y
+connected AndThen x y = tree.and_then x y
+connected OrElse x y = tree.or_else x y
+
+-- an operand, and those behind it
+abbrev pub all_connected : Connective → tree.BooleanExpression → List tree.BooleanExpression → tree.BooleanExpression
+all_connected c left [] = left
+all_connected c left (x ∷ xs) = all_connected c (connected c left x) xs
+
+abbrev mutual
+  pub plain_boolean : BooleanExpression → tree.BooleanExpression
+  plain_boolean (boolean.Truth b) = tree.truth b
+  plain_boolean (boolean.Variable v) = tree.stored (tree.scalar v Boolean)
+  plain_boolean (boolean.Not' _ x) = tree.negation (plain_boolean x)
+  plain_boolean (boolean.Relation operator x y) = tree.relation operator (plain_integer x) (plain_integer y)
+  plain_boolean (boolean.Comparison' operator _ x _ y) = tree.comparison operator (plain_boolean x) (plain_boolean y)
+  plain_boolean (boolean.Chain' connective _ x _ rest) = all_connected connective (plain_boolean x) (plain_booleans rest)
+
+  pub plain_booleans : {n : _} → Row_of-BooleanExpression n → List tree.BooleanExpression
+  plain_booleans end_of-BooleanExpression = []
+  plain_booleans (more_of-BooleanExpression x rest) = plain_boolean x ∷ plain_booleans rest
+
+abbrev pub plain_value : ValueExpression → tree.ValueExpression
+plain_value (Whole t e) = tree.whole t (plain_integer e)
+plain_value (Truth e) = tree.boolean (plain_boolean e)
+
+abbrev pub plain_reference : Reference → tree.Reference
+plain_reference r = tree.scalar r.variable r.subtype
+
 abbrev mutual
   pub plain_text : TextExpression → tree.TextExpression
   plain_text (Literal text) = tree.literal text
   plain_text (Image e) = tree.image (plain_integer e)
+  plain_text (ImageTruth e) = tree.image_truth (plain_boolean e)
   plain_text (Join' _ x _ rest) = tree.joined (plain_text x) (plain_texts rest)
   plain_text NewLine = tree.new_line
 
@@ -30,11 +71,29 @@ abbrev mutual
   plain_texts end_of-TextExpression = []
   plain_texts (more_of-TextExpression x rest) = plain_text x ∷ plain_texts rest
 
-abbrev pub plain_statement : Statement → tree.Statement
-plain_statement (Declare at e) = tree.declare at (tree.whole Integer (plain_integer e))
-plain_statement (Null at) = tree.null at
-plain_statement (Assign at v e) = tree.assign at (tree.scalar v Integer) (tree.whole Integer (plain_integer e))
-plain_statement (Put at t) = tree.put at (plain_text t)
+abbrev mutual
+  pub plain_statement : Statement → tree.Statement
+  plain_statement (Declare at e) = tree.declare at (plain_value e)
+  plain_statement (Null at) = tree.null at
+  plain_statement (Assign at r e) = tree.assign at (plain_reference r) (plain_value e)
+  plain_statement (Put at t) = tree.put at (plain_text t)
+  plain_statement (If' _ at c first _ others _ arms rest) = tree.if_then at (plain_boolean c) (before (plain_statement first) (plain_row others)) (plain_arms arms (plain_else rest))
+  plain_statement (While' at c _ first _ others) = tree.while_loop at (plain_boolean c) (before (plain_statement first) (plain_row others))
+  plain_statement (Loop' _ first _ others) = tree.plain_loop (before (plain_statement first) (plain_row others))
+  plain_statement (Exit at n c) = tree.exit at n (plain_boolean c)
+
+  pub plain_row : {n : _} → Row_of-Statement n → List tree.Statement
+  plain_row end_of-Statement = []
+  plain_row (more_of-Statement s rest) = plain_statement s ∷ plain_row rest
+
+  -- the arms behind each `elsif`, and what stands behind `else`
+  pub plain_arms : {n : _} → Row_of-Arm n → Part → Part
+  plain_arms end_of-Arm otherwise = otherwise
+  plain_arms (more_of-Arm at c first _ others rest) otherwise = some (tree.if_then at (plain_boolean c) (before (plain_statement first) (plain_row others)) (plain_arms rest otherwise))
+
+  pub plain_else : Held-Statement-If-2 → Part
+  plain_else None' = nothing
+  plain_else (Some' _ first _ others) = some (before (plain_statement first) (plain_row others))
 
 abbrev pub plain_statements : List Statement → List tree.Statement
 plain_statements ss = map plain_statement ss
@@ -50,3 +109,16 @@ plain_program p = tree.program_of_main (record {
   others = plain_statements p.statements.others.items;
   end = p.end;
 })
+
+-- The same by the parts of what is in memory.
+
+abbrev pub plain_sequence : Statements → tree.Statement
+plain_sequence ss = before (plain_statement ss.first) (plain_statements ss.others.items)
+
+abbrev pub part_of_arms : List Arm → Part → Part
+part_of_arms [] otherwise = otherwise
+part_of_arms (a ∷ more) otherwise = some (tree.if_then a.at (plain_boolean a.condition) (plain_sequence a.statements) (part_of_arms more otherwise))
+
+abbrev pub part_behind : Option (Box Statements Global) → Part
+part_behind None = nothing
+part_behind (Some b) = some (plain_sequence b.value)

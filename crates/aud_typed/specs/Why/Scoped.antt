@@ -2,7 +2,7 @@
 -- is said of programs that are their main procedure alone, with the statements below, and of no others.
 use Rattle.std.specs.Prelude.{◌≡◌, ℕ, suc, ◌<◌, List, [], ◌∷◌, length, slice_index}
 use Rattle.aud_typed.specs.declared.program.Variable.{Variable}
-use Rattle.aud_typed.specs.Tree.{IntegerExpression, number, variable, element, unary, binary, count, ValueExpression, whole, boolean, Reference, scalar, component, TextExpression, literal, image, image_truth, join, new_line, Statement, sequence, declare, null, assign, put, Part, nothing, some, Body, body, Named, Program}
+use Rattle.aud_typed.specs.Tree.{IntegerExpression, number, variable, element, unary, binary, count, BooleanExpression, truth, stored, negation, relation, comparison, logical, and_then, or_else, ValueExpression, whole, boolean, Reference, scalar, component, TextExpression, literal, image, image_truth, join, new_line, Statement, sequence, declare, null, assign, put, if_then, plain_loop, while_loop, exit, Part, nothing, some, Body, body, Named, Program}
 
 -- the number of variables elaborated so far in each open frame, outermost first
 abbrev pub Scope : Type 0
@@ -20,18 +20,29 @@ IntegerScoped (unary operator x) scope = IntegerScoped x scope
 IntegerScoped (binary operator x y) scope = IntegerScoped x scope × IntegerScoped y scope
 IntegerScoped (count v entry) scope = ⊥
 
-abbrev pub ValueScoped : ValueExpression → Scope → Type 0
-ValueScoped (whole subtype x) scope = IntegerScoped x scope
-ValueScoped (boolean x) scope = ⊥
-
 abbrev pub ReferenceScoped : Reference → Scope → Type 0
 ReferenceScoped (scalar v subtype) scope = IsElaborated v scope
 ReferenceScoped (component a index subtype) scope = ⊥
 
+abbrev pub BooleanScoped : BooleanExpression → Scope → Type 0
+BooleanScoped (truth b) scope = Unit {0}
+BooleanScoped (stored r) scope = ReferenceScoped r scope
+BooleanScoped (negation x) scope = BooleanScoped x scope
+BooleanScoped (relation operator x y) scope = IntegerScoped x scope × IntegerScoped y scope
+BooleanScoped (comparison operator x y) scope = BooleanScoped x scope × BooleanScoped y scope
+BooleanScoped (logical operator x y) scope = BooleanScoped x scope × BooleanScoped y scope
+BooleanScoped (and_then x y) scope = BooleanScoped x scope × BooleanScoped y scope
+BooleanScoped (or_else x y) scope = BooleanScoped x scope × BooleanScoped y scope
+BooleanScoped _ scope = ⊥
+
+abbrev pub ValueScoped : ValueExpression → Scope → Type 0
+ValueScoped (whole subtype x) scope = IntegerScoped x scope
+ValueScoped (boolean x) scope = BooleanScoped x scope
+
 abbrev pub TextScoped : TextExpression → Scope → Type 0
 TextScoped (literal text) scope = Unit {0}
 TextScoped (image e) scope = IntegerScoped e scope
-TextScoped (image_truth e) scope = ⊥
+TextScoped (image_truth e) scope = BooleanScoped e scope
 TextScoped (join x y) scope = TextScoped x scope × TextScoped y scope
 TextScoped new_line scope = Unit {0}
 
@@ -46,21 +57,26 @@ scope_after (sequence a b) scope = scope_after b (scope_after a scope)
 scope_after (declare at e) scope = elaborated scope
 scope_after _ scope = scope
 
-abbrev pub StatementScoped : Statement → Scope → Type 0
-StatementScoped (sequence a b) scope = StatementScoped a scope × StatementScoped b (scope_after a scope)
-StatementScoped (declare at e) scope = ValueScoped e scope
-StatementScoped (null at) scope = Unit {0}
-StatementScoped (assign at r e) scope = ReferenceScoped r scope × ValueScoped e scope
-StatementScoped (put at t) scope = TextScoped t scope
-StatementScoped _ scope = ⊥
+abbrev mutual
+  pub StatementScoped : Statement → Scope → Type 0
+  StatementScoped (sequence a b) scope = StatementScoped a scope × StatementScoped b (scope_after a scope)
+  StatementScoped (declare at e) scope = ValueScoped e scope
+  StatementScoped (null at) scope = Unit {0}
+  StatementScoped (assign at r e) scope = ReferenceScoped r scope × ValueScoped e scope
+  StatementScoped (put at t) scope = TextScoped t scope
+  StatementScoped (if_then at c a p) scope = BooleanScoped c scope × StatementScoped a scope × PartScoped p scope
+  StatementScoped (plain_loop a) scope = StatementScoped a scope
+  StatementScoped (while_loop at c a) scope = BooleanScoped c scope × StatementScoped a scope
+  StatementScoped (exit at n c) scope = BooleanScoped c scope
+  StatementScoped _ scope = ⊥
+
+  pub PartScoped : Part → Scope → Type 0
+  PartScoped nothing scope = Unit {0}
+  PartScoped (some s) scope = StatementScoped s scope
 
 abbrev pub scope_behind : Part → Scope → Scope
 scope_behind nothing scope = scope
 scope_behind (some s) scope = scope_after s scope
-
-abbrev pub PartScoped : Part → Scope → Type 0
-PartScoped nothing scope = Unit {0}
-PartScoped (some s) scope = StatementScoped s scope
 
 abbrev declarations_of : Body → Part
 declarations_of (body declarations begin statements _ end) = declarations
