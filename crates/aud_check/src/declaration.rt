@@ -19,7 +19,9 @@ use aud_syntax::tree::{Declaration, Expression, Ident, Identifiers};
 use aud_text::int32::Int32;
 use aud_text::name::Name;
 use aud_text::place::Pos;
-use aud_typed::program::{IntegerExpression, Operation, Statement, Variable};
+use aud_typed::program::{
+    IntegerExpression, Operation, Statement, Subtype, ValueExpression, Variable,
+};
 use std::alloc::{AllocError, Global};
 
 /// The place after a declarative part, and its elaborations (RM 3.11).
@@ -172,9 +174,12 @@ fn elaborate(
     let at = names.first.at;
     for _other in &names.others {
         let copied = copy(alloc, &value)?;
-        elaborations.push(Statement::Declare(at, copied))?;
+        elaborations.push(Statement::Declare(
+            at,
+            ValueExpression::Whole(Subtype::Integer, copied),
+        ))?;
     }
-    elaborations.push(Statement::Declare(at, value))?;
+    elaborations.push(Statement::Declare(at, ValueExpression::Whole(Subtype::Integer, value)))?;
     Ok(())
 }
 

@@ -18,7 +18,8 @@ use crate::typed::{Typed, base_of, with_text};
 use aud_syntax::tree::{Expression, Ident, Statement, Statements};
 use aud_text::place::Pos;
 use aud_typed::program::{
-    Statement as TypedStatement, Statements as TypedStatements, TextExpression,
+    Reference, Statement as TypedStatement, Statements as TypedStatements, Subtype, TextExpression,
+    ValueExpression,
 };
 use std::alloc::{AllocError, Global};
 
@@ -48,7 +49,9 @@ fn assigned(
     right_type(target_base(meaning), at, base_of(&value), faults);
     match (meaning, value) {
         (Some(Meaning::Variable(variable)), Typed::Number(value)) => {
-            TypedStatement::Assign(target, variable, value)
+            let subtype = Subtype::Integer;
+            let reference = Reference { variable, subtype };
+            TypedStatement::Assign(target, reference, ValueExpression::Whole(subtype, value))
         }
         _ => TypedStatement::Null(target),
     }

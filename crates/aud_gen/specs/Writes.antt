@@ -7,7 +7,7 @@ use Rattle.aud_typed.specs.Tree as tree
 use Rattle.aud_typed.specs.Tree.{before, part_of, no_handlers, body}
 use Rattle.aud_typed.specs.declared.program.Statement.{Statement}
 use Rattle.aud_typed.specs.declared.program.Statements.{Statements}
-use Rattle.aud_typed.specs.Ties.View.{plain_statement, plain_statements}
+use Rattle.aud_typed.specs.Ties.View.{plain_statement, plain_statements, in_order}
 use Rattle.aud_meaning.specs.declared.state.Construct.TheVariants as construct
 use Rattle.aud_meaning.specs.Items.{nowhere}
 use Rattle.aud_code.specs.declared.line.Line.{Line}
@@ -16,10 +16,6 @@ use Rattle.aud_code.specs.View.{plain_line}
 use Rattle.aud_gen.specs.Layout.{Around, around_out, in_call, line, end_line, guard_line_by, statement_size_by, body_size_by, statement_code_by, part_code_by, unit_code_by}
 use Rattle.aud_gen.specs.Assembly.{step_lines}
 use Rattle.aud_gen.specs.Written.{flat_step, written, written_bodies}
-
--- a statement, and those behind it
-abbrev pub in_order : Statement → List Statement → tree.Statement
-in_order s ss = before (plain_statement s) (plain_statements ss)
 
 -- what surrounds statements whose exceptions go to out, in a body with its end at the place last
 abbrev pub inside : (out last : ℕ) → Around

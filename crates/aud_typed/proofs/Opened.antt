@@ -1,18 +1,20 @@
 -- Statements that hold others, by their parts.
 use Rattle.std.proofs.Common.{◌≡◌, List, [], ◌∷◌, refl, ap, sym, ◌∙◌}
-use Rattle.std.specs.Prelude.{Vec, Box, Option, Some, None, map}
+use Rattle.std.specs.Prelude.{Vec, Box, map}
 use Rattle.std.specs.Global.{Global}
 use mathlib.Core.Former.{list_count, this}
 use Rattle.aud_text.specs.declared.place.Pos.{Pos}
 use Rattle.aud_typed.specs.declared.program.BooleanExpression.{BooleanExpression}
 use Rattle.aud_typed.specs.declared.program.Arm.{Arm}
+use Rattle.aud_typed.specs.declared.program.IfStatement.{IfStatement, IfStatement', out-IfStatement, Row_of-Arm, end_of-Arm, more_of-Arm, items-the_row-Arm, items_shown-the_row-Arm-1}
 use Rattle.aud_typed.specs.declared.program.Statements.{Statements}
-use Rattle.aud_typed.specs.declared.program.Statement.{Statement, Row_of-Statement, end_of-Statement, more_of-Statement, items-the_row-Statement, items_hidden-the_row-Statement-0, items_shown-the_row-Statement-0, Row_of-Arm, end_of-Arm, more_of-Arm, items-the_row-Arm, items_hidden-the_row-Arm-1}
+use Rattle.aud_typed.specs.declared.program.Statement.{Statement, Row_of-Statement, end_of-Statement, more_of-Statement, items-the_row-Statement, items_hidden-the_row-Statement-0, items_shown-the_row-Statement-0}
 use Rattle.aud_typed.specs.declared.program.Statement.TheVariants.{If, While, Loop}
-use Rattle.aud_typed.specs.declared.program.Statement.TheBlock.{hidden-the_row-Statement-0, shown-the_row-Statement-0, hidden-the_row-Arm-1}
-use Rattle.aud_typed.specs.Ties.View.{plain_boolean, plain_statement, plain_row, plain_arms, plain_sequence, part_of_arms, part_behind}
+use Rattle.aud_typed.specs.declared.program.Statement.TheBlock.{hidden-the_row-Statement-0, shown-the_row-Statement-0}
+use Rattle.aud_typed.specs.declared.program.Statement.TheBlock.{shown-the_row-Arm-1}
+use Rattle.aud_typed.specs.Ties.View.{plain_boolean, plain_statement, plain_row, plain_arms, plain_statements, statements_in, part_of_arms, plain_if, if_in}
 use Rattle.aud_typed.specs.Tree as tree
-use Rattle.aud_typed.specs.Tree.{before, Part, some}
+use Rattle.aud_typed.specs.Tree.{before, part_of, Part, some}
 
 statement_rows : (n : _) (row : Row_of-Statement n) → plain_row row ≡ map plain_statement (items-the_row-Statement n row)
 statement_rows n end_of-Statement = refl
@@ -21,10 +23,10 @@ statement_rows n (more_of-Statement s row) = ap (λ z. plain_statement s ∷ z) 
 others_are : (v : Vec Statement Global) → plain_row (hidden-the_row-Statement-0 v) ≡ map plain_statement v.items
 others_are v = statement_rows _ (hidden-the_row-Statement-0 v) ∙ ap (map plain_statement) (items_hidden-the_row-Statement-0 v)
 
-pub loop_open : (b : Box Statements Global) → plain_statement (Loop b) ≡ tree.plain_loop (plain_sequence b.value)
+pub loop_open : (b : Box Statements Global) → plain_statement (Loop b) ≡ tree.plain_loop (statements_in b.value)
 loop_open b = ap (λ z. tree.plain_loop (before (plain_statement b.value.first) z)) (others_are b.value.others)
 
-pub while_open : (at : Pos) (c : BooleanExpression) (b : Box Statements Global) → plain_statement (While at c b) ≡ tree.while_loop at (plain_boolean c) (plain_sequence b.value)
+pub while_open : (at : Pos) (c : BooleanExpression) (b : Box Statements Global) → plain_statement (While at c b) ≡ tree.while_loop at (plain_boolean c) (statements_in b.value)
 while_open at c b = ap (λ z. tree.while_loop at (plain_boolean c) (before (plain_statement b.value.first) z)) (others_are b.value.others)
 
 shown_are : (shape : Vec (Unit {0}) Global) (row : Row_of-Statement (list_count (this {0}) shape.items 0)) → plain_row row ≡ map plain_statement (shown-the_row-Statement-0 shape row).items
@@ -36,14 +38,13 @@ arm_rows n (more_of-Arm at c first shape others row) otherwise =
     ap (λ z. some (tree.if_then at (plain_boolean c) (before (plain_statement first) z) (plain_arms row otherwise))) (shown_are shape others)
     ∙ ap (λ z. some (tree.if_then at (plain_boolean c) (before (plain_statement first) (map plain_statement (shown-the_row-Statement-0 shape others).items)) z)) (arm_rows _ row otherwise)
 
-arms_are : (v : Vec Arm Global) (otherwise : Part) → plain_arms (hidden-the_row-Arm-1 v) otherwise ≡ part_of_arms v.items otherwise
-arms_are v otherwise = arm_rows _ (hidden-the_row-Arm-1 v) otherwise ∙ ap (λ z. part_of_arms z otherwise) (items_hidden-the_row-Arm-1 v)
+arms_are : (shape : Vec (Unit {0}) Global) (row : Row_of-Arm (list_count (this {0}) shape.items 0)) (otherwise : Part) → plain_arms row otherwise ≡ part_of_arms (shown-the_row-Arm-1 shape row).items otherwise
+arms_are shape row otherwise = arm_rows _ row otherwise ∙ ap (λ z. part_of_arms z otherwise) (sym (items_shown-the_row-Arm-1 shape row))
 
-pub if_open : (b : Box Arm Global) (v : Vec Arm Global) (o : Option (Box Statements Global)) → plain_statement (If b v o) ≡ tree.if_then b.value.at (plain_boolean b.value.condition) (plain_sequence b.value.statements) (part_of_arms v.items (part_behind o))
-if_open b v None =
-    ap (λ z. tree.if_then b.value.at (plain_boolean b.value.condition) (before (plain_statement b.value.statements.first) z) (plain_arms (hidden-the_row-Arm-1 v) tree.nothing)) (others_are b.value.statements.others)
-    ∙ ap (tree.if_then b.value.at (plain_boolean b.value.condition) (plain_sequence b.value.statements)) (arms_are v tree.nothing)
-if_open b v (Some c) =
-    ap (λ z. tree.if_then b.value.at (plain_boolean b.value.condition) (before (plain_statement b.value.statements.first) z) (plain_arms (hidden-the_row-Arm-1 v) (some (before (plain_statement c.value.first) (plain_row (hidden-the_row-Statement-0 c.value.others)))))) (others_are b.value.statements.others)
-    ∙ ap (λ z. tree.if_then b.value.at (plain_boolean b.value.condition) (plain_sequence b.value.statements) (plain_arms (hidden-the_row-Arm-1 v) (some (before (plain_statement c.value.first) z)))) (others_are c.value.others)
-    ∙ ap (tree.if_then b.value.at (plain_boolean b.value.condition) (plain_sequence b.value.statements)) (arms_are v (part_behind (Some c)))
+pub if_open : (s : IfStatement) → plain_if s ≡ if_in s
+unfolding out-IfStatement shown-the_row-Statement-0 shown-the_row-Arm-1 denote.Hole.Carrier.out
+if_open (IfStatement' at c first shape others arms_shape arms else_shape otherwise) =
+    let ss = map plain_statement (shown-the_row-Statement-0 shape others).items in
+    ap (λ z. tree.if_then at (plain_boolean c) (before (plain_statement first) z) (plain_arms arms (part_of (plain_row otherwise)))) (shown_are shape others)
+    ∙ ap (λ z. tree.if_then at (plain_boolean c) (before (plain_statement first) ss) (plain_arms arms (part_of z))) (shown_are else_shape otherwise)
+    ∙ ap (tree.if_then at (plain_boolean c) (before (plain_statement first) ss)) (arms_are arms_shape arms (part_of (map plain_statement (shown-the_row-Statement-0 else_shape otherwise).items)))

@@ -154,14 +154,23 @@ pub enum Statement {
     Null(Pos),
     Assign(Pos, Reference, ValueExpression),
     Put(Pos, TextExpression),
-    /// The first arm, those behind each `elsif`, and the statements behind `else` (RM 5.3).
-    If(Box<Arm>, Vec<Arm>, Option<Box<Statements>>),
+    If(Box<IfStatement>),
     /// While the condition is true, its statements are done again (RM 5.5).
     While(Pos, BooleanExpression, Box<Statements>),
     /// A loop that is left by an exit, if at all.
     Loop(Box<Statements>),
     /// Out of the loop that is this number of loops further out than the innermost one, where the condition is true (RM 5.7).
     Exit(Pos, usize, BooleanExpression),
+}
+
+/// The condition and statements behind `if`, those behind each `elsif`, and the statements behind `else`, which are none where
+/// there is no `else` (RM 5.3).
+#[derive(Drop, Debug)]
+#[cycle(statement)]
+pub struct IfStatement {
+    pub first: Arm,
+    pub others: Vec<Arm>,
+    pub otherwise: Vec<Statement>,
 }
 
 /// A condition, where its `if` or `elsif` stands, and the statements that are done where it is true.

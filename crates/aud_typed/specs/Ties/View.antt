@@ -1,6 +1,5 @@
 -- The plain program of a program in memory. It has as yet neither arrays, blocks, for loops and handlers nor anything of tasks.
-use Rattle.std.specs.Prelude.{List, [], ◌∷◌, map, Option, Some, None, Box}
-use Rattle.std.specs.Global.{Global}
+use Rattle.std.specs.Prelude.{List, [], ◌∷◌, map, Option, Some, None}
 use Rattle.aud_typed.specs.declared.program.IntegerExpression.{IntegerExpression, Number, Variable, Unary', Chain', Row_of-Operation, end_of-Operation, more_of-Operation}
 use Rattle.aud_typed.specs.declared.program.Connective.{Connective}
 use Rattle.aud_typed.specs.declared.program.Connective.TheVariants.{Logical, AndThen, OrElse}
@@ -10,13 +9,14 @@ use Rattle.aud_typed.specs.declared.program.ValueExpression.{ValueExpression}
 use Rattle.aud_typed.specs.declared.program.ValueExpression.TheVariants.{Whole, Truth}
 use Rattle.aud_typed.specs.declared.program.Reference.{Reference}
 use Rattle.aud_typed.specs.declared.program.TextExpression.{TextExpression, Literal, Image, ImageTruth, Join', NewLine, Row_of-TextExpression, end_of-TextExpression, more_of-TextExpression}
-use Rattle.aud_typed.specs.declared.program.Statement.{Statement, Declare, Null, Assign, Put, If', While', Loop', Exit, Row_of-Statement, end_of-Statement, more_of-Statement, Row_of-Arm, end_of-Arm, more_of-Arm, Held-Statement-If-2, None', Some'}
+use Rattle.aud_typed.specs.declared.program.Statement.{Statement, Declare, Null, Assign, Put, If', While', Loop', Exit, Row_of-Statement, end_of-Statement, more_of-Statement}
+use Rattle.aud_typed.specs.declared.program.IfStatement.{IfStatement, IfStatement', out-IfStatement, Row_of-Arm, end_of-Arm, more_of-Arm}
 use Rattle.aud_typed.specs.declared.program.Arm.{Arm}
 use Rattle.aud_typed.specs.declared.program.Statements.{Statements}
 use Rattle.aud_typed.specs.declared.program.Subtype.TheVariants.{Boolean}
 use Rattle.aud_typed.specs.declared.program.Program.{Program}
 use Rattle.aud_typed.specs.Tree as tree
-use Rattle.aud_typed.specs.Tree.{before, Part, nothing, some}
+use Rattle.aud_typed.specs.Tree.{before, part_of, Part, some}
 
 abbrev mutual
   pub plain_integer : IntegerExpression → tree.IntegerExpression
@@ -77,7 +77,7 @@ abbrev mutual
   plain_statement (Null at) = tree.null at
   plain_statement (Assign at r e) = tree.assign at (plain_reference r) (plain_value e)
   plain_statement (Put at t) = tree.put at (plain_text t)
-  plain_statement (If' _ at c first _ others _ arms rest) = tree.if_then at (plain_boolean c) (before (plain_statement first) (plain_row others)) (plain_arms arms (plain_else rest))
+  plain_statement (If' _ s) = plain_if s
   plain_statement (While' at c _ first _ others) = tree.while_loop at (plain_boolean c) (before (plain_statement first) (plain_row others))
   plain_statement (Loop' _ first _ others) = tree.plain_loop (before (plain_statement first) (plain_row others))
   plain_statement (Exit at n c) = tree.exit at n (plain_boolean c)
@@ -86,14 +86,13 @@ abbrev mutual
   plain_row end_of-Statement = []
   plain_row (more_of-Statement s rest) = plain_statement s ∷ plain_row rest
 
-  -- the arms behind each `elsif`, and what stands behind `else`
+  pub plain_if : IfStatement → tree.Statement
+  plain_if (IfStatement' at c first _ others _ arms _ otherwise) = tree.if_then at (plain_boolean c) (before (plain_statement first) (plain_row others)) (plain_arms arms (part_of (plain_row otherwise)))
+
+  -- the arms behind each `elsif`, and what stands behind them
   pub plain_arms : {n : _} → Row_of-Arm n → Part → Part
   plain_arms end_of-Arm otherwise = otherwise
   plain_arms (more_of-Arm at c first _ others rest) otherwise = some (tree.if_then at (plain_boolean c) (before (plain_statement first) (plain_row others)) (plain_arms rest otherwise))
-
-  pub plain_else : Held-Statement-If-2 → Part
-  plain_else None' = nothing
-  plain_else (Some' _ first _ others) = some (before (plain_statement first) (plain_row others))
 
 abbrev pub plain_statements : List Statement → List tree.Statement
 plain_statements ss = map plain_statement ss
@@ -112,13 +111,19 @@ plain_program p = tree.program_of_main (record {
 
 -- The same by the parts of what is in memory.
 
-abbrev pub plain_sequence : Statements → tree.Statement
-plain_sequence ss = before (plain_statement ss.first) (plain_statements ss.others.items)
+-- a statement, and those behind it
+abbrev pub in_order : Statement → List Statement → tree.Statement
+in_order s ss = before (plain_statement s) (plain_statements ss)
 
+abbrev pub statements_in : Statements → tree.Statement
+statements_in ss = in_order ss.first ss.others.items
+
+-- the arms behind each `elsif`, and what stands behind them
 abbrev pub part_of_arms : List Arm → Part → Part
 part_of_arms [] otherwise = otherwise
-part_of_arms (a ∷ more) otherwise = some (tree.if_then a.at (plain_boolean a.condition) (plain_sequence a.statements) (part_of_arms more otherwise))
+part_of_arms (a ∷ more) otherwise = some (tree.if_then a.at (plain_boolean a.condition) (statements_in a.statements) (part_of_arms more otherwise))
 
-abbrev pub part_behind : Option (Box Statements Global) → Part
-part_behind None = nothing
-part_behind (Some b) = some (plain_sequence b.value)
+abbrev pub if_in : IfStatement → tree.Statement
+if_in s =
+    let first = (out-IfStatement s).first in
+    tree.if_then first.at (plain_boolean first.condition) (statements_in first.statements) (part_of_arms (out-IfStatement s).others.items (part_of (plain_statements (out-IfStatement s).otherwise.items)))
