@@ -1,8 +1,11 @@
 // From typed programs to code, and the laws that tie its steps to the program's.
 #![tactic(auto)]
 
+mod expressions;
+mod generate;
 pub mod laws;
 mod lengths;
-mod write;
+mod statements;
+mod writer;
 
-pub use write::generate;
+pub use generate::generate;

@@ -1,0 +1,142 @@
+// The instructions of expressions.
+
+ghost use Rattle.std.specs.Prelude.{map};
+ghost use Rattle.aud_typed.specs.Ties.View.{plain_integer, plain_boolean, plain_value, plain_text};
+ghost use Rattle.aud_code.specs.Flat.{instructs};
+ghost use Rattle.aud_gen.specs.Instructions.{integer_code, condition_code, value_code, text_code};
+ghost use Rattle.aud_gen.specs.Writes.{right_code, Writes};
+
+use crate::lengths::boolean_length;
+use crate::writer::Writer;
+use aud_code::instruction::Instruction;
+use aud_typed::program::{
+    BooleanExpression, Connective, IntegerExpression, TextExpression, ValueExpression,
+};
+use std::alloc::AllocError;
+
+impl Writer {
+    /// An expression of type Integer.
+    pub fn write_integer(&mut self, e: &IntegerExpression) -> Result<(), AllocError>
+        ensures { Writes result self.old self.new
+            (map instructs (integer_code (plain_integer e.now))) }
+    {
+        match e {
+            IntegerExpression::Number(value) => self.instruct(Instruction::Push(*value)),
+            IntegerExpression::Variable(v) => self.instruct(Instruction::Load(*v)),
+            IntegerExpression::Unary(operator, x) => {
+                self.write_integer(x)?;
+                self.instruct(Instruction::OnOne(*operator))
+            }
+            IntegerExpression::Chain(first, rest) => {
+                self.write_integer(first)?;
+                for next in rest {
+                    self.write_integer(&next.right)?;
+                    self.instruct(Instruction::OnTwo(next.operator))?;
+                }
+                Ok(())
+            }
+        }
+    }
+
+    /// An expression of type Boolean.
+    #[cycle(boolean)]
+    pub fn write_boolean(&mut self, e: &BooleanExpression) -> Result<(), AllocError>
+        ensures { Writes result self.old self.new
+            (map instructs (condition_code (plain_boolean e.now))) }
+    {
+        match e {
+            BooleanExpression::Truth(value) => self.instruct(Instruction::PushTruth(*value)),
+            BooleanExpression::Variable(v) => {
+                self.instruct(Instruction::Load(*v))?;
+                self.instruct(Instruction::Truth)
+            }
+            BooleanExpression::Not(x) => {
+                self.write_boolean(x)?;
+                self.instruct(Instruction::Negate)
+            }
+            BooleanExpression::Relation(relation, x, y) => {
+                self.write_integer(x)?;
+                self.write_integer(y)?;
+                self.instruct(Instruction::Relate(*relation))
+            }
+            BooleanExpression::Comparison(relation, x, y) => {
+                self.write_boolean(x)?;
+                self.write_boolean(y)?;
+                self.instruct(Instruction::Compare(*relation))
+            }
+            BooleanExpression::Chain(connective, first, rest) => {
+                self.write_boolean(first)?;
+                for next in rest {
+                    self.write_right(*connective, next)?;
+                }
+                Ok(())
+            }
+        }
+    }
+
+    // The right side of an operator, and the operator. A short circuit passes its right side where the left one decides.
+    #[cycle(boolean)]
+    fn write_right(&mut self, connective: Connective, e: &BooleanExpression) -> Result<(), AllocError>
+        ensures { Writes result self.old self.new
+            (map instructs (right_code connective (plain_boolean e.now))) }
+    {
+        match connective {
+            Connective::Logical(operator) => {
+                self.write_boolean(e)?;
+                self.instruct(Instruction::Combine(operator))
+            }
+            Connective::AndThen => {
+                self.instruct(Instruction::PassIfFalse(boolean_length(e)?))?;
+                self.write_boolean(e)
+            }
+            Connective::OrElse => {
+                self.instruct(Instruction::PassIfTrue(boolean_length(e)?))?;
+                self.write_boolean(e)
+            }
+        }
+    }
+
+    /// A value for a place that asks for a subtype.
+    pub fn write_value(&mut self, e: &ValueExpression) -> Result<(), AllocError>
+        ensures { Writes result self.old self.new (map instructs (value_code (plain_value e.now))) }
+    {
+        match e {
+            ValueExpression::Whole(subtype, x) => {
+                self.write_integer(x)?;
+                self.instruct(Instruction::Check(*subtype))
+            }
+            ValueExpression::Truth(x) => {
+                self.write_boolean(x)?;
+                self.instruct(Instruction::Cell)
+            }
+        }
+    }
+
+    /// A text.
+    pub fn write_text(&mut self, t: &TextExpression) -> Result<(), AllocError>
+        ensures { Writes result self.old self.new (map instructs (text_code (plain_text t.now))) }
+    {
+        match t {
+            TextExpression::Literal(text) => {
+                let text = text.try_clone(self.alloc)?;
+                self.instruct(Instruction::AppendText(text))
+            }
+            TextExpression::Image(e) => {
+                self.write_integer(e)?;
+                self.instruct(Instruction::AppendImage)
+            }
+            TextExpression::ImageTruth(e) => {
+                self.write_boolean(e)?;
+                self.instruct(Instruction::AppendTruth)
+            }
+            TextExpression::Join(first, rest) => {
+                self.write_text(first)?;
+                for next in rest {
+                    self.write_text(next)?;
+                }
+                Ok(())
+            }
+            TextExpression::NewLine => self.instruct(Instruction::AppendNewLine),
+        }
+    }
+}

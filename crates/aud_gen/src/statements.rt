@@ -1,0 +1,192 @@
+// The lines of statements.
+
+ghost use Rattle.std.specs.Prelude.{length};
+ghost use Rattle.aud_typed.specs.Tree.{part_of, while_loop};
+ghost use Rattle.aud_typed.specs.Ties.View.{plain_boolean, plain_statement, plain_statements, statements_in, if_in};
+ghost use Rattle.aud_code.specs.Places.{Way};
+ghost use Rattle.aud_gen.specs.Layout.{in_loop};
+ghost use Rattle.aud_gen.specs.Writes.{around, statement_lines, part_lines, listed_lines, arm_lines, Writes};
+
+use crate::lengths::{boolean_length, statement_length, statements_length, sum};
+use crate::writer::Writer;
+use aud_code::instruction::Instruction;
+use aud_code::line::Ending;
+use aud_text::place::Pos;
+use aud_typed::program::{Arm, BooleanExpression, IfStatement, Statement, Statements};
+use std::alloc::AllocError;
+
+// Exceptions of what is written go to the place `out`; behind it comes the step at the place `next`. No statement leads back
+// from a call, as yet, so the way back is any.
+impl Writer {
+    /// A statement.
+    #[cycle(statements)]
+    pub fn write_statement(
+        &mut self,
+        s: &Statement,
+        out: usize,
+        next: usize,
+    ) -> Result<(), AllocError>
+        ensures { (back : Way) → Writes result self.old self.new
+            (statement_lines (plain_statement s.now) (length self.old.lines) next
+            (around self.old out back)) }
+    {
+        match s {
+            Statement::Declare(at, e) => {
+                self.write_value(e)?;
+                self.end(Ending::Declare, next, *at, out)
+            }
+            Statement::Null(at) => self.end(Ending::Null, next, *at, out),
+            Statement::Assign(at, target, e) => {
+                self.instruct(Instruction::Find(target.variable, target.subtype))?;
+                self.write_value(e)?;
+                self.end(Ending::Assign, next, *at, out)
+            }
+            Statement::Put(at, t) => {
+                self.write_text(t)?;
+                self.end(Ending::Put, next, *at, out)
+            }
+            Statement::If(branches) => self.write_if(branches, out, next),
+            Statement::While(at, condition, body) => {
+                self.write_while(*at, condition, body, out, next)
+            }
+            Statement::Loop(body) => self.write_loop(body, out, next, self.place()),
+            Statement::Exit(at, further, condition) => {
+                let to = self.exit(*further).unwrap_or(next);
+                self.write_boolean(condition)?;
+                self.end(Ending::Exit(to), next, *at, out)
+            }
+        }
+    }
+
+    /// Statements.
+    #[cycle(statements)]
+    pub fn write_statements(
+        &mut self,
+        ss: &Statements,
+        out: usize,
+        next: usize,
+    ) -> Result<(), AllocError>
+        ensures { (back : Way) → Writes result self.old self.new
+            (statement_lines (statements_in ss.now) (length self.old.lines) next
+            (around self.old out back)) }
+    {
+        self.write_in_list(&ss.first, ss.others.is_empty(), out, next)?;
+        self.write_list(&ss.others, out, next)
+    }
+
+    /// Statements, of which there may be none.
+    #[cycle(statements)]
+    pub fn write_list(
+        &mut self,
+        ss: &[Statement],
+        out: usize,
+        next: usize,
+    ) -> Result<(), AllocError>
+        ensures { (back : Way) → Writes result self.old self.new
+            (part_lines (part_of (plain_statements ss.now)) (length self.old.lines) next
+            (around self.old out back)) }
+    {
+        let mut left = ss.len();
+        for s in ss {
+            left -= 1;
+            self.write_in_list(s, left == 0, out, next)?;
+        }
+        Ok(())
+    }
+
+    // A statement, behind which comes what stands behind it, or the step at the place `next` where it is the last one.
+    #[cycle(statements)]
+    fn write_in_list(
+        &mut self,
+        s: &Statement,
+        is_last: bool,
+        out: usize,
+        next: usize,
+    ) -> Result<(), AllocError>
+        ensures { (back : Way) → Writes result self.old self.new
+            (listed_lines (plain_statement s.now) is_last (length self.old.lines) next
+            (around self.old out back)) }
+    {
+        let then = if is_last {
+            next
+        } else {
+            sum(self.place(), statement_length(s)?)?
+        };
+        self.write_statement(s, out, then)
+    }
+
+    #[cycle(statements)]
+    fn write_if(&mut self, s: &IfStatement, out: usize, next: usize) -> Result<(), AllocError>
+        ensures { (back : Way) → Writes result self.old self.new
+            (statement_lines (if_in s.now) (length self.old.lines) next
+            (around self.old out back)) }
+    {
+        let has_else = !s.otherwise.is_empty();
+        let mut left = s.others.len();
+        self.write_arm(&s.first, has_else || 0 < left, out, next)?;
+        for arm in &s.others {
+            left -= 1;
+            self.write_arm(arm, has_else || 0 < left, out, next)?;
+        }
+        self.write_list(&s.otherwise, out, next)
+    }
+
+    // The step of an arm, which leads behind the arm where there is more, and its statements.
+    #[cycle(statements)]
+    fn write_arm(
+        &mut self,
+        arm: &Arm,
+        more: bool,
+        out: usize,
+        next: usize,
+    ) -> Result<(), AllocError>
+        ensures { (back : Way) → Writes result self.old self.new
+            (arm_lines arm.now more (length self.old.lines) next (around self.old out back)) }
+    {
+        let inside = sum(self.place(), sum(boolean_length(&arm.condition)?, 1)?)?;
+        let behind = sum(inside, statements_length(&arm.statements)?)?;
+        let otherwise = if more { behind } else { next };
+        self.write_boolean(&arm.condition)?;
+        self.end(Ending::If(inside), otherwise, arm.at, out)?;
+        self.write_statements(&arm.statements, out, next)
+    }
+
+    #[cycle(statements)]
+    fn write_while(
+        &mut self,
+        at: Pos,
+        condition: &BooleanExpression,
+        body: &Statements,
+        out: usize,
+        next: usize,
+    ) -> Result<(), AllocError>
+        ensures { (back : Way) → Writes result self.old self.new
+            (statement_lines (while_loop at (plain_boolean condition.now) (statements_in body.now))
+            (length self.old.lines) next (around self.old out back)) }
+    {
+        let place = self.place();
+        let inside = sum(place, sum(boolean_length(condition)?, 1)?)?;
+        self.write_boolean(condition)?;
+        self.end(Ending::While(inside), next, at, out)?;
+        self.write_loop(body, out, next, place)
+    }
+
+    // The statements of a loop, behind which comes the step at the place `again`; exits lead to the place `next`.
+    #[cycle(statements)]
+    fn write_loop(
+        &mut self,
+        body: &Statements,
+        out: usize,
+        next: usize,
+        again: usize,
+    ) -> Result<(), AllocError>
+        ensures { (back : Way) → Writes result self.old self.new
+            (statement_lines (statements_in body.now) (length self.old.lines) again
+            (in_loop next (around self.old out back))) }
+    {
+        self.exits.push(next)?;
+        self.write_statements(body, out, again)?;
+        self.exits.pop();
+        Ok(())
+    }
+}
