@@ -1,5 +1,6 @@
 pub mod Loops
 pub mod Writing
+pub mod Lists
 pub mod Asking
 pub mod ByKind
 pub mod Standing

@@ -1,5 +1,5 @@
 -- Loops over lists.
-use Rattle.std.proofs.Common.{◌≡◌, ℕ, suc, ◌+◌, ◌<◌, ◌≤◌, List, [], ◌∷◌, ◌++◌, length, drop, get_or, add-one, ap, sym, ◌∙◌, subst, append_assoc}
+use Rattle.std.proofs.Common.{◌≡◌, ℕ, suc, ◌+◌, ◌<◌, ◌≤◌, List, [], ◌∷◌, ◌++◌, length, drop, get_or, add-one, ap, sym, ◌∙◌, subst}
 use Rattle.std.specs.Prelude.{map, Result, Ok, Err, OnOk, IfOk}
 use Rattle.std.proofs.Math.Seq.{drop-cons}
 use Rattle.std.proofs.lemmas.List.{drop_all}
@@ -30,10 +30,6 @@ module _ {T X Y : Type 0} (all : T → List Y → T) (plain : X → Y) where
   pub loop_ends : ((d : T) → all d [] ≡ d) → (items : List X) (i : ℕ) (whole : T) (Holds : T → Type 0) → length items ≤ i → SoFar items i whole Holds → Holds whole
   loop_ends ends items i whole Holds h s =
       subst Holds (sym (ends s.done) ∙ ap (λ z. all s.done (map plain z)) (sym (drop_all i items h)) ∙ s.left) s.holds
-
--- some are written behind others
-pub written_more : {A : Type 0} (old now new a b : List A) → now ≡ old ++ a → new ≡ now ++ b → new ≡ old ++ (a ++ b)
-written_more old now new a b h k = k ∙ ap (λ z. z ++ b) h ∙ append_assoc old a b
 
 -- what holds where there is a value
 pub on_ok : {T E : Type 0} (r : Result T E) {P : Type 0} → P → OnOk r P

@@ -3,7 +3,7 @@ use Rattle.std.specs.Prelude.{◌≡◌, ℕ, suc, ◌+◌, List, [], ◌∷◌,
 use Rattle.std.specs.declared.alloc.AllocError.{AllocError}
 use Rattle.aud_text.specs.declared.place.Pos.{Pos}
 use Rattle.aud_typed.specs.Tree as tree
-use Rattle.aud_typed.specs.Tree.{part_of, some, no_handlers, body, if_then}
+use Rattle.aud_typed.specs.Tree.{part_of, some, no_handlers, body, if_then, while_loop}
 use Rattle.aud_typed.specs.declared.program.Connective.{Connective}
 use Rattle.aud_typed.specs.declared.program.Connective.TheVariants.{Logical, AndThen, OrElse}
 use Rattle.aud_typed.specs.declared.program.Arm.{Arm}
@@ -16,7 +16,7 @@ use Rattle.aud_code.specs.Places.{Way}
 use Rattle.aud_code.specs.Instruction.{Instruction, Combine, PassIfFalse, PassIfTrue}
 use Rattle.aud_code.specs.Flat.{FlatLine, Flat}
 use Rattle.aud_gen.specs.Instructions.{condition_code}
-use Rattle.aud_gen.specs.Layout.{Around, ways_count, line, end_line, guard_line_by, statement_size_by, body_size_by, statement_code_by, part_code_by, unit_code_by}
+use Rattle.aud_gen.specs.Layout.{Around, ways_count, in_call, line, end_line, guard_line_by, statement_size_by, body_size_by, statement_code_by, part_code_by, unit_code_by}
 use Rattle.aud_gen.specs.Assembly.{step_lines}
 use Rattle.aud_gen.specs.Written.{flat_step, written, written_bodies}
 
@@ -74,6 +74,12 @@ arm_lines arm more place next around =
     let inside = flat_step step place in
     let behind = inside + statement_size_by flat_step ss (ways_count around) in
     step_lines (λ n. n) (line step ((if more then behind else next) ∷ inside ∷ []) [] None around) ++ statement_lines ss inside next around
+
+-- the step of a `while`; its statements stand behind it
+abbrev pub while_lines : Pos → tree.BooleanExpression → (place next out : ℕ) → List FlatLine
+while_lines at c place next out =
+    let step = while_loop at c (tree.null at) in
+    step_lines (λ n. n) (line step (next ∷ flat_step step place ∷ []) [] None (in_call out))
 
 -- what stands behind the statements of a body without handlers
 abbrev pub end_lines : Pos → ℕ → List FlatLine

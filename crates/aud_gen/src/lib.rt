@@ -2,10 +2,10 @@
 #![tactic(auto)]
 
 mod expressions;
-mod generate;
 pub mod laws;
 mod lengths;
+mod program;
 mod statements;
 mod writer;
 
-pub use generate::generate;
+pub use program::generate;

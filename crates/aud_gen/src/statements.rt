@@ -1,11 +1,11 @@
 // The lines of statements.
 
 ghost use Rattle.std.specs.Prelude.{length};
-ghost use Rattle.aud_typed.specs.Tree.{part_of, while_loop};
+ghost use Rattle.aud_typed.specs.Tree.{part_of};
 ghost use Rattle.aud_typed.specs.Ties.View.{plain_boolean, plain_statement, plain_statements, statements_in, if_in};
 ghost use Rattle.aud_code.specs.Places.{Way};
 ghost use Rattle.aud_gen.specs.Layout.{in_loop};
-ghost use Rattle.aud_gen.specs.Writes.{around, statement_lines, part_lines, listed_lines, arm_lines, Writes};
+ghost use Rattle.aud_gen.specs.Writes.{around, statement_lines, part_lines, listed_lines, arm_lines, while_lines, Writes};
 
 use crate::lengths::{boolean_length, statement_length, statements_length, sum};
 use crate::writer::Writer;
@@ -47,11 +47,13 @@ impl Writer {
             }
             Statement::If(branches) => self.write_if(branches, out, next),
             Statement::While(at, condition, body) => {
-                self.write_while(*at, condition, body, out, next)
+                let place = self.place();
+                self.write_while(condition, *at, out, next)?;
+                self.write_loop(body, out, next, place)
             }
             Statement::Loop(body) => self.write_loop(body, out, next, self.place()),
             Statement::Exit(at, further, condition) => {
-                let to = self.exit(*further).unwrap_or(next);
+                let to = self.exit(*further, next);
                 self.write_boolean(condition)?;
                 self.end(Ending::Exit(to), next, *at, out)
             }
@@ -151,26 +153,6 @@ impl Writer {
         self.write_statements(&arm.statements, out, next)
     }
 
-    #[cycle(statements)]
-    fn write_while(
-        &mut self,
-        at: Pos,
-        condition: &BooleanExpression,
-        body: &Statements,
-        out: usize,
-        next: usize,
-    ) -> Result<(), AllocError>
-        ensures { (back : Way) → Writes result self.old self.new
-            (statement_lines (while_loop at (plain_boolean condition.now) (statements_in body.now))
-            (length self.old.lines) next (around self.old out back)) }
-    {
-        let place = self.place();
-        let inside = sum(place, sum(boolean_length(condition)?, 1)?)?;
-        self.write_boolean(condition)?;
-        self.end(Ending::While(inside), next, at, out)?;
-        self.write_loop(body, out, next, place)
-    }
-
     // The statements of a loop, behind which comes the step at the place `again`; exits lead to the place `next`.
     #[cycle(statements)]
     fn write_loop(
@@ -188,5 +170,21 @@ impl Writer {
         self.write_statements(body, out, again)?;
         self.exits.pop();
         Ok(())
+    }
+
+    // The step of a `while`, behind which its statements stand.
+    fn write_while(
+        &mut self,
+        condition: &BooleanExpression,
+        at: Pos,
+        out: usize,
+        next: usize,
+    ) -> Result<(), AllocError>
+        ensures { Writes result self.old self.new
+            (while_lines at (plain_boolean condition.now) (length self.old.lines) next out) }
+    {
+        let inside = sum(self.place(), sum(boolean_length(condition)?, 1)?)?;
+        self.write_boolean(condition)?;
+        self.end(Ending::While(inside), next, at, out)
     }
 }

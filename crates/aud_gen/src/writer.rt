@@ -1,6 +1,6 @@
 // Code that is being written, line by line.
 
-ghost use Rattle.std.specs.Prelude.{◌≡◌, [], ◌∷◌, length, map, slice_get};
+ghost use Rattle.std.specs.Prelude.{◌≡◌, [], ◌∷◌, length, map, slice_index_or};
 ghost use Rattle.aud_code.specs.Flat.{instructs, end};
 ghost use Rattle.aud_code.specs.declared.line.Last.TheVariants.{Does};
 ghost use Rattle.aud_code.specs.View.{plain_instruction, plain_line, plain_end};
@@ -90,10 +90,16 @@ impl Writer {
         self.write(Line::End(EndLine { last, at, out }))
     }
 
-    /// Where an exit leads out of the loop that is this number of loops further out than the innermost one.
-    pub fn exit(&self, further: usize) -> Option<usize>
-        ensures { map_option way_to result ≡ slice_get self.now.exits further }
+    /// Where an exit leads out of the loop that is this number of loops further out than the innermost one; `next` where
+    /// there is none.
+    pub fn exit(&self, further: usize, next: usize) -> usize
+        ensures { way_to result ≡ slice_index_or self.now.exits further (way_to next) }
     {
-        self.exits.iter().rev().nth(further).copied()
+        self.exits
+            .iter()
+            .rev()
+            .nth(further)
+            .copied()
+            .unwrap_or(next)
     }
 }

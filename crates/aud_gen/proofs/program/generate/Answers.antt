@@ -7,7 +7,7 @@ use Rattle.aud_gen.specs.Assembly.{flat_program}
 use Rattle.aud_gen.specs.Writes.{body_code}
 use Rattle.aud_gen.proofs.Flat.Sound.{code_is_sound}
 use Rattle.aud_gen.proofs.Flat.Written.{written_law}
-use Rattle.aud_gen.proofs.generate.generate.Goals as goal
+use Rattle.aud_gen.proofs.program.generate.Goals as goal
 
 its_code : (p : Program) → body_code p.declarations.items p.statements p.end ≡ flat_program (plain_program p)
 its_code p = sym (written_law (plain_program p))
