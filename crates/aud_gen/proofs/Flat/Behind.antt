@@ -8,7 +8,7 @@ use Rattle.aud_gen.specs.Written.{flat_step}
 use Rattle.aud_gen.specs.Shows.{HasAt}
 use Rattle.aud_gen.proofs.Standing.Places.{has_front, has_back, has_tail, length-statement, length-part, length-handlers, length-body, length-doing, length-offered}
 use Rattle.aud_gen.proofs.Flat.Assembly.{offset_zero}
-use Rattle.aud_gen.proofs.Standing.Sizes.{total, total-statement, total-part, total-handlers, total-body, total-doing, total-offered}
+use Rattle.aud_gen.proofs.Standing.Sizes.{total, Total, total-statement, total-part, total-handlers, total-body, total-doing, total-offered}
 
 -- the place behind a line
 next_offset : (lines : List Line) (n : ℕ) (l : Line) (rest : List Line) → drop n lines ≡ l ∷ rest → offset lines (suc n) ≡ offset lines n + line_size l
@@ -44,8 +44,8 @@ module _ (lines : List Line) where
       omega (arith, ap F same, more, one, total_more l ls)
 
   -- behind lines as many as n, which become m
-  past : (part : List Line) (at at' n m m' : ℕ) → HasAt lines at part → length part ≡ n → total flat_step adds part ≡ m → m ≡ m' → F at ≡ at' → F (at + n) ≡ at' + m'
-  past part at at' n m m' h en em e ea = sym (ap (λ k. F (at + k)) en) ∙ behind_lines part at h ∙ ap (λ k. F at + k) (em ∙ e) ∙ ap (λ k. k + m') ea
+  past : (part : List Line) (at at' n m m' : ℕ) → HasAt lines at part → length part ≡ n → Total flat_step adds part m → m ≡ m' → F at ≡ at' → F (at + n) ≡ at' + m'
+  past part at at' n m m' h en em e ea = sym (ap (λ k. F (at + k)) en) ∙ behind_lines part at h ∙ ap (λ k. F at + k) (em.is ∙ e) ∙ ap (λ k. k + m') ea
 
   pub behind_line : (l : Line) (rest : List Line) (at at' : ℕ) → HasAt lines at (l ∷ rest) → F at ≡ at' → F (suc at) ≡ suc (at' + length (instructions_by l.what))
   behind_line l rest at at' h e = next_offset lines at l (rest ++ h.rest) h.is ∙ ap (λ k. k + line_size l) e ∙ omega arith

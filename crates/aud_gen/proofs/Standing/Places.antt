@@ -7,7 +7,7 @@ use Rattle.aud_meaning.specs.declared.state.Construct.TheVariants as construct
 use Rattle.aud_meaning.specs.Items.{no_body}
 use Rattle.aud_gen.specs.Layout.{one_line, What, does, continues, guards, ends, leaves, Line, Around, in_call, ways_count, statement_size, part_size, handlers_size, body_size, doing_size, offered_size, end_place, statement_code, part_code, handlers_code, body_code, doing_code, offered_code, unit_code, units_code, starts_from, spare_from, Code, no_line, line_at, code_of}
 use Rattle.aud_gen.specs.Shows.{HasAt, UnitsAt}
-use Rattle.aud_gen.proofs.Standing.Sizes.{counted, total, total-statement, total-part, total-handlers, total-body, total-doing, total-offered}
+use Rattle.aud_gen.proofs.Standing.Sizes.{counted, total, Total, total-statement, total-part, total-handlers, total-body, total-doing, total-offered}
 
 pub has_front : (lines : List Line) (place : ℕ) (a b : List Line) → HasAt lines place (a ++ b) → HasAt lines place a
 has_front lines place a b h = record { rest = b ++ h.rest; is = h.is ∙ append_assoc a b h.rest }
@@ -58,23 +58,26 @@ length_is (l ∷ ls) = counted_one l.what (total one_line adds_one ls) ∙ ap su
     counted_one (ends c next) n = refl
     counted_one (leaves m next) n = refl
 
+length_by : {ls : List Line} {n : ℕ} → Total one_line adds_one ls n → length ls ≡ n
+length_by {ls} h = sym (length_is ls) ∙ h.is
+
 pub length-statement : (s : Statement) (at next : ℕ) (a : Around) → length (statement_code s at next a) ≡ statement_size s (ways_count a)
-length-statement s at next a = sym (length_is (statement_code s at next a)) ∙ total-statement one_line adds_one s at next a
+length-statement s at next a = length_by (total-statement one_line adds_one s at next a)
 
 pub length-part : (p : Part) (at next : ℕ) (a : Around) → length (part_code p at next a) ≡ part_size p (ways_count a)
-length-part p at next a = sym (length_is (part_code p at next a)) ∙ total-part one_line adds_one p at next a
+length-part p at next a = length_by (total-part one_line adds_one p at next a)
 
 pub length-handlers : (h : Handlers) (at next : ℕ) (a : Around) → length (handlers_code h at next a) ≡ handlers_size h (ways_count a)
-length-handlers h at next a = sym (length_is (handlers_code h at next a)) ∙ total-handlers one_line adds_one h at next a
+length-handlers h at next a = length_by (total-handlers one_line adds_one h at next a)
 
 pub length-body : (c : Construct) (b : Body) (at next out : ℕ) (a : Around) → length (body_code c b at next out a) ≡ body_size b (ways_count a)
-length-body c b at next out a = sym (length_is (body_code c b at next out a)) ∙ total-body one_line adds_one c b at next out a
+length-body c b at next out a = length_by (total-body one_line adds_one c b at next out a)
 
 pub length-doing : (d : Doing) (at next out : ℕ) → length (doing_code d at next out) ≡ doing_size d
-length-doing d at next out = sym (length_is (doing_code d at next out)) ∙ total-doing one_line adds_one d at next out
+length-doing d at next out = length_by (total-doing one_line adds_one d at next out)
 
 pub length-offered : (o : Alternatives) (at next : ℕ) (a : Around) → length (offered_code o at next a) ≡ offered_size o (ways_count a)
-length-offered o at next a = sym (length_is (offered_code o at next a)) ∙ total-offered one_line adds_one o at next a
+length-offered o at next a = length_by (total-offered one_line adds_one o at next a)
 
 -- Bodies.
 
