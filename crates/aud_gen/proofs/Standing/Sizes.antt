@@ -1,11 +1,11 @@
 -- How much the lines of each part count together, where a statement's own line counts by the statement and every other is one.
 use Rattle.std.proofs.Common.{◌≡◌, ℕ, suc, ◌+◌, List, [], ◌∷◌, ◌++◌, length, map, refl, ap, ◌∙◌, arith, length-append}
 use Rattle.aud_text.specs.declared.place.Pos.{Pos}
-use Rattle.aud_typed.specs.Tree.{Statement, sequence, declare, declare_array, declare_tasks, declare_object, activated, activate, null, assign, put, if_then, plain_loop, while_loop, for_loop, exit, return, return_value, raising, raising_again, block, procedure_call, own_entry_call, operation_call, entry_call, delay, accept, select, abort, Part, nothing, some, Handlers, no_handlers, handler, Body, body, Doing, without_do, with_do, Alternatives, no_alternatives, accepting, delaying, terminating}
+use Rattle.aud_typed.specs.Tree.{Statement, sequence, if_then, plain_loop, while_loop, for_loop, block, entry_call, accept, select, Part, nothing, some, Handlers, no_handlers, handler, Body, body, Doing, without_do, with_do, Alternatives, no_alternatives, accepting, delaying, terminating}
 use Rattle.aud_meaning.specs.declared.state.Construct.{Construct}
 use Rattle.aud_meaning.specs.declared.state.Construct.TheVariants as construct
 use Rattle.aud_code.specs.Places.{Way}
-use Rattle.aud_gen.specs.Layout.{What, does, continues, guards, ends, leaves, Line, Around, in_loop, in_for, in_block, in_call, around_out, ways_count, statement_size, part_size, main_size, doing_size, offered_size, end_place, statement_size_by, part_size_by, handlers_size_by, body_size_by, doing_size_by, offered_size_by, end_place_by, one_more, stubs, stub_ways, stubs_of, end_line, guard_line, statement_code, part_code, part_place, handlers_code, body_code, doing_code, offered_code}
+use Rattle.aud_gen.specs.Layout.{What, does, continues, guards, ends, leaves, Line, Around, in_loop, in_for, in_block, in_call, around_out, ways_count, statement_size, part_size, main_size, doing_size, offered_size, end_place, statement_size_by, part_size_by, handlers_size_by, body_size_by, doing_size_by, offered_size_by, end_place_by, one_more, stubs, stub_ways, stubs_of, statement_code, part_code, part_place, handlers_code, body_code, doing_code, offered_code}
 
 -- behind the end of a body is the place behind the body
 pub last_is : (behind : Statement → ℕ → ℕ) (b : Body) (at e : ℕ) → suc (end_place_by behind b at e) ≡ at + body_size_by behind b e
