@@ -7,7 +7,7 @@ use Rattle.aud_gen.specs.Layout.{part_place, What, does, continues, guards, ends
 use Rattle.aud_gen.specs.Assembly.{instructions_by, line_size, offset}
 use Rattle.aud_gen.specs.Written.{flat_step}
 use Rattle.aud_gen.specs.Shows.{HasAt}
-use Rattle.aud_gen.proofs.Standing.Places.{has_tail, has_all, BodyAt, body_at, OfferAt, length-statement, length-part, length-handlers, length-body, length-doing, length-offered}
+use Rattle.aud_gen.proofs.Standing.Places.{has_front, has_back, has_tail, has_all, BodyAt, body_at, OfferAt, length-statement, length-part, length-handlers, length-body, length-doing, length-offered}
 use Rattle.aud_gen.proofs.Flat.Assembly.{offset_zero}
 use Rattle.aud_gen.proofs.Standing.Sizes.{total, Total, total-statement, total-part, total-handlers, total-body, total-doing, total-offered}
 
@@ -48,35 +48,63 @@ module _ (lines : List Line) where
   past : (part : List Line) (at at' n m m' : ℕ) → HasAt lines at part → length part ≡ n → Total flat_step adds part m → m ≡ m' → F at ≡ at' → F (at + n) ≡ at' + m'
   past part at at' n m m' h en em e ea = sym (ap (λ k. F (at + k)) en) ∙ behind_lines part at h ∙ ap (λ k. F at + k) (em.is ∙ e) ∙ ap (λ k. k + m') ea
 
-  pub behind_line : (l : Line) (rest : List Line) (at at' : ℕ) → HasAt lines at (l ∷ rest) → F at ≡ at' → F (suc at) ≡ suc (at' + length (instructions_by l.what))
-  behind_line l rest at at' h e = next_offset lines at l (rest ++ h.rest) h.is ∙ ap (λ k. k + line_size l) e ∙ omega arith
+  -- behind the first of these lines
+  pub record BehindLine (l : Line) (more : List Line) (at at' : ℕ) : Type 0 where
+    pub rest : HasAt lines (suc at) more
+    pub behind : F (suc at) ≡ suc (at' + length (instructions_by l.what))
+
+  pub behind_line : (l : Line) (rest : List Line) (at at' : ℕ) → HasAt lines at (l ∷ rest) → F at ≡ at' → BehindLine l rest at at'
+  behind_line l rest at at' h e = record { rest = has_tail lines at l rest h; behind = next_offset lines at l (rest ++ h.rest) h.is ∙ ap (λ k. k + line_size l) e ∙ omega arith }
 
   -- behind a line without instructions
   pub behind_plain : (l : Line) (rest : List Line) (at at' : ℕ) → instructions_by l.what ≡ [] → HasAt lines at (l ∷ rest) → F at ≡ at' → F (suc at) ≡ suc at'
-  behind_plain l rest at at' none h e = let k = ap length none in omega (arith, behind_line l rest at at' h e, k)
+  behind_plain l rest at at' none h e =
+      let k = ap length none in
+      let it = behind_line l rest at at' h e in
+      omega (arith, it.behind, k)
 
-  pub behind_statement : (s : Statement) (at next : ℕ) (a : Around) (at' e : ℕ) → HasAt lines at (statement_code s at next a) → F at ≡ at' → ways_count a ≡ e → F (at + statement_size s (ways_count a)) ≡ at' + statement_size_by flat_step s e
+  behind_statement : (s : Statement) (at next : ℕ) (a : Around) (at' e : ℕ) → HasAt lines at (statement_code s at next a) → F at ≡ at' → ways_count a ≡ e → F (at + statement_size s (ways_count a)) ≡ at' + statement_size_by flat_step s e
   behind_statement s at next a at' e h ea ec =
       past (statement_code s at next a) at at' _ _ _ h (length-statement s at next a) (total-statement flat_step adds s at next a) (ap (statement_size_by flat_step s) ec) ea
 
-  pub behind_part : (p : Part) (at next : ℕ) (a : Around) (at' e : ℕ) → HasAt lines at (part_code p at next a) → F at ≡ at' → ways_count a ≡ e → F (at + part_size p (ways_count a)) ≡ at' + part_size_by flat_step p e
+  behind_part : (p : Part) (at next : ℕ) (a : Around) (at' e : ℕ) → HasAt lines at (part_code p at next a) → F at ≡ at' → ways_count a ≡ e → F (at + part_size p (ways_count a)) ≡ at' + part_size_by flat_step p e
   behind_part p at next a at' e h ea ec =
       past (part_code p at next a) at at' _ _ _ h (length-part p at next a) (total-part flat_step adds p at next a) (ap (part_size_by flat_step p) ec) ea
 
-  pub behind_handlers : (hs : Handlers) (at next : ℕ) (a : Around) (at' e : ℕ) → HasAt lines at (handlers_code hs at next a) → F at ≡ at' → ways_count a ≡ e → F (at + handlers_size hs (ways_count a)) ≡ at' + handlers_size_by flat_step hs e
+  behind_handlers : (hs : Handlers) (at next : ℕ) (a : Around) (at' e : ℕ) → HasAt lines at (handlers_code hs at next a) → F at ≡ at' → ways_count a ≡ e → F (at + handlers_size hs (ways_count a)) ≡ at' + handlers_size_by flat_step hs e
   behind_handlers hs at next a at' e h ea ec =
       past (handlers_code hs at next a) at at' _ _ _ h (length-handlers hs at next a) (total-handlers flat_step adds hs at next a) (ap (handlers_size_by flat_step hs) ec) ea
 
-  pub behind_doing : (d : Doing) (at next out : ℕ) (at' : ℕ) → HasAt lines at (doing_code d at next out) → F at ≡ at' → F (at + doing_size d) ≡ at' + doing_size_by flat_step d
+  behind_doing : (d : Doing) (at next out : ℕ) (at' : ℕ) → HasAt lines at (doing_code d at next out) → F at ≡ at' → F (at + doing_size d) ≡ at' + doing_size_by flat_step d
   behind_doing d at next out at' h ea = past (doing_code d at next out) at at' _ _ _ h (length-doing d at next out) (total-doing flat_step adds d at next out) refl ea
 
-  pub behind_offered : (o : Alternatives) (at next : ℕ) (a : Around) (at' e : ℕ) → HasAt lines at (offered_code o at next a) → F at ≡ at' → ways_count a ≡ e → F (at + offered_size o (ways_count a)) ≡ at' + offered_size_by flat_step o e
+  behind_offered : (o : Alternatives) (at next : ℕ) (a : Around) (at' e : ℕ) → HasAt lines at (offered_code o at next a) → F at ≡ at' → ways_count a ≡ e → F (at + offered_size o (ways_count a)) ≡ at' + offered_size_by flat_step o e
   behind_offered o at next a at' e h ea ec =
       past (offered_code o at next a) at at' _ _ _ h (length-offered o at next a) (total-offered flat_step adds o at next a) (ap (offered_size_by flat_step o) ec) ea
 
   pub behind_body : (c : Construct) (b : Body) (at next out : ℕ) (a : Around) (at' e : ℕ) → HasAt lines at (body_code c b at next out a) → F at ≡ at' → ways_count a ≡ e → F (at + body_size b (ways_count a)) ≡ at' + body_size_by flat_step b e
   behind_body c b at next out a at' e h ea ec =
       past (body_code c b at next out a) at at' _ _ _ h (length-body c b at next out a) (total-body flat_step adds c b at next out a) (ap (body_size_by flat_step b) ec) ea
+
+  -- the first of two parts, the second, and what is behind the first
+  pub record Halves (first second : List Line) (at n at' m : ℕ) : Type 0 where
+    pub front : HasAt lines at first
+    pub back : HasAt lines (at + n) second
+    pub behind : F (at + n) ≡ at' + m
+
+  halves : (first second : List Line) (at n at' m : ℕ) → length first ≡ n → HasAt lines at (first ++ second) → (HasAt lines at first → F (at + n) ≡ at' + m) → Halves first second at n at' m
+  halves first second at n at' m e h behind =
+      let front = has_front lines at first second h in
+      record { front = front; back = has_back lines at n first second e h; behind = behind front }
+
+  pub statement_and : (s : Statement) (at next : ℕ) (a : Around) (more : List Line) (at' e : ℕ) → HasAt lines at (statement_code s at next a ++ more) → F at ≡ at' → ways_count a ≡ e → Halves (statement_code s at next a) more at (statement_size s (ways_count a)) at' (statement_size_by flat_step s e)
+  statement_and s at next a more at' e h ea ec = halves (statement_code s at next a) more at _ at' _ (length-statement s at next a) h (λ k. behind_statement s at next a at' e k ea ec)
+
+  pub part_and : (p : Part) (at next : ℕ) (a : Around) (more : List Line) (at' e : ℕ) → HasAt lines at (part_code p at next a ++ more) → F at ≡ at' → ways_count a ≡ e → Halves (part_code p at next a) more at (part_size p (ways_count a)) at' (part_size_by flat_step p e)
+  part_and p at next a more at' e h ea ec = halves (part_code p at next a) more at _ at' _ (length-part p at next a) h (λ k. behind_part p at next a at' e k ea ec)
+
+  pub offered_and : (o : Alternatives) (at next : ℕ) (a : Around) (more : List Line) (at' e : ℕ) → HasAt lines at (offered_code o at next a ++ more) → F at ≡ at' → ways_count a ≡ e → Halves (offered_code o at next a) more at (offered_size o (ways_count a)) at' (offered_size_by flat_step o e)
+  offered_and o at next a more at' e h ea ec = halves (offered_code o at next a) more at _ at' _ (length-offered o at next a) h (λ k. behind_offered o at next a at' e k ea ec)
 
   -- behind the parts of a body
   pub record PassedBody (d : Part) (s : Statement) (hs : Handlers) (at : ℕ) (a : Around) (at' e : ℕ) : Type 0 where

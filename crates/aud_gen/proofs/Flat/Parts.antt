@@ -5,13 +5,13 @@ use Rattle.aud_text.specs.declared.place.Pos.{Pos}
 use Rattle.aud_typed.specs.Tree.{For, Statement, Part, nothing, some, Handlers, no_handlers, handler, Body, body, Doing, without_do, with_do, Alternatives, no_alternatives, accepting, delaying, terminating}
 use Rattle.aud_meaning.specs.declared.state.Construct.{Construct}
 use Rattle.aud_code.specs.Places.{Way}
-use Rattle.aud_gen.specs.Layout.{Line, continues, guards, Around, in_block, ways_count, statement_size, part_size, doing_size, line, part_place, doing_place, stub_line, stubs, stub_ways, stubs_of, end_line, guard_line, guards_of, parts_from, bodies_from, statement_code, part_code, handlers_code, offered_code, guards_of_by, parts_from_by, bodies_from_by, guard_line_by}
+use Rattle.aud_gen.specs.Layout.{Line, continues, guards, Around, in_block, ways_count, statement_size, doing_size, line, part_place, doing_place, stub_line, stubs, stub_ways, stubs_of, end_line, guard_line, guards_of, parts_from, bodies_from, handlers_code, offered_code, guards_of_by, parts_from_by, bodies_from_by, guard_line_by}
 use Rattle.aud_gen.specs.Assembly.{offset, guard_moved}
 use Rattle.aud_gen.specs.Written.{flat_step}
 use Rattle.aud_gen.specs.Shows.{HasAt}
-use Rattle.aud_gen.proofs.Standing.Places.{has_front, has_back, has_tail, offer_has, length-statement, length-part}
+use Rattle.aud_gen.proofs.Standing.Places.{has_tail, offer_has}
 use Rattle.aud_gen.proofs.Flat.Moving.{way_to, moved, MovesLine, Moves, none_moved, more_moved}
-use Rattle.aud_gen.proofs.Flat.Behind.{behind_plain, behind_statement, behind_part, passed_offer}
+use Rattle.aud_gen.proofs.Flat.Behind.{behind_plain, statement_and, part_and, passed_offer}
 
 module _ (lines : List Line) where
   abbrev F : ℕ → ℕ
@@ -39,11 +39,9 @@ module _ (lines : List Line) where
   guards_moved : (hs : Handlers) (at next : ℕ) (a : Around) (at' e : ℕ) → HasAt lines at (handlers_code hs at next a) → F at ≡ at' → ways_count a ≡ e → map (guard_moved F) (guards_of hs at (ways_count a)) ≡ guards_of_by flat_step hs at' e
   guards_moved no_handlers at next a at' e h ea ec = refl
   guards_moved (handler others choices s more) at next a at' e h ea ec =
-      let w = ways_count a in
-      let cs = statement_code s at next a in
-      let after = behind_statement lines s at next a at' e (has_front lines at cs _ h) ea ec in
-      let rest = guards_moved more (at + statement_size s w) next a _ e (has_back lines at (statement_size s w) cs _ (length-statement s at next a) h) after ec in
-      ap (λ n. record { others = others; choices = choices; to = n } ∷ map (guard_moved F) (guards_of more (at + statement_size s w) w)) ea ∙ ap (λ gs. record { others = others; choices = choices; to = at' } ∷ gs) rest
+      let it = statement_and lines s at next a _ at' e h ea ec in
+      let rest = guards_moved more _ next a _ e it.back it.behind ec in
+      ap (λ n. record { others = others; choices = choices; to = n } ∷ map (guard_moved F) (guards_of more (at + statement_size s (ways_count a)) (ways_count a))) ea ∙ ap (λ gs. record { others = others; choices = choices; to = at' } ∷ gs) rest
 
   -- what follows the alternatives of a selective accept, and what their accepts do
   pub record OffersMoved (o : Alternatives) (at next e at' next' e' : ℕ) : Type 0 where
@@ -59,11 +57,9 @@ module _ (lines : List Line) where
       let rest = offers_moved more _ next a _ next' e it.others is.later en ec in
       record { parts = place_more _ _ _ _ to rest.parts; bodies = place_more _ _ _ _ (doing_place_moved d at _ at' _ ea to) rest.bodies }
   offers_moved (delaying g x p more) at next a at' next' e h ea en ec =
-      let w = ways_count a in
-      let cp = part_code p at next a in
-      let later = behind_part lines p at next a at' e (has_front lines at cp _ h) ea ec in
+      let it = part_and lines p at next a _ at' e h ea ec in
       let to = part_place_moved p at next at' next' ea en in
-      let rest = offers_moved more (at + part_size p w) next a _ next' e (has_back lines at (part_size p w) cp _ (length-part p at next a) h) later en ec in
+      let rest = offers_moved more _ next a _ next' e it.back it.behind en ec in
       record { parts = place_more _ _ _ _ to rest.parts; bodies = place_more _ _ _ _ to rest.bodies }
   offers_moved (terminating g more) at next a at' next' e h ea en ec =
       let rest = offers_moved more at next a at' next' e h ea en ec in

@@ -1,20 +1,20 @@
 -- The code of a program is its layout with the places of instructions: each place of the layout moves to where its step begins.
-use Rattle.std.proofs.Common.{◌≡◌, ℕ, suc, ◌+◌, List, [], ◌∷◌, ◌++◌, map, None, refl, sym, ap, ◌∙◌, append-nil}
+use Rattle.std.proofs.Common.{◌≡◌, ℕ, suc, ◌+◌, List, [], ◌∷◌, ◌++◌, map, refl, sym, ap, ◌∙◌, append-nil}
 use Rattle.aud_typed.specs.Tree.{Statement, sequence, if_then, plain_loop, while_loop, for_loop, exit, return, return_value, block, entry_call, accept, select, Part, nothing, some, Handlers, no_handlers, handler, Body, body, Doing, without_do, with_do, Alternatives, no_alternatives, accepting, delaying, terminating}
 use Rattle.aud_meaning.specs.declared.state.Construct.{Construct}
 use Rattle.aud_meaning.specs.declared.state.Construct.TheVariants as construct
 use Rattle.aud_meaning.specs.Items.{no_body}
-use Rattle.aud_gen.specs.Layout.{one_line, Line, continues, Around, in_loop, in_for, in_block, in_call, around_out, ways_count, statement_size, part_size, body_size, doing_size, offered_size, main_size, end_place, line, part_place, doing_place, stubs_of, parts_from, bodies_from, statement_code, part_code, handlers_code, body_code, doing_code, offered_code, unit_code, units_code, starts_from, spare_from, body_size_by, end_place_by, statement_code_by, part_code_by, handlers_code_by, body_code_by, doing_code_by, offered_code_by, unit_code_by, units_code_by, starts_from_by, spare_from_by}
+use Rattle.aud_gen.specs.Layout.{one_line, Line, Around, in_loop, in_for, in_block, in_call, around_out, ways_count, statement_size, part_size, body_size, doing_size, main_size, end_place, part_place, stubs_of, statement_code, part_code, handlers_code, body_code, doing_code, offered_code, unit_code, units_code, starts_from, spare_from, body_size_by, end_place_by, statement_code_by, part_code_by, handlers_code_by, body_code_by, doing_code_by, offered_code_by, unit_code_by, units_code_by, starts_from_by, spare_from_by}
 use Rattle.aud_gen.specs.Assembly.{offset}
 use Rattle.aud_gen.specs.Instructions.{condition_code}
 use Rattle.aud_gen.specs.Written.{flat_step, written, WrittenLaw}
 use Rattle.aud_gen.specs.Shows.{HasAt}
-use Rattle.aud_gen.proofs.Standing.Places.{has_front, has_back, has_tail, has_moved, has_all, body_at, offer_has, length-statement, length-part, length-body, length-unit, length-offered}
+use Rattle.aud_gen.proofs.Standing.Places.{has_front, has_back, has_moved, has_all, body_at, offer_has, length-body, length-unit}
 use Rattle.aud_gen.proofs.Flat.Assembly.{offset_zero}
 use Rattle.aud_gen.proofs.Flat.Moving.{moved, Moves, none_moved, more_moved, same_lines, both_moved, count_moved, out_moved, loop_moved, for_moved, exit_moved}
 use Rattle.aud_gen.proofs.Flat.Parts.{place_more, one_place, two_places, part_place_moved, doing_place_moved, offers_moved, around_block, stubs_of_moved, out_same, line_same, line_out, line_alone, next_moved, guard_moved_to, end_moved}
 use Rattle.aud_gen.proofs.Standing.Sizes.{last_is, count-block}
-use Rattle.aud_gen.proofs.Flat.Behind.{behind_line, behind_plain, behind_statement, behind_part, behind_offered, behind_body, behind_main, passed_body, passed_offer}
+use Rattle.aud_gen.proofs.Flat.Behind.{behind_line, behind_plain, statement_and, part_and, offered_and, behind_body, behind_main, passed_body, passed_offer}
 
 module _ (lines : List Line) where
   abbrev F : ℕ → ℕ
@@ -23,114 +23,64 @@ module _ (lines : List Line) where
   mutual
     statement_moved : (s : Statement) (at next : ℕ) (a : Around) (at' next' : ℕ) (b : Around) → HasAt lines at (statement_code s at next a) → F at ≡ at' → F next ≡ next' → moved F a ≡ b → Moves F (statement_code s at next a) (statement_code_by flat_step s at' next' b)
     statement_moved (sequence x y) at next a at' next' b h ea en eb =
-        let w = ways_count a in
-        let middle = at + statement_size x w in
-        let cx = statement_code x at middle a in
-        let cy = statement_code y middle next a in
-        let hx = has_front lines at cx cy h in
-        let hy = has_back lines at (statement_size x w) cx cy (length-statement x at middle a) h in
-        let em = behind_statement lines x at middle a at' _ hx ea (count_moved F a b eb) in
-        both_moved F (statement_moved x at middle a at' _ b hx ea em eb) (statement_moved y middle next a _ next' b hy em en eb)
+        let it = statement_and lines x at _ a _ at' _ h ea (count_moved F a b eb) in
+        both_moved F (statement_moved x at _ a at' _ b it.front ea it.behind eb) (statement_moved y _ next a _ next' b it.back it.behind en eb)
     statement_moved (plain_loop x) at next a at' next' b h ea en eb = statement_moved x at at (in_loop next a) at' at' (in_loop next' b) h ea ea (loop_moved F next next' a b en eb)
     statement_moved (if_then pos c x p) at next a at' next' b h ea en eb =
-        let s = if_then pos c x p in
-        let w = ways_count a in
-        let second = suc at + statement_size x w in
-        let cx = statement_code x (suc at) next a in
-        let cp = part_code p second next a in
-        let l = line s (part_place p second next ∷ suc at ∷ []) [] None a in
-        let e1 = behind_line lines l (cx ++ cp) at at' h ea in
-        let h1 = has_tail lines at l (cx ++ cp) h in
-        let hx = has_front lines (suc at) cx cp h1 in
-        let e2 = behind_statement lines x (suc at) next a _ _ hx e1 (count_moved F a b eb) in
-        let hp = has_back lines (suc at) (statement_size x w) cx cp (length-statement x (suc at) next a) h1 in
-        more_moved F
-        (line_same lines s (part_place p second next ∷ suc at ∷ []) [] _ [] a b (two_places lines (part_place p second next) (suc at) _ _ (part_place_moved lines p second next _ next' e2 en) e1) refl eb)
-        (both_moved F (statement_moved x (suc at) next a _ next' b hx e1 en eb) (part_moved p second next a _ next' b hp e2 en eb))
+        let own = behind_line lines _ _ at at' h ea in
+        let it = statement_and lines x (suc at) next a _ _ _ own.rest own.behind (count_moved F a b eb) in
+        let ways = two_places lines _ (suc at) _ _ (part_place_moved lines p _ next _ next' it.behind en) own.behind in
+        more_moved F (line_same lines (if_then pos c x p) _ [] _ [] a b ways refl eb)
+        (both_moved F (statement_moved x (suc at) next a _ next' b it.front own.behind en eb) (part_moved p _ next a _ next' b it.back it.behind en eb))
     statement_moved (while_loop pos c x) at next a at' next' b h ea en eb =
-        let s = while_loop pos c x in
-        let cx = statement_code x (suc at) at (in_loop next a) in
-        let l = line s (next ∷ suc at ∷ []) [] None a in
-        let e1 = behind_line lines l cx at at' h ea in
-        more_moved F (line_same lines s (next ∷ suc at ∷ []) [] _ [] a b (two_places lines next (suc at) next' _ en e1) refl eb)
-        (statement_moved x (suc at) at (in_loop next a) _ at' (in_loop next' b) (has_tail lines at l cx h) e1 ea (loop_moved F next next' a b en eb))
+        let own = behind_line lines _ _ at at' h ea in
+        more_moved F (line_same lines (while_loop pos c x) _ [] _ [] a b (two_places lines next (suc at) next' _ en own.behind) refl eb)
+        (statement_moved x (suc at) at (in_loop next a) _ at' (in_loop next' b) own.rest own.behind ea (loop_moved F next next' a b en eb))
     statement_moved (for_loop f x y z) at next a at' next' b h ea en eb =
-        let s = for_loop f x y z in
-        let cz = statement_code z (suc (suc at)) (suc at) (in_for next a) in
-        let l = line s (next ∷ suc (suc at) ∷ []) [] None a in
-        let m : Line = record { what = continues f; at = f.next_at; out = a.out; ways = next ∷ suc (suc at) ∷ []; bodies = []; exit = None } in
-        let e1 = behind_line lines l (m ∷ cz) at at' h ea in
-        let h1 = has_tail lines at l (m ∷ cz) h in
-        let e2 = behind_plain lines m cz (suc at) _ refl h1 e1 in
-        let ways = next ∷ suc (suc at) ∷ [] in
-        let same = two_places lines next (suc (suc at)) next' _ en e2 in
-        more_moved F (line_same lines s ways [] _ [] a b same refl eb)
-        (more_moved F (next_moved lines f a b ways _ same eb)
-        (statement_moved z (suc (suc at)) (suc at) (in_for next a) _ _ (in_for next' b) (has_tail lines (suc at) m cz h1) e2 e1 (for_moved F next next' a b en eb)))
+        let own = behind_line lines _ _ at at' h ea in
+        let after = behind_line lines _ _ (suc at) _ own.rest own.behind in
+        let inside = behind_plain lines _ _ (suc at) _ refl own.rest own.behind in
+        let ways = two_places lines next (suc (suc at)) next' _ en inside in
+        more_moved F (line_same lines (for_loop f x y z) _ [] _ [] a b ways refl eb)
+        (more_moved F (next_moved lines f a b _ _ ways eb) (statement_moved z (suc (suc at)) (suc at) (in_for next a) _ _ (in_for next' b) after.rest inside own.behind (for_moved F next next' a b en eb)))
     statement_moved (block pos n x) at next a at' next' b h ea en eb =
-        let s = block pos n x in
         let w = ways_count a in
         let end = end_place x (suc at) w in
         let inner = in_block end a in
         let cx = body_code construct.Block x (suc at) next a.out inner in
         let ss = stubs_of x (a.exits ++ a.back ∷ []) (suc end) in
-        let l = line s (next ∷ suc at ∷ []) [] None a in
-        let e1 = behind_line lines l (cx ++ ss) at at' h ea in
-        let h1 = has_tail lines at l (cx ++ ss) h in
-        let hx = has_front lines (suc at) cx ss h1 in
+        let own = behind_line lines _ _ at at' h ea in
+        let hx = has_front lines (suc at) cx ss own.rest in
         let counts = count-block end a ∙ count_moved F a b eb in
-        let ends : F end ≡ end_place_by flat_step x (suc (at' + _)) (ways_count b) = ap (λ k. F (end_place x (suc at) k)) (sym (count-block end a)) ∙ behind_main lines construct.Block x (suc at) next a.out inner _ _ hx e1 counts in
+        let ends : F end ≡ end_place_by flat_step x (suc (at' + _)) (ways_count b) = ap (λ k. F (end_place x (suc at) k)) (sym (count-block end a)) ∙ behind_main lines construct.Block x (suc at) next a.out inner _ _ hx own.behind counts in
         let size = length-body construct.Block x (suc at) next a.out inner ∙ ap (body_size x) (count-block end a) in
         let same : suc at + body_size x w ≡ suc end = sym (last_is one_line x (suc at) w) in
-        let hs : HasAt lines (suc end) ss = has_moved lines _ _ ss same (has_back lines (suc at) (body_size x w) cx ss size h1) in
+        let hs : HasAt lines (suc end) ss = has_moved lines _ _ ss same (has_back lines (suc at) (body_size x w) cx ss size own.rest) in
         let past : F (suc end) ≡ suc (end_place_by flat_step x _ (ways_count b)) =
-        ap F (sym same) ∙ ap (λ k. F (suc at + body_size x k)) (sym (count-block end a)) ∙ behind_body lines construct.Block x (suc at) next a.out inner _ _ hx e1 counts ∙ sym (last_is flat_step x _ (ways_count b)) in
-        more_moved F (line_same lines s (next ∷ suc at ∷ []) [] _ [] a b (two_places lines next (suc at) next' _ en e1) refl eb)
+        ap F (sym same) ∙ ap (λ k. F (suc at + body_size x k)) (sym (count-block end a)) ∙ behind_body lines construct.Block x (suc at) next a.out inner _ _ hx own.behind counts ∙ sym (last_is flat_step x _ (ways_count b)) in
+        more_moved F (line_same lines (block pos n x) _ [] _ [] a b (two_places lines next (suc at) next' _ en own.behind) refl eb)
         (both_moved F
-        (body_moved construct.Block x (suc at) next a.out inner _ next' b.out _ hx e1 en (out_same lines a b eb) (around_block lines x end _ a b hs ends past eb))
+        (body_moved construct.Block x (suc at) next a.out inner _ next' b.out _ hx own.behind en (out_same lines a b eb) (around_block lines x end _ a b hs ends past eb))
         (stubs_of_moved lines x a b (suc end) _ hs past eb))
     statement_moved (entry_call pos c p q) at next a at' next' b h ea en eb =
-        let s = entry_call pos c p q in
-        let w = ways_count a in
-        let second = suc at + part_size p w in
-        let cp = part_code p (suc at) next a in
-        let cq = part_code q second next a in
-        let l = line s (part_place p (suc at) next ∷ part_place q second next ∷ []) [] None a in
-        let e1 = behind_line lines l (cp ++ cq) at at' h ea in
-        let h1 = has_tail lines at l (cp ++ cq) h in
-        let hp = has_front lines (suc at) cp cq h1 in
-        let e2 = behind_part lines p (suc at) next a _ _ hp e1 (count_moved F a b eb) in
-        let hq = has_back lines (suc at) (part_size p w) cp cq (length-part p (suc at) next a) h1 in
-        more_moved F
-        (line_same lines s (part_place p (suc at) next ∷ part_place q second next ∷ []) [] _ [] a b
-        (two_places lines (part_place p (suc at) next) (part_place q second next) _ _ (part_place_moved lines p (suc at) next _ next' e1 en) (part_place_moved lines q second next _ next' e2 en)) refl eb)
-        (both_moved F (part_moved p (suc at) next a _ next' b hp e1 en eb) (part_moved q second next a _ next' b hq e2 en eb))
+        let own = behind_line lines _ _ at at' h ea in
+        let it = part_and lines p (suc at) next a _ _ _ own.rest own.behind (count_moved F a b eb) in
+        let ways = two_places lines _ _ _ _ (part_place_moved lines p _ next _ next' own.behind en) (part_place_moved lines q _ next _ next' it.behind en) in
+        more_moved F (line_same lines (entry_call pos c p q) _ [] _ [] a b ways refl eb)
+        (both_moved F (part_moved p (suc at) next a _ next' b it.front own.behind en eb) (part_moved q _ next a _ next' b it.back it.behind en eb))
     statement_moved (accept pos n d) at next a at' next' b h ea en eb =
-        let s = accept pos n d in
-        let cd = doing_code d (suc at) next a.out in
-        let l = line s (next ∷ []) (doing_place d (suc at) next ∷ []) None a in
-        let e1 = behind_line lines l cd at at' h ea in
+        let own = behind_line lines _ _ at at' h ea in
         more_moved F
-        (line_same lines s (next ∷ []) (doing_place d (suc at) next ∷ []) _ _ a b (one_place lines next next' en) (one_place lines (doing_place d (suc at) next) _ (doing_place_moved lines d (suc at) next _ next' e1 en)) eb)
-        (doing_moved d (suc at) next a.out _ next' b.out (has_tail lines at l cd h) e1 en (out_same lines a b eb))
+        (line_same lines (accept pos n d) _ _ _ _ a b (one_place lines next next' en) (one_place lines _ _ (doing_place_moved lines d (suc at) next _ next' own.behind en)) eb)
+        (doing_moved d (suc at) next a.out _ next' b.out own.rest own.behind en (out_same lines a b eb))
     statement_moved (select pos offered p) at next a at' next' b h ea en eb =
-        let s = select pos offered p in
-        let w = ways_count a in
-        let second = suc at + offered_size offered w in
-        let co = offered_code offered (suc at) next a in
-        let cp = part_code p second next a in
-        let l = line s (part_place p second next ∷ parts_from offered (suc at) next w) (at ∷ bodies_from offered (suc at) next w) None a in
-        let e1 = behind_line lines l (co ++ cp) at at' h ea in
-        let h1 = has_tail lines at l (co ++ cp) h in
-        let ho = has_front lines (suc at) co cp h1 in
+        let own = behind_line lines _ _ at at' h ea in
         let ec = count_moved F a b eb in
-        let e2 = behind_offered lines offered (suc at) next a _ _ ho e1 ec in
-        let places = offers_moved lines offered (suc at) next a _ next' _ ho e1 en ec in
-        let hp = has_back lines (suc at) (offered_size offered w) co cp (length-offered offered (suc at) next a) h1 in
-        more_moved F
-        (line_same lines s (part_place p second next ∷ parts_from offered (suc at) next w) (at ∷ bodies_from offered (suc at) next w) _ _ a b
-        (place_more lines _ _ _ _ (part_place_moved lines p second next _ next' e2 en) places.parts) (place_more lines at at' _ _ ea places.bodies) eb)
-        (both_moved F (offered_moved offered (suc at) next a _ next' b ho e1 en eb) (part_moved p second next a _ next' b hp e2 en eb))
+        let it = offered_and lines offered (suc at) next a _ _ _ own.rest own.behind ec in
+        let places = offers_moved lines offered (suc at) next a _ next' _ it.front own.behind en ec in
+        let ways = place_more lines _ _ _ _ (part_place_moved lines p _ next _ next' it.behind en) places.parts in
+        more_moved F (line_same lines (select pos offered p) _ _ _ _ a b ways (place_more lines at at' _ _ ea places.bodies) eb)
+        (both_moved F (offered_moved offered (suc at) next a _ next' b it.front own.behind en eb) (part_moved p _ next a _ next' b it.back it.behind en eb))
     statement_moved (exit pos n c) at next a at' next' b h ea en eb = line_out lines (exit pos n c) next next' _ _ a b en (exit_moved F a b n next next' en eb) eb
     statement_moved (return pos) at next a at' next' b h ea en eb = line_out lines (return pos) next next' _ _ a b en (ap (λ (c : Around). c.back) eb) eb
     statement_moved (return_value pos x) at next a at' next' b h ea en eb = line_out lines (return_value pos x) next next' _ _ a b en (ap (λ (c : Around). c.back) eb) eb
@@ -143,14 +93,8 @@ module _ (lines : List Line) where
     handlers_moved : (hs : Handlers) (at next : ℕ) (a : Around) (at' next' : ℕ) (b : Around) → HasAt lines at (handlers_code hs at next a) → F at ≡ at' → F next ≡ next' → moved F a ≡ b → Moves F (handlers_code hs at next a) (handlers_code_by flat_step hs at' next' b)
     handlers_moved no_handlers at next a at' next' b h ea en eb = none_moved F
     handlers_moved (handler others choices s more) at next a at' next' b h ea en eb =
-        let w = ways_count a in
-        let middle = at + statement_size s w in
-        let cs = statement_code s at next a in
-        let cm = handlers_code more middle next a in
-        let hs = has_front lines at cs cm h in
-        let hm = has_back lines at (statement_size s w) cs cm (length-statement s at next a) h in
-        let em = behind_statement lines s at next a at' _ hs ea (count_moved F a b eb) in
-        both_moved F (statement_moved s at next a at' next' b hs ea en eb) (handlers_moved more middle next a _ next' b hm em en eb)
+        let it = statement_and lines s at next a _ at' _ h ea (count_moved F a b eb) in
+        both_moved F (statement_moved s at next a at' next' b it.front ea en eb) (handlers_moved more _ next a _ next' b it.back it.behind en eb)
 
     body_moved : (c : Construct) (x : Body) (at next out : ℕ) (a : Around) (at' next' out' : ℕ) (b : Around) → HasAt lines at (body_code c x at next out a) → F at ≡ at' → F next ≡ next' → F out ≡ out' → moved F a ≡ b → Moves F (body_code c x at next out a) (body_code_by flat_step c x at' next' out' b)
     body_moved c (body d begin s hs end) at next out a at' next' out' b h ea en eo eb =
@@ -182,14 +126,8 @@ module _ (lines : List Line) where
         both_moved F (doing_moved d at (part_place p after next) a.out at' _ _ it.doing ea (part_place_moved lines p after next _ next' is.after en) (out_same lines a b eb))
         (both_moved F (part_moved p after next a _ next' b it.part is.after en eb) (offered_moved more _ next a _ next' b it.others is.later en eb))
     offered_moved (delaying g x p more) at next a at' next' b h ea en eb =
-        let w = ways_count a in
-        let later = at + part_size p w in
-        let cp = part_code p at next a in
-        let cm = offered_code more later next a in
-        let hp = has_front lines at cp cm h in
-        let hm = has_back lines at (part_size p w) cp cm (length-part p at next a) h in
-        let e2 = behind_part lines p at next a at' _ hp ea (count_moved F a b eb) in
-        both_moved F (part_moved p at next a at' next' b hp ea en eb) (offered_moved more later next a _ next' b hm e2 en eb)
+        let it = part_and lines p at next a _ at' _ h ea (count_moved F a b eb) in
+        both_moved F (part_moved p at next a at' next' b it.front ea en eb) (offered_moved more _ next a _ next' b it.back it.behind en eb)
     offered_moved (terminating g more) at next a at' next' b h ea en eb = offered_moved more at next a at' next' b h ea en eb
 
   -- Bodies, one after the other.
