@@ -82,7 +82,7 @@ module _ (lines : List Line) where
   behind_offered o at next a at' e h ea ec =
       past (offered_code o at next a) at at' _ _ _ h (length-offered o at next a) (total-offered flat_step adds o at next a) (ap (offered_size_by flat_step o) ec) ea
 
-  pub behind_body : (c : Construct) (b : Body) (at next out : ℕ) (a : Around) (at' e : ℕ) → HasAt lines at (body_code c b at next out a) → F at ≡ at' → ways_count a ≡ e → F (at + body_size b (ways_count a)) ≡ at' + body_size_by flat_step b e
+  behind_body : (c : Construct) (b : Body) (at next out : ℕ) (a : Around) (at' e : ℕ) → HasAt lines at (body_code c b at next out a) → F at ≡ at' → ways_count a ≡ e → F (at + body_size b (ways_count a)) ≡ at' + body_size_by flat_step b e
   behind_body c b at next out a at' e h ea ec =
       past (body_code c b at next out a) at at' _ _ _ h (length-body c b at next out a) (total-body flat_step adds c b at next out a) (ap (body_size_by flat_step b) ec) ea
 
@@ -105,6 +105,9 @@ module _ (lines : List Line) where
 
   pub offered_and : (o : Alternatives) (at next : ℕ) (a : Around) (more : List Line) (at' e : ℕ) → HasAt lines at (offered_code o at next a ++ more) → F at ≡ at' → ways_count a ≡ e → Halves (offered_code o at next a) more at (offered_size o (ways_count a)) at' (offered_size_by flat_step o e)
   offered_and o at next a more at' e h ea ec = halves (offered_code o at next a) more at _ at' _ (length-offered o at next a) h (λ k. behind_offered o at next a at' e k ea ec)
+
+  pub body_and : (c : Construct) (b : Body) (at next out : ℕ) (a : Around) (more : List Line) (at' e : ℕ) → HasAt lines at (body_code c b at next out a ++ more) → F at ≡ at' → ways_count a ≡ e → Halves (body_code c b at next out a) more at (body_size b (ways_count a)) at' (body_size_by flat_step b e)
+  body_and c b at next out a more at' e h ea ec = halves (body_code c b at next out a) more at _ at' _ (length-body c b at next out a) h (λ k. behind_body c b at next out a at' e k ea ec)
 
   -- behind the parts of a body
   pub record PassedBody (d : Part) (s : Statement) (hs : Handlers) (at : ℕ) (a : Around) (at' e : ℕ) : Type 0 where

@@ -9,12 +9,12 @@ use Rattle.aud_gen.specs.Assembly.{offset}
 use Rattle.aud_gen.specs.Instructions.{condition_code}
 use Rattle.aud_gen.specs.Written.{flat_step, written, WrittenLaw}
 use Rattle.aud_gen.specs.Shows.{HasAt}
-use Rattle.aud_gen.proofs.Standing.Places.{has_front, has_back, has_moved, has_all, body_at, offer_has, length-body, length-unit}
+use Rattle.aud_gen.proofs.Standing.Places.{has_moved, has_all, body_at, offer_has}
 use Rattle.aud_gen.proofs.Flat.Assembly.{offset_zero}
 use Rattle.aud_gen.proofs.Flat.Moving.{moved, Moves, none_moved, more_moved, same_lines, both_moved, count_moved, out_moved, loop_moved, for_moved, exit_moved}
 use Rattle.aud_gen.proofs.Flat.Parts.{place_more, one_place, two_places, part_place_moved, doing_place_moved, offers_moved, around_block, stubs_of_moved, out_same, line_same, line_out, line_alone, next_moved, guard_moved_to, end_moved}
 use Rattle.aud_gen.proofs.Standing.Sizes.{last_is, count-block}
-use Rattle.aud_gen.proofs.Flat.Behind.{behind_line, behind_plain, statement_and, part_and, offered_and, behind_body, behind_main, passed_body, passed_offer}
+use Rattle.aud_gen.proofs.Flat.Behind.{behind_line, behind_plain, statement_and, part_and, offered_and, body_and, Halves, behind_main, passed_body, passed_offer}
 
 module _ (lines : List Line) where
   abbrev F : ℕ → ℕ
@@ -47,20 +47,16 @@ module _ (lines : List Line) where
         let w = ways_count a in
         let end = end_place x (suc at) w in
         let inner = in_block end a in
-        let cx = body_code construct.Block x (suc at) next a.out inner in
-        let ss = stubs_of x (a.exits ++ a.back ∷ []) (suc end) in
         let own = behind_line lines _ _ at at' h ea in
-        let hx = has_front lines (suc at) cx ss own.rest in
         let counts = count-block end a ∙ count_moved F a b eb in
-        let ends : F end ≡ end_place_by flat_step x (suc (at' + _)) (ways_count b) = ap (λ k. F (end_place x (suc at) k)) (sym (count-block end a)) ∙ behind_main lines construct.Block x (suc at) next a.out inner _ _ hx own.behind counts in
-        let size = length-body construct.Block x (suc at) next a.out inner ∙ ap (body_size x) (count-block end a) in
-        let same : suc at + body_size x w ≡ suc end = sym (last_is one_line x (suc at) w) in
-        let hs : HasAt lines (suc end) ss = has_moved lines _ _ ss same (has_back lines (suc at) (body_size x w) cx ss size own.rest) in
-        let past : F (suc end) ≡ suc (end_place_by flat_step x _ (ways_count b)) =
-        ap F (sym same) ∙ ap (λ k. F (suc at + body_size x k)) (sym (count-block end a)) ∙ behind_body lines construct.Block x (suc at) next a.out inner _ _ hx own.behind counts ∙ sym (last_is flat_step x _ (ways_count b)) in
+        let it = body_and lines construct.Block x (suc at) next a.out inner _ _ _ own.rest own.behind counts in
+        let ends : F end ≡ end_place_by flat_step x (suc (at' + _)) (ways_count b) = ap (λ k. F (end_place x (suc at) k)) (sym (count-block end a)) ∙ behind_main lines construct.Block x (suc at) next a.out inner _ _ it.front own.behind counts in
+        let same : suc at + body_size x (ways_count inner) ≡ suc end = ap (λ k. suc at + body_size x k) (count-block end a) ∙ sym (last_is one_line x (suc at) w) in
+        let hs = has_moved lines _ _ (stubs_of x (a.exits ++ a.back ∷ []) (suc end)) same it.back in
+        let past : F (suc end) ≡ suc (end_place_by flat_step x _ (ways_count b)) = ap F (sym same) ∙ it.behind ∙ sym (last_is flat_step x _ (ways_count b)) in
         more_moved F (line_same lines (block pos n x) _ [] _ [] a b (two_places lines next (suc at) next' _ en own.behind) refl eb)
         (both_moved F
-        (body_moved construct.Block x (suc at) next a.out inner _ next' b.out _ hx own.behind en (out_same lines a b eb) (around_block lines x end _ a b hs ends past eb))
+        (body_moved construct.Block x (suc at) next a.out inner _ next' b.out _ it.front own.behind en (out_same lines a b eb) (around_block lines x end _ a b hs ends past eb))
         (stubs_of_moved lines x a b (suc end) _ hs past eb))
     statement_moved (entry_call pos c p q) at next a at' next' b h ea en eb =
         let own = behind_line lines _ _ at at' h ea in
@@ -139,35 +135,26 @@ module _ (lines : List Line) where
         let ends = behind_main lines construct.Unit x at 0 end (in_call end) at' 1 h e refl in
         body_moved construct.Unit x at 0 end (in_call end) at' 0 _ _ h e zero_is ends (ap in_call ends)
 
-    behind_unit : (x : Body) (at at' : ℕ) → HasAt lines at (unit_code x at) → F at ≡ at' → F (at + body_size x 1) ≡ at' + body_size_by flat_step x 1
-    behind_unit x at at' h e = let end = end_place x at 1 in behind_body lines construct.Unit x at 0 end (in_call end) at' 1 h e refl
+    unit_and : (x : Body) (at : ℕ) (more : List Line) (at' : ℕ) → HasAt lines at (unit_code x at ++ more) → F at ≡ at' → Halves lines (unit_code x at) more at (body_size x 1) at' (body_size_by flat_step x 1)
+    unit_and x at more at' h e = body_and lines construct.Unit x at 0 _ (in_call (end_place x at 1)) more at' 1 h e refl
 
     units_moved : (xs : List Body) (at at' : ℕ) → HasAt lines at (units_code xs at) → F at ≡ at' → Moves F (units_code xs at) (units_code_by flat_step xs at')
     units_moved [] at at' h e = unit_moved no_body at at' h e
     units_moved (x ∷ xs) at at' h e =
-        let next = at + body_size x 1 in
-        let cx = unit_code x at in
-        let cs = units_code xs next in
-        let hx = has_front lines at cx cs h in
-        both_moved F (unit_moved x at at' hx e) (units_moved xs next _ (has_back lines at (body_size x 1) cx cs (length-unit x at) h) (behind_unit x at at' hx e))
+        let it = unit_and x at _ at' h e in
+        both_moved F (unit_moved x at at' it.front e) (units_moved xs _ _ it.back it.behind)
 
     starts_moved : (xs : List Body) (at at' : ℕ) → HasAt lines at (units_code xs at) → F at ≡ at' → map F (starts_from xs at) ≡ starts_from_by flat_step xs at'
     starts_moved [] at at' h e = refl
     starts_moved (x ∷ xs) at at' h e =
-        let next = at + body_size x 1 in
-        let cx = unit_code x at in
-        let cs = units_code xs next in
-        let en = behind_unit x at at' (has_front lines at cx cs h) e in
-        place_more lines at at' (starts_from xs next) _ e (starts_moved xs next _ (has_back lines at (body_size x 1) cx cs (length-unit x at) h) en)
+        let it = unit_and x at _ at' h e in
+        place_more lines at at' _ _ e (starts_moved xs _ _ it.back it.behind)
 
     spare_moved : (xs : List Body) (at at' : ℕ) → HasAt lines at (units_code xs at) → F at ≡ at' → F (spare_from xs at) ≡ spare_from_by flat_step xs at'
     spare_moved [] at at' h e = e
     spare_moved (x ∷ xs) at at' h e =
-        let next = at + body_size x 1 in
-        let cx = unit_code x at in
-        let cs = units_code xs next in
-        let en = behind_unit x at at' (has_front lines at cx cs h) e in
-        spare_moved xs next _ (has_back lines at (body_size x 1) cx cs (length-unit x at) h) en
+        let it = unit_and x at _ at' h e in
+        spare_moved xs _ _ it.back it.behind
 
 pub written_law : WrittenLaw
 written_law program =
