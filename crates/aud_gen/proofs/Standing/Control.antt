@@ -2,7 +2,7 @@
 use Rattle.std.proofs.Common.{◌≡◌, ℕ, ◌+◌, List, [], ◌∷◌, ◌++◌, length, le_refl, inr, refl, sym, subst, arith, Option}
 use Rattle.std.proofs.lemmas.List.{get_or_past}
 use Rattle.aud_text.specs.declared.place.Pos.{Pos}
-use Rattle.aud_typed.specs.Tree.{Statement, sequence, declare, declare_array, declare_tasks, declare_object, activated, activate, null, assign, put, if_then, plain_loop, while_loop, for_loop, exit, return, return_value, raising, raising_again, block, procedure_call, own_entry_call, operation_call, entry_call, delay, accept, select, abort, Part, nothing, some, Handlers, Body, body, Doing, without_do, with_do}
+use Rattle.aud_typed.specs.Tree.{Statement, sequence, plain_loop, Part, nothing, some, Handlers, Body, body, Doing, without_do, with_do}
 use Rattle.aud_meaning.specs.declared.state.Construct.{Construct}
 use Rattle.aud_meaning.specs.declared.state.Construct.TheVariants as construct
 use Rattle.aud_meaning.specs.Configuration.{Item, Do, InLoop, InFor, Begin, Ends, Leaving}
@@ -23,32 +23,7 @@ pub record First (s : Statement) (place next : ℕ) (a : Around) : Type 0 where
 pub first : (s : Statement) (place next : ℕ) (a : Around) → IsStep s → First s place next a
 first (sequence x y) place next a is = absurd is
 first (plain_loop x) place next a is = absurd is
-first (declare pos e) place next a is = record { ways = _; bodies = _; out = _; more = _; is = refl }
-first (declare_array pos t n) place next a is = record { ways = _; bodies = _; out = _; more = _; is = refl }
-first (declare_tasks pos ts) place next a is = record { ways = _; bodies = _; out = _; more = _; is = refl }
-first (declare_object pos n es) place next a is = record { ways = _; bodies = _; out = _; more = _; is = refl }
-first (activated pos) place next a is = record { ways = _; bodies = _; out = _; more = _; is = refl }
-first (activate pos) place next a is = record { ways = _; bodies = _; out = _; more = _; is = refl }
-first (null pos) place next a is = record { ways = _; bodies = _; out = _; more = _; is = refl }
-first (assign pos r e) place next a is = record { ways = _; bodies = _; out = _; more = _; is = refl }
-first (put pos t) place next a is = record { ways = _; bodies = _; out = _; more = _; is = refl }
-first (if_then pos c x p) place next a is = record { ways = _; bodies = _; out = _; more = _; is = refl }
-first (while_loop pos c x) place next a is = record { ways = _; bodies = _; out = _; more = _; is = refl }
-first (for_loop f x y b) place next a is = record { ways = _; bodies = _; out = _; more = _; is = refl }
-first (exit pos n e) place next a is = record { ways = _; bodies = _; out = _; more = _; is = refl }
-first (return pos) place next a is = record { ways = _; bodies = _; out = _; more = _; is = refl }
-first (return_value pos e) place next a is = record { ways = _; bodies = _; out = _; more = _; is = refl }
-first (raising pos x) place next a is = record { ways = _; bodies = _; out = _; more = _; is = refl }
-first (raising_again pos) place next a is = record { ways = _; bodies = _; out = _; more = _; is = refl }
-first (block pos n b) place next a is = record { ways = _; bodies = _; out = _; more = _; is = refl }
-first (procedure_call pos c) place next a is = record { ways = _; bodies = _; out = _; more = _; is = refl }
-first (own_entry_call pos es f) place next a is = record { ways = _; bodies = _; out = _; more = _; is = refl }
-first (operation_call pos v c) place next a is = record { ways = _; bodies = _; out = _; more = _; is = refl }
-first (entry_call pos c p q) place next a is = record { ways = _; bodies = _; out = _; more = _; is = refl }
-first (delay pos e) place next a is = record { ways = _; bodies = _; out = _; more = _; is = refl }
-first (accept pos n d) place next a is = record { ways = _; bodies = _; out = _; more = _; is = refl }
-first (select pos offered p) place next a is = record { ways = _; bodies = _; out = _; more = _; is = refl }
-first (abort pos ns) place next a is = record { ways = _; bodies = _; out = _; more = _; is = refl }
+first s place next a is = record { ways = _; bodies = _; out = _; more = _; is = refl }
 
 module _ (code : Code) where
   abbrev pub at_place : ℕ → List ℕ → Spot
@@ -71,32 +46,7 @@ module _ (code : Code) where
         let cy = statement_code y middle next around in
         enters x around place middle (Do y ∷ rest) (has_front code.lines place cx cy has) (next, has_back code.lines place size cx cy (length-statement x place middle around) has, st)
     enters (plain_loop x) around place next rest has st = enters x (in_loop next around) place place (InLoop (plain_loop x) ∷ rest) has (next, around, refl, has, st)
-    enters (declare pos e) around place next rest has st = comes_first (declare pos e) around place next rest tt has st
-    enters (declare_array pos t n) around place next rest has st = comes_first (declare_array pos t n) around place next rest tt has st
-    enters (declare_tasks pos ts) around place next rest has st = comes_first (declare_tasks pos ts) around place next rest tt has st
-    enters (declare_object pos n es) around place next rest has st = comes_first (declare_object pos n es) around place next rest tt has st
-    enters (activated pos) around place next rest has st = comes_first (activated pos) around place next rest tt has st
-    enters (activate pos) around place next rest has st = comes_first (activate pos) around place next rest tt has st
-    enters (null pos) around place next rest has st = comes_first (null pos) around place next rest tt has st
-    enters (assign pos r e) around place next rest has st = comes_first (assign pos r e) around place next rest tt has st
-    enters (put pos t) around place next rest has st = comes_first (put pos t) around place next rest tt has st
-    enters (if_then pos c x p) around place next rest has st = comes_first (if_then pos c x p) around place next rest tt has st
-    enters (while_loop pos c x) around place next rest has st = comes_first (while_loop pos c x) around place next rest tt has st
-    enters (for_loop f x y b) around place next rest has st = comes_first (for_loop f x y b) around place next rest tt has st
-    enters (exit pos n e) around place next rest has st = comes_first (exit pos n e) around place next rest tt has st
-    enters (return pos) around place next rest has st = comes_first (return pos) around place next rest tt has st
-    enters (return_value pos e) around place next rest has st = comes_first (return_value pos e) around place next rest tt has st
-    enters (raising pos x) around place next rest has st = comes_first (raising pos x) around place next rest tt has st
-    enters (raising_again pos) around place next rest has st = comes_first (raising_again pos) around place next rest tt has st
-    enters (block pos n b) around place next rest has st = comes_first (block pos n b) around place next rest tt has st
-    enters (procedure_call pos c) around place next rest has st = comes_first (procedure_call pos c) around place next rest tt has st
-    enters (own_entry_call pos es f) around place next rest has st = comes_first (own_entry_call pos es f) around place next rest tt has st
-    enters (operation_call pos v c) around place next rest has st = comes_first (operation_call pos v c) around place next rest tt has st
-    enters (entry_call pos c p q) around place next rest has st = comes_first (entry_call pos c p q) around place next rest tt has st
-    enters (delay pos e) around place next rest has st = comes_first (delay pos e) around place next rest tt has st
-    enters (accept pos n d) around place next rest has st = comes_first (accept pos n d) around place next rest tt has st
-    enters (select pos offered p) around place next rest has st = comes_first (select pos offered p) around place next rest tt has st
-    enters (abort pos ns) around place next rest has st = comes_first (abort pos ns) around place next rest tt has st
+    enters s around place next rest has st = comes_first s around place next rest tt has st
 
     -- the statements of a construct, whose end stands behind them
     pub main_stands : (c : Construct) (s : Statement) (h : Handlers) (end : Pos) (around : Around) (place next out : ℕ) (rest : List Item) → HasAt code.lines place (main_code c s h end place next out around) → EndsAt c (λ a p rs. Stands code a p rs rest) code end around.exits around.back (place + main_size s h (ways_count around)) returns rest → ShowsControl code (at_place place returns) (entered s (Ends c h end ∷ rest))
