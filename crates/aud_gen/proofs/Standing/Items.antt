@@ -1,5 +1,5 @@
 -- What is read and ordered at each item.
-use Rattle.std.proofs.Common.{◌≡◌, ℕ, zero, suc, ◌+◌, List, [], ◌∷◌, ◌++◌, refl, sym, ap, ◌∙◌, subst, None, false}
+use Rattle.std.proofs.Common.{◌≡◌, ℕ, zero, suc, List, [], ◌∷◌, refl, sym, ap, ◌∙◌, subst, None, false}
 use Rattle.aud_text.specs.declared.place.Pos.{Pos}
 use Rattle.aud_typed.specs.Tree.{IntegerExpression, For, Statement, sequence, plain_loop, for_loop, accept, select, Handlers, Program}
 use Rattle.aud_meaning.specs.declared.state.Construct.{Construct}
@@ -9,7 +9,7 @@ use Rattle.aud_meaning.specs.Evaluation.{Sight}
 use Rattle.aud_meaning.specs.Control.{Scene, next_of_loop}
 use Rattle.aud_meaning.specs.Items.{entered, resumed, doing_by, ended, takes, takes_next, accepts, accepts_by, accepts_offer, offer_at, place, nowhere, next_at, loops_out, out_from}
 use Rattle.aud_meaning.specs.Statements.{asked_statement, next_asked, asked_item, coming_item}
-use Rattle.aud_gen.specs.Layout.{continues, asked_by, coming_by, Line, Around, in_for, ways_count, offered_size, end_line, statement_code, part_code, offered_code, Code, line_at, back_to, ended_by}
+use Rattle.aud_gen.specs.Layout.{continues, asked_by, coming_by, Line, Around, in_for, end_line, statement_code, offered_code, Code, line_at, back_to, ended_by}
 use Rattle.aud_code.specs.Places.{Way}
 use Rattle.aud_gen.specs.Shows.{HasAt, IsStep, IsSettled, IsFor, Callers, EndsAt, Stands, ShowsControl}
 use Rattle.aud_gen.proofs.Standing.Places.{has_front, has_tail, line_is}
@@ -82,11 +82,8 @@ module _ (code : Code) where
     accepts_do (plain_loop x) around place next rest is has st k = absurd is
     accepts_do (accept pos m d) around place next rest is has st zero = with_line (λ l. Leads code returns place l.bodies zero (doing_by d rest)) place _ (line_is code place _ _ has) (doing_stands code returns d around (suc place) next rest (has_tail code.lines place _ _ has) st)
     accepts_do (select pos offered p) around place next rest is has st (suc k) =
-        let second = suc place + offered_size offered (ways_count around) in
-        let co = offered_code offered (suc place) next around in
-        let cp = part_code p second next around in
         let all : ShowsControl code (at_place code place returns) (Do (select pos offered p) ∷ rest) = record { around = around; stands = (next, has, st); settled = tt } in
-        let it = offers code returns offered (select pos offered p) around place (suc place) next rest all (has_front code.lines (suc place) co cp (has_tail code.lines place _ (co ++ cp) has)) st k in
+        let it = offers code returns offered (select pos offered p) around place (suc place) next rest all (has_front code.lines (suc place) (offered_code offered (suc place) next around) _ (has_tail code.lines place _ _ has)) st k in
         with_line (λ l. Leads code returns place l.bodies (suc k) (accepts_offer (offer_at offered k) (select pos offered p) rest)) place _ (line_is code place _ _ has) it.1
     accepts_do s around place next rest is has st k = with_line (λ l. Leads code returns place l.bodies k (Do s ∷ rest)) place _ (line_is code place _ _ has) (record { around = around; stands = (next, has, st); settled = tt })
 

@@ -5,7 +5,7 @@ use Rattle.aud_meaning.specs.declared.state.Construct.TheVariants as construct
 use Rattle.aud_meaning.specs.Configuration.{Item, Do, InLoop, InFor}
 use Rattle.aud_meaning.specs.Items.{before, body_before, takes_by, follows, one_part, accepts_offer, part_in, offer_at, place}
 use Rattle.aud_code.specs.Places.{goes_there}
-use Rattle.aud_gen.specs.Layout.{Line, Around, in_loop, in_for, in_block, ways_count, statement_size, part_size, doing_size, offered_size, end_place, end_line, stubs, stubs_of, line, statement_code, part_code, part_place, parts_from, bodies_from, body_code, offered_code, Code, line_at}
+use Rattle.aud_gen.specs.Layout.{Line, Around, in_loop, in_for, in_block, ways_count, part_size, doing_size, end_place, end_line, stubs, stubs_of, line, statement_code, part_code, part_place, parts_from, bodies_from, body_code, offered_code, Code, line_at}
 use Rattle.aud_gen.specs.Shows.{HasAt, IsStep, EndsAt, Stands, ShowsControl}
 use Rattle.aud_gen.proofs.Standing.Places.{has_front, has_back, has_tail, has_moved, has_same, offer_has, line_is, length-statement, length-part, length-offered}
 use Rattle.aud_gen.proofs.Standing.Sizes.{count-block}
@@ -76,16 +76,9 @@ module _ (code : Code) where
     takes_do (sequence x y) around place next rest is has st n = absurd is
     takes_do (plain_loop x) around place next rest is has st n = absurd is
     takes_do (if_then pos c x p) around place next rest is has st zero =
-        let size = statement_size x (ways_count around) in
-        let second = suc place + size in
-        let cx = statement_code x (suc place) next around in
-        let cp = part_code p second next around in
-        by_line place _ zero _ (line_is code place _ _ has) (part_stands code returns p around second next rest (has_back code.lines (suc place) size cx cp (length-statement x (suc place) next around) (has_tail code.lines place _ (cx ++ cp) has)) st)
+        by_line place _ zero _ (line_is code place _ _ has) (part_stands code returns p around _ next rest (has_back code.lines (suc place) _ _ _ (length-statement x (suc place) next around) (has_tail code.lines place _ _ has)) st)
     takes_do (if_then pos c x p) around place next rest is has st (suc zero) =
-        let second = suc place + statement_size x (ways_count around) in
-        let cx = statement_code x (suc place) next around in
-        let cp = part_code p second next around in
-        by_line place _ 1 _ (line_is code place _ _ has) (enters code returns x around (suc place) next rest (has_front code.lines (suc place) cx cp (has_tail code.lines place _ (cx ++ cp) has)) st)
+        by_line place _ 1 _ (line_is code place _ _ has) (enters code returns x around (suc place) next rest (has_front code.lines (suc place) (statement_code x (suc place) next around) _ (has_tail code.lines place _ _ has)) st)
     takes_do (if_then pos c x p) around place next rest is has st (suc (suc n)) = by_line place _ (suc (suc n)) _ (line_is code place _ _ has) (record { around = around; stands = (next, has, st); settled = tt })
     takes_do (while_loop pos c x) around place next rest is has st zero = by_line place _ zero _ (line_is code place _ _ has) (resumes code returns rest around next st)
     takes_do (while_loop pos c x) around place next rest is has st (suc zero) =
@@ -100,28 +93,14 @@ module _ (code : Code) where
     takes_do (block pos m b) around place next rest is has st (suc zero) = by_line place _ 1 _ (line_is code place _ _ has) (block_stands b around (suc place) next returns rest (has_tail code.lines place _ _ has) st)
     takes_do (block pos m b) around place next rest is has st (suc (suc n)) = by_line place _ (suc (suc n)) _ (line_is code place _ _ has) (record { around = around; stands = (next, has, st); settled = tt })
     takes_do (entry_call pos c p q) around place next rest is has st zero =
-        let second = suc place + part_size p (ways_count around) in
-        let cp = part_code p (suc place) next around in
-        let cq = part_code q second next around in
-        by_line place _ zero _ (line_is code place _ _ has) (part_stands code returns p around (suc place) next rest (has_front code.lines (suc place) cp cq (has_tail code.lines place _ (cp ++ cq) has)) st)
+        by_line place _ zero _ (line_is code place _ _ has) (part_stands code returns p around (suc place) next rest (has_front code.lines (suc place) (part_code p (suc place) next around) _ (has_tail code.lines place _ _ has)) st)
     takes_do (entry_call pos c p q) around place next rest is has st (suc zero) =
-        let size = part_size p (ways_count around) in
-        let second = suc place + size in
-        let cp = part_code p (suc place) next around in
-        let cq = part_code q second next around in
-        by_line place _ 1 _ (line_is code place _ _ has) (part_stands code returns q around second next rest (has_back code.lines (suc place) size cp cq (length-part p (suc place) next around) (has_tail code.lines place _ (cp ++ cq) has)) st)
+        by_line place _ 1 _ (line_is code place _ _ has) (part_stands code returns q around _ next rest (has_back code.lines (suc place) _ (part_code p (suc place) next around) _ (length-part p (suc place) next around) (has_tail code.lines place _ _ has)) st)
     takes_do (entry_call pos c p q) around place next rest is has st (suc (suc n)) = by_line place _ (suc (suc n)) _ (line_is code place _ _ has) (record { around = around; stands = (next, has, st); settled = tt })
     takes_do (select pos offered p) around place next rest is has st zero =
-        let size = offered_size offered (ways_count around) in
-        let second = suc place + size in
-        let co = offered_code offered (suc place) next around in
-        let cp = part_code p second next around in
-        by_line place _ zero _ (line_is code place _ _ has) (part_stands code returns p around second next rest (has_back code.lines (suc place) size co cp (length-offered offered (suc place) next around) (has_tail code.lines place _ (co ++ cp) has)) st)
+        by_line place _ zero _ (line_is code place _ _ has) (part_stands code returns p around _ next rest (has_back code.lines (suc place) _ (offered_code offered (suc place) next around) _ (length-offered offered (suc place) next around) (has_tail code.lines place _ _ has)) st)
     takes_do (select pos offered p) around place next rest is has st (suc n) =
-        let second = suc place + offered_size offered (ways_count around) in
-        let co = offered_code offered (suc place) next around in
-        let cp = part_code p second next around in
         let all : ShowsControl code (at_place code place returns) (Do (select pos offered p) ∷ rest) = record { around = around; stands = (next, has, st); settled = tt } in
-        let it = offers offered (select pos offered p) around place (suc place) next rest all (has_front code.lines (suc place) co cp (has_tail code.lines place _ (co ++ cp) has)) st n in
+        let it = offers offered (select pos offered p) around place (suc place) next rest all (has_front code.lines (suc place) (offered_code offered (suc place) next around) _ (has_tail code.lines place _ _ has)) st n in
         by_line place _ (suc n) _ (line_is code place _ _ has) it.0
     takes_do s around place next rest is has st way = by_line place _ way _ (line_is code place _ _ has) (one_way s around place next rest tt has st way)
