@@ -15,6 +15,7 @@ use Rattle.aud_bench.specs.contracts.request.Answer as contract
 use Rattle.aud_bench.specs.declared.service.Served.{Served}
 use Rattle.aud_bench.specs.Alone.{Loaded, replied, cost_from, cost, made}
 use Rattle.aud_bench.specs.Ties.Serving.{UnderWay, ServesBy, GoesOn}
+use Rattle.aud_bench.specs.Ties.Seen.{Seen, unanswered}
 use Rattle.aud_bench.specs.Ties.Standing.{loaded_after, answers_to, units_done, AtFirst, told, IsAt}
 use Rattle.aud_bench.proofs.Standing.{cost_append, opens, still_first, loaded_append, answers_append, made_is, units_within}
 
@@ -28,10 +29,10 @@ length_answers : (limits : Limits) (loaded : Option Loaded) (rs : List Request) 
 length_answers limits loaded [] = refl
 length_answers limits loaded (r ∷ rs) = ap suc (length_answers limits (replied limits loaded r).loaded rs)
 
-pub next_request : (journal : List Request) (i : ℕ) (r : Request) → r ≡ get_or journal i r → i < length journal → drop i journal ≡ r ∷ drop (i + 1) journal
+next_request : (journal : List Request) (i : ℕ) (r : Request) → r ≡ get_or journal i r → i < length journal → drop i journal ≡ r ∷ drop (i + 1) journal
 next_request journal i r is below = drop_more journal i r below ∙ ap (λ x. x ∷ drop (i + 1) journal) (sym is)
 
-pub one_more : (journal : List Request) (i : ℕ) (r : Request) → r ≡ get_or journal i r → i < length journal → take (i + 1) journal ≡ take i journal ++ r ∷ []
+one_more : (journal : List Request) (i : ℕ) (r : Request) → r ≡ get_or journal i r → i < length journal → take (i + 1) journal ≡ take i journal ++ r ∷ []
 one_more journal i r is below = take_more journal i r below ∙ ap (λ x. take i journal ++ x ∷ []) (sym is)
 
 module _ (limits : Limits) (journal : List Request) (i p : ℕ) (answers : List Answer) (spent : Bool) (machine : Option Shown) (at : ∥ IsAt limits journal i p answers spent machine ∥₁) where
@@ -68,9 +69,19 @@ module _ (limits : Limits) (journal : List Request) (i p : ℕ) (answers : List 
       let e : told spent ≡ [] = ap told alive in
       ap length (answers_are ∙ ap (λ xs. made limits journal (units_done limits journal i p) ++ xs) e ∙ append-nil _) ∙ made_length
 
+  -- how its callers see it
+  abbrev pub seen : Seen
+  seen = record { limits = limits; journal = journal; units = units_done limits journal i p; answers = answers; spent = spent }
+
+  pub below_is : (b : Seen) → seen ≡ b → 1 ≤ unanswered b → i < length journal
+  below_is b is some = omega (arith, left_is, ap unanswered is, some)
+
   -- there is room for an answer
-  pub room : spent ≡ false → (left capacity : ℕ) → length journal - length (made limits journal (units_done limits journal i p)) ≡ left → 1 ≤ left → (count : ℕ) → count ≡ length answers → length journal ≤ capacity - 1 → count < capacity
-  room alive left capacity left_of some count count_is within = omega (arith, left_of, some, count_is, within, left_is, length_is alive, known_is)
+  pub room : (b : Seen) → seen ≡ b → b.spent ≡ false → 1 ≤ unanswered b → (count capacity : ℕ) → count ≡ length answers → length journal ≤ capacity - 1 → count < capacity
+  room b is alive some count capacity count_is within =
+      let known = length_is (ap (λ (c : Seen). c.spent) is ∙ alive) in
+      let below = below_is b is some in
+      omega (arith, below, count_is, within, known)
 
   -- one request more
   pub given : (r : Request) → ∥ IsAt limits (journal ++ r ∷ []) i p answers spent machine ∥₁
@@ -94,10 +105,11 @@ module _ (limits : Limits) (journal : List Request) (i p : ℕ) (answers : List 
   given_units r = ap (λ past. cost limits past + p) (take-append-le i journal (r ∷ []) known_is)
 
   -- memory is refused
-  pub refused : spent ≡ false → (after : Option Shown) → ∥ IsAt limits journal i p (answers ++ Refused OutOfMemory ∷ []) true after ∥₁
-  refused alive after =
+  pub refused : (b : Seen) → seen ≡ b → b.spent ≡ false → (after : Option Shown) → ∥ IsAt limits journal i p (answers ++ Refused OutOfMemory ∷ []) true after ∥₁
+  refused b is lives after =
       ∥∥₁_map at
       (λ a.
+      let alive : spent ≡ false = ap (λ (c : Seen). c.spent) is ∙ lives in
       let e : answers_to limits None (take i journal) ++ told spent ≡ answers_to limits None (take i journal) = ap (λ s. answers_to limits None (take i journal) ++ told s) alive ∙ append-nil _ in
       record {
         known = a.known;
@@ -107,13 +119,32 @@ module _ (limits : Limits) (journal : List Request) (i p : ℕ) (answers : List 
         next = a.next;
       })
 
-  module _ (r : Request) (rest : List Request) (alive : spent ≡ false) (next_is : drop i journal ≡ r ∷ rest) where
+  -- the first of its requests that is not answered
+  pub record Next (b : Seen) (r : Request) : Type 0 where
+    pub is : seen ≡ b
+    pub lives : b.spent ≡ false
+    pub some : 1 ≤ unanswered b
+    pub at_hand : r ≡ get_or journal i r
+
+  module _ (b : Seen) (r : Request) (next : Next b r) where
+    pub alive : spent ≡ false
+    alive = ap (λ (c : Seen). c.spent) next.is ∙ next.lives
+
+    below : i < length journal
+    below = below_is b next.is next.some
+
+    next_is : drop i journal ≡ r ∷ drop (i + 1) journal
+    next_is = next_request journal i r next.at_hand below
+
     under_way : IsAt limits journal i p answers spent machine → UnderWay limits r (loaded_after limits None (take i journal)) p machine
     under_way a =
         subst (λ m. UnderWay limits r (loaded_after limits None (take i journal)) p m) (a.at_hand alive)
         (subst (λ rs. AtFirst limits (loaded_after limits None (take i journal)) rs p a.shown) next_is a.next)
 
     module _ (units : ℕ) (served : Served) (after : Option Shown) (serves : GoesOn limits r p units machine served after) where
+      worked : {n : ℕ} → n ≡ units_done limits journal i p + served.cost → n ≡ b.units + served.cost
+      worked h = h ∙ ap (λ (c : Seen). c.units + served.cost) next.is
+
       -- the request is not answered yet
       pub goes_on : served.answer ≡ None → ∥ IsAt limits journal i served.progress answers spent after ∥₁
       goes_on none =
@@ -129,15 +160,19 @@ module _ (limits : Limits) (journal : List Request) (i p : ℕ) (answers : List 
             next = subst (λ rs. AtFirst limits loaded rs served.progress after) (sym next_is) on.0;
           })
 
-      pub goes_on_units : served.answer ≡ None → units_done limits journal i served.progress ≡ units_done limits journal i p + served.cost
+      pub goes_on_units : served.answer ≡ None → units_done limits journal i served.progress ≡ b.units + served.cost
       goes_on_units none =
-          ∥∥₁_elim at (number_prop _ _)
+          worked
+          (∥∥₁_elim at (number_prop _ _)
           (λ a.
           let loaded = loaded_after limits None (take i journal) in
           let on = subst (λ (o : Option Answer). ServesBy o limits r loaded p units served.cost served.progress after) none (serves loaded (under_way a)) in
-          omega (arith, on.1, on.2))
+          omega (arith, on.1, on.2)))
 
-      module _ (answer : Answer) (some : served.answer ≡ Some answer) (one_more : take (i + 1) journal ≡ take i journal ++ r ∷ []) (below : i < length journal) where
+      module _ (answer : Answer) (some : served.answer ≡ Some answer) where
+        past_is : take (i + 1) journal ≡ take i journal ++ r ∷ []
+        past_is = one_more journal i r next.at_hand below
+
         done : IsAt limits journal i p answers spent machine → ServesBy (Some answer) limits r (loaded_after limits None (take i journal)) p units served.cost served.progress after
         done a =
             let loaded = loaded_after limits None (take i journal) in
@@ -153,8 +188,8 @@ module _ (limits : Limits) (journal : List Request) (i p : ℕ) (answers : List 
             let d = done a in
             let past = take i journal in
             let no_more : told spent ≡ [] = ap told alive in
-            let now_loaded : loaded_after limits None (take (i + 1) journal) ≡ reply.loaded = ap (loaded_after limits None) one_more ∙ loaded_append limits None past (r ∷ []) in
-            let now_answered : answers_to limits None (take (i + 1) journal) ≡ answers_to limits None past ++ reply.answer ∷ [] = ap (answers_to limits None) one_more ∙ answers_append limits None past (r ∷ []) in
+            let now_loaded : loaded_after limits None (take (i + 1) journal) ≡ reply.loaded = ap (loaded_after limits None) past_is ∙ loaded_append limits None past (r ∷ []) in
+            let now_answered : answers_to limits None (take (i + 1) journal) ≡ answers_to limits None past ++ reply.answer ∷ [] = ap (answers_to limits None) past_is ∙ answers_append limits None past (r ∷ []) in
             record {
               known = omega (arith, below);
               answers_are =
@@ -171,13 +206,14 @@ module _ (limits : Limits) (journal : List Request) (i p : ℕ) (answers : List 
                   (opens limits reply.loaded (drop (i + 1) journal) after d.0.loaded));
             })
 
-        pub answered_units : units_done limits journal (i + 1) served.progress ≡ units_done limits journal i p + served.cost
+        pub answered_units : units_done limits journal (i + 1) served.progress ≡ b.units + served.cost
         unfolding cost
         answered_units =
-            ∥∥₁_elim at (number_prop _ _)
+            worked
+            (∥∥₁_elim at (number_prop _ _)
             (λ a.
             let loaded = loaded_after limits None (take i journal) in
             let d = done a in
             let split : cost_from limits None (take (i + 1) journal) ≡ cost_from limits None (take i journal) + cost_from limits loaded (r ∷ []) =
-            ap (cost_from limits None) one_more ∙ cost_append limits None (take i journal) (r ∷ []) in
-            omega (arith, split, d.1, d.2))
+            ap (cost_from limits None) past_is ∙ cost_append limits None (take i journal) (r ∷ []) in
+            omega (arith, split, d.1, d.2)))

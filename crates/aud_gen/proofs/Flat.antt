@@ -1,8 +1,7 @@
 pub mod Assembly
-pub mod Ats
-pub mod Places
 pub mod Within
 pub mod Beginning
+pub mod Places
 pub mod Made
 pub mod Starting
 pub mod Sound

@@ -1,7 +1,7 @@
 -- How a place in code, with the places of callers, shows the items that are left to do.
 use Rattle.std.specs.Prelude.{◌≡◌, ◌⊎◌, ℕ, suc, ◌+◌, List, [], ◌∷◌, ◌++◌, length, drop}
 use Rattle.aud_text.specs.declared.place.Pos.{Pos}
-use Rattle.aud_typed.specs.Tree.{Statement, sequence, declare, declare_array, declare_tasks, declare_object, activated, activate, null, assign, put, if_then, plain_loop, while_loop, for_loop, exit, return, return_value, raising, raising_again, block, procedure_call, own_entry_call, operation_call, entry_call, delay, accept, select, abort, Handlers, no_handlers, Program}
+use Rattle.aud_typed.specs.Tree.{Statement, sequence, plain_loop, for_loop, Handlers, no_handlers, Program}
 use Rattle.aud_meaning.specs.declared.state.Construct.{Construct}
 use Rattle.aud_meaning.specs.declared.state.Construct.TheVariants as construct
 use Rattle.aud_meaning.specs.Configuration.{Item, Do, InLoop, InFor, Begin, Ends, Leaving}
@@ -22,32 +22,7 @@ UnitsAt program code = (n : ℕ) → HasAt code.lines (start_of code n) (unit_co
 abbrev pub IsStep : Statement → Type 0
 IsStep (sequence a b) = ⊥
 IsStep (plain_loop s) = ⊥
-IsStep (declare at e) = Unit {0}
-IsStep (declare_array at t n) = Unit {0}
-IsStep (declare_tasks at ts) = Unit {0}
-IsStep (declare_object at n es) = Unit {0}
-IsStep (activated at) = Unit {0}
-IsStep (activate at) = Unit {0}
-IsStep (null at) = Unit {0}
-IsStep (assign at r e) = Unit {0}
-IsStep (put at t) = Unit {0}
-IsStep (if_then at e s p) = Unit {0}
-IsStep (while_loop at e s) = Unit {0}
-IsStep (for_loop f a b s) = Unit {0}
-IsStep (exit at n e) = Unit {0}
-IsStep (return at) = Unit {0}
-IsStep (return_value at e) = Unit {0}
-IsStep (raising at x) = Unit {0}
-IsStep (raising_again at) = Unit {0}
-IsStep (block at n b) = Unit {0}
-IsStep (procedure_call at c) = Unit {0}
-IsStep (own_entry_call at es f) = Unit {0}
-IsStep (operation_call at v c) = Unit {0}
-IsStep (entry_call at c p q) = Unit {0}
-IsStep (delay at e) = Unit {0}
-IsStep (accept at n d) = Unit {0}
-IsStep (select at offered p) = Unit {0}
-IsStep (abort at ns) = Unit {0}
+IsStep s = Unit {0}
 
 -- what comes next is a step
 abbrev pub IsSettled : List Item → Type 0

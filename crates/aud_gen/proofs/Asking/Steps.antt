@@ -54,14 +54,8 @@ module _ (loops : ℕ) (at : Pos) (s : Scene) where
           (λ ts. refl)
 
 pub asked_law : AskedLaw
-asked_law (sequence a b) loops s = refl
-asked_law (plain_loop a) loops s = refl
 asked_law (declare at e) loops s = declaration_law at e loops s
-asked_law (declare_array at t n) loops s = refl
-asked_law (declare_tasks at ts) loops s = refl
 asked_law (declare_object at n es) loops s = asks_object loops at s n es
-asked_law (activated at) loops s = refl
-asked_law (activate at) loops s = refl
 asked_law (null at) loops s = null_law at loops s
 asked_law (assign at r e) loops s = assignment_law at r e loops s
 asked_law (put at t) loops s = put_law at t loops s
@@ -69,19 +63,15 @@ asked_law (if_then at e a p) loops s = asks_if loops at s e a p
 asked_law (while_loop at e a) loops s = asks_while loops at s e a
 asked_law (for_loop f a b body) loops s = asks_for loops f.at s f a b
 asked_law (exit at n e) loops s = asks_exit loops at s n e
-asked_law (return at) loops s = refl
 asked_law (return_value at e) loops s = asks_return loops at s e
-asked_law (raising at x) loops s = refl
-asked_law (raising_again at) loops s = refl
-asked_law (block at region b) loops s = refl
 asked_law (procedure_call at c) loops s = asks_procedure loops at s c
 asked_law (own_entry_call at es form) loops s = asks_own loops at s es form
 asked_law (operation_call at v c) loops s = asks_operation loops at s v c
 asked_law (entry_call at c p q) loops s = asks_call loops at s c c.callee
 asked_law (delay at e) loops s = asks_delay loops at s e
-asked_law (accept at entry d) loops s = refl
 asked_law (select at offered p) loops s = asks_select loops at s offered p
 asked_law (abort at ts) loops s = asks_abort loops at s ts
+asked_law a loops s = refl
 
 coming_callee : (plan : tree.Plan) (c : tree.EntryCall) (callee : Callee) (s : Sight) → coming_end plan (call_end callee c.entry c.form) s (eval true (no_scene s) (call_code callee c.arguments c.form) 0 no_operands) ≡ coming_call c callee s
 coming_callee plan c (of_object v) s = refl
@@ -102,34 +92,9 @@ coming_select offered s = ap accepts_in (eval_guards true (no_scene s) offered 1
     opened (Err raise) = refl
 
 pub coming_law : ComingLaw
-coming_law plan (sequence a b) s = refl
-coming_law plan (plain_loop a) s = refl
-coming_law plan (declare at e) s = refl
-coming_law plan (declare_array at t n) s = refl
-coming_law plan (declare_tasks at ts) s = refl
-coming_law plan (declare_object at n es) s = refl
-coming_law plan (activated at) s = refl
-coming_law plan (activate at) s = refl
-coming_law plan (null at) s = refl
-coming_law plan (assign at r e) s = refl
-coming_law plan (put at t) s = refl
-coming_law plan (if_then at e a p) s = refl
-coming_law plan (while_loop at e a) s = refl
-coming_law plan (for_loop f a b body) s = refl
-coming_law plan (exit at n e) s = refl
-coming_law plan (return at) s = refl
-coming_law plan (return_value at e) s = refl
-coming_law plan (raising at x) s = refl
-coming_law plan (raising_again at) s = refl
-coming_law plan (block at region b) s = refl
-coming_law plan (procedure_call at c) s = refl
-coming_law plan (own_entry_call at es form) s = refl
-coming_law plan (operation_call at v c) s = refl
 coming_law plan (entry_call at c p q) s = coming_callee plan c c.callee s
-coming_law plan (delay at e) s = refl
-coming_law plan (accept at entry d) s = refl
 coming_law plan (select at offered p) s = ap asked.selecting (coming_select offered s)
-coming_law plan (abort at ts) s = refl
+coming_law plan a s = refl
 
 pub barrier_law : BarrierLaw
 barrier_law b s = ap decided_by (at_end false (no_scene s) (condition_code b) no_operands ∙ eval_condition false (no_scene s) b [] no_operands) ∙ told (decided b s)

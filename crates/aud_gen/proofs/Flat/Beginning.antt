@@ -25,7 +25,7 @@ module _ (T : ℕ) where
       let next = at + body_size b 1 in
       let n = length-unit b at in
       let m = length-append (unit_code b at) (units_code bs next) in
-      both T (unit_code b at) (units_code bs next) (unit_in b at (omega (arith, h, n, m))) (units_in bs next (omega (arith, h, n, m)))
+      both T (unit_in b at (omega (arith, h, n, m))) (units_in bs next (omega (arith, h, n, m)))
 
 -- each place in the lines of a program is at most their number
 pub places_within : (program : Program) → LinesIn (length (code_of program).lines) (code_of program).lines

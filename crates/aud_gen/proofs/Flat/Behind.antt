@@ -1,14 +1,15 @@
 -- Where the steps begin in a program's code: behind each part of the layout are the instructions and endings of its lines.
 use Rattle.std.proofs.Common.{◌≡◌, ℕ, zero, suc, ◌+◌, List, [], ◌∷◌, ◌++◌, length, drop, refl, sym, ap, ◌∙◌, subst, arith}
+use Rattle.aud_text.specs.declared.place.Pos.{Pos}
 use Rattle.aud_typed.specs.Tree.{Statement, Part, Handlers, Body, body, Doing, Alternatives}
 use Rattle.aud_meaning.specs.declared.state.Construct.{Construct}
-use Rattle.aud_gen.specs.Layout.{part_place, What, does, continues, guards, ends, leaves, Line, Around, ways_count, around_out, statement_size, part_size, handlers_size, body_size, doing_size, offered_size, main_size, end_place, statement_code, part_code, handlers_code, body_code, doing_code, offered_code, guard_line, end_line, statement_size_by, part_size_by, handlers_size_by, body_size_by, doing_size_by, offered_size_by, end_place_by}
+use Rattle.aud_gen.specs.Layout.{part_place, What, does, continues, guards, ends, leaves, Line, Around, ways_count, around_out, statement_size, part_size, handlers_size, body_size, doing_size, offered_size, main_size, end_place, statement_code, part_code, handlers_code, body_code, doing_code, offered_code, statement_size_by, part_size_by, handlers_size_by, body_size_by, doing_size_by, offered_size_by, main_size_by, end_place_by}
 use Rattle.aud_gen.specs.Assembly.{instructions_by, line_size, offset}
 use Rattle.aud_gen.specs.Written.{flat_step}
 use Rattle.aud_gen.specs.Shows.{HasAt}
-use Rattle.aud_gen.proofs.Standing.Places.{has_front, has_back, has_tail, length-statement, length-part, length-handlers, length-body, length-doing, length-offered}
+use Rattle.aud_gen.proofs.Standing.Places.{has_front, has_back, has_tail, has_all, BodyAt, body_at, OfferAt, length-statement, length-part, length-handlers, length-body, length-doing, length-offered}
 use Rattle.aud_gen.proofs.Flat.Assembly.{offset_zero}
-use Rattle.aud_gen.proofs.Standing.Sizes.{total, total-statement, total-part, total-handlers, total-body, total-doing, total-offered}
+use Rattle.aud_gen.proofs.Standing.Sizes.{total, Total, total-statement, total-part, total-handlers, total-body, total-doing, total-offered}
 
 -- the place behind a line
 next_offset : (lines : List Line) (n : ℕ) (l : Line) (rest : List Line) → drop n lines ≡ l ∷ rest → offset lines (suc n) ≡ offset lines n + line_size l
@@ -44,78 +45,101 @@ module _ (lines : List Line) where
       omega (arith, ap F same, more, one, total_more l ls)
 
   -- behind lines as many as n, which become m
-  past : (part : List Line) (at at' n m m' : ℕ) → HasAt lines at part → length part ≡ n → total flat_step adds part ≡ m → m ≡ m' → F at ≡ at' → F (at + n) ≡ at' + m'
-  past part at at' n m m' h en em e ea = sym (ap (λ k. F (at + k)) en) ∙ behind_lines part at h ∙ ap (λ k. F at + k) (em ∙ e) ∙ ap (λ k. k + m') ea
+  past : (part : List Line) (at at' n m m' : ℕ) → HasAt lines at part → length part ≡ n → Total flat_step adds part m → m ≡ m' → F at ≡ at' → F (at + n) ≡ at' + m'
+  past part at at' n m m' h en em e ea = sym (ap (λ k. F (at + k)) en) ∙ behind_lines part at h ∙ ap (λ k. F at + k) (em.is ∙ e) ∙ ap (λ k. k + m') ea
 
-  pub behind_line : (l : Line) (rest : List Line) (at at' : ℕ) → HasAt lines at (l ∷ rest) → F at ≡ at' → F (suc at) ≡ suc (at' + length (instructions_by l.what))
-  behind_line l rest at at' h e = next_offset lines at l (rest ++ h.rest) h.is ∙ ap (λ k. k + line_size l) e ∙ omega arith
+  -- behind the first of these lines
+  pub record BehindLine (l : Line) (more : List Line) (at at' : ℕ) : Type 0 where
+    pub rest : HasAt lines (suc at) more
+    pub behind : F (suc at) ≡ suc (at' + length (instructions_by l.what))
+
+  pub behind_line : (l : Line) (rest : List Line) (at at' : ℕ) → HasAt lines at (l ∷ rest) → F at ≡ at' → BehindLine l rest at at'
+  behind_line l rest at at' h e = record { rest = has_tail lines at l rest h; behind = next_offset lines at l (rest ++ h.rest) h.is ∙ ap (λ k. k + line_size l) e ∙ omega arith }
 
   -- behind a line without instructions
   pub behind_plain : (l : Line) (rest : List Line) (at at' : ℕ) → instructions_by l.what ≡ [] → HasAt lines at (l ∷ rest) → F at ≡ at' → F (suc at) ≡ suc at'
-  behind_plain l rest at at' none h e = let k = ap length none in omega (arith, behind_line l rest at at' h e, k)
+  behind_plain l rest at at' none h e =
+      let k = ap length none in
+      let it = behind_line l rest at at' h e in
+      omega (arith, it.behind, k)
 
-  pub behind_statement : (s : Statement) (at next : ℕ) (a : Around) (at' e : ℕ) → HasAt lines at (statement_code s at next a) → F at ≡ at' → ways_count a ≡ e → F (at + statement_size s (ways_count a)) ≡ at' + statement_size_by flat_step s e
+  behind_statement : (s : Statement) (at next : ℕ) (a : Around) (at' e : ℕ) → HasAt lines at (statement_code s at next a) → F at ≡ at' → ways_count a ≡ e → F (at + statement_size s (ways_count a)) ≡ at' + statement_size_by flat_step s e
   behind_statement s at next a at' e h ea ec =
       past (statement_code s at next a) at at' _ _ _ h (length-statement s at next a) (total-statement flat_step adds s at next a) (ap (statement_size_by flat_step s) ec) ea
 
-  pub behind_part : (p : Part) (at next : ℕ) (a : Around) (at' e : ℕ) → HasAt lines at (part_code p at next a) → F at ≡ at' → ways_count a ≡ e → F (at + part_size p (ways_count a)) ≡ at' + part_size_by flat_step p e
+  behind_part : (p : Part) (at next : ℕ) (a : Around) (at' e : ℕ) → HasAt lines at (part_code p at next a) → F at ≡ at' → ways_count a ≡ e → F (at + part_size p (ways_count a)) ≡ at' + part_size_by flat_step p e
   behind_part p at next a at' e h ea ec =
       past (part_code p at next a) at at' _ _ _ h (length-part p at next a) (total-part flat_step adds p at next a) (ap (part_size_by flat_step p) ec) ea
 
-  pub behind_handlers : (hs : Handlers) (at next : ℕ) (a : Around) (at' e : ℕ) → HasAt lines at (handlers_code hs at next a) → F at ≡ at' → ways_count a ≡ e → F (at + handlers_size hs (ways_count a)) ≡ at' + handlers_size_by flat_step hs e
+  behind_handlers : (hs : Handlers) (at next : ℕ) (a : Around) (at' e : ℕ) → HasAt lines at (handlers_code hs at next a) → F at ≡ at' → ways_count a ≡ e → F (at + handlers_size hs (ways_count a)) ≡ at' + handlers_size_by flat_step hs e
   behind_handlers hs at next a at' e h ea ec =
       past (handlers_code hs at next a) at at' _ _ _ h (length-handlers hs at next a) (total-handlers flat_step adds hs at next a) (ap (handlers_size_by flat_step hs) ec) ea
 
-  pub behind_doing : (d : Doing) (at next out : ℕ) (at' : ℕ) → HasAt lines at (doing_code d at next out) → F at ≡ at' → F (at + doing_size d) ≡ at' + doing_size_by flat_step d
+  behind_doing : (d : Doing) (at next out : ℕ) (at' : ℕ) → HasAt lines at (doing_code d at next out) → F at ≡ at' → F (at + doing_size d) ≡ at' + doing_size_by flat_step d
   behind_doing d at next out at' h ea = past (doing_code d at next out) at at' _ _ _ h (length-doing d at next out) (total-doing flat_step adds d at next out) refl ea
 
-  pub behind_offered : (o : Alternatives) (at next : ℕ) (a : Around) (at' e : ℕ) → HasAt lines at (offered_code o at next a) → F at ≡ at' → ways_count a ≡ e → F (at + offered_size o (ways_count a)) ≡ at' + offered_size_by flat_step o e
+  behind_offered : (o : Alternatives) (at next : ℕ) (a : Around) (at' e : ℕ) → HasAt lines at (offered_code o at next a) → F at ≡ at' → ways_count a ≡ e → F (at + offered_size o (ways_count a)) ≡ at' + offered_size_by flat_step o e
   behind_offered o at next a at' e h ea ec =
       past (offered_code o at next a) at at' _ _ _ h (length-offered o at next a) (total-offered flat_step adds o at next a) (ap (offered_size_by flat_step o) ec) ea
 
-  pub behind_body : (c : Construct) (b : Body) (at next out : ℕ) (a : Around) (at' e : ℕ) → HasAt lines at (body_code c b at next out a) → F at ≡ at' → ways_count a ≡ e → F (at + body_size b (ways_count a)) ≡ at' + body_size_by flat_step b e
+  behind_body : (c : Construct) (b : Body) (at next out : ℕ) (a : Around) (at' e : ℕ) → HasAt lines at (body_code c b at next out a) → F at ≡ at' → ways_count a ≡ e → F (at + body_size b (ways_count a)) ≡ at' + body_size_by flat_step b e
   behind_body c b at next out a at' e h ea ec =
       past (body_code c b at next out a) at at' _ _ _ h (length-body c b at next out a) (total-body flat_step adds c b at next out a) (ap (body_size_by flat_step b) ec) ea
+
+  -- the first of two parts, the second, and what is behind the first
+  pub record Halves (first second : List Line) (at n at' m : ℕ) : Type 0 where
+    pub front : HasAt lines at first
+    pub back : HasAt lines (at + n) second
+    pub behind : F (at + n) ≡ at' + m
+
+  halves : (first second : List Line) (at n at' m : ℕ) → length first ≡ n → HasAt lines at (first ++ second) → (HasAt lines at first → F (at + n) ≡ at' + m) → Halves first second at n at' m
+  halves first second at n at' m e h behind =
+      let front = has_front lines at first second h in
+      record { front = front; back = has_back lines at n first second e h; behind = behind front }
+
+  pub statement_and : (s : Statement) (at next : ℕ) (a : Around) (more : List Line) (at' e : ℕ) → HasAt lines at (statement_code s at next a ++ more) → F at ≡ at' → ways_count a ≡ e → Halves (statement_code s at next a) more at (statement_size s (ways_count a)) at' (statement_size_by flat_step s e)
+  statement_and s at next a more at' e h ea ec = halves (statement_code s at next a) more at _ at' _ (length-statement s at next a) h (λ k. behind_statement s at next a at' e k ea ec)
+
+  pub part_and : (p : Part) (at next : ℕ) (a : Around) (more : List Line) (at' e : ℕ) → HasAt lines at (part_code p at next a ++ more) → F at ≡ at' → ways_count a ≡ e → Halves (part_code p at next a) more at (part_size p (ways_count a)) at' (part_size_by flat_step p e)
+  part_and p at next a more at' e h ea ec = halves (part_code p at next a) more at _ at' _ (length-part p at next a) h (λ k. behind_part p at next a at' e k ea ec)
+
+  pub offered_and : (o : Alternatives) (at next : ℕ) (a : Around) (more : List Line) (at' e : ℕ) → HasAt lines at (offered_code o at next a ++ more) → F at ≡ at' → ways_count a ≡ e → Halves (offered_code o at next a) more at (offered_size o (ways_count a)) at' (offered_size_by flat_step o e)
+  offered_and o at next a more at' e h ea ec = halves (offered_code o at next a) more at _ at' _ (length-offered o at next a) h (λ k. behind_offered o at next a at' e k ea ec)
+
+  pub body_and : (c : Construct) (b : Body) (at next out : ℕ) (a : Around) (more : List Line) (at' e : ℕ) → HasAt lines at (body_code c b at next out a ++ more) → F at ≡ at' → ways_count a ≡ e → Halves (body_code c b at next out a) more at (body_size b (ways_count a)) at' (body_size_by flat_step b e)
+  body_and c b at next out a more at' e h ea ec = halves (body_code c b at next out a) more at _ at' _ (length-body c b at next out a) h (λ k. behind_body c b at next out a at' e k ea ec)
+
+  -- behind the parts of a body
+  pub record PassedBody (d : Part) (s : Statement) (hs : Handlers) (at : ℕ) (a : Around) (at' e : ℕ) : Type 0 where
+    pub declarations : F (at + part_size d (ways_count a)) ≡ at' + part_size_by flat_step d e
+    pub statements : F (at + part_size d (ways_count a) + statement_size s (ways_count a)) ≡ at' + part_size_by flat_step d e + statement_size_by flat_step s e
+    pub guarding : F (suc (at + part_size d (ways_count a) + statement_size s (ways_count a))) ≡ suc (at' + part_size_by flat_step d e + statement_size_by flat_step s e)
+    pub handlers : F (at + part_size d (ways_count a) + main_size s hs (ways_count a)) ≡ at' + part_size_by flat_step d e + main_size_by flat_step s hs e
+
+  pub passed_body : (c : Construct) (d : Part) (s : Statement) (hs : Handlers) (end : Pos) (at next out : ℕ) (a : Around) (more : List Line) (at' e : ℕ) → BodyAt lines c d s hs end at next out a more → F at ≡ at' → ways_count a ≡ e → PassedBody d s hs at a at' e
+  passed_body c d s hs end at next out a more at' e it ea ec =
+      let w = ways_count a in
+      let guard = at + part_size d w + statement_size s w in
+      let last = at + part_size d w + main_size s hs w in
+      let p1 = behind_part d at _ (around_out last a) at' e it.declarations ea ec in
+      let p2 = behind_statement s _ last (around_out guard a) _ e it.main.statements p1 ec in
+      let p3 = behind_plain _ _ guard _ refl it.main.guarding p2 in
+      let p4 = behind_handlers hs (suc guard) last (around_out last a) _ e it.main.handlers p3 ec in
+      let same : last ≡ suc guard + handlers_size hs w = omega arith in
+      record { declarations = p1; statements = p2; guarding = p3; handlers = ap F same ∙ p4 ∙ omega arith }
 
   -- the end of a body
   pub behind_main : (c : Construct) (b : Body) (at next out : ℕ) (a : Around) (at' e : ℕ) → HasAt lines at (body_code c b at next out a) → F at ≡ at' → ways_count a ≡ e → F (end_place b at (ways_count a)) ≡ end_place_by flat_step b at' e
   behind_main c (body d begin s hs end) at next out a at' e h ea ec =
-      let w = ways_count a in
-      let first = at + part_size d w in
-      let guard = first + statement_size s w in
-      let last = first + main_size s hs w in
-      let cd = part_code d at first (around_out last a) in
-      let cs = statement_code s first last (around_out guard a) in
-      let g = guard_line hs end (suc guard) last w in
-      let ch = handlers_code hs (suc guard) last (around_out last a) in
-      let l = end_line c end next out in
-      let h1 : HasAt lines first (cs ++ (g ∷ (ch ++ l ∷ []))) = has_back lines at (part_size d w) cd _ (length-part d at first (around_out last a)) h in
-      let h2 : HasAt lines guard (g ∷ (ch ++ l ∷ [])) = has_back lines first (statement_size s w) cs _ (length-statement s first last (around_out guard a)) h1 in
-      let h3 : HasAt lines (suc guard) (ch ++ l ∷ []) = has_tail lines guard g _ h2 in
-      let p1 = behind_part d at first (around_out last a) at' e (has_front lines at cd _ h) ea ec in
-      let p2 = behind_statement s first last (around_out guard a) _ e (has_front lines first cs _ h1) p1 ec in
-      let p3 = behind_plain g (ch ++ l ∷ []) guard _ refl h2 p2 in
-      let p4 = behind_handlers hs (suc guard) last (around_out last a) _ e (has_front lines (suc guard) ch _ h3) p3 ec in
-      let same : last ≡ suc guard + handlers_size hs w = omega arith in
-      ap F same ∙ p4 ∙ omega arith
+      let it = passed_body c d s hs end at next out a [] at' e (body_at lines c d begin s hs end at next out a [] (has_all lines at _ h)) ea ec in
+      it.handlers
 
-  -- behind what an accept of a select does, behind what follows it, and the other alternatives there
-  pub record Passed (d : Doing) (p : Part) (more : Alternatives) (at next : ℕ) (a : Around) (at' e : ℕ) : Type 0 where
+  -- behind what an accept of a select does, behind what follows it
+  pub record PassedOffer (d : Doing) (p : Part) (at : ℕ) (a : Around) (at' e : ℕ) : Type 0 where
     pub after : F (at + doing_size d) ≡ at' + doing_size_by flat_step d
     pub later : F (at + doing_size d + part_size p (ways_count a)) ≡ at' + doing_size_by flat_step d + part_size_by flat_step p e
-    pub others : HasAt lines (at + doing_size d + part_size p (ways_count a)) (offered_code more (at + doing_size d + part_size p (ways_count a)) next a)
 
-  pub passed : (d : Doing) (p : Part) (more : Alternatives) (at next : ℕ) (a : Around) (at' e : ℕ) → HasAt lines at (doing_code d at (part_place p (at + doing_size d) next) a.out ++ (part_code p (at + doing_size d) next a ++ offered_code more (at + doing_size d + part_size p (ways_count a)) next a)) → F at ≡ at' → ways_count a ≡ e → Passed d p more at next a at' e
-  passed d p more at next a at' e h ea ec =
-      let after = at + doing_size d in
-      let later = after + part_size p (ways_count a) in
-      let cd = doing_code d at (part_place p after next) a.out in
-      let cp = part_code p after next a in
-      let cm = offered_code more later next a in
-      let h1 : HasAt lines after (cp ++ cm) = has_back lines at (doing_size d) cd (cp ++ cm) (length-doing d at (part_place p after next) a.out) h in
-      let behind = behind_doing d at (part_place p after next) a.out at' (has_front lines at cd (cp ++ cm) h) ea in
-      record {
-        after = behind;
-        later = behind_part p after next a _ e (has_front lines after cp cm h1) behind ec;
-        others = has_back lines after (part_size p (ways_count a)) cp cm (length-part p after next a) h1;
-      }
+  pub passed_offer : (d : Doing) (p : Part) (more : Alternatives) (at next : ℕ) (a : Around) (at' e : ℕ) → OfferAt lines d p more at next a → F at ≡ at' → ways_count a ≡ e → PassedOffer d p at a at' e
+  passed_offer d p more at next a at' e it ea ec =
+      let behind = behind_doing d at (part_place p (at + doing_size d) next) a.out at' it.doing ea in
+      record { after = behind; later = behind_part p (at + doing_size d) next a _ e it.part behind ec }

@@ -13,12 +13,11 @@ use Rattle.aud_gen.proofs.Standing.Places.{units_stand}
 use Rattle.aud_gen.proofs.Standing.Agreement.{layout_agreement_law}
 use Rattle.aud_meaning.proofs.Runs.{same_seen, ordered_shown, moves_same, state_same, step_shown, run_shown, supplied_shown, advanced_shown, opening_shown, raised_same}
 use Rattle.aud_gen.proofs.Standing.Ranges.{place_law}
-use Rattle.aud_gen.proofs.Flat.Beginning.{begins}
+use Rattle.aud_gen.proofs.Flat.Beginning.{places_within, begins}
 use Rattle.aud_code.specs.Sound.{IsStart}
 use Rattle.aud_code.specs.Flat.{EndLine, end_at, ended_in, left_by}
 use Rattle.aud_gen.specs.Assembly.{offset, flat_program}
 use Rattle.aud_gen.specs.Law.{spot_at, ShowsFlat, flat, AgreementLaw, SeenLaw, OrderLaw, MovesLaw, StateLaw, StepLaw, RunLaw, SupplyLaw, AdvanceLaw, OpeningLaw, RaisedLaw, StartLaw}
-use Rattle.aud_gen.proofs.Flat.Ats.{ats_are}
 use Rattle.aud_gen.proofs.Flat.Places.{goes_number, goes_out, end_is, goes_behind, goes_left, handles_at, asked_same, coming_same, start_is, barrier_is}
 
 module _ (program : Program) where
@@ -61,7 +60,7 @@ module _ (program : Program) where
       let old = layout_agreement_law program C (units_stand program) in
       record {
         coming = λ p s m c h. ap (K.coming p s) h.1 ∙ coming_same C B program p s h.0 ∙ old.coming p s h.0 c h.2;
-        asks = λ p s m c h. ap (K.asks p s) h.1 ∙ asked_same C B program (ats_are program) p s h.0 ∙ old.asks p s h.0 c h.2;
+        asks = λ p s m c h. ap (K.asks p s) h.1 ∙ asked_same C B program _ (places_within program) p s h.0 ∙ old.asks p s h.0 c h.2;
         place = λ m c h. ap K.place h.1 ∙ ap (λ (l : EndLine). l.at) (end_is C B h.0.place) ∙ old.place h.0 c h.2;
         takes = λ n m c h. kept (K.takes n) (L.takes n) (takes_same n) m c ((controls program).takes n c) h (λ d k. old.takes n d c k);
         accepts = λ n m c h. kept (K.accepts n) (L.accepts n) (accepts_same n) m c ((controls program).accepts n c) h (λ d k. old.accepts n d c k);

@@ -141,31 +141,20 @@ fine_call c (of_object v) = fine_called _ c.arguments c.form no_counts tt
 
 -- each statement's step finds its operands
 pub fine_statement : (a : Statement) → AreFine (EndingFine (ending_of a)) (instructions_of a) 0 no_counts
-fine_statement (sequence a b) = tt
-fine_statement (plain_loop a) = tt
 fine_statement (declare at e) = whole_code _ (value_code e) no_counts (fine_value _ e [] no_counts tt)
-fine_statement (declare_array at t n) = tt
-fine_statement (declare_tasks at ts) = tt
 fine_statement (declare_object at n es) = fine_components _ es (record no_counts { cells = true }) refl
-fine_statement (activated at) = tt
-fine_statement (activate at) = tt
-fine_statement (null at) = tt
 fine_statement (assign at r e) = fine_reference _ r (value_code e) no_counts (whole_code _ (value_code e) _ (fine_value _ e [] (record no_counts { targets = 1 }) tt))
 fine_statement (put at t) = whole_code _ (text_code t) no_counts (fine_text _ t [] no_counts tt)
 fine_statement (if_then at e a p) = whole_code _ (condition_code e) no_counts (fine_condition _ e [] no_counts tt)
 fine_statement (while_loop at e a) = whole_code _ (condition_code e) no_counts (fine_condition _ e [] no_counts tt)
 fine_statement (for_loop f a b s) = fine_integer _ a (integer_code b) no_counts (whole_code _ (integer_code b) _ (fine_integer _ b [] (record no_counts { integers = 1 }) tt))
 fine_statement (exit at n e) = whole_code _ (condition_code e) no_counts (fine_condition _ e [] no_counts tt)
-fine_statement (return at) = tt
 fine_statement (return_value at e) = whole_code _ (value_code e) no_counts (fine_value _ e [] no_counts tt)
-fine_statement (raising at x) = tt
-fine_statement (raising_again at) = tt
-fine_statement (block at n b) = tt
 fine_statement (procedure_call at c) = fine_entered _ c no_counts (λ d. tt)
 fine_statement (own_entry_call at es f) = fine_called _ es f no_counts tt
 fine_statement (operation_call at v c) = fine_entered _ c no_counts (λ d. tt)
 fine_statement (entry_call at c p q) = fine_call c c.callee
 fine_statement (delay at e) = whole_code _ (delay_code e) no_counts (fine_delay _ e [] no_counts tt)
-fine_statement (accept at n d) = tt
 fine_statement (select at offered p) = fine_guards _ 1 offered (Mark ∷ delays_code 1 offered) no_counts (fine_delays _ 1 offered no_counts tt)
 fine_statement (abort at ts) = fine_names _ ts no_counts (λ d. tt)
+fine_statement a = tt

@@ -66,8 +66,21 @@ module _ (f : ℕ → ℕ) where
 
   -- What is moved, part by part.
 
-  pub both_moved : (a b c d : List Line) → map line_moved a ≡ c → map line_moved b ≡ d → map line_moved (a ++ b) ≡ c ++ d
-  both_moved a b c d h k = map-append line_moved a b ∙ ap (λ ls. ls ++ map line_moved b) h ∙ ap (λ ls. c ++ ls) k
+  -- a line, and lines, with their places moved
+  pub record MovesLine (l m : Line) : Type 0 where
+    pub is : line_moved l ≡ m
+
+  pub record Moves (ls ms : List Line) : Type 0 where
+    pub is : map line_moved ls ≡ ms
+
+  pub none_moved : Moves [] []
+  none_moved = record { is = refl }
+
+  pub more_moved : {l m : Line} {ls ms : List Line} → MovesLine l m → Moves ls ms → Moves (l ∷ ls) (m ∷ ms)
+  more_moved {l} {m} {ls} {ms} h k = record { is = ap (λ x. x ∷ map line_moved ls) h.is ∙ ap (λ xs. m ∷ xs) k.is }
+
+  pub both_moved : {a b c d : List Line} → Moves a c → Moves b d → Moves (a ++ b) (c ++ d)
+  both_moved {a} {b} {c} {d} h k = record { is = map-append line_moved a b ∙ ap (λ ls. ls ++ map line_moved b) h.is ∙ ap (λ ls. c ++ ls) k.is }
 
   pub count_moved : (a b : Around) → moved a ≡ b → ways_count a ≡ ways_count b
   count_moved a b e = ap suc (sym (length-map a.exits way_to)) ∙ ap ways_count e
@@ -78,13 +91,13 @@ module _ (f : ℕ → ℕ) where
   pub loop_moved : (n m : ℕ) (a b : Around) → f n ≡ m → moved a ≡ b → moved (in_loop n a) ≡ in_loop m b
   loop_moved n m a b h k = ap (λ x. in_loop x (moved a)) h ∙ ap (in_loop m) k
 
-  more_moved : (ws : List Way) → map way_to (map one_more ws) ≡ map one_more (map way_to ws)
-  more_moved [] = refl
-  more_moved (w ∷ ws) = ap (λ xs. one_more (way_to w) ∷ xs) (more_moved ws)
+  ways_moved : (ws : List Way) → map way_to (map one_more ws) ≡ map one_more (map way_to ws)
+  ways_moved [] = refl
+  ways_moved (w ∷ ws) = ap (λ xs. one_more (way_to w) ∷ xs) (ways_moved ws)
 
   pub for_moved : (n m : ℕ) (a b : Around) → f n ≡ m → moved a ≡ b → moved (in_for n a) ≡ in_for m b
   for_moved n m a b h k =
-      ap (λ ws. record { out = f a.out; exits = record { to = f n; loops = 1 } ∷ ws; back = one_more (way_to a.back) }) (more_moved a.exits) ∙ ap (λ x. in_for x (moved a)) h ∙ ap (in_for m) k
+      ap (λ ws. record { out = f a.out; exits = record { to = f n; loops = 1 } ∷ ws; back = one_more (way_to a.back) }) (ways_moved a.exits) ∙ ap (λ x. in_for x (moved a)) h ∙ ap (in_for m) k
 
   pub exit_moved : (a b : Around) (k n m : ℕ) → f n ≡ m → moved a ≡ b → way_to (get_or a.exits k (record { to = n; loops = 0 })) ≡ get_or b.exits k (record { to = m; loops = 0 })
   exit_moved a b k n m h e =

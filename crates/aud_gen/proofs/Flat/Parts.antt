@@ -5,20 +5,17 @@ use Rattle.aud_text.specs.declared.place.Pos.{Pos}
 use Rattle.aud_typed.specs.Tree.{For, Statement, Part, nothing, some, Handlers, no_handlers, handler, Body, body, Doing, without_do, with_do, Alternatives, no_alternatives, accepting, delaying, terminating}
 use Rattle.aud_meaning.specs.declared.state.Construct.{Construct}
 use Rattle.aud_code.specs.Places.{Way}
-use Rattle.aud_gen.specs.Layout.{Line, continues, guards, Around, in_block, ways_count, statement_size, part_size, doing_size, line, part_place, doing_place, stub_line, stubs, stub_ways, stubs_of, end_line, guard_line, guards_of, parts_from, bodies_from, statement_code, part_code, handlers_code, offered_code, guards_of_by, parts_from_by, bodies_from_by, guard_line_by}
+use Rattle.aud_gen.specs.Layout.{Line, continues, guards, Around, in_block, ways_count, statement_size, doing_size, line, part_place, doing_place, stub_line, stubs, stub_ways, stubs_of, end_line, guard_line, guards_of, parts_from, bodies_from, handlers_code, offered_code, guards_of_by, parts_from_by, bodies_from_by, guard_line_by}
 use Rattle.aud_gen.specs.Assembly.{offset, guard_moved}
 use Rattle.aud_gen.specs.Written.{flat_step}
 use Rattle.aud_gen.specs.Shows.{HasAt}
-use Rattle.aud_gen.proofs.Standing.Places.{has_front, has_back, has_tail, length-statement, length-part}
-use Rattle.aud_gen.proofs.Flat.Moving.{way_to, moved, line_moved}
-use Rattle.aud_gen.proofs.Flat.Behind.{behind_plain, behind_statement, behind_part, passed}
+use Rattle.aud_gen.proofs.Standing.Places.{has_tail, offer_has}
+use Rattle.aud_gen.proofs.Flat.Moving.{way_to, moved, MovesLine, Moves, none_moved, more_moved}
+use Rattle.aud_gen.proofs.Flat.Behind.{behind_plain, statement_and, part_and, passed_offer}
 
 module _ (lines : List Line) where
   abbrev F : ℕ → ℕ
   F = offset lines
-
-  abbrev pub Moved : List Line → List Line
-  Moved ls = map (line_moved F) ls
 
   -- Lists of places.
 
@@ -42,42 +39,31 @@ module _ (lines : List Line) where
   guards_moved : (hs : Handlers) (at next : ℕ) (a : Around) (at' e : ℕ) → HasAt lines at (handlers_code hs at next a) → F at ≡ at' → ways_count a ≡ e → map (guard_moved F) (guards_of hs at (ways_count a)) ≡ guards_of_by flat_step hs at' e
   guards_moved no_handlers at next a at' e h ea ec = refl
   guards_moved (handler others choices s more) at next a at' e h ea ec =
-      let w = ways_count a in
-      let cs = statement_code s at next a in
-      let after = behind_statement lines s at next a at' e (has_front lines at cs _ h) ea ec in
-      let rest = guards_moved more (at + statement_size s w) next a _ e (has_back lines at (statement_size s w) cs _ (length-statement s at next a) h) after ec in
-      ap (λ n. record { others = others; choices = choices; to = n } ∷ map (guard_moved F) (guards_of more (at + statement_size s w) w)) ea ∙ ap (λ gs. record { others = others; choices = choices; to = at' } ∷ gs) rest
+      let it = statement_and lines s at next a _ at' e h ea ec in
+      let rest = guards_moved more _ next a _ e it.back it.behind ec in
+      ap (λ n. record { others = others; choices = choices; to = n } ∷ map (guard_moved F) (guards_of more (at + statement_size s (ways_count a)) (ways_count a))) ea ∙ ap (λ gs. record { others = others; choices = choices; to = at' } ∷ gs) rest
 
-  pub parts_moved : (o : Alternatives) (at next : ℕ) (a : Around) (at' next' e : ℕ) → HasAt lines at (offered_code o at next a) → F at ≡ at' → F next ≡ next' → ways_count a ≡ e → map F (parts_from o at next (ways_count a)) ≡ parts_from_by flat_step o at' next' e
-  parts_moved no_alternatives at next a at' next' e h ea en ec = refl
-  parts_moved (accepting g pos n d p more) at next a at' next' e h ea en ec =
-      let after = at + doing_size d in
-      let later = after + part_size p (ways_count a) in
-      let it = passed lines d p more at next a at' e h ea ec in
-      place_more (part_place p after next) _ (parts_from more later next (ways_count a)) _ (part_place_moved p after next _ next' it.after en) (parts_moved more later next a _ next' e it.others it.later en ec)
-  parts_moved (delaying g x p more) at next a at' next' e h ea en ec =
-      let w = ways_count a in
-      let cp = part_code p at next a in
-      let e2 = behind_part lines p at next a at' e (has_front lines at cp _ h) ea ec in
-      let hm = has_back lines at (part_size p w) cp _ (length-part p at next a) h in
-      place_more (part_place p at next) _ (parts_from more (at + part_size p w) next w) _ (part_place_moved p at next at' next' ea en) (parts_moved more (at + part_size p w) next a _ next' e hm e2 en ec)
-  parts_moved (terminating g more) at next a at' next' e h ea en ec = place_more next _ (parts_from more at next (ways_count a)) _ en (parts_moved more at next a at' next' e h ea en ec)
+  -- what follows the alternatives of a selective accept, and what their accepts do
+  pub record OffersMoved (o : Alternatives) (at next e at' next' e' : ℕ) : Type 0 where
+    pub parts : map F (parts_from o at next e) ≡ parts_from_by flat_step o at' next' e'
+    pub bodies : map F (bodies_from o at next e) ≡ bodies_from_by flat_step o at' next' e'
 
-  pub bodies_moved : (o : Alternatives) (at next : ℕ) (a : Around) (at' next' e : ℕ) → HasAt lines at (offered_code o at next a) → F at ≡ at' → F next ≡ next' → ways_count a ≡ e → map F (bodies_from o at next (ways_count a)) ≡ bodies_from_by flat_step o at' next' e
-  bodies_moved no_alternatives at next a at' next' e h ea en ec = refl
-  bodies_moved (accepting g pos n d p more) at next a at' next' e h ea en ec =
-      let after = at + doing_size d in
-      let later = after + part_size p (ways_count a) in
-      let it = passed lines d p more at next a at' e h ea ec in
-      let to = part_place_moved p after next _ next' it.after en in
-      place_more (doing_place d at (part_place p after next)) _ (bodies_from more later next (ways_count a)) _ (doing_place_moved d at (part_place p after next) at' _ ea to) (bodies_moved more later next a _ next' e it.others it.later en ec)
-  bodies_moved (delaying g x p more) at next a at' next' e h ea en ec =
-      let w = ways_count a in
-      let cp = part_code p at next a in
-      let e2 = behind_part lines p at next a at' e (has_front lines at cp _ h) ea ec in
-      let hm = has_back lines at (part_size p w) cp _ (length-part p at next a) h in
-      place_more (part_place p at next) _ (bodies_from more (at + part_size p w) next w) _ (part_place_moved p at next at' next' ea en) (bodies_moved more (at + part_size p w) next a _ next' e hm e2 en ec)
-  bodies_moved (terminating g more) at next a at' next' e h ea en ec = place_more next _ (bodies_from more at next (ways_count a)) _ en (bodies_moved more at next a at' next' e h ea en ec)
+  pub offers_moved : (o : Alternatives) (at next : ℕ) (a : Around) (at' next' e : ℕ) → HasAt lines at (offered_code o at next a) → F at ≡ at' → F next ≡ next' → ways_count a ≡ e → OffersMoved o at next (ways_count a) at' next' e
+  offers_moved no_alternatives at next a at' next' e h ea en ec = record { parts = refl; bodies = refl }
+  offers_moved (accepting g pos n d p more) at next a at' next' e h ea en ec =
+      let it = offer_has lines d p more at next a h in
+      let is = passed_offer lines d p more at next a at' e it ea ec in
+      let to = part_place_moved p (at + doing_size d) next _ next' is.after en in
+      let rest = offers_moved more _ next a _ next' e it.others is.later en ec in
+      record { parts = place_more _ _ _ _ to rest.parts; bodies = place_more _ _ _ _ (doing_place_moved d at _ at' _ ea to) rest.bodies }
+  offers_moved (delaying g x p more) at next a at' next' e h ea en ec =
+      let it = part_and lines p at next a _ at' e h ea ec in
+      let to = part_place_moved p at next at' next' ea en in
+      let rest = offers_moved more _ next a _ next' e it.back it.behind en ec in
+      record { parts = place_more _ _ _ _ to rest.parts; bodies = place_more _ _ _ _ to rest.bodies }
+  offers_moved (terminating g more) at next a at' next' e h ea en ec =
+      let rest = offers_moved more at next a at' next' e h ea en ec in
+      record { parts = place_more _ _ _ _ en rest.parts; bodies = place_more _ _ _ _ en rest.bodies }
 
   -- Blocks: the ways out of them.
 
@@ -96,12 +82,11 @@ module _ (lines : List Line) where
       let same : at + suc (length ws) ≡ suc at + length ws = omega arith in
       omega (arith, ap F same, rest)
 
-  stubs_moved : (ws : List Way) (end : Pos) (at at' : ℕ) → HasAt lines at (stubs ws end at) → F at ≡ at' → Moved (stubs ws end at) ≡ stubs (map (way_to F) ws) end at'
-  stubs_moved [] end at at' h e = refl
+  stubs_moved : (ws : List Way) (end : Pos) (at at' : ℕ) → HasAt lines at (stubs ws end at) → F at ≡ at' → Moves F (stubs ws end at) (stubs (map (way_to F) ws) end at')
+  stubs_moved [] end at at' h e = none_moved F
   stubs_moved (w ∷ ws) end at at' h e =
       let l = stub_line w.loops w.to end at in
-      let rest = stubs_moved ws end (suc at) (suc at') (has_tail lines at l _ h) (behind_plain lines l _ at at' refl h e) in
-      ap (λ n. stub_line w.loops (F w.to) end n ∷ Moved (stubs ws end (suc at))) e ∙ ap (λ xs. stub_line w.loops (F w.to) end at' ∷ xs) rest
+      more_moved F (record { is = ap (λ n. stub_line w.loops (F w.to) end n) e }) (stubs_moved ws end (suc at) (suc at') (has_tail lines at l _ h) (behind_plain lines l _ at at' refl h e))
 
   block_moved : (last last' : ℕ) (a b : Around) (end : Pos) → HasAt lines (suc last) (stubs (a.exits ++ a.back ∷ []) end (suc last)) → F last ≡ last' → F (suc last) ≡ suc last' → moved F a ≡ b → moved F (in_block last a) ≡ in_block last' b
   block_moved last last' a b end h e es ab =
@@ -117,34 +102,33 @@ module _ (lines : List Line) where
   pub out_same : (a b : Around) → moved F a ≡ b → F a.out ≡ b.out
   out_same a b e = ap (λ (c : Around). c.out) e
 
-  pub line_same : (s : Statement) (ways bodies ways' bodies' : List ℕ) (a b : Around) → map F ways ≡ ways' → map F bodies ≡ bodies' → moved F a ≡ b → line_moved F (line s ways bodies None a) ≡ line s ways' bodies' None b
-  line_same s ways bodies ways' bodies' a b hw hb e = ap (λ ns. line s ns (map F bodies) None (moved F a)) hw ∙ ap (λ ns. line s ways' ns None (moved F a)) hb ∙ ap (line s ways' bodies' None) e
+  pub line_same : (s : Statement) (ways bodies ways' bodies' : List ℕ) (a b : Around) → map F ways ≡ ways' → map F bodies ≡ bodies' → moved F a ≡ b → MovesLine F (line s ways bodies None a) (line s ways' bodies' None b)
+  line_same s ways bodies ways' bodies' a b hw hb e = record { is = ap (λ ns. line s ns (map F bodies) None (moved F a)) hw ∙ ap (λ ns. line s ways' ns None (moved F a)) hb ∙ ap (line s ways' bodies' None) e }
 
-  pub line_out : (s : Statement) (next next' : ℕ) (w w' : Way) (a b : Around) → F next ≡ next' → way_to F w ≡ w' → moved F a ≡ b → Moved (line s (next ∷ []) [] (Some w) a ∷ []) ≡ line s (next' ∷ []) [] (Some w') b ∷ []
-  line_out s next next' w w' a b h k e = ap (λ n. line s (n ∷ []) [] (Some (way_to F w)) (moved F a) ∷ []) h ∙ ap (λ x. line s (next' ∷ []) [] (Some x) (moved F a) ∷ []) k ∙ ap (λ c. line s (next' ∷ []) [] (Some w') c ∷ []) e
+  pub line_out : (s : Statement) (next next' : ℕ) (w w' : Way) (a b : Around) → F next ≡ next' → way_to F w ≡ w' → moved F a ≡ b → Moves F (line s (next ∷ []) [] (Some w) a ∷ []) (line s (next' ∷ []) [] (Some w') b ∷ [])
+  line_out s next next' w w' a b h k e =
+      more_moved F (record { is = ap (λ n. line s (n ∷ []) [] (Some (way_to F w)) (moved F a)) h ∙ ap (λ x. line s (next' ∷ []) [] (Some x) (moved F a)) k ∙ ap (λ c. line s (next' ∷ []) [] (Some w') c) e }) (none_moved F)
 
-  pub line_alone : (s : Statement) (next next' : ℕ) (a b : Around) → F next ≡ next' → moved F a ≡ b → Moved (line s (next ∷ []) [] None a ∷ []) ≡ line s (next' ∷ []) [] None b ∷ []
-  line_alone s next next' a b h e = ap (λ l. l ∷ []) (line_same s (next ∷ []) [] (next' ∷ []) [] a b (ap (λ n. n ∷ []) h) refl e)
-
-  pub more_moved : (l l' : Line) (ls ls' : List Line) → line_moved F l ≡ l' → Moved ls ≡ ls' → Moved (l ∷ ls) ≡ l' ∷ ls'
-  more_moved l l' ls ls' h k = ap (λ x. x ∷ Moved ls) h ∙ ap (λ xs. l' ∷ xs) k
+  pub line_alone : (s : Statement) (next next' : ℕ) (a b : Around) → F next ≡ next' → moved F a ≡ b → Moves F (line s (next ∷ []) [] None a ∷ []) (line s (next' ∷ []) [] None b ∷ [])
+  line_alone s next next' a b h e = more_moved F (line_same s (next ∷ []) [] (next' ∷ []) [] a b (one_place next next' h) refl e) (none_moved F)
 
   -- the step next of a for loop, the line that guards statements, the end of a construct
-  pub next_moved : (f : For) (a b : Around) (ways ways' : List ℕ) → map F ways ≡ ways' → moved F a ≡ b → line_moved F (record { what = continues f; at = f.next_at; out = a.out; ways = ways; bodies = []; exit = None }) ≡ record { what = continues f; at = f.next_at; out = b.out; ways = ways'; bodies = []; exit = None }
+  pub next_moved : (f : For) (a b : Around) (ways ways' : List ℕ) → map F ways ≡ ways' → moved F a ≡ b → MovesLine F (record { what = continues f; at = f.next_at; out = a.out; ways = ways; bodies = []; exit = None }) (record { what = continues f; at = f.next_at; out = b.out; ways = ways'; bodies = []; exit = None })
   next_moved f a b ways ways' h e =
-      ap (λ n. record { what = continues f; at = f.next_at; out = n; ways = map F ways; bodies = []; exit = None }) (out_same a b e) ∙ ap (λ ns. record { what = continues f; at = f.next_at; out = b.out; ways = ns; bodies = []; exit = None }) h
+      record { is = ap (λ n. record { what = continues f; at = f.next_at; out = n; ways = map F ways; bodies = []; exit = None }) (out_same a b e) ∙ ap (λ ns. record { what = continues f; at = f.next_at; out = b.out; ways = ns; bodies = []; exit = None }) h }
 
-  pub guard_moved_to : (hs : Handlers) (end : Pos) (handling last : ℕ) (a : Around) (handling' last' e : ℕ) → HasAt lines handling (handlers_code hs handling last a) → F handling ≡ handling' → F last ≡ last' → ways_count a ≡ e → line_moved F (guard_line hs end handling last (ways_count a)) ≡ guard_line_by flat_step hs end handling' last' e
+  pub guard_moved_to : (hs : Handlers) (end : Pos) (handling last : ℕ) (a : Around) (handling' last' e : ℕ) → HasAt lines handling (handlers_code hs handling last a) → F handling ≡ handling' → F last ≡ last' → ways_count a ≡ e → MovesLine F (guard_line hs end handling last (ways_count a)) (guard_line_by flat_step hs end handling' last' e)
   guard_moved_to hs end handling last a handling' last' e h eh el ec =
-      ap (λ gs. record { what = guards gs; at = end; out = F last; ways = []; bodies = []; exit = None }) (guards_moved hs handling last a handling' e h eh ec) ∙ ap (λ n. record { what = guards (guards_of_by flat_step hs handling' e); at = end; out = n; ways = []; bodies = []; exit = None }) el
+      record { is = ap (λ gs. record { what = guards gs; at = end; out = F last; ways = []; bodies = []; exit = None }) (guards_moved hs handling last a handling' e h eh ec) ∙ ap (λ n. record { what = guards (guards_of_by flat_step hs handling' e); at = end; out = n; ways = []; bodies = []; exit = None }) el }
 
-  pub end_moved : (c : Construct) (end : Pos) (next out next' out' : ℕ) → F next ≡ next' → F out ≡ out' → Moved (end_line c end next out ∷ []) ≡ end_line c end next' out' ∷ []
-  end_moved c end next out next' out' h k = ap (λ n. end_line c end n (F out) ∷ []) h ∙ ap (λ n. end_line c end next' n ∷ []) k
+  pub end_moved : (c : Construct) (end : Pos) (next out next' out' : ℕ) → F next ≡ next' → F out ≡ out' → Moves F (end_line c end next out ∷ []) (end_line c end next' out' ∷ [])
+  end_moved c end next out next' out' h k = more_moved F (record { is = ap (λ n. end_line c end n (F out)) h ∙ ap (λ n. end_line c end next' n) k }) (none_moved F)
 
   -- a block with its end at a place, and what stands behind it
   pub around_block : (x : Body) (last last' : ℕ) (a b : Around) → HasAt lines (suc last) (stubs_of x (a.exits ++ a.back ∷ []) (suc last)) → F last ≡ last' → F (suc last) ≡ suc last' → moved F a ≡ b → moved F (in_block last a) ≡ in_block last' b
   around_block (body d begin s hs end) last last' a b h e es eb = block_moved last last' a b end h e es eb
 
-  pub stubs_of_moved : (x : Body) (a b : Around) (at at' : ℕ) → HasAt lines at (stubs_of x (a.exits ++ a.back ∷ []) at) → F at ≡ at' → moved F a ≡ b → Moved (stubs_of x (a.exits ++ a.back ∷ []) at) ≡ stubs_of x (b.exits ++ b.back ∷ []) at'
+  pub stubs_of_moved : (x : Body) (a b : Around) (at at' : ℕ) → HasAt lines at (stubs_of x (a.exits ++ a.back ∷ []) at) → F at ≡ at' → moved F a ≡ b → Moves F (stubs_of x (a.exits ++ a.back ∷ []) at) (stubs_of x (b.exits ++ b.back ∷ []) at')
   stubs_of_moved (body d begin s hs end) a b at at' h e eb =
-      stubs_moved (a.exits ++ a.back ∷ []) end at at' h e ∙ ap (λ ws. stubs ws end at') (map-append (way_to F) a.exits (a.back ∷ [])) ∙ ap (λ (c : Around). stubs (c.exits ++ c.back ∷ []) end at') eb
+      let it = stubs_moved (a.exits ++ a.back ∷ []) end at at' h e in
+      record { is = it.is ∙ ap (λ ws. stubs ws end at') (map-append (way_to F) a.exits (a.back ∷ [])) ∙ ap (λ (c : Around). stubs (c.exits ++ c.back ∷ []) end at') eb }

@@ -23,7 +23,7 @@ use Rattle.aud_gen.specs.Assembly.{offset, guard_moved, last_by, way_moved, end_
 use Rattle.aud_gen.proofs.Flat.Assembly.{offset_zero, instructions_at_step, end_at_step, length_assembled}
 use Rattle.aud_gen.proofs.Asking.Steps.{asked_law, coming_law, barrier_law}
 use Rattle.aud_gen.specs.Law.{spot_at}
-use Rattle.aud_gen.proofs.Flat.Ats.{AtIs, AtsAre, at_is}
+use Rattle.aud_gen.proofs.Flat.Within.{AtIs, LinesIn, at_is}
 
 module _ (f : ℕ → ℕ) where
   -- orders by number
@@ -142,14 +142,14 @@ module _ (code : Code) (barriers : List BooleanExpression) where
   comes_by program (ends c next) s = refl
   comes_by program (leaves n next) s = refl
 
-  pub asked_same : (program : Program) → AtsAre code.lines → (p : Option Pending) (s : Scene) (c : Spot) → asked_at X p s (spot_at F c) ≡ layout.asked_at program code p s c
-  asked_same program ats None s c =
+  pub asked_same : (program : Program) (T : ℕ) → LinesIn T code.lines → (p : Option Pending) (s : Scene) (c : Spot) → asked_at X p s (spot_at F c) ≡ layout.asked_at program code p s c
+  asked_same program T within None s c =
       let l = line_at code c.place in
       ap (λ (e : EndLine). asked_last e.last (loops_of e.exit) e.at s (eval false s (instructions_at X (F c.place)) 0 no_operands)) (end_is c.place)
       ∙ ap (λ is. asked_last (last_by F l.what) (loops_of (way_moved F l.exit)) l.at s (eval false s is 0 no_operands)) (instructions_are c.place)
       ∙ ap (λ n. asked_last (last_by F l.what) n l.at s (eval false s (instructions_by l.what) 0 no_operands)) (same_loops F l.exit)
-      ∙ asks_by l.what l.at (loops_of l.exit) s (at_is code.lines c.place c.place ats)
-  asked_same program ats (Some p) s c = ap (λ b. handled_or_left b p) (handler_is p.exception c)
+      ∙ asks_by l.what l.at (loops_of l.exit) s (at_is T code.lines c.place c.place within)
+  asked_same program T within (Some p) s c = ap (λ b. handled_or_left b p) (handler_is p.exception c)
 
   pub coming_same : (program : Program) (p : Option Pending) (s : Sight) (c : Spot) → coming_at X program.plan p s (spot_at F c) ≡ layout.coming_at program code p s c
   coming_same program None s c =

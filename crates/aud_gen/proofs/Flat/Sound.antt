@@ -9,7 +9,7 @@ use Rattle.aud_code.specs.Flat.{EndLine, FlatLine, instructs, end}
 use Rattle.aud_gen.specs.Assembly.{offset, guard_moved, last_by, way_moved, end_line, instructions_by, assembled_from, flat_program}
 use Rattle.aud_code.specs.Sound.{IsStart, EachStart, WayStart, GuardsStart, LastLeads, Leads, IsSound}
 use Rattle.aud_gen.proofs.Flat.Starting.{starts_fine}
-use Rattle.aud_gen.proofs.Flat.Within.{PlacesIn, WayIn, GuardsIn, WhatIn, LineIn, LinesIn}
+use Rattle.aud_gen.proofs.Flat.Within.{PlacesIn, WayIn, GuardsIn, WhatIn, LineIn, LinesIn, one_and}
 use Rattle.aud_gen.proofs.Flat.Beginning.{places_within, begins}
 
 abbrev IsEnd : Option FlatLine → Type 0
@@ -54,7 +54,7 @@ module _ (f : ℕ → ℕ) (T : ℕ) (X : List FlatLine) (start : (n : ℕ) → 
   leads_in : (ls : List Line) → LinesIn T ls → (n : ℕ) (l : EndLine) → slice_get (assembled_from f ls) n ≡ Some (end l) → Leads X l
   leads_in [] h zero l g = absurd (subst IsEnd (sym g) tt)
   leads_in [] h (suc n) l g = absurd (subst IsEnd (sym g) tt)
-  leads_in (x ∷ ls) h n l g = among (instructions_by x.what) (end_line f x) (assembled_from f ls) n (line_leads x h.0) (λ m k e. leads_in ls h.1 m k e) l g
+  leads_in (x ∷ ls) (one_and h hs) n l g = among (instructions_by x.what) (end_line f x) (assembled_from f ls) n (line_leads x h) (λ m k e. leads_in ls hs m k e) l g
 
 starts_in : (T : ℕ) (bs : List Body) (at : ℕ) → at + length (units_code bs at) ≤ T → PlacesIn T (starts_from bs at)
 starts_in T [] at h = tt

@@ -1,274 +1,160 @@
 -- The code of a program is its layout with the places of instructions: each place of the layout moves to where its step begins.
-use Rattle.std.proofs.Common.{◌≡◌, ℕ, suc, ◌+◌, List, [], ◌∷◌, ◌++◌, map, None, refl, sym, ap, ◌∙◌, append-nil}
-use Rattle.aud_typed.specs.Tree.{Statement, sequence, declare, declare_array, declare_tasks, declare_object, activated, activate, null, assign, put, if_then, plain_loop, while_loop, for_loop, exit, return, return_value, raising, raising_again, block, procedure_call, own_entry_call, operation_call, entry_call, delay, accept, select, abort, Part, nothing, some, Handlers, no_handlers, handler, Body, body, Doing, without_do, with_do, Alternatives, no_alternatives, accepting, delaying, terminating}
+use Rattle.std.proofs.Common.{◌≡◌, ℕ, suc, ◌+◌, List, [], ◌∷◌, ◌++◌, map, refl, sym, ap, ◌∙◌, append-nil}
+use Rattle.aud_typed.specs.Tree.{Statement, sequence, if_then, plain_loop, while_loop, for_loop, exit, return, return_value, block, entry_call, accept, select, Part, nothing, some, Handlers, no_handlers, handler, Body, body, Doing, without_do, with_do, Alternatives, no_alternatives, accepting, delaying, terminating}
 use Rattle.aud_meaning.specs.declared.state.Construct.{Construct}
 use Rattle.aud_meaning.specs.declared.state.Construct.TheVariants as construct
 use Rattle.aud_meaning.specs.Items.{no_body}
-use Rattle.aud_gen.specs.Layout.{one_line, Line, continues, Around, in_loop, in_for, in_block, in_call, around_out, ways_count, statement_size, part_size, body_size, doing_size, offered_size, main_size, end_place, line, part_place, doing_place, stubs_of, end_line, guard_line, parts_from, bodies_from, statement_code, part_code, handlers_code, body_code, doing_code, offered_code, unit_code, units_code, starts_from, spare_from, part_size_by, body_size_by, main_size_by, end_place_by, statement_code_by, part_code_by, handlers_code_by, body_code_by, doing_code_by, offered_code_by, unit_code_by, units_code_by, starts_from_by, spare_from_by}
+use Rattle.aud_gen.specs.Layout.{one_line, Line, Around, in_loop, in_for, in_block, in_call, around_out, ways_count, statement_size, part_size, body_size, doing_size, main_size, end_place, part_place, stubs_of, statement_code, part_code, handlers_code, body_code, doing_code, offered_code, unit_code, units_code, starts_from, spare_from, body_size_by, end_place_by, statement_code_by, part_code_by, handlers_code_by, body_code_by, doing_code_by, offered_code_by, unit_code_by, units_code_by, starts_from_by, spare_from_by}
 use Rattle.aud_gen.specs.Assembly.{offset}
 use Rattle.aud_gen.specs.Instructions.{condition_code}
 use Rattle.aud_gen.specs.Written.{flat_step, written, WrittenLaw}
 use Rattle.aud_gen.specs.Shows.{HasAt}
-use Rattle.aud_gen.proofs.Standing.Places.{has_front, has_back, has_tail, has_moved, length-statement, length-part, length-body, length-unit, length-doing, length-offered}
+use Rattle.aud_gen.proofs.Standing.Places.{has_moved, has_all, body_at, offer_has}
 use Rattle.aud_gen.proofs.Flat.Assembly.{offset_zero}
-use Rattle.aud_gen.proofs.Flat.Moving.{moved, same_lines, both_moved, count_moved, out_moved, loop_moved, for_moved, exit_moved}
-use Rattle.aud_gen.proofs.Flat.Parts.{Moved, place_more, one_place, two_places, part_place_moved, doing_place_moved, parts_moved, bodies_moved, around_block, stubs_of_moved, out_same, line_same, line_out, line_alone, next_moved, guard_moved_to, end_moved, more_moved}
+use Rattle.aud_gen.proofs.Flat.Moving.{moved, Moves, none_moved, more_moved, same_lines, both_moved, count_moved, out_moved, loop_moved, for_moved, exit_moved}
+use Rattle.aud_gen.proofs.Flat.Parts.{place_more, one_place, two_places, part_place_moved, doing_place_moved, offers_moved, around_block, stubs_of_moved, out_same, line_same, line_out, line_alone, next_moved, guard_moved_to, end_moved}
 use Rattle.aud_gen.proofs.Standing.Sizes.{last_is, count-block}
-use Rattle.aud_gen.proofs.Flat.Behind.{behind_line, behind_plain, behind_statement, behind_part, behind_doing, behind_offered, behind_body, behind_main}
+use Rattle.aud_gen.proofs.Flat.Behind.{behind_line, behind_plain, statement_and, part_and, offered_and, body_and, Halves, behind_main, passed_body, passed_offer}
 
 module _ (lines : List Line) where
   abbrev F : ℕ → ℕ
   F = offset lines
 
   mutual
-    statement_moved : (s : Statement) (at next : ℕ) (a : Around) (at' next' : ℕ) (b : Around) → HasAt lines at (statement_code s at next a) → F at ≡ at' → F next ≡ next' → moved F a ≡ b → Moved lines (statement_code s at next a) ≡ statement_code_by flat_step s at' next' b
+    statement_moved : (s : Statement) (at next : ℕ) (a : Around) (at' next' : ℕ) (b : Around) → HasAt lines at (statement_code s at next a) → F at ≡ at' → F next ≡ next' → moved F a ≡ b → Moves F (statement_code s at next a) (statement_code_by flat_step s at' next' b)
     statement_moved (sequence x y) at next a at' next' b h ea en eb =
-        let w = ways_count a in
-        let middle = at + statement_size x w in
-        let cx = statement_code x at middle a in
-        let cy = statement_code y middle next a in
-        let hx = has_front lines at cx cy h in
-        let hy = has_back lines at (statement_size x w) cx cy (length-statement x at middle a) h in
-        let em = behind_statement lines x at middle a at' _ hx ea (count_moved F a b eb) in
-        both_moved F cx cy _ _ (statement_moved x at middle a at' _ b hx ea em eb) (statement_moved y middle next a _ next' b hy em en eb)
+        let it = statement_and lines x at _ a _ at' _ h ea (count_moved F a b eb) in
+        both_moved F (statement_moved x at _ a at' _ b it.front ea it.behind eb) (statement_moved y _ next a _ next' b it.back it.behind en eb)
     statement_moved (plain_loop x) at next a at' next' b h ea en eb = statement_moved x at at (in_loop next a) at' at' (in_loop next' b) h ea ea (loop_moved F next next' a b en eb)
     statement_moved (if_then pos c x p) at next a at' next' b h ea en eb =
-        let s = if_then pos c x p in
-        let w = ways_count a in
-        let second = suc at + statement_size x w in
-        let cx = statement_code x (suc at) next a in
-        let cp = part_code p second next a in
-        let l = line s (part_place p second next ∷ suc at ∷ []) [] None a in
-        let e1 = behind_line lines l (cx ++ cp) at at' h ea in
-        let h1 = has_tail lines at l (cx ++ cp) h in
-        let hx = has_front lines (suc at) cx cp h1 in
-        let e2 = behind_statement lines x (suc at) next a _ _ hx e1 (count_moved F a b eb) in
-        let hp = has_back lines (suc at) (statement_size x w) cx cp (length-statement x (suc at) next a) h1 in
-        more_moved lines l _ (cx ++ cp) _
-        (line_same lines s (part_place p second next ∷ suc at ∷ []) [] _ [] a b (two_places lines (part_place p second next) (suc at) _ _ (part_place_moved lines p second next _ next' e2 en) e1) refl eb)
-        (both_moved F cx cp _ _ (statement_moved x (suc at) next a _ next' b hx e1 en eb) (part_moved p second next a _ next' b hp e2 en eb))
+        let own = behind_line lines _ _ at at' h ea in
+        let it = statement_and lines x (suc at) next a _ _ _ own.rest own.behind (count_moved F a b eb) in
+        let ways = two_places lines _ (suc at) _ _ (part_place_moved lines p _ next _ next' it.behind en) own.behind in
+        more_moved F (line_same lines (if_then pos c x p) _ [] _ [] a b ways refl eb)
+        (both_moved F (statement_moved x (suc at) next a _ next' b it.front own.behind en eb) (part_moved p _ next a _ next' b it.back it.behind en eb))
     statement_moved (while_loop pos c x) at next a at' next' b h ea en eb =
-        let s = while_loop pos c x in
-        let cx = statement_code x (suc at) at (in_loop next a) in
-        let l = line s (next ∷ suc at ∷ []) [] None a in
-        let e1 = behind_line lines l cx at at' h ea in
-        more_moved lines l _ cx _ (line_same lines s (next ∷ suc at ∷ []) [] _ [] a b (two_places lines next (suc at) next' _ en e1) refl eb)
-        (statement_moved x (suc at) at (in_loop next a) _ at' (in_loop next' b) (has_tail lines at l cx h) e1 ea (loop_moved F next next' a b en eb))
+        let own = behind_line lines _ _ at at' h ea in
+        more_moved F (line_same lines (while_loop pos c x) _ [] _ [] a b (two_places lines next (suc at) next' _ en own.behind) refl eb)
+        (statement_moved x (suc at) at (in_loop next a) _ at' (in_loop next' b) own.rest own.behind ea (loop_moved F next next' a b en eb))
     statement_moved (for_loop f x y z) at next a at' next' b h ea en eb =
-        let s = for_loop f x y z in
-        let cz = statement_code z (suc (suc at)) (suc at) (in_for next a) in
-        let l = line s (next ∷ suc (suc at) ∷ []) [] None a in
-        let m : Line = record { what = continues f; at = f.next_at; out = a.out; ways = next ∷ suc (suc at) ∷ []; bodies = []; exit = None } in
-        let e1 = behind_line lines l (m ∷ cz) at at' h ea in
-        let h1 = has_tail lines at l (m ∷ cz) h in
-        let e2 = behind_plain lines m cz (suc at) _ refl h1 e1 in
-        let ways = next ∷ suc (suc at) ∷ [] in
-        let same = two_places lines next (suc (suc at)) next' _ en e2 in
-        more_moved lines l _ (m ∷ cz) _ (line_same lines s ways [] _ [] a b same refl eb)
-        (more_moved lines m _ cz _ (next_moved lines f a b ways _ same eb)
-        (statement_moved z (suc (suc at)) (suc at) (in_for next a) _ _ (in_for next' b) (has_tail lines (suc at) m cz h1) e2 e1 (for_moved F next next' a b en eb)))
+        let own = behind_line lines _ _ at at' h ea in
+        let after = behind_line lines _ _ (suc at) _ own.rest own.behind in
+        let inside = behind_plain lines _ _ (suc at) _ refl own.rest own.behind in
+        let ways = two_places lines next (suc (suc at)) next' _ en inside in
+        more_moved F (line_same lines (for_loop f x y z) _ [] _ [] a b ways refl eb)
+        (more_moved F (next_moved lines f a b _ _ ways eb) (statement_moved z (suc (suc at)) (suc at) (in_for next a) _ _ (in_for next' b) after.rest inside own.behind (for_moved F next next' a b en eb)))
     statement_moved (block pos n x) at next a at' next' b h ea en eb =
-        let s = block pos n x in
         let w = ways_count a in
         let end = end_place x (suc at) w in
         let inner = in_block end a in
-        let cx = body_code construct.Block x (suc at) next a.out inner in
-        let ss = stubs_of x (a.exits ++ a.back ∷ []) (suc end) in
-        let l = line s (next ∷ suc at ∷ []) [] None a in
-        let e1 = behind_line lines l (cx ++ ss) at at' h ea in
-        let h1 = has_tail lines at l (cx ++ ss) h in
-        let hx = has_front lines (suc at) cx ss h1 in
+        let own = behind_line lines _ _ at at' h ea in
         let counts = count-block end a ∙ count_moved F a b eb in
-        let ends : F end ≡ end_place_by flat_step x (suc (at' + _)) (ways_count b) = ap (λ k. F (end_place x (suc at) k)) (sym (count-block end a)) ∙ behind_main lines construct.Block x (suc at) next a.out inner _ _ hx e1 counts in
-        let size = length-body construct.Block x (suc at) next a.out inner ∙ ap (body_size x) (count-block end a) in
-        let same : suc at + body_size x w ≡ suc end = sym (last_is one_line x (suc at) w) in
-        let hs : HasAt lines (suc end) ss = has_moved lines _ _ ss same (has_back lines (suc at) (body_size x w) cx ss size h1) in
-        let past : F (suc end) ≡ suc (end_place_by flat_step x _ (ways_count b)) =
-        ap F (sym same) ∙ ap (λ k. F (suc at + body_size x k)) (sym (count-block end a)) ∙ behind_body lines construct.Block x (suc at) next a.out inner _ _ hx e1 counts ∙ sym (last_is flat_step x _ (ways_count b)) in
-        more_moved lines l _ (cx ++ ss) _ (line_same lines s (next ∷ suc at ∷ []) [] _ [] a b (two_places lines next (suc at) next' _ en e1) refl eb)
-        (both_moved F cx ss _ _
-        (body_moved construct.Block x (suc at) next a.out inner _ next' b.out _ hx e1 en (out_same lines a b eb) (around_block lines x end _ a b hs ends past eb))
+        let it = body_and lines construct.Block x (suc at) next a.out inner _ _ _ own.rest own.behind counts in
+        let ends : F end ≡ end_place_by flat_step x (suc (at' + _)) (ways_count b) = ap (λ k. F (end_place x (suc at) k)) (sym (count-block end a)) ∙ behind_main lines construct.Block x (suc at) next a.out inner _ _ it.front own.behind counts in
+        let same : suc at + body_size x (ways_count inner) ≡ suc end = ap (λ k. suc at + body_size x k) (count-block end a) ∙ sym (last_is one_line x (suc at) w) in
+        let hs = has_moved lines _ _ (stubs_of x (a.exits ++ a.back ∷ []) (suc end)) same it.back in
+        let past : F (suc end) ≡ suc (end_place_by flat_step x _ (ways_count b)) = ap F (sym same) ∙ it.behind ∙ sym (last_is flat_step x _ (ways_count b)) in
+        more_moved F (line_same lines (block pos n x) _ [] _ [] a b (two_places lines next (suc at) next' _ en own.behind) refl eb)
+        (both_moved F
+        (body_moved construct.Block x (suc at) next a.out inner _ next' b.out _ it.front own.behind en (out_same lines a b eb) (around_block lines x end _ a b hs ends past eb))
         (stubs_of_moved lines x a b (suc end) _ hs past eb))
     statement_moved (entry_call pos c p q) at next a at' next' b h ea en eb =
-        let s = entry_call pos c p q in
-        let w = ways_count a in
-        let second = suc at + part_size p w in
-        let cp = part_code p (suc at) next a in
-        let cq = part_code q second next a in
-        let l = line s (part_place p (suc at) next ∷ part_place q second next ∷ []) [] None a in
-        let e1 = behind_line lines l (cp ++ cq) at at' h ea in
-        let h1 = has_tail lines at l (cp ++ cq) h in
-        let hp = has_front lines (suc at) cp cq h1 in
-        let e2 = behind_part lines p (suc at) next a _ _ hp e1 (count_moved F a b eb) in
-        let hq = has_back lines (suc at) (part_size p w) cp cq (length-part p (suc at) next a) h1 in
-        more_moved lines l _ (cp ++ cq) _
-        (line_same lines s (part_place p (suc at) next ∷ part_place q second next ∷ []) [] _ [] a b
-        (two_places lines (part_place p (suc at) next) (part_place q second next) _ _ (part_place_moved lines p (suc at) next _ next' e1 en) (part_place_moved lines q second next _ next' e2 en)) refl eb)
-        (both_moved F cp cq _ _ (part_moved p (suc at) next a _ next' b hp e1 en eb) (part_moved q second next a _ next' b hq e2 en eb))
+        let own = behind_line lines _ _ at at' h ea in
+        let it = part_and lines p (suc at) next a _ _ _ own.rest own.behind (count_moved F a b eb) in
+        let ways = two_places lines _ _ _ _ (part_place_moved lines p _ next _ next' own.behind en) (part_place_moved lines q _ next _ next' it.behind en) in
+        more_moved F (line_same lines (entry_call pos c p q) _ [] _ [] a b ways refl eb)
+        (both_moved F (part_moved p (suc at) next a _ next' b it.front own.behind en eb) (part_moved q _ next a _ next' b it.back it.behind en eb))
     statement_moved (accept pos n d) at next a at' next' b h ea en eb =
-        let s = accept pos n d in
-        let cd = doing_code d (suc at) next a.out in
-        let l = line s (next ∷ []) (doing_place d (suc at) next ∷ []) None a in
-        let e1 = behind_line lines l cd at at' h ea in
-        more_moved lines l _ cd _
-        (line_same lines s (next ∷ []) (doing_place d (suc at) next ∷ []) _ _ a b (one_place lines next next' en) (one_place lines (doing_place d (suc at) next) _ (doing_place_moved lines d (suc at) next _ next' e1 en)) eb)
-        (doing_moved d (suc at) next a.out _ next' b.out (has_tail lines at l cd h) e1 en (out_same lines a b eb))
+        let own = behind_line lines _ _ at at' h ea in
+        more_moved F
+        (line_same lines (accept pos n d) _ _ _ _ a b (one_place lines next next' en) (one_place lines _ _ (doing_place_moved lines d (suc at) next _ next' own.behind en)) eb)
+        (doing_moved d (suc at) next a.out _ next' b.out own.rest own.behind en (out_same lines a b eb))
     statement_moved (select pos offered p) at next a at' next' b h ea en eb =
-        let s = select pos offered p in
-        let w = ways_count a in
-        let second = suc at + offered_size offered w in
-        let co = offered_code offered (suc at) next a in
-        let cp = part_code p second next a in
-        let l = line s (part_place p second next ∷ parts_from offered (suc at) next w) (at ∷ bodies_from offered (suc at) next w) None a in
-        let e1 = behind_line lines l (co ++ cp) at at' h ea in
-        let h1 = has_tail lines at l (co ++ cp) h in
-        let ho = has_front lines (suc at) co cp h1 in
+        let own = behind_line lines _ _ at at' h ea in
         let ec = count_moved F a b eb in
-        let e2 = behind_offered lines offered (suc at) next a _ _ ho e1 ec in
-        let hp = has_back lines (suc at) (offered_size offered w) co cp (length-offered offered (suc at) next a) h1 in
-        more_moved lines l _ (co ++ cp) _
-        (line_same lines s (part_place p second next ∷ parts_from offered (suc at) next w) (at ∷ bodies_from offered (suc at) next w) _ _ a b
-        (place_more lines (part_place p second next) _ (parts_from offered (suc at) next w) _ (part_place_moved lines p second next _ next' e2 en) (parts_moved lines offered (suc at) next a _ next' _ ho e1 en ec))
-        (place_more lines at at' (bodies_from offered (suc at) next w) _ ea (bodies_moved lines offered (suc at) next a _ next' _ ho e1 en ec)) eb)
-        (both_moved F co cp _ _ (offered_moved offered (suc at) next a _ next' b ho e1 en eb) (part_moved p second next a _ next' b hp e2 en eb))
+        let it = offered_and lines offered (suc at) next a _ _ _ own.rest own.behind ec in
+        let places = offers_moved lines offered (suc at) next a _ next' _ it.front own.behind en ec in
+        let ways = place_more lines _ _ _ _ (part_place_moved lines p _ next _ next' it.behind en) places.parts in
+        more_moved F (line_same lines (select pos offered p) _ _ _ _ a b ways (place_more lines at at' _ _ ea places.bodies) eb)
+        (both_moved F (offered_moved offered (suc at) next a _ next' b it.front own.behind en eb) (part_moved p _ next a _ next' b it.back it.behind en eb))
     statement_moved (exit pos n c) at next a at' next' b h ea en eb = line_out lines (exit pos n c) next next' _ _ a b en (exit_moved F a b n next next' en eb) eb
     statement_moved (return pos) at next a at' next' b h ea en eb = line_out lines (return pos) next next' _ _ a b en (ap (λ (c : Around). c.back) eb) eb
     statement_moved (return_value pos x) at next a at' next' b h ea en eb = line_out lines (return_value pos x) next next' _ _ a b en (ap (λ (c : Around). c.back) eb) eb
-    statement_moved (declare pos e) at next a at' next' b h ea en eb = line_alone lines (declare pos e) next next' a b en eb
-    statement_moved (declare_array pos t n) at next a at' next' b h ea en eb = line_alone lines (declare_array pos t n) next next' a b en eb
-    statement_moved (declare_tasks pos ts) at next a at' next' b h ea en eb = line_alone lines (declare_tasks pos ts) next next' a b en eb
-    statement_moved (declare_object pos n es) at next a at' next' b h ea en eb = line_alone lines (declare_object pos n es) next next' a b en eb
-    statement_moved (activated pos) at next a at' next' b h ea en eb = line_alone lines (activated pos) next next' a b en eb
-    statement_moved (activate pos) at next a at' next' b h ea en eb = line_alone lines (activate pos) next next' a b en eb
-    statement_moved (null pos) at next a at' next' b h ea en eb = line_alone lines (null pos) next next' a b en eb
-    statement_moved (assign pos r e) at next a at' next' b h ea en eb = line_alone lines (assign pos r e) next next' a b en eb
-    statement_moved (put pos t) at next a at' next' b h ea en eb = line_alone lines (put pos t) next next' a b en eb
-    statement_moved (raising pos x) at next a at' next' b h ea en eb = line_alone lines (raising pos x) next next' a b en eb
-    statement_moved (raising_again pos) at next a at' next' b h ea en eb = line_alone lines (raising_again pos) next next' a b en eb
-    statement_moved (procedure_call pos c) at next a at' next' b h ea en eb = line_alone lines (procedure_call pos c) next next' a b en eb
-    statement_moved (own_entry_call pos es f) at next a at' next' b h ea en eb = line_alone lines (own_entry_call pos es f) next next' a b en eb
-    statement_moved (operation_call pos v c) at next a at' next' b h ea en eb = line_alone lines (operation_call pos v c) next next' a b en eb
-    statement_moved (delay pos e) at next a at' next' b h ea en eb = line_alone lines (delay pos e) next next' a b en eb
-    statement_moved (abort pos ns) at next a at' next' b h ea en eb = line_alone lines (abort pos ns) next next' a b en eb
+    statement_moved s at next a at' next' b h ea en eb = line_alone lines s next next' a b en eb
 
-    part_moved : (p : Part) (at next : ℕ) (a : Around) (at' next' : ℕ) (b : Around) → HasAt lines at (part_code p at next a) → F at ≡ at' → F next ≡ next' → moved F a ≡ b → Moved lines (part_code p at next a) ≡ part_code_by flat_step p at' next' b
-    part_moved nothing at next a at' next' b h ea en eb = refl
+    part_moved : (p : Part) (at next : ℕ) (a : Around) (at' next' : ℕ) (b : Around) → HasAt lines at (part_code p at next a) → F at ≡ at' → F next ≡ next' → moved F a ≡ b → Moves F (part_code p at next a) (part_code_by flat_step p at' next' b)
+    part_moved nothing at next a at' next' b h ea en eb = none_moved F
     part_moved (some s) at next a at' next' b h ea en eb = statement_moved s at next a at' next' b h ea en eb
 
-    handlers_moved : (hs : Handlers) (at next : ℕ) (a : Around) (at' next' : ℕ) (b : Around) → HasAt lines at (handlers_code hs at next a) → F at ≡ at' → F next ≡ next' → moved F a ≡ b → Moved lines (handlers_code hs at next a) ≡ handlers_code_by flat_step hs at' next' b
-    handlers_moved no_handlers at next a at' next' b h ea en eb = refl
+    handlers_moved : (hs : Handlers) (at next : ℕ) (a : Around) (at' next' : ℕ) (b : Around) → HasAt lines at (handlers_code hs at next a) → F at ≡ at' → F next ≡ next' → moved F a ≡ b → Moves F (handlers_code hs at next a) (handlers_code_by flat_step hs at' next' b)
+    handlers_moved no_handlers at next a at' next' b h ea en eb = none_moved F
     handlers_moved (handler others choices s more) at next a at' next' b h ea en eb =
-        let w = ways_count a in
-        let middle = at + statement_size s w in
-        let cs = statement_code s at next a in
-        let cm = handlers_code more middle next a in
-        let hs = has_front lines at cs cm h in
-        let hm = has_back lines at (statement_size s w) cs cm (length-statement s at next a) h in
-        let em = behind_statement lines s at next a at' _ hs ea (count_moved F a b eb) in
-        both_moved F cs cm _ _ (statement_moved s at next a at' next' b hs ea en eb) (handlers_moved more middle next a _ next' b hm em en eb)
+        let it = statement_and lines s at next a _ at' _ h ea (count_moved F a b eb) in
+        both_moved F (statement_moved s at next a at' next' b it.front ea en eb) (handlers_moved more _ next a _ next' b it.back it.behind en eb)
 
-    body_moved : (c : Construct) (x : Body) (at next out : ℕ) (a : Around) (at' next' out' : ℕ) (b : Around) → HasAt lines at (body_code c x at next out a) → F at ≡ at' → F next ≡ next' → F out ≡ out' → moved F a ≡ b → Moved lines (body_code c x at next out a) ≡ body_code_by flat_step c x at' next' out' b
+    body_moved : (c : Construct) (x : Body) (at next out : ℕ) (a : Around) (at' next' out' : ℕ) (b : Around) → HasAt lines at (body_code c x at next out a) → F at ≡ at' → F next ≡ next' → F out ≡ out' → moved F a ≡ b → Moves F (body_code c x at next out a) (body_code_by flat_step c x at' next' out' b)
     body_moved c (body d begin s hs end) at next out a at' next' out' b h ea en eo eb =
         let w = ways_count a in
         let ec = count_moved F a b eb in
-        let first = at + part_size d w in
-        let guard = first + statement_size s w in
-        let last = first + main_size s hs w in
-        let cd = part_code d at first (around_out last a) in
-        let cs = statement_code s first last (around_out guard a) in
-        let g = guard_line hs end (suc guard) last w in
-        let ch = handlers_code hs (suc guard) last (around_out last a) in
-        let l = end_line c end next out in
-        let hd = has_front lines at cd _ h in
-        let h1 : HasAt lines first (cs ++ (g ∷ (ch ++ l ∷ []))) = has_back lines at (part_size d w) cd _ (length-part d at first (around_out last a)) h in
-        let hf = has_front lines first cs _ h1 in
-        let h2 : HasAt lines guard (g ∷ (ch ++ l ∷ [])) = has_back lines first (statement_size s w) cs _ (length-statement s first last (around_out guard a)) h1 in
-        let h3 : HasAt lines (suc guard) (ch ++ l ∷ []) = has_tail lines guard g _ h2 in
-        let hh = has_front lines (suc guard) ch _ h3 in
-        let e1 = behind_part lines d at first (around_out last a) at' _ hd ea ec in
-        let e2 = behind_statement lines s first last (around_out guard a) _ _ hf e1 ec in
-        let e3 = behind_plain lines g (ch ++ l ∷ []) guard _ refl h2 e2 in
-        let e4 : F last ≡ (at' + part_size_by flat_step d (ways_count b)) + main_size_by flat_step s hs (ways_count b) = behind_main lines c (body d begin s hs end) at next out a at' _ h ea ec in
-        let al = out_moved F last _ a b e4 eb in
-        both_moved F cd (cs ++ (g ∷ (ch ++ l ∷ []))) _ _ (part_moved d at first (around_out last a) at' _ _ hd ea e1 al)
-        (both_moved F cs (g ∷ (ch ++ l ∷ [])) _ _ (statement_moved s first last (around_out guard a) _ _ _ hf e1 e4 (out_moved F guard _ a b e2 eb))
-        (more_moved lines g _ (ch ++ l ∷ []) _ (guard_moved_to lines hs end (suc guard) last (around_out last a) _ _ _ hh e3 e4 ec)
-        (both_moved F ch (l ∷ []) _ _ (handlers_moved hs (suc guard) last (around_out last a) _ _ _ hh e3 e4 al) (end_moved lines c end next out next' out' en eo))))
+        let guard = at + part_size d w + statement_size s w in
+        let last = at + part_size d w + main_size s hs w in
+        let it = body_at lines c d begin s hs end at next out a [] (has_all lines at _ h) in
+        let is = passed_body lines c d s hs end at next out a [] at' _ it ea ec in
+        let al = out_moved F last _ a b is.handlers eb in
+        both_moved F (part_moved d at _ (around_out last a) at' _ _ it.declarations ea is.declarations al)
+        (both_moved F (statement_moved s _ last (around_out guard a) _ _ _ it.main.statements is.declarations is.handlers (out_moved F guard _ a b is.statements eb))
+        (more_moved F (guard_moved_to lines hs end (suc guard) last (around_out last a) _ _ _ it.main.handlers is.guarding is.handlers ec)
+        (both_moved F (handlers_moved hs (suc guard) last (around_out last a) _ _ _ it.main.handlers is.guarding is.handlers al) (end_moved lines c end next out next' out' en eo))))
 
-    doing_moved : (d : Doing) (at next out : ℕ) (at' next' out' : ℕ) → HasAt lines at (doing_code d at next out) → F at ≡ at' → F next ≡ next' → F out ≡ out' → Moved lines (doing_code d at next out) ≡ doing_code_by flat_step d at' next' out'
-    doing_moved without_do at next out at' next' out' h ea en eo = refl
+    doing_moved : (d : Doing) (at next out : ℕ) (at' next' out' : ℕ) → HasAt lines at (doing_code d at next out) → F at ≡ at' → F next ≡ next' → F out ≡ out' → Moves F (doing_code d at next out) (doing_code_by flat_step d at' next' out')
+    doing_moved without_do at next out at' next' out' h ea en eo = none_moved F
     doing_moved (with_do n x) at next out at' next' out' h ea en eo =
         let inner = in_call (end_place x at 1) in
         let ends = behind_main lines construct.Accept x at next out inner at' 1 h ea refl in
         body_moved construct.Accept x at next out inner at' next' out' _ h ea en eo (ap in_call ends)
 
-    offered_moved : (o : Alternatives) (at next : ℕ) (a : Around) (at' next' : ℕ) (b : Around) → HasAt lines at (offered_code o at next a) → F at ≡ at' → F next ≡ next' → moved F a ≡ b → Moved lines (offered_code o at next a) ≡ offered_code_by flat_step o at' next' b
-    offered_moved no_alternatives at next a at' next' b h ea en eb = refl
+    offered_moved : (o : Alternatives) (at next : ℕ) (a : Around) (at' next' : ℕ) (b : Around) → HasAt lines at (offered_code o at next a) → F at ≡ at' → F next ≡ next' → moved F a ≡ b → Moves F (offered_code o at next a) (offered_code_by flat_step o at' next' b)
+    offered_moved no_alternatives at next a at' next' b h ea en eb = none_moved F
     offered_moved (accepting g pos n d p more) at next a at' next' b h ea en eb =
-        let w = ways_count a in
-        let ec = count_moved F a b eb in
         let after = at + doing_size d in
-        let later = after + part_size p w in
-        let cd = doing_code d at (part_place p after next) a.out in
-        let cp = part_code p after next a in
-        let cm = offered_code more later next a in
-        let hd = has_front lines at cd (cp ++ cm) h in
-        let h1 = has_back lines at (doing_size d) cd (cp ++ cm) (length-doing d at (part_place p after next) a.out) h in
-        let hp = has_front lines after cp cm h1 in
-        let hm = has_back lines after (part_size p w) cp cm (length-part p after next a) h1 in
-        let e1 = behind_doing lines d at (part_place p after next) a.out at' hd ea in
-        let e2 = behind_part lines p after next a _ _ hp e1 ec in
-        both_moved F cd (cp ++ cm) _ _ (doing_moved d at (part_place p after next) a.out at' _ _ hd ea (part_place_moved lines p after next _ next' e1 en) (out_same lines a b eb))
-        (both_moved F cp cm _ _ (part_moved p after next a _ next' b hp e1 en eb) (offered_moved more later next a _ next' b hm e2 en eb))
+        let it = offer_has lines d p more at next a h in
+        let is = passed_offer lines d p more at next a at' _ it ea (count_moved F a b eb) in
+        both_moved F (doing_moved d at (part_place p after next) a.out at' _ _ it.doing ea (part_place_moved lines p after next _ next' is.after en) (out_same lines a b eb))
+        (both_moved F (part_moved p after next a _ next' b it.part is.after en eb) (offered_moved more _ next a _ next' b it.others is.later en eb))
     offered_moved (delaying g x p more) at next a at' next' b h ea en eb =
-        let w = ways_count a in
-        let later = at + part_size p w in
-        let cp = part_code p at next a in
-        let cm = offered_code more later next a in
-        let hp = has_front lines at cp cm h in
-        let hm = has_back lines at (part_size p w) cp cm (length-part p at next a) h in
-        let e2 = behind_part lines p at next a at' _ hp ea (count_moved F a b eb) in
-        both_moved F cp cm _ _ (part_moved p at next a at' next' b hp ea en eb) (offered_moved more later next a _ next' b hm e2 en eb)
+        let it = part_and lines p at next a _ at' _ h ea (count_moved F a b eb) in
+        both_moved F (part_moved p at next a at' next' b it.front ea en eb) (offered_moved more _ next a _ next' b it.back it.behind en eb)
     offered_moved (terminating g more) at next a at' next' b h ea en eb = offered_moved more at next a at' next' b h ea en eb
 
   -- Bodies, one after the other.
 
   module _ (zero_is : F 0 ≡ 0) where
-    unit_moved : (x : Body) (at at' : ℕ) → HasAt lines at (unit_code x at) → F at ≡ at' → Moved lines (unit_code x at) ≡ unit_code_by flat_step x at'
+    unit_moved : (x : Body) (at at' : ℕ) → HasAt lines at (unit_code x at) → F at ≡ at' → Moves F (unit_code x at) (unit_code_by flat_step x at')
     unit_moved x at at' h e =
         let end = end_place x at 1 in
         let ends = behind_main lines construct.Unit x at 0 end (in_call end) at' 1 h e refl in
         body_moved construct.Unit x at 0 end (in_call end) at' 0 _ _ h e zero_is ends (ap in_call ends)
 
-    behind_unit : (x : Body) (at at' : ℕ) → HasAt lines at (unit_code x at) → F at ≡ at' → F (at + body_size x 1) ≡ at' + body_size_by flat_step x 1
-    behind_unit x at at' h e = let end = end_place x at 1 in behind_body lines construct.Unit x at 0 end (in_call end) at' 1 h e refl
+    unit_and : (x : Body) (at : ℕ) (more : List Line) (at' : ℕ) → HasAt lines at (unit_code x at ++ more) → F at ≡ at' → Halves lines (unit_code x at) more at (body_size x 1) at' (body_size_by flat_step x 1)
+    unit_and x at more at' h e = body_and lines construct.Unit x at 0 _ (in_call (end_place x at 1)) more at' 1 h e refl
 
-    units_moved : (xs : List Body) (at at' : ℕ) → HasAt lines at (units_code xs at) → F at ≡ at' → Moved lines (units_code xs at) ≡ units_code_by flat_step xs at'
+    units_moved : (xs : List Body) (at at' : ℕ) → HasAt lines at (units_code xs at) → F at ≡ at' → Moves F (units_code xs at) (units_code_by flat_step xs at')
     units_moved [] at at' h e = unit_moved no_body at at' h e
     units_moved (x ∷ xs) at at' h e =
-        let next = at + body_size x 1 in
-        let cx = unit_code x at in
-        let cs = units_code xs next in
-        let hx = has_front lines at cx cs h in
-        both_moved F cx cs _ _ (unit_moved x at at' hx e) (units_moved xs next _ (has_back lines at (body_size x 1) cx cs (length-unit x at) h) (behind_unit x at at' hx e))
+        let it = unit_and x at _ at' h e in
+        both_moved F (unit_moved x at at' it.front e) (units_moved xs _ _ it.back it.behind)
 
     starts_moved : (xs : List Body) (at at' : ℕ) → HasAt lines at (units_code xs at) → F at ≡ at' → map F (starts_from xs at) ≡ starts_from_by flat_step xs at'
     starts_moved [] at at' h e = refl
     starts_moved (x ∷ xs) at at' h e =
-        let next = at + body_size x 1 in
-        let cx = unit_code x at in
-        let cs = units_code xs next in
-        let en = behind_unit x at at' (has_front lines at cx cs h) e in
-        place_more lines at at' (starts_from xs next) _ e (starts_moved xs next _ (has_back lines at (body_size x 1) cx cs (length-unit x at) h) en)
+        let it = unit_and x at _ at' h e in
+        place_more lines at at' _ _ e (starts_moved xs _ _ it.back it.behind)
 
     spare_moved : (xs : List Body) (at at' : ℕ) → HasAt lines at (units_code xs at) → F at ≡ at' → F (spare_from xs at) ≡ spare_from_by flat_step xs at'
     spare_moved [] at at' h e = e
     spare_moved (x ∷ xs) at at' h e =
-        let next = at + body_size x 1 in
-        let cx = unit_code x at in
-        let cs = units_code xs next in
-        let en = behind_unit x at at' (has_front lines at cx cs h) e in
-        spare_moved xs next _ (has_back lines at (body_size x 1) cx cs (length-unit x at) h) en
+        let it = unit_and x at _ at' h e in
+        spare_moved xs _ _ it.back it.behind
 
 pub written_law : WrittenLaw
 written_law program =
@@ -277,7 +163,8 @@ written_law program =
     let z = offset_zero lines in
     let all : HasAt lines 0 lines = record { rest = []; is = sym (append-nil lines) } in
     let barriers = map condition_code program.barriers in
+    let moves = units_moved lines z bs 0 0 all z in
     ap (λ ls. record { lines = ls; starts = map (offset lines) (starts_from bs 0); spare = offset lines (spare_from bs 0); barriers = barriers })
-    (same_lines (offset lines) lines ∙ ap written (units_moved lines z bs 0 0 all z))
+    (same_lines (offset lines) lines ∙ ap written moves.is)
     ∙ ap (λ ns. record { lines = written (units_code_by flat_step bs 0); starts = ns; spare = offset lines (spare_from bs 0); barriers = barriers }) (starts_moved lines z bs 0 0 all z)
     ∙ ap (λ n. record { lines = written (units_code_by flat_step bs 0); starts = starts_from_by flat_step bs 0; spare = n; barriers = barriers }) (spare_moved lines z bs 0 0 all z)

@@ -1,16 +1,16 @@
 -- Where tasks go on.
-use Rattle.std.proofs.Common.{◌≡◌, ℕ, suc, ◌+◌, List, [], ◌∷◌, ◌++◌, length, le_refl, inr, refl, sym, subst, arith, append_assoc, append-nil, Option}
+use Rattle.std.proofs.Common.{◌≡◌, ℕ, ◌+◌, List, [], ◌∷◌, ◌++◌, length, le_refl, inr, refl, sym, subst, arith, Option}
 use Rattle.std.proofs.lemmas.List.{get_or_past}
 use Rattle.aud_text.specs.declared.place.Pos.{Pos}
-use Rattle.aud_typed.specs.Tree.{Statement, sequence, declare, declare_array, declare_tasks, declare_object, activated, activate, null, assign, put, if_then, plain_loop, while_loop, for_loop, exit, return, return_value, raising, raising_again, block, procedure_call, own_entry_call, operation_call, entry_call, delay, accept, select, abort, Part, nothing, some, Handlers, Body, body, Doing, without_do, with_do}
+use Rattle.aud_typed.specs.Tree.{Statement, sequence, plain_loop, Part, nothing, some, Handlers, Body, body, Doing, without_do, with_do}
 use Rattle.aud_meaning.specs.declared.state.Construct.{Construct}
 use Rattle.aud_meaning.specs.declared.state.Construct.TheVariants as construct
 use Rattle.aud_meaning.specs.Configuration.{Item, Do, InLoop, InFor, Begin, Ends, Leaving}
 use Rattle.aud_meaning.specs.Items.{entered, resumed, before, body_before, doing_by}
 use Rattle.aud_code.specs.Places.{Way, Spot}
-use Rattle.aud_gen.specs.Layout.{Line, Around, in_loop, in_call, around_out, ways_count, statement_size, part_size, handlers_size, main_size, end_place, end_line, guard_line, line, statement_code, part_code, part_place, doing_place, handlers_code, body_code, main_code, doing_code, Code, no_line}
+use Rattle.aud_gen.specs.Layout.{Line, Around, in_loop, in_call, around_out, ways_count, statement_size, main_size, end_place, end_line, line, statement_code, part_code, part_place, doing_place, body_code, main_code, doing_code, Code, no_line}
 use Rattle.aud_gen.specs.Shows.{HasAt, IsStep, EndsAt, Stands, ShowsControl}
-use Rattle.aud_gen.proofs.Standing.Places.{has_front, has_back, has_tail, has_moved, has_same, length-statement, length-part, length-handlers}
+use Rattle.aud_gen.proofs.Standing.Places.{has_front, has_back, has_moved, has_all, main_at, body_at, length-statement}
 
 -- the line of a step says what it is and where its exceptions go
 pub record First (s : Statement) (place next : ℕ) (a : Around) : Type 0 where
@@ -23,32 +23,7 @@ pub record First (s : Statement) (place next : ℕ) (a : Around) : Type 0 where
 pub first : (s : Statement) (place next : ℕ) (a : Around) → IsStep s → First s place next a
 first (sequence x y) place next a is = absurd is
 first (plain_loop x) place next a is = absurd is
-first (declare pos e) place next a is = record { ways = _; bodies = _; out = _; more = _; is = refl }
-first (declare_array pos t n) place next a is = record { ways = _; bodies = _; out = _; more = _; is = refl }
-first (declare_tasks pos ts) place next a is = record { ways = _; bodies = _; out = _; more = _; is = refl }
-first (declare_object pos n es) place next a is = record { ways = _; bodies = _; out = _; more = _; is = refl }
-first (activated pos) place next a is = record { ways = _; bodies = _; out = _; more = _; is = refl }
-first (activate pos) place next a is = record { ways = _; bodies = _; out = _; more = _; is = refl }
-first (null pos) place next a is = record { ways = _; bodies = _; out = _; more = _; is = refl }
-first (assign pos r e) place next a is = record { ways = _; bodies = _; out = _; more = _; is = refl }
-first (put pos t) place next a is = record { ways = _; bodies = _; out = _; more = _; is = refl }
-first (if_then pos c x p) place next a is = record { ways = _; bodies = _; out = _; more = _; is = refl }
-first (while_loop pos c x) place next a is = record { ways = _; bodies = _; out = _; more = _; is = refl }
-first (for_loop f x y b) place next a is = record { ways = _; bodies = _; out = _; more = _; is = refl }
-first (exit pos n e) place next a is = record { ways = _; bodies = _; out = _; more = _; is = refl }
-first (return pos) place next a is = record { ways = _; bodies = _; out = _; more = _; is = refl }
-first (return_value pos e) place next a is = record { ways = _; bodies = _; out = _; more = _; is = refl }
-first (raising pos x) place next a is = record { ways = _; bodies = _; out = _; more = _; is = refl }
-first (raising_again pos) place next a is = record { ways = _; bodies = _; out = _; more = _; is = refl }
-first (block pos n b) place next a is = record { ways = _; bodies = _; out = _; more = _; is = refl }
-first (procedure_call pos c) place next a is = record { ways = _; bodies = _; out = _; more = _; is = refl }
-first (own_entry_call pos es f) place next a is = record { ways = _; bodies = _; out = _; more = _; is = refl }
-first (operation_call pos v c) place next a is = record { ways = _; bodies = _; out = _; more = _; is = refl }
-first (entry_call pos c p q) place next a is = record { ways = _; bodies = _; out = _; more = _; is = refl }
-first (delay pos e) place next a is = record { ways = _; bodies = _; out = _; more = _; is = refl }
-first (accept pos n d) place next a is = record { ways = _; bodies = _; out = _; more = _; is = refl }
-first (select pos offered p) place next a is = record { ways = _; bodies = _; out = _; more = _; is = refl }
-first (abort pos ns) place next a is = record { ways = _; bodies = _; out = _; more = _; is = refl }
+first s place next a is = record { ways = _; bodies = _; out = _; more = _; is = refl }
 
 module _ (code : Code) where
   abbrev pub at_place : ℕ → List ℕ → Spot
@@ -71,45 +46,13 @@ module _ (code : Code) where
         let cy = statement_code y middle next around in
         enters x around place middle (Do y ∷ rest) (has_front code.lines place cx cy has) (next, has_back code.lines place size cx cy (length-statement x place middle around) has, st)
     enters (plain_loop x) around place next rest has st = enters x (in_loop next around) place place (InLoop (plain_loop x) ∷ rest) has (next, around, refl, has, st)
-    enters (declare pos e) around place next rest has st = comes_first (declare pos e) around place next rest tt has st
-    enters (declare_array pos t n) around place next rest has st = comes_first (declare_array pos t n) around place next rest tt has st
-    enters (declare_tasks pos ts) around place next rest has st = comes_first (declare_tasks pos ts) around place next rest tt has st
-    enters (declare_object pos n es) around place next rest has st = comes_first (declare_object pos n es) around place next rest tt has st
-    enters (activated pos) around place next rest has st = comes_first (activated pos) around place next rest tt has st
-    enters (activate pos) around place next rest has st = comes_first (activate pos) around place next rest tt has st
-    enters (null pos) around place next rest has st = comes_first (null pos) around place next rest tt has st
-    enters (assign pos r e) around place next rest has st = comes_first (assign pos r e) around place next rest tt has st
-    enters (put pos t) around place next rest has st = comes_first (put pos t) around place next rest tt has st
-    enters (if_then pos c x p) around place next rest has st = comes_first (if_then pos c x p) around place next rest tt has st
-    enters (while_loop pos c x) around place next rest has st = comes_first (while_loop pos c x) around place next rest tt has st
-    enters (for_loop f x y b) around place next rest has st = comes_first (for_loop f x y b) around place next rest tt has st
-    enters (exit pos n e) around place next rest has st = comes_first (exit pos n e) around place next rest tt has st
-    enters (return pos) around place next rest has st = comes_first (return pos) around place next rest tt has st
-    enters (return_value pos e) around place next rest has st = comes_first (return_value pos e) around place next rest tt has st
-    enters (raising pos x) around place next rest has st = comes_first (raising pos x) around place next rest tt has st
-    enters (raising_again pos) around place next rest has st = comes_first (raising_again pos) around place next rest tt has st
-    enters (block pos n b) around place next rest has st = comes_first (block pos n b) around place next rest tt has st
-    enters (procedure_call pos c) around place next rest has st = comes_first (procedure_call pos c) around place next rest tt has st
-    enters (own_entry_call pos es f) around place next rest has st = comes_first (own_entry_call pos es f) around place next rest tt has st
-    enters (operation_call pos v c) around place next rest has st = comes_first (operation_call pos v c) around place next rest tt has st
-    enters (entry_call pos c p q) around place next rest has st = comes_first (entry_call pos c p q) around place next rest tt has st
-    enters (delay pos e) around place next rest has st = comes_first (delay pos e) around place next rest tt has st
-    enters (accept pos n d) around place next rest has st = comes_first (accept pos n d) around place next rest tt has st
-    enters (select pos offered p) around place next rest has st = comes_first (select pos offered p) around place next rest tt has st
-    enters (abort pos ns) around place next rest has st = comes_first (abort pos ns) around place next rest tt has st
+    enters s around place next rest has st = comes_first s around place next rest tt has st
 
     -- the statements of a construct, whose end stands behind them
     pub main_stands : (c : Construct) (s : Statement) (h : Handlers) (end : Pos) (around : Around) (place next out : ℕ) (rest : List Item) → HasAt code.lines place (main_code c s h end place next out around) → EndsAt c (λ a p rs. Stands code a p rs rest) code end around.exits around.back (place + main_size s h (ways_count around)) returns rest → ShowsControl code (at_place place returns) (entered s (Ends c h end ∷ rest))
     main_stands c s h end around place next out rest has ends =
-        let e = ways_count around in
-        let size = statement_size s e in
-        let guard = place + size in
-        let last = place + main_size s h e in
-        let cs = statement_code s place last (around_out guard around) in
-        let ch = handlers_code h (suc guard) last (around_out last around) in
-        let g = guard_line h end (suc guard) last e in
-        let hs : HasAt code.lines guard (g ∷ ch) = has_front code.lines guard (g ∷ ch) (end_line c end next out ∷ []) (has_back code.lines place size cs (g ∷ (ch ++ end_line c end next out ∷ [])) (length-statement s place last (around_out guard around)) has) in
-        enters s (around_out guard around) place last (Ends c h end ∷ rest) (has_front code.lines place cs (g ∷ (ch ++ end_line c end next out ∷ [])) has) (inr hs, ends)
+        let it = main_at code.lines c s h end place next out around [] (has_all code.lines place _ has) in
+        enters s _ place _ (Ends c h end ∷ rest) it.statements (inr it.guarding, ends)
 
     -- what is no step is passed
     pub resumes : (items : List Item) (around : Around) (place : ℕ) → Stands code around place returns items → ShowsControl code (at_place place returns) (resumed items)
@@ -151,25 +94,7 @@ module _ (code : Code) where
 
   -- the end of a construct, and what stands behind it
   pub has_end : (c : Construct) (d : Part) (begin : Pos) (s : Statement) (h : Handlers) (end : Pos) (place next out : ℕ) (a : Around) (more : List Line) → HasAt code.lines place (body_code c (body d begin s h end) place next out a ++ more) → HasAt code.lines (end_place (body d begin s h end) place (ways_count a)) (end_line c end next out ∷ more)
-  has_end c d begin s h end place next out a more has =
-      let e = ways_count a in
-      let middle = place + part_size d e in
-      let guard = middle + statement_size s e in
-      let last = middle + main_size s h e in
-      let cd = part_code d place middle (around_out last a) in
-      let cs = statement_code s middle last (around_out guard a) in
-      let ch = handlers_code h (suc guard) last (around_out last a) in
-      let g = guard_line h end (suc guard) last e in
-      let l = end_line c end next out in
-      let one = has_same code.lines place _ _ (append_assoc cd (cs ++ (g ∷ (ch ++ l ∷ []))) more) has in
-      let two = has_back code.lines place (part_size d e) cd ((cs ++ (g ∷ (ch ++ l ∷ []))) ++ more) (length-part d place middle (around_out last a)) one in
-      let three = has_same code.lines middle _ _ (append_assoc cs (g ∷ (ch ++ l ∷ [])) more) two in
-      let four = has_back code.lines middle (statement_size s e) cs (g ∷ ((ch ++ l ∷ []) ++ more)) (length-statement s middle last (around_out guard a)) three in
-      let five = has_tail code.lines guard g ((ch ++ l ∷ []) ++ more) four in
-      let six = has_same code.lines (suc guard) _ _ (append_assoc ch (l ∷ []) more) five in
-      let seven = has_back code.lines (suc guard) (handlers_size h e) ch (l ∷ more) (length-handlers h (suc guard) last (around_out last a)) six in
-      let same : suc guard + handlers_size h e ≡ last = omega arith in
-      has_moved code.lines (suc guard + handlers_size h e) last (l ∷ more) same seven
+  has_end c d begin s h end place next out a more has = let it = body_at code.lines c d begin s h end place next out a more has in it.main.ended
 
   module _ (returns : List ℕ) where
     -- what an accept does
@@ -178,5 +103,4 @@ module _ (code : Code) where
     doing_stands (with_do n (body d begin s h end)) outer place next rest has st =
         let b = body d begin s h end in
         let inner = in_call (end_place b place 1) in
-        let all = has_same code.lines place _ _ (sym (append-nil (body_code construct.Accept b place next outer.out inner))) has in
-        body_stands returns construct.Accept b inner place next outer.out rest has (next, outer, refl, refl, has_end construct.Accept d begin s h end place next outer.out inner [] all, st)
+        body_stands returns construct.Accept b inner place next outer.out rest has (next, outer, refl, refl, has_end construct.Accept d begin s h end place next outer.out inner [] (has_all code.lines place _ has), st)

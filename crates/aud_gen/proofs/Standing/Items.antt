@@ -1,7 +1,7 @@
 -- What is read and ordered at each item.
-use Rattle.std.proofs.Common.{◌≡◌, ℕ, zero, suc, ◌+◌, List, [], ◌∷◌, ◌++◌, refl, sym, ap, ◌∙◌, subst, None, false}
+use Rattle.std.proofs.Common.{◌≡◌, ℕ, zero, suc, List, [], ◌∷◌, refl, sym, ap, ◌∙◌, subst, None, false}
 use Rattle.aud_text.specs.declared.place.Pos.{Pos}
-use Rattle.aud_typed.specs.Tree.{IntegerExpression, For, Statement, sequence, declare, declare_array, declare_tasks, declare_object, activated, activate, null, assign, put, if_then, plain_loop, while_loop, for_loop, exit, return, return_value, raising, raising_again, block, procedure_call, own_entry_call, operation_call, entry_call, delay, accept, select, abort, Handlers, Program}
+use Rattle.aud_typed.specs.Tree.{IntegerExpression, For, Statement, sequence, plain_loop, for_loop, accept, select, Handlers, Program}
 use Rattle.aud_meaning.specs.declared.state.Construct.{Construct}
 use Rattle.aud_meaning.specs.declared.state.Construct.TheVariants as construct
 use Rattle.aud_meaning.specs.Configuration.{Item, Do, InLoop, InFor, Begin, Ends, Leaving}
@@ -9,43 +9,17 @@ use Rattle.aud_meaning.specs.Evaluation.{Sight}
 use Rattle.aud_meaning.specs.Control.{Scene, next_of_loop}
 use Rattle.aud_meaning.specs.Items.{entered, resumed, doing_by, ended, takes, takes_next, accepts, accepts_by, accepts_offer, offer_at, place, nowhere, next_at, loops_out, out_from}
 use Rattle.aud_meaning.specs.Statements.{asked_statement, next_asked, asked_item, coming_item}
-use Rattle.aud_gen.specs.Layout.{continues, asked_by, coming_by, Line, Around, in_for, ways_count, offered_size, end_line, statement_code, part_code, offered_code, Code, line_at, back_to, ended_by}
+use Rattle.aud_gen.specs.Layout.{continues, asked_by, coming_by, Line, Around, in_for, end_line, statement_code, offered_code, Code, line_at, back_to, ended_by}
 use Rattle.aud_code.specs.Places.{Way}
 use Rattle.aud_gen.specs.Shows.{HasAt, IsStep, IsSettled, IsFor, Callers, EndsAt, Stands, ShowsControl}
 use Rattle.aud_gen.proofs.Standing.Places.{has_front, has_tail, line_is}
-use Rattle.aud_gen.proofs.Standing.Orders.{step_line, Leads, offers_do, takes_do}
+use Rattle.aud_gen.proofs.Standing.Orders.{step_line, Leads, offers, takes_do}
 use Rattle.aud_gen.proofs.Standing.Control.{first, at_place, shown_none, enters, resumes, doing_stands}
 
 -- the end of a for loop's statements is that of a for loop
 pub for_by : (P : Statement → Type 0) → ((f : For) (x y : IntegerExpression) (b : Statement) → P (for_loop f x y b)) → (s : Statement) → IsFor s → P s
-for_by P go (sequence x y) is = absurd is
-for_by P go (plain_loop x) is = absurd is
-for_by P go (declare pos e) is = absurd is
-for_by P go (declare_array pos t n) is = absurd is
-for_by P go (declare_tasks pos ts) is = absurd is
-for_by P go (declare_object pos n es) is = absurd is
-for_by P go (activated pos) is = absurd is
-for_by P go (activate pos) is = absurd is
-for_by P go (null pos) is = absurd is
-for_by P go (assign pos r e) is = absurd is
-for_by P go (put pos t) is = absurd is
-for_by P go (if_then pos c x p) is = absurd is
-for_by P go (while_loop pos c x) is = absurd is
 for_by P go (for_loop f x y b) is = go f x y b
-for_by P go (exit pos n e) is = absurd is
-for_by P go (return pos) is = absurd is
-for_by P go (return_value pos e) is = absurd is
-for_by P go (raising pos x) is = absurd is
-for_by P go (raising_again pos) is = absurd is
-for_by P go (block pos n b) is = absurd is
-for_by P go (procedure_call pos c) is = absurd is
-for_by P go (own_entry_call pos es f) is = absurd is
-for_by P go (operation_call pos v c) is = absurd is
-for_by P go (entry_call pos c p q) is = absurd is
-for_by P go (delay pos e) is = absurd is
-for_by P go (accept pos m d) is = absurd is
-for_by P go (select pos offered p) is = absurd is
-for_by P go (abort pos ns) is = absurd is
+for_by P go s is = absurd is
 
 abbrev pub no_for : For
 no_for = record { at = nowhere; next_at = nowhere; region = 0; backward = false }
@@ -106,39 +80,12 @@ module _ (code : Code) where
     accepts_do : (s : Statement) (around : Around) (place next : ℕ) (rest : List Item) → IsStep s → HasAt code.lines place (statement_code s place next around) → Stands code around next returns rest → (k : ℕ) → Leads code returns place (line_at code place).bodies k (accepts_by s k rest)
     accepts_do (sequence x y) around place next rest is has st k = absurd is
     accepts_do (plain_loop x) around place next rest is has st k = absurd is
-    accepts_do (declare pos e) around place next rest is has st k = with_line (λ l. Leads code returns place l.bodies k (Do (declare pos e) ∷ rest)) place _ (line_is code place _ _ has) (record { around = around; stands = (next, has, st); settled = tt })
-    accepts_do (declare_array pos t n) around place next rest is has st k = with_line (λ l. Leads code returns place l.bodies k (Do (declare_array pos t n) ∷ rest)) place _ (line_is code place _ _ has) (record { around = around; stands = (next, has, st); settled = tt })
-    accepts_do (declare_tasks pos ts) around place next rest is has st k = with_line (λ l. Leads code returns place l.bodies k (Do (declare_tasks pos ts) ∷ rest)) place _ (line_is code place _ _ has) (record { around = around; stands = (next, has, st); settled = tt })
-    accepts_do (declare_object pos n es) around place next rest is has st k = with_line (λ l. Leads code returns place l.bodies k (Do (declare_object pos n es) ∷ rest)) place _ (line_is code place _ _ has) (record { around = around; stands = (next, has, st); settled = tt })
-    accepts_do (activated pos) around place next rest is has st k = with_line (λ l. Leads code returns place l.bodies k (Do (activated pos) ∷ rest)) place _ (line_is code place _ _ has) (record { around = around; stands = (next, has, st); settled = tt })
-    accepts_do (activate pos) around place next rest is has st k = with_line (λ l. Leads code returns place l.bodies k (Do (activate pos) ∷ rest)) place _ (line_is code place _ _ has) (record { around = around; stands = (next, has, st); settled = tt })
-    accepts_do (null pos) around place next rest is has st k = with_line (λ l. Leads code returns place l.bodies k (Do (null pos) ∷ rest)) place _ (line_is code place _ _ has) (record { around = around; stands = (next, has, st); settled = tt })
-    accepts_do (assign pos r e) around place next rest is has st k = with_line (λ l. Leads code returns place l.bodies k (Do (assign pos r e) ∷ rest)) place _ (line_is code place _ _ has) (record { around = around; stands = (next, has, st); settled = tt })
-    accepts_do (put pos t) around place next rest is has st k = with_line (λ l. Leads code returns place l.bodies k (Do (put pos t) ∷ rest)) place _ (line_is code place _ _ has) (record { around = around; stands = (next, has, st); settled = tt })
-    accepts_do (if_then pos c x p) around place next rest is has st k = with_line (λ l. Leads code returns place l.bodies k (Do (if_then pos c x p) ∷ rest)) place _ (line_is code place _ _ has) (record { around = around; stands = (next, has, st); settled = tt })
-    accepts_do (while_loop pos c x) around place next rest is has st k = with_line (λ l. Leads code returns place l.bodies k (Do (while_loop pos c x) ∷ rest)) place _ (line_is code place _ _ has) (record { around = around; stands = (next, has, st); settled = tt })
-    accepts_do (for_loop f x y b) around place next rest is has st k = with_line (λ l. Leads code returns place l.bodies k (Do (for_loop f x y b) ∷ rest)) place _ (line_is code place _ _ has) (record { around = around; stands = (next, has, st); settled = tt })
-    accepts_do (exit pos n e) around place next rest is has st k = with_line (λ l. Leads code returns place l.bodies k (Do (exit pos n e) ∷ rest)) place _ (line_is code place _ _ has) (record { around = around; stands = (next, has, st); settled = tt })
-    accepts_do (return pos) around place next rest is has st k = with_line (λ l. Leads code returns place l.bodies k (Do (return pos) ∷ rest)) place _ (line_is code place _ _ has) (record { around = around; stands = (next, has, st); settled = tt })
-    accepts_do (return_value pos e) around place next rest is has st k = with_line (λ l. Leads code returns place l.bodies k (Do (return_value pos e) ∷ rest)) place _ (line_is code place _ _ has) (record { around = around; stands = (next, has, st); settled = tt })
-    accepts_do (raising pos x) around place next rest is has st k = with_line (λ l. Leads code returns place l.bodies k (Do (raising pos x) ∷ rest)) place _ (line_is code place _ _ has) (record { around = around; stands = (next, has, st); settled = tt })
-    accepts_do (raising_again pos) around place next rest is has st k = with_line (λ l. Leads code returns place l.bodies k (Do (raising_again pos) ∷ rest)) place _ (line_is code place _ _ has) (record { around = around; stands = (next, has, st); settled = tt })
-    accepts_do (block pos n b) around place next rest is has st k = with_line (λ l. Leads code returns place l.bodies k (Do (block pos n b) ∷ rest)) place _ (line_is code place _ _ has) (record { around = around; stands = (next, has, st); settled = tt })
-    accepts_do (procedure_call pos c) around place next rest is has st k = with_line (λ l. Leads code returns place l.bodies k (Do (procedure_call pos c) ∷ rest)) place _ (line_is code place _ _ has) (record { around = around; stands = (next, has, st); settled = tt })
-    accepts_do (own_entry_call pos es f) around place next rest is has st k = with_line (λ l. Leads code returns place l.bodies k (Do (own_entry_call pos es f) ∷ rest)) place _ (line_is code place _ _ has) (record { around = around; stands = (next, has, st); settled = tt })
-    accepts_do (operation_call pos v c) around place next rest is has st k = with_line (λ l. Leads code returns place l.bodies k (Do (operation_call pos v c) ∷ rest)) place _ (line_is code place _ _ has) (record { around = around; stands = (next, has, st); settled = tt })
-    accepts_do (entry_call pos c p q) around place next rest is has st k = with_line (λ l. Leads code returns place l.bodies k (Do (entry_call pos c p q) ∷ rest)) place _ (line_is code place _ _ has) (record { around = around; stands = (next, has, st); settled = tt })
-    accepts_do (delay pos e) around place next rest is has st k = with_line (λ l. Leads code returns place l.bodies k (Do (delay pos e) ∷ rest)) place _ (line_is code place _ _ has) (record { around = around; stands = (next, has, st); settled = tt })
     accepts_do (accept pos m d) around place next rest is has st zero = with_line (λ l. Leads code returns place l.bodies zero (doing_by d rest)) place _ (line_is code place _ _ has) (doing_stands code returns d around (suc place) next rest (has_tail code.lines place _ _ has) st)
-    accepts_do (accept pos m d) around place next rest is has st (suc k) = with_line (λ l. Leads code returns place l.bodies (suc k) (Do (accept pos m d) ∷ rest)) place _ (line_is code place _ _ has) (record { around = around; stands = (next, has, st); settled = tt })
-    accepts_do (select pos offered p) around place next rest is has st zero = with_line (λ l. Leads code returns place l.bodies zero (Do (select pos offered p) ∷ rest)) place _ (line_is code place _ _ has) (record { around = around; stands = (next, has, st); settled = tt })
     accepts_do (select pos offered p) around place next rest is has st (suc k) =
-        let second = suc place + offered_size offered (ways_count around) in
-        let co = offered_code offered (suc place) next around in
-        let cp = part_code p second next around in
         let all : ShowsControl code (at_place code place returns) (Do (select pos offered p) ∷ rest) = record { around = around; stands = (next, has, st); settled = tt } in
-        with_line (λ l. Leads code returns place l.bodies (suc k) (accepts_offer (offer_at offered k) (select pos offered p) rest)) place _ (line_is code place _ _ has) (offers_do code returns offered (select pos offered p) around place (suc place) next rest all (has_front code.lines (suc place) co cp (has_tail code.lines place _ (co ++ cp) has)) st k)
-    accepts_do (abort pos ns) around place next rest is has st k = with_line (λ l. Leads code returns place l.bodies k (Do (abort pos ns) ∷ rest)) place _ (line_is code place _ _ has) (record { around = around; stands = (next, has, st); settled = tt })
+        let it = offers code returns offered (select pos offered p) around place (suc place) next rest all (has_front code.lines (suc place) (offered_code offered (suc place) next around) _ (has_tail code.lines place _ _ has)) st k in
+        with_line (λ l. Leads code returns place l.bodies (suc k) (accepts_offer (offer_at offered k) (select pos offered p) rest)) place _ (line_is code place _ _ has) it.1
+    accepts_do s around place next rest is has st k = with_line (λ l. Leads code returns place l.bodies k (Do s ∷ rest)) place _ (line_is code place _ _ has) (record { around = around; stands = (next, has, st); settled = tt })
 
     pub accepts_at : (items : List Item) (around : Around) (place : ℕ) → Stands code around place returns items → IsSettled items → (n : ℕ) → Leads code returns place (line_at code place).bodies n (accepts n items)
     accepts_at [] around place st is n = with_line (λ l. Leads code returns place l.bodies n []) place _ st.0 (record { around = around; stands = st; settled = tt })

@@ -1,11 +1,11 @@
 -- How much the lines of each part count together, where a statement's own line counts by the statement and every other is one.
 use Rattle.std.proofs.Common.{◌≡◌, ℕ, suc, ◌+◌, List, [], ◌∷◌, ◌++◌, length, map, refl, ap, ◌∙◌, arith, length-append}
 use Rattle.aud_text.specs.declared.place.Pos.{Pos}
-use Rattle.aud_typed.specs.Tree.{Statement, sequence, declare, declare_array, declare_tasks, declare_object, activated, activate, null, assign, put, if_then, plain_loop, while_loop, for_loop, exit, return, return_value, raising, raising_again, block, procedure_call, own_entry_call, operation_call, entry_call, delay, accept, select, abort, Part, nothing, some, Handlers, no_handlers, handler, Body, body, Doing, without_do, with_do, Alternatives, no_alternatives, accepting, delaying, terminating}
+use Rattle.aud_typed.specs.Tree.{Statement, sequence, if_then, plain_loop, while_loop, for_loop, block, entry_call, accept, select, Part, nothing, some, Handlers, no_handlers, handler, Body, body, Doing, without_do, with_do, Alternatives, no_alternatives, accepting, delaying, terminating}
 use Rattle.aud_meaning.specs.declared.state.Construct.{Construct}
 use Rattle.aud_meaning.specs.declared.state.Construct.TheVariants as construct
 use Rattle.aud_code.specs.Places.{Way}
-use Rattle.aud_gen.specs.Layout.{What, does, continues, guards, ends, leaves, Line, Around, in_loop, in_for, in_block, in_call, around_out, ways_count, statement_size, part_size, main_size, doing_size, offered_size, end_place, statement_size_by, part_size_by, handlers_size_by, body_size_by, doing_size_by, offered_size_by, end_place_by, one_more, stubs, stub_ways, stubs_of, end_line, guard_line, statement_code, part_code, part_place, handlers_code, body_code, doing_code, offered_code}
+use Rattle.aud_gen.specs.Layout.{What, does, continues, guards, ends, leaves, Line, Around, in_loop, in_for, in_block, in_call, around_out, ways_count, statement_size, part_size, main_size, doing_size, offered_size, end_place, statement_size_by, part_size_by, handlers_size_by, body_size_by, doing_size_by, offered_size_by, end_place_by, one_more, stubs, stub_ways, stubs_of, statement_code, part_code, part_place, handlers_code, body_code, doing_code, offered_code}
 
 -- behind the end of a body is the place behind the body
 pub last_is : (behind : Statement → ℕ → ℕ) (b : Body) (at e : ℕ) → suc (end_place_by behind b at e) ≡ at + body_size_by behind b e
@@ -50,101 +50,79 @@ module _ (behind : Statement → ℕ → ℕ) (adds : (s : Statement) (m n : ℕ
   total-append [] b = omega arith
   total-append (l ∷ ls) b = ap (counted l.what) (total-append ls b) ∙ counted_more l.what (total ls) (total b)
 
-  total_two : (a b : List Line) (m n : ℕ) → total a ≡ m → total b ≡ n → total (a ++ b) ≡ m + n
-  total_two a b m n ha hb = omega (arith, total-append a b)
+  -- these lines count so much together
+  pub record Total (lines : List Line) (n : ℕ) : Type 0 where
+    pub is : total lines ≡ n
 
-  total_stubs : (ws : List Way) (end : Pos) (at : ℕ) → total (stubs ws end at) ≡ length ws
-  total_stubs [] end at = refl
-  total_stubs (w ∷ ws) end at = ap suc (total_stubs ws end (suc at))
+  no_lines : Total [] 0
+  no_lines = record { is = refl }
 
-  total_stubs_of : (b : Body) (ws : List Way) (w : Way) (at : ℕ) → total (stubs_of b (ws ++ w ∷ []) at) ≡ suc (length ws)
-  total_stubs_of (body d begin s h end) ws w at = let n = length-append ws (w ∷ []) in let k = total_stubs (ws ++ w ∷ []) end at in omega (arith, n, k)
+  both : {a b : List Line} {m n : ℕ} → Total a m → Total b n → Total (a ++ b) (m + n)
+  both {a} {b} h k = let e = h.is in let f = k.is in record { is = omega (arith, e, f, total-append a b) }
+
+  -- a line, and what it and the others count
+  one_and : (l : Line) {ls : List Line} {n : ℕ} → Total ls n → Total (l ∷ ls) (counted l.what n)
+  one_and l h = record { is = ap (counted l.what) h.is }
+
+  same : {ls : List Line} {m n : ℕ} → Total ls m → m ≡ n → Total ls n
+  same h e = record { is = h.is ∙ e }
+
+  total_stubs : (ws : List Way) (end : Pos) (at : ℕ) → Total (stubs ws end at) (length ws)
+  total_stubs [] end at = no_lines
+  total_stubs (w ∷ ws) end at = one_and _ (total_stubs ws end (suc at))
+
+  total_stubs_of : (b : Body) (ws : List Way) (w : Way) (at : ℕ) → Total (stubs_of b (ws ++ w ∷ []) at) (suc (length ws))
+  total_stubs_of (body d begin s h end) ws w at = same (total_stubs (ws ++ w ∷ []) end at) (let n = length-append ws (w ∷ []) in omega (arith, n))
 
   mutual
-    pub total-statement : (s : Statement) (at next : ℕ) (a : Around) → total (statement_code s at next a) ≡ statement_size_by behind s (ways_count a)
+    pub total-statement : (s : Statement) (at next : ℕ) (a : Around) → Total (statement_code s at next a) (statement_size_by behind s (ways_count a))
     total-statement (sequence x y) at next a =
         let middle = at + statement_size x (ways_count a) in
-        total_two (statement_code x at middle a) (statement_code y middle next a) _ _ (total-statement x at middle a) (total-statement y middle next a)
+        both (total-statement x at middle a) (total-statement y middle next a)
     total-statement (plain_loop x) at next a = total-statement x at at (in_loop next a)
     total-statement (if_then pos c x p) at next a =
         let second = suc at + statement_size x (ways_count a) in
-        ap (behind (if_then pos c x p)) (total_two (statement_code x (suc at) next a) (part_code p second next a) _ _ (total-statement x (suc at) next a) (total-part p second next a))
-    total-statement (while_loop pos c x) at next a = ap (behind (while_loop pos c x)) (total-statement x (suc at) at (in_loop next a))
+        one_and _ (both (total-statement x (suc at) next a) (total-part p second next a))
+    total-statement (while_loop pos c x) at next a = one_and _ (total-statement x (suc at) at (in_loop next a))
     total-statement (for_loop f x y s) at next a =
-        ap (λ n. behind (for_loop f x y s) (suc n)) (total-statement s (suc (suc at)) (suc at) (in_for next a) ∙ ap (statement_size_by behind s) (count-for next a))
+        one_and _ (one_and _ (same (total-statement s (suc (suc at)) (suc at) (in_for next a)) (ap (statement_size_by behind s) (count-for next a))))
     total-statement (block pos n b) at next a =
-        let e = ways_count a in
-        let end = end_place b (suc at) e in
+        let end = end_place b (suc at) (ways_count a) in
         let inner = in_block end a in
-        let m = total-body construct.Block b (suc at) next a.out inner ∙ ap (body_size_by behind b) (count-block end a) in
-        let k = total_stubs_of b a.exits a.back (suc end) in
-        ap (behind (block pos n b)) (total_two (body_code construct.Block b (suc at) next a.out inner) (stubs_of b (a.exits ++ a.back ∷ []) (suc end)) _ _ m k)
+        one_and _ (both (same (total-body construct.Block b (suc at) next a.out inner) (ap (body_size_by behind b) (count-block end a))) (total_stubs_of b a.exits a.back (suc end)))
     total-statement (entry_call pos c p q) at next a =
         let second = suc at + part_size p (ways_count a) in
-        ap (behind (entry_call pos c p q)) (total_two (part_code p (suc at) next a) (part_code q second next a) _ _ (total-part p (suc at) next a) (total-part q second next a))
-    total-statement (accept pos n d) at next a = ap (behind (accept pos n d)) (total-doing d (suc at) next a.out)
+        one_and _ (both (total-part p (suc at) next a) (total-part q second next a))
+    total-statement (accept pos n d) at next a = one_and _ (total-doing d (suc at) next a.out)
     total-statement (select pos offered p) at next a =
         let second = suc at + offered_size offered (ways_count a) in
-        ap (behind (select pos offered p)) (total_two (offered_code offered (suc at) next a) (part_code p second next a) _ _ (total-offered offered (suc at) next a) (total-part p second next a))
-    total-statement (declare pos e) at next a = refl
-    total-statement (declare_array pos t n) at next a = refl
-    total-statement (declare_tasks pos ts) at next a = refl
-    total-statement (declare_object pos n es) at next a = refl
-    total-statement (activated pos) at next a = refl
-    total-statement (activate pos) at next a = refl
-    total-statement (null pos) at next a = refl
-    total-statement (assign pos r e) at next a = refl
-    total-statement (put pos t) at next a = refl
-    total-statement (exit pos n e) at next a = refl
-    total-statement (return pos) at next a = refl
-    total-statement (return_value pos e) at next a = refl
-    total-statement (raising pos x) at next a = refl
-    total-statement (raising_again pos) at next a = refl
-    total-statement (procedure_call pos c) at next a = refl
-    total-statement (own_entry_call pos es f) at next a = refl
-    total-statement (operation_call pos v c) at next a = refl
-    total-statement (delay pos e) at next a = refl
-    total-statement (abort pos ns) at next a = refl
+        one_and _ (both (total-offered offered (suc at) next a) (total-part p second next a))
+    total-statement s at next a = one_and _ no_lines
 
-    pub total-part : (p : Part) (at next : ℕ) (a : Around) → total (part_code p at next a) ≡ part_size_by behind p (ways_count a)
-    total-part nothing at next a = refl
+    pub total-part : (p : Part) (at next : ℕ) (a : Around) → Total (part_code p at next a) (part_size_by behind p (ways_count a))
+    total-part nothing at next a = no_lines
     total-part (some s) at next a = total-statement s at next a
 
-    pub total-handlers : (h : Handlers) (at next : ℕ) (a : Around) → total (handlers_code h at next a) ≡ handlers_size_by behind h (ways_count a)
-    total-handlers no_handlers at next a = refl
-    total-handlers (handler others choices s more) at next a =
-        let middle = at + statement_size s (ways_count a) in
-        total_two (statement_code s at next a) (handlers_code more middle next a) _ _ (total-statement s at next a) (total-handlers more middle next a)
+    pub total-handlers : (h : Handlers) (at next : ℕ) (a : Around) → Total (handlers_code h at next a) (handlers_size_by behind h (ways_count a))
+    total-handlers no_handlers at next a = no_lines
+    total-handlers (handler others choices s more) at next a = both (total-statement s at next a) (total-handlers more (at + statement_size s (ways_count a)) next a)
 
-    pub total-body : (c : Construct) (b : Body) (at next out : ℕ) (a : Around) → total (body_code c b at next out a) ≡ body_size_by behind b (ways_count a)
+    pub total-body : (c : Construct) (b : Body) (at next out : ℕ) (a : Around) → Total (body_code c b at next out a) (body_size_by behind b (ways_count a))
     total-body c (body d begin s h end) at next out a =
-        let e = ways_count a in
-        let first = at + part_size d e in
-        let guard = first + statement_size s e in
-        let last = first + main_size s h e in
-        let cd = part_code d at first (around_out last a) in
-        let cs = statement_code s first last (around_out guard a) in
-        let ch = handlers_code h (suc guard) last (around_out last a) in
-        let l = end_line c end next out in
-        let g = guard_line h end (suc guard) last e in
-        let n = total_two ch (l ∷ []) _ 1 (total-handlers h (suc guard) last (around_out last a)) refl in
-        total_two cd (cs ++ (g ∷ (ch ++ l ∷ []))) _ _ (total-part d at first (around_out last a))
-        (total_two cs (g ∷ (ch ++ l ∷ [])) _ _ (total-statement s first last (around_out guard a)) (ap suc n))
+        let first = at + part_size d (ways_count a) in
+        let guard = first + statement_size s (ways_count a) in
+        let last = first + main_size s h (ways_count a) in
+        both (total-part d at first (around_out last a))
+        (both (total-statement s first last (around_out guard a)) (one_and _ (both (total-handlers h (suc guard) last (around_out last a)) (one_and _ no_lines))))
 
-    pub total-doing : (d : Doing) (at next out : ℕ) → total (doing_code d at next out) ≡ doing_size_by behind d
-    total-doing without_do at next out = refl
+    pub total-doing : (d : Doing) (at next out : ℕ) → Total (doing_code d at next out) (doing_size_by behind d)
+    total-doing without_do at next out = no_lines
     total-doing (with_do n b) at next out = total-body construct.Accept b at next out (in_call (end_place b at 1))
 
-    pub total-offered : (o : Alternatives) (at next : ℕ) (a : Around) → total (offered_code o at next a) ≡ offered_size_by behind o (ways_count a)
-    total-offered no_alternatives at next a = refl
-    total-offered (accepting g at n d p more) place next a =
-        let after = place + doing_size d in
-        let later = after + part_size p (ways_count a) in
-        let cd = doing_code d place (part_place p after next) a.out in
-        let cp = part_code p after next a in
-        let cm = offered_code more later next a in
-        total_two cd (cp ++ cm) _ _ (total-doing d place (part_place p after next) a.out) (total_two cp cm _ _ (total-part p after next a) (total-offered more later next a))
-    total-offered (delaying g x p more) at next a =
-        let later = at + part_size p (ways_count a) in
-        total_two (part_code p at next a) (offered_code more later next a) _ _ (total-part p at next a) (total-offered more later next a)
+    pub total-offered : (o : Alternatives) (at next : ℕ) (a : Around) → Total (offered_code o at next a) (offered_size_by behind o (ways_count a))
+    total-offered no_alternatives at next a = no_lines
+    total-offered (accepting g pos n d p more) at next a =
+        let after = at + doing_size d in
+        both (total-doing d at (part_place p after next) a.out) (both (total-part p after next a) (total-offered more (after + part_size p (ways_count a)) next a))
+    total-offered (delaying g x p more) at next a = both (total-part p at next a) (total-offered more (at + part_size p (ways_count a)) next a)
     total-offered (terminating g more) at next a = total-offered more at next a

@@ -2,7 +2,7 @@
 use Rattle.std.proofs.Common.{◌≡◌, ℕ, zero, suc, ◌+◌, List, [], ◌∷◌, ◌++◌, length, inl, refl, sym, ap, ◌∙◌, subst, arith, slice_get, unwrap_or, map, Option, Some, None}
 use Rattle.std.proofs.lemmas.Option.{unwrap_or-slice_get}
 use Rattle.aud_text.specs.declared.place.Pos.{Pos}
-use Rattle.aud_typed.specs.Tree.{Statement, sequence, declare, declare_array, declare_tasks, declare_object, activated, activate, null, assign, put, if_then, plain_loop, while_loop, for_loop, exit, return, return_value, raising, raising_again, block, procedure_call, own_entry_call, operation_call, entry_call, delay, accept, select, abort, no_handlers}
+use Rattle.aud_typed.specs.Tree.{Statement, sequence, plain_loop, exit, return, return_value, no_handlers}
 use Rattle.aud_meaning.specs.declared.state.Construct.{Construct}
 use Rattle.aud_meaning.specs.declared.state.Construct.TheVariants as construct
 use Rattle.aud_meaning.specs.Configuration.{Item, Do, InLoop, InFor, Begin, Ends, Leaving}
@@ -118,18 +118,6 @@ module _ (code : Code) (returns : List ℕ) where
   out_do : (s : Statement) (around : Around) (place next : ℕ) (rest : List Item) → IsStep s → HasAt code.lines place (statement_code s place next around) → Stands code around next returns rest → FoundAt (out_by s rest) (line_at code place).exit
   out_do (sequence x y) around place next rest is has st = absurd is
   out_do (plain_loop x) around place next rest is has st = absurd is
-  out_do (declare pos e) around place next rest is has st = subst (λ l. FoundAt None l.exit) (sym (line_is code place _ _ has)) tt
-  out_do (declare_array pos t n) around place next rest is has st = subst (λ l. FoundAt None l.exit) (sym (line_is code place _ _ has)) tt
-  out_do (declare_tasks pos ts) around place next rest is has st = subst (λ l. FoundAt None l.exit) (sym (line_is code place _ _ has)) tt
-  out_do (declare_object pos n es) around place next rest is has st = subst (λ l. FoundAt None l.exit) (sym (line_is code place _ _ has)) tt
-  out_do (activated pos) around place next rest is has st = subst (λ l. FoundAt None l.exit) (sym (line_is code place _ _ has)) tt
-  out_do (activate pos) around place next rest is has st = subst (λ l. FoundAt None l.exit) (sym (line_is code place _ _ has)) tt
-  out_do (null pos) around place next rest is has st = subst (λ l. FoundAt None l.exit) (sym (line_is code place _ _ has)) tt
-  out_do (assign pos r e) around place next rest is has st = subst (λ l. FoundAt None l.exit) (sym (line_is code place _ _ has)) tt
-  out_do (put pos t) around place next rest is has st = subst (λ l. FoundAt None l.exit) (sym (line_is code place _ _ has)) tt
-  out_do (if_then pos c x p) around place next rest is has st = subst (λ l. FoundAt None l.exit) (sym (line_is code place _ _ has)) tt
-  out_do (while_loop pos c x) around place next rest is has st = subst (λ l. FoundAt None l.exit) (sym (line_is code place _ _ has)) tt
-  out_do (for_loop f x y b) around place next rest is has st = subst (λ l. FoundAt None l.exit) (sym (line_is code place _ _ has)) tt
   out_do (exit pos n e) around place next rest is has st =
       let d : Way = record { to = next; loops = 0 } in
       let h = exit_found (out_of_loop n rest) (slice_get around.exits n) around next rest st (found_in rest n around next st) in
@@ -137,17 +125,7 @@ module _ (code : Code) (returns : List ℕ) where
       subst (λ l. FoundAt (exits_to (out_of_loop n rest) rest) l.exit) (sym (line_is code place _ _ has)) h'
   out_do (return pos) around place next rest is has st = subst (λ l. FoundAt (Some (out_of_call rest)) l.exit) (sym (line_is code place _ _ has)) (call_in rest around next st)
   out_do (return_value pos e) around place next rest is has st = subst (λ l. FoundAt (Some (out_of_call rest)) l.exit) (sym (line_is code place _ _ has)) (call_in rest around next st)
-  out_do (raising pos x) around place next rest is has st = subst (λ l. FoundAt None l.exit) (sym (line_is code place _ _ has)) tt
-  out_do (raising_again pos) around place next rest is has st = subst (λ l. FoundAt None l.exit) (sym (line_is code place _ _ has)) tt
-  out_do (block pos n b) around place next rest is has st = subst (λ l. FoundAt None l.exit) (sym (line_is code place _ _ has)) tt
-  out_do (procedure_call pos c) around place next rest is has st = subst (λ l. FoundAt None l.exit) (sym (line_is code place _ _ has)) tt
-  out_do (own_entry_call pos es f) around place next rest is has st = subst (λ l. FoundAt None l.exit) (sym (line_is code place _ _ has)) tt
-  out_do (operation_call pos v c) around place next rest is has st = subst (λ l. FoundAt None l.exit) (sym (line_is code place _ _ has)) tt
-  out_do (entry_call pos c p q) around place next rest is has st = subst (λ l. FoundAt None l.exit) (sym (line_is code place _ _ has)) tt
-  out_do (delay pos e) around place next rest is has st = subst (λ l. FoundAt None l.exit) (sym (line_is code place _ _ has)) tt
-  out_do (accept pos m d) around place next rest is has st = subst (λ l. FoundAt None l.exit) (sym (line_is code place _ _ has)) tt
-  out_do (select pos offered p) around place next rest is has st = subst (λ l. FoundAt None l.exit) (sym (line_is code place _ _ has)) tt
-  out_do (abort pos ns) around place next rest is has st = subst (λ l. FoundAt None l.exit) (sym (line_is code place _ _ has)) tt
+  out_do s around place next rest is has st = subst (λ l. FoundAt None l.exit) (sym (line_is code place _ _ has)) tt
 
   pub out_found : (items : List Item) (around : Around) (place : ℕ) → Stands code around place returns items → IsSettled items → FoundAt (out_from items) (line_at code place).exit
   out_found [] around place st is = subst (λ l. FoundAt None l.exit) (sym st.0) tt

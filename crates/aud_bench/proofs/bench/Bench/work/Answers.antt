@@ -1,101 +1,68 @@
-use Rattle.std.proofs.Common.{◌≡◌, ◌+◌, ◌<◌, List, length, vec_len, vec_capacity, drop, true, false, sym, ap, ◌∙◌, subst, arith}
+use Rattle.std.proofs.Common.{◌+◌, List, vec_len, vec_capacity, true, sym, subst, arith}
 use Rattle.aud_bench.specs.declared.request.Answer.{Answer}
-use Rattle.aud_bench.specs.Ties.Seen.{Seen, unanswered}
-use Rattle.aud_bench.specs.Ties.Standing.{IsAt, units_done}
-use Rattle.aud_bench.proofs.Benches.{left_is, room, next_request, one_more, refused, goes_on, goes_on_units, is_answered, answered_units}
+use Rattle.aud_bench.specs.Ties.Standing.{IsAt}
+use Rattle.aud_bench.proofs.Benches.{below_is, room, refused, Next, alive, goes_on, goes_on_units, is_answered, answered_units}
 use Rattle.aud_bench.proofs.bench.Bench.work.Goals as goal
+
+-- work changes where it stands, and room may grow; the other clauses of a bench stay
+now_at : {A B C D E A' B' : Type 0} → A' → B' → A × B × C × D × E → A' × B' × C × D × E
+now_at at room old = (at, room, old.2, old.3, old.4)
 
 pub index-request-requires : goal.index-request-requires
 index-request-requires c =
-    let s = c.self.inside in
-    let left = left_is s.limits s.journal.items s.finished s.progress s.answers.items s.spent s.machine c.self.invariant.0 ∙ ap unanswered c.self.view_is in
-    omega (arith, left, c.requires.unanswered, s.journal.ok.0)
+    let below = below_is _ _ _ _ _ _ _ c.self.invariant.0 c.args.self.now c.self.view_is c.requires.unanswered in
+    omega (arith, below)
 
 pub invariant_of-self : goal.invariant_of-self
 invariant_of-self c =
     let s = c.self.inside in
-    let alive : s.spent ≡ false = ap (λ (b : Seen). b.spent) c.self.view_is ∙ c.requires.alive in (
-      subst (λ (told : List Answer). ∥ IsAt s.limits s.journal.items s.finished s.progress told true c.serve.new.machine ∥₁) (sym c.add.ensures.items)
-          (refused s.limits s.journal.items s.finished s.progress s.answers.items s.spent s.machine c.self.invariant.0 alive c.serve.new.machine),
-      omega (arith, c.self.invariant.1, c.add.ensures.capacity),
-      c.self.invariant.2,
-      c.self.invariant.3,
-      c.self.invariant.4,
-    )
+    now_at
+    (subst (λ (told : List Answer). ∥ IsAt s.limits s.journal.items s.finished s.progress told true c.serve.new.machine ∥₁) (sym c.add.ensures.items)
+    (refused _ _ _ _ _ _ _ c.self.invariant.0 c.args.self.now c.self.view_is c.requires.alive c.serve.new.machine))
+    (omega (arith, c.self.invariant.1, c.add.ensures.capacity)) c.self.invariant
 
 pub add-requires : goal.add-requires
 add-requires c =
     let s = c.self.inside in
-    let alive : s.spent ≡ false = ap (λ (b : Seen). b.spent) c.self.view_is ∙ c.requires.alive in
-    room s.limits s.journal.items s.finished s.progress s.answers.items s.spent s.machine c.self.invariant.0 alive (unanswered c.args.self.now) (vec_capacity s.answers) (ap unanswered c.self.view_is) c.requires.unanswered (vec_len s.answers) s.answers.ok.0 c.self.invariant.1
+    room _ _ _ _ _ _ _ c.self.invariant.0 c.args.self.now c.self.view_is c.requires.alive c.requires.unanswered (vec_len s.answers) (vec_capacity s.answers) s.answers.ok.0 c.self.invariant.1
 
 pub add-requires-in-Some : goal.add-requires-in-Some
 add-requires-in-Some c =
     let s = c.self.inside in
-    let alive : s.spent ≡ false = ap (λ (b : Seen). b.spent) c.self.view_is ∙ c.requires.alive in
-    room s.limits s.journal.items s.finished s.progress s.answers.items s.spent s.machine c.self.invariant.0 alive (unanswered c.args.self.now) (vec_capacity s.answers) (ap unanswered c.self.view_is) c.requires.unanswered (vec_len s.answers) s.answers.ok.0 c.self.invariant.1
+    room _ _ _ _ _ _ _ c.self.invariant.0 c.args.self.now c.self.view_is c.requires.alive c.requires.unanswered (vec_len s.answers) (vec_capacity s.answers) s.answers.ok.0 c.self.invariant.1
 
 pub overflow_add-self : goal.overflow_add-self
 overflow_add-self c =
     let s = c.self.inside in
-    let left = left_is s.limits s.journal.items s.finished s.progress s.answers.items s.spent s.machine c.self.invariant.0 ∙ ap unanswered c.self.view_is in
-    omega (arith, left, c.requires.unanswered, s.journal.ok.0, c.self.ranges)
+    let below = below_is _ _ _ _ _ _ _ c.self.invariant.0 c.args.self.now c.self.view_is c.requires.unanswered in
+    omega (arith, below, s.journal.ok.0, c.self.ranges)
 
 pub invariant_of-self-in_default-answer : goal.invariant_of-self-in_default-answer
 invariant_of-self-in_default-answer c =
-    let s = c.self.inside in
-    let r = c.index-request.result.now in
-    let alive : s.spent ≡ false = ap (λ (b : Seen). b.spent) c.self.view_is ∙ c.requires.alive in
-    let left = left_is s.limits s.journal.items s.finished s.progress s.answers.items s.spent s.machine c.self.invariant.0 ∙ ap unanswered c.self.view_is in
-    let below : s.finished < length s.journal.items = omega (arith, left, c.requires.unanswered) in (
-      goes_on s.limits s.journal.items s.finished s.progress s.answers.items s.spent s.machine c.self.invariant.0 r (drop (s.finished + 1) s.journal.items) alive
-          (next_request s.journal.items s.finished r c.index-request.ensures below) c.args.units c.in-Ok.served c.serve.new.machine c.in-Ok.ensures.serves c.in_default-answer.is,
-      c.self.invariant.1,
-      c.self.invariant.2,
-      c.self.invariant.3,
-      c.self.invariant.4,
-    )
+    let at = c.self.invariant.0 in
+    let next : Next _ _ _ _ _ _ _ at c.args.self.now c.index-request.result.now = record { is = c.self.view_is; lives = c.requires.alive; some = c.requires.unanswered; at_hand = c.index-request.ensures } in
+    now_at (goes_on _ _ _ _ _ _ _ at _ _ next c.args.units c.in-Ok.served c.serve.new.machine c.in-Ok.ensures.serves c.in_default-answer.is) c.self.invariant.1 c.self.invariant
 
 pub returns-in_default-answer-clause-works : goal.returns-in_default-answer-clause-works
 returns-in_default-answer-clause-works c =
-    let s = c.self.inside in
-    let r = c.index-request.result.now in
-    let alive : s.spent ≡ false = ap (λ (b : Seen). b.spent) c.self.view_is ∙ c.requires.alive in
-    let left = left_is s.limits s.journal.items s.finished s.progress s.answers.items s.spent s.machine c.self.invariant.0 ∙ ap unanswered c.self.view_is in
-    let below : s.finished < length s.journal.items = omega (arith, left, c.requires.unanswered) in
-    let units : units_done s.limits s.journal.items s.finished s.progress ≡ c.args.self.now.units = ap (λ (b : Seen). b.units) c.self.view_is in
-    let more = goes_on_units s.limits s.journal.items s.finished s.progress s.answers.items s.spent s.machine c.self.invariant.0 r (drop (s.finished + 1) s.journal.items) alive
-    (next_request s.journal.items s.finished r c.index-request.ensures below) c.args.units c.in-Ok.served c.serve.new.machine c.in-Ok.ensures.serves c.in_default-answer.is in
-    (alive, c.in-Ok.ensures.some, c.in-Ok.ensures.within, more ∙ ap (λ n. n + c.in-Ok.served.cost) units)
+    let at = c.self.invariant.0 in
+    let next : Next _ _ _ _ _ _ _ at c.args.self.now c.index-request.result.now = record { is = c.self.view_is; lives = c.requires.alive; some = c.requires.unanswered; at_hand = c.index-request.ensures } in
+    let more = goes_on_units _ _ _ _ _ _ _ at _ _ next c.args.units c.in-Ok.served c.serve.new.machine c.in-Ok.ensures.serves c.in_default-answer.is in
+    (alive _ _ _ _ _ _ _ at _ _ next, c.in-Ok.ensures.some, c.in-Ok.ensures.within, more)
 
 pub invariant_of-self-in-Some : goal.invariant_of-self-in-Some
 invariant_of-self-in-Some c =
     let s = c.self.inside in
-    let r = c.index-request.result.now in
-    let i = s.finished in
-    let alive : s.spent ≡ false = ap (λ (b : Seen). b.spent) c.self.view_is ∙ c.requires.alive in
-    let left = left_is s.limits s.journal.items i s.progress s.answers.items s.spent s.machine c.self.invariant.0 ∙ ap unanswered c.self.view_is in
-    let below : i < length s.journal.items = omega (arith, left, c.requires.unanswered) in (
-      subst (λ (told : List Answer). ∥ IsAt s.limits s.journal.items (i + 1) c.in-Ok.served.progress told s.spent c.serve.new.machine ∥₁) (sym c.add-in-Some.ensures.items)
-          (is_answered s.limits s.journal.items i s.progress s.answers.items s.spent s.machine c.self.invariant.0 r (drop (i + 1) s.journal.items) alive
-          (next_request s.journal.items i r c.index-request.ensures below) c.args.units c.in-Ok.served c.serve.new.machine c.in-Ok.ensures.serves
-          c.in-Some.answer c.in-Some.is (one_more s.journal.items i r c.index-request.ensures below) below),
-      omega (arith, c.self.invariant.1, c.add-in-Some.ensures.capacity),
-      c.self.invariant.2,
-      c.self.invariant.3,
-      c.self.invariant.4,
-    )
+    let at = c.self.invariant.0 in
+    let next : Next _ _ _ _ _ _ _ at c.args.self.now c.index-request.result.now = record { is = c.self.view_is; lives = c.requires.alive; some = c.requires.unanswered; at_hand = c.index-request.ensures } in
+    now_at
+    (subst (λ (told : List Answer). ∥ IsAt s.limits s.journal.items (s.finished + 1) c.in-Ok.served.progress told s.spent c.serve.new.machine ∥₁) (sym c.add-in-Some.ensures.items)
+    (is_answered _ _ _ _ _ _ _ at _ _ next c.args.units c.in-Ok.served c.serve.new.machine c.in-Ok.ensures.serves c.in-Some.answer c.in-Some.is))
+    (omega (arith, c.self.invariant.1, c.add-in-Some.ensures.capacity)) c.self.invariant
 
 pub returns-in-Some-clause-works : goal.returns-in-Some-clause-works
 returns-in-Some-clause-works c =
-    let s = c.self.inside in
-    let r = c.index-request.result.now in
-    let i = s.finished in
-    let alive : s.spent ≡ false = ap (λ (b : Seen). b.spent) c.self.view_is ∙ c.requires.alive in
-    let left = left_is s.limits s.journal.items i s.progress s.answers.items s.spent s.machine c.self.invariant.0 ∙ ap unanswered c.self.view_is in
-    let below : i < length s.journal.items = omega (arith, left, c.requires.unanswered) in
-    let units : units_done s.limits s.journal.items i s.progress ≡ c.args.self.now.units = ap (λ (b : Seen). b.units) c.self.view_is in
-    let more = answered_units s.limits s.journal.items i s.progress s.answers.items s.spent s.machine c.self.invariant.0 r (drop (i + 1) s.journal.items) alive
-    (next_request s.journal.items i r c.index-request.ensures below) c.args.units c.in-Ok.served c.serve.new.machine c.in-Ok.ensures.serves
-    c.in-Some.answer c.in-Some.is (one_more s.journal.items i r c.index-request.ensures below) below in
-    (alive, c.in-Ok.ensures.some, c.in-Ok.ensures.within, more ∙ ap (λ n. n + c.in-Ok.served.cost) units)
+    let at = c.self.invariant.0 in
+    let next : Next _ _ _ _ _ _ _ at c.args.self.now c.index-request.result.now = record { is = c.self.view_is; lives = c.requires.alive; some = c.requires.unanswered; at_hand = c.index-request.ensures } in
+    let more = answered_units _ _ _ _ _ _ _ at _ _ next c.args.units c.in-Ok.served c.serve.new.machine c.in-Ok.ensures.serves c.in-Some.answer c.in-Some.is in
+    (alive _ _ _ _ _ _ _ at _ _ next, c.in-Ok.ensures.some, c.in-Ok.ensures.within, more)
