@@ -32,9 +32,9 @@ module _ {T X Y : Type 0} (all : T → List Y → T) (plain : X → Y) where
       subst Holds (sym (ends s.done) ∙ ap (λ z. all s.done (map plain z)) (sym (drop_all i items h)) ∙ s.left) s.holds
 
 -- what holds where there is a value
-pub on_ok : {T E : Type 0} (r : Result T E) {P : Type 0} → P → OnOk r P
-on_ok (Ok x) h = h
-on_ok (Err e) h = tt
+pub on_ok : {T E : Type 0} (r : Result T E) {P Q : Type 0} → (P → Q) → OnOk r P → OnOk r Q
+on_ok (Ok x) f h = f h
+on_ok (Err e) f h = tt
 
 pub if_ok : {T E : Type 0} (r : Result T E) {P Q : T → Type 0} → ((x : T) → P x → Q x) → IfOk r P → IfOk r Q
 if_ok (Ok x) f h = f x h

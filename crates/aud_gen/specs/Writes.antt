@@ -1,9 +1,9 @@
 -- What is written of the statements and bodies of a program in memory. Its body is left at its end alone.
-use Rattle.std.specs.Prelude.{◌≡◌, ℕ, suc, ◌+◌, List, [], ◌∷◌, ◌++◌, length, None, Bool, if◌then◌else◌, Result, OnOk}
+use Rattle.std.specs.Prelude.{◌≡◌, ℕ, suc, ◌+◌, List, [], ◌∷◌, ◌++◌, length, None, Bool, true, false, if◌then◌else◌, Result, OnOk}
 use Rattle.std.specs.declared.alloc.AllocError.{AllocError}
 use Rattle.aud_text.specs.declared.place.Pos.{Pos}
 use Rattle.aud_typed.specs.Tree as tree
-use Rattle.aud_typed.specs.Tree.{part_of, some, no_handlers, body, if_then, while_loop}
+use Rattle.aud_typed.specs.Tree.{part_of, nothing, some, no_handlers, body, if_then, while_loop}
 use Rattle.aud_typed.specs.declared.program.Connective.{Connective}
 use Rattle.aud_typed.specs.declared.program.Connective.TheVariants.{Logical, AndThen, OrElse}
 use Rattle.aud_typed.specs.declared.program.Arm.{Arm}
@@ -62,6 +62,11 @@ statement_lines s place next around = written (statement_code_by flat_step s pla
 abbrev pub part_lines : tree.Part → (place next : ℕ) → Around → List FlatLine
 part_lines p place next around = written (part_code_by flat_step p place next around)
 
+-- whether there are statements
+abbrev pub is_there : tree.Part → Bool
+is_there nothing = false
+is_there (some s) = true
+
 -- a statement of a list: the last one leads to the place next, another one to what stands behind it
 abbrev pub listed_lines : tree.Statement → Bool → (place next : ℕ) → Around → List FlatLine
 listed_lines s is_last place next around = statement_lines s place (if is_last then next else place + statement_size_by flat_step s (ways_count around)) around
@@ -70,7 +75,7 @@ listed_lines s is_last place next around = statement_lines s place (if is_last t
 abbrev pub arm_lines : Arm → Bool → (place next : ℕ) → Around → List FlatLine
 arm_lines arm more place next around =
     let ss = statements_in arm.statements in
-    let step = if_then arm.at (plain_boolean arm.condition) ss tree.nothing in
+    let step = if_then arm.at (plain_boolean arm.condition) ss nothing in
     let inside = flat_step step place in
     let behind = inside + statement_size_by flat_step ss (ways_count around) in
     step_lines (λ n. n) (line step ((if more then behind else next) ∷ inside ∷ []) [] None around) ++ statement_lines ss inside next around

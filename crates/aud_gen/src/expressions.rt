@@ -118,7 +118,7 @@ impl Writer {
     {
         match t {
             TextExpression::Literal(text) => {
-                let text = text.try_clone(self.alloc)?;
+                let text = text.try_clone(self.alloc())?;
                 self.instruct(Instruction::AppendText(text))
             }
             TextExpression::Image(e) => {

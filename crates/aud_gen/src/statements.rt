@@ -1,11 +1,12 @@
 // The lines of statements.
 
-ghost use Rattle.std.specs.Prelude.{length};
+ghost use Rattle.std.specs.Prelude.{◌≡◌, List, length};
+ghost use Rattle.aud_typed.specs.declared.program.Arm.{Arm as Arms};
 ghost use Rattle.aud_typed.specs.Tree.{part_of};
-ghost use Rattle.aud_typed.specs.Ties.View.{plain_boolean, plain_statement, plain_statements, statements_in, if_in};
+ghost use Rattle.aud_typed.specs.Ties.View.{plain_boolean, plain_statement, plain_statements, statements_in, part_of_arms, if_in};
 ghost use Rattle.aud_code.specs.Places.{Way};
 ghost use Rattle.aud_gen.specs.Layout.{in_loop};
-ghost use Rattle.aud_gen.specs.Writes.{around, statement_lines, part_lines, listed_lines, arm_lines, while_lines, Writes};
+ghost use Rattle.aud_gen.specs.Writes.{around, statement_lines, part_lines, is_there, listed_lines, arm_lines, while_lines, Writes};
 
 use crate::lengths::{boolean_length, statement_length, statements_length, sum};
 use crate::writer::Writer;
@@ -123,12 +124,11 @@ impl Writer {
             (statement_lines (if_in s.now) (length self.old.lines) next
             (around self.old out back)) }
     {
-        let has_else = !s.otherwise.is_empty();
         let mut left = s.others.len();
-        self.write_arm(&s.first, has_else || 0 < left, out, next)?;
+        self.write_arm(&s.first, goes_on(left, &s.otherwise), out, next)?;
         for arm in &s.others {
             left -= 1;
-            self.write_arm(arm, has_else || 0 < left, out, next)?;
+            self.write_arm(arm, goes_on(left, &s.otherwise), out, next)?;
         }
         self.write_list(&s.otherwise, out, next)
     }
@@ -166,9 +166,9 @@ impl Writer {
             (statement_lines (statements_in body.now) (length self.old.lines) again
             (in_loop next (around self.old out back))) }
     {
-        self.exits.push(next)?;
+        self.enter_loop(next)?;
         self.write_statements(body, out, again)?;
-        self.exits.pop();
+        self.leave_loop();
         Ok(())
     }
 
@@ -187,4 +187,12 @@ impl Writer {
         self.write_boolean(condition)?;
         self.end(Ending::While(inside), next, at, out)
     }
+}
+
+// Whether an `if` goes on, with this number of arms and these statements behind `else`.
+fn goes_on(arms: usize, otherwise: &[Statement]) -> bool
+    ensures { (rest : List Arms) → length rest ≡ arms →
+        result ≡ is_there (part_of_arms rest (part_of (plain_statements otherwise.now))) }
+{
+    0 < arms || !otherwise.is_empty()
 }

@@ -1,6 +1,6 @@
 // Code that is being written, line by line.
 
-ghost use Rattle.std.specs.Prelude.{◌≡◌, [], ◌∷◌, length, map, slice_index_or};
+ghost use Rattle.std.specs.Prelude.{◌≡◌, [], ◌∷◌, length, map, drop, OnOk, slice_index_or};
 ghost use Rattle.aud_code.specs.Flat.{instructs, end};
 ghost use Rattle.aud_code.specs.declared.line.Last.TheVariants.{Does};
 ghost use Rattle.aud_code.specs.View.{plain_instruction, plain_line, plain_end};
@@ -15,9 +15,9 @@ use std::marker::Model;
 /// The lines that were written, and the places behind the loops that are under way, the outermost first.
 #[derive(Drop)]
 pub struct Writer {
-    pub(crate) alloc: Global,
-    pub(crate) lines: Vec<Line>,
-    pub(crate) exits: Vec<usize>,
+    alloc: Global,
+    lines: Vec<Line>,
+    exits: Vec<usize>,
 }
 
 impl Model for Writer {
@@ -43,6 +43,10 @@ impl Writer {
             lines: Vec::new(alloc),
             exits: Vec::new(alloc),
         }
+    }
+
+    pub fn alloc(&self) -> Global {
+        self.alloc
     }
 
     /// The place of the next line.
@@ -90,16 +94,30 @@ impl Writer {
         self.write(Line::End(EndLine { last, at, out }))
     }
 
+    /// A loop begins, whose exits lead to this place.
+    pub fn enter_loop(&mut self, next: usize) -> Result<(), AllocError>
+        ensures { OnOk result
+            (self.new ≡ record self.old { exits = way_to next ∷ self.old.exits }) }
+    {
+        self.exits.push(next)?;
+        Ok(())
+    }
+
+    /// The innermost loop ends.
+    pub fn leave_loop(&mut self)
+        ensures { self.new ≡ record self.old { exits = drop 1 self.old.exits } }
+    {
+        self.exits.pop();
+    }
+
     /// Where an exit leads out of the loop that is this number of loops further out than the innermost one; `next` where
     /// there is none.
     pub fn exit(&self, further: usize, next: usize) -> usize
         ensures { way_to result ≡ slice_index_or self.now.exits further (way_to next) }
     {
-        self.exits
-            .iter()
-            .rev()
-            .nth(further)
-            .copied()
-            .unwrap_or(next)
+        match self.exits.iter().rev().nth(further) {
+            Some(place) => *place,
+            None => next,
+        }
     }
 }

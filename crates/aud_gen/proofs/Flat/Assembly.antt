@@ -17,7 +17,7 @@ its_end : (is : List Instruction) (l : EndLine) (rest : List FlatLine) (n : ℕ)
 its_end [] l rest n = refl
 its_end (i ∷ is) l rest n = its_end is l rest n
 
-its_length : (is : List Instruction) (l : EndLine) → length (map instructs is ++ end l ∷ []) ≡ suc (length is)
+pub its_length : (is : List Instruction) (l : EndLine) → length (map instructs is ++ end l ∷ []) ≡ suc (length is)
 its_length [] l = refl
 its_length (i ∷ is) l = ap suc (its_length is l)
 

@@ -3,7 +3,7 @@ use Rattle.std.proofs.Common.{◌≡◌, ℕ, zero, suc, ◌+◌, List, [], ◌�
 use Rattle.aud_text.specs.declared.place.Pos.{Pos}
 use Rattle.aud_typed.specs.Tree.{Statement, Part, Handlers, Body, body, Doing, Alternatives}
 use Rattle.aud_meaning.specs.declared.state.Construct.{Construct}
-use Rattle.aud_gen.specs.Layout.{part_place, What, does, continues, guards, ends, leaves, Line, Around, ways_count, around_out, statement_size, part_size, handlers_size, body_size, doing_size, offered_size, main_size, end_place, statement_code, part_code, handlers_code, body_code, doing_code, offered_code, statement_size_by, part_size_by, handlers_size_by, body_size_by, doing_size_by, offered_size_by, main_size_by, end_place_by}
+use Rattle.aud_gen.specs.Layout.{one_line, part_place, What, does, continues, guards, ends, leaves, Line, Around, ways_count, around_out, statement_size, part_size, handlers_size, body_size, doing_size, offered_size, main_size, end_place, statement_code, part_code, handlers_code, body_code, doing_code, offered_code, statement_size_by, part_size_by, handlers_size_by, body_size_by, doing_size_by, offered_size_by, main_size_by, end_place_by}
 use Rattle.aud_gen.specs.Assembly.{instructions_by, line_size, offset}
 use Rattle.aud_gen.specs.Written.{flat_step}
 use Rattle.aud_gen.specs.Shows.{HasAt}
@@ -17,11 +17,11 @@ next_offset lines zero l rest e = subst (λ ls. offset ls (suc zero) ≡ offset 
 next_offset [] (suc n) l rest e = absurd (omega (arith, ap length e))
 next_offset (x ∷ xs) (suc n) l rest e = omega (arith, next_offset xs n l rest e)
 
-adds : (s : Statement) (m n : ℕ) → flat_step s (m + n) ≡ flat_step s m + n
+pub adds : (s : Statement) (m n : ℕ) → flat_step s (m + n) ≡ flat_step s m + n
 adds s m n = omega arith
 
 -- a line counts with its instructions
-total_more : (l : Line) (ls : List Line) → total flat_step adds (l ∷ ls) ≡ line_size l + total flat_step adds ls
+pub total_more : (l : Line) (ls : List Line) → total flat_step adds (l ∷ ls) ≡ line_size l + total flat_step adds ls
 total_more l ls = by_what l.what
   where
     by_what : (w : What) → total flat_step adds (record l { what = w } ∷ ls) ≡ suc (length (instructions_by w)) + total flat_step adds ls
@@ -65,26 +65,26 @@ module _ (lines : List Line) where
 
   behind_statement : (s : Statement) (at next : ℕ) (a : Around) (at' e : ℕ) → HasAt lines at (statement_code s at next a) → F at ≡ at' → ways_count a ≡ e → F (at + statement_size s (ways_count a)) ≡ at' + statement_size_by flat_step s e
   behind_statement s at next a at' e h ea ec =
-      past (statement_code s at next a) at at' _ _ _ h (length-statement s at next a) (total-statement flat_step adds s at next a) (ap (statement_size_by flat_step s) ec) ea
+      past (statement_code s at next a) at at' _ _ _ h (length-statement s at next a) (total-statement flat_step adds one_line s at next a) (ap (statement_size_by flat_step s) ec) ea
 
   behind_part : (p : Part) (at next : ℕ) (a : Around) (at' e : ℕ) → HasAt lines at (part_code p at next a) → F at ≡ at' → ways_count a ≡ e → F (at + part_size p (ways_count a)) ≡ at' + part_size_by flat_step p e
   behind_part p at next a at' e h ea ec =
-      past (part_code p at next a) at at' _ _ _ h (length-part p at next a) (total-part flat_step adds p at next a) (ap (part_size_by flat_step p) ec) ea
+      past (part_code p at next a) at at' _ _ _ h (length-part p at next a) (total-part flat_step adds one_line p at next a) (ap (part_size_by flat_step p) ec) ea
 
   behind_handlers : (hs : Handlers) (at next : ℕ) (a : Around) (at' e : ℕ) → HasAt lines at (handlers_code hs at next a) → F at ≡ at' → ways_count a ≡ e → F (at + handlers_size hs (ways_count a)) ≡ at' + handlers_size_by flat_step hs e
   behind_handlers hs at next a at' e h ea ec =
-      past (handlers_code hs at next a) at at' _ _ _ h (length-handlers hs at next a) (total-handlers flat_step adds hs at next a) (ap (handlers_size_by flat_step hs) ec) ea
+      past (handlers_code hs at next a) at at' _ _ _ h (length-handlers hs at next a) (total-handlers flat_step adds one_line hs at next a) (ap (handlers_size_by flat_step hs) ec) ea
 
   behind_doing : (d : Doing) (at next out : ℕ) (at' : ℕ) → HasAt lines at (doing_code d at next out) → F at ≡ at' → F (at + doing_size d) ≡ at' + doing_size_by flat_step d
-  behind_doing d at next out at' h ea = past (doing_code d at next out) at at' _ _ _ h (length-doing d at next out) (total-doing flat_step adds d at next out) refl ea
+  behind_doing d at next out at' h ea = past (doing_code d at next out) at at' _ _ _ h (length-doing d at next out) (total-doing flat_step adds one_line d at next out) refl ea
 
   behind_offered : (o : Alternatives) (at next : ℕ) (a : Around) (at' e : ℕ) → HasAt lines at (offered_code o at next a) → F at ≡ at' → ways_count a ≡ e → F (at + offered_size o (ways_count a)) ≡ at' + offered_size_by flat_step o e
   behind_offered o at next a at' e h ea ec =
-      past (offered_code o at next a) at at' _ _ _ h (length-offered o at next a) (total-offered flat_step adds o at next a) (ap (offered_size_by flat_step o) ec) ea
+      past (offered_code o at next a) at at' _ _ _ h (length-offered o at next a) (total-offered flat_step adds one_line o at next a) (ap (offered_size_by flat_step o) ec) ea
 
   behind_body : (c : Construct) (b : Body) (at next out : ℕ) (a : Around) (at' e : ℕ) → HasAt lines at (body_code c b at next out a) → F at ≡ at' → ways_count a ≡ e → F (at + body_size b (ways_count a)) ≡ at' + body_size_by flat_step b e
   behind_body c b at next out a at' e h ea ec =
-      past (body_code c b at next out a) at at' _ _ _ h (length-body c b at next out a) (total-body flat_step adds c b at next out a) (ap (body_size_by flat_step b) ec) ea
+      past (body_code c b at next out a) at at' _ _ _ h (length-body c b at next out a) (total-body flat_step adds one_line c b at next out a) (ap (body_size_by flat_step b) ec) ea
 
   -- the first of two parts, the second, and what is behind the first
   pub record Halves (first second : List Line) (at n at' m : ℕ) : Type 0 where

@@ -63,22 +63,22 @@ length_by : {ls : List Line} {n : ℕ} → Total one_line adds_one ls n → leng
 length_by {ls} h = sym (length_is ls) ∙ h.is
 
 pub length-statement : (s : Statement) (at next : ℕ) (a : Around) → length (statement_code s at next a) ≡ statement_size s (ways_count a)
-length-statement s at next a = length_by (total-statement one_line adds_one s at next a)
+length-statement s at next a = length_by (total-statement one_line adds_one one_line s at next a)
 
 pub length-part : (p : Part) (at next : ℕ) (a : Around) → length (part_code p at next a) ≡ part_size p (ways_count a)
-length-part p at next a = length_by (total-part one_line adds_one p at next a)
+length-part p at next a = length_by (total-part one_line adds_one one_line p at next a)
 
 pub length-handlers : (h : Handlers) (at next : ℕ) (a : Around) → length (handlers_code h at next a) ≡ handlers_size h (ways_count a)
-length-handlers h at next a = length_by (total-handlers one_line adds_one h at next a)
+length-handlers h at next a = length_by (total-handlers one_line adds_one one_line h at next a)
 
 pub length-body : (c : Construct) (b : Body) (at next out : ℕ) (a : Around) → length (body_code c b at next out a) ≡ body_size b (ways_count a)
-length-body c b at next out a = length_by (total-body one_line adds_one c b at next out a)
+length-body c b at next out a = length_by (total-body one_line adds_one one_line c b at next out a)
 
 pub length-doing : (d : Doing) (at next out : ℕ) → length (doing_code d at next out) ≡ doing_size d
-length-doing d at next out = length_by (total-doing one_line adds_one d at next out)
+length-doing d at next out = length_by (total-doing one_line adds_one one_line d at next out)
 
 pub length-offered : (o : Alternatives) (at next : ℕ) (a : Around) → length (offered_code o at next a) ≡ offered_size o (ways_count a)
-length-offered o at next a = length_by (total-offered one_line adds_one o at next a)
+length-offered o at next a = length_by (total-offered one_line adds_one one_line o at next a)
 
 -- The parts of a construct, each where it stands; more lines may stand behind its end.
 

@@ -5,7 +5,7 @@ use Rattle.aud_typed.specs.Tree.{Statement, sequence, if_then, plain_loop, while
 use Rattle.aud_meaning.specs.declared.state.Construct.{Construct}
 use Rattle.aud_meaning.specs.declared.state.Construct.TheVariants as construct
 use Rattle.aud_code.specs.Places.{Way}
-use Rattle.aud_gen.specs.Layout.{What, does, continues, guards, ends, leaves, Line, Around, in_loop, in_for, in_block, in_call, around_out, ways_count, statement_size, part_size, main_size, doing_size, offered_size, end_place, statement_size_by, part_size_by, handlers_size_by, body_size_by, doing_size_by, offered_size_by, end_place_by, one_more, stubs, stub_ways, stubs_of, statement_code, part_code, part_place, handlers_code, body_code, doing_code, offered_code}
+use Rattle.aud_gen.specs.Layout.{What, does, continues, guards, ends, leaves, Line, Around, in_loop, in_for, in_block, in_call, around_out, ways_count, statement_size_by, part_size_by, handlers_size_by, main_size_by, body_size_by, doing_size_by, offered_size_by, end_place_by, one_more, stubs, stub_ways, stubs_of, statement_code_by, part_code_by, handlers_code_by, body_code_by, doing_code_by, offered_code_by}
 
 -- behind the end of a body is the place behind the body
 pub last_is : (behind : Statement → ℕ → ℕ) (b : Body) (at e : ℕ) → suc (end_place_by behind b at e) ≡ at + body_size_by behind b e
@@ -74,55 +74,44 @@ module _ (behind : Statement → ℕ → ℕ) (adds : (s : Statement) (m n : ℕ
   total_stubs_of : (b : Body) (ws : List Way) (w : Way) (at : ℕ) → Total (stubs_of b (ws ++ w ∷ []) at) (suc (length ws))
   total_stubs_of (body d begin s h end) ws w at = same (total_stubs (ws ++ w ∷ []) end at) (let n = length-append ws (w ∷ []) in omega (arith, n))
 
-  mutual
-    pub total-statement : (s : Statement) (at next : ℕ) (a : Around) → Total (statement_code s at next a) (statement_size_by behind s (ways_count a))
-    total-statement (sequence x y) at next a =
-        let middle = at + statement_size x (ways_count a) in
-        both (total-statement x at middle a) (total-statement y middle next a)
-    total-statement (plain_loop x) at next a = total-statement x at at (in_loop next a)
-    total-statement (if_then pos c x p) at next a =
-        let second = suc at + statement_size x (ways_count a) in
-        one_and _ (both (total-statement x (suc at) next a) (total-part p second next a))
-    total-statement (while_loop pos c x) at next a = one_and _ (total-statement x (suc at) at (in_loop next a))
-    total-statement (for_loop f x y s) at next a =
-        one_and _ (one_and _ (same (total-statement s (suc (suc at)) (suc at) (in_for next a)) (ap (statement_size_by behind s) (count-for next a))))
-    total-statement (block pos n b) at next a =
-        let end = end_place b (suc at) (ways_count a) in
-        let inner = in_block end a in
-        one_and _ (both (same (total-body construct.Block b (suc at) next a.out inner) (ap (body_size_by behind b) (count-block end a))) (total_stubs_of b a.exits a.back (suc end)))
-    total-statement (entry_call pos c p q) at next a =
-        let second = suc at + part_size p (ways_count a) in
-        one_and _ (both (total-part p (suc at) next a) (total-part q second next a))
-    total-statement (accept pos n d) at next a = one_and _ (total-doing d (suc at) next a.out)
-    total-statement (select pos offered p) at next a =
-        let second = suc at + offered_size offered (ways_count a) in
-        one_and _ (both (total-offered offered (suc at) next a) (total-part p second next a))
-    total-statement s at next a = one_and _ no_lines
+  -- what lines count does not depend on what is laid out behind a statement's own step
+  module _ (laid : Statement → ℕ → ℕ) where
+    mutual
+      pub total-statement : (s : Statement) (at next : ℕ) (a : Around) → Total (statement_code_by laid s at next a) (statement_size_by behind s (ways_count a))
+      total-statement (sequence x y) at next a = both (total-statement x at _ a) (total-statement y _ next a)
+      total-statement (plain_loop x) at next a = total-statement x at at (in_loop next a)
+      total-statement (if_then pos c x p) at next a = one_and _ (both (total-statement x _ next a) (total-part p _ next a))
+      total-statement (while_loop pos c x) at next a = one_and _ (total-statement x _ at (in_loop next a))
+      total-statement (for_loop f x y s) at next a = one_and _ (one_and _ (same (total-statement s _ _ (in_for next a)) (ap (statement_size_by behind s) (count-for next a))))
+      total-statement (block pos n b) at next a =
+          let first = laid (block pos n b) at in
+          let end = end_place_by laid b first (ways_count a) in
+          let inner = in_block end a in
+          one_and _ (both (same (total-body construct.Block b first next a.out inner) (ap (body_size_by behind b) (count-block end a))) (total_stubs_of b a.exits a.back (suc end)))
+      total-statement (entry_call pos c p q) at next a = one_and _ (both (total-part p _ next a) (total-part q _ next a))
+      total-statement (accept pos n d) at next a = one_and _ (total-doing d _ next a.out)
+      total-statement (select pos offered p) at next a = one_and _ (both (total-offered offered _ next a) (total-part p _ next a))
+      total-statement s at next a = one_and _ no_lines
 
-    pub total-part : (p : Part) (at next : ℕ) (a : Around) → Total (part_code p at next a) (part_size_by behind p (ways_count a))
-    total-part nothing at next a = no_lines
-    total-part (some s) at next a = total-statement s at next a
+      pub total-part : (p : Part) (at next : ℕ) (a : Around) → Total (part_code_by laid p at next a) (part_size_by behind p (ways_count a))
+      total-part nothing at next a = no_lines
+      total-part (some s) at next a = total-statement s at next a
 
-    pub total-handlers : (h : Handlers) (at next : ℕ) (a : Around) → Total (handlers_code h at next a) (handlers_size_by behind h (ways_count a))
-    total-handlers no_handlers at next a = no_lines
-    total-handlers (handler others choices s more) at next a = both (total-statement s at next a) (total-handlers more (at + statement_size s (ways_count a)) next a)
+      pub total-handlers : (h : Handlers) (at next : ℕ) (a : Around) → Total (handlers_code_by laid h at next a) (handlers_size_by behind h (ways_count a))
+      total-handlers no_handlers at next a = no_lines
+      total-handlers (handler others choices s more) at next a = both (total-statement s at next a) (total-handlers more _ next a)
 
-    pub total-body : (c : Construct) (b : Body) (at next out : ℕ) (a : Around) → Total (body_code c b at next out a) (body_size_by behind b (ways_count a))
-    total-body c (body d begin s h end) at next out a =
-        let first = at + part_size d (ways_count a) in
-        let guard = first + statement_size s (ways_count a) in
-        let last = first + main_size s h (ways_count a) in
-        both (total-part d at first (around_out last a))
-        (both (total-statement s first last (around_out guard a)) (one_and _ (both (total-handlers h (suc guard) last (around_out last a)) (one_and _ no_lines))))
+      pub total-body : (c : Construct) (b : Body) (at next out : ℕ) (a : Around) → Total (body_code_by laid c b at next out a) (body_size_by behind b (ways_count a))
+      total-body c (body d begin s h end) at next out a =
+          let last = at + part_size_by laid d (ways_count a) + main_size_by laid s h (ways_count a) in
+          both (total-part d at _ (around_out last a)) (both (total-statement s _ last (around_out _ a)) (one_and _ (both (total-handlers h _ last (around_out last a)) (one_and _ no_lines))))
 
-    pub total-doing : (d : Doing) (at next out : ℕ) → Total (doing_code d at next out) (doing_size_by behind d)
-    total-doing without_do at next out = no_lines
-    total-doing (with_do n b) at next out = total-body construct.Accept b at next out (in_call (end_place b at 1))
+      pub total-doing : (d : Doing) (at next out : ℕ) → Total (doing_code_by laid d at next out) (doing_size_by behind d)
+      total-doing without_do at next out = no_lines
+      total-doing (with_do n b) at next out = total-body construct.Accept b at next out (in_call (end_place_by laid b at 1))
 
-    pub total-offered : (o : Alternatives) (at next : ℕ) (a : Around) → Total (offered_code o at next a) (offered_size_by behind o (ways_count a))
-    total-offered no_alternatives at next a = no_lines
-    total-offered (accepting g pos n d p more) at next a =
-        let after = at + doing_size d in
-        both (total-doing d at (part_place p after next) a.out) (both (total-part p after next a) (total-offered more (after + part_size p (ways_count a)) next a))
-    total-offered (delaying g x p more) at next a = both (total-part p at next a) (total-offered more (at + part_size p (ways_count a)) next a)
-    total-offered (terminating g more) at next a = total-offered more at next a
+      pub total-offered : (o : Alternatives) (at next : ℕ) (a : Around) → Total (offered_code_by laid o at next a) (offered_size_by behind o (ways_count a))
+      total-offered no_alternatives at next a = no_lines
+      total-offered (accepting g at n d p more) place next a = both (total-doing d place _ a.out) (both (total-part p _ next a) (total-offered more _ next a))
+      total-offered (delaying g x p more) at next a = both (total-part p at next a) (total-offered more _ next a)
+      total-offered (terminating g more) at next a = total-offered more at next a

@@ -1,13 +1,15 @@
-use Rattle.std.proofs.Common.{length, ◌≡◌, ℕ, ◌+◌, ◌-◌, ◌*◌, ◌<◌, ◌≤◌}
-use Rattle.aud_typed.specs.Tree.{part_of}
-use Rattle.aud_typed.specs.Ties.View.{plain_boolean, plain_statement, plain_statements, statements_in, if_in}
+use Rattle.std.proofs.Common.{◌≡◌, ℕ, ◌+◌, length, drop}
+use Rattle.aud_typed.specs.declared.program.IfStatement.{out-IfStatement}
+use Rattle.aud_typed.specs.Tree.{part_of, some}
+use Rattle.aud_typed.specs.Ties.View.{plain_statements, part_of_arms, if_in}
 use Rattle.aud_code.specs.Places.{Way}
-use Rattle.aud_gen.specs.Layout.{in_loop}
-use Rattle.aud_gen.specs.Writes.{around, statement_lines, part_lines, listed_lines, arm_lines, while_lines, Writes}
+use Rattle.aud_gen.proofs.Lines.{with_part}
 use Rattle.aud_gen.proofs.writer.Writer.+statements.Given as goal
 
 abbrev pub invariant-write_if-loop-arm : goal.invariant-write_if-loop-arm
-invariant-write_if-loop-arm l = ?
+invariant-write_if-loop-arm l =
+    (l.left + l.arm-index ≡ length l.arm-items) × ((back : Way) → with_part l.self (part_of_arms (drop l.arm-index l.arm-items) (part_of (plain_statements (out-IfStatement l.s).otherwise.items))) l.next l.out back ≡ with_part l.fn.self (some (if_in l.s)) l.next l.out back)
 
 abbrev pub invariant-write_list-loop-s : goal.invariant-write_list-loop-s
-invariant-write_list-loop-s l = ?
+invariant-write_list-loop-s l =
+    (l.left + l.s-index ≡ length l.ss) × ((back : Way) → with_part l.self (part_of (plain_statements (drop l.s-index l.ss))) l.next l.out back ≡ with_part l.fn.self (part_of (plain_statements l.ss)) l.next l.out back)

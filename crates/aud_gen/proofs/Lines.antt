@@ -1,0 +1,207 @@
+-- The lines of statements in memory, one after the other.
+use Rattle.std.proofs.Common.{◌≡◌, ℕ, suc, ◌+◌, ◌<◌, List, [], ◌∷◌, ◌++◌, length, drop, get_or, Bool, true, false, nat_eq, refl, ap, sym, ◌∙◌, arith, append-nil, append_assoc, length-append}
+use Rattle.std.proofs.Math.Dec.{eqb-suc-zero}
+use Rattle.std.specs.Prelude.{None, map, if◌then◌else◌, Result, Ok, Err, IsTrue, IsFalse}
+use Rattle.std.specs.declared.alloc.AllocError.{AllocError}
+use Rattle.aud_text.specs.declared.place.Pos.{Pos}
+use Rattle.aud_typed.specs.declared.program.Arm.{Arm}
+use Rattle.aud_typed.specs.declared.program.Statement.{Statement}
+use Rattle.aud_typed.specs.declared.program.Statements.{Statements}
+use Rattle.aud_typed.specs.Ties.View.{plain_boolean, plain_statement, plain_statements, in_order, statements_in, part_of_arms}
+use Rattle.aud_typed.specs.Tree as tree
+use Rattle.aud_typed.specs.Tree.{before, part_of, nothing, some, if_then, plain_loop, while_loop}
+use Rattle.aud_code.specs.Places.{Way}
+use Rattle.aud_code.specs.declared.line.Ending.TheVariants.{If, While}
+use Rattle.aud_code.specs.declared.line.Last.TheVariants.{Does}
+use Rattle.aud_code.specs.Flat.{FlatLine, instructs, end}
+use Rattle.aud_code.specs.View.{plain_end}
+use Rattle.aud_gen.specs.Instructions.{condition_code}
+use Rattle.aud_gen.specs.Layout.{Line, Around, in_loop, ways_count, line, part_place, statement_size_by, part_size_by, statement_code_by, part_code_by}
+use Rattle.aud_gen.specs.Assembly.{instructions_by, end_line, step_lines, assembled_from}
+use Rattle.aud_gen.specs.Written.{flat_step, written}
+use Rattle.aud_gen.specs.Writes.{CodeSoFar, Writes, way_to, around, is_there, statement_lines, part_lines, listed_lines, arm_length, arm_lines, while_lines}
+use Rattle.aud_gen.proofs.Flat.Assembly.{assembled_append, its_length}
+use Rattle.aud_gen.proofs.Flat.Behind.{adds, total_more}
+use Rattle.aud_gen.proofs.Writing.{Adds, written_more}
+use Rattle.aud_gen.proofs.Standing.Sizes.{total, total-statement, total-part}
+
+pub chosen : (b : Bool) (x y : ℕ) → IsTrue b → (if b then x else y) ≡ x
+chosen b x y h = ap (λ m. if m then x else y) h
+
+pub passed_over : (b : Bool) (x y : ℕ) → IsFalse b → (if b then x else y) ≡ y
+passed_over b x y h = ap (λ m. if m then x else y) h
+
+-- lines count as many as they are
+written_length : (lines : List Line) → length (written lines) ≡ total flat_step adds lines
+written_length [] = refl
+written_length (l ∷ ls) = omega (arith, length-append (step_lines (λ n. n) l) (written ls), its_length (instructions_by l.what) (end_line (λ n. n) l), written_length ls, total_more l ls)
+
+statement_length : (s : tree.Statement) (place next : ℕ) (a : Around) → length (statement_lines s place next a) ≡ statement_size_by flat_step s (ways_count a)
+statement_length s place next a = written_length (statement_code_by flat_step s place next a) ∙ (total-statement flat_step adds flat_step s place next a).is
+
+listed_length : (s : tree.Statement) (is_last : Bool) (place next : ℕ) (a : Around) → length (listed_lines s is_last place next a) ≡ statement_size_by flat_step s (ways_count a)
+listed_length s is_last place next a = statement_length s place _ a
+
+-- what is written next stands behind what was
+continued : (old mid new : CodeSoFar) (a : List FlatLine) (b : ℕ → List Way → List FlatLine) (n : ℕ) → mid ≡ record old { lines = old.lines ++ a } → length a ≡ n → new ≡ record mid { lines = mid.lines ++ b (length mid.lines) mid.exits } → new ≡ record old { lines = old.lines ++ (a ++ b (length old.lines + n) old.exits) }
+continued old mid new a b n h e k =
+    k ∙ ap (λ (c : CodeSoFar). record c { lines = c.lines ++ b (length c.lines) c.exits }) h
+    ∙ ap (λ m. record old { lines = (old.lines ++ a) ++ b m old.exits }) (length-append old.lines a ∙ ap (λ m. length old.lines + m) e)
+    ∙ ap (λ ls. record old { lines = ls }) (append_assoc old.lines a (b (length old.lines + n) old.exits))
+
+-- A statement of a list, and the rest of the list.
+
+abbrev pub is_empty : {A : Type 0} → List A → Bool
+is_empty [] = true
+is_empty (x ∷ xs) = false
+
+pub none_left : {A : Type 0} (xs : List A) (n : ℕ) → n ≡ length xs → nat_eq n 0 ≡ is_empty xs
+none_left [] n e = ap (λ m. nat_eq m 0) e
+none_left (x ∷ xs) n e = ap (λ m. nat_eq m 0) e ∙ eqb-suc-zero (length xs)
+
+listed_and_rest : (s : Statement) (rest : List Statement) (place next : ℕ) (a : Around) → listed_lines (plain_statement s) (is_empty rest) place next a ++ part_lines (part_of (plain_statements rest)) (place + statement_size_by flat_step (plain_statement s) (ways_count a)) next a ≡ part_lines (part_of (plain_statements (s ∷ rest))) place next a
+listed_and_rest s [] place next a = append-nil _
+listed_and_rest s (t ∷ ts) place next a =
+    let middle = place + statement_size_by flat_step (plain_statement s) (ways_count a) in
+    sym (assembled_append (λ n. n) (statement_code_by flat_step (plain_statement s) place middle a) (statement_code_by flat_step (before (plain_statement t) (plain_statements ts)) middle next a))
+
+-- what was written, and what is left to write of a part
+abbrev pub with_part : CodeSoFar → tree.Part → (next out : ℕ) → Way → CodeSoFar
+with_part now p next out back = record now { lines = now.lines ++ part_lines p (length now.lines) next (around now out back) }
+
+pub one_listed : (s : Statement) (rest : List Statement) (is_last : Bool) (now new whole : CodeSoFar) (next out : ℕ) (back : Way) → is_last ≡ is_empty rest →
+    new ≡ record now { lines = now.lines ++ listed_lines (plain_statement s) is_last (length now.lines) next (around now out back) } →
+    with_part now (part_of (plain_statements (s ∷ rest))) next out back ≡ whole → with_part new (part_of (plain_statements rest)) next out back ≡ whole
+one_listed s rest is_last now new whole next out back last h left =
+    let a = around now out back in
+    let one = h ∙ ap (λ l. record now { lines = now.lines ++ listed_lines (plain_statement s) l (length now.lines) next a }) last in
+    continued now new _ (listed_lines (plain_statement s) (is_empty rest) (length now.lines) next a) (λ place exits. part_lines (part_of (plain_statements rest)) place next (record { out = out; exits = exits; back = back })) _ one (listed_length (plain_statement s) (is_empty rest) (length now.lines) next a) refl
+    ∙ ap (λ ls. record now { lines = now.lines ++ ls }) (listed_and_rest s rest (length now.lines) next a)
+    ∙ left
+
+-- An arm, and what stands behind it.
+
+part_there : (p : tree.Part) (second next : ℕ) → part_place p second next ≡ (if is_there p then second else next)
+part_there nothing second next = refl
+part_there (some s) second next = refl
+
+arm_size : (arm : Arm) (more : Bool) (place next : ℕ) (a : Around) → length (arm_lines arm more place next a) ≡ arm_length arm (ways_count a)
+arm_size arm more place next a =
+    let ss = statements_in arm.statements in
+    let c = plain_boolean arm.condition in
+    let inside = suc (place + length (condition_code c)) in
+    let step = line (if_then arm.at c ss nothing) ((if more then inside + statement_size_by flat_step ss (ways_count a) else next) ∷ inside ∷ []) [] None a in
+    omega (arith, length-append (step_lines (λ n. n) step) (statement_lines ss inside next a), its_length (condition_code c) (end_line (λ n. n) step), statement_length ss inside next a)
+
+arm_and_rest : (arm : Arm) (p : tree.Part) (place next : ℕ) (a : Around) → arm_lines arm (is_there p) place next a ++ part_lines p (place + arm_length arm (ways_count a)) next a ≡ statement_lines (if_then arm.at (plain_boolean arm.condition) (statements_in arm.statements) p) place next a
+arm_and_rest arm p place next a =
+    let ss = statements_in arm.statements in
+    let c = plain_boolean arm.condition in
+    let inside = suc (place + length (condition_code c)) in
+    let second = inside + statement_size_by flat_step ss (ways_count a) in
+    let there : place + arm_length arm (ways_count a) ≡ second = omega arith in
+    let step = λ (n : ℕ). step_lines (λ n. n) (line (if_then arm.at c ss p) (n ∷ inside ∷ []) [] None a) in
+    ap (λ n. arm_lines arm (is_there p) place next a ++ part_lines p n next a) there
+    ∙ append_assoc (step (if is_there p then second else next)) (statement_lines ss inside next a) (part_lines p second next a)
+    ∙ ap (λ n. step n ++ (statement_lines ss inside next a ++ part_lines p second next a)) (sym (part_there p second next))
+    ∙ ap (λ ls. step (part_place p second next) ++ ls) (sym (assembled_append (λ n. n) (statement_code_by flat_step ss inside next a) (part_code_by flat_step p second next a)))
+
+pub one_arm : (arm : Arm) (p : tree.Part) (more : Bool) (now new whole : CodeSoFar) (next out : ℕ) (back : Way) → more ≡ is_there p →
+    new ≡ record now { lines = now.lines ++ arm_lines arm more (length now.lines) next (around now out back) } →
+    record now { lines = now.lines ++ statement_lines (if_then arm.at (plain_boolean arm.condition) (statements_in arm.statements) p) (length now.lines) next (around now out back) } ≡ whole → with_part new p next out back ≡ whole
+one_arm arm p more now new whole next out back goes h left =
+    let a = around now out back in
+    let one = h ∙ ap (λ m. record now { lines = now.lines ++ arm_lines arm m (length now.lines) next a }) goes in
+    continued now new _ (arm_lines arm (is_there p) (length now.lines) next a) (λ place exits. part_lines p place next (record { out = out; exits = exits; back = back })) _ one (arm_size arm (is_there p) (length now.lines) next a) refl
+    ∙ ap (λ ls. record now { lines = now.lines ++ ls }) (arm_and_rest arm p (length now.lines) next a)
+    ∙ left
+
+-- A `while`, and its statements.
+
+while_size : (at : Pos) (c : tree.BooleanExpression) (place next out : ℕ) → length (while_lines at c place next out) ≡ suc (length (condition_code c))
+while_size at c place next out = its_length (condition_code c) _
+
+while_done : (at : Pos) (c : tree.BooleanExpression) (ss : tree.Statement) (old mid new : CodeSoFar) (next out place : ℕ) (back : Way) → place ≡ length old.lines → mid ≡ record old { lines = old.lines ++ while_lines at c (length old.lines) next out } →
+    new ≡ record mid { lines = mid.lines ++ statement_lines ss (length mid.lines) place (in_loop next (around mid out back)) } → new ≡ record old { lines = old.lines ++ statement_lines (while_loop at c ss) (length old.lines) next (around old out back) }
+while_done at c ss old mid new next out place back here h k =
+    let inside : length old.lines + suc (length (condition_code c)) ≡ suc (length old.lines + length (condition_code c)) = omega arith in
+    let step = while_lines at c (length old.lines) next out in
+    continued old mid new step (λ n exits. statement_lines ss n place (in_loop next (record { out = out; exits = exits; back = back }))) _ h (while_size at c (length old.lines) next out) k
+    ∙ ap (λ n. record old { lines = old.lines ++ (step ++ statement_lines ss n place (in_loop next (around old out back))) }) inside
+    ∙ ap (λ n. record old { lines = old.lines ++ (step ++ statement_lines ss (suc (length old.lines + length (condition_code c))) n (in_loop next (around old out back))) }) here
+
+pub whole_while : {X : Type 0} (r : Result X AllocError) (at : Pos) (c : tree.BooleanExpression) (ss tt' : tree.Statement) (s : tree.Statement) (old mid new : CodeSoFar) (next out place : ℕ) (back : Way) → place ≡ length old.lines → mid ≡ record old { lines = old.lines ++ while_lines at c (length old.lines) next out } →
+    tt' ≡ ss → s ≡ while_loop at c ss → Writes r mid new (statement_lines tt' (length mid.lines) place (in_loop next (around mid out back))) → Writes r old new (statement_lines s (length old.lines) next (around old out back))
+whole_while (Ok x) at c ss tt' s old mid new next out place back here h e is k =
+    while_done at c ss old mid new next out place back here h (k ∙ ap (λ z. record mid { lines = mid.lines ++ statement_lines z (length mid.lines) place (in_loop next (around mid out back)) }) e)
+    ∙ ap (λ z. record old { lines = old.lines ++ statement_lines z (length old.lines) next (around old out back) }) (sym is)
+whole_while (Err x) at c ss tt' s old mid new next out place back here h e is k = tt
+
+-- the lines of what is the same
+pub same_lines : {X : Type 0} (r : Result X AllocError) (old new : CodeSoFar) (s t : tree.Statement) (next : ℕ) (a : Around) → s ≡ t → Writes r old new (statement_lines s (length old.lines) next a) → Writes r old new (statement_lines t (length old.lines) next a)
+same_lines (Ok x) old new s t next a e h = h ∙ ap (λ z. record old { lines = old.lines ++ statement_lines z (length old.lines) next a }) e
+same_lines (Err x) old new s t next a e h = tt
+
+pub same_loop : {X : Type 0} (r : Result X AllocError) (old new : CodeSoFar) (ss tt' s : tree.Statement) (next place out : ℕ) (back : Way) → place ≡ length old.lines → tt' ≡ ss → s ≡ plain_loop ss → Writes r old new (statement_lines tt' (length old.lines) place (in_loop next (around old out back))) → Writes r old new (statement_lines s (length old.lines) next (around old out back))
+same_loop (Ok x) old new ss tt' s next place out back here e is h =
+    h ∙ ap (λ z. record old { lines = old.lines ++ statement_lines z (length old.lines) place (in_loop next (around old out back)) }) e
+    ∙ ap (λ n. record old { lines = old.lines ++ statement_lines ss (length old.lines) n (in_loop next (around old out back)) }) here
+    ∙ ap (λ z. record old { lines = old.lines ++ statement_lines z (length old.lines) next (around old out back) }) (sym is)
+same_loop (Err x) old new ss tt' s next place out back here e is h = tt
+
+-- a loop is entered, its statements are written, and it is left
+pub whole_loop : (ss : tree.Statement) (old mid now new : CodeSoFar) (next again out : ℕ) (back : Way) → mid ≡ record old { exits = way_to next ∷ old.exits } → now ≡ record mid { lines = mid.lines ++ statement_lines ss (length mid.lines) again (around mid out back) } →
+    new ≡ record now { exits = drop 1 now.exits } → new ≡ record old { lines = old.lines ++ statement_lines ss (length old.lines) again (in_loop next (around old out back)) }
+whole_loop ss old mid now new next again out back h k l =
+    l ∙ ap (λ (c : CodeSoFar). record c { exits = drop 1 c.exits }) (k ∙ ap (λ (m : CodeSoFar). record m { lines = m.lines ++ statement_lines ss (length m.lines) again (around m out back) }) h)
+
+-- a first statement, and the others
+pub whole_list : {X : Type 0} (r : Result X AllocError) (first : Statement) (others left : List Statement) (is_last : Bool) (old mid new : CodeSoFar) (next out : ℕ) (back : Way) → is_last ≡ is_empty others → left ≡ others →
+    mid ≡ record old { lines = old.lines ++ listed_lines (plain_statement first) is_last (length old.lines) next (around old out back) } →
+    Writes r mid new (part_lines (part_of (plain_statements left)) (length mid.lines) next (around mid out back)) → Writes r old new (statement_lines (in_order first others) (length old.lines) next (around old out back))
+whole_list (Ok x) first others left is_last old mid new next out back last e h k =
+    k ∙ ap (λ z. with_part mid (part_of (plain_statements z)) next out back) e ∙ one_listed first others is_last old mid _ next out back last h refl
+whole_list (Err x) first others left is_last old mid new next out back last e h k = tt
+
+-- An arm, by what is written of it.
+arm_done : (arm : Arm) (more : Bool) (old now mid new : CodeSoFar) (next out inside otherwise : ℕ) (back : Way) → inside ≡ suc (length old.lines + length (condition_code (plain_boolean arm.condition))) →
+    otherwise ≡ (if more then inside + statement_size_by flat_step (statements_in arm.statements) (suc (length old.exits)) else next) → Adds old now (condition_code (plain_boolean arm.condition)) →
+    mid ≡ record now { lines = now.lines ++ end (plain_end (record { last = Does (If inside) otherwise; at = arm.at; out = out })) ∷ [] } →
+    new ≡ record mid { lines = mid.lines ++ statement_lines (statements_in arm.statements) (length mid.lines) next (around mid out back) } → new ≡ record old { lines = old.lines ++ arm_lines arm more (length old.lines) next (around old out back) }
+arm_done arm more old now mid new next out inside otherwise back ei eo h1 h2 h3 =
+    let ss = statements_in arm.statements in
+    let c = plain_boolean arm.condition in
+    let a = around old out back in
+    let place = suc (length old.lines + length (condition_code c)) in
+    let size = statement_size_by flat_step ss (ways_count a) in
+    let ended = λ (n m : ℕ). end (plain_end (record { last = Does (If n) m; at = arm.at; out = out })) ∷ [] in
+    let leads = eo ∙ ap (λ n. if more then n + size else next) ei in
+    let step = written_more old now mid (map instructs (condition_code c)) (ended inside otherwise) h1 h2 ∙ ap (λ n. record old { lines = old.lines ++ (map instructs (condition_code c) ++ ended n otherwise) }) ei ∙ ap (λ n. record old { lines = old.lines ++ (map instructs (condition_code c) ++ ended place n) }) leads in
+    let lines = map instructs (condition_code c) ++ ended place (if more then place + size else next) in
+    let same : length old.lines + suc (length (condition_code c)) ≡ place = omega arith in
+    continued old mid new lines (λ n exits. statement_lines ss n next (record { out = out; exits = exits; back = back })) _ step (its_length (condition_code c) (plain_end (record { last = Does (If place) (if more then place + size else next); at = arm.at; out = out }))) h3
+    ∙ ap (λ n. record old { lines = old.lines ++ (lines ++ statement_lines ss n next a) }) same
+
+pub whole_arm : {X : Type 0} (r : Result X AllocError) (arm : Arm) (more : Bool) (old now mid new : CodeSoFar) (next out inside otherwise : ℕ) (back : Way) → inside ≡ suc (length old.lines + length (condition_code (plain_boolean arm.condition))) →
+    otherwise ≡ (if more then inside + statement_size_by flat_step (statements_in arm.statements) (suc (length old.exits)) else next) → Adds old now (condition_code (plain_boolean arm.condition)) →
+    mid ≡ record now { lines = now.lines ++ end (plain_end (record { last = Does (If inside) otherwise; at = arm.at; out = out })) ∷ [] } →
+    Writes r mid new (statement_lines (statements_in arm.statements) (length mid.lines) next (around mid out back)) → Writes r old new (arm_lines arm more (length old.lines) next (around old out back))
+whole_arm (Ok x) arm more old now mid new next out inside otherwise back ei eo h1 h2 h3 = arm_done arm more old now mid new next out inside otherwise back ei eo h1 h2 h3
+whole_arm (Err x) arm more old now mid new next out inside otherwise back ei eo h1 h2 h3 = tt
+
+-- an `if` by its arms
+abbrev pub if_by : Arm → List Arm → tree.Part → tree.Statement
+if_by first others otherwise = if_then first.at (plain_boolean first.condition) (statements_in first.statements) (part_of_arms others otherwise)
+
+-- there are statements where there is an arm
+pub some_arm : (arms : List Arm) (p : tree.Part) → 0 < length arms → is_there (part_of_arms arms p) ≡ true
+some_arm [] p h = absurd (omega (arith, h))
+some_arm (a ∷ more) p h = refl
+
+-- the step of a `while`, by what is written of it
+pub whole_test : {X : Type 0} (r : Result X AllocError) (at : Pos) (c : tree.BooleanExpression) (old now new : CodeSoFar) (next out inside : ℕ) → inside ≡ suc (length old.lines + length (condition_code c)) → Adds old now (condition_code c) →
+    Writes r now new (end (plain_end (record { last = Does (While inside) next; at = at; out = out })) ∷ []) → Writes r old new (while_lines at c (length old.lines) next out)
+whole_test (Ok x) at c old now new next out inside e h k =
+    let ended = λ (n : ℕ). end (plain_end (record { last = Does (While n) next; at = at; out = out })) ∷ [] in
+    written_more old now new (map instructs (condition_code c)) (ended inside) h k ∙ ap (λ n. record old { lines = old.lines ++ (map instructs (condition_code c) ++ ended n) }) e
+whole_test (Err x) at c old now new next out inside e h k = tt

@@ -1,0 +1,10 @@
+use Rattle.std.proofs.Common.{◌≡◌, suc, ◌+◌, length, arith}
+use Rattle.aud_typed.specs.Ties.View.{plain_boolean}
+use Rattle.aud_gen.specs.Instructions.{condition_code}
+use Rattle.aud_gen.proofs.Lines.{whole_test}
+use Rattle.aud_gen.proofs.writer.Writer.write_while.Goals as goal
+
+pub returns : goal.returns
+returns c =
+    let inside_is : c.in_ok-inside.inside ≡ suc (length c.args.self.now.lines + length (condition_code (plain_boolean c.args.condition.now))) = omega (arith, c.in_ok-inside.ensures, c.in_ok-sum.ensures, c.in_ok-boolean_length.ensures, c.place.ensures) in
+    whole_test c.end.result c.args.at (plain_boolean c.args.condition.now) c.args.self.now c.write_boolean.new.self c.end.new.self c.args.next c.args.out c.in_ok-inside.inside inside_is c.in_ok-write_boolean.ensures c.end.ensures
