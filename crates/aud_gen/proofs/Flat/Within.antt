@@ -172,7 +172,7 @@ module _ (T : ℕ) where
         let e = ways_count a in
         let second = suc at + offered_size offered e in
         one_and (plain_line (select pos offered p) (part_place p second next ∷ parts_from offered (suc at) next e) (at ∷ bodies_from offered (suc at) next e) a i
-              (part_place_in p second next (omega (arith, h)) k, parts_in offered (suc at) next e (omega (arith, h)) k) (omega (arith, h), bodies_in offered (suc at) next e (omega (arith, h)) k))
+        (part_place_in p second next (omega (arith, h)) k, parts_in offered (suc at) next e (omega (arith, h)) k) (omega (arith, h), bodies_in offered (suc at) next e (omega (arith, h)) k))
         (both (offered_in offered (suc at) next a (omega (arith, h)) k i) (part_in p second next a (omega (arith, h)) k i))
     statement_in (exit pos n c) at next a h k i = way_line (exit pos n c) next _ a k (exit_in a.exits n next i.exits k) i
     statement_in (return pos) at next a h k i = way_line (return pos) next a.back a k i.back i
