@@ -3,7 +3,8 @@ use Rattle.aud_syntax.specs.Ties.View.{plain_expressions}
 use Rattle.aud_parse.specs.Grammar as g
 use Rattle.aud_parse.specs.Ties.Outcome.{o_rule}
 use Rattle.aud_parse.specs.Actions.{some_args}
-use Rattle.aud_parse.proofs.Passing.{to, exit, level_in, level_out, no_level}
+use Rattle.aud_parse.proofs.Passing.{exit, level_in, no_level}
+use Rattle.aud_parse.proofs.Joined.{ends_level}
 use Rattle.aud_parse.proofs.expression.args.Goals as goal
 
 pub returns-in_err-inside : goal.returns-in_err-inside
@@ -15,13 +16,8 @@ returns-in_err-rest c = exit _ _ _ c.from_residual-in_err-rest.ensures.1 (c.in_e
 pub returns-in_err-argument : goal.returns-in_err-argument
 returns-in_err-argument c = exit _ _ _ c.from_residual-in_err-argument.ensures.1 c.in_err-argument.ensures.reads (λ k ds v o. o_rule (level_in c.in_ok-inside.ensures (o_rule (c.in_ok-rest.ensures.reads _ _ _ _ o))))
 
-pub returns-in_err-rest-2 : goal.returns-in_err-rest-2
-returns-in_err-rest-2 c = exit _ _ _ c.from_residual-in_err-rest-2.ensures.1 (c.in_err-rest-2.ensures.reads c.in_ok-inside.inside) (λ k ds v o. o_rule (level_in c.in_ok-inside.ensures (o_rule (c.in_ok-rest.ensures.reads _ _ _ _ (c.in_ok-argument.ensures.reads _ _ _ o)))))
-
 pub returns : goal.returns
-returns c = record {
-  reads = λ k ds v o.
-      to (o_rule (level_in c.in_ok-inside.ensures (o_rule (c.in_ok-rest.ensures.reads _ _ _ _ (c.in_ok-argument.ensures.reads _ _ _ (c.in_ok-rest-2.ensures.reads _ _ _ _ (level_out c.in_ok-inside.ensures o)))))))
-      (ap (λ l. some_args (plain_expressions l) ∷ ds) (sym (c.in_ok-push.ensures.items ∙ ap (λ z. z ++ c.into_inner.result ∷ []) c.new-all.ensures.items ∙ ap (λ z. z ∷ []) c.into_inner.ensures)));
-  shorter = search rules;
-}
+returns c =
+    ends_level c.args.start c.in_ok-argument.rest _ _ c.ended.ensures (search rules) c.in_ok-inside.ensures
+    (λ k ds v o. o_rule (level_in c.in_ok-inside.ensures (o_rule (c.in_ok-rest.ensures.reads _ _ _ _ (c.in_ok-argument.ensures.reads _ _ _ o)))))
+    (λ ds. ap (λ l. some_args (plain_expressions l) ∷ ds) (sym (c.in_ok-push.ensures.items ∙ ap (λ z. z ++ c.into_inner.result ∷ []) c.new-all.ensures.items ∙ ap (λ z. z ∷ []) c.into_inner.ensures)))
