@@ -9,7 +9,7 @@ ghost use Rattle.aud_parse.specs.Actions.{a_sign, an_adding, a_multiplying, an_o
 ghost use Rattle.aud_parse.specs.Ties.Items.{vec_item, opt_item, parens_item, name_item, args_item, attribute_item, primary_item, factor_item, multiplied_item, term_item, added_item, simple_item, boxed_item};
 ghost use Rattle.aud_parse.specs.Ties.Reads.{Reads, MayRead, ReadsFlat, Takes, TakesAny};
 
-use crate::behind::{both, ended};
+use crate::behind::ended;
 use crate::cursor::{Read, Rest, accept, deeper, is, token, word};
 use crate::leaf::{ident, literal};
 use crate::value::number_value;
@@ -172,7 +172,7 @@ fn term(alloc: Global, start: Rest, room: u32) -> Read<Term>
     ensures { Reads term_item (N g.Term) room start.entry result }
 {
     let (first, rest) = factor(alloc, start, room)?;
-    let ((first, more), rest) = both(first, multiplieds(alloc, rest, room))?;
+    let (more, rest) = multiplieds(alloc, rest, room)?;
     Ok((Term { first, rest: more }, rest))
 }
 
@@ -230,7 +230,7 @@ fn simple(alloc: Global, start: Rest, room: u32) -> Read<Simple>
 {
     let (sign, rest) = opt_sign(start);
     let (first, rest) = term(alloc, rest, room)?;
-    let ((first, more), rest) = both(first, addeds(alloc, rest, room))?;
+    let (more, rest) = addeds(alloc, rest, room)?;
     Ok((
         Simple {
             sign,

@@ -2,7 +2,6 @@ use Rattle.aud_parse.specs.Grammar as g
 use Rattle.std.proofs.Common.{sym, ◌∙◌, refl, rules}
 use Rattle.aud_parse.specs.Ties.Outcome.{o_rule, o_this, o_other, o_last, o_yes, o_no, o_more}
 use Rattle.aud_parse.proofs.Passing.{to, exit, hand_on, level_in, level_out, turns_push, turns_end, no_level}
-use Rattle.aud_parse.proofs.Joined.{joined, not_joined}
 use Rattle.aud_parse.proofs.Rolls.{term_roll, added_roll, simple_roll, factor_items, name_items, named_items}
 use Rattle.aud_parse.proofs.expression.+expression.Goals as goal
 
@@ -78,24 +77,20 @@ factor-returns t c = record { reads = λ k ds v o. to (o_rule (c.opt_operator-op
 pub term-returns-in_err-first : goal.term-returns-in_err-first
 term-returns-in_err-first t c = exit _ _ _ c.from_residual.ensures.1 c.in_err-first.ensures.reads (λ k ds v o. o_rule o)
 
-pub term-returns-in_err-first-2 : goal.term-returns-in_err-first-2
-term-returns-in_err-first-2 t c = exit _ _ _ c.from_residual-in_err-first-2.ensures.1 (not_joined _ _ c.in_err-first-2.ensures c.multiplieds.ensures) (λ k ds v o. o_rule (c.in_ok-first.ensures.reads _ _ _ o))
+pub term-returns-in_err-more : goal.term-returns-in_err-more
+term-returns-in_err-more t c = exit _ _ _ c.from_residual-in_err-more.ensures.1 c.in_err-more.ensures.reads (λ k ds v o. o_rule (c.in_ok-first.ensures.reads _ _ _ o))
 
 pub term-returns : goal.term-returns
-term-returns t c =
-    let j = joined _ c.in_ok-first-2.ensures c.multiplieds.ensures in
-    record { reads = λ k ds v o. rw (term_roll, j.first) (o_rule (c.in_ok-first.ensures.reads _ _ _ (j.reads _ _ _ o))); shorter = search rules }
+term-returns t c = record { reads = λ k ds v o. rw term_roll (o_rule (c.in_ok-first.ensures.reads _ _ _ (c.in_ok-more.ensures.reads _ _ _ o))); shorter = search rules }
 
 pub simple-returns-in_err-first : goal.simple-returns-in_err-first
 simple-returns-in_err-first t c = exit _ _ _ c.from_residual.ensures.1 c.in_err-first.ensures.reads (λ k ds v o. o_rule (c.opt_sign-sign.ensures.reads _ _ _ _ o))
 
-pub simple-returns-in_err-first-2 : goal.simple-returns-in_err-first-2
-simple-returns-in_err-first-2 t c = exit _ _ _ c.from_residual-in_err-first-2.ensures.1 (not_joined _ _ c.in_err-first-2.ensures c.addeds.ensures) (λ k ds v o. o_rule (c.opt_sign-sign.ensures.reads _ _ _ _ (c.in_ok-first.ensures.reads _ _ _ o)))
+pub simple-returns-in_err-more : goal.simple-returns-in_err-more
+simple-returns-in_err-more t c = exit _ _ _ c.from_residual-in_err-more.ensures.1 c.in_err-more.ensures.reads (λ k ds v o. o_rule (c.opt_sign-sign.ensures.reads _ _ _ _ (c.in_ok-first.ensures.reads _ _ _ o)))
 
 pub simple-returns : goal.simple-returns
-simple-returns t c =
-    let j = joined _ c.in_ok-first-2.ensures c.addeds.ensures in
-    record { reads = λ k ds v o. rw (simple_roll, j.first) (o_rule (c.opt_sign-sign.ensures.reads _ _ _ _ (c.in_ok-first.ensures.reads _ _ _ (j.reads _ _ _ o)))); shorter = search rules }
+simple-returns t c = record { reads = λ k ds v o. rw simple_roll (o_rule (c.opt_sign-sign.ensures.reads _ _ _ _ (c.in_ok-first.ensures.reads _ _ _ (c.in_ok-more.ensures.reads _ _ _ o)))); shorter = search rules }
 
 pub expression-returns-in_err-sum : goal.expression-returns-in_err-sum
 expression-returns-in_err-sum t c = exit _ _ _ c.from_residual.ensures.1 c.in_err-sum.ensures.reads (λ k ds v o. o_rule (o_rule o))
