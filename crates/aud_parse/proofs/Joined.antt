@@ -1,9 +1,8 @@
 -- What a function reads that hands its trees on while it reads.
-use Rattle.std.proofs.Common.{◌≡◌, ℕ, ◌+◌, List, ◌∷◌, ap, sym, arith, ◌∙◌}
+use Rattle.std.proofs.Common.{◌≡◌, ℕ, List, ◌∷◌, ap, sym, arith, ◌∙◌}
 use Rattle.std.specs.Prelude.{Result, Ok, Err, IfOk}
-use Rattle.aud_lex.specs.Element.{Element}
 use Rattle.aud_lex.specs.declared.token.Kind.{Kind}
-use Rattle.aud_parse.specs.Grammar.{Symbol, T, Down}
+use Rattle.aud_parse.specs.Grammar.{Symbol, T}
 use Rattle.aud_parse.specs.Parsed.{Verdict}
 use Rattle.aud_parse.specs.Actions.{Item}
 use Rattle.aud_parse.specs.Ties.Outcome.{Out}
@@ -11,14 +10,13 @@ use Rattle.aud_parse.specs.declared.cursor.Rest.{Rest}
 use Rattle.aud_parse.specs.declared.cursor.Fault.{Fault}
 use Rattle.aud_parse.specs.Ties.Reads.{Passes, FailsAt, Comes, Fewer, NoMore, Reading, FlatReading}
 use Rattle.aud_parse.specs.Ties.Behind.{Ends, both}
-use Rattle.aud_parse.proofs.Passing.{to, fails_through, level_out}
+use Rattle.aud_parse.proofs.Passing.{to, fails_through}
 
 -- what has passed the word is what has passed the phrase
-comes_with : {s0 : Symbol} {c : Kind} {r q : ℕ} (start mid : Rest) {K : List Symbol → List Symbol} {f : List Item → List Item} {X : Type 0} (x : X → Item) {tree : X} (res : Result (X × Rest) Fault) →
-    Ends c tree mid res → ((k : List Symbol) (ts : List Element) (ds : List Item) (v : Verdict) → Out k r ts ds v → Out (K k) q ts ds v) →
-    ((k : List Symbol) (ds : List Item) (v : Verdict) → Out (T c ∷ K k) q mid.tokens.now ds v → Out (s0 ∷ k) r start.tokens.now (f ds) v) → ((ds : List Item) → f ds ≡ x tree ∷ ds) → Comes x s0 r start res
-comes_with {q = q} start mid {K} x (Ok p) e after before is = λ k ds v o. to (before k ds v (e.reads.1 q (K k) ds v (after k _ ds v o))) (is ds ∙ ap (λ t. x t ∷ ds) (sym e.reads.0))
-comes_with {q = q} start mid x (Err e) h after before is = fails_through e (h.reads q) before
+comes_with : {s0 : Symbol} {c : Kind} {r : ℕ} (start mid : Rest) {f : List Item → List Item} {X : Type 0} (x : X → Item) {tree : X} (res : Result (X × Rest) Fault) →
+    Ends c tree mid res → ((k : List Symbol) (ds : List Item) (v : Verdict) → Out (T c ∷ k) r mid.tokens.now ds v → Out (s0 ∷ k) r start.tokens.now (f ds) v) → ((ds : List Item) → f ds ≡ x tree ∷ ds) → Comes x s0 r start res
+comes_with {r = r} start mid x (Ok p) e before is = λ k ds v o. to (before k ds v (e.reads.1 r k ds v o)) (is ds ∙ ap (λ t. x t ∷ ds) (sym e.reads.0))
+comes_with {r = r} start mid x (Err e) h before is = fails_through {K = λ k. k} e (h.reads r) before
 
 fewer_still : {X : Type 0} (start mid : Rest) (res : Result (X × Rest) Fault) → IfOk res (λ p. Fewer p.1 mid) → NoMore mid start → IfOk res (λ p. Fewer p.1 start)
 fewer_still start mid (Ok p) h m = omega (arith, h, m)
@@ -27,17 +25,12 @@ fewer_still start mid (Err e) h m = tt
 -- a phrase that ends in a word
 pub ends : {s0 : Symbol} {c : Kind} {r : ℕ} (start mid : Rest) {f : List Item → List Item} {X : Type 0} (x : X → Item) {tree : X} (res : Result (X × Rest) Fault) → Ends c tree mid res → NoMore mid start →
     ((k : List Symbol) (ds : List Item) (v : Verdict) → Out (T c ∷ k) r mid.tokens.now ds v → Out (s0 ∷ k) r start.tokens.now (f ds) v) → ((ds : List Item) → f ds ≡ x tree ∷ ds) → Reading Fewer x s0 r start res
-ends start mid x res e m before is = record { reads = comes_with start mid {K = λ k. k} x res e (λ k ts ds v o. o) before is; shorter = fewer_still start mid res e.shorter m }
+ends start mid x res e m before is = record { reads = comes_with start mid x res e before is; shorter = fewer_still start mid res e.shorter m }
 
 -- the same with any room
 pub ends_flat : {s0 : Symbol} {c : Kind} (start mid : Rest) {f : List Item → List Item} {X : Type 0} (x : X → Item) {tree : X} (res : Result (X × Rest) Fault) → Ends c tree mid res → NoMore mid start →
     ((r : ℕ) (k : List Symbol) (ds : List Item) (v : Verdict) → Out (T c ∷ k) r mid.tokens.now ds v → Out (s0 ∷ k) r start.tokens.now (f ds) v) → ((ds : List Item) → f ds ≡ x tree ∷ ds) → FlatReading Fewer x s0 start res
-ends_flat start mid x res e m before is = record { reads = λ r. comes_with start mid {K = λ k. k} x res e (λ k ts ds v o. o) (before r) is; shorter = fewer_still start mid res e.shorter m }
-
--- the same of what lies one level deeper
-pub ends_level : {s0 : Symbol} {c : Kind} {r i : ℕ} (start mid : Rest) {f : List Item → List Item} {X : Type 0} (x : X → Item) {tree : X} (res : Result (X × Rest) Fault) → Ends c tree mid res → NoMore mid start → r ≡ i + 1 →
-    ((k : List Symbol) (ds : List Item) (v : Verdict) → Out (T c ∷ Down ∷ k) i mid.tokens.now ds v → Out (s0 ∷ k) r start.tokens.now (f ds) v) → ((ds : List Item) → f ds ≡ x tree ∷ ds) → Reading Fewer x s0 r start res
-ends_level start mid x res e m l before is = record { reads = comes_with start mid {K = λ k. Down ∷ k} x res e (λ k ts ds v o. level_out l o) before is; shorter = fewer_still start mid res e.shorter m }
+ends_flat start mid x res e m before is = record { reads = λ r. comes_with start mid x res e (before r) is; shorter = fewer_still start mid res e.shorter m }
 
 -- what is read behind a tree, which stays as it is
 pub record Joined {X Y : Type 0} (Left : Rest → Rest → Type 0) (y : Y → Item) (s : Symbol) (r : ℕ) (start : Rest) (x : X) (a : X) (b : Y) (rest : Rest) : Type 0 where

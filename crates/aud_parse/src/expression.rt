@@ -9,7 +9,6 @@ ghost use Rattle.aud_parse.specs.Actions.{a_sign, an_adding, a_multiplying, an_o
 ghost use Rattle.aud_parse.specs.Ties.Items.{vec_item, opt_item, parens_item, name_item, args_item, attribute_item, primary_item, factor_item, multiplied_item, term_item, added_item, simple_item, boxed_item};
 ghost use Rattle.aud_parse.specs.Ties.Reads.{Reads, MayRead, ReadsFlat, Takes, TakesAny};
 
-use crate::behind::ended;
 use crate::cursor::{Read, Rest, accept, deeper, is, token, word};
 use crate::leaf::{ident, literal};
 use crate::value::number_value;
@@ -255,10 +254,8 @@ pub fn expression(alloc: Global, start: Rest, room: u32) -> Read<Box<Expression>
 pub fn args(alloc: Global, start: Rest, room: u32) -> Read<Vec<Expression>>
     ensures { Reads args_item (N g.Args) room start.entry result }
 {
-    let inside = deeper(start, room, is(start, Kind::LeftParenthesis))?;
-    let rest = word(start, Kind::LeftParenthesis)?;
-    let (argument, rest) = expression(alloc, rest, inside)?;
+    let (argument, rest) = parens(alloc, start, room)?;
     let mut all = Vec::new(alloc);
-    all.push(Box::into_inner(argument))?;
-    ended(all, rest, Kind::RightParenthesis)
+    all.push(Box::into_inner(argument.1))?;
+    Ok((all, rest))
 }
