@@ -1,8 +1,9 @@
 // What is read behind a tree.
 //
-// Where reading fails, the trees that were read are dropped, each branch of them on its own in the
-// function that owns them. These functions own a tree of any type while they read on, so that no
-// other needs to.
+// Where reading fails, the trees in hand are dropped. A function that knows their type does so branch
+// by branch, at each of its ways out; one of any type does it by one call. So a tree is handed to
+// these functions while more is read. The cycle of expressions does without them: what it would hand
+// on by value would stand in the stack frames of each level.
 
 ghost use Rattle.std.specs.Prelude.{◌≡◌};
 ghost use Rattle.aud_parse.specs.Ties.Behind.{Ends, both};
