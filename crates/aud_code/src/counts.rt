@@ -123,7 +123,10 @@ pub fn need_of_ending(last: Last) -> Counts
             targets: 1,
             ..NOTHING
         },
-        Last::Does(Ending::Null, _) | Last::Does(Ending::Put, _) | Last::Guards | Last::Ends =>
-            NOTHING,
+        Last::Does(Ending::If(_) | Ending::While(_) | Ending::Exit(_), _) => Counts {
+            booleans: 1,
+            ..NOTHING
+        },
+        Last::Does(Ending::Null | Ending::Put, _) | Last::Guards | Last::Ends => NOTHING,
     }
 }

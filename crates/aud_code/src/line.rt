@@ -13,12 +13,18 @@ pub enum Ending {
     Assign,
     /// The text goes to the output.
     Put,
+    /// Where the newest truth value is true, the step leads to this place: into an `if` (RM 5.3).
+    If(usize),
+    /// The same, into a `while` loop (RM 5.5).
+    While(usize),
+    /// Where the newest truth value is true, the step leads out of a loop, to this place (RM 5.7).
+    Exit(usize),
 }
 
 /// How a step ends.
 #[derive(Clone, Copy, PartialEq, Eq, Debug)]
 pub enum Last {
-    /// A statement's step, and the place where the next one begins.
+    /// A statement's step, and the place where the next one begins, unless it leads elsewhere.
     Does(Ending, usize),
     /// Behind the statements of a body, where its handlers are found; it has none yet.
     Guards,

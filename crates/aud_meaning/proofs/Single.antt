@@ -7,7 +7,7 @@ use Rattle.aud_text.specs.declared.limits.TheConstants.{OUTPUT}
 use Rattle.aud_typed.specs.declared.program.Exception.TheVariants.{Predefined}
 use Rattle.aud_typed.specs.Tree.{Plan}
 use Rattle.aud_meaning.specs.Configuration.{Pending, Target, Shared, All}
-use Rattle.aud_meaning.specs.Control.{Controls, Asked, raises_here, raises_in_part, declares, goes_on, assigns, puts, ends, is_left_by}
+use Rattle.aud_meaning.specs.Control.{Controls, Asked, raises_here, raises_in_part, declares, goes_on, goes_out, assigns, puts, ends, is_left_by}
 use Rattle.aud_meaning.specs.Run.{own_move, seen, orders, step_with}
 use Rattle.aud_meaning.specs.Control as control
 use Rattle.aud_meaning.specs.Effects.{assigned, put_out}
@@ -38,8 +38,12 @@ module _ {C : Type 0} (plan : Plan) (name : List ℕ) (k : Controls C) (limits :
     pub declares_step : (z : ℤ) → Asks (declares z) → Stepped now ≡ In (record (goes now) { elaborated = suc q.elaborated; frames = slice_set q.frames 0 (slice_index_or q.frames 0 [] ++ z ∷ []) })
     declares_step z is = ap (after now) is
 
-    pub goes_on_step : Asks (goes_on 0) → Stepped now ≡ In (goes now)
-    goes_on_step is = ap (after now) is
+    pub goes_on_step : (n : ℕ) → Asks (goes_on n) → Stepped now ≡ In (record now { control = k.takes n q.control; steps = suc q.steps })
+    goes_on_step n is = ap (after now) is
+
+    -- no loop's frame goes
+    pub goes_out_step : Asks (goes_out 0 None) → Stepped now ≡ In (record now { control = k.out q.control; steps = suc q.steps })
+    goes_out_step is = ap (after now) is
 
     pub assigns_step : (target : Target) (z : ℤ) → Asks (assigns target z) → Stepped now ≡ In (record (goes now) { frames = assigned target.frame target.index z q.frames })
     assigns_step target z is = ap (after now) is

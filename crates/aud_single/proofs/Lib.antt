@@ -1,5 +1,6 @@
 pub mod Output
 pub mod Steps
+pub mod Comes
 pub mod Moving
 pub mod Next
 pub mod Running

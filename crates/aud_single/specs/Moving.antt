@@ -1,9 +1,10 @@
 -- What can happen next to a program that is its main procedure alone.
-use Rattle.std.specs.Prelude.{◌≡◌, ℕ, replicate, Bool, true, false}
+use Rattle.std.specs.Prelude.{◌≡◌, ℕ, replicate, Option, Some, None, Bool, true, false}
 use Rattle.aud_meaning.specs.declared.state.State.{State}
 use Rattle.aud_meaning.specs.declared.state.State.TheVariants as state
+use Rattle.aud_meaning.specs.declared.state.StepKind.{StepKind}
 use Rattle.aud_meaning.specs.Run.{own_move, moves_at, state_at}
-use Rattle.aud_meaning.specs.Ties.Single.{Stage, Single, runs, completed, terminated, all_of}
+use Rattle.aud_meaning.specs.Ties.Single.{Single, all_of}
 use Rattle.aud_code.specs.Places.{Spot}
 use Rattle.aud_code.specs.Flat.{Flat, flat_controls}
 use Rattle.aud_single.specs.Shown.{InAnyProgram}
@@ -15,21 +16,13 @@ Enables code p n = InAnyProgram (λ plan name. moves_at plan (flat_controls plan
 abbrev pub IsIn : Flat → Single Spot → State → Type 0
 IsIn code p s = InAnyProgram (λ plan name. s ≡ state_at plan (flat_controls plan code) (all_of plan name p))
 
--- unless its output is full
-abbrev pub moves_unless : Bool → ℕ
-moves_unless true = 0
-moves_unless false = 1
+-- by the kind of the next step, if there is one, and whether the output is full
+abbrev pub moves_of : Option StepKind → Bool → ℕ
+moves_of None cut = 0
+moves_of (Some kind) true = 0
+moves_of (Some kind) false = 1
 
-abbrev pub moves_of : Stage → Bool → ℕ
-moves_of (runs pending) cut = moves_unless cut
-moves_of (completed raised) cut = moves_unless cut
-moves_of (terminated raised) cut = 0
-
-abbrev pub state_unless : Bool → State
-state_unless true = state.OutputFull
-state_unless false = state.More
-
-abbrev pub state_of : Stage → Bool → State
-state_of (runs pending) cut = state_unless cut
-state_of (completed raised) cut = state_unless cut
-state_of (terminated raised) cut = state.Ended
+abbrev pub state_of : Option StepKind → Bool → State
+state_of None cut = state.Ended
+state_of (Some kind) true = state.OutputFull
+state_of (Some kind) false = state.More

@@ -1,5 +1,5 @@
 -- What a step of a program in memory does.
-use Rattle.std.specs.Prelude.{◌≡◌, ℕ, suc, ℤ, List, [], ◌∷◌, ◌++◌, Some, None}
+use Rattle.std.specs.Prelude.{◌≡◌, ◌+◌, ◌≤◌, ℕ, suc, ℤ, List, [], ◌∷◌, ◌++◌, length, Some, None, if◌then◌else◌}
 use Rattle.aud_text.specs.declared.limits.Limits.{Limits}
 use Rattle.aud_text.specs.declared.raise.Raise.{Raise}
 use Rattle.aud_text.specs.declared.place.Pos.{Pos}
@@ -9,7 +9,7 @@ use Rattle.aud_meaning.specs.Run.{own_move, step_with}
 use Rattle.aud_meaning.specs.Effects.{assigned, put_out}
 use Rattle.aud_meaning.specs.Ties.Single.{Stage, Single, runs, completed, terminated, all_of}
 use Rattle.aud_code.specs.declared.line.Ending.{Ending}
-use Rattle.aud_code.specs.declared.line.Ending.TheVariants.{Declare, Null, Assign, Put}
+use Rattle.aud_code.specs.declared.line.Ending.TheVariants.{Declare, Null, Assign, Put, If, While, Exit}
 use Rattle.aud_code.specs.declared.line.Last.{Last}
 use Rattle.aud_code.specs.declared.line.Last.TheVariants.{Does, Guards, Ends}
 use Rattle.aud_code.specs.Places.{Spot, goes}
@@ -18,6 +18,7 @@ use Rattle.aud_code.specs.Flat.{FlatLine, Flat, flat_controls}
 use Rattle.aud_code.specs.Sound.{IsStart}
 use Rattle.aud_store.specs.Ties.Frames.{with_frame}
 use Rattle.aud_single.specs.Shown.{shared_in, InAnyProgram}
+use Rattle.aud_single.specs.Ticks.{step_ticks}
 
 -- a step of the code leads there
 abbrev pub StepsTo : Flat → Single Spot → Single Spot → Type 0
@@ -32,6 +33,14 @@ StandsIn lines place (terminated raised) = Unit {0}
 
 abbrev pub Stands : List FlatLine → Single Spot → Type 0
 Stands lines p = StandsIn lines p.control.place p.stage
+
+-- the step leads to new, and so many instructions were executed, each a tick
+pub record IsStep (code : Flat) (old new : Single Spot) (executed : ℕ) : Type 0 where
+  pub next : StepsTo code old new
+  pub stands : Stands code.lines new
+  pub steps : new.steps ≡ old.steps + 1
+  pub ticks : executed ≡ step_ticks code old
+  pub few : executed ≤ length code.lines
 
 -- with the newest operand
 abbrev pub with_newest : {A : Type 0} → List A → Single Spot → (A → Single Spot) → Single Spot
@@ -54,12 +63,19 @@ stored t z p = record p { frames = assigned t.frame t.index z p.frames }
 abbrev pub written : List ℕ → Single Spot → Single Spot
 written text p = let shared = put_out text (shared_in p) in record p { output = shared.output; cut = shared.cut }
 
+-- to the first place where the newest truth value is true, else to the second
+abbrev pub decided : ℕ → ℕ → Operands → Single Spot → Single Spot
+decided there next o p = with_newest o.booleans p (λ b. moved_to (if b then there else next) p)
+
 -- what a statement does, before the place where the next step begins
 abbrev pub does : Ending → ℕ → Operands → Single Spot → Single Spot
 does Declare next o p = with_newest o.integers p (λ z. declared z (moved_to next p))
 does Null next o p = moved_to next p
 does Assign next o p = with_newest o.targets p (λ t. with_newest o.integers p (λ z. stored t z (moved_to next p)))
 does Put next o p = written o.text (moved_to next p)
+does (If inside) next o p = decided inside next o p
+does (While inside) next o p = decided inside next o p
+does (Exit out) next o p = decided out next o p
 
 -- what the ending of a step does; a body's end leads behind all lines
 abbrev pub ends_by : Last → ℕ → Operands → Single Spot → Single Spot

@@ -3,9 +3,9 @@
 ghost use Rattle.std.specs.Prelude.{◌≡◌, ◌≤◌};
 ghost use Rattle.aud_single.specs.Moving.{Enables, IsIn, moves_of, state_of};
 
-use crate::progress::{Progress, Stage};
+use crate::progress::Progress;
 use aud_code::sound_code::SoundCode;
-use aud_meaning::state::State;
+use aud_meaning::state::{State, StepKind};
 
 impl Progress {
     /// How many moves are enabled: its next step, or none.
@@ -13,36 +13,40 @@ impl Progress {
         ensures enabled { Enables code.now self.now result }
         ensures one { result ≤ 1 }
     {
-        code.plain_law();
-        self.count()
+        moves_of(
+            self.next_kind(code.ending(self.place()).last),
+            self.is_cut(),
+        )
     }
 
     /// What can happen next.
     pub fn state(&self, code: &SoundCode) -> State
         ensures { IsIn code.now self.now result }
     {
-        code.plain_law();
-        self.state_now()
+        state_of(
+            self.next_kind(code.ending(self.place()).last),
+            self.is_cut(),
+        )
     }
+}
 
-    fn count(&self) -> usize
-        ensures value { result ≡ moves_of self.now.stage self.now.cut }
-        ensures one { result ≤ 1 }
-    {
-        match self.stage() {
-            Stage::Runs(_) | Stage::Completed(_) if self.is_cut() => 0,
-            Stage::Runs(_) | Stage::Completed(_) => 1,
-            Stage::Terminated(_) => 0,
-        }
+fn moves_of(next: Option<StepKind>, cut: bool) -> usize
+    ensures value { result ≡ moves_of next cut }
+    ensures one { result ≤ 1 }
+{
+    match next {
+        Some(_) if cut => 0,
+        Some(_) => 1,
+        None => 0,
     }
+}
 
-    fn state_now(&self) -> State
-        ensures { result ≡ state_of self.now.stage self.now.cut }
-    {
-        match self.stage() {
-            Stage::Runs(_) | Stage::Completed(_) if self.is_cut() => State::OutputFull,
-            Stage::Runs(_) | Stage::Completed(_) => State::More,
-            Stage::Terminated(_) => State::Ended,
-        }
+fn state_of(next: Option<StepKind>, cut: bool) -> State
+    ensures { result ≡ state_of next cut }
+{
+    match next {
+        Some(_) if cut => State::OutputFull,
+        Some(_) => State::More,
+        None => State::Ended,
     }
 }

@@ -1,14 +1,13 @@
 // The steps of a program that is its main procedure alone.
 
-ghost use Rattle.std.specs.Prelude.{◌≡◌, ◌<◌, ◌≤◌, ◌+◌, length, Some, None, OnOk, IfOk};
+ghost use Rattle.std.specs.Prelude.{◌≡◌, ◌<◌, ◌+◌, Some, None, OnOk, IfOk};
 ghost use Rattle.aud_typed.specs.declared.program.Exception.{Exception as Exceptions};
 ghost use Rattle.aud_meaning.specs.Ties.Single.{runs};
 ghost use Rattle.aud_code.specs.Flat.{end_at, left_by, handler_at};
 ghost use Rattle.aud_code.specs.Sound.{counts_of, LastFine};
 ghost use Rattle.aud_code.specs.View.{plain_last};
-ghost use Rattle.aud_single.specs.Steps.{StepsTo, Stands, ends_by, raises_by};
+ghost use Rattle.aud_single.specs.Steps.{StepsTo, Stands, IsStep, ends_by, raises_by};
 ghost use Rattle.aud_single.specs.Shown.{main_at};
-ghost use Rattle.aud_single.specs.Ticks.{step_ticks};
 
 use crate::progress::{Pending, Progress, Stage};
 use aud_code::line::{EndLine, Ending, Last};
@@ -25,11 +24,7 @@ impl Progress {
     pub fn step(&mut self, code: &SoundCode, operands: &mut Operands) -> Result<u64, AllocError>
         requires stands { Stands code.now.lines self.old }
         requires steps { self.old.steps < STEPS }
-        ensures next { OnOk result (StepsTo code.now self.old self.new) }
-        ensures stands { OnOk result (Stands code.now.lines self.new) }
-        ensures steps { OnOk result (self.new.steps ≡ self.old.steps + 1) }
-        ensures ticks { IfOk result (λ ticks. ticks ≡ step_ticks code.now self.old) }
-        ensures few { IfOk result (λ ticks. ticks ≤ length code.now.lines) }
+        ensures { IfOk result (λ ticks. IsStep code.now self.old self.new ticks) }
     {
         let place = self.place();
         match self.stage() {
@@ -47,11 +42,7 @@ impl Progress {
         requires runs { self.old.stage ≡ runs None }
         requires stands { Stands code.now.lines self.old }
         requires steps { self.old.steps < STEPS }
-        ensures next { OnOk result (StepsTo code.now self.old self.new) }
-        ensures stands { OnOk result (Stands code.now.lines self.new) }
-        ensures steps { OnOk result (self.new.steps ≡ self.old.steps + 1) }
-        ensures ticks { IfOk result (λ ticks. ticks ≡ step_ticks code.now self.old) }
-        ensures few { IfOk result (λ ticks. ticks ≤ length code.now.lines) }
+        ensures { IfOk result (λ ticks. IsStep code.now self.old self.new ticks) }
     {
         let place = self.place();
         let Evaluation { outcome, ticks } = evaluate(code, place, &[0], self.frames(), operands)?;
@@ -78,6 +69,9 @@ impl Progress {
                 self.assign(target, value, next);
             }
             Last::Does(Ending::Put, next) => self.put(operands.text(), next)?,
+            Last::Does(Ending::If(there) | Ending::While(there) | Ending::Exit(there), next) => {
+                self.go(if operands.pop_truth() { there } else { next });
+            }
             Last::Guards => self.go(self.place()),
             Last::Ends => self.turn(Stage::Completed(None), behind),
         }
