@@ -2,6 +2,7 @@
 #![tactic(auto)]
 
 use aud_server::program::{ProgramFault, program, refuse};
+use aud_server::solo::SoloFault;
 use std::process::ExitCode;
 use std::rt::Env;
 use std::{env, io};
@@ -10,7 +11,7 @@ fn main(rt: HostRuntime) -> ExitCode {
     let status = match words(&rt) {
         Ok(words) => program(&rt, &words),
         Err(error) if error.kind() == io::ErrorKind::OutOfMemory => {
-            refuse(&rt, ProgramFault::Memory)
+            refuse(&rt, ProgramFault::Server(SoloFault::Memory))
         }
         Err(_) => refuse(&rt, ProgramFault::Arguments),
     };

@@ -120,21 +120,14 @@ module _ (scope : Scope) where
   highest_scoped Magnitude at t h = one_scoped unary.Magnitude t h
   highest_scoped Not at t h = tt
 
-  alone_scoped : (m : Meaning) (prefix designator : Ident) → MeaningScoped scope m → TypedScoped scope (e.image_alone m prefix designator).typed
-  alone_scoped (Variable v) prefix designator h = h
-  alone_scoped _ prefix designator h = tt
-
   image_scoped : (t : Typed) → TypedScoped scope t → TypedScoped scope (e.image_of t)
   image_scoped (number x) h = h
   image_scoped _ h = tt
 
-  with_scoped : (m : Meaning) (prefix designator : Ident) (at : Pos) (t : Typed) → TypedScoped scope t → TypedScoped scope (e.image_with m prefix designator at t).typed
-  with_scoped IntegerType prefix designator at t h = image_scoped t h
-  with_scoped _ prefix designator at t h = tt
-
   any_image_scoped : (m : Meaning) (prefix designator : Ident) (a : Option (Pos × Typed)) → MeaningScoped scope m → IfSome a (λ x. TypedScoped scope x.1) → TypedScoped scope (e.image m prefix designator a).typed
-  any_image_scoped m prefix designator None h i = alone_scoped m prefix designator h
-  any_image_scoped m prefix designator (Some a) h i = with_scoped m prefix designator a.0 a.1 i
+  any_image_scoped IntegerType prefix designator (Some a) h i = image_scoped a.1 i
+  any_image_scoped (Variable v) prefix designator None h i = h
+  any_image_scoped _ prefix designator a h i = tt
 
   attribute_scoped : (m : Option Meaning) (prefix designator : Ident) (a : Option (Pos × Typed)) → VisibleScoped scope m → IfSome a (λ x. TypedScoped scope x.1) → TypedScoped scope (e.checked_attribute m prefix designator a).typed
   attribute_scoped None prefix designator a h i = tt

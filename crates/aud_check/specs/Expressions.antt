@@ -173,25 +173,15 @@ abbrev pub image_of : Typed → Typed
 image_of (number e) = string (tree.image e)
 image_of _ = unknown
 
--- X'Image of a variable (RM 4.10(40)) asks no argument, Integer'Image asks one (RM 3.5(35))
-abbrev pub image_alone : Meaning → Ident → Ident → Checked
-image_alone IntegerType prefix designator = faulty (wrong_number_of_arguments designator.at)
-image_alone (Variable v) prefix designator = fine (string (tree.image (tree.variable v)))
-image_alone Faulty prefix designator = fine unknown
-image_alone PutLine prefix designator = faulty (wrong_kind_of_name prefix.at)
-image_alone MainProcedure prefix designator = faulty (wrong_kind_of_name prefix.at)
-
-abbrev pub image_with : Meaning → Ident → Ident → Pos → Typed → Checked
-image_with IntegerType prefix designator at t = record { faults = not_integer at t; typed = image_of t }
-image_with (Variable v) prefix designator at t = faulty (wrong_number_of_arguments designator.at)
-image_with Faulty prefix designator at t = fine unknown
-image_with PutLine prefix designator at t = faulty (wrong_kind_of_name prefix.at)
-image_with MainProcedure prefix designator at t = faulty (wrong_kind_of_name prefix.at)
-
--- the argument, if there is one, with the place where it begins
+-- X'Image of a variable (RM 4.10(40)) asks no argument, Integer'Image asks one (RM 3.5(35)); it comes with the place where it begins
 abbrev pub image : Meaning → Ident → Ident → Option (Pos × Typed) → Checked
-image m prefix designator None = image_alone m prefix designator
-image m prefix designator (Some a) = image_with m prefix designator a.0 a.1
+image IntegerType prefix designator (Some a) = record { faults = not_integer a.0 a.1; typed = image_of a.1 }
+image IntegerType prefix designator None = faulty (wrong_number_of_arguments designator.at)
+image (Variable v) prefix designator None = fine (string (tree.image (tree.variable v)))
+image (Variable v) prefix designator (Some a) = faulty (wrong_number_of_arguments designator.at)
+image Faulty prefix designator argument = fine unknown
+image PutLine prefix designator argument = faulty (wrong_kind_of_name prefix.at)
+image MainProcedure prefix designator argument = faulty (wrong_kind_of_name prefix.at)
 
 -- an attribute's prefix must be declared, and its designator must be Image (RM 4.1.4)
 abbrev pub checked_attribute : Option Meaning → Ident → Ident → Option (Pos × Typed) → Checked

@@ -2,7 +2,7 @@
 
 ghost use Rattle.std.specs.Prelude.{◌≡◌, option_map};
 ghost use Rattle.aud_syntax.specs.Ties.View.{plain_expression, plain_relation, plain_simple, plain_added, plain_term, plain_multiplied, plain_factor, plain_primary, plain_maybe};
-ghost use Rattle.aud_check.specs.Expressions.{expression_at, relation_at, simple_at, term_at, factor_at, primary_at, multiplying, checked_number, checked_name, checked_expression, checked_relation, checked_simple, checked_added, checked_term, checked_multiplied, checked_factor, checked_primary, checked_image, checked_attribute, image_alone, image_with, variable_faults};
+ghost use Rattle.aud_check.specs.Expressions.{expression_at, relation_at, simple_at, term_at, factor_at, primary_at, multiplying, checked_number, checked_name, checked_expression, checked_relation, checked_simple, checked_added, checked_term, checked_multiplied, checked_factor, checked_primary, checked_image, checked_attribute, image, variable_faults};
 ghost use Rattle.aud_check.specs.Least.{noted};
 ghost use Rattle.aud_check.specs.Ties.Typing.{plain_typed, Shows};
 
@@ -121,54 +121,31 @@ fn checked_name(meaning: Option<Meaning>, at: Pos, faults: &mut Least) -> Result
     }
 }
 
-// Image with no argument.
-fn image_alone(
+// Image, with its argument and the place where that begins, if it has one.
+fn image(
     meaning: Meaning,
     prefix: &Ident,
     designator: &Ident,
+    argument: Option<(Pos, Typed)>,
     faults: &mut Least,
 ) -> Result<Typed, AllocError>
-    ensures { Shows result faults.old faults.new (image_alone meaning prefix.now designator.now) }
+    ensures { Shows result faults.old faults.new (image meaning prefix.now designator.now
+        (option_map (λ p. (p.0, plain_typed p.1)) argument)) }
 {
-    match meaning {
-        Meaning::IntegerType => {
-            wrong_number_of_arguments(designator.at, faults);
-            Ok(Typed::Unknown)
-        }
-        Meaning::Variable(variable) => {
-            Ok(Typed::Text(TextExpression::Image(IntegerExpression::Variable(variable))))
-        }
-        Meaning::Faulty => Ok(Typed::Unknown),
-        Meaning::PutLine | Meaning::MainProcedure => {
-            wrong_kind_of_name(prefix.at, faults);
-            Ok(Typed::Unknown)
-        }
-    }
-}
-
-// Image with an argument that begins at a place.
-fn image_with(
-    meaning: Meaning,
-    prefix: &Ident,
-    designator: &Ident,
-    at: Pos,
-    argument: Typed,
-    faults: &mut Least,
-) -> Result<Typed, AllocError>
-    ensures { Shows result faults.old faults.new
-        (image_with meaning prefix.now designator.now at (plain_typed argument)) }
-{
-    match meaning {
-        Meaning::IntegerType => {
+    match (meaning, argument) {
+        (Meaning::IntegerType, Some((at, argument))) => {
             wants_integer(at, &argument, faults);
             Ok(image_of(argument))
         }
-        Meaning::Variable(_) => {
+        (Meaning::Variable(variable), None) => {
+            Ok(Typed::Text(TextExpression::Image(IntegerExpression::Variable(variable))))
+        }
+        (Meaning::IntegerType, None) | (Meaning::Variable(_), Some(_)) => {
             wrong_number_of_arguments(designator.at, faults);
             Ok(Typed::Unknown)
         }
-        Meaning::Faulty => Ok(Typed::Unknown),
-        Meaning::PutLine | Meaning::MainProcedure => {
+        (Meaning::Faulty, _) => Ok(Typed::Unknown),
+        (Meaning::PutLine | Meaning::MainProcedure, _) => {
             wrong_kind_of_name(prefix.at, faults);
             Ok(Typed::Unknown)
         }
@@ -195,10 +172,7 @@ fn attribute(
         wrong_kind_of_name(designator.at, faults);
         return Ok(Typed::Unknown);
     }
-    match argument {
-        None => image_alone(meaning, prefix, designator, faults),
-        Some((at, argument)) => image_with(meaning, prefix, designator, at, argument, faults),
-    }
+    image(meaning, prefix, designator, argument, faults)
 }
 
 #[cycle(expression)]

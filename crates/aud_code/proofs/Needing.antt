@@ -43,7 +43,7 @@ module _ (E : Counts → Type 0) where
   passed_all (instructs i ∷ ls) zero c behind = absurd (omega (arith, behind))
   passed_all (instructs i ∷ ls) (suc k) c behind = passed_all ls k c (omega (arith, behind))
 
-  -- so many are passed, or all
+  -- k instructions are passed, and so are m: the same number, or in both cases all
   passed_to : (ls : List FlatLine) (k m : ℕ) (c : Counts) → m ≤ length (instructions_from ls) → (k ≡ m) ⊎ ((length (instructions_from ls) ≤ k) × (length (instructions_from ls) ≤ m)) → AreFine E (instructions_from ls) k c ↔ AreFine E (instructions_from (drop m ls)) 0 c
   passed_to ls k m c within (inl e) = rw e (passed_within ls m c within)
   passed_to ls k m c within (inr p) =

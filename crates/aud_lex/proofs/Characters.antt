@@ -1,6 +1,7 @@
 -- What the class of a byte says of it.
-use Rattle.std.proofs.Common.{◌≡◌, ℕ, ◌+◌, ◌<◌, ◌≤◌, Bool, true, false, not, ◌&&◌, ◌||◌, refl, ap, ◌∙◌, sym, subst, arith, ⊎_elim}
-use Rattle.std.proofs.lemmas.Bool.{cases_lt, and_parts, or_from, and_left, and_right, lt-leb, leb-true, le-leb, and_from, or_right, ne_eqb, eqb-true, agree_below, agree_below_at}
+use Rattle.std.proofs.Common.{◌≡◌, ℕ, ◌+◌, ◌<◌, ◌≤◌, Bool, true, false, not, ◌&&◌, ◌||◌, refl, ap, ◌∙◌, sym, arith, ⊎_elim}
+use Rattle.std.proofs.lemmas.Bool.{cases_lt, and_parts, and_left, and_right, lt-leb, leb-true, le-leb, and_from, or_right, ne_eqb, eqb-true, agree_below, agree_below_at}
+use Rattle.std.proofs.lemmas.Bool.Decides.{nat_tests}
 use Rattle.std.specs.Prelude.{◌==◌, nat_le, if◌then◌else◌}
 use Rattle.aud_lex.specs.declared.automaton.Class.{Class}
 use Rattle.aud_lex.specs.declared.automaton.Class.TheVariants.{Letter, Digit, Underscore, Quote, Point, Colon, Equals, Less, Greater, Slash, Star, Control}
@@ -16,14 +17,6 @@ is_digit b = between 48 b 57
 -- a graphic character that is no quotation mark
 abbrev pub is_plain : ℕ → Bool
 is_plain b = between 32 b 126 && not (b == 34)
-
-abbrev pub of_letter : Class → Bool
-of_letter Letter = true
-of_letter _ = false
-
-abbrev pub of_digit : Class → Bool
-of_digit Digit = true
-of_digit _ = false
 
 abbrev pub of_plain : Class → Bool
 of_plain Quote = false
@@ -49,32 +42,19 @@ single_above b h =
 pub control_above : (b : ℕ) → 127 ≤ b → class b ≡ Control
 control_above b h = grind (arith, between_above, equals_above, single_above)
 
--- a test of bytes and one of their classes give one answer
-agree : (f : ℕ → Bool) (g : Class → Bool) → agree_below f (λ b. g (class b)) 127 ≡ true → ((b : ℕ) → 127 ≤ b → f b ≡ g Control) → (b : ℕ) → f b ≡ g (class b)
-agree f g low high b = ⊎_elim (agree_below_at f (λ b. g (class b)) 127 b low) (λ h. high b h ∙ ap g (sym (control_above b h))) (cases_lt b 127)
-
-pub letters_agree : (b : ℕ) → is_letter b ≡ of_letter (class b)
-letters_agree = agree is_letter of_letter refl (λ b h. or_from _ _ (between_above 65 90 b (omega arith) h) (between_above 97 122 b (omega arith) h))
-
-pub digits_agree : (b : ℕ) → is_digit b ≡ of_digit (class b)
-digits_agree = agree is_digit of_digit refl (λ b h. between_above 48 57 b (omega arith) h)
+-- a test of bytes and one of bytes with their classes give one answer
+pub agree : (f : ℕ → Bool) (g : Class → ℕ → Bool) → agree_below f (λ b. g (class b) b) 127 ≡ true → ((b : ℕ) → 127 ≤ b → f b ≡ g Control b) → (b : ℕ) → f b ≡ g (class b) b
+agree f g low high b =
+    ⊎_elim (agree_below_at f (λ b. g (class b) b) 127 b low) (λ h. high b h ∙ ap (λ c. g c b) (sym (control_above b h))) (cases_lt b 127)
 
 pub plains_agree : (b : ℕ) → is_plain b ≡ of_plain (class b)
-plains_agree = agree is_plain of_plain refl (λ b h. and_left _ _ (between_above 32 126 b (omega arith) h))
-
-letter_is : (c : Class) → of_letter c ≡ true → c ≡ Letter
-letter_is Letter e = refl
-letter_is _ e = cc
-
-digit_is : (c : Class) → of_digit c ≡ true → c ≡ Digit
-digit_is Digit e = refl
-digit_is _ e = cc
+plains_agree = agree is_plain (λ c b. of_plain c) refl (λ b h. and_left _ _ (between_above 32 126 b (omega arith) h))
 
 pub letter_class : (b : ℕ) → is_letter b ≡ true → class b ≡ Letter
-letter_class b e = letter_is (class b) (sym (letters_agree b) ∙ e)
+letter_class b e = rw e refl
 
 pub digit_class : (b : ℕ) → is_digit b ≡ true → class b ≡ Digit
-digit_class b e = digit_is (class b) (sym (digits_agree b) ∙ e)
+digit_class b e = grind (arith, nat_tests)
 
 -- the one byte of a class, where it has one
 abbrev pub byte_of : Class → ℕ
@@ -92,15 +72,28 @@ byte_of _ = 0
 abbrev pub of_one : Class → Bool
 of_one c = not (byte_of c == 0)
 
--- a byte of a class that has one byte is that byte
-abbrev only : ℕ → Bool
-only b = not (of_one (class b)) || b == byte_of (class b)
+-- whether the byte can be of the class, where that is letters, digits or one byte
+abbrev fits : Class → ℕ → Bool
+fits Letter b = is_letter b
+fits Digit b = is_digit b
+fits c b = not (of_one c) || b == byte_of c
 
-only_holds : (b : ℕ) → only b ≡ true
-only_holds b = ⊎_elim (agree_below_at only (λ b. true) 127 b refl) (λ h. ap (λ c. not (of_one c) || b == byte_of c) (control_above b h)) (cases_lt b 127)
+fits_class : (b : ℕ) (c : Class) → class b ≡ c → fits c b ≡ true
+fits_class b c e = ap (λ x. fits x b) (sym e) ∙ sym (agree (λ b. true) fits refl (λ b h. refl) b)
+
+pub letter_of : (b : ℕ) → class b ≡ Letter → is_letter b ≡ true
+letter_of b e = fits_class b Letter e
+
+pub digit_of : (b : ℕ) → class b ≡ Digit → is_digit b ≡ true
+digit_of b e = fits_class b Digit e
+
+one_fits : (b : ℕ) (c : Class) → of_one c ≡ true → fits c b ≡ true → b ≡ byte_of c
+one_fits b Letter o f = cc
+one_fits b Digit o f = cc
+one_fits b c o f = eqb-true b (byte_of c) (ap (λ t. not t || b == byte_of c) (sym o) ∙ f)
 
 pub byte_is : (b : ℕ) (c : Class) → class b ≡ c → of_one c ≡ true → b ≡ byte_of c
-byte_is b c e o = eqb-true b (byte_of c) (ap (λ t. not t || b == byte_of c) (sym o) ∙ subst (λ x. (not (of_one x) || b == byte_of x) ≡ true) e (only_holds b))
+byte_is b c e o = one_fits b c o (fits_class b c e)
 
 -- capitals have the class of their small letters
 pub small_class : (b : ℕ) → class (small b) ≡ class b

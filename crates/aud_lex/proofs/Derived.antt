@@ -1,5 +1,5 @@
 -- Each lexical element of the manual is a token of its kind.
-use Rattle.std.proofs.Common.{◌≡◌, ℕ, List, [], ◌∷◌, ◌++◌, map, Bool, true, false, refl, ap, ◌∙◌, sym, subst, ⊎_elim, append_assoc}
+use Rattle.std.proofs.Common.{◌≡◌, ℕ, List, [], ◌∷◌, ◌++◌, map, Bool, true, false, not, ◌&&◌, refl, ap, ◌∙◌, sym, subst, ⊎_elim, append_assoc}
 use Rattle.std.specs.Prelude.{codes}
 use Prim.Native.String.{String}
 use Rattle.aud_lex.specs.declared.token.Kind.{Kind}
@@ -7,10 +7,10 @@ use Rattle.aud_lex.specs.declared.token.Kind.TheVariants as kind
 use Rattle.aud_lex.specs.declared.automaton.Class.{Class}
 use Rattle.aud_lex.specs.declared.automaton.Class.TheVariants.{Quote, Control}
 use Rattle.aud_lex.specs.declared.automaton.State.{State}
-use Rattle.aud_lex.specs.declared.automaton.State.TheVariants.{Start, InWord, WordUnderscore, InNumber, NumberUnderscore, AfterPoint, InDecimals, DecimalsUnderscore, InString, BehindQuote, OnPoint, OnColon, OnEquals, OnLess, OnGreater, OnSlash, OnStar, Whole}
+use Rattle.aud_lex.specs.declared.automaton.State.TheVariants.{Start, InWord, WordUnderscore, InNumber, NumberUnderscore, AfterPoint, InDecimals, DecimalsUnderscore, InString, BehindQuote, Whole}
 use Rattle.aud_lex.specs.Bytes.{class}
 use Rattle.aud_lex.specs.Kinds.{Spelled, spelled, reserved, delimiters}
-use Rattle.aud_lex.specs.Tokens.{run, step, in_string, accepts, is_token, kind_of, kind_in, found, small}
+use Rattle.aud_lex.specs.Tokens.{run, step, accepts, is_token, kind_of, kind_in, found, small, is_word_or_number}
 use Rattle.aud_lex.specs.Why.Manual.{The, One, Anything, Optional, ◌then◌, ◌or◌, Repeated, never, again, Letter, Digit, Underline, Identifier, ReservedWord, Numeral, RealLiteral, StringElement, StringLiteral, Delimiter, IsElement, identifier, reserved_word, integer, real, string, delimiter}
 use Rattle.aud_lex.proofs.Characters.{is_plain, of_plain, plains_agree, letter_class, digit_class, small_class}
 use Rattle.aud_lex.proofs.Listed.{all_at, found_listed, none_found}
@@ -65,7 +65,7 @@ real_leads = then_leads Numeral _ Start InNumber InDecimals numeral_leads
 
 -- Strings
 
-plain_stays : (c : Class) → of_plain c ≡ true → in_string c ≡ InString
+plain_stays : (c : Class) → of_plain c ≡ true → step InString c ≡ InString
 plain_stays Quote e = cc
 plain_stays Control e = cc
 plain_stays _ e = refl
@@ -137,16 +137,14 @@ abbrev in_word : State → Bool
 in_word InWord = true
 in_word _ = false
 
+-- a token that is no word, no number and no string literal
 abbrev pub in_delimiter : State → Bool
-in_delimiter OnPoint = true
-in_delimiter OnColon = true
-in_delimiter OnEquals = true
-in_delimiter OnLess = true
-in_delimiter OnGreater = true
-in_delimiter OnSlash = true
-in_delimiter OnStar = true
-in_delimiter Whole = true
-in_delimiter _ = false
+in_delimiter BehindQuote = false
+in_delimiter s = accepts s && not (is_word_or_number s)
+
+pub delimiter_state : (s : State) (text : List ℕ) → in_delimiter s ≡ true → (accepts s ≡ true) × (kind_in s text ≡ found delimiters text kind.Box)
+delimiter_state Whole text d = (refl, refl)
+delimiter_state _ text d = (cc, cc)
 
 word_is : (s : State) → in_word s ≡ true → s ≡ InWord
 word_is InWord e = refl
@@ -169,21 +167,12 @@ reserved_is text k h =
     (sym (run_small Start text) ∙ word_is (run Start (map small text)) (all_at (λ e. in_word (run Start e.bytes)) reserved e refl h))
     refl (found_listed reserved e kind.Identifier refl h)
 
-delimiter_at : (s : State) (text : List ℕ) (k : Kind) → run Start text ≡ s → in_delimiter s ≡ true → found delimiters text kind.Box ≡ k → Is text k
-delimiter_at OnPoint text k e d f = at_state OnPoint text k e refl f
-delimiter_at OnColon text k e d f = at_state OnColon text k e refl f
-delimiter_at OnEquals text k e d f = at_state OnEquals text k e refl f
-delimiter_at OnLess text k e d f = at_state OnLess text k e refl f
-delimiter_at OnGreater text k e d f = at_state OnGreater text k e refl f
-delimiter_at OnSlash text k e d f = at_state OnSlash text k e refl f
-delimiter_at OnStar text k e d f = at_state OnStar text k e refl f
-delimiter_at Whole text k e d f = at_state Whole text k e refl f
-delimiter_at _ text k e d f = cc
-
 delimiter_is : (text : List ℕ) (k : Kind) → Delimiter k text → Is text k
 delimiter_is text k h =
     let e : Spelled = spelled text k in
-    delimiter_at (run Start text) text k refl (all_at (λ e. in_delimiter (run Start e.bytes)) delimiters e refl h) (found_listed delimiters e kind.Box refl h)
+    let s : State = run Start text in
+    let d = delimiter_state s text (all_at (λ e. in_delimiter (run Start e.bytes)) delimiters e refl h) in
+    at_state s text k refl d.0 (d.1 ∙ found_listed delimiters e kind.Box refl h)
 
 pub element_is_token : (text : List ℕ) (k : Kind) → IsElement text k → Is text k
 element_is_token text _ (identifier h n) = at_state InWord text kind.Identifier (identifier_leads text h) refl (none_found reserved (map small text) kind.Identifier n)

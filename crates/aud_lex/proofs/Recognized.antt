@@ -1,6 +1,6 @@
 -- Each token is a lexical element of the manual.
 use Rattle.std.proofs.Common.{◌≡◌, ◌⊎◌, ℕ, List, [], ◌∷◌, ◌++◌, map, Bool, true, false, not, ◌||◌, refl, ap, ◌∙◌, sym, subst, inl, inr, ⊎_elim, append_assoc}
-use Rattle.std.proofs.lemmas.Bool.{cases_lt, agree_below_at, true≢false}
+use Rattle.std.proofs.lemmas.Bool.{true≢false}
 use Rattle.std.specs.Prelude.{codes}
 use Prim.Native.String.{String}
 use Rattle.aud_lex.specs.declared.token.Kind.{Kind}
@@ -8,25 +8,19 @@ use Rattle.aud_lex.specs.declared.token.Kind.TheVariants as kind
 use Rattle.aud_lex.specs.declared.automaton.Class.{Class}
 use Rattle.aud_lex.specs.declared.automaton.Class.TheVariants as class
 use Rattle.aud_lex.specs.declared.automaton.State.{State}
-use Rattle.aud_lex.specs.declared.automaton.State.TheVariants.{Dead, InWord, WordUnderscore, InNumber, NumberUnderscore, AfterPoint, InDecimals, DecimalsUnderscore, InString, BehindQuote, OnPoint, OnColon, OnEquals, OnLess, OnGreater, OnSlash, OnStar, Whole}
+use Rattle.aud_lex.specs.declared.automaton.State.TheVariants.{Start, Dead, InWord, WordUnderscore, InNumber, NumberUnderscore, AfterPoint, InDecimals, DecimalsUnderscore, InString, BehindQuote, Whole}
 use Rattle.aud_lex.specs.Bytes as bytes
 use Rattle.aud_lex.specs.Kinds.{reserved, delimiters}
-use Rattle.aud_lex.specs.Tokens.{run, step, from_start, in_word, word_underscore, accepts, is_token, kind_of, kind_in, found, small}
+use Rattle.aud_lex.specs.Tokens.{run, step, accepts, is_token, kind_of, kind_in, found, small}
 use Rattle.aud_lex.specs.Why.Manual.{The, Optional, ◌then◌, ◌or◌, Repeated, never, again, Letter, Digit, Underline, Numeral, StringElement, IsElement, identifier, reserved_word, integer, real, string, delimiter}
 use Rattle.aud_lex.specs.Why.Laws.{TokensAreElements, IsNone, Examples}
 use Rattle.aud_lex.proofs.Fronts.{run_dead}
-use Rattle.aud_lex.proofs.Characters.{is_letter, is_digit, is_plain, of_letter, of_digit, of_plain, letters_agree, digits_agree, plains_agree, control_above, byte_of, of_one, byte_is}
+use Rattle.aud_lex.proofs.Characters.{is_plain, of_plain, agree, plains_agree, letter_of, digit_of, byte_of, of_one, byte_is}
 use Rattle.aud_lex.proofs.Listed.{found_or_not, is_listed, listed}
-use Rattle.aud_lex.proofs.Derived.{Apart, word_state, before, in_delimiter, element_is_token}
+use Rattle.aud_lex.proofs.Derived.{Apart, word_state, before, in_delimiter, delimiter_state, element_is_token}
 
 dead_refuses : (x : List ℕ) → accepts (run Dead x) ≡ true → ⊥
 dead_refuses x a = true≢false (sym a ∙ ap accepts (run_dead x))
-
-letter_of : (b : ℕ) → bytes.class b ≡ class.Letter → is_letter b ≡ true
-letter_of b e = letters_agree b ∙ ap of_letter e
-
-digit_of : (b : ℕ) → bytes.class b ≡ class.Digit → is_digit b ≡ true
-digit_of b e = digits_agree b ∙ ap of_digit e
 
 -- one more in front of the repeated ones
 pub longer : (A B : List ℕ → Type 0) (front x : List ℕ) → A front → (Repeated A then B) x → (Repeated A then B) (front ++ x)
@@ -182,7 +176,7 @@ wordy WordUnderscore = true
 wordy Dead = true
 wordy _ = false
 
-word_goes_on : (c : Class) → (wordy (in_word c) ≡ true) × (wordy (word_underscore c) ≡ true)
+word_goes_on : (c : Class) → (wordy (step InWord c) ≡ true) × (wordy (step WordUnderscore c) ≡ true)
 word_goes_on class.Letter = (refl, refl)
 word_goes_on class.Digit = (refl, refl)
 word_goes_on class.Underscore = (refl, refl)
@@ -241,72 +235,45 @@ word_element b x e a = subst (λ s. In s text) (sym k.1) (⊎_elim
     k = words false x a
 
     n : Apart text
-    n = apart b x (ap (λ c. accepts (run (from_start c) x)) e ∙ a) a
+    n = apart b x (ap (λ c. accepts (run (step Start c) x)) e ∙ a) a
 
 -- Delimiters
 
 -- a delimiter of one byte is listed
-abbrev one_test : ℕ → Bool
-one_test b = not (in_delimiter (from_start (bytes.class b))) || is_listed delimiters (b ∷ [])
+abbrev one_test : Class → ℕ → Bool
+one_test c b = not (in_delimiter (step Start c)) || is_listed delimiters (b ∷ [])
 
-one_holds : (b : ℕ) → one_test b ≡ true
-one_holds b = ⊎_elim (agree_below_at one_test (λ b. true) 127 b refl)
-    (λ h. ap (λ c. not (in_delimiter (from_start c)) || is_listed delimiters (b ∷ [])) (control_above b h)) (cases_lt b 127)
-
-one_listed : (b : ℕ) (c : Class) → bytes.class b ≡ c → in_delimiter (from_start c) ≡ true → is_listed delimiters (b ∷ []) ≡ true
+one_listed : (b : ℕ) (c : Class) → bytes.class b ≡ c → in_delimiter (step Start c) ≡ true → is_listed delimiters (b ∷ []) ≡ true
 one_listed b c e d =
-    ap (λ t. not t || is_listed delimiters (b ∷ [])) (sym d ∙ ap (λ z. in_delimiter (from_start z)) (sym e)) ∙ one_holds b
+    ap (λ t. not t || is_listed delimiters (b ∷ [])) (sym d) ∙ ap (λ z. one_test z b) (sym e) ∙ sym (agree (λ b. true) one_test refl (λ b h. refl) b)
 
 -- no delimiter goes on so, or one of two bytes is whole and listed
 abbrev After : Class → Class → Type 0
 After c d =
-    (step (from_start c) d ≡ Dead)
-    ⊎ ((step (from_start c) d ≡ Whole) × (of_one c ≡ true) × (of_one d ≡ true) × (is_listed delimiters (byte_of c ∷ byte_of d ∷ []) ≡ true))
+    (step (step Start c) d ≡ Dead)
+    ⊎ ((step (step Start c) d ≡ Whole) × (of_one c ≡ true) × (of_one d ≡ true) × (is_listed delimiters (byte_of c ∷ byte_of d ∷ []) ≡ true))
 
-after_point : (d : Class) → After class.Point d
-after_point class.Point = inr (refl, refl, refl, refl)
-after_point _ = inl refl
+after : (c d : Class) → in_delimiter (step Start c) ≡ true → After c d
+after class.Point class.Point e = inr (refl, refl, refl, refl)
+after class.Colon class.Equals e = inr (refl, refl, refl, refl)
+after class.Slash class.Equals e = inr (refl, refl, refl, refl)
+after class.Equals class.Greater e = inr (refl, refl, refl, refl)
+after class.Less class.Equals e = inr (refl, refl, refl, refl)
+after class.Less class.Less e = inr (refl, refl, refl, refl)
+after class.Less class.Greater e = inr (refl, refl, refl, refl)
+after class.Greater class.Equals e = inr (refl, refl, refl, refl)
+after class.Greater class.Greater e = inr (refl, refl, refl, refl)
+after class.Star class.Star e = inr (refl, refl, refl, refl)
+after class.Letter d e = cc
+after class.Digit d e = cc
+after class.Underscore d e = cc
+after class.Quote d e = cc
+after class.Graphic d e = cc
+after class.Control d e = cc
+after _ _ e = inl refl
 
-after_colon : (d : Class) → After class.Colon d
-after_colon class.Equals = inr (refl, refl, refl, refl)
-after_colon _ = inl refl
-
-after_slash : (d : Class) → After class.Slash d
-after_slash class.Equals = inr (refl, refl, refl, refl)
-after_slash _ = inl refl
-
-after_equals : (d : Class) → After class.Equals d
-after_equals class.Greater = inr (refl, refl, refl, refl)
-after_equals _ = inl refl
-
-after_less : (d : Class) → After class.Less d
-after_less class.Equals = inr (refl, refl, refl, refl)
-after_less class.Less = inr (refl, refl, refl, refl)
-after_less class.Greater = inr (refl, refl, refl, refl)
-after_less _ = inl refl
-
-after_greater : (d : Class) → After class.Greater d
-after_greater class.Equals = inr (refl, refl, refl, refl)
-after_greater class.Greater = inr (refl, refl, refl, refl)
-after_greater _ = inl refl
-
-after_star : (d : Class) → After class.Star d
-after_star class.Star = inr (refl, refl, refl, refl)
-after_star _ = inl refl
-
-after : (c d : Class) → in_delimiter (from_start c) ≡ true → After c d
-after class.Point d e = after_point d
-after class.Colon d e = after_colon d
-after class.Slash d e = after_slash d
-after class.Equals d e = after_equals d
-after class.Less d e = after_less d
-after class.Greater d e = after_greater d
-after class.Star d e = after_star d
-after class.Single d e = inl refl
-after _ d e = cc
-
-listed_delimiter : (b : ℕ) (x : List ℕ) (c : Class) → bytes.class b ≡ c → in_delimiter (from_start c) ≡ true → accepts (run (from_start c) x) ≡ true →
-    (in_delimiter (run (from_start c) x) ≡ true) × (is_listed delimiters (b ∷ x) ≡ true)
+listed_delimiter : (b : ℕ) (x : List ℕ) (c : Class) → bytes.class b ≡ c → in_delimiter (step Start c) ≡ true → accepts (run (step Start c) x) ≡ true →
+    (in_delimiter (run (step Start c) x) ≡ true) × (is_listed delimiters (b ∷ x) ≡ true)
 listed_delimiter b [] c e d a = (d, one_listed b c e d)
 listed_delimiter b (b2 ∷ []) c e d a = ⊎_elim
     (λ h. absurd (true≢false (sym a ∙ ap accepts h)))
@@ -319,26 +286,16 @@ listed_delimiter b (b2 ∷ b3 ∷ x) c e d a = absurd (⊎_elim
     (λ h. dead_refuses x (ap (λ s. accepts (run s (b3 ∷ x))) (sym h) ∙ a))
     (λ h. dead_refuses x (ap (λ s. accepts (run s (b3 ∷ x))) (sym h.0) ∙ a)) (after c (bytes.class b2) d))
 
-delimiter_in : (s : State) (text : List ℕ) → in_delimiter s ≡ true → IsElement text (found delimiters text kind.Box) → In s text
-delimiter_in OnPoint text d h = h
-delimiter_in OnColon text d h = h
-delimiter_in OnEquals text d h = h
-delimiter_in OnLess text d h = h
-delimiter_in OnGreater text d h = h
-delimiter_in OnSlash text d h = h
-delimiter_in OnStar text d h = h
-delimiter_in Whole text d h = h
-delimiter_in _ text d h = cc
-
-delimiter_element : (b : ℕ) (x : List ℕ) (c : Class) → bytes.class b ≡ c → in_delimiter (from_start c) ≡ true → accepts (run (from_start c) x) ≡ true →
-    In (run (from_start c) x) (b ∷ x)
+delimiter_element : (b : ℕ) (x : List ℕ) (c : Class) → bytes.class b ≡ c → in_delimiter (step Start c) ≡ true → accepts (run (step Start c) x) ≡ true →
+    In (run (step Start c) x) (b ∷ x)
 delimiter_element b x c e d a =
     let k = listed_delimiter b x c e d a in
-    delimiter_in (run (from_start c) x) (b ∷ x) k.0 (delimiter (found delimiters (b ∷ x) kind.Box) (listed delimiters (b ∷ x) kind.Box k.1))
+    subst (IsElement (b ∷ x)) (sym (delimiter_state (run (step Start c) x) (b ∷ x) k.0).1)
+    (delimiter (found delimiters (b ∷ x) kind.Box) (listed delimiters (b ∷ x) kind.Box k.1))
 
 -- All together
 
-by_first : (b : ℕ) (x : List ℕ) (c : Class) → bytes.class b ≡ c → accepts (run (from_start c) x) ≡ true → In (run (from_start c) x) (b ∷ x)
+by_first : (b : ℕ) (x : List ℕ) (c : Class) → bytes.class b ≡ c → accepts (run (step Start c) x) ≡ true → In (run (step Start c) x) (b ∷ x)
 by_first b x class.Letter e a = word_element b x e a
 by_first b x class.Digit e a = number_element b x e a
 by_first b x class.Quote e a = string_element b x e a

@@ -8,6 +8,8 @@ pub mod Ends
 pub mod Total
 pub mod Spelled
 pub mod Passing
+pub mod Joined
+pub mod Parentheses
 pub mod Rolls
 pub mod Verdicts
 pub mod Literals

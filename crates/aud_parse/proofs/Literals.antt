@@ -1,7 +1,7 @@
 -- How the values of literals are read byte by byte.
-use Rattle.std.proofs.Common.{◌≡◌, ℕ, zero, suc, ◌+◌, ◌-◌, ◌<◌, ◌≤◌, ℤ, pos, List, [], ◌∷◌, drop, take, take_all, length, Bool, true, false, refl, sym, ap, ◌∙◌, arith, subst, slice_index_or, leb-true, le-leb}
+use Rattle.std.proofs.Common.{◌≡◌, ℕ, zero, suc, ◌+◌, ◌-◌, ◌<◌, ◌≤◌, ℤ, pos, List, [], ◌∷◌, drop, length, Bool, true, false, refl, sym, ◌∙◌, arith, subst, slice_index_or, leb-true, le-leb}
 use Rattle.std.specs.Prelude.{nat_le, ◌==◌, ◌*◌, if◌then◌else◌, Option, Some, None}
-use Rattle.aud_parse.specs.Values.{with_digit, digits_value, number_value, is_left_out, inner, unquoted}
+use Rattle.aud_parse.specs.Values.{with_digit, digits_value, number_value, is_left_out, inner}
 
 more : (before byte : ℕ) (b : Bool) → before ≤ (if b then before else before * 10 + (byte - 48))
 more before byte true = omega arith
@@ -59,19 +59,3 @@ pub inner_keep : (bytes : List ℕ) (i : ℕ) (behind : Bool) → i < length byt
 inner_keep [] i behind h e = absurd (omega arith)
 inner_keep (b ∷ bs) zero behind h e = keep (is_left_out b behind) (inner true bs) (b ∷ inner false bs) e
 inner_keep (b ∷ bs) (suc i) behind h e = inner_keep bs i behind (omega arith) e
-
-pub inner_end : (bytes : List ℕ) (i : ℕ) (behind : Bool) → length bytes ≤ i → inner behind (drop i bytes) ≡ []
-inner_end [] zero behind h = refl
-inner_end [] (suc i) behind h = refl
-inner_end (b ∷ bs) zero behind h = absurd (omega arith)
-inner_end (b ∷ bs) (suc i) behind h = inner_end bs i behind (omega arith)
-
-pub value_end : (bytes : List ℕ) (i before : ℕ) → length bytes ≤ i → digits_value before (drop i bytes) ≡ before
-value_end [] zero before h = refl
-value_end [] (suc i) before h = refl
-value_end (b ∷ bs) zero before h = absurd (omega arith)
-value_end (b ∷ bs) (suc i) before h = value_end bs i before (omega arith)
-
-pub unquoted_is : (text : List ℕ) → inner false (take (length text - 1) (drop 1 text)) ≡ unquoted text
-unquoted_is [] = refl
-unquoted_is (b ∷ bs) = ap (λ l. inner false l) (take_all _ bs (omega arith))

@@ -90,7 +90,7 @@ pub turns_end : {X : Type 0} {f : X → Item} {p : Phrase} {r : ℕ} {ts ts' : L
 turns_end {f = f} {p} {r} {ts} {xs = xs} t e k ds v o = subst (λ z. Out (Rep p ∷ k) r ts z v) (sym (items_front f xs ds)) (t.by k _ v (o_stop e o))
 
 -- how a function fails with a fault, and so do those that have passed something before it
-fails_through : {s0 s : Symbol} {r r' : ℕ} {ts ts' : List Element} {K : List Symbol → List Symbol} {f : List Item → List Item} (e : Fault) →
+pub fails_through : {s0 s : Symbol} {r r' : ℕ} {ts ts' : List Element} {K : List Symbol → List Symbol} {f : List Item → List Item} (e : Fault) →
     FailsAt s r' ts' e → ((k : List Symbol) (ds : List Item) (v : Verdict) → Out (s ∷ K k) r' ts' ds v → Out (s0 ∷ k) r ts (f ds) v) → FailsAt s0 r ts e
 fails_through fault.Memory h g = tt
 fails_through {K = K} {f} (fault.Wrong rest) h g = λ k. let o = h (K k) in (f o.0, g k o.0 _ o.1)

@@ -13,7 +13,7 @@ use Rattle.aud_parse.specs.Grammar as g
 use Rattle.aud_parse.specs.Grammar.{Word, Phrase, Symbol, T, P, W, N, L, Down, A, Opt, Rep, rule}
 use Rattle.aud_parse.specs.First.{spelling, among, same_text, is_word, next_word, next_in, firsts}
 use Rattle.aud_parse.specs.Actions as a
-use Rattle.aud_parse.specs.Actions.{Item, token, none, top, listed, made, the_unit}
+use Rattle.aud_parse.specs.Actions.{Item, token, none, top, pop, listed, made, the_unit}
 use Rattle.aud_parse.specs.Parsed.{Verdict, Good, Wrong, Deep, budget, parsed, judged}
 use Rattle.aud_parse.specs.Ties.Outcome.{Out, o_end, o_rest, o_word, o_token, o_no_word, o_no_token, o_spelled, o_misspelled, o_rule, o_level, o_deep, o_shut, o_down, o_this, o_other, o_last, o_yes, o_no, o_more, o_stop}
 use Rattle.aud_parse.specs.Why.Alike.{Alike, AllAlike, stripped}
@@ -69,18 +69,6 @@ new_items {ds = ds} make h f step = record {
 token_follows : {c : Kind} {k : List Symbol} {r : ℕ} {t : Element} {ds : List Item} {v : Verdict} (u : Element) (us : List Element) → among (c ∷ []) (kind_number u.kind) ≡ true → Follows k r us ds v → Follows (P c ∷ k) r (u ∷ us) (token t ∷ ds) v
 token_follows u us h f = record { items = token u ∷ f.items; end = f.end; reads = o_token h f.reads; bared = ap (λ z. bare_item (token u) ∷ z) f.bared; ended = f.ended }
 
--- a phrase of one token
-leaf_follows : {k : List Symbol} {r : ℕ} {ds : List Item} {v : Verdict} (p : Phrase) (c : Kind) (f : Item → Item) (t u : Element) (us : List Element) →
-    ((es : List Item) (w : Verdict) → Out (P c ∷ k) r (u ∷ us) (token u ∷ es) w → Out (N p ∷ k) r (u ∷ us) (f (token u) ∷ es) w) →
-    bare_item (f (token t)) ≡ bare_item (f (token u)) → among (c ∷ []) (kind_number u.kind) ≡ true → Follows k r us ds v → Follows (N p ∷ k) r (u ∷ us) (f (token t) ∷ ds) v
-leaf_follows {ds = ds} p c f t u us step e h o = record {
-  items = f (token u) ∷ o.items;
-  end = o.end;
-  reads = step o.items o.end (o_token h o.reads);
-  bared = ap (λ z. z ∷ bares ds) e ∙ ap (λ z. bare_item (f (token u)) ∷ z) o.bared;
-  ended = o.ended;
-}
-
 tested : (b : Bool) → (if b then true else false) ≡ true → b ≡ true
 tested true e = refl
 tested false e = cc
@@ -112,50 +100,59 @@ next_word_alike w (t ∷ ts) (u ∷ us) h = sym (word_alike w t u h.0)
 fault_follows : {s : List Symbol} {r : ℕ} {us : List Element} (items : List Item) (v w : Verdict) → Out s r us items w → Matches v w → Follows s r us items v
 fault_follows items v w o e = record { items = items; end = w; reads = o; bared = refl; ended = e }
 
-follows : {s : List Symbol} {r : ℕ} {ts : List Element} {ds : List Item} {v : Verdict} → Out s r ts ds v → (us : List Element) → AllAlike ts us → Follows s r us ds v
-follows o_end [] h = record { items = []; end = Good; reads = o_end; bared = refl; ended = tt }
-follows o_end (u ∷ us) h = absurd h
-follows (o_rest {r} {t} {ts}) [] h = absurd h
-follows (o_rest {r} {t} {ts}) (u ∷ us) h = fault_follows [] (Wrong (t ∷ ts)) (Wrong (u ∷ us)) o_rest (ap suc (length_alike ts us h.1))
-follows (o_word e o) [] h = absurd h
-follows (o_word {c} {k} {r} {t} {ts} {ds} {v} e o) (u ∷ us) h = same_items (follows o us h.1) (λ es w x. o_word (alike_among c t u h.0 e) x)
-follows (o_token e o) [] h = absurd h
-follows (o_token {c} {k} {r} {t} {ts} {ds} {v} e o) (u ∷ us) h = token_follows u us (alike_among c t u h.0 e) (follows o us h.1)
-follows (o_no_word {c} {k} {r} {ts} e) us h = fault_follows [] (Wrong ts) (Wrong us) (o_no_word (next_alike (c ∷ []) ts us h ∙ e)) (length_alike ts us h)
-follows (o_no_token {c} {k} {r} {ts} e) us h = fault_follows [] (Wrong ts) (Wrong us) (o_no_token (next_alike (c ∷ []) ts us h ∙ e)) (length_alike ts us h)
-follows (o_spelled e o) [] h = absurd h
-follows (o_spelled {w} {k} {r} {t} {ts} {ds} {v} e o) (u ∷ us) h = same_items (follows o us h.1) (λ es w' x. o_spelled (sym (word_alike w t u h.0) ∙ e) x)
-follows (o_misspelled {w} {k} {r} {ts} e) us h = fault_follows [] (Wrong ts) (Wrong us) (o_misspelled (next_word_alike w ts us h ∙ e)) (length_alike ts us h)
-follows (o_rule {p = g.Identifier} (o_token e o)) [] h = absurd h
-follows (o_rule {p = g.Identifier} (o_token {c} {k} {r} {t} {ts} {ds} {v} e o)) (u ∷ us) h =
-    leaf_follows g.Identifier kind.Identifier (λ x. a.an_ident (a.ident_of x)) t u us (λ es w x. o_rule x)
-    (ap (λ (z : List ℕ). a.an_ident (record { name = z; at = nowhere })) (h.0.name (is_code kind.Identifier (kind_number t.kind) e)))
-    (alike_among kind.Identifier t u h.0 e) (follows o us h.1)
-follows (o_rule {p = g.Identifier} (o_no_token {c} {k} {r} {ts} e)) us h = fault_follows (made g.Identifier []) (Wrong ts) (Wrong us) (o_rule (o_no_token (next_alike (kind.Identifier ∷ []) ts us h ∙ e))) (length_alike ts us h)
-follows (o_rule {p = g.Number} (o_token e o)) [] h = absurd h
-follows (o_rule {p = g.Number} (o_token {c} {k} {r} {t} {ts} {ds} {v} e o)) (u ∷ us) h =
-    leaf_follows g.Number kind.Integer (λ x. a.a_number (a.number_of x)) t u us (λ es w x. o_rule x)
-    (ap (λ (z : Option ℤ). a.a_number (record { value = z; at = nowhere })) (h.0.number (is_code kind.Integer (kind_number t.kind) e)))
-    (alike_among kind.Integer t u h.0 e) (follows o us h.1)
-follows (o_rule {p = g.Number} (o_no_token {c} {k} {r} {ts} e)) us h = fault_follows (made g.Number []) (Wrong ts) (Wrong us) (o_rule (o_no_token (next_alike (kind.Integer ∷ []) ts us h ∙ e))) (length_alike ts us h)
-follows (o_rule {p = g.Literal} (o_token e o)) [] h = absurd h
-follows (o_rule {p = g.Literal} (o_token {c} {k} {r} {t} {ts} {ds} {v} e o)) (u ∷ us) h =
-    leaf_follows g.Literal kind.Text (λ x. a.a_literal (a.literal_of x)) t u us (λ es w x. o_rule x)
-    (ap (λ (z : List ℕ). a.a_literal (record { text = z; at = nowhere })) (h.0.literal (is_code kind.Text (kind_number t.kind) e)))
-    (alike_among kind.Text t u h.0 e) (follows o us h.1)
-follows (o_rule {p = g.Literal} (o_no_token {c} {k} {r} {ts} e)) us h = fault_follows (made g.Literal []) (Wrong ts) (Wrong us) (o_rule (o_no_token (next_alike (kind.Text ∷ []) ts us h ∙ e))) (length_alike ts us h)
-follows (o_rule {p = p} o) us h = new_items (made p) (bare_made p refl) (follows o us h) (λ es w x. o_rule x)
-follows (o_level o) us h = same_items (follows o us h) (λ es w x. o_level x)
-follows (o_deep {p} {k} {ts} e) us h = fault_follows [] (Deep ts) (Deep us) (o_deep (next_alike (firsts p) ts us h ∙ e)) (length_alike ts us h)
-follows (o_shut {p} {k} {ts} e) us h = fault_follows [] (Wrong ts) (Wrong us) (o_shut (next_alike (firsts p) ts us h ∙ e)) (length_alike ts us h)
-follows (o_down o) us h = same_items (follows o us h) (λ es w x. o_down x)
-follows (o_this {p} {q} {ps} {k} {r} {ts} e o) us h = same_items (follows o us h) (λ es w x. o_this (next_alike (firsts p) ts us h ∙ e) x)
-follows (o_other {p} {q} {ps} {k} {r} {ts} e o) us h = same_items (follows o us h) (λ es w x. o_other (next_alike (firsts p) ts us h ∙ e) x)
-follows (o_last o) us h = same_items (follows o us h) (λ es w x. o_last x)
-follows (o_yes {p} {k} {r} {ts} e o) us h = same_items (follows o us h) (λ es w x. o_yes (next_alike (firsts p) ts us h ∙ e) x)
-follows (o_no {p} {k} {r} {ts} e o) us h = new_items (λ st. none ∷ st) (λ st. refl) (follows o us h) (λ es w x. o_no (next_alike (firsts p) ts us h ∙ e) x)
-follows (o_more {p} {k} {r} {ts} e o) us h = new_items listed bare_listed (follows o us h) (λ es w x. o_more (next_alike (firsts p) ts us h ∙ e) x)
-follows (o_stop {p} {k} {r} {ts} e o) us h = new_items (λ st. none ∷ st) (λ st. refl) (follows o us h) (λ es w x. o_stop (next_alike (firsts p) ts us h ∙ e) x)
+mutual
+  follows : {s : List Symbol} {r : ℕ} {ts : List Element} {ds : List Item} {v : Verdict} → Out s r ts ds v → (us : List Element) → AllAlike ts us → Follows s r us ds v
+  follows o_end [] h = record { items = []; end = Good; reads = o_end; bared = refl; ended = tt }
+  follows o_end (u ∷ us) h = absurd h
+  follows (o_rest {r} {t} {ts}) [] h = absurd h
+  follows (o_rest {r} {t} {ts}) (u ∷ us) h = fault_follows [] (Wrong (t ∷ ts)) (Wrong (u ∷ us)) o_rest (ap suc (length_alike ts us h.1))
+  follows (o_word e o) [] h = absurd h
+  follows (o_word {c} {k} {r} {t} {ts} {ds} {v} e o) (u ∷ us) h = same_items (follows o us h.1) (λ es w x. o_word (alike_among c t u h.0 e) x)
+  follows (o_token e o) [] h = absurd h
+  follows (o_token {c} {k} {r} {t} {ts} {ds} {v} e o) (u ∷ us) h = token_follows u us (alike_among c t u h.0 e) (follows o us h.1)
+  follows (o_no_word {c} {k} {r} {ts} e) us h = fault_follows [] (Wrong ts) (Wrong us) (o_no_word (next_alike (c ∷ []) ts us h ∙ e)) (length_alike ts us h)
+  follows (o_no_token {c} {k} {r} {ts} e) us h = fault_follows [] (Wrong ts) (Wrong us) (o_no_token (next_alike (c ∷ []) ts us h ∙ e)) (length_alike ts us h)
+  follows (o_spelled e o) [] h = absurd h
+  follows (o_spelled {w} {k} {r} {t} {ts} {ds} {v} e o) (u ∷ us) h = same_items (follows o us h.1) (λ es w' x. o_spelled (sym (word_alike w t u h.0) ∙ e) x)
+  follows (o_misspelled {w} {k} {r} {ts} e) us h = fault_follows [] (Wrong ts) (Wrong us) (o_misspelled (next_word_alike w ts us h ∙ e)) (length_alike ts us h)
+  follows (o_rule {p = g.Identifier} o) us h =
+      leaf_follows o us h g.Identifier (λ x. a.an_ident (a.ident_of x)) (λ k r us es w x. o_rule x)
+      (λ t u e i. ap (λ (z : List ℕ). a.an_ident (record { name = z; at = nowhere })) (e.name i))
+  follows (o_rule {p = g.Number} o) us h =
+      leaf_follows o us h g.Number (λ x. a.a_number (a.number_of x)) (λ k r us es w x. o_rule x)
+      (λ t u e i. ap (λ (z : Option ℤ). a.a_number (record { value = z; at = nowhere })) (e.number i))
+  follows (o_rule {p = g.Literal} o) us h =
+      leaf_follows o us h g.Literal (λ x. a.a_literal (a.literal_of x)) (λ k r us es w x. o_rule x)
+      (λ t u e i. ap (λ (z : List ℕ). a.a_literal (record { text = z; at = nowhere })) (e.literal i))
+  follows (o_rule {p = p} o) us h = new_items (made p) (bare_made p refl) (follows o us h) (λ es w x. o_rule x)
+  follows (o_level o) us h = same_items (follows o us h) (λ es w x. o_level x)
+  follows (o_deep {p} {k} {ts} e) us h = fault_follows [] (Deep ts) (Deep us) (o_deep (next_alike (firsts p) ts us h ∙ e)) (length_alike ts us h)
+  follows (o_shut {p} {k} {ts} e) us h = fault_follows [] (Wrong ts) (Wrong us) (o_shut (next_alike (firsts p) ts us h ∙ e)) (length_alike ts us h)
+  follows (o_down o) us h = same_items (follows o us h) (λ es w x. o_down x)
+  follows (o_this {p} {q} {ps} {k} {r} {ts} e o) us h = same_items (follows o us h) (λ es w x. o_this (next_alike (firsts p) ts us h ∙ e) x)
+  follows (o_other {p} {q} {ps} {k} {r} {ts} e o) us h = same_items (follows o us h) (λ es w x. o_other (next_alike (firsts p) ts us h ∙ e) x)
+  follows (o_last o) us h = same_items (follows o us h) (λ es w x. o_last x)
+  follows (o_yes {p} {k} {r} {ts} e o) us h = same_items (follows o us h) (λ es w x. o_yes (next_alike (firsts p) ts us h ∙ e) x)
+  follows (o_no {p} {k} {r} {ts} e o) us h = new_items (λ st. none ∷ st) (λ st. refl) (follows o us h) (λ es w x. o_no (next_alike (firsts p) ts us h ∙ e) x)
+  follows (o_more {p} {k} {r} {ts} e o) us h = new_items listed bare_listed (follows o us h) (λ es w x. o_more (next_alike (firsts p) ts us h ∙ e) x)
+  follows (o_stop {p} {k} {r} {ts} e o) us h = new_items (λ st. none ∷ st) (λ st. refl) (follows o us h) (λ es w x. o_stop (next_alike (firsts p) ts us h ∙ e) x)
+
+  -- a phrase of one token, which is made of what alike tokens share
+  leaf_follows : {c : Kind} {k : List Symbol} {r : ℕ} {ts : List Element} {ds : List Item} {v : Verdict} → Out (P c ∷ k) r ts ds v → (us : List Element) → AllAlike ts us → (p : Phrase) (f : Item → Item) →
+      ((k : List Symbol) (r : ℕ) (us : List Element) (es : List Item) (w : Verdict) → Out (P c ∷ k) r us es w → Out (N p ∷ k) r us (f (top es) ∷ pop es) w) →
+      ((t u : Element) → Alike t u → kind_number t.kind ≡ kind_number c → bare_item (f (token t)) ≡ bare_item (f (token u))) → Follows (N p ∷ k) r us (f (top ds) ∷ pop ds) v
+  leaf_follows (o_token e o) [] h p f step same = absurd h
+  leaf_follows (o_token {c} {k} {r} {t} {ts} {ds} {v} e o) (u ∷ us) h p f step same =
+      let o' = follows o us h.1 in
+      record {
+        items = f (token u) ∷ o'.items;
+        end = o'.end;
+        reads = step k r (u ∷ us) (token u ∷ o'.items) o'.end (o_token (alike_among c t u h.0 e) o'.reads);
+        bared = ap (λ z. z ∷ bares ds) (same t u h.0 (is_code c (kind_number t.kind) e)) ∙ ap (λ z. bare_item (f (token u)) ∷ z) o'.bared;
+        ended = o'.ended;
+      }
+  leaf_follows (o_no_token {c} {k} {r} {ts} e) us h p f step same =
+      fault_follows (f none ∷ []) (Wrong ts) (Wrong us) (step k r us [] (Wrong us) (o_no_token (next_alike (c ∷ []) ts us h ∙ e))) (length_alike ts us h)
 
 top_bares : (ds : List Item) → the_unit (top (bares ds)) ≡ bare (the_unit (top ds))
 top_bares [] = refl

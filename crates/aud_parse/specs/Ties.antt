@@ -1,3 +1,4 @@
+pub mod Behind
 pub mod Gives
 pub mod Items
 pub mod Outcome

@@ -10,20 +10,23 @@ use std::alloc::{AllocError, AllocFailed};
 
 /// The tokens that are still to be read.
 #[derive(Clone, Copy)]
-pub struct Rest<'a, 's> {
-    pub tokens: &'a [Token<'s>],
+pub struct Rest<'a> {
+    pub tokens: &'a [Token<'a>],
 }
 
 /// Why no tree is read.
 #[derive(Drop)]
-pub enum Fault<'a, 's> {
+pub enum Fault<'a> {
     /// Where memory is refused.
     Memory,
     /// No program goes on with the first of these tokens.
-    Wrong(Rest<'a, 's>),
+    Wrong(Rest<'a>),
     /// The first of these tokens opens one level too many.
-    Deep(Rest<'a, 's>),
+    Deep(Rest<'a>),
 }
+
+/// A tree and the tokens behind it, or why none is read.
+pub type Read<'a, T> = Result<(T, Rest<'a>), Fault<'a>>;
 
 /// Whether the next token is of this kind.
 pub fn is(start: Rest, kind: Kind) -> bool
@@ -48,7 +51,7 @@ pub fn is_one_of(start: Rest, kinds: &[Kind]) -> bool
 }
 
 /// The first token, and the others.
-fn split<'a, 's>(start: Rest<'a, 's>) -> (&'a Token<'s>, Rest<'a, 's>)
+fn split(start: Rest) -> (&Token, Rest)
     requires { 1 ≤ length start.tokens.now }
     ensures { start.entry.tokens.now ≡ result.0.now ∷ result.1.tokens.now }
 {
@@ -62,7 +65,7 @@ fn split<'a, 's>(start: Rest<'a, 's>) -> (&'a Token<'s>, Rest<'a, 's>)
 }
 
 /// The next token, where it is of this kind, and the others.
-pub fn accept<'a, 's>(start: Rest<'a, 's>, kind: Kind) -> Option<(&'a Token<'s>, Rest<'a, 's>)>
+pub fn accept(start: Rest, kind: Kind) -> Option<(&Token, Rest)>
     ensures { Accepts kind start.entry result }
 {
     if !is(start, kind) {
@@ -72,7 +75,7 @@ pub fn accept<'a, 's>(start: Rest<'a, 's>, kind: Kind) -> Option<(&'a Token<'s>,
 }
 
 /// Passes a word or a delimiter.
-pub fn word<'a, 's>(start: Rest<'a, 's>, kind: Kind) -> Result<Rest<'a, 's>, Fault<'a, 's>>
+pub fn word(start: Rest, kind: Kind) -> Result<Rest, Fault>
     ensures { ReadsWord kind start.entry result }
 {
     match accept(start, kind) {
@@ -82,10 +85,7 @@ pub fn word<'a, 's>(start: Rest<'a, 's>, kind: Kind) -> Result<Rest<'a, 's>, Fau
 }
 
 /// Passes a token of which the tree keeps something.
-pub fn token<'a, 's>(
-    start: Rest<'a, 's>,
-    kind: Kind,
-) -> Result<(&'a Token<'s>, Rest<'a, 's>), Fault<'a, 's>>
+pub fn token(start: Rest, kind: Kind) -> Read<&Token>
     ensures { ReadsToken kind start.entry result }
 {
     match accept(start, kind) {
@@ -96,7 +96,7 @@ pub fn token<'a, 's>(
 
 /// The levels that may be opened inside one more level, which the next token opens if it `begins`
 /// what lies there.
-pub fn deeper<'a, 's>(start: Rest<'a, 's>, room: u32, begins: bool) -> Result<u32, Fault<'a, 's>>
+pub fn deeper(start: Rest, room: u32, begins: bool) -> Result<u32, Fault>
     ensures { Deepens room begins start.entry result }
 {
     match room.checked_sub(1) {
@@ -106,7 +106,7 @@ pub fn deeper<'a, 's>(start: Rest<'a, 's>, room: u32, begins: bool) -> Result<u3
     }
 }
 
-impl From<AllocError> for Fault<'_, '_> {
+impl From<AllocError> for Fault<'_> {
     ghost from_gives = { λ _ e. e ≡ fault.Memory };
 
     fn from(_: AllocError) -> Self {
@@ -114,7 +114,7 @@ impl From<AllocError> for Fault<'_, '_> {
     }
 }
 
-impl<T: Drop> From<AllocFailed<T>> for Fault<'_, '_> {
+impl<T: Drop> From<AllocFailed<T>> for Fault<'_> {
     ghost from_gives = { λ _ e. e ≡ fault.Memory };
 
     fn from(_: AllocFailed<T>) -> Self {

@@ -6,7 +6,8 @@ ghost use Rattle.aud_parse.specs.Actions.{an_ident};
 ghost use Rattle.aud_parse.specs.Ties.Items.{vec_item, opt_item, expression_item, names_item, declaration_item};
 ghost use Rattle.aud_parse.specs.Ties.Reads.{Reads, MayRead, ReadsFlat, MayReadFlat};
 
-use crate::cursor::{Fault, Rest, accept, deeper, is, word};
+use crate::behind::ended;
+use crate::cursor::{Read, Rest, accept, deeper, is, word};
 use crate::expression::expression;
 use crate::leaf::ident;
 use aud_lex::token::Kind;
@@ -14,10 +15,7 @@ use aud_syntax::tree::{Declaration, Expression, Ident, Identifiers};
 use std::alloc::Global;
 
 /// The further names, each behind a comma.
-fn more_identifiers<'a, 's>(
-    alloc: Global,
-    start: Rest<'a, 's>,
-) -> Result<(Vec<Ident>, Rest<'a, 's>), Fault<'a, 's>>
+fn more_identifiers(alloc: Global, start: Rest) -> Read<Vec<Ident>>
     ensures { MayReadFlat (vec_item an_ident) (Rep g.MoreIdentifiers) start.entry result }
 {
     let mut all = Vec::new(alloc);
@@ -31,10 +29,7 @@ fn more_identifiers<'a, 's>(
 }
 
 /// Names (RM 3.3.1(4)).
-fn identifiers<'a, 's>(
-    alloc: Global,
-    start: Rest<'a, 's>,
-) -> Result<(Identifiers, Rest<'a, 's>), Fault<'a, 's>>
+fn identifiers(alloc: Global, start: Rest) -> Read<Identifiers>
     ensures { ReadsFlat names_item (N g.Identifiers) start.entry result }
 {
     let (first, rest) = ident(alloc, start)?;
@@ -43,11 +38,7 @@ fn identifiers<'a, 's>(
 }
 
 /// The value with which variables begin, if there is one.
-fn opt_initial<'a, 's>(
-    alloc: Global,
-    start: Rest<'a, 's>,
-    room: u32,
-) -> Result<(Option<Expression>, Rest<'a, 's>), Fault<'a, 's>>
+fn opt_initial(alloc: Global, start: Rest, room: u32) -> Read<Option<Expression>>
     ensures { MayRead (opt_item expression_item) (Opt g.Initial) room start.entry result }
 {
     if let Some((_, behind)) = accept(start, Kind::Becomes) {
@@ -58,27 +49,22 @@ fn opt_initial<'a, 's>(
 }
 
 /// Variables of one subtype.
-fn declaration<'a, 's>(
-    alloc: Global,
-    start: Rest<'a, 's>,
-    room: u32,
-) -> Result<(Declaration, Rest<'a, 's>), Fault<'a, 's>>
+fn declaration(alloc: Global, start: Rest, room: u32) -> Read<Declaration>
     ensures { Reads declaration_item (N g.Declaration) room start.entry result }
 {
     let (names, rest) = identifiers(alloc, start)?;
     let rest = word(rest, Kind::Colon)?;
     let (subtype, rest) = ident(alloc, rest)?;
     let (value, rest) = opt_initial(alloc, rest, room)?;
-    let rest = word(rest, Kind::Semicolon)?;
-    Ok((Declaration::Object(names, subtype, value), rest))
+    ended(
+        Declaration::Object(names, subtype, value),
+        rest,
+        Kind::Semicolon,
+    )
 }
 
 /// Declarations, at least one.
-fn declaration_list<'a, 's>(
-    alloc: Global,
-    start: Rest<'a, 's>,
-    room: u32,
-) -> Result<(Vec<Declaration>, Rest<'a, 's>), Fault<'a, 's>>
+fn declaration_list(alloc: Global, start: Rest, room: u32) -> Read<Vec<Declaration>>
     ensures { Reads (vec_item declaration_item) (N g.DeclarationList) room start.entry result }
 {
     let mut all = Vec::new(alloc);
@@ -94,11 +80,7 @@ fn declaration_list<'a, 's>(
 }
 
 /// Declarations, which lie one level deeper.
-fn declarations<'a, 's>(
-    alloc: Global,
-    start: Rest<'a, 's>,
-    room: u32,
-) -> Result<(Vec<Declaration>, Rest<'a, 's>), Fault<'a, 's>>
+fn declarations(alloc: Global, start: Rest, room: u32) -> Read<Vec<Declaration>>
     ensures { Reads (vec_item declaration_item) (N g.Declarations) room start.entry result }
 {
     let inside = deeper(start, room, is(start, Kind::Identifier))?;
@@ -106,11 +88,7 @@ fn declarations<'a, 's>(
 }
 
 /// Declarations, if there are any (RM 3.11).
-pub fn opt_declarations<'a, 's>(
-    alloc: Global,
-    start: Rest<'a, 's>,
-    room: u32,
-) -> Result<(Vec<Declaration>, Rest<'a, 's>), Fault<'a, 's>>
+pub fn opt_declarations(alloc: Global, start: Rest, room: u32) -> Read<Vec<Declaration>>
     ensures { MayRead (vec_item declaration_item) (Opt g.Declarations) room start.entry result }
 {
     if is(start, Kind::Identifier) {

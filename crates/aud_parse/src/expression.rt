@@ -9,7 +9,7 @@ ghost use Rattle.aud_parse.specs.Actions.{a_sign, an_adding, a_multiplying, an_o
 ghost use Rattle.aud_parse.specs.Ties.Items.{vec_item, opt_item, parens_item, name_item, args_item, attribute_item, primary_item, factor_item, multiplied_item, term_item, added_item, simple_item, boxed_item};
 ghost use Rattle.aud_parse.specs.Ties.Reads.{Reads, MayRead, ReadsFlat, Takes, TakesAny};
 
-use crate::cursor::{Fault, Rest, accept, deeper, is, token, word};
+use crate::cursor::{Read, Rest, accept, deeper, is, token, word};
 use crate::leaf::{ident, literal};
 use crate::value::number_value;
 use aud_lex::token::Kind;
@@ -22,11 +22,7 @@ use std::alloc::Global;
 
 /// An expression in parentheses, which lies one level deeper, and where they open.
 #[cycle(expression)]
-pub fn parens<'a, 's>(
-    alloc: Global,
-    start: Rest<'a, 's>,
-    room: u32,
-) -> Result<((Pos, Box<Expression>), Rest<'a, 's>), Fault<'a, 's>>
+pub fn parens(alloc: Global, start: Rest, room: u32) -> Read<(Pos, Box<Expression>)>
     ensures { Reads parens_item (N g.Parens) room start.entry result }
 {
     let inside = deeper(start, room, is(start, Kind::LeftParenthesis))?;
@@ -38,11 +34,7 @@ pub fn parens<'a, 's>(
 
 /// An attribute's name and its argument (RM 4.1.4).
 #[cycle(expression)]
-fn attribute<'a, 's>(
-    alloc: Global,
-    start: Rest<'a, 's>,
-    room: u32,
-) -> Result<((Ident, Option<Box<Expression>>), Rest<'a, 's>), Fault<'a, 's>>
+fn attribute(alloc: Global, start: Rest, room: u32) -> Read<(Ident, Option<Box<Expression>>)>
     ensures { Reads attribute_item (N g.Attribute) room start.entry result }
 {
     let rest = word(start, Kind::Apostrophe)?;
@@ -55,7 +47,7 @@ fn attribute<'a, 's>(
 }
 
 /// A name without arguments (RM 4.1).
-fn name<'a, 's>(alloc: Global, start: Rest<'a, 's>) -> Result<(Name, Rest<'a, 's>), Fault<'a, 's>>
+fn name(alloc: Global, start: Rest) -> Read<Name>
     ensures { ReadsFlat name_item (N g.Name) start.entry result }
 {
     let (ident, rest) = ident(alloc, start)?;
@@ -67,11 +59,7 @@ fn name<'a, 's>(alloc: Global, start: Rest<'a, 's>) -> Result<(Name, Rest<'a, 's
 /// A name, or an attribute of it (RM 4.1, 4.1.4).
 #[cycle(expression)]
 #[inline(never)]
-fn named<'a, 's>(
-    alloc: Global,
-    start: Rest<'a, 's>,
-    room: u32,
-) -> Result<(Primary, Rest<'a, 's>), Fault<'a, 's>>
+fn named(alloc: Global, start: Rest, room: u32) -> Read<Primary>
     ensures { Reads primary_item (N g.Named) room start.entry result }
 {
     let (name, rest) = name(alloc, start)?;
@@ -86,11 +74,7 @@ fn named<'a, 's>(
 
 /// A primary (RM 4.4(7)).
 #[cycle(expression)]
-fn primary<'a, 's>(
-    alloc: Global,
-    start: Rest<'a, 's>,
-    room: u32,
-) -> Result<(Primary, Rest<'a, 's>), Fault<'a, 's>>
+fn primary(alloc: Global, start: Rest, room: u32) -> Read<Primary>
     ensures { Reads primary_item (N g.Primary) room start.entry result }
 {
     if is(start, Kind::Integer) {
@@ -110,7 +94,7 @@ fn primary<'a, 's>(
 }
 
 /// An operator before a primary, if there is one (RM 4.5.6).
-fn opt_operator<'a, 's>(start: Rest<'a, 's>) -> (Option<Operator>, Rest<'a, 's>)
+fn opt_operator(start: Rest) -> (Option<Operator>, Rest)
     ensures { TakesAny (opt_item an_operator) (Opt g.Operator) start.entry result }
 {
     if let Some((t, rest)) = accept(start, Kind::Abs) {
@@ -138,11 +122,7 @@ fn opt_operator<'a, 's>(start: Rest<'a, 's>) -> (Option<Operator>, Rest<'a, 's>)
 
 /// A factor (RM 4.4(6)).
 #[cycle(expression)]
-fn factor<'a, 's>(
-    alloc: Global,
-    start: Rest<'a, 's>,
-    room: u32,
-) -> Result<(Factor, Rest<'a, 's>), Fault<'a, 's>>
+fn factor(alloc: Global, start: Rest, room: u32) -> Read<Factor>
     ensures { Reads factor_item (N g.Factor) room start.entry result }
 {
     let (operator, rest) = opt_operator(start);
@@ -151,7 +131,7 @@ fn factor<'a, 's>(
 }
 
 /// A multiplying operator, if one comes next (RM 4.5.5).
-fn multiplying<'a, 's>(start: Rest<'a, 's>) -> Option<(Multiplying, Rest<'a, 's>)>
+fn multiplying(start: Rest) -> Option<(Multiplying, Rest)>
     ensures { Takes a_multiplying g.MultiplyingOperator start.entry result }
 {
     if let Some((_, rest)) = accept(start, Kind::Star) {
@@ -172,11 +152,7 @@ fn multiplying<'a, 's>(start: Rest<'a, 's>) -> Option<(Multiplying, Rest<'a, 's>
 /// The further factors, each behind its operator.
 #[cycle(expression)]
 #[inline(never)]
-fn multiplieds<'a, 's>(
-    alloc: Global,
-    start: Rest<'a, 's>,
-    room: u32,
-) -> Result<(Vec<Multiplied>, Rest<'a, 's>), Fault<'a, 's>>
+fn multiplieds(alloc: Global, start: Rest, room: u32) -> Read<Vec<Multiplied>>
     ensures { MayRead (vec_item multiplied_item) (Rep g.Multiplied) room start.entry result }
 {
     let mut all = Vec::new(alloc);
@@ -191,11 +167,7 @@ fn multiplieds<'a, 's>(
 
 /// A term (RM 4.4(5)).
 #[cycle(expression)]
-fn term<'a, 's>(
-    alloc: Global,
-    start: Rest<'a, 's>,
-    room: u32,
-) -> Result<(Term, Rest<'a, 's>), Fault<'a, 's>>
+fn term(alloc: Global, start: Rest, room: u32) -> Read<Term>
     ensures { Reads term_item (N g.Term) room start.entry result }
 {
     let (first, rest) = factor(alloc, start, room)?;
@@ -204,7 +176,7 @@ fn term<'a, 's>(
 }
 
 /// A binary adding operator, if one comes next (RM 4.5.3).
-fn adding<'a, 's>(start: Rest<'a, 's>) -> Option<(Adding, Rest<'a, 's>)>
+fn adding(start: Rest) -> Option<(Adding, Rest)>
     ensures { Takes an_adding g.AddingOperator start.entry result }
 {
     if let Some((_, rest)) = accept(start, Kind::Plus) {
@@ -222,11 +194,7 @@ fn adding<'a, 's>(start: Rest<'a, 's>) -> Option<(Adding, Rest<'a, 's>)>
 /// The further terms, each behind its operator.
 #[cycle(expression)]
 #[inline(never)]
-fn addeds<'a, 's>(
-    alloc: Global,
-    start: Rest<'a, 's>,
-    room: u32,
-) -> Result<(Vec<Added>, Rest<'a, 's>), Fault<'a, 's>>
+fn addeds(alloc: Global, start: Rest, room: u32) -> Read<Vec<Added>>
     ensures { MayRead (vec_item added_item) (Rep g.Added) room start.entry result }
 {
     let mut all = Vec::new(alloc);
@@ -240,7 +208,7 @@ fn addeds<'a, 's>(
 }
 
 /// A sign, if there is one (RM 4.5.4).
-fn opt_sign<'a, 's>(start: Rest<'a, 's>) -> (Option<Signed>, Rest<'a, 's>)
+fn opt_sign(start: Rest) -> (Option<Signed>, Rest)
     ensures { TakesAny (opt_item a_sign) (Opt g.Sign) start.entry result }
 {
     if let Some((t, rest)) = accept(start, Kind::Plus) {
@@ -256,11 +224,7 @@ fn opt_sign<'a, 's>(start: Rest<'a, 's>) -> (Option<Signed>, Rest<'a, 's>)
 
 /// A simple expression (RM 4.4(4)).
 #[cycle(expression)]
-fn simple<'a, 's>(
-    alloc: Global,
-    start: Rest<'a, 's>,
-    room: u32,
-) -> Result<(Simple, Rest<'a, 's>), Fault<'a, 's>>
+fn simple(alloc: Global, start: Rest, room: u32) -> Read<Simple>
     ensures { Reads simple_item (N g.Simple) room start.entry result }
 {
     let (sign, rest) = opt_sign(start);
@@ -278,11 +242,7 @@ fn simple<'a, 's>(
 
 /// An expression (RM 4.4).
 #[cycle(expression)]
-pub fn expression<'a, 's>(
-    alloc: Global,
-    start: Rest<'a, 's>,
-    room: u32,
-) -> Result<(Box<Expression>, Rest<'a, 's>), Fault<'a, 's>>
+pub fn expression(alloc: Global, start: Rest, room: u32) -> Read<Box<Expression>>
     ensures { Reads boxed_item (N g.Expression) room start.entry result }
 {
     let (sum, rest) = simple(alloc, start, room)?;
@@ -291,18 +251,11 @@ pub fn expression<'a, 's>(
 }
 
 /// The arguments of a call, which lie one level deeper (RM 6.4).
-pub fn args<'a, 's>(
-    alloc: Global,
-    start: Rest<'a, 's>,
-    room: u32,
-) -> Result<(Vec<Expression>, Rest<'a, 's>), Fault<'a, 's>>
+pub fn args(alloc: Global, start: Rest, room: u32) -> Read<Vec<Expression>>
     ensures { Reads args_item (N g.Args) room start.entry result }
 {
-    let inside = deeper(start, room, is(start, Kind::LeftParenthesis))?;
-    let rest = word(start, Kind::LeftParenthesis)?;
-    let (argument, rest) = expression(alloc, rest, inside)?;
-    let rest = word(rest, Kind::RightParenthesis)?;
+    let (argument, rest) = parens(alloc, start, room)?;
     let mut all = Vec::new(alloc);
-    all.push(Box::into_inner(argument))?;
+    all.push(Box::into_inner(argument.1))?;
     Ok((all, rest))
 }

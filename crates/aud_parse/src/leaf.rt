@@ -5,7 +5,7 @@ ghost use Rattle.aud_parse.specs.Grammar.{N};
 ghost use Rattle.aud_parse.specs.Actions.{an_ident, a_literal};
 ghost use Rattle.aud_parse.specs.Ties.Reads.{ReadsFlat};
 
-use crate::cursor::{Fault, Rest, token};
+use crate::cursor::{Read, Rest, token};
 use crate::value::unquoted;
 use aud_lex::token::Kind;
 use aud_syntax::tree::{Ident, Literal};
@@ -13,10 +13,7 @@ use aud_text::name::Name;
 use std::alloc::Global;
 
 /// An identifier (RM 2.3).
-pub fn ident<'a, 's>(
-    alloc: Global,
-    start: Rest<'a, 's>,
-) -> Result<(Ident, Rest<'a, 's>), Fault<'a, 's>>
+pub fn ident(alloc: Global, start: Rest) -> Read<Ident>
     ensures { ReadsFlat an_ident (N g.Identifier) start.entry result }
 {
     let (t, rest) = token(start, Kind::Identifier)?;
@@ -27,10 +24,7 @@ pub fn ident<'a, 's>(
 /// A string literal (RM 2.6).
 // Not inlined, so that its values do not stand in the stack frames of each nested expression.
 #[inline(never)]
-pub fn literal<'a, 's>(
-    alloc: Global,
-    start: Rest<'a, 's>,
-) -> Result<(Literal, Rest<'a, 's>), Fault<'a, 's>>
+pub fn literal(alloc: Global, start: Rest) -> Read<Literal>
     ensures { ReadsFlat a_literal (N g.Literal) start.entry result }
 {
     let (t, rest) = token(start, Kind::Text)?;

@@ -1,6 +1,7 @@
 // The parser.
 #![tactic(auto)]
 
+mod behind;
 mod cursor;
 mod declaration;
 mod expression;

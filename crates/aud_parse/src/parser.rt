@@ -9,7 +9,7 @@ ghost use Rattle.aud_parse.specs.Ties.Items.{unit_item};
 ghost use Rattle.aud_parse.specs.Ties.Reads.{Reads};
 ghost use Rattle.aud_parse.specs.Ties.Gives.{Gives};
 
-use crate::cursor::{Fault, Rest, token, word};
+use crate::cursor::{Fault, Read, Rest, token, word};
 use crate::declaration::opt_declarations;
 use crate::leaf::ident;
 use crate::statement::body;
@@ -35,11 +35,7 @@ pub enum SyntaxFault {
 }
 
 /// A main procedure (RM 6.3, 10.1.1).
-fn unit<'a, 's>(
-    alloc: Global,
-    start: Rest<'a, 's>,
-    room: u32,
-) -> Result<(Unit, Rest<'a, 's>), Fault<'a, 's>>
+fn unit(alloc: Global, start: Rest, room: u32) -> Read<Unit>
     ensures { Reads unit_item (N g.Unit) room start.entry result }
 {
     let (first, rest) = token(start, Kind::Procedure)?;

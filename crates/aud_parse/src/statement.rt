@@ -6,7 +6,8 @@ ghost use Rattle.aud_parse.specs.Actions.{an_ident};
 ghost use Rattle.aud_parse.specs.Ties.Items.{vec_item, opt_item, assigned_item, called_item, statement_item, statements_item, body_item};
 ghost use Rattle.aud_parse.specs.Ties.Reads.{Reads, MayRead, ReadsFlat, MayReadFlat};
 
-use crate::cursor::{Fault, Rest, deeper, is, is_one_of, token, word};
+use crate::behind::{both, ended};
+use crate::cursor::{Read, Rest, deeper, is, is_one_of, token, word};
 use crate::expression::{args, expression};
 use crate::leaf::ident;
 use aud_lex::token::Kind;
@@ -16,47 +17,32 @@ use std::alloc::Global;
 const STATEMENTS: [Kind; 2] = [Kind::Null, Kind::Identifier];
 
 /// A null statement (RM 5.1(6)).
-fn null<'a, 's>(start: Rest<'a, 's>) -> Result<(Statement, Rest<'a, 's>), Fault<'a, 's>>
+fn null(start: Rest) -> Read<Statement>
     ensures { ReadsFlat statement_item (N g.NullStatement) start.entry result }
 {
     let (t, rest) = token(start, Kind::Null)?;
-    let rest = word(rest, Kind::Semicolon)?;
-    Ok((Statement::Null(t.at()), rest))
+    ended(Statement::Null(t.at()), rest, Kind::Semicolon)
 }
 
 /// What is assigned, behind the name (RM 5.2).
-fn assignment<'a, 's>(
-    alloc: Global,
-    start: Rest<'a, 's>,
-    room: u32,
-) -> Result<(Expression, Rest<'a, 's>), Fault<'a, 's>>
+fn assignment(alloc: Global, start: Rest, room: u32) -> Read<Expression>
     ensures { Reads assigned_item (N g.Assignment) room start.entry result }
 {
     let rest = word(start, Kind::Becomes)?;
     let (value, rest) = expression(alloc, rest, room)?;
-    let rest = word(rest, Kind::Semicolon)?;
-    Ok((Box::into_inner(value), rest))
+    ended(Box::into_inner(value), rest, Kind::Semicolon)
 }
 
 /// The arguments of a call, behind the name (RM 6.4).
-fn call<'a, 's>(
-    alloc: Global,
-    start: Rest<'a, 's>,
-    room: u32,
-) -> Result<(Vec<Expression>, Rest<'a, 's>), Fault<'a, 's>>
+fn call(alloc: Global, start: Rest, room: u32) -> Read<Vec<Expression>>
     ensures { Reads called_item (N g.Call) room start.entry result }
 {
     let (all, rest) = args(alloc, start, room)?;
-    let rest = word(rest, Kind::Semicolon)?;
-    Ok((all, rest))
+    ended(all, rest, Kind::Semicolon)
 }
 
 /// A statement that begins with a name.
-fn named<'a, 's>(
-    alloc: Global,
-    start: Rest<'a, 's>,
-    room: u32,
-) -> Result<(Statement, Rest<'a, 's>), Fault<'a, 's>>
+fn named(alloc: Global, start: Rest, room: u32) -> Read<Statement>
     ensures { Reads statement_item (N g.NameStatement) room start.entry result }
 {
     let (ident, rest) = ident(alloc, start)?;
@@ -72,11 +58,7 @@ fn named<'a, 's>(
 }
 
 /// A statement.
-fn statement<'a, 's>(
-    alloc: Global,
-    start: Rest<'a, 's>,
-    room: u32,
-) -> Result<(Statement, Rest<'a, 's>), Fault<'a, 's>>
+fn statement(alloc: Global, start: Rest, room: u32) -> Read<Statement>
     ensures { Reads statement_item (N g.Statement) room start.entry result }
 {
     if is(start, Kind::Null) {
@@ -86,11 +68,7 @@ fn statement<'a, 's>(
 }
 
 /// The further statements.
-fn more_statements<'a, 's>(
-    alloc: Global,
-    start: Rest<'a, 's>,
-    room: u32,
-) -> Result<(Vec<Statement>, Rest<'a, 's>), Fault<'a, 's>>
+fn more_statements(alloc: Global, start: Rest, room: u32) -> Read<Vec<Statement>>
     ensures { MayRead (vec_item statement_item) (Rep g.Statement) room start.entry result }
 {
     let mut all = Vec::new(alloc);
@@ -104,24 +82,16 @@ fn more_statements<'a, 's>(
 }
 
 /// Statements, at least one.
-fn statement_list<'a, 's>(
-    alloc: Global,
-    start: Rest<'a, 's>,
-    room: u32,
-) -> Result<(Statements, Rest<'a, 's>), Fault<'a, 's>>
+fn statement_list(alloc: Global, start: Rest, room: u32) -> Read<Statements>
     ensures { Reads statements_item (N g.StatementList) room start.entry result }
 {
     let (first, rest) = statement(alloc, start, room)?;
-    let (others, rest) = more_statements(alloc, rest, room)?;
+    let ((first, others), rest) = both(first, more_statements(alloc, rest, room))?;
     Ok((Statements { first, others }, rest))
 }
 
 /// Statements, which lie one level deeper.
-fn statements<'a, 's>(
-    alloc: Global,
-    start: Rest<'a, 's>,
-    room: u32,
-) -> Result<(Statements, Rest<'a, 's>), Fault<'a, 's>>
+fn statements(alloc: Global, start: Rest, room: u32) -> Read<Statements>
     ensures { Reads statements_item (N g.Statements) room start.entry result }
 {
     let inside = deeper(start, room, is_one_of(start, &STATEMENTS))?;
@@ -129,10 +99,7 @@ fn statements<'a, 's>(
 }
 
 /// The name behind `end`, if there is one.
-fn opt_ident<'a, 's>(
-    alloc: Global,
-    start: Rest<'a, 's>,
-) -> Result<(Option<Ident>, Rest<'a, 's>), Fault<'a, 's>>
+fn opt_ident(alloc: Global, start: Rest) -> Read<Option<Ident>>
     ensures { MayReadFlat (opt_item an_ident) (Opt g.Identifier) start.entry result }
 {
     if is(start, Kind::Identifier) {
@@ -143,25 +110,18 @@ fn opt_ident<'a, 's>(
 }
 
 /// Statements between `begin` and `end` (RM 6.3, 11.2).
-pub fn body<'a, 's>(
-    alloc: Global,
-    start: Rest<'a, 's>,
-    room: u32,
-) -> Result<(Body, Rest<'a, 's>), Fault<'a, 's>>
+pub fn body(alloc: Global, start: Rest, room: u32) -> Read<Body>
     ensures { Reads body_item (N g.Body) room start.entry result }
 {
     let (begin, rest) = token(start, Kind::Begin)?;
     let (statements, rest) = statements(alloc, rest, room)?;
-    let (end, rest) = token(rest, Kind::End)?;
-    let (name, rest) = opt_ident(alloc, rest)?;
-    let rest = word(rest, Kind::Semicolon)?;
-    Ok((
-        Body {
-            begin: begin.at(),
-            statements,
-            end: end.at(),
-            name,
-        },
-        rest,
-    ))
+    let ((statements, end), rest) = both(statements, token(rest, Kind::End))?;
+    let ((statements, name), rest) = both(statements, opt_ident(alloc, rest))?;
+    let body = Body {
+        begin: begin.at(),
+        statements,
+        end: end.at(),
+        name,
+    };
+    ended(body, rest, Kind::Semicolon)
 }

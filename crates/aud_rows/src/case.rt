@@ -14,9 +14,9 @@ pub struct Case {
 #[derive(Clone, Copy)]
 pub enum Piece {
     Text(&'static [u8]),
-    /// The same bytes so many times.
+    /// The same bytes, repeated this number of times.
     Many(usize, &'static [u8]),
-    /// Bytes so many times each, and all of them so many times.
+    /// Rounds, this number of them: in each, every part is repeated its own number of times.
     Rounds(usize, &'static [(usize, &'static [u8])]),
 }
 

@@ -20,7 +20,8 @@ use Rattle.clap.specs.declared.error.ErrorKind.TheVariants.{OutOfMemory}
 use Rattle.clap.proofs.WalkLemmas.{one_text-rows}
 use Rattle.clap.proofs.OnLiterals.{clap_on_literals}
 use Rattle.aud_server.specs.declared.program.ProgramFault.{ProgramFault}
-use Rattle.aud_server.specs.declared.program.ProgramFault.TheVariants.{Memory}
+use Rattle.aud_server.specs.declared.program.ProgramFault.TheVariants.{Server}
+use Rattle.aud_server.specs.declared.solo.SoloFault.TheVariants as server
 use Rattle.aud_server.specs.Program.{AsksSolo, of_kind}
 
 abbrev pub solo : Text
@@ -193,6 +194,6 @@ flag_told (name ∷ word ∷ []) m r two has if_set if_unset = go (bytes_eq word
         ((λ t. absurd (true≢false (sym t ∙ is))), (λ same. absurd (other same)))
 
 pub memory_told : {T : Type 0} (r : Result T ProgramFault) (k : ErrorKind)
-    → IsErrAnd r (λ e. e ≡ of_kind k) → k ≡ OutOfMemory → IfErr r (λ e. e ≡ Memory)
+    → IsErrAnd r (λ e. e ≡ of_kind k) → k ≡ OutOfMemory → IfErr r (λ e. e ≡ Server server.Memory)
 memory_told (Ok x) k is out = tt
 memory_told (Err e) k is out = is ∙ ap of_kind out

@@ -1,8 +1,9 @@
 -- Lines and words, from their first end on.
-use Rattle.std.proofs.Common.{◌≡◌, ◌≢◌, ℕ, zero, suc, ◌+◌, ◌<◌, List, [], ◌∷◌, length, take, drop, get_or, true, false, ◌==◌, slice_index, Option, Some, None, refl, sym, ◌∙◌, ap, arith, add-one}
+use Rattle.std.proofs.Common.{◌≡◌, ◌≢◌, ℕ, zero, suc, ◌+◌, ◌<◌, List, [], ◌∷◌, length, take, drop, get_or, ◌==◌, slice_index, Option, Some, None, refl, sym, ◌∙◌, ap, arith, add-one}
 use Rattle.std.proofs.lemmas.Bool.{false_from_ne_true, eqb-true}
 use Rattle.std.proofs.lemmas.List.{take_all, drop_all, drop_more}
 use Rattle.std.specs.Option.{unwrap_or}
+use Rattle.std.specs.Prelude.{if◌then◌else◌}
 use Rattle.memchr.specs.Find.{Nowhere, Passes, is_byte, IsFirstByte}
 use Rattle.aud_server.specs.Lines.{onto_line, lines_of, onto_word, pieces, without_empty, words_of}
 
@@ -10,35 +11,34 @@ use Rattle.aud_server.specs.Lines.{onto_line, lines_of, onto_word, pieces, witho
 later : (c b : ℕ) (bs : List ℕ) (n : ℕ) → Nowhere (Passes (is_byte c) (b ∷ bs)) 0 (suc n) → Nowhere (Passes (is_byte c) bs) 0 n
 later c b bs n h k low high = h (suc k) (omega arith) (omega arith)
 
+-- Bytes that are cut at each byte c: what is behind it is cut by itself, and any other byte goes in front of the first part.
+module _ (c : ℕ) (cut : List ℕ → List (List ℕ)) (onto : ℕ → List (List ℕ) → List (List ℕ))
+    (is : (b : ℕ) (bs : List ℕ) → cut (b ∷ bs) ≡ (if b == c then [] ∷ cut bs else onto b (cut bs))) where
+  other : (b : ℕ) (bs : List ℕ) (n : ℕ) → Nowhere (Passes (is_byte c) (b ∷ bs)) 0 (suc n) → cut (b ∷ bs) ≡ onto b (cut bs)
+  other b bs n h = is b bs ∙ ap (λ t. if t then [] ∷ cut bs else onto b (cut bs)) (false_from_ne_true (b == c) (h 0 (omega arith) (omega arith)))
+
+  uncut : (end : List ℕ → List (List ℕ)) → cut [] ≡ end [] → ((b : ℕ) (bs : List ℕ) → onto b (end bs) ≡ end (b ∷ bs)) →
+      (bytes : List ℕ) → Nowhere (Passes (is_byte c) bytes) 0 (length bytes) → cut bytes ≡ end bytes
+  uncut end last goes [] h = last
+  uncut end last goes (b ∷ bs) h = other b bs (length bs) h ∙ ap (onto b) (uncut end last goes bs (later c b bs (length bs) h)) ∙ goes b bs
+
+  first : ((b : ℕ) (x : List ℕ) (xs : List (List ℕ)) → onto b (x ∷ xs) ≡ (b ∷ x) ∷ xs) →
+      (bytes : List ℕ) (k : ℕ) → k < length bytes → Nowhere (Passes (is_byte c) bytes) 0 k → Passes (is_byte c) bytes k → cut bytes ≡ take k bytes ∷ cut (drop (suc k) bytes)
+  first goes [] k below h p = absurd (omega arith)
+  first goes (b ∷ bs) zero below h p = is b bs ∙ ap (λ t. if t then [] ∷ cut bs else onto b (cut bs)) p
+  first goes (b ∷ bs) (suc k) below h p = other b bs k h ∙ ap (onto b) (first goes bs k (omega arith) (later c b bs k h) p) ∙ goes b (take k bs) (cut (drop (suc k) bs))
+
 pub lines_none : (bytes : List ℕ) → Nowhere (Passes (is_byte 10) bytes) 0 (length bytes) → lines_of bytes ≡ []
-lines_none [] h = refl
-lines_none (b ∷ bs) h =
-    let other : (b == 10) ≡ false = false_from_ne_true _ (h 0 (omega arith) (omega arith)) in
-    rw other (ap (onto_line b) (lines_none bs (later 10 b bs (length bs) h)))
+lines_none = uncut 10 lines_of onto_line (λ b bs. refl) (λ bytes. []) refl (λ b bs. refl)
 
 pub lines_first : (bytes : List ℕ) (k : ℕ) → k < length bytes → Nowhere (Passes (is_byte 10) bytes) 0 k → Passes (is_byte 10) bytes k → lines_of bytes ≡ take k bytes ∷ lines_of (drop (suc k) bytes)
-lines_first [] k below h p = absurd (omega arith)
-lines_first (b ∷ bs) zero below h p =
-    let feed : (b == 10) ≡ true = p in
-    rw feed refl
-lines_first (b ∷ bs) (suc k) below h p =
-    let other : (b == 10) ≡ false = false_from_ne_true _ (h 0 (omega arith) (omega arith)) in
-    rw other (ap (onto_line b) (lines_first bs k (omega arith) (later 10 b bs k h) p))
+lines_first = first 10 lines_of onto_line (λ b bs. refl) (λ b x xs. refl)
 
 pieces_none : (bytes : List ℕ) → Nowhere (Passes (is_byte 32) bytes) 0 (length bytes) → pieces bytes ≡ bytes ∷ []
-pieces_none [] h = refl
-pieces_none (b ∷ bs) h =
-    let other : (b == 32) ≡ false = false_from_ne_true _ (h 0 (omega arith) (omega arith)) in
-    rw other (ap (onto_word b) (pieces_none bs (later 32 b bs (length bs) h)))
+pieces_none = uncut 32 pieces onto_word (λ b bs. refl) (λ bytes. bytes ∷ []) refl (λ b bs. refl)
 
 pieces_first : (bytes : List ℕ) (k : ℕ) → k < length bytes → Nowhere (Passes (is_byte 32) bytes) 0 k → Passes (is_byte 32) bytes k → pieces bytes ≡ take k bytes ∷ pieces (drop (suc k) bytes)
-pieces_first [] k below h p = absurd (omega arith)
-pieces_first (b ∷ bs) zero below h p =
-    let space : (b == 32) ≡ true = p in
-    rw space refl
-pieces_first (b ∷ bs) (suc k) below h p =
-    let other : (b == 32) ≡ false = false_from_ne_true _ (h 0 (omega arith) (omega arith)) in
-    rw other (ap (onto_word b) (pieces_first bs k (omega arith) (later 32 b bs k h) p))
+pieces_first = first 32 pieces onto_word (λ b bs. refl) (λ b x xs. refl)
 
 -- a word goes up to the first space
 pub word_until : (bytes : List ℕ) (r : Option ℕ) → IsFirstByte (is_byte 32) bytes r → 0 < length bytes → slice_index bytes 0 ≢ 32 → words_of bytes ≡ take (unwrap_or r (length bytes)) bytes ∷ words_of (drop (unwrap_or r (length bytes)) bytes)

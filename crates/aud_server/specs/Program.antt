@@ -2,10 +2,9 @@
 use Rattle.std.specs.Prelude.{◌≡◌, ℕ, List, [], ◌∷◌, codes}
 use Rattle.clap.specs.declared.error.ErrorKind.{ErrorKind}
 use Rattle.clap.specs.declared.error.ErrorKind.TheVariants.{OutOfMemory}
-use Rattle.aud_server.specs.declared.solo.SoloFault.{SoloFault}
-use Rattle.aud_server.specs.declared.solo.SoloFault.TheVariants as solo
+use Rattle.aud_server.specs.declared.solo.SoloFault.TheVariants as server
 use Rattle.aud_server.specs.declared.program.ProgramFault.{ProgramFault}
-use Rattle.aud_server.specs.declared.program.ProgramFault.TheVariants.{Arguments, Read, Write, Memory}
+use Rattle.aud_server.specs.declared.program.ProgramFault.TheVariants.{Arguments, Server}
 
 -- the words of a command line, the first of which is the program's own name, ask for the server: there is one more, and it is
 -- `--solo` in full
@@ -16,16 +15,11 @@ AsksSolo _ = ⊥
 -- the status with which it ends
 abbrev pub status : ProgramFault → ℕ
 status Arguments = 2
-status Read = 1
-status Write = 1
-status Memory = 4
-
-abbrev pub of_solo : SoloFault → ProgramFault
-of_solo solo.Read = Read
-of_solo solo.Write = Write
-of_solo solo.Memory = Memory
+status (Server server.Read) = 1
+status (Server server.Write) = 1
+status (Server server.Memory) = 4
 
 -- of an error that was met while the words were read
 abbrev pub of_kind : ErrorKind → ProgramFault
-of_kind OutOfMemory = Memory
+of_kind OutOfMemory = Server server.Memory
 of_kind _ = Arguments

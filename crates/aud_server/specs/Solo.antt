@@ -1,12 +1,14 @@
 -- What the server on one stream reads and writes. Of a reader and a writer a word takes what was left in it, or stood there, before the
 -- call and after it. Nothing is said where that is not known.
-use Rattle.std.specs.Prelude.{◌≡◌, ℕ, List, [], ◌∷◌, ◌++◌, Option, ◌⊎◌}
+use Rattle.std.specs.Prelude.{◌≡◌, ℕ, List, [], ◌∷◌, ◌++◌, Option, ◌⊎◌, Result, IfSome, OnOk, IsErrOf}
 use Rattle.std.specs.Io.KnownBytes.{Appends, Consumes}
 use Rattle.aud_text.specs.declared.limits.TheConstants.{STANDARD}
 use Rattle.aud_text.specs.declared.refusal.Refusal.TheVariants as refusal
 use Rattle.aud_bench.specs.declared.request.Answer.{Answer}
 use Rattle.aud_bench.specs.declared.request.Answer.TheVariants as answer
 use Rattle.aud_bench.specs.Alone.{alone}
+use Rattle.aud_server.specs.declared.solo.SoloFault.{SoloFault}
+use Rattle.aud_server.specs.declared.solo.SoloFault.TheVariants as fault
 use Rattle.aud_server.specs.Requests.{requests}
 use Rattle.aud_server.specs.Text.{text}
 
@@ -49,3 +51,12 @@ AreAnswers all answers = (answers ≡ all) ⊎ IsCutShort all answers
 -- a front of the text of what is there to be written is written, and it may end within an answer
 abbrev pub WritesPart : Option (List ℕ) → Option (List ℕ) → List Answer → Type 0
 WritesPart old new all = (answers : List Answer) × AreAnswers all answers × WritesFront old new answers
+
+-- The call serves the requests of a reader, and writes to a writer. Where it answers Ok, all answers to what was left to read are written,
+-- and where a read failed all those to what was read. Where memory is refused, or a write failed, `Cut` and `Part` say what is written of
+-- the answers to what was read.
+pub record Serves {A : Type 0} (result : Result A SoloFault) (left remaining before after : Option (List ℕ)) (Cut Part : Option (List ℕ) → Option (List ℕ) → List Answer → Type 0) : Type 0 where
+  pub all : OnOk result (IfSome left (λ input. WritesAll before after (answers_to input)))
+  pub read : IsErrOf result fault.Read → HasRead left remaining (λ input. WritesAll before after (answers_to input))
+  pub memory : IsErrOf result fault.Memory → HasRead left remaining (λ input. Cut before after (answers_to input))
+  pub write : IsErrOf result fault.Write → HasRead left remaining (λ input. Part before after (answers_to input))

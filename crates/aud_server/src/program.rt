@@ -3,7 +3,8 @@
 ghost use Rattle.std.specs.Prelude.{◌≡◌, ◌≢◌, ◌⊎◌, ◌↔◌, length, map, string_bytes, IsTrue, IfOk, IfErr, IsErrOf};
 ghost use Rattle.clap.specs.Words.{kind_of};
 ghost use Rattle.aud_server.specs.declared.program.ProgramFault.TheVariants as fault;
-ghost use Rattle.aud_server.specs.Program.{AsksSolo, status, of_kind, of_solo};
+ghost use Rattle.aud_server.specs.declared.solo.SoloFault.TheVariants as server;
+ghost use Rattle.aud_server.specs.Program.{AsksSolo, status, of_kind};
 
 use crate::solo::{SoloFault, solo};
 use clap::error::ErrorKind;
@@ -18,34 +19,24 @@ pub enum ProgramFault {
     /// The arguments are not those of the program.
     #[error("bad arguments")]
     Arguments,
-    /// The standard input cannot be read.
-    #[error("read failed")]
-    Read,
-    /// The standard output cannot be written.
-    #[error("write failed")]
-    Write,
-    /// Where memory is refused.
-    #[error("out of memory")]
-    Memory,
+    /// What ends the server, or memory is refused before it begins.
+    #[error(transparent)]
+    Server(SoloFault),
 }
 
 impl From<AllocError> for ProgramFault {
-    ghost from_gives = { λ _ e. e ≡ fault.Memory };
+    ghost from_gives = { λ _ e. e ≡ fault.Server server.Memory };
 
     fn from(_error: AllocError) -> ProgramFault {
-        ProgramFault::Memory
+        ProgramFault::Server(SoloFault::Memory)
     }
 }
 
 impl From<SoloFault> for ProgramFault {
-    ghost from_gives = { λ fault e. e ≡ of_solo fault };
+    ghost from_gives = { λ ended e. e ≡ fault.Server ended };
 
     fn from(fault: SoloFault) -> ProgramFault {
-        match fault {
-            SoloFault::Read => ProgramFault::Read,
-            SoloFault::Write => ProgramFault::Write,
-            SoloFault::Memory => ProgramFault::Memory,
-        }
+        ProgramFault::Server(fault)
     }
 }
 
@@ -54,7 +45,7 @@ impl From<ClapError> for ProgramFault {
 
     fn from(error: ClapError) -> ProgramFault {
         match error.kind() {
-            ErrorKind::OutOfMemory => ProgramFault::Memory,
+            ErrorKind::OutOfMemory => ProgramFault::Server(SoloFault::Memory),
             _ => ProgramFault::Arguments,
         }
     }
@@ -66,9 +57,9 @@ impl ProgramFault {
         ensures { result ≡ status self }
     {
         match self {
-            ProgramFault::Read | ProgramFault::Write => 1,
+            ProgramFault::Server(SoloFault::Read | SoloFault::Write) => 1,
             ProgramFault::Arguments => 2,
-            ProgramFault::Memory => 4,
+            ProgramFault::Server(SoloFault::Memory) => 4,
         }
     }
 }
@@ -99,7 +90,7 @@ pub fn refuse(rt: &impl Eprint, fault: ProgramFault) -> u8
 fn run<R: Input + Print + AllocGlobal>(rt: &R, words: &[String]) -> Result<(), ProgramFault>
     ensures solo { AsksSolo (map string_bytes words.now) → IsErrOf result fault.Arguments → ⊥ }
     ensures other { (AsksSolo (map string_bytes words.now) → ⊥) →
-        IsErrOf result fault.Arguments ⊎ IsErrOf result fault.Memory }
+        IsErrOf result fault.Arguments ⊎ IsErrOf result (fault.Server server.Memory) }
     ensures count { length words.now ≢ 2 → IsErrOf result fault.Arguments }
 {
     // The name of the program, and one argument.
@@ -114,8 +105,9 @@ fn run<R: Input + Print + AllocGlobal>(rt: &R, words: &[String]) -> Result<(), P
 fn is_solo(alloc: Global, words: &[String]) -> Result<bool, ProgramFault>
     ensures asked { length words.now ≡ 2 →
         IfOk result (λ r. IsTrue r ↔ AsksSolo (map string_bytes words.now)) }
-    ensures memory { AsksSolo (map string_bytes words.now) → IfErr result (λ e. e ≡ fault.Memory) }
-    ensures known { IfErr result (λ e. (e ≡ fault.Arguments) ⊎ (e ≡ fault.Memory)) }
+    ensures memory { AsksSolo (map string_bytes words.now) →
+        IfErr result (λ e. e ≡ fault.Server server.Memory) }
+    ensures known { IfErr result (λ e. (e ≡ fault.Arguments) ⊎ (e ≡ fault.Server server.Memory)) }
 {
     let solo = Arg::new(alloc, "solo")
         .long("solo")

@@ -1,11 +1,11 @@
 // The server on one stream of requests.
 
-ghost use Rattle.std.specs.Prelude.{◌≡◌, IfSome, OnOk, IsErrOf};
+ghost use Rattle.std.specs.Prelude.{◌≡◌, OnOk, IsErrOf};
 ghost use Rattle.std.specs.Io.KnownBytes.{Appends};
 ghost use Rattle.aud_text.specs.declared.refusal.Refusal.TheVariants as refusal;
 ghost use Rattle.aud_bench.specs.declared.request.Answer.TheVariants as answer;
 ghost use Rattle.aud_server.specs.declared.solo.SoloFault.TheVariants as fault;
-ghost use Rattle.aud_server.specs.Solo.{answers_to, HasRead, WritesAll, WritesSome, WritesCut, WritesPart, WritesFront, AppendsFront};
+ghost use Rattle.aud_server.specs.Solo.{answers_to, Serves, WritesAll, WritesSome, WritesCut, WritesPart, WritesFront, AppendsFront};
 ghost use Rattle.aud_server.specs.Text.{answer_text};
 
 use crate::answers::answer_text;
@@ -50,17 +50,8 @@ pub fn solo<R: Read, W: Write>(
     reader: &mut R,
     writer: &mut W,
 ) -> Result<(), SoloFault>
-    ensures all { OnOk result (IfSome (R.remaining reader.old) (λ input.
-        WritesAll (W.contents writer.old) (W.contents writer.new) (answers_to input))) }
-    ensures read { IsErrOf result fault.Read →
-        HasRead (R.remaining reader.old) (R.remaining reader.new) (λ input.
-        WritesAll (W.contents writer.old) (W.contents writer.new) (answers_to input)) }
-    ensures memory { IsErrOf result fault.Memory →
-        HasRead (R.remaining reader.old) (R.remaining reader.new) (λ input.
-        WritesCut (W.contents writer.old) (W.contents writer.new) (answers_to input)) }
-    ensures write { IsErrOf result fault.Write →
-        HasRead (R.remaining reader.old) (R.remaining reader.new) (λ input.
-        WritesPart (W.contents writer.old) (W.contents writer.new) (answers_to input)) }
+    ensures { Serves result (R.remaining reader.old) (R.remaining reader.new)
+        (W.contents writer.old) (W.contents writer.new) WritesCut WritesPart }
 {
     let answered = answer_reader(alloc, reader, writer);
     if matches!(answered, Err(SoloFault::Memory)) {
@@ -74,17 +65,8 @@ fn answer_reader<R: Read, W: Write>(
     reader: &mut R,
     writer: &mut W,
 ) -> Result<(), SoloFault>
-    ensures all { OnOk result (IfSome (R.remaining reader.old) (λ input.
-        WritesAll (W.contents writer.old) (W.contents writer.new) (answers_to input))) }
-    ensures read { IsErrOf result fault.Read →
-        HasRead (R.remaining reader.old) (R.remaining reader.new) (λ input.
-        WritesAll (W.contents writer.old) (W.contents writer.new) (answers_to input)) }
-    ensures memory { IsErrOf result fault.Memory →
-        HasRead (R.remaining reader.old) (R.remaining reader.new) (λ input.
-        WritesSome (W.contents writer.old) (W.contents writer.new) (answers_to input)) }
-    ensures write { IsErrOf result fault.Write →
-        HasRead (R.remaining reader.old) (R.remaining reader.new) (λ input.
-        WritesFront (W.contents writer.old) (W.contents writer.new) (answers_to input)) }
+    ensures { Serves result (R.remaining reader.old) (R.remaining reader.new)
+        (W.contents writer.old) (W.contents writer.new) WritesSome WritesFront }
 {
     let mut input = Vec::new(alloc);
     match reader.read_to_end(&mut input) {

@@ -60,32 +60,30 @@ module _ (plan : Plan) (code : Flat) (plain : EndsPlainly code) where
     one_move : (pending : Option Pending) → moves_at plan (flat_controls plan code) (all_of plan name (record q { stage = runs pending; cut = false })) ≡ own_move 0 ∷ []
     one_move pending = one_by pending _ (coming_single pending _ q.control)
 
-    moves_by : (s : Stage) (cut : Bool) → moves_at plan (flat_controls plan code) (all_of plan name (record q { stage = s; cut = cut })) ≡ replicate (moves_of (next_kind last s) cut) (own_move 0)
-    moves_by (runs None) true = refl
-    moves_by (runs None) false = one_move None
-    moves_by (runs (Some p)) true = refl
-    moves_by (runs (Some p)) false = one_move (Some p)
-    moves_by (completed raised) true = refl
-    moves_by (completed raised) false = refl
-    moves_by (terminated raised) cut = refl
-
     more : (pending : Option Pending) → state.More ≡ state_at plan (flat_controls plan code) (all_of plan name (record q { stage = runs pending; cut = false }))
     more pending =
         let c = seen plan (flat_controls plan code) (all_of plan name (record q { stage = runs pending; cut = false })) in
         sym (ap (λ (ms : List Move). some_move plan (flat_controls plan code).barrier ms c) (one_move pending))
 
-    state_by : (s : Stage) (cut : Bool) → state_of (next_kind last s) cut ≡ state_at plan (flat_controls plan code) (all_of plan name (record q { stage = s; cut = cut }))
-    state_by (runs None) true = refl
-    state_by (runs None) false = more None
-    state_by (runs (Some p)) true = refl
-    state_by (runs (Some p)) false = more (Some p)
-    state_by (completed raised) true = refl
-    state_by (completed raised) false = refl
-    state_by (terminated raised) cut = refl
+    -- its moves and its state, of the kind of the next step
+    abbrev Tells : Stage → Bool → Type 0
+    Tells s cut =
+        let c = all_of plan name (record q { stage = s; cut = cut }) in
+        (moves_at plan (flat_controls plan code) c ≡ replicate (moves_of (next_kind last s) cut) (own_move 0))
+        × (state_of (next_kind last s) cut ≡ state_at plan (flat_controls plan code) c)
+
+    tells : (s : Stage) (cut : Bool) → Tells s cut
+    tells (runs None) true = (refl, refl)
+    tells (runs None) false = (one_move None, more None)
+    tells (runs (Some p)) true = (refl, refl)
+    tells (runs (Some p)) false = (one_move (Some p), more (Some p))
+    tells (completed raised) true = (refl, refl)
+    tells (completed raised) false = (refl, refl)
+    tells (terminated raised) cut = (refl, refl)
 
 pub enables : (code : Flat) (q : Single Spot) (last : Last) (next : Option StepKind) (n : ℕ) → EndsPlainly code → next ≡ next_kind last q.stage → n ≡ moves_of next q.cut → Enables code q n
 enables code q last next n plain comes is plan name =
-    moves_by plan code plain name q last q.stage q.cut ∙ ap (λ k. replicate (moves_of k q.cut) (own_move 0)) (sym comes) ∙ ap (λ k. replicate k (own_move 0)) (sym is)
+    (tells plan code plain name q last q.stage q.cut).0 ∙ ap (λ k. replicate (moves_of k q.cut) (own_move 0)) (sym comes) ∙ ap (λ k. replicate k (own_move 0)) (sym is)
 
 pub is_in : (code : Flat) (q : Single Spot) (last : Last) (next : Option StepKind) (s : State) → EndsPlainly code → next ≡ next_kind last q.stage → s ≡ state_of next q.cut → IsIn code q s
-is_in code q last next s plain comes is plan name = is ∙ ap (λ k. state_of k q.cut) comes ∙ state_by plan code plain name q last q.stage q.cut
+is_in code q last next s plain comes is plan name = is ∙ ap (λ k. state_of k q.cut) comes ∙ (tells plan code plain name q last q.stage q.cut).1

@@ -117,18 +117,17 @@ module _ (T : ℕ) where
   guards_in no_handlers at e k = tt
   guards_in (handler others choices s more) at e k = (omega (arith, k), guards_in more (at + statement_size s e) e (omega (arith, k)))
 
-  parts_in : (o : Alternatives) (at next e : ℕ) → at + offered_size o e ≤ T → next ≤ T → PlacesIn (parts_from o at next e)
-  parts_in no_alternatives at next e h k = tt
-  parts_in (accepting g pos n d p more) at next e h k = (part_place_in p (at + doing_size d) next (omega (arith, h)) k, parts_in more (at + doing_size d + part_size p e) next e (omega (arith, h)) k)
-  parts_in (delaying g x p more) at next e h k = (part_place_in p at next (omega (arith, h)) k, parts_in more (at + part_size p e) next e (omega (arith, h)) k)
-  parts_in (terminating g more) at next e h k = (k, parts_in more at next e h k)
-
-  bodies_in : (o : Alternatives) (at next e : ℕ) → at + offered_size o e ≤ T → next ≤ T → PlacesIn (bodies_from o at next e)
-  bodies_in no_alternatives at next e h k = tt
-  bodies_in (accepting g pos n d p more) at next e h k =
-      (doing_place_in d at (part_place p (at + doing_size d) next) (omega (arith, h)) (part_place_in p (at + doing_size d) next (omega (arith, h)) k), bodies_in more (at + doing_size d + part_size p e) next e (omega (arith, h)) k)
-  bodies_in (delaying g x p more) at next e h k = (part_place_in p at next (omega (arith, h)) k, bodies_in more (at + part_size p e) next e (omega (arith, h)) k)
-  bodies_in (terminating g more) at next e h k = (k, bodies_in more at next e h k)
+  offers_in : (o : Alternatives) (at next e : ℕ) → at + offered_size o e ≤ T → next ≤ T → PlacesIn (parts_from o at next e) × PlacesIn (bodies_from o at next e)
+  offers_in no_alternatives at next e h k = (tt, tt)
+  offers_in (accepting g pos n d p more) at next e h k =
+      let part = part_place_in p (at + doing_size d) next (omega (arith, h)) k in
+      let rest = offers_in more (at + doing_size d + part_size p e) next e (omega (arith, h)) k in
+      ((part, rest.0), (doing_place_in d at (part_place p (at + doing_size d) next) (omega (arith, h)) part, rest.1))
+  offers_in (delaying g x p more) at next e h k =
+      let part = part_place_in p at next (omega (arith, h)) k in
+      let rest = offers_in more (at + part_size p e) next e (omega (arith, h)) k in
+      ((part, rest.0), (part, rest.1))
+  offers_in (terminating g more) at next e h k = let rest = offers_in more at next e h k in ((k, rest.0), (k, rest.1))
 
   plain_line : (s : Statement) (ways bodies : List ℕ) (a : Around) → AroundIn a → PlacesIn ways → PlacesIn bodies → LineIn (line s ways bodies None a)
   plain_line s ways bodies a h w b = record { out = h.out; ways = w; bodies = b; exit = tt; what = tt; at = refl }
@@ -171,8 +170,8 @@ module _ (T : ℕ) where
     statement_in (select pos offered p) at next a h k i =
         let e = ways_count a in
         let second = suc at + offered_size offered e in
-        one_and (plain_line (select pos offered p) (part_place p second next ∷ parts_from offered (suc at) next e) (at ∷ bodies_from offered (suc at) next e) a i
-              (part_place_in p second next (omega (arith, h)) k, parts_in offered (suc at) next e (omega (arith, h)) k) (omega (arith, h), bodies_in offered (suc at) next e (omega (arith, h)) k))
+        let places = offers_in offered (suc at) next e (omega (arith, h)) k in
+        one_and (plain_line (select pos offered p) (part_place p second next ∷ parts_from offered (suc at) next e) (at ∷ bodies_from offered (suc at) next e) a i (part_place_in p second next (omega (arith, h)) k, places.0) (omega (arith, h), places.1))
         (both (offered_in offered (suc at) next a (omega (arith, h)) k i) (part_in p second next a (omega (arith, h)) k i))
     statement_in (exit pos n c) at next a h k i = way_line (exit pos n c) next _ a k (exit_in a.exits n next i.exits k) i
     statement_in (return pos) at next a h k i = way_line (return pos) next a.back a k i.back i

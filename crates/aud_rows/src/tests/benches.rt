@@ -41,7 +41,7 @@ enum Act {
     Slices(u64, u64, usize),
 }
 
-// What is done so many times, and then the requests that the bench has and those that are answered.
+// An act, `times` in a row, and then the requests that the bench has and those that are answered.
 #[derive(Clone, Copy)]
 struct Row {
     times: usize,

@@ -8,7 +8,7 @@ use std::io;
 use std::io::Read;
 use std::process::Abort;
 
-// Gives its bytes in pieces of so many at most.
+// Gives its bytes in pieces, none longer than `most`.
 #[derive(Drop)]
 struct Pieces<'a> {
     rest: &'a [u8],
@@ -24,7 +24,7 @@ impl<'a> Read for Pieces<'a> {
     }
 }
 
-// Tests what is written where these bytes are sent, so many at a time, and nothing else.
+// Tests what is written where these bytes are sent in pieces, none longer than `most`, and nothing else.
 fn answers(
     rt: &impl Abort,
     alloc: Global,

@@ -42,7 +42,7 @@ fn meets(rt: &impl Abort, alloc: Global, rows: &[Row]) -> Result<(), AllocError>
     Ok(())
 }
 
-// Tests that the text has so many tokens, whose kinds stand in order in the list of kinds, from this one on.
+// Tests that the text has `count` tokens, whose kinds stand in order in the list of kinds, from `first` on.
 fn counts(
     rt: &impl Abort,
     alloc: Global,

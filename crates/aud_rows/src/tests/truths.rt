@@ -1,4 +1,4 @@
-// Truth values in code that is built by hand: what it evaluates to, or that it is not sound.
+// Truth values in code that is built by hand: what it evaluates to and where it leads, or that it is not sound.
 
 use crate::tests::finds;
 use aud_code::instruction::Instruction;
@@ -6,8 +6,11 @@ use aud_code::line::{Code, EndLine, Ending, Last, Line};
 use aud_code::sound_code::{SoundCode, verify};
 use aud_expr::evaluate::{Evaluation, Outcome, evaluate};
 use aud_expr::operands::Operands;
+use aud_single::progress::Progress;
+use aud_single::run::run;
 use aud_store::frames::Frames;
 use aud_text::int32::Int32;
+use aud_text::limits::STEPS;
 use aud_text::place::Pos;
 use aud_text::raise::Raise;
 use aud_typed::program::{Binary, Logical, Relation};
@@ -258,18 +261,17 @@ fn instruction(given: Given) -> Instruction {
     }
 }
 
-// A step that puts its text, and the end of its body.
-fn code(alloc: Global, given: &[Given]) -> Result<Code, AllocError> {
+// Steps of these instructions, which end so; the body's end is at this place.
+fn code(alloc: Global, steps: &[(&[Given], Last)], end: usize) -> Result<Code, AllocError> {
     let mut lines = Vec::new(alloc);
-    for one in given {
-        lines.push(Line::Instruction(instruction(*one)))?;
-    }
-    let next = given.len().saturating_add(1);
-    for last in [Last::Does(Ending::Put, next), Last::Ends] {
+    for (given, last) in steps {
+        for one in *given {
+            lines.push(Line::Instruction(instruction(*one)))?;
+        }
         lines.push(Line::End(EndLine {
-            last,
+            last: *last,
             at: Pos { line: 1, col: 1 },
-            out: next,
+            out: end,
         }))?;
     }
     Ok(Code {
@@ -277,6 +279,16 @@ fn code(alloc: Global, given: &[Given]) -> Result<Code, AllocError> {
         starts: vec![in alloc; 0; 1]?,
         spare: 0,
     })
+}
+
+// A step that puts its text, and the end of its body.
+fn putting(alloc: Global, given: &[Given]) -> Result<Code, AllocError> {
+    let end = given.len().saturating_add(1);
+    code(
+        alloc,
+        &[(given, Last::Does(Ending::Put, end)), (&[], Last::Ends)],
+        end,
+    )
 }
 
 fn evaluates(
@@ -311,7 +323,7 @@ fn evaluates(
 }
 
 fn meets(rt: &impl Abort, alloc: Global, row: &Row) -> Result<(), AllocError> {
-    match verify(alloc, code(alloc, row.given)?)? {
+    match verify(alloc, putting(alloc, row.given)?)? {
         Some(sound) => evaluates(rt, alloc, row, &sound),
         None => {
             assert!(rt; matches!(row.wanted, Refused), "{}", row.name);
@@ -320,10 +332,113 @@ fn meets(rt: &impl Abort, alloc: Global, row: &Row) -> Result<(), AllocError> {
     }
 }
 
+// A step that decides where it leads.
+#[derive(Clone, Copy)]
+struct Decision {
+    name: &'static str,
+    given: &'static [Given],
+    ending: Ending,
+    // What the step puts that follows, unless the code is refused.
+    wanted: Option<&'static [u8]>,
+}
+
+// A step with one instruction leads to the places 2 and 5.
+const DECISIONS: [Decision; 8] = [
+    Decision {
+        name: "into an if",
+        given: &[PushTruth(true)],
+        ending: Ending::If(5),
+        wanted: Some(b"TRUE"),
+    },
+    Decision {
+        name: "past an if",
+        given: &[PushTruth(false)],
+        ending: Ending::If(5),
+        wanted: Some(b"FALSE"),
+    },
+    Decision {
+        name: "into a loop",
+        given: &[PushTruth(true)],
+        ending: Ending::While(5),
+        wanted: Some(b"TRUE"),
+    },
+    Decision {
+        name: "out of a loop",
+        given: &[PushTruth(true)],
+        ending: Ending::Exit(5),
+        wanted: Some(b"TRUE"),
+    },
+    Decision {
+        name: "no exit",
+        given: &[PushTruth(false)],
+        ending: Ending::Exit(5),
+        wanted: Some(b"FALSE"),
+    },
+    Decision {
+        name: "nothing to decide by",
+        given: &[],
+        ending: Ending::If(4),
+        wanted: None,
+    },
+    Decision {
+        name: "into the middle of a step",
+        given: &[PushTruth(false)],
+        ending: Ending::While(3),
+        wanted: None,
+    },
+    Decision {
+        name: "out into the middle of a step",
+        given: &[PushTruth(false)],
+        ending: Ending::Exit(3),
+        wanted: None,
+    },
+];
+
+// The step, behind it one that puts FALSE and one that puts TRUE, and the end of their body.
+fn deciding(alloc: Global, row: &Decision) -> Result<Code, AllocError> {
+    let next = row.given.len().saturating_add(1);
+    let end = next.saturating_add(6);
+    let put = Last::Does(Ending::Put, end);
+    let steps: [(&[Given], Last); 4] = [
+        (row.given, Last::Does(row.ending, next)),
+        (&[PushTruth(false), AppendTruth], put),
+        (&[PushTruth(true), AppendTruth], put),
+        (&[], Last::Ends),
+    ];
+    code(alloc, &steps, end)
+}
+
+fn runs(
+    rt: &impl Abort,
+    alloc: Global,
+    row: &Decision,
+    code: &SoundCode,
+) -> Result<(), AllocError> {
+    let mut progress = Progress::new(code, alloc)?;
+    let mut operands = Operands::new(alloc);
+    let few = (STEPS - progress.steps()).min(100);
+    let ran = run(&mut progress, code, &mut operands, few)?;
+    assert_eq!(rt; ran.steps, 4, "{}", row.name);
+    finds(rt, row.name, progress.output(), row.wanted.unwrap_or(b""));
+    Ok(())
+}
+
+fn decides(rt: &impl Abort, alloc: Global, row: &Decision) -> Result<(), AllocError> {
+    let sound = verify(alloc, deciding(alloc, row)?)?;
+    assert_eq!(rt; sound.is_some(), row.wanted.is_some(), "{}", row.name);
+    if let Some(code) = sound {
+        runs(rt, alloc, row, &code)?;
+    }
+    Ok(())
+}
+
 #[test]
 fn each_row(rt: HostRuntime) -> Result<(), Fail> {
     for row in &ROWS {
         meets(&rt, rt.alloc(), row)?;
+    }
+    for row in &DECISIONS {
+        decides(&rt, rt.alloc(), row)?;
     }
     Ok(())
 }

@@ -1,6 +1,7 @@
-use Rattle.std.proofs.Common.{rules}
+use Rattle.std.proofs.Common.{refl, rules}
 use Rattle.aud_parse.specs.Ties.Outcome.{o_rule}
 use Rattle.aud_parse.proofs.Passing.{exit}
+use Rattle.aud_parse.proofs.Joined.{ends}
 use Rattle.aud_parse.proofs.statement.assignment.Goals as goal
 
 pub returns-in_err-rest : goal.returns-in_err-rest
@@ -9,8 +10,5 @@ returns-in_err-rest c = exit _ _ _ c.from_residual.ensures.1 (c.in_err-rest.ensu
 pub returns-in_err-value : goal.returns-in_err-value
 returns-in_err-value c = exit _ _ _ c.from_residual-in_err-value.ensures.1 c.in_err-value.ensures.reads (λ k ds v o. o_rule (c.in_ok-rest.ensures.reads _ _ _ _ o))
 
-pub returns-in_err-rest-2 : goal.returns-in_err-rest-2
-returns-in_err-rest-2 c = exit _ _ _ c.from_residual-in_err-rest-2.ensures.1 (c.in_err-rest-2.ensures.reads c.args.room) (λ k ds v o. o_rule (c.in_ok-rest.ensures.reads _ _ _ _ (c.in_ok-value.ensures.reads _ _ _ o)))
-
 pub returns : goal.returns
-returns c = record { reads = λ k ds v o. rw c.into_inner.ensures (o_rule (c.in_ok-rest.ensures.reads _ _ _ _ (c.in_ok-value.ensures.reads _ _ _ (c.in_ok-rest-2.ensures.reads _ _ _ _ o)))); shorter = search rules }
+returns c = ends c.args.start c.in_ok-value.rest _ _ c.ended.ensures (search rules) (λ k ds v o. o_rule (c.in_ok-rest.ensures.reads _ _ _ _ (c.in_ok-value.ensures.reads _ _ _ o))) (λ ds. rw c.into_inner.ensures refl)

@@ -1,13 +1,11 @@
-use Rattle.std.proofs.Common.{rules}
+use Rattle.std.proofs.Common.{refl, rules}
 use Rattle.aud_parse.specs.Ties.Outcome.{o_rule}
 use Rattle.aud_parse.proofs.Passing.{exit_flat}
+use Rattle.aud_parse.proofs.Joined.{ends_flat}
 use Rattle.aud_parse.proofs.statement.null.Goals as goal
 
 pub returns-in_err-t : goal.returns-in_err-t
 returns-in_err-t c = exit_flat _ _ _ c.from_residual.ensures.1 (λ room. c.in_err-t.ensures.reads room) (λ room k ds v o. o_rule o)
 
-pub returns-in_err-rest : goal.returns-in_err-rest
-returns-in_err-rest c = exit_flat _ _ _ c.from_residual-in_err-rest.ensures.1 (λ room. c.in_err-rest.ensures.reads room) (λ room k ds v o. o_rule (c.in_ok-t.ensures.reads _ _ _ _ o))
-
 pub returns : goal.returns
-returns c = record { reads = λ room k ds v o. rw c.at.ensures (o_rule (c.in_ok-t.ensures.reads _ _ _ _ (c.in_ok-rest.ensures.reads _ _ _ _ o))); shorter = search rules }
+returns c = ends_flat c.args.start c.in_ok-t.rest _ _ c.ended.ensures (search rules) (λ room k ds v o. o_rule (c.in_ok-t.ensures.reads _ _ _ _ o)) (λ ds. rw c.at.ensures refl)

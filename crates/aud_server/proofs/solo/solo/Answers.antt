@@ -5,22 +5,22 @@ use Rattle.aud_server.specs.Solo.{answers_to}
 use Rattle.aud_server.proofs.SoloLaws.{cut_short, cut_front}
 use Rattle.aud_server.proofs.solo.solo.Goals as goal
 
-pub returns-in_err-write-clause-write : goal.returns-in_err-write-clause-write
-returns-in_err-write-clause-write g c e =
+pub returns-in_err-write : goal.returns-in_err-write
+returns-in_err-write g c =
     let contents = g.W.Write.contents in
     let out : IsErrOf c.answer_reader-answered.result fault.Memory = search rules in
     let failed : IsErrOf c.write.result fault.Write = search rules in
     let (input, taken, read) = c.answer_reader-answered.ensures.memory out in
     let part = cut_front (contents c.args.writer.now) (contents c.answer_reader-answered.new.writer) (contents c.write.new.writer)
     (answers_to input) c.out_of_memory.result.now c.out_of_memory.ensures read (c.write.ensures.write failed) in
-    (input, taken, part)
+    record { all = search rules; read = search rules; memory = search rules; write = λ e. (input, taken, part) }
 
-pub returns-in_ok-write-clause-memory : goal.returns-in_ok-write-clause-memory
-returns-in_ok-write-clause-memory g c e =
+pub returns-in_ok-write : goal.returns-in_ok-write
+returns-in_ok-write g c =
     let contents = g.W.Write.contents in
     let out : IsErrOf c.answer_reader-answered.result fault.Memory = search rules in
     let (input, taken, read) = c.answer_reader-answered.ensures.memory out in
     let whole : Appends (contents c.answer_reader-answered.new.writer) (contents c.write.new.writer) c.out_of_memory.result.now = search rules in
     let short = cut_short (contents c.args.writer.now) (contents c.answer_reader-answered.new.writer) (contents c.write.new.writer)
     (answers_to input) c.out_of_memory.result.now c.out_of_memory.ensures read whole in
-    (input, taken, short)
+    record { all = search rules; read = search rules; memory = λ e. (input, taken, short); write = search rules }
