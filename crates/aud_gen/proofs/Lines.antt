@@ -9,21 +9,23 @@ use Rattle.aud_typed.specs.declared.program.Statement.{Statement}
 use Rattle.aud_typed.specs.declared.program.Statements.{Statements}
 use Rattle.aud_typed.specs.Ties.View.{plain_boolean, plain_statement, plain_statements, in_order, statements_in, part_of_arms}
 use Rattle.aud_typed.specs.Tree as tree
-use Rattle.aud_typed.specs.Tree.{before, part_of, nothing, some, if_then, plain_loop, while_loop}
+use Rattle.aud_typed.specs.Tree.{no_handlers, before, part_of, nothing, some, if_then, plain_loop, while_loop}
+use Rattle.aud_meaning.specs.declared.state.Construct.TheVariants as construct
+use Rattle.aud_meaning.specs.Items.{no_body}
 use Rattle.aud_code.specs.Places.{Way}
 use Rattle.aud_code.specs.declared.line.Ending.TheVariants.{If, While}
 use Rattle.aud_code.specs.declared.line.Last.TheVariants.{Does}
 use Rattle.aud_code.specs.Flat.{FlatLine, instructs, end}
 use Rattle.aud_code.specs.View.{plain_end}
 use Rattle.aud_gen.specs.Instructions.{condition_code}
-use Rattle.aud_gen.specs.Layout.{Line, Around, in_loop, ways_count, line, part_place, statement_size_by, part_size_by, statement_code_by, part_code_by}
-use Rattle.aud_gen.specs.Assembly.{instructions_by, end_line, step_lines, assembled_from}
-use Rattle.aud_gen.specs.Written.{flat_step, written}
-use Rattle.aud_gen.specs.Writes.{CodeSoFar, Writes, way_to, around, is_there, statement_lines, part_lines, listed_lines, arm_length, arm_lines, while_lines}
+use Rattle.aud_gen.specs.Layout.{Line, Around, in_loop, in_call, around_out, ways_count, line, part_place, end_line, guard_line_by, main_size_by, body_size_by, end_place_by, statement_size_by, part_size_by, statement_code_by, part_code_by, unit_code_by, units_code_by}
+use Rattle.aud_gen.specs.Assembly.{instructions_by, end_line as moved_end, step_lines}
+use Rattle.aud_gen.specs.Written.{flat_step, written, written_bodies}
+use Rattle.aud_gen.specs.Writes.{CodeSoFar, Writes, way_to, around, is_there, statement_lines, part_lines, listed_lines, arm_length, arm_lines, while_lines, end_lines, body_lines}
 use Rattle.aud_gen.proofs.Flat.Assembly.{assembled_append, its_length}
 use Rattle.aud_gen.proofs.Flat.Behind.{adds, total_more}
 use Rattle.aud_gen.proofs.Writing.{Adds, written_more}
-use Rattle.aud_gen.proofs.Standing.Sizes.{total, total-statement, total-part}
+use Rattle.aud_gen.proofs.Standing.Sizes.{total, total-statement, total-part, total-body}
 
 pub chosen : (b : Bool) (x y : ℕ) → IsTrue b → (if b then x else y) ≡ x
 chosen b x y h = ap (λ m. if m then x else y) h
@@ -34,10 +36,16 @@ passed_over b x y h = ap (λ m. if m then x else y) h
 -- lines count as many as they are
 written_length : (lines : List Line) → length (written lines) ≡ total flat_step adds lines
 written_length [] = refl
-written_length (l ∷ ls) = omega (arith, length-append (step_lines (λ n. n) l) (written ls), its_length (instructions_by l.what) (end_line (λ n. n) l), written_length ls, total_more l ls)
+written_length (l ∷ ls) = omega (arith, length-append (step_lines (λ n. n) l) (written ls), its_length (instructions_by l.what) (moved_end (λ n. n) l), written_length ls, total_more l ls)
 
 statement_length : (s : tree.Statement) (place next : ℕ) (a : Around) → length (statement_lines s place next a) ≡ statement_size_by flat_step s (ways_count a)
 statement_length s place next a = written_length (statement_code_by flat_step s place next a) ∙ (total-statement flat_step adds flat_step s place next a).is
+
+part_written : (p : tree.Part) (place next : ℕ) (a : Around) → length (part_lines p place next a) ≡ part_size_by flat_step p (ways_count a)
+part_written p place next a = written_length (part_code_by flat_step p place next a) ∙ (total-part flat_step adds flat_step p place next a).is
+
+unit_written : (b : tree.Body) → length (written (unit_code_by flat_step b 0)) ≡ body_size_by flat_step b 1
+unit_written b = let last = end_place_by flat_step b 0 1 in written_length (unit_code_by flat_step b 0) ∙ (total-body flat_step adds flat_step construct.Unit b 0 0 last (in_call last)).is
 
 listed_length : (s : tree.Statement) (is_last : Bool) (place next : ℕ) (a : Around) → length (listed_lines s is_last place next a) ≡ statement_size_by flat_step s (ways_count a)
 listed_length s is_last place next a = statement_length s place _ a
@@ -91,7 +99,7 @@ arm_size arm more place next a =
     let c = plain_boolean arm.condition in
     let inside = suc (place + length (condition_code c)) in
     let step = line (if_then arm.at c ss nothing) ((if more then inside + statement_size_by flat_step ss (ways_count a) else next) ∷ inside ∷ []) [] None a in
-    omega (arith, length-append (step_lines (λ n. n) step) (statement_lines ss inside next a), its_length (condition_code c) (end_line (λ n. n) step), statement_length ss inside next a)
+    omega (arith, length-append (step_lines (λ n. n) step) (statement_lines ss inside next a), its_length (condition_code c) (moved_end (λ n. n) step), statement_length ss inside next a)
 
 arm_and_rest : (arm : Arm) (p : tree.Part) (place next : ℕ) (a : Around) → arm_lines arm (is_there p) place next a ++ part_lines p (place + arm_length arm (ways_count a)) next a ≡ statement_lines (if_then arm.at (plain_boolean arm.condition) (statements_in arm.statements) p) place next a
 arm_and_rest arm p place next a =
@@ -205,3 +213,50 @@ whole_test (Ok x) at c old now new next out inside e h k =
     let ended = λ (n : ℕ). end (plain_end (record { last = Does (While n) next; at = at; out = out })) ∷ [] in
     written_more old now new (map instructs (condition_code c)) (ended inside) h k ∙ ap (λ n. record old { lines = old.lines ++ (map instructs (condition_code c) ++ ended n) }) e
 whole_test (Err x) at c old now new next out inside e h k = tt
+
+-- A body: its declarations, its statements, what stands behind them.
+module _ (ds : List Statement) (ss : Statements) (pos : Pos) where
+  abbrev Declared : tree.Part
+  Declared = part_of (plain_statements ds)
+
+  abbrev At : (place begin guard last : ℕ) → List FlatLine
+  At place begin guard last = part_lines Declared place begin (around_out last (in_call last)) ++ (statement_lines (statements_in ss) begin last (around_out guard (in_call last)) ++ end_lines pos last)
+
+  -- from its places, and by what is written of it one after the other
+  pub whole_body : {X : Type 0} (r : Result X AllocError) (old n1 n2 n3 : CodeSoFar) (begin guard last : ℕ) → old.exits ≡ [] → begin ≡ length old.lines + part_size_by flat_step Declared 1 → guard ≡ begin + statement_size_by flat_step (statements_in ss) 1 → last ≡ guard + 1 →
+      n1 ≡ record old { lines = old.lines ++ part_lines Declared (length old.lines) begin (around old last (record { to = last; loops = 0 })) } →
+      n2 ≡ record n1 { lines = n1.lines ++ statement_lines (statements_in ss) (length n1.lines) last (around n1 guard (record { to = last; loops = 0 })) } →
+      Writes r n2 n3 (end_lines pos last) → Writes r old n3 (body_lines ds ss pos (length old.lines))
+  whole_body (Err x) old n1 n2 n3 begin guard last none eb eg el h1 h2 h3 = tt
+  whole_body (Ok x) old n1 n2 n3 begin guard last none eb eg el h1 h2 h3 =
+      let place = length old.lines in
+      let first = place + part_size_by flat_step Declared 1 in
+      let guarding = first + statement_size_by flat_step (statements_in ss) 1 in
+      let ending = first + main_size_by flat_step (statements_in ss) no_handlers 1 in
+      let ends : last ≡ ending = omega (arith, eb, eg, el) in
+      let guarded : guard ≡ guarding = omega (arith, eb, eg) in
+      let back : Way = record { to = last; loops = 0 } in
+      let outer : (out : ℕ) → Around = λ out. record { out = out; exits = []; back = back } in
+      let one = h1 ∙ ap (λ ws. record old { lines = old.lines ++ part_lines Declared place begin (record { out = last; exits = ws; back = back }) }) none in
+      let many = part_written Declared place begin (outer last) in
+      let two = continued old n1 n2 (part_lines Declared place begin (outer last)) (λ n exits. statement_lines (statements_in ss) n last (record { out = guard; exits = exits; back = back })) (part_size_by flat_step Declared 1) one many h2
+      ∙ ap (λ ws. record old { lines = old.lines ++ (part_lines Declared place begin (outer last) ++ statement_lines (statements_in ss) first last (record { out = guard; exits = ws; back = back })) }) none
+      ∙ ap (λ n. record old { lines = old.lines ++ (part_lines Declared place begin (outer last) ++ statement_lines (statements_in ss) n last (outer guard)) }) (sym eb) in
+      let cd = part_code_by flat_step Declared place first (around_out ending (in_call ending)) in
+      let cs = statement_code_by flat_step (statements_in ss) first ending (around_out guarding (in_call ending)) in
+      let ce = guard_line_by flat_step no_handlers pos (suc guarding) ending 1 ∷ end_line construct.Unit pos 0 ending ∷ [] in
+      written_more old n2 n3 (part_lines Declared place begin (outer last) ++ statement_lines (statements_in ss) begin last (outer guard)) (end_lines pos last) two h3
+      ∙ ap (λ ls. record old { lines = old.lines ++ ls }) (append_assoc (part_lines Declared place begin (outer last)) (statement_lines (statements_in ss) begin last (outer guard)) (end_lines pos last))
+      ∙ ap (λ z. record old { lines = old.lines ++ At place z guard last }) eb ∙ ap (λ z. record old { lines = old.lines ++ At place first z last }) guarded ∙ ap (λ z. record old { lines = old.lines ++ At place first guarding z }) ends
+      ∙ ap (λ ls. record old { lines = old.lines ++ ls }) (ap (λ z. part_lines Declared place first (around_out ending (in_call ending)) ++ z) (sym (assembled_append (λ n. n) cs ce)) ∙ sym (assembled_append (λ n. n) cd (cs ++ ce)))
+
+-- a body, and behind it the one for numbers that no body has
+pub bodies_written : (b : tree.Body) (lines n1 : List FlatLine) (starts : List ℕ) (spare : ℕ) → starts ≡ 0 ∷ [] → spare ≡ length n1 → n1 ≡ written (unit_code_by flat_step b 0) → lines ≡ n1 ++ written (unit_code_by flat_step no_body (length n1)) → record { lines = lines; starts = starts; spare = spare; barriers = [] } ≡ written_bodies (b ∷ []) []
+bodies_written b lines n1 starts spare z e h k =
+    let size = 0 + body_size_by flat_step b 1 in
+    let many : length n1 ≡ size = ap length h ∙ unit_written b ∙ omega arith in
+    let all : lines ≡ written (units_code_by flat_step (b ∷ []) 0) =
+    k ∙ ap (λ ls. ls ++ written (unit_code_by flat_step no_body (length n1))) h ∙ ap (λ n. written (unit_code_by flat_step b 0) ++ written (unit_code_by flat_step no_body n)) many ∙ sym (assembled_append (λ n. n) (unit_code_by flat_step b 0) (unit_code_by flat_step no_body size)) in
+    ap (λ ls. record { lines = ls; starts = starts; spare = spare; barriers = [] }) all
+    ∙ ap (λ ns. record { lines = written (units_code_by flat_step (b ∷ []) 0); starts = ns; spare = spare; barriers = [] }) z
+    ∙ ap (λ n. record { lines = written (units_code_by flat_step (b ∷ []) 0); starts = 0 ∷ []; spare = n; barriers = [] }) (e ∙ many)

@@ -11,7 +11,7 @@ use Rattle.aud_typed.specs.declared.program.Statement.{Statement}
 use Rattle.aud_typed.specs.declared.program.Statements.{Statements}
 use Rattle.aud_typed.specs.Ties.View.{plain_boolean, plain_statements, statements_in}
 use Rattle.aud_meaning.specs.declared.state.Construct.TheVariants as construct
-use Rattle.aud_meaning.specs.Items.{nowhere}
+use Rattle.aud_meaning.specs.Items.{nowhere, no_body}
 use Rattle.aud_code.specs.Places.{Way}
 use Rattle.aud_code.specs.Instruction.{Instruction, Combine, PassIfFalse, PassIfTrue}
 use Rattle.aud_code.specs.Flat.{FlatLine, Flat}
@@ -96,6 +96,10 @@ body_of ds ss pos = body (part_of (plain_statements ds)) nowhere (statements_in 
 
 abbrev pub body_lines : List Statement → Statements → Pos → ℕ → List FlatLine
 body_lines ds ss pos place = written (unit_code_by flat_step (body_of ds ss pos) place)
+
+-- of a body that no program has
+abbrev pub idle_lines : ℕ → List FlatLine
+idle_lines place = written (unit_code_by flat_step no_body place)
 
 abbrev pub body_code : List Statement → Statements → Pos → Flat
 body_code ds ss pos = written_bodies (body_of ds ss pos ∷ []) []

@@ -4,11 +4,11 @@ ghost use Rattle.std.specs.Prelude.{◌≡◌, [], length, IfOk};
 ghost use Rattle.aud_typed.specs.Ties.View.{plain_program};
 ghost use Rattle.aud_code.specs.View.{plain_code};
 ghost use Rattle.aud_gen.specs.Assembly.{flat_program};
-ghost use Rattle.aud_gen.specs.Writes.{end_lines, body_lines, body_code, Writes};
+ghost use Rattle.aud_gen.specs.Writes.{end_lines, body_lines, idle_lines, body_code, Writes};
 
 use crate::lengths::{list_length, statements_length, sum};
 use crate::writer::Writer;
-use aud_code::line::{Code, EndLine, Last, Line};
+use aud_code::line::{Code, EndLine, Ending, Last, Line};
 use aud_code::sound_code::{SoundCode, verify};
 use aud_text::place::Pos;
 use aud_typed::program::{Program, Statement, Statements};
@@ -50,9 +50,19 @@ impl Writer {
         self.write_statements(statements, guard, last)?;
         self.write_end(end, last)
     }
+
+    // A body of one null statement, for a number that no body has.
+    fn write_idle(&mut self) -> Result<(), AllocError>
+        ensures { Writes result self.old self.new (idle_lines (length self.old.lines)) }
+    {
+        let guard = sum(self.place(), 1)?;
+        let last = sum(guard, 1)?;
+        self.end(Ending::Null, last, NOWHERE, guard)?;
+        self.write_end(NOWHERE, last)
+    }
 }
 
-// The code of a body. Behind it stands what is run for a number that no body has: one null statement.
+// The code of a body. Behind it stands what is run for a number that no body has.
 fn write_code(
     alloc: Global,
     declarations: &[Statement],
@@ -62,14 +72,10 @@ fn write_code(
     ensures { IfOk result
         (λ code. plain_code code ≡ body_code declarations.now statements.now end) }
 {
-    let idle = Statements {
-        first: Statement::Null(NOWHERE),
-        others: Vec::new(alloc),
-    };
     let mut writer = Writer::new(alloc);
     writer.write_body(declarations, statements, end)?;
     let spare = writer.place();
-    writer.write_body(&[], &idle, NOWHERE)?;
+    writer.write_idle()?;
     let starts = vec![in alloc; 0; 1]?;
     Ok(Code {
         lines: writer.into_lines(),
