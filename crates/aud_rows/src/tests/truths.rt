@@ -332,75 +332,38 @@ fn meets(rt: &impl Abort, alloc: Global, row: &Row) -> Result<(), AllocError> {
     }
 }
 
-// A step that decides where it leads.
-#[derive(Clone, Copy)]
-struct Decision {
-    name: &'static str,
-    given: &'static [Given],
-    ending: Ending,
-    // What the step puts that follows, unless the code is refused.
-    wanted: Option<&'static [u8]>,
-}
+// A step that decides where it leads, by its instructions and its ending, and what the step puts that follows, unless the code
+// is refused.
+type Decision = (
+    &'static str,
+    &'static [Given],
+    Ending,
+    Option<&'static [u8]>,
+);
+
+const TRUE: &[Given] = &[PushTruth(true)];
+
+const FALSE: &[Given] = &[PushTruth(false)];
 
 // A step with one instruction leads to the places 2 and 5.
 const DECISIONS: [Decision; 8] = [
-    Decision {
-        name: "into an if",
-        given: &[PushTruth(true)],
-        ending: Ending::If(5),
-        wanted: Some(b"TRUE"),
-    },
-    Decision {
-        name: "past an if",
-        given: &[PushTruth(false)],
-        ending: Ending::If(5),
-        wanted: Some(b"FALSE"),
-    },
-    Decision {
-        name: "into a loop",
-        given: &[PushTruth(true)],
-        ending: Ending::While(5),
-        wanted: Some(b"TRUE"),
-    },
-    Decision {
-        name: "out of a loop",
-        given: &[PushTruth(true)],
-        ending: Ending::Exit(5),
-        wanted: Some(b"TRUE"),
-    },
-    Decision {
-        name: "no exit",
-        given: &[PushTruth(false)],
-        ending: Ending::Exit(5),
-        wanted: Some(b"FALSE"),
-    },
-    Decision {
-        name: "nothing to decide by",
-        given: &[],
-        ending: Ending::If(4),
-        wanted: None,
-    },
-    Decision {
-        name: "into the middle of a step",
-        given: &[PushTruth(false)],
-        ending: Ending::While(3),
-        wanted: None,
-    },
-    Decision {
-        name: "out into the middle of a step",
-        given: &[PushTruth(false)],
-        ending: Ending::Exit(3),
-        wanted: None,
-    },
+    ("into an if", TRUE, Ending::If(5), Some(b"TRUE")),
+    ("past an if", FALSE, Ending::If(5), Some(b"FALSE")),
+    ("into a loop", TRUE, Ending::While(5), Some(b"TRUE")),
+    ("out of a loop", TRUE, Ending::Exit(5), Some(b"TRUE")),
+    ("no exit", FALSE, Ending::Exit(5), Some(b"FALSE")),
+    ("nothing to decide by", &[], Ending::If(4), None),
+    ("into a step's middle", FALSE, Ending::While(3), None),
+    ("out to a step's middle", FALSE, Ending::Exit(3), None),
 ];
 
-// The step, behind it one that puts FALSE and one that puts TRUE, and the end of their body.
-fn deciding(alloc: Global, row: &Decision) -> Result<Code, AllocError> {
-    let next = row.given.len().saturating_add(1);
+// A step that ends so, behind it one that puts FALSE and one that puts TRUE, and the end of their body.
+fn deciding(alloc: Global, given: &[Given], ending: Ending) -> Result<Code, AllocError> {
+    let next = given.len().saturating_add(1);
     let end = next.saturating_add(6);
     let put = Last::Does(Ending::Put, end);
     let steps: [(&[Given], Last); 4] = [
-        (row.given, Last::Does(row.ending, next)),
+        (given, Last::Does(ending, next)),
         (&[PushTruth(false), AppendTruth], put),
         (&[PushTruth(true), AppendTruth], put),
         (&[], Last::Ends),
@@ -408,26 +371,28 @@ fn deciding(alloc: Global, row: &Decision) -> Result<Code, AllocError> {
     code(alloc, &steps, end)
 }
 
-fn runs(
+fn puts(
     rt: &impl Abort,
     alloc: Global,
-    row: &Decision,
+    name: &str,
     code: &SoundCode,
+    wanted: &[u8],
 ) -> Result<(), AllocError> {
     let mut progress = Progress::new(code, alloc)?;
     let mut operands = Operands::new(alloc);
     let few = (STEPS - progress.steps()).min(100);
     let ran = run(&mut progress, code, &mut operands, few)?;
-    assert_eq!(rt; ran.steps, 4, "{}", row.name);
-    finds(rt, row.name, progress.output(), row.wanted.unwrap_or(b""));
+    assert_eq!(rt; ran.steps, 4, "{name}");
+    finds(rt, name, progress.output(), wanted);
     Ok(())
 }
 
-fn decides(rt: &impl Abort, alloc: Global, row: &Decision) -> Result<(), AllocError> {
-    let sound = verify(alloc, deciding(alloc, row)?)?;
-    assert_eq!(rt; sound.is_some(), row.wanted.is_some(), "{}", row.name);
+fn decides(rt: &impl Abort, alloc: Global, row: Decision) -> Result<(), AllocError> {
+    let (name, given, ending, wanted) = row;
+    let sound = verify(alloc, deciding(alloc, given, ending)?)?;
+    assert_eq!(rt; sound.is_some(), wanted.is_some(), "{name}");
     if let Some(code) = sound {
-        runs(rt, alloc, row, &code)?;
+        puts(rt, alloc, name, &code, wanted.unwrap_or(b""))?;
     }
     Ok(())
 }
@@ -437,7 +402,7 @@ fn each_row(rt: HostRuntime) -> Result<(), Fail> {
     for row in &ROWS {
         meets(&rt, rt.alloc(), row)?;
     }
-    for row in &DECISIONS {
+    for row in DECISIONS {
         decides(&rt, rt.alloc(), row)?;
     }
     Ok(())
