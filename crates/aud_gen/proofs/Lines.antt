@@ -1,5 +1,5 @@
 -- The lines of statements in memory, one after the other.
-use Rattle.std.proofs.Common.{◌≡◌, ℕ, suc, ◌+◌, ◌<◌, List, [], ◌∷◌, ◌++◌, length, drop, get_or, Bool, true, false, nat_eq, refl, ap, sym, ◌∙◌, arith, append-nil, append_assoc, length-append}
+use Rattle.std.proofs.Common.{◌≡◌, ℕ, suc, ◌+◌, ◌<◌, List, [], ◌∷◌, ◌++◌, length, drop, Bool, true, false, nat_eq, refl, ap, sym, ◌∙◌, arith, append-nil, append_assoc, length-append}
 use Rattle.std.proofs.Math.Dec.{eqb-suc-zero}
 use Rattle.std.specs.Prelude.{None, map, if◌then◌else◌, Result, Ok, Err, IsTrue, IsFalse}
 use Rattle.std.specs.declared.alloc.AllocError.{AllocError}

@@ -1,12 +1,9 @@
 -- How long the code of statements in memory is.
-use Rattle.std.proofs.Common.{◌≡◌, ℕ, suc, ◌+◌, ◌<◌, List, [], ◌∷◌, length, drop, get_or, refl, ap, sym, ◌∙◌, arith}
-use Rattle.std.specs.Prelude.{Box, map}
-use Rattle.std.specs.Global.{Global}
+use Rattle.std.proofs.Common.{◌≡◌, ℕ, ◌+◌, ◌<◌, List, [], ◌∷◌, length, drop, get_or, refl, ap, ◌∙◌, arith}
 use Rattle.aud_typed.specs.declared.program.Arm.{Arm}
 use Rattle.aud_typed.specs.declared.program.IfStatement.{IfStatement, out-IfStatement}
 use Rattle.aud_typed.specs.declared.program.Statement.{Statement}
-use Rattle.aud_typed.specs.declared.program.Statements.{Statements}
-use Rattle.aud_typed.specs.Ties.View.{plain_boolean, plain_statement, plain_statements, in_order, statements_in, part_of_arms, if_in}
+use Rattle.aud_typed.specs.Ties.View.{plain_statement, plain_statements, part_of_arms, if_in}
 use Rattle.aud_typed.specs.Tree as tree
 use Rattle.aud_typed.specs.Tree.{before, part_of}
 use Rattle.aud_gen.specs.Layout.{statement_size_by, part_size_by}

@@ -16,7 +16,7 @@ use Rattle.aud_code.specs.Places.{Way}
 use Rattle.aud_code.specs.Instruction.{Instruction, Combine, PassIfFalse, PassIfTrue}
 use Rattle.aud_code.specs.Flat.{FlatLine, Flat}
 use Rattle.aud_gen.specs.Instructions.{condition_code}
-use Rattle.aud_gen.specs.Layout.{Around, ways_count, in_call, line, end_line, guard_line_by, statement_size_by, body_size_by, statement_code_by, part_code_by, unit_code_by}
+use Rattle.aud_gen.specs.Layout.{Around, ways_count, in_call, line, end_line, guard_line_by, statement_size_by, statement_code_by, part_code_by, unit_code_by}
 use Rattle.aud_gen.specs.Assembly.{step_lines}
 use Rattle.aud_gen.specs.Written.{flat_step, written, written_bodies}
 

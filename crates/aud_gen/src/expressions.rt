@@ -76,7 +76,11 @@ impl Writer {
 
     // The right side of an operator, and the operator. A short circuit passes its right side where the left one decides.
     #[cycle(boolean)]
-    fn write_right(&mut self, connective: Connective, e: &BooleanExpression) -> Result<(), AllocError>
+    fn write_right(
+        &mut self,
+        connective: Connective,
+        e: &BooleanExpression,
+    ) -> Result<(), AllocError>
         ensures { Writes result self.old self.new
             (map instructs (right_code connective (plain_boolean e.now))) }
     {

@@ -104,7 +104,10 @@ pub fn statement_length(s: &Statement) -> Result<usize, AllocError>
         Statement::Put(_, t) => sum(text_length(t)?, 1),
         Statement::If(branches) => if_length(branches),
         Statement::While(_, condition, body) => {
-            sum(boolean_length(condition)?, sum(statements_length(body)?, 1)?)
+            sum(
+                boolean_length(condition)?,
+                sum(statements_length(body)?, 1)?,
+            )
         }
         Statement::Loop(body) => statements_length(body),
         Statement::Exit(_, _, condition) => sum(boolean_length(condition)?, 1),
@@ -126,7 +129,10 @@ fn if_length(s: &IfStatement) -> Result<usize, AllocError>
 fn arm_length(arm: &Arm) -> Result<usize, AllocError>
     ensures { IfOk result (λ n. (ways : ℕ) → n ≡ arm_length arm.now ways) }
 {
-    sum(boolean_length(&arm.condition)?, sum(statements_length(&arm.statements)?, 1)?)
+    sum(
+        boolean_length(&arm.condition)?,
+        sum(statements_length(&arm.statements)?, 1)?,
+    )
 }
 
 /// Of statements.

@@ -1,8 +1,8 @@
-use Rattle.std.proofs.Common.{ℕ, suc, ◌+◌, ap, sym, ◌∙◌, arith}
+use Rattle.std.proofs.Common.{ℕ, suc, ap, sym, ◌∙◌, arith}
 use Rattle.std.proofs.lemmas.List.{drop_all}
 use Rattle.aud_typed.proofs.Opened.{loop_open, while_open, if_open}
 use Rattle.aud_typed.specs.Tree.{part_of}
-use Rattle.aud_typed.specs.Ties.View.{plain_boolean, plain_statement, plain_statements, statements_in, if_in}
+use Rattle.aud_typed.specs.Ties.View.{plain_statement, plain_statements, statements_in, if_in}
 use Rattle.aud_gen.specs.Layout.{statement_size_by, part_size_by}
 use Rattle.aud_gen.specs.Written.{flat_step}
 use Rattle.aud_gen.proofs.Loops.{if_ok}

@@ -1,4 +1,4 @@
-use Rattle.aud_typed.specs.Ties.View.{plain_boolean, connected, all_connected}
+use Rattle.aud_typed.specs.Ties.View.{plain_boolean, all_connected}
 use Rattle.aud_gen.specs.Instructions.{condition_code}
 use Rattle.aud_gen.proofs.Loops.{SoFar}
 use Rattle.aud_gen.proofs.Writing.{Adds}

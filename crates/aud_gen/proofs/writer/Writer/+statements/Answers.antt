@@ -1,4 +1,4 @@
-use Rattle.std.proofs.Common.{◌≡◌, ℕ, suc, ◌+◌, ◌-◌, ◌++◌, length, drop, refl, ap, sym, ◌∙◌, arith}
+use Rattle.std.proofs.Common.{◌≡◌, suc, ◌+◌, ◌-◌, ◌++◌, length, drop, ap, sym, ◌∙◌, arith}
 use Rattle.std.specs.Prelude.{if◌then◌else◌, vec_len}
 use Rattle.std.proofs.lemmas.List.{length-drop}
 use Rattle.aud_typed.specs.declared.program.IfStatement.{out-IfStatement}
@@ -22,8 +22,8 @@ write_arm-returns t c back =
     let behind_is : c.in_ok-behind.behind ≡ c.in_ok-inside.inside + size = c.in_ok-behind.ensures ∙ ap (λ n. c.in_ok-inside.inside + n) (c.in_ok-statements_length.ensures (suc (length c.args.self.now.exits))) in
     let leads : c.if-more.otherwise ≡ (if c.args.more then c.in_ok-inside.inside + size else c.args.next) =
     elim c.if-more.branch [
-    | write_arm-then-more w ↦ w.otherwise-is ∙ behind_is ∙ sym (chosen c.args.more (c.in_ok-inside.inside + size) c.args.next w.if-more.true)
-    | write_arm-else-more w ↦ w.otherwise-is ∙ sym (passed_over c.args.more (c.in_ok-inside.inside + size) c.args.next w.if-more.false)
+      | write_arm-then-more w ↦ w.otherwise-is ∙ behind_is ∙ sym (chosen c.args.more (c.in_ok-inside.inside + size) c.args.next w.if-more.true)
+      | write_arm-else-more w ↦ w.otherwise-is ∙ sym (passed_over c.args.more (c.in_ok-inside.inside + size) c.args.next w.if-more.false)
     ] in
     whole_arm c.write_statements.result c.args.arm.now c.args.more c.args.self.now c.write_boolean.new.self c.end.new.self c.write_statements.new.self c.args.next c.args.out c.in_ok-inside.inside c.if-more.otherwise back inside_is leads c.in_ok-write_boolean.ensures c.in_ok-end.ensures (c.write_statements.ensures back)
 

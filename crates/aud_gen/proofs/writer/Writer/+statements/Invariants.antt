@@ -1,4 +1,4 @@
-use Rattle.std.proofs.Common.{◌≡◌, ℕ, ◌+◌, length, drop}
+use Rattle.std.proofs.Common.{◌≡◌, ◌+◌, length, drop}
 use Rattle.aud_typed.specs.declared.program.IfStatement.{out-IfStatement}
 use Rattle.aud_typed.specs.Tree.{part_of, some}
 use Rattle.aud_typed.specs.Ties.View.{plain_statements, part_of_arms, if_in}

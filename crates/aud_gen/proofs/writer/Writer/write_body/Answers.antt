@@ -1,4 +1,4 @@
-use Rattle.std.proofs.Common.{◌≡◌, ◌+◌, length, ap, ◌∙◌, arith}
+use Rattle.std.proofs.Common.{◌≡◌, ◌+◌, length, arith}
 use Rattle.aud_typed.specs.Tree.{part_of}
 use Rattle.aud_typed.specs.Ties.View.{plain_statements, statements_in}
 use Rattle.aud_code.specs.Places.{Way}
