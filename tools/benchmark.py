@@ -20,7 +20,7 @@ SESSIONS = 101  # sessions of aud that are timed for each number
 
 HEAD, TAIL = "procedure B is X:Integer:=0;begin\n", "end B;\n"
 
-# what the others do with the text of the assignments, so many times; they print two times in seconds
+# what the others do with the text of the assignments, a number of times; they print two times in seconds
 PYTHON = """
 import sys
 from time import process_time

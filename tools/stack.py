@@ -1,4 +1,4 @@
-"""Loads and runs the largest source text of every shape by `aud --solo` on a stack of 512 KiB, or so many.
+"""Loads and runs the largest source text of every shape by `aud --solo` on a stack of 512 KiB, or of another number.
 
 A text is long (one chain of operators, one list of statements or of names) or nested (parentheses at
 the limit of levels), or both. stack.sh calls it.
@@ -115,7 +115,7 @@ def answered(program, text, size):
 
 
 def is_right(answer, result):
-    """Loaded, and ended after so many steps; or refused by this code."""
+    """Loaded, and ended after this number of steps; or refused by this code."""
     if isinstance(result, int):
         return answer == f"+ 1\nloaded M\n+ 1\nran {result} ended\n+ 0\n"
     return answer.startswith(result)

@@ -65,27 +65,27 @@ ways_count a = suc (length a.exits)
 
 -- where a part begins that is laid out at a place, before the place next
 abbrev pub part_place : Part → ℕ → ℕ → ℕ
-part_place nothing at next = next
-part_place (some s) at next = at
+part_place nothing place next = next
+part_place (some s) place next = place
 
 abbrev pub doing_place : Doing → ℕ → ℕ → ℕ
-doing_place without_do at next = next
-doing_place (with_do n b) at next = at
+doing_place without_do place next = next
+doing_place (with_do n b) place next = place
 
 abbrev pub line : Statement → List ℕ → List ℕ → Option Way → Around → Line
 line s ways bodies w a = record { what = does s; at = statement_at s; out = a.out; ways = ways; bodies = bodies; exit = w }
 
 -- a block is left on the way out, and n loops around it; nothing is raised there
 abbrev pub stub_line : ℕ → ℕ → Pos → ℕ → Line
-stub_line loops to end at = record { what = leaves loops to; at = end; out = at; ways = []; bodies = []; exit = None }
+stub_line loops to end place = record { what = leaves loops to; at = end; out = place; ways = []; bodies = []; exit = None }
 
 abbrev pub stubs : List Way → Pos → ℕ → List Line
-stubs [] end at = []
-stubs (w ∷ ws) end at = stub_line w.loops w.to end at ∷ stubs ws end (suc at)
+stubs [] end place = []
+stubs (w ∷ ws) end place = stub_line w.loops w.to end place ∷ stubs ws end (suc place)
 
 abbrev pub stub_ways : List Way → ℕ → List Way
-stub_ways [] at = []
-stub_ways (w ∷ ws) at = record { to = at; loops = 0 } ∷ stub_ways ws (suc at)
+stub_ways [] place = []
+stub_ways (w ∷ ws) place = record { to = place; loops = 0 } ∷ stub_ways ws (suc place)
 
 -- a block with its end at the place last, behind which it is left on other ways
 abbrev pub in_block : ℕ → Around → Around
@@ -102,7 +102,7 @@ abbrev pub around_out : ℕ → Around → Around
 around_out out a = record a { out = out }
 
 abbrev pub stubs_of : Body → List Way → ℕ → List Line
-stubs_of (body d begin s h end) ws at = stubs ws end at
+stubs_of (body d begin s h end) ws place = stubs ws end place
 
 -- What follows is laid out by what place is behind a statement's own step, counted from a number on.
 module _ (behind : Statement → ℕ → ℕ) where
@@ -144,23 +144,23 @@ module _ (behind : Statement → ℕ → ℕ) where
     offered_size_by (terminating g more) e = offered_size_by more e
 
   abbrev pub guards_of_by : Handlers → ℕ → ℕ → List Guard
-  guards_of_by no_handlers at e = []
-  guards_of_by (handler others choices s more) at e = record { others = others; choices = choices; to = at } ∷ guards_of_by more (at + statement_size_by s e) e
+  guards_of_by no_handlers place e = []
+  guards_of_by (handler others choices s more) place e = record { others = others; choices = choices; to = place } ∷ guards_of_by more (place + statement_size_by s e) e
 
   -- the places of what follows the alternatives, and of what their accepts do
   abbrev pub parts_from_by : Alternatives → ℕ → ℕ → ℕ → List ℕ
-  parts_from_by no_alternatives at next e = []
-  parts_from_by (accepting g pos n d p more) at next e =
-      part_place p (at + doing_size_by d) next ∷ parts_from_by more (at + doing_size_by d + part_size_by p e) next e
-  parts_from_by (delaying g x p more) at next e = part_place p at next ∷ parts_from_by more (at + part_size_by p e) next e
-  parts_from_by (terminating g more) at next e = next ∷ parts_from_by more at next e
+  parts_from_by no_alternatives place next e = []
+  parts_from_by (accepting g pos n d p more) place next e =
+      part_place p (place + doing_size_by d) next ∷ parts_from_by more (place + doing_size_by d + part_size_by p e) next e
+  parts_from_by (delaying g x p more) place next e = part_place p place next ∷ parts_from_by more (place + part_size_by p e) next e
+  parts_from_by (terminating g more) place next e = next ∷ parts_from_by more place next e
 
   abbrev pub bodies_from_by : Alternatives → ℕ → ℕ → ℕ → List ℕ
-  bodies_from_by no_alternatives at next e = []
-  bodies_from_by (accepting g pos n d p more) at next e =
-      doing_place d at (part_place p (at + doing_size_by d) next) ∷ bodies_from_by more (at + doing_size_by d + part_size_by p e) next e
-  bodies_from_by (delaying g x p more) at next e = part_place p at next ∷ bodies_from_by more (at + part_size_by p e) next e
-  bodies_from_by (terminating g more) at next e = next ∷ bodies_from_by more at next e
+  bodies_from_by no_alternatives place next e = []
+  bodies_from_by (accepting g pos n d p more) place next e =
+      doing_place d place (part_place p (place + doing_size_by d) next) ∷ bodies_from_by more (place + doing_size_by d + part_size_by p e) next e
+  bodies_from_by (delaying g x p more) place next e = part_place p place next ∷ bodies_from_by more (place + part_size_by p e) next e
+  bodies_from_by (terminating g more) place next e = next ∷ bodies_from_by more place next e
 
   abbrev pub guard_line_by : Handlers → Pos → ℕ → ℕ → ℕ → Line
   guard_line_by h end handling last e = record { what = guards (guards_of_by h handling e); at = end; out = last; ways = []; bodies = []; exit = None }
@@ -170,75 +170,75 @@ module _ (behind : Statement → ℕ → ℕ) where
   main_size_by s h e = statement_size_by s e + suc (handlers_size_by h e)
 
   abbrev pub end_place_by : Body → ℕ → ℕ → ℕ
-  end_place_by (body d begin s h end) at e = at + part_size_by d e + main_size_by s h e
+  end_place_by (body d begin s h end) place e = place + part_size_by d e + main_size_by s h e
 
   abbrev mutual
     -- a statement from the place at on, before the place next
     pub statement_code_by : Statement → ℕ → ℕ → Around → List Line
-    statement_code_by (sequence x y) at next a =
-        let middle = at + statement_size_by x (ways_count a) in
-        statement_code_by x at middle a ++ statement_code_by y middle next a
-    statement_code_by (plain_loop x) at next a = statement_code_by x at at (in_loop next a)
-    statement_code_by (if_then pos c x p) at next a =
-        let second = (behind (if_then pos c x p) at) + statement_size_by x (ways_count a) in
-        line (if_then pos c x p) (part_place p second next ∷ (behind (if_then pos c x p) at) ∷ []) [] None a ∷ (statement_code_by x (behind (if_then pos c x p) at) next a ++ part_code_by p second next a)
-    statement_code_by (while_loop pos c x) at next a =
-        line (while_loop pos c x) (next ∷ (behind (while_loop pos c x) at) ∷ []) [] None a ∷ statement_code_by x (behind (while_loop pos c x) at) at (in_loop next a)
-    statement_code_by (for_loop f x y s) at next a =
-        line (for_loop f x y s) (next ∷ (suc (behind (for_loop f x y s) at)) ∷ []) [] None a
-        ∷ record { what = continues f; at = f.next_at; out = a.out; ways = next ∷ (suc (behind (for_loop f x y s) at)) ∷ []; bodies = []; exit = None }
-        ∷ statement_code_by s (suc (behind (for_loop f x y s) at)) (behind (for_loop f x y s) at) (in_for next a)
-    statement_code_by (exit pos n c) at next a = line (exit pos n c) (next ∷ []) [] (Some (slice_index_or a.exits n (record { to = next; loops = 0 }))) a ∷ []
-    statement_code_by (return pos) at next a = line (return pos) (next ∷ []) [] (Some a.back) a ∷ []
-    statement_code_by (return_value pos x) at next a = line (return_value pos x) (next ∷ []) [] (Some a.back) a ∷ []
-    statement_code_by (block pos n b) at next a =
-        let end = end_place_by b (behind (block pos n b) at) (ways_count a) in
-        line (block pos n b) (next ∷ (behind (block pos n b) at) ∷ []) [] None a
-        ∷ (body_code_by construct.Block b (behind (block pos n b) at) next a.out (in_block end a) ++ stubs_of b (a.exits ++ a.back ∷ []) (suc end))
-    statement_code_by (entry_call pos c p q) at next a =
-        let second = (behind (entry_call pos c p q) at) + part_size_by p (ways_count a) in
-        line (entry_call pos c p q) (part_place p (behind (entry_call pos c p q) at) next ∷ part_place q second next ∷ []) [] None a
-        ∷ (part_code_by p (behind (entry_call pos c p q) at) next a ++ part_code_by q second next a)
-    statement_code_by (accept pos n d) at next a = line (accept pos n d) (next ∷ []) (doing_place d (behind (accept pos n d) at) next ∷ []) None a ∷ doing_code_by d (behind (accept pos n d) at) next a.out
-    statement_code_by (select pos offered p) at next a =
-        let second = (behind (select pos offered p) at) + offered_size_by offered (ways_count a) in
-        line (select pos offered p) (part_place p second next ∷ parts_from_by offered (behind (select pos offered p) at) next (ways_count a)) (at ∷ bodies_from_by offered (behind (select pos offered p) at) next (ways_count a)) None a
-        ∷ (offered_code_by offered (behind (select pos offered p) at) next a ++ part_code_by p second next a)
-    statement_code_by s at next a = line s (next ∷ []) [] None a ∷ []
+    statement_code_by (sequence x y) place next a =
+        let middle = place + statement_size_by x (ways_count a) in
+        statement_code_by x place middle a ++ statement_code_by y middle next a
+    statement_code_by (plain_loop x) place next a = statement_code_by x place place (in_loop next a)
+    statement_code_by (if_then pos c x p) place next a =
+        let second = (behind (if_then pos c x p) place) + statement_size_by x (ways_count a) in
+        line (if_then pos c x p) (part_place p second next ∷ (behind (if_then pos c x p) place) ∷ []) [] None a ∷ (statement_code_by x (behind (if_then pos c x p) place) next a ++ part_code_by p second next a)
+    statement_code_by (while_loop pos c x) place next a =
+        line (while_loop pos c x) (next ∷ (behind (while_loop pos c x) place) ∷ []) [] None a ∷ statement_code_by x (behind (while_loop pos c x) place) place (in_loop next a)
+    statement_code_by (for_loop f x y s) place next a =
+        line (for_loop f x y s) (next ∷ (suc (behind (for_loop f x y s) place)) ∷ []) [] None a
+        ∷ record { what = continues f; at = f.next_at; out = a.out; ways = next ∷ (suc (behind (for_loop f x y s) place)) ∷ []; bodies = []; exit = None }
+        ∷ statement_code_by s (suc (behind (for_loop f x y s) place)) (behind (for_loop f x y s) place) (in_for next a)
+    statement_code_by (exit pos n c) place next a = line (exit pos n c) (next ∷ []) [] (Some (slice_index_or a.exits n (record { to = next; loops = 0 }))) a ∷ []
+    statement_code_by (return pos) place next a = line (return pos) (next ∷ []) [] (Some a.back) a ∷ []
+    statement_code_by (return_value pos x) place next a = line (return_value pos x) (next ∷ []) [] (Some a.back) a ∷ []
+    statement_code_by (block pos n b) place next a =
+        let end = end_place_by b (behind (block pos n b) place) (ways_count a) in
+        line (block pos n b) (next ∷ (behind (block pos n b) place) ∷ []) [] None a
+        ∷ (body_code_by construct.Block b (behind (block pos n b) place) next a.out (in_block end a) ++ stubs_of b (a.exits ++ a.back ∷ []) (suc end))
+    statement_code_by (entry_call pos c p q) place next a =
+        let second = (behind (entry_call pos c p q) place) + part_size_by p (ways_count a) in
+        line (entry_call pos c p q) (part_place p (behind (entry_call pos c p q) place) next ∷ part_place q second next ∷ []) [] None a
+        ∷ (part_code_by p (behind (entry_call pos c p q) place) next a ++ part_code_by q second next a)
+    statement_code_by (accept pos n d) place next a = line (accept pos n d) (next ∷ []) (doing_place d (behind (accept pos n d) place) next ∷ []) None a ∷ doing_code_by d (behind (accept pos n d) place) next a.out
+    statement_code_by (select pos offered p) place next a =
+        let second = (behind (select pos offered p) place) + offered_size_by offered (ways_count a) in
+        line (select pos offered p) (part_place p second next ∷ parts_from_by offered (behind (select pos offered p) place) next (ways_count a)) (place ∷ bodies_from_by offered (behind (select pos offered p) place) next (ways_count a)) None a
+        ∷ (offered_code_by offered (behind (select pos offered p) place) next a ++ part_code_by p second next a)
+    statement_code_by s place next a = line s (next ∷ []) [] None a ∷ []
 
     pub part_code_by : Part → ℕ → ℕ → Around → List Line
-    part_code_by nothing at next a = []
-    part_code_by (some s) at next a = statement_code_by s at next a
+    part_code_by nothing place next a = []
+    part_code_by (some s) place next a = statement_code_by s place next a
 
     pub handlers_code_by : Handlers → ℕ → ℕ → Around → List Line
-    handlers_code_by no_handlers at next a = []
-    handlers_code_by (handler others choices s more) at next a =
-        statement_code_by s at next a ++ handlers_code_by more (at + statement_size_by s (ways_count a)) next a
+    handlers_code_by no_handlers place next a = []
+    handlers_code_by (handler others choices s more) place next a =
+        statement_code_by s place next a ++ handlers_code_by more (place + statement_size_by s (ways_count a)) next a
 
     -- The last place is its end, whose exceptions go to out.
     pub body_code_by : Construct → Body → ℕ → ℕ → ℕ → Around → List Line
-    body_code_by c (body d begin s h end) at next out a =
-        let first = at + part_size_by d (ways_count a) in
+    body_code_by c (body d begin s h end) place next out a =
+        let first = place + part_size_by d (ways_count a) in
         let guard = first + statement_size_by s (ways_count a) in
         let last = first + main_size_by s h (ways_count a) in
-        part_code_by d at first (around_out last a)
+        part_code_by d place first (around_out last a)
         ++ (statement_code_by s first last (around_out guard a)
         ++ (guard_line_by h end (suc guard) last (ways_count a) ∷ (handlers_code_by h (suc guard) last (around_out last a) ++ end_line c end next out ∷ [])))
 
     pub doing_code_by : Doing → ℕ → ℕ → ℕ → List Line
-    doing_code_by without_do at next out = []
-    doing_code_by (with_do n b) at next out =
-        let end = end_place_by b at 1 in
-        body_code_by construct.Accept b at next out (in_call end)
+    doing_code_by without_do place next out = []
+    doing_code_by (with_do n b) place next out =
+        let end = end_place_by b place 1 in
+        body_code_by construct.Accept b place next out (in_call end)
 
     pub offered_code_by : Alternatives → ℕ → ℕ → Around → List Line
-    offered_code_by no_alternatives at next a = []
-    offered_code_by (accepting g pos n d p more) at next a =
-        let after = at + doing_size_by d in
-        doing_code_by d at (part_place p after next) a.out
+    offered_code_by no_alternatives place next a = []
+    offered_code_by (accepting g pos n d p more) place next a =
+        let after = place + doing_size_by d in
+        doing_code_by d place (part_place p after next) a.out
         ++ (part_code_by p after next a ++ offered_code_by more (after + part_size_by p (ways_count a)) next a)
-    offered_code_by (delaying g x p more) at next a = part_code_by p at next a ++ offered_code_by more (at + part_size_by p (ways_count a)) next a
-    offered_code_by (terminating g more) at next a = offered_code_by more at next a
+    offered_code_by (delaying g x p more) place next a = part_code_by p place next a ++ offered_code_by more (place + part_size_by p (ways_count a)) next a
+    offered_code_by (terminating g more) place next a = offered_code_by more place next a
 
   -- of a body, from the place first of its statements on
   abbrev pub main_code_by : Construct → Statement → Handlers → Pos → ℕ → ℕ → ℕ → Around → List Line
@@ -251,20 +251,20 @@ module _ (behind : Statement → ℕ → ℕ) where
   -- A program: its bodies one after the other.
 
   abbrev pub unit_code_by : Body → ℕ → List Line
-  unit_code_by b at = let end = end_place_by b at 1 in body_code_by construct.Unit b at 0 end (in_call end)
+  unit_code_by b place = let end = end_place_by b place 1 in body_code_by construct.Unit b place 0 end (in_call end)
 
   -- and at last one that no program has, for numbers that no body has
   abbrev pub units_code_by : List Body → ℕ → List Line
-  units_code_by [] at = unit_code_by no_body at
-  units_code_by (b ∷ bs) at = unit_code_by b at ++ units_code_by bs (at + body_size_by b 1)
+  units_code_by [] place = unit_code_by no_body place
+  units_code_by (b ∷ bs) place = unit_code_by b place ++ units_code_by bs (place + body_size_by b 1)
 
   abbrev pub starts_from_by : List Body → ℕ → List ℕ
-  starts_from_by [] at = []
-  starts_from_by (b ∷ bs) at = at ∷ starts_from_by bs (at + body_size_by b 1)
+  starts_from_by [] place = []
+  starts_from_by (b ∷ bs) place = place ∷ starts_from_by bs (place + body_size_by b 1)
 
   abbrev pub spare_from_by : List Body → ℕ → ℕ
-  spare_from_by [] at = at
-  spare_from_by (b ∷ bs) at = spare_from_by bs (at + body_size_by b 1)
+  spare_from_by [] place = place
+  spare_from_by (b ∷ bs) place = spare_from_by bs (place + body_size_by b 1)
 
   abbrev pub code_of_by : Program → Code
   code_of_by program = record { lines = units_code_by program.bodies 0; starts = starts_from_by program.bodies 0; spare = spare_from_by program.bodies 0 }

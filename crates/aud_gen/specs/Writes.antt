@@ -49,6 +49,10 @@ Writes result old new lines = OnOk result (new ≡ record old { lines = old.line
 abbrev pub around : CodeSoFar → (out : ℕ) (back : Way) → Around
 around code out back = record { out = out; exits = code.exits; back = back }
 
+-- lines by the place of the first and what surrounds them; none of them leads back from a call, so the way back is any
+abbrev pub WritesInside : {X : Type 0} → Result X AllocError → CodeSoFar → CodeSoFar → (out : ℕ) → (ℕ → Around → List FlatLine) → Type 0
+WritesInside result old new out lines = (back : Way) → Writes result old new (lines (length old.lines) (around old out back))
+
 -- the right side of an operator, and the operator
 abbrev pub right_code : Connective → tree.BooleanExpression → List Instruction
 right_code (Logical operator) y = condition_code y ++ Combine operator ∷ []

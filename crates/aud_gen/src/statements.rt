@@ -4,9 +4,8 @@ ghost use Rattle.std.specs.Prelude.{◌≡◌, List, length};
 ghost use Rattle.aud_typed.specs.declared.program.Arm.{Arm as Arms};
 ghost use Rattle.aud_typed.specs.Tree.{part_of};
 ghost use Rattle.aud_typed.specs.Ties.View.{plain_boolean, plain_statement, plain_statements, statements_in, part_of_arms, if_in};
-ghost use Rattle.aud_code.specs.Places.{Way};
 ghost use Rattle.aud_gen.specs.Layout.{in_loop};
-ghost use Rattle.aud_gen.specs.Writes.{around, statement_lines, part_lines, is_there, listed_lines, arm_lines, while_lines, Writes};
+ghost use Rattle.aud_gen.specs.Writes.{statement_lines, part_lines, is_there, listed_lines, arm_lines, while_lines, Writes, WritesInside};
 
 use crate::lengths::{boolean_length, statement_length, statements_length, sum};
 use crate::writer::Writer;
@@ -27,9 +26,8 @@ impl Writer {
         out: usize,
         next: usize,
     ) -> Result<(), AllocError>
-        ensures { (back : Way) → Writes result self.old self.new
-            (statement_lines (plain_statement s.now) (length self.old.lines) next
-            (around self.old out back)) }
+        ensures { WritesInside result self.old self.new out (λ place a.
+            statement_lines (plain_statement s.now) place next a) }
     {
         match s {
             Statement::Declare(at, e) => {
@@ -69,9 +67,8 @@ impl Writer {
         out: usize,
         next: usize,
     ) -> Result<(), AllocError>
-        ensures { (back : Way) → Writes result self.old self.new
-            (statement_lines (statements_in ss.now) (length self.old.lines) next
-            (around self.old out back)) }
+        ensures { WritesInside result self.old self.new out (λ place a.
+            statement_lines (statements_in ss.now) place next a) }
     {
         self.write_in_list(&ss.first, ss.others.is_empty(), out, next)?;
         self.write_list(&ss.others, out, next)
@@ -85,9 +82,8 @@ impl Writer {
         out: usize,
         next: usize,
     ) -> Result<(), AllocError>
-        ensures { (back : Way) → Writes result self.old self.new
-            (part_lines (part_of (plain_statements ss.now)) (length self.old.lines) next
-            (around self.old out back)) }
+        ensures { WritesInside result self.old self.new out (λ place a.
+            part_lines (part_of (plain_statements ss.now)) place next a) }
     {
         let mut left = ss.len();
         for s in ss {
@@ -106,9 +102,8 @@ impl Writer {
         out: usize,
         next: usize,
     ) -> Result<(), AllocError>
-        ensures { (back : Way) → Writes result self.old self.new
-            (listed_lines (plain_statement s.now) is_last (length self.old.lines) next
-            (around self.old out back)) }
+        ensures { WritesInside result self.old self.new out (λ place a.
+            listed_lines (plain_statement s.now) is_last place next a) }
     {
         let then = if is_last {
             next
@@ -120,9 +115,8 @@ impl Writer {
 
     #[cycle(statements)]
     fn write_if(&mut self, s: &IfStatement, out: usize, next: usize) -> Result<(), AllocError>
-        ensures { (back : Way) → Writes result self.old self.new
-            (statement_lines (if_in s.now) (length self.old.lines) next
-            (around self.old out back)) }
+        ensures { WritesInside result self.old self.new out (λ place a.
+            statement_lines (if_in s.now) place next a) }
     {
         let mut left = s.others.len();
         self.write_arm(&s.first, goes_on(left, &s.otherwise), out, next)?;
@@ -142,8 +136,8 @@ impl Writer {
         out: usize,
         next: usize,
     ) -> Result<(), AllocError>
-        ensures { (back : Way) → Writes result self.old self.new
-            (arm_lines arm.now more (length self.old.lines) next (around self.old out back)) }
+        ensures { WritesInside result self.old self.new out (λ place a.
+            arm_lines arm.now more place next a) }
     {
         let inside = sum(self.place(), sum(boolean_length(&arm.condition)?, 1)?)?;
         let behind = sum(inside, statements_length(&arm.statements)?)?;
@@ -162,9 +156,8 @@ impl Writer {
         next: usize,
         again: usize,
     ) -> Result<(), AllocError>
-        ensures { (back : Way) → Writes result self.old self.new
-            (statement_lines (statements_in body.now) (length self.old.lines) again
-            (in_loop next (around self.old out back))) }
+        ensures { WritesInside result self.old self.new out (λ place a.
+            statement_lines (statements_in body.now) place again (in_loop next a)) }
     {
         self.enter_loop(next)?;
         self.write_statements(body, out, again)?;
