@@ -7,16 +7,15 @@ ghost use Rattle.aud_gen.specs.Instructions.{integer_code, condition_code, value
 ghost use Rattle.aud_gen.specs.Writes.{right_code, Writes};
 
 use crate::lengths::boolean_length;
-use crate::writer::Writer;
+use crate::writer::{Writer, Written};
 use aud_code::instruction::Instruction;
 use aud_typed::program::{
     BooleanExpression, Connective, IntegerExpression, TextExpression, ValueExpression,
 };
-use std::alloc::AllocError;
 
 impl Writer {
     /// An expression of type Integer.
-    pub fn write_integer(&mut self, e: &IntegerExpression) -> Result<(), AllocError>
+    pub fn write_integer(&mut self, e: &IntegerExpression) -> Written
         ensures { Writes result self.old self.new
             (map instructs (integer_code (plain_integer e.now))) }
     {
@@ -40,7 +39,7 @@ impl Writer {
 
     /// An expression of type Boolean.
     #[cycle(boolean)]
-    pub fn write_boolean(&mut self, e: &BooleanExpression) -> Result<(), AllocError>
+    pub fn write_boolean(&mut self, e: &BooleanExpression) -> Written
         ensures { Writes result self.old self.new
             (map instructs (condition_code (plain_boolean e.now))) }
     {
@@ -76,11 +75,7 @@ impl Writer {
 
     // The right side of an operator, and the operator. A short circuit passes its right side where the left one decides.
     #[cycle(boolean)]
-    fn write_right(
-        &mut self,
-        connective: Connective,
-        e: &BooleanExpression,
-    ) -> Result<(), AllocError>
+    fn write_right(&mut self, connective: Connective, e: &BooleanExpression) -> Written
         ensures { Writes result self.old self.new
             (map instructs (right_code connective (plain_boolean e.now))) }
     {
@@ -101,7 +96,7 @@ impl Writer {
     }
 
     /// A value for a place that asks for a subtype.
-    pub fn write_value(&mut self, e: &ValueExpression) -> Result<(), AllocError>
+    pub fn write_value(&mut self, e: &ValueExpression) -> Written
         ensures { Writes result self.old self.new (map instructs (value_code (plain_value e.now))) }
     {
         match e {
@@ -117,7 +112,7 @@ impl Writer {
     }
 
     /// A text.
-    pub fn write_text(&mut self, t: &TextExpression) -> Result<(), AllocError>
+    pub fn write_text(&mut self, t: &TextExpression) -> Written
         ensures { Writes result self.old self.new (map instructs (text_code (plain_text t.now))) }
     {
         match t {

@@ -7,7 +7,7 @@ ghost use Rattle.aud_gen.specs.Assembly.{flat_program};
 ghost use Rattle.aud_gen.specs.Writes.{end_lines, body_lines, idle_lines, body_code, Writes};
 
 use crate::lengths::{list_length, statements_length, sum};
-use crate::writer::Writer;
+use crate::writer::{Writer, Written};
 use aud_code::line::{Code, EndLine, Ending, Last, Line};
 use aud_code::sound_code::{SoundCode, verify};
 use aud_text::place::Pos;
@@ -18,7 +18,7 @@ const NOWHERE: Pos = Pos { line: 0, col: 0 };
 
 impl Writer {
     // Behind the statements: where its handlers would be looked for, and its end.
-    fn write_end(&mut self, at: Pos, out: usize) -> Result<(), AllocError>
+    fn write_end(&mut self, at: Pos, out: usize) -> Written
         ensures { Writes result self.old self.new (end_lines at out) }
     {
         self.write(Line::End(EndLine {
@@ -38,7 +38,7 @@ impl Writer {
         declarations: &[Statement],
         statements: &Statements,
         end: Pos,
-    ) -> Result<(), AllocError>
+    ) -> Written
         requires { self.old.exits ≡ [] }
         ensures { Writes result self.old self.new
             (body_lines declarations.now statements.now end (length self.old.lines)) }
@@ -52,7 +52,7 @@ impl Writer {
     }
 
     // A body of one null statement, for a number that no body has.
-    fn write_idle(&mut self) -> Result<(), AllocError>
+    fn write_idle(&mut self) -> Written
         ensures { Writes result self.old self.new (idle_lines (length self.old.lines)) }
     {
         let guard = sum(self.place(), 1)?;

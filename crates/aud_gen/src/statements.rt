@@ -8,24 +8,18 @@ ghost use Rattle.aud_gen.specs.Layout.{in_loop};
 ghost use Rattle.aud_gen.specs.Writes.{statement_lines, part_lines, is_there, listed_lines, arm_lines, while_lines, Writes, WritesInside};
 
 use crate::lengths::{boolean_length, statement_length, statements_length, sum};
-use crate::writer::Writer;
+use crate::writer::{Writer, Written};
 use aud_code::instruction::Instruction;
 use aud_code::line::Ending;
 use aud_text::place::Pos;
 use aud_typed::program::{Arm, BooleanExpression, IfStatement, Statement, Statements};
-use std::alloc::AllocError;
 
 // Exceptions of what is written go to the place `out`; behind it comes the step at the place `next`. No statement leads back
 // from a call, as yet, so the way back is any.
 impl Writer {
     /// A statement.
     #[cycle(statements)]
-    pub fn write_statement(
-        &mut self,
-        s: &Statement,
-        out: usize,
-        next: usize,
-    ) -> Result<(), AllocError>
+    pub fn write_statement(&mut self, s: &Statement, out: usize, next: usize) -> Written
         ensures { WritesInside result self.old self.new out (λ place a.
             statement_lines (plain_statement s.now) place next a) }
     {
@@ -61,12 +55,7 @@ impl Writer {
 
     /// Statements.
     #[cycle(statements)]
-    pub fn write_statements(
-        &mut self,
-        ss: &Statements,
-        out: usize,
-        next: usize,
-    ) -> Result<(), AllocError>
+    pub fn write_statements(&mut self, ss: &Statements, out: usize, next: usize) -> Written
         ensures { WritesInside result self.old self.new out (λ place a.
             statement_lines (statements_in ss.now) place next a) }
     {
@@ -76,12 +65,7 @@ impl Writer {
 
     /// Statements, of which there may be none.
     #[cycle(statements)]
-    pub fn write_list(
-        &mut self,
-        ss: &[Statement],
-        out: usize,
-        next: usize,
-    ) -> Result<(), AllocError>
+    pub fn write_list(&mut self, ss: &[Statement], out: usize, next: usize) -> Written
         ensures { WritesInside result self.old self.new out (λ place a.
             part_lines (part_of (plain_statements ss.now)) place next a) }
     {
@@ -95,13 +79,7 @@ impl Writer {
 
     // A statement, behind which comes what stands behind it, or the step at the place `next` where it is the last one.
     #[cycle(statements)]
-    fn write_in_list(
-        &mut self,
-        s: &Statement,
-        is_last: bool,
-        out: usize,
-        next: usize,
-    ) -> Result<(), AllocError>
+    fn write_in_list(&mut self, s: &Statement, is_last: bool, out: usize, next: usize) -> Written
         ensures { WritesInside result self.old self.new out (λ place a.
             listed_lines (plain_statement s.now) is_last place next a) }
     {
@@ -114,7 +92,7 @@ impl Writer {
     }
 
     #[cycle(statements)]
-    fn write_if(&mut self, s: &IfStatement, out: usize, next: usize) -> Result<(), AllocError>
+    fn write_if(&mut self, s: &IfStatement, out: usize, next: usize) -> Written
         ensures { WritesInside result self.old self.new out (λ place a.
             statement_lines (if_in s.now) place next a) }
     {
@@ -129,13 +107,7 @@ impl Writer {
 
     // The step of an arm, which leads behind the arm where there is more, and its statements.
     #[cycle(statements)]
-    fn write_arm(
-        &mut self,
-        arm: &Arm,
-        more: bool,
-        out: usize,
-        next: usize,
-    ) -> Result<(), AllocError>
+    fn write_arm(&mut self, arm: &Arm, more: bool, out: usize, next: usize) -> Written
         ensures { WritesInside result self.old self.new out (λ place a.
             arm_lines arm.now more place next a) }
     {
@@ -149,13 +121,7 @@ impl Writer {
 
     // The statements of a loop, behind which comes the step at the place `again`; exits lead to the place `next`.
     #[cycle(statements)]
-    fn write_loop(
-        &mut self,
-        body: &Statements,
-        out: usize,
-        next: usize,
-        again: usize,
-    ) -> Result<(), AllocError>
+    fn write_loop(&mut self, body: &Statements, out: usize, next: usize, again: usize) -> Written
         ensures { WritesInside result self.old self.new out (λ place a.
             statement_lines (statements_in body.now) place again (in_loop next a)) }
     {
@@ -172,7 +138,7 @@ impl Writer {
         at: Pos,
         out: usize,
         next: usize,
-    ) -> Result<(), AllocError>
+    ) -> Written
         ensures { Writes result self.old self.new
             (while_lines at (plain_boolean condition.now) (length self.old.lines) next out) }
     {

@@ -12,6 +12,9 @@ use aud_text::place::Pos;
 use std::alloc::{AllocError, Global};
 use std::marker::Model;
 
+/// Nothing, or memory was refused.
+pub type Written = Result<(), AllocError>;
+
 /// The lines that were written, and the places behind the loops that are under way, the outermost first.
 #[derive(Drop)]
 pub struct Writer {
@@ -64,7 +67,7 @@ impl Writer {
     }
 
     /// A line more.
-    pub fn write(&mut self, line: Line) -> Result<(), AllocError>
+    pub fn write(&mut self, line: Line) -> Written
         ensures { Writes result self.old self.new (plain_line line ∷ []) }
     {
         self.lines.push(line)?;
@@ -72,7 +75,7 @@ impl Writer {
     }
 
     /// An instruction more.
-    pub fn instruct(&mut self, instruction: Instruction) -> Result<(), AllocError>
+    pub fn instruct(&mut self, instruction: Instruction) -> Written
         ensures { Writes result self.old self.new (instructs (plain_instruction instruction) ∷ []) }
     {
         self.write(Line::Instruction(instruction))
@@ -80,13 +83,7 @@ impl Writer {
 
     /// The ending of a statement's step, which stands at a place of the text. An exception that is pending there goes to
     /// the place `out`.
-    pub fn end(
-        &mut self,
-        ending: Ending,
-        next: usize,
-        at: Pos,
-        out: usize,
-    ) -> Result<(), AllocError>
+    pub fn end(&mut self, ending: Ending, next: usize, at: Pos, out: usize) -> Written
         ensures { Writes result self.old self.new
             (end (plain_end (record { last = Does ending next; at = at; out = out })) ∷ []) }
     {
@@ -95,7 +92,7 @@ impl Writer {
     }
 
     /// A loop begins, whose exits lead to this place.
-    pub fn enter_loop(&mut self, next: usize) -> Result<(), AllocError>
+    pub fn enter_loop(&mut self, next: usize) -> Written
         ensures { OnOk result
             (self.new ≡ record self.old { exits = way_to next ∷ self.old.exits }) }
     {
