@@ -12,9 +12,9 @@ use Rattle.aud_typed.specs.Ties.View.{plain_integer, plain_text}
 use Rattle.aud_typed.specs.Tree.{chained, joined, binary, join}
 use Rattle.aud_typed.proofs.Chains.{plain_operation, chain_open, chained_more, join_open, joined_more}
 
-pub chain_begins : (first : Box IntegerExpression Global) (none all : Vec Operation Global) (left : IntegerExpression) (next : Operation) → none.items ≡ [] → all.items ≡ none.items ++ next ∷ [] → first.value ≡ left → plain_integer (Chain first all) ≡ binary (out-Operation next).operator (plain_integer left) (plain_integer (out-Operation next).right)
-chain_begins first none all left next p q r =
-    chain_open first all ∙ ap (λ l. chained (plain_integer first.value) (map plain_operation l)) (q ∙ ap (λ l. l ++ next ∷ []) p) ∙ ap (λ z. binary (out-Operation next).operator (plain_integer z) (plain_integer (out-Operation next).right)) r
+pub chain_begins : (first : Box IntegerExpression Global) (all : Vec Operation Global) (left : IntegerExpression) (next : Operation) → all.items ≡ next ∷ [] → first.value ≡ left → plain_integer (Chain first all) ≡ binary (out-Operation next).operator (plain_integer left) (plain_integer (out-Operation next).right)
+chain_begins first all left next q r =
+    chain_open first all ∙ ap (λ l. chained (plain_integer first.value) (map plain_operation l)) q ∙ ap (λ z. binary (out-Operation next).operator (plain_integer z) (plain_integer (out-Operation next).right)) r
 
 pub chain_goes_on : (first : Box IntegerExpression Global) (old all : Vec Operation Global) (next : Operation) → all.items ≡ old.items ++ next ∷ [] → plain_integer (Chain first all) ≡ binary (out-Operation next).operator (plain_integer (Chain first old)) (plain_integer (out-Operation next).right)
 chain_goes_on first old all next p =
@@ -28,9 +28,9 @@ copied_more old new xs i x copy p q h e a =
 pub chain_copied : (first other : Box IntegerExpression Global) (all copy : Vec Operation Global) → plain_integer other.value ≡ plain_integer first.value → map plain_operation copy.items ≡ map plain_operation all.items → plain_integer (Chain other copy) ≡ plain_integer (Chain first all)
 chain_copied first other all copy p q = chain_open other copy ∙ ap (chained (plain_integer other.value)) q ∙ ap (λ z. chained z (map plain_operation all.items)) p ∙ sym (chain_open first all)
 
-pub join_begins : (first : Box TextExpression Global) (none all : Vec TextExpression Global) (left next : TextExpression) → none.items ≡ [] → all.items ≡ none.items ++ next ∷ [] → first.value ≡ left → plain_text (Join first all) ≡ join (plain_text left) (plain_text next)
-join_begins first none all left next p q r =
-    join_open first all ∙ ap (λ l. joined (plain_text first.value) (map plain_text l)) (q ∙ ap (λ l. l ++ next ∷ []) p) ∙ ap (λ z. join (plain_text z) (plain_text next)) r
+pub join_begins : (first : Box TextExpression Global) (all : Vec TextExpression Global) (left next : TextExpression) → all.items ≡ next ∷ [] → first.value ≡ left → plain_text (Join first all) ≡ join (plain_text left) (plain_text next)
+join_begins first all left next q r =
+    join_open first all ∙ ap (λ l. joined (plain_text first.value) (map plain_text l)) q ∙ ap (λ z. join (plain_text z) (plain_text next)) r
 
 pub join_goes_on : (first : Box TextExpression Global) (old all : Vec TextExpression Global) (next : TextExpression) → all.items ≡ old.items ++ next ∷ [] → plain_text (Join first all) ≡ join (plain_text (Join first old)) (plain_text next)
 join_goes_on first old all next p =

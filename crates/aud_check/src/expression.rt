@@ -140,7 +140,11 @@ fn image(
         (Meaning::Variable(variable), None) => {
             Ok(Typed::Text(TextExpression::Image(IntegerExpression::Variable(variable))))
         }
-        (Meaning::IntegerType, None) | (Meaning::Variable(_), Some(_)) => {
+        (Meaning::IntegerType, None) => {
+            wrong_number_of_arguments(designator.at, faults);
+            Ok(Typed::Unknown)
+        }
+        (Meaning::Variable(_), Some(_)) => {
             wrong_number_of_arguments(designator.at, faults);
             Ok(Typed::Unknown)
         }

@@ -1,6 +1,6 @@
 // Expressions with their types, and the rules on operands.
 
-ghost use Rattle.std.specs.Prelude.{◌≡◌, IfOk};
+ghost use Rattle.std.specs.Prelude.{◌≡◌, [], ◌∷◌, IfOk};
 ghost use Rattle.aud_typed.specs.Tree.{binary, join};
 ghost use Rattle.aud_typed.specs.declared.program.Operation.{out-Operation};
 ghost use Rattle.aud_typed.specs.Ties.View.{plain_integer, plain_text};
@@ -53,6 +53,21 @@ fn wants_boolean(at: Pos, typed: &Typed, faults: &mut Least)
     right_type(Some(Base::Truth), at, base_of(typed), faults);
 }
 
+// The parts of a chain that begins: what stands first, and one that follows.
+fn begun<T: Drop, N: Drop>(
+    alloc: Global,
+    first: T,
+    next: N,
+) -> Result<(Box<T>, Vec<N>), AllocError>
+    ensures first { IfOk result (λ parts. parts.0.value ≡ first) }
+    ensures next { IfOk result (λ parts. parts.1.items ≡ next ∷ []) }
+{
+    let mut rest = Vec::new(alloc);
+    rest.push(next)?;
+    let first = Box::new(alloc, first)?;
+    Ok((first, rest))
+}
+
 // The operation goes on the operand's chain, or begins one.
 fn with_operation(
     alloc: Global,
@@ -69,9 +84,7 @@ fn with_operation(
             Ok(IntegerExpression::Chain(first, rest))
         }
         first => {
-            let mut rest = Vec::new(alloc);
-            rest.push(next)?;
-            let first = Box::new(alloc, first)?;
+            let (first, rest) = begun(alloc, first, next)?;
             Ok(IntegerExpression::Chain(first, rest))
         }
     }
@@ -104,9 +117,7 @@ pub fn with_text(
             Ok(TextExpression::Join(first, rest))
         }
         first => {
-            let mut rest = Vec::new(alloc);
-            rest.push(next)?;
-            let first = Box::new(alloc, first)?;
+            let (first, rest) = begun(alloc, first, next)?;
             Ok(TextExpression::Join(first, rest))
         }
     }

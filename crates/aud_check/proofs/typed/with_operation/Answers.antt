@@ -5,4 +5,4 @@ pub returns-in_ok-push-in-Chain : goal.returns-in_ok-push-in-Chain
 returns-in_ok-push-in-Chain c = rw c.in-Chain.is (chain_goes_on c.in-Chain.first c.in-Chain.rest c.push.new.self c.args.next c.in_ok-push-in-Chain.ensures.items)
 
 pub returns-in_ok-first-in_default : goal.returns-in_ok-first-in_default
-returns-in_ok-first-in_default c = chain_begins c.in_ok-first-in_default.first c.new-rest.result c.push-in_default.new.self c.args.left c.args.next c.new-rest.ensures.items c.in_ok-push-in_default.ensures.items c.in_ok-first-in_default.ensures.ok
+returns-in_ok-first-in_default c = chain_begins c.in_ok-first-in_default.first c.in_ok-first-in_default.rest c.args.left c.args.next c.in_ok-first-in_default.ensures.next c.in_ok-first-in_default.ensures.first

@@ -5,4 +5,4 @@ pub returns-in_ok-push-in-Join : goal.returns-in_ok-push-in-Join
 returns-in_ok-push-in-Join c = rw c.in-Join.is (join_goes_on c.in-Join.first c.in-Join.rest c.push.new.self c.args.next c.in_ok-push-in-Join.ensures.items)
 
 pub returns-in_ok-first-in_default : goal.returns-in_ok-first-in_default
-returns-in_ok-first-in_default c = join_begins c.in_ok-first-in_default.first c.new-rest.result c.push-in_default.new.self c.args.left c.args.next c.new-rest.ensures.items c.in_ok-push-in_default.ensures.items c.in_ok-first-in_default.ensures.ok
+returns-in_ok-first-in_default c = join_begins c.in_ok-first-in_default.first c.in_ok-first-in_default.rest c.args.left c.args.next c.in_ok-first-in_default.ensures.next c.in_ok-first-in_default.ensures.first
