@@ -2,7 +2,7 @@
 use Rattle.std.proofs.Common.{◌≡◌, ℕ, ◌+◌, ◌<◌, ◌≤◌, Bool, true, false, not, ◌&&◌, ◌||◌, refl, ap, ◌∙◌, sym, arith, ⊎_elim}
 use Rattle.std.proofs.lemmas.Bool.{cases_lt, and_parts, and_left, and_right, lt-leb, leb-true, le-leb, and_from, or_right, ne_eqb, eqb-true, agree_below, agree_below_at}
 use Rattle.std.proofs.lemmas.Bool.Decides.{nat_tests}
-use Rattle.std.specs.Prelude.{◌==◌, nat_le, if◌then◌else◌}
+use Rattle.std.specs.Prelude.{◌==◌, nat_le, if◌then◌else◌, Option, Some, None}
 use Rattle.aud_lex.specs.declared.automaton.Class.{Class}
 use Rattle.aud_lex.specs.declared.automaton.Class.TheVariants.{Letter, Digit, Underscore, Quote, Point, Colon, Equals, Less, Greater, Slash, Star, Control}
 use Rattle.aud_lex.specs.Bytes.{between, is_single, class}
@@ -57,26 +57,27 @@ pub digit_class : (b : ℕ) → is_digit b ≡ true → class b ≡ Digit
 digit_class b e = grind (arith, nat_tests)
 
 -- the one byte of a class, where it has one
-abbrev pub byte_of : Class → ℕ
-byte_of Underscore = 95
-byte_of Quote = 34
-byte_of Point = 46
-byte_of Colon = 58
-byte_of Equals = 61
-byte_of Less = 60
-byte_of Greater = 62
-byte_of Slash = 47
-byte_of Star = 42
-byte_of _ = 0
+abbrev pub byte_of : Class → Option ℕ
+byte_of Underscore = Some 95
+byte_of Quote = Some 34
+byte_of Point = Some 46
+byte_of Colon = Some 58
+byte_of Equals = Some 61
+byte_of Less = Some 60
+byte_of Greater = Some 62
+byte_of Slash = Some 47
+byte_of Star = Some 42
+byte_of _ = None
 
-abbrev pub of_one : Class → Bool
-of_one c = not (byte_of c == 0)
+abbrev fits_one : Option ℕ → ℕ → Bool
+fits_one None b = true
+fits_one (Some n) b = b == n
 
 -- whether the byte can be of the class, where that is letters, digits or one byte
 abbrev fits : Class → ℕ → Bool
 fits Letter b = is_letter b
 fits Digit b = is_digit b
-fits c b = not (of_one c) || b == byte_of c
+fits c b = fits_one (byte_of c) b
 
 fits_class : (b : ℕ) (c : Class) → class b ≡ c → fits c b ≡ true
 fits_class b c e = ap (λ x. fits x b) (sym e) ∙ sym (agree (λ b. true) fits refl (λ b h. refl) b)
@@ -87,13 +88,13 @@ letter_of b e = fits_class b Letter e
 pub digit_of : (b : ℕ) → class b ≡ Digit → is_digit b ≡ true
 digit_of b e = fits_class b Digit e
 
-one_fits : (b : ℕ) (c : Class) → of_one c ≡ true → fits c b ≡ true → b ≡ byte_of c
-one_fits b Letter o f = cc
-one_fits b Digit o f = cc
-one_fits b c o f = eqb-true b (byte_of c) (ap (λ t. not t || b == byte_of c) (sym o) ∙ f)
+one_fits : (b n : ℕ) (c : Class) → byte_of c ≡ Some n → fits c b ≡ true → b ≡ n
+one_fits b n Letter o f = cc
+one_fits b n Digit o f = cc
+one_fits b n c o f = eqb-true b n (ap (λ t. fits_one t b) (sym o) ∙ f)
 
-pub byte_is : (b : ℕ) (c : Class) → class b ≡ c → of_one c ≡ true → b ≡ byte_of c
-byte_is b c e o = one_fits b c o (fits_class b c e)
+pub byte_is : (b : ℕ) (c : Class) {n : ℕ} → class b ≡ c → byte_of c ≡ Some n → b ≡ n
+byte_is b c {n} e o = one_fits b n c o (fits_class b c e)
 
 -- capitals have the class of their small letters
 pub small_class : (b : ℕ) → class (small b) ≡ class b

@@ -1,7 +1,7 @@
 -- Each token is a lexical element of the manual.
 use Rattle.std.proofs.Common.{◌≡◌, ◌⊎◌, ℕ, List, [], ◌∷◌, ◌++◌, map, Bool, true, false, not, ◌||◌, refl, ap, ◌∙◌, sym, subst, inl, inr, ⊎_elim, append_assoc}
 use Rattle.std.proofs.lemmas.Bool.{true≢false}
-use Rattle.std.specs.Prelude.{codes}
+use Rattle.std.specs.Prelude.{Some, codes}
 use Prim.Native.String.{String}
 use Rattle.aud_lex.specs.declared.token.Kind.{Kind}
 use Rattle.aud_lex.specs.declared.token.Kind.TheVariants as kind
@@ -15,7 +15,7 @@ use Rattle.aud_lex.specs.Tokens.{run, step, accepts, is_token, kind_of, kind_in,
 use Rattle.aud_lex.specs.Why.Manual.{The, Optional, ◌then◌, ◌or◌, Repeated, never, again, Letter, Digit, Underline, Numeral, StringElement, IsElement, identifier, reserved_word, integer, real, string, delimiter}
 use Rattle.aud_lex.specs.Why.Laws.{TokensAreElements, IsNone, Examples}
 use Rattle.aud_lex.proofs.Fronts.{run_dead}
-use Rattle.aud_lex.proofs.Characters.{is_plain, of_plain, agree, plains_agree, letter_of, digit_of, byte_of, of_one, byte_is}
+use Rattle.aud_lex.proofs.Characters.{is_plain, of_plain, agree, plains_agree, letter_of, digit_of, byte_of, byte_is}
 use Rattle.aud_lex.proofs.Listed.{found_or_not, is_listed, listed}
 use Rattle.aud_lex.proofs.Derived.{Apart, word_state, before, in_delimiter, delimiter_state, element_is_token}
 
@@ -251,19 +251,19 @@ one_listed b c e d =
 abbrev After : Class → Class → Type 0
 After c d =
     (step (step Start c) d ≡ Dead)
-    ⊎ ((step (step Start c) d ≡ Whole) × (of_one c ≡ true) × (of_one d ≡ true) × (is_listed delimiters (byte_of c ∷ byte_of d ∷ []) ≡ true))
+    ⊎ ((step (step Start c) d ≡ Whole) × (m : ℕ) × (n : ℕ) × (byte_of c ≡ Some m) × (byte_of d ≡ Some n) × (is_listed delimiters (m ∷ n ∷ []) ≡ true))
 
 after : (c d : Class) → in_delimiter (step Start c) ≡ true → After c d
-after class.Point class.Point e = inr (refl, refl, refl, refl)
-after class.Colon class.Equals e = inr (refl, refl, refl, refl)
-after class.Slash class.Equals e = inr (refl, refl, refl, refl)
-after class.Equals class.Greater e = inr (refl, refl, refl, refl)
-after class.Less class.Equals e = inr (refl, refl, refl, refl)
-after class.Less class.Less e = inr (refl, refl, refl, refl)
-after class.Less class.Greater e = inr (refl, refl, refl, refl)
-after class.Greater class.Equals e = inr (refl, refl, refl, refl)
-after class.Greater class.Greater e = inr (refl, refl, refl, refl)
-after class.Star class.Star e = inr (refl, refl, refl, refl)
+after class.Point class.Point e = inr (refl, 46, 46, refl, refl, refl)
+after class.Colon class.Equals e = inr (refl, 58, 61, refl, refl, refl)
+after class.Slash class.Equals e = inr (refl, 47, 61, refl, refl, refl)
+after class.Equals class.Greater e = inr (refl, 61, 62, refl, refl, refl)
+after class.Less class.Equals e = inr (refl, 60, 61, refl, refl, refl)
+after class.Less class.Less e = inr (refl, 60, 60, refl, refl, refl)
+after class.Less class.Greater e = inr (refl, 60, 62, refl, refl, refl)
+after class.Greater class.Equals e = inr (refl, 62, 61, refl, refl, refl)
+after class.Greater class.Greater e = inr (refl, 62, 62, refl, refl, refl)
+after class.Star class.Star e = inr (refl, 42, 42, refl, refl, refl)
 after class.Letter d e = cc
 after class.Digit d e = cc
 after class.Underscore d e = cc
@@ -279,8 +279,7 @@ listed_delimiter b (b2 ∷ []) c e d a = ⊎_elim
     (λ h. absurd (true≢false (sym a ∙ ap accepts h)))
     (λ h. (
       ap in_delimiter h.0,
-      ap (λ z. is_listed delimiters (z ∷ b2 ∷ [])) (byte_is b c e h.1)
-          ∙ ap (λ z. is_listed delimiters (byte_of c ∷ z ∷ [])) (byte_is b2 (bytes.class b2) refl h.2) ∙ h.3,
+      ap (λ z. is_listed delimiters (z ∷ b2 ∷ [])) (byte_is b c e h.3) ∙ ap (λ z. is_listed delimiters (h.1 ∷ z ∷ [])) (byte_is b2 (bytes.class b2) refl h.4) ∙ h.5,
     )) (after c (bytes.class b2) d)
 listed_delimiter b (b2 ∷ b3 ∷ x) c e d a = absurd (⊎_elim
     (λ h. dead_refuses x (ap (λ s. accepts (run s (b3 ∷ x))) (sym h) ∙ a))
