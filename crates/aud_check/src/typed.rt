@@ -54,11 +54,7 @@ fn wants_boolean(at: Pos, typed: &Typed, faults: &mut Least)
 }
 
 // The parts of a chain that begins: what stands first, and one that follows.
-fn begun<T: Drop, N: Drop>(
-    alloc: Global,
-    first: T,
-    next: N,
-) -> Result<(Box<T>, Vec<N>), AllocError>
+fn begun<T: Drop, N: Drop>(alloc: Global, first: T, next: N) -> Result<(Box<T>, Vec<N>), AllocError>
     ensures first { IfOk result (λ parts. parts.0.value ≡ first) }
     ensures next { IfOk result (λ parts. parts.1.items ≡ next ∷ []) }
 {

@@ -21,7 +21,7 @@ use Rattle.aud_gen.specs.Instructions.{condition_code}
 use Rattle.aud_gen.specs.Layout.{Line, Around, in_loop, in_call, around_out, ways_count, line, part_place, end_line, guard_line_by, main_size_by, body_size_by, end_place_by, statement_size_by, part_size_by, statement_code_by, part_code_by, unit_code_by, units_code_by}
 use Rattle.aud_gen.specs.Assembly.{instructions_by, end_line as moved_end, step_lines}
 use Rattle.aud_gen.specs.Written.{flat_step, written, written_bodies}
-use Rattle.aud_gen.specs.Writes.{CodeSoFar, Writes, way_to, around, is_there, statement_lines, part_lines, listed_lines, arm_length, arm_lines, while_lines, end_lines, body_lines}
+use Rattle.aud_gen.specs.Writes.{CodeSoFar, Writes, way_to, around, has_statements, statement_lines, part_lines, listed_lines, arm_length, arm_lines, while_lines, end_lines, body_lines}
 use Rattle.aud_gen.proofs.Flat.Assembly.{assembled_append, its_length}
 use Rattle.aud_gen.proofs.Flat.Behind.{adds, total_more}
 use Rattle.aud_gen.proofs.Writing.{Adds, written_more}
@@ -89,7 +89,7 @@ one_listed s rest is_last now new whole next out back last h left =
 
 -- An arm, and what stands behind it.
 
-part_there : (p : tree.Part) (second next : ℕ) → part_place p second next ≡ (if is_there p then second else next)
+part_there : (p : tree.Part) (second next : ℕ) → part_place p second next ≡ (if has_statements p then second else next)
 part_there nothing second next = refl
 part_there (some s) second next = refl
 
@@ -101,7 +101,7 @@ arm_size arm more place next a =
     let step = line (if_then arm.at c ss nothing) ((if more then inside + statement_size_by flat_step ss (ways_count a) else next) ∷ inside ∷ []) [] None a in
     omega (arith, length-append (step_lines (λ n. n) step) (statement_lines ss inside next a), its_length (condition_code c) (moved_end (λ n. n) step), statement_length ss inside next a)
 
-arm_and_rest : (arm : Arm) (p : tree.Part) (place next : ℕ) (a : Around) → arm_lines arm (is_there p) place next a ++ part_lines p (place + arm_length arm (ways_count a)) next a ≡ statement_lines (if_then arm.at (plain_boolean arm.condition) (statements_in arm.statements) p) place next a
+arm_and_rest : (arm : Arm) (p : tree.Part) (place next : ℕ) (a : Around) → arm_lines arm (has_statements p) place next a ++ part_lines p (place + arm_length arm (ways_count a)) next a ≡ statement_lines (if_then arm.at (plain_boolean arm.condition) (statements_in arm.statements) p) place next a
 arm_and_rest arm p place next a =
     let ss = statements_in arm.statements in
     let c = plain_boolean arm.condition in
@@ -109,18 +109,18 @@ arm_and_rest arm p place next a =
     let second = inside + statement_size_by flat_step ss (ways_count a) in
     let there : place + arm_length arm (ways_count a) ≡ second = omega arith in
     let step = λ (n : ℕ). step_lines (λ n. n) (line (if_then arm.at c ss p) (n ∷ inside ∷ []) [] None a) in
-    ap (λ n. arm_lines arm (is_there p) place next a ++ part_lines p n next a) there
-    ∙ append_assoc (step (if is_there p then second else next)) (statement_lines ss inside next a) (part_lines p second next a)
+    ap (λ n. arm_lines arm (has_statements p) place next a ++ part_lines p n next a) there
+    ∙ append_assoc (step (if has_statements p then second else next)) (statement_lines ss inside next a) (part_lines p second next a)
     ∙ ap (λ n. step n ++ (statement_lines ss inside next a ++ part_lines p second next a)) (sym (part_there p second next))
     ∙ ap (λ ls. step (part_place p second next) ++ ls) (sym (assembled_append (λ n. n) (statement_code_by flat_step ss inside next a) (part_code_by flat_step p second next a)))
 
-pub one_arm : (arm : Arm) (p : tree.Part) (more : Bool) (now new whole : CodeSoFar) (next out : ℕ) (back : Way) → more ≡ is_there p →
+pub one_arm : (arm : Arm) (p : tree.Part) (more : Bool) (now new whole : CodeSoFar) (next out : ℕ) (back : Way) → more ≡ has_statements p →
     new ≡ record now { lines = now.lines ++ arm_lines arm more (length now.lines) next (around now out back) } →
     record now { lines = now.lines ++ statement_lines (if_then arm.at (plain_boolean arm.condition) (statements_in arm.statements) p) (length now.lines) next (around now out back) } ≡ whole → with_part new p next out back ≡ whole
 one_arm arm p more now new whole next out back goes h left =
     let a = around now out back in
     let one = h ∙ ap (λ m. record now { lines = now.lines ++ arm_lines arm m (length now.lines) next a }) goes in
-    continued now new _ (arm_lines arm (is_there p) (length now.lines) next a) (λ place exits. part_lines p place next (record { out = out; exits = exits; back = back })) _ one (arm_size arm (is_there p) (length now.lines) next a) refl
+    continued now new _ (arm_lines arm (has_statements p) (length now.lines) next a) (λ place exits. part_lines p place next (record { out = out; exits = exits; back = back })) _ one (arm_size arm (has_statements p) (length now.lines) next a) refl
     ∙ ap (λ ls. record now { lines = now.lines ++ ls }) (arm_and_rest arm p (length now.lines) next a)
     ∙ left
 
@@ -202,7 +202,7 @@ abbrev pub if_by : Arm → List Arm → tree.Part → tree.Statement
 if_by first others otherwise = if_then first.at (plain_boolean first.condition) (statements_in first.statements) (part_of_arms others otherwise)
 
 -- there are statements where there is an arm
-pub some_arm : (arms : List Arm) (p : tree.Part) → 0 < length arms → is_there (part_of_arms arms p) ≡ true
+pub some_arm : (arms : List Arm) (p : tree.Part) → 0 < length arms → has_statements (part_of_arms arms p) ≡ true
 some_arm [] p h = absurd (omega (arith, h))
 some_arm (a ∷ more) p h = refl
 

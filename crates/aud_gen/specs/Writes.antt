@@ -67,9 +67,9 @@ abbrev pub part_lines : tree.Part → (place next : ℕ) → Around → List Fla
 part_lines p place next around = written (part_code_by flat_step p place next around)
 
 -- whether there are statements
-abbrev pub is_there : tree.Part → Bool
-is_there nothing = false
-is_there (some s) = true
+abbrev pub has_statements : tree.Part → Bool
+has_statements nothing = false
+has_statements (some s) = true
 
 -- a statement of a list: the last one leads to the place next, another one to what stands behind it
 abbrev pub listed_lines : tree.Statement → Bool → (place next : ℕ) → Around → List FlatLine

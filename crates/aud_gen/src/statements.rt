@@ -5,7 +5,7 @@ ghost use Rattle.aud_typed.specs.declared.program.Arm.{Arm as Arms};
 ghost use Rattle.aud_typed.specs.Tree.{part_of};
 ghost use Rattle.aud_typed.specs.Ties.View.{plain_boolean, plain_statement, plain_statements, statements_in, part_of_arms, if_in};
 ghost use Rattle.aud_gen.specs.Layout.{in_loop};
-ghost use Rattle.aud_gen.specs.Writes.{statement_lines, part_lines, is_there, listed_lines, arm_lines, while_lines, Writes, WritesInside};
+ghost use Rattle.aud_gen.specs.Writes.{statement_lines, part_lines, has_statements, listed_lines, arm_lines, while_lines, Writes, WritesInside};
 
 use crate::lengths::{boolean_length, statement_length, statements_length, sum};
 use crate::writer::{Writer, Written};
@@ -151,7 +151,7 @@ impl Writer {
 // Whether an `if` goes on, with this number of arms and these statements behind `else`.
 fn goes_on(arms: usize, otherwise: &[Statement]) -> bool
     ensures { (rest : List Arms) → length rest ≡ arms →
-        result ≡ is_there (part_of_arms rest (part_of (plain_statements otherwise.now))) }
+        result ≡ has_statements (part_of_arms rest (part_of (plain_statements otherwise.now))) }
 {
     0 < arms || !otherwise.is_empty()
 }

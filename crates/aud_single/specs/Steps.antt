@@ -34,7 +34,7 @@ StandsIn lines place (terminated raised) = Unit {0}
 abbrev pub Stands : List FlatLine → Single Spot → Type 0
 Stands lines p = StandsIn lines p.control.place p.stage
 
--- the step leads to new, and so many instructions were executed, each a tick
+-- the step leads to new, and this number of instructions was executed, each a tick
 pub record IsStep (code : Flat) (old new : Single Spot) (executed : ℕ) : Type 0 where
   pub next : StepsTo code old new
   pub stands : Stands code.lines new

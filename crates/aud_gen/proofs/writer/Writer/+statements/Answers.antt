@@ -9,7 +9,7 @@ use Rattle.aud_code.specs.Places.{Way}
 use Rattle.aud_gen.specs.Instructions.{condition_code}
 use Rattle.aud_gen.specs.Layout.{statement_size_by}
 use Rattle.aud_gen.specs.Written.{flat_step}
-use Rattle.aud_gen.specs.Writes.{is_there, around, statement_lines}
+use Rattle.aud_gen.specs.Writes.{has_statements, around, statement_lines}
 use Rattle.aud_gen.proofs.Loops.{dropped}
 use Rattle.aud_gen.proofs.Lines.{chosen, passed_over, none_left, with_part, one_listed, one_arm, same_lines, same_loop, whole_while, whole_loop, whole_list, whole_arm, if_by}
 use Rattle.aud_gen.proofs.writer.Writer.+statements.Goals as goal
@@ -34,7 +34,7 @@ write_if-loop-arm-init t c =
     let fit : c.len-left.result + 0 ≡ length arms = omega (arith, c.len-left.ensures, ap length c.deref-arm-items.ensures.value) in
     let many : length arms ≡ c.len-left.result = omega (arith, fit) in
     let otherwise = part_of (plain_statements (out-IfStatement c.args.s.now).otherwise.items) in
-    let goes = c.goes_on.ensures arms many ∙ ap (λ ss. is_there (part_of_arms arms (part_of (plain_statements ss)))) c.deref.ensures.value in
+    let goes = c.goes_on.ensures arms many ∙ ap (λ ss. has_statements (part_of_arms arms (part_of (plain_statements ss)))) c.deref.ensures.value in
     let a = around c.args.self.now c.args.out in
     (fit, λ back. one_arm first (part_of_arms arms otherwise) c.goes_on.result c.args.self.now c.write_arm.new.self _ c.args.next c.args.out back goes (c.in_ok-write_arm.ensures back) (ap (λ arms'. record c.args.self.now { lines = c.args.self.now.lines ++ statement_lines (if_by first arms' otherwise) (length c.args.self.now.lines) c.args.next (a back) }) c.deref-arm-items.ensures.value))
 
@@ -45,7 +45,7 @@ write_if-loop-arm-preserved t c =
     let fit : c.loop-arm.left - 1 + (c.loop-arm.arm-index + 1) ≡ length arms = omega (arith, c.loop-arm.invariant.0) in
     let otherwise = part_of (plain_statements (out-IfStatement c.args.s.now).otherwise.items) in
     let many : length rest ≡ c.loop-arm.left - 1 = omega (arith, c.loop-arm.invariant.0, length-drop (c.loop-arm.arm-index + 1) arms) in
-    let goes = c.goes_on-in-loop-arm.ensures rest many ∙ ap (λ ss. is_there (part_of_arms rest (part_of (plain_statements ss)))) c.deref-in-loop-arm.ensures.value in
+    let goes = c.goes_on-in-loop-arm.ensures rest many ∙ ap (λ ss. has_statements (part_of_arms rest (part_of (plain_statements ss)))) c.deref-in-loop-arm.ensures.value in
     let left = λ (back : Way). ap (λ arms'. with_part c.loop-arm.self (part_of_arms arms' otherwise) c.args.next c.args.out back) (sym (dropped arms c.loop-arm.arm-index c.arm-item.result (omega arith) c.arm-item.is)) ∙ c.loop-arm.invariant.1 back in
     (fit, λ back. one_arm c.arm-item.result (part_of_arms rest otherwise) c.goes_on-in-loop-arm.result c.loop-arm.self c.write_arm-in-loop-arm.new.self _ c.args.next c.args.out back goes (c.in_ok-write_arm-2.ensures back) (left back))
 
