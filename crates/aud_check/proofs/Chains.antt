@@ -1,16 +1,19 @@
 -- Chains in memory that begin, go on, and are copied.
 use Rattle.std.specs.Prelude.{Vec, Box, List, [], ◌∷◌, ◌++◌, map}
 use Rattle.std.specs.Global.{Global}
-use Rattle.std.proofs.Common.{◌≡◌, ℕ, ◌<◌, ◌+◌, length, get_or, take, sym, ◌∙◌, ap}
+use Rattle.std.proofs.Common.{◌≡◌, ℕ, ◌<◌, ◌+◌, length, get_or, take, refl, sym, ◌∙◌, ap}
 use Rattle.std.proofs.lemmas.List.{map-append, take_more}
 use Rattle.aud_typed.specs.declared.program.Operation.{Operation, out-Operation}
 use Rattle.aud_typed.specs.declared.program.IntegerExpression.{IntegerExpression}
 use Rattle.aud_typed.specs.declared.program.IntegerExpression.TheVariants.{Chain}
 use Rattle.aud_typed.specs.declared.program.TextExpression.{TextExpression}
 use Rattle.aud_typed.specs.declared.program.TextExpression.TheVariants.{Join}
-use Rattle.aud_typed.specs.Ties.View.{plain_integer, plain_text}
-use Rattle.aud_typed.specs.Tree.{chained, joined, binary, join}
-use Rattle.aud_typed.proofs.Chains.{plain_operation, chain_open, chained_more, join_open, joined_more}
+use Rattle.aud_typed.specs.declared.program.Connective.{Connective}
+use Rattle.aud_typed.specs.declared.program.BooleanExpression.{BooleanExpression}
+use Rattle.aud_typed.specs.declared.program.BooleanExpression.TheVariants as boolean
+use Rattle.aud_typed.specs.Ties.View.{plain_integer, plain_boolean, plain_text, connected, all_connected}
+use Rattle.aud_typed.specs.Tree.{BooleanExpression as TruthExpression, chained, joined, binary, join}
+use Rattle.aud_typed.proofs.Chains.{plain_operation, chain_open, chained_more, connection_open, join_open, joined_more}
 
 pub chain_begins : (first : Box IntegerExpression Global) (all : Vec Operation Global) (left : IntegerExpression) (next : Operation) → all.items ≡ next ∷ [] → first.value ≡ left → plain_integer (Chain first all) ≡ binary (out-Operation next).operator (plain_integer left) (plain_integer (out-Operation next).right)
 chain_begins first all left next q r =
@@ -27,6 +30,19 @@ copied_more old new xs i x copy p q h e a =
 
 pub chain_copied : (first other : Box IntegerExpression Global) (all copy : Vec Operation Global) → plain_integer other.value ≡ plain_integer first.value → map plain_operation copy.items ≡ map plain_operation all.items → plain_integer (Chain other copy) ≡ plain_integer (Chain first all)
 chain_copied first other all copy p q = chain_open other copy ∙ ap (chained (plain_integer other.value)) q ∙ ap (λ z. chained z (map plain_operation all.items)) p ∙ sym (chain_open first all)
+
+-- operands of one operator
+connected_more : (k : Connective) (left : TruthExpression) (xs : List TruthExpression) (x : TruthExpression) → all_connected k left (xs ++ x ∷ []) ≡ connected k (all_connected k left xs) x
+connected_more k left [] x = refl
+connected_more k left (y ∷ ys) x = connected_more k (connected k left y) ys x
+
+pub connection_begins : (k : Connective) (first : Box BooleanExpression Global) (all : Vec BooleanExpression Global) (left next : BooleanExpression) → all.items ≡ next ∷ [] → first.value ≡ left → plain_boolean (boolean.Chain k first all) ≡ connected k (plain_boolean left) (plain_boolean next)
+connection_begins k first all left next q r =
+    connection_open k first all ∙ ap (λ l. all_connected k (plain_boolean first.value) (map plain_boolean l)) q ∙ ap (λ z. connected k (plain_boolean z) (plain_boolean next)) r
+
+pub connection_goes_on : (own k : Connective) → own ≡ k → (first : Box BooleanExpression Global) (old all : Vec BooleanExpression Global) (next : BooleanExpression) → all.items ≡ old.items ++ next ∷ [] → plain_boolean (boolean.Chain own first all) ≡ connected k (plain_boolean (boolean.Chain own first old)) (plain_boolean next)
+connection_goes_on own k e first old all next p =
+    connection_open own first all ∙ ap (λ l. all_connected own (plain_boolean first.value) (map plain_boolean l)) p ∙ ap (all_connected own (plain_boolean first.value)) (map-append plain_boolean old.items (next ∷ [])) ∙ connected_more own (plain_boolean first.value) (map plain_boolean old.items) (plain_boolean next) ∙ ap (λ z. connected own z (plain_boolean next)) (sym (connection_open own first old)) ∙ ap (λ z. connected z (plain_boolean (boolean.Chain own first old)) (plain_boolean next)) e
 
 pub join_begins : (first : Box TextExpression Global) (all : Vec TextExpression Global) (left next : TextExpression) → all.items ≡ next ∷ [] → first.value ≡ left → plain_text (Join first all) ≡ join (plain_text left) (plain_text next)
 join_begins first all left next q r =

@@ -1,21 +1,24 @@
 -- Small programs, and what is said of them.
-use Rattle.std.specs.Prelude.{ℕ, pos, false, List, [], ◌∷◌, map, codes, Option, Some, None, Ok, Err}
+use Rattle.std.specs.Prelude.{ℕ, pos, true, false, List, [], ◌∷◌, map, codes, Option, Some, None, Ok, Err}
 use Rattle.std.proofs.Common.{◌≡◌, refl}
 use Rattle.aud_text.specs.declared.place.Pos.{Pos}
 use Rattle.aud_text.specs.declared.refusal.Refusal.{Refusal}
-use Rattle.aud_text.specs.declared.refusal.Refusal.TheVariants.{NameNotDeclared, DeclaredTwice, WrongKindOfName, WrongType, WrongNumberOfArguments, WrongNameAtEnd, NumberTooLarge}
+use Rattle.aud_text.specs.declared.refusal.Refusal.TheVariants.{NameNotDeclared, DeclaredTwice, WrongKindOfName, WrongType, WrongNumberOfArguments, NotAVariable, WrongNameAtEnd, NumberTooLarge}
 use Rattle.aud_syntax.specs.declared.tree.Ident.{Ident}
 use Rattle.aud_syntax.specs.declared.tree.Adding.TheVariants.{Plus, Minus, Join}
 use Rattle.aud_syntax.specs.declared.tree.Signed.{Signed}
 use Rattle.aud_syntax.specs.declared.tree.Sign.TheVariants as sign
 use Rattle.aud_syntax.specs.declared.tree.Highest.TheVariants.{Not}
 use Rattle.aud_syntax.specs.declared.tree.Multiplying.TheVariants.{Times}
-use Rattle.aud_syntax.specs.Plain.{Expression, alone, unrelated, simple, Addeds, no_addeds, more_addeds, added, Term, term, no_multiplieds, more_multiplieds, multiplied, factor, integer, name, attribute, group, no_expression, an_expression, named, no_parts, part, no_args, Declaration, object, no_declarations, Statement, null, assign, call, body, Unit, unit}
+use Rattle.aud_syntax.specs.declared.tree.Relational.TheVariants.{Less}
+use Rattle.aud_syntax.specs.declared.tree.Connective.TheVariants.{And, AndThen}
+use Rattle.aud_syntax.specs.Plain.{Expression, alone, connected, no_relations, more_relations, Relation, unrelated, related, Simple, simple, Primary, Addeds, no_addeds, more_addeds, added, Term, term, no_multiplieds, more_multiplieds, multiplied, factor, integer, name, attribute, group, no_expression, an_expression, named, no_parts, part, no_args, Declaration, object, no_declarations, Statement, null, assign, call, body, Unit, unit}
 use Rattle.aud_syntax.specs.Why.Shorthand.{at, id, only, var_at, called, num, str, statements, declarations}
 use Rattle.aud_typed.specs.declared.program.Variable.{Variable}
 use Rattle.aud_typed.specs.declared.program.Unary.TheVariants.{Negative}
 use Rattle.aud_typed.specs.declared.program.Binary.TheVariants.{Sum, Difference}
 use Rattle.aud_typed.specs.declared.program.Subtype.TheVariants.{Integer}
+use Rattle.aud_typed.specs.declared.program.Relation.TheVariants as relation
 use Rattle.aud_typed.specs.Tree as tree
 use Rattle.aud_check.specs.declared.fault.Fault.{Fault}
 use Rattle.aud_check.specs.Checked.{faults, checked}
@@ -116,6 +119,57 @@ right_row = refl
 
 not_row : checked (main (two ∷ []) (assign (var_at (codes "A") (at 7 1)) (sum None (term (factor (Some (record { highest = Not; at = at 7 6 })) (name (var_at (codes "A") (at 7 10)))) no_multiplieds) no_addeds)) []) ≡ Err (fault (at 7 10) WrongType)
 not_row = refl
+
+-- what is compared
+
+abbrev operand : Primary → Simple
+operand p = simple None (term (factor None p) no_multiplieds) no_addeds
+
+abbrev less : Primary → Primary → Relation
+less p q = related Less (operand p) (operand q)
+
+abbrev named_at : List ℕ → ℕ → Primary
+named_at spelling col = name (var_at spelling (at 7 col))
+
+-- Put_Line (Boolean'Image (..));
+abbrev put_truth : Expression → Statement
+put_truth e = called (id (codes "PUT_LINE") (at 7 1)) (only (attribute (var_at (codes "BOOLEAN") (at 7 11)) (id (codes "IMAGE") (at 7 19)) (an_expression e)))
+
+abbrev truth_put : tree.BooleanExpression → tree.Statement
+truth_put x = tree.put (at 7 1) (tree.join (tree.image_truth x) tree.new_line)
+
+less_row : checked (main (two ∷ []) (put_truth (alone (less (named_at (codes "A") 26) (named_at (codes "B") 30)))) []) ≡ Ok (program_of_two (truth_put (tree.relation relation.Less (variable 0) (variable 1))))
+less_row = refl
+
+-- False before True, compared with what is compared
+truth_row : checked (main (two ∷ []) (put_truth (alone (less (named_at (codes "TRUE") 26) (group (at 7 33) (alone (less (named_at (codes "A") 34) (named_at (codes "B") 38))))))) []) ≡ Ok (program_of_two (truth_put (tree.comparison relation.Less (tree.truth true) (tree.relation relation.Less (variable 0) (variable 1)))))
+truth_row = refl
+
+-- operators of one chain go from left to right (RM 4.5(8))
+connected_row : checked (main (two ∷ []) (put_truth (connected AndThen (less (named_at (codes "A") 26) (named_at (codes "B") 30)) (unrelated (operand (named_at (codes "FALSE") 41))) (more_relations (unrelated (simple None (term (factor (Some (record { highest = Not; at = at 7 56 })) (named_at (codes "TRUE") 60)) no_multiplieds) no_addeds)) no_relations))) []) ≡ Ok (program_of_two (truth_put (tree.and_then (tree.and_then (tree.relation relation.Less (variable 0) (variable 1)) (tree.truth false)) (tree.negation (tree.truth true)))))
+connected_row = refl
+
+-- the right operand has the type of the left one, which is no text
+less_right_row : faults (main (two ∷ []) (put_truth (alone (less (named_at (codes "A") 26) (named_at (codes "TRUE") 30)))) []) ≡ fault (at 7 30) WrongType ∷ []
+less_right_row = refl
+
+less_text_row : faults (main (two ∷ []) (put_truth (alone (less (str (codes "x") (at 7 26)) (named_at (codes "TRUE") 32)))) []) ≡ fault (at 7 26) WrongType ∷ []
+less_text_row = refl
+
+-- a faulty operand causes no second fault
+less_unknown_row : faults (main (two ∷ []) (put_truth (connected And (less (named_at (codes "C") 26) (named_at (codes "TRUE") 30)) (unrelated (operand (named_at (codes "TRUE") 39))) no_relations)) []) ≡ fault (at 7 26) NameNotDeclared ∷ []
+less_unknown_row = refl
+
+-- both operands of an operator
+and_row : faults (main (two ∷ []) (put_truth (connected And (unrelated (operand (named_at (codes "A") 26))) (unrelated (operand (named_at (codes "B") 32))) no_relations)) []) ≡ fault (at 7 26) WrongType ∷ fault (at 7 32) WrongType ∷ []
+and_row = refl
+
+-- variables are Integers
+truth_assigned_row : checked (main (two ∷ []) (assign (var_at (codes "A") (at 7 1)) (alone (less (named_at (codes "A") 6) (named_at (codes "B") 10)))) []) ≡ Err (fault (at 7 6) WrongType)
+truth_assigned_row = refl
+
+constant_row : checked (main (two ∷ []) (assign (var_at (codes "TRUE") (at 7 1)) (alone (less (named_at (codes "A") 9) (named_at (codes "B") 13)))) []) ≡ Err (fault (at 7 1) NotAVariable)
+constant_row = refl
 
 put_row : checked (main (two ∷ []) (called (id (codes "PUT_LINE") (at 7 1)) (only (name (var_at (codes "A") (at 7 11))))) []) ≡ Err (fault (at 7 11) WrongType)
 put_row = refl

@@ -15,20 +15,25 @@ use Rattle.aud_syntax.specs.declared.tree.Adding.{Adding}
 use Rattle.aud_syntax.specs.declared.tree.Adding.TheVariants as adding
 use Rattle.aud_syntax.specs.declared.tree.Highest.{Highest}
 use Rattle.aud_syntax.specs.declared.tree.Highest.TheVariants.{Magnitude, Not}
+use Rattle.aud_syntax.specs.declared.tree.Relational.{Relational}
+use Rattle.aud_syntax.specs.declared.tree.Connective.{Connective}
+use Rattle.aud_syntax.specs.declared.tree.Connective.TheVariants as connective
 use Rattle.aud_syntax.specs.Plain as plain
 use Rattle.aud_typed.specs.declared.program.Unary.{Unary}
 use Rattle.aud_typed.specs.declared.program.Unary.TheVariants as unary
 use Rattle.aud_typed.specs.declared.program.Binary.{Binary}
 use Rattle.aud_typed.specs.Tree as tree
-use Rattle.aud_typed.specs.Why.Scoped.{Scope, IntegerScoped, ValueScoped, TextScoped, scope_after, StatementScoped, scope_behind, PartScoped, IsScoped}
+use Rattle.aud_typed.specs.Why.Scoped.{Scope, IntegerScoped, BooleanScoped, ValueScoped, TextScoped, scope_after, StatementScoped, scope_behind, PartScoped, IsScoped}
 use Rattle.aud_check.specs.declared.fault.Fault.{Fault}
 use Rattle.aud_check.specs.declared.names.Meaning.{Meaning}
-use Rattle.aud_check.specs.declared.names.Meaning.TheVariants.{IntegerType, PutLine, MainProcedure, Variable}
+use Rattle.aud_check.specs.declared.names.Meaning.TheVariants.{IntegerType, BooleanType, Literal, PutLine, MainProcedure, Variable}
+use Rattle.aud_check.specs.declared.rules.Base.{Base}
+use Rattle.aud_check.specs.declared.rules.Base.TheVariants.{Whole, Truth}
 use Rattle.aud_check.specs.Names as names
 use Rattle.aud_check.specs.Names.{Symbol, Region, Place}
 use Rattle.aud_check.specs.Rules as rules
 use Rattle.aud_check.specs.Expressions as e
-use Rattle.aud_check.specs.Expressions.{Typed, number, string, unknown}
+use Rattle.aud_check.specs.Expressions.{Typed, number, boolean, string, unknown}
 use Rattle.aud_check.specs.Declarations as d
 use Rattle.aud_check.specs.Statements as s
 use Rattle.aud_check.specs.Checked as c
@@ -36,12 +41,13 @@ use Rattle.aud_check.specs.Checked as c
 -- nothing is said of an expression whose type is unknown
 abbrev TypedScoped : Scope → Typed → Type 0
 TypedScoped scope (number x) = IntegerScoped x scope
+TypedScoped scope (boolean x) = BooleanScoped x scope
 TypedScoped scope (string x) = TextScoped x scope
 TypedScoped scope unknown = Unit {0}
 
 -- what has this meaning may be read
 abbrev MeaningScoped : Scope → Meaning → Type 0
-MeaningScoped scope m = TypedScoped scope (e.variable_read (Some m))
+MeaningScoped scope m = TypedScoped scope (e.value_read (Some m))
 
 abbrev VisibleScoped : Scope → Option Meaning → Type 0
 VisibleScoped scope m = IfSome m (MeaningScoped scope)
@@ -84,7 +90,7 @@ module _ (scope : Scope) where
   number_scoped None at = tt
   number_scoped (Some x) at = tt
 
-  read_scoped : (m : Option Meaning) → VisibleScoped scope m → TypedScoped scope (e.variable_read m)
+  read_scoped : (m : Option Meaning) → VisibleScoped scope m → TypedScoped scope (e.value_read m)
   read_scoped None h = tt
   read_scoped (Some m) h = h
 
@@ -116,17 +122,48 @@ module _ (scope : Scope) where
   adding_scoped adding.Join at x at' y h i = joined_scoped x y h i
   adding_scoped _ at x at' y h i = combined_scoped _ x y h i
 
+  negated_scoped : (t : Typed) → TypedScoped scope t → TypedScoped scope (e.negated t)
+  negated_scoped (boolean x) h = h
+  negated_scoped _ h = tt
+
   highest_scoped : (operator : Highest) (at : Pos) (t : Typed) → TypedScoped scope t → TypedScoped scope (e.highest operator at t).typed
   highest_scoped Magnitude at t h = one_scoped unary.Magnitude t h
-  highest_scoped Not at t h = tt
+  highest_scoped Not at t h = negated_scoped t h
 
-  image_scoped : (t : Typed) → TypedScoped scope t → TypedScoped scope (e.image_of t)
-  image_scoped (number x) h = h
-  image_scoped _ h = tt
+  compared_scoped : (operator : Relational) (x y : Typed) → TypedScoped scope x → TypedScoped scope y → TypedScoped scope (e.compared operator x y)
+  compared_scoped operator (number x) (number y) h i = (h, i)
+  compared_scoped operator (boolean x) (boolean y) h i = (h, i)
+  compared_scoped operator _ _ h i = tt
+
+  both_of_scoped : (c : Connective) (x y : tree.BooleanExpression) → BooleanScoped x scope → BooleanScoped y scope → BooleanScoped (e.both_of c x y) scope
+  both_of_scoped connective.And x y h i = (h, i)
+  both_of_scoped connective.Or x y h i = (h, i)
+  both_of_scoped connective.Xor x y h i = (h, i)
+  both_of_scoped connective.AndThen x y h i = (h, i)
+  both_of_scoped connective.OrElse x y h i = (h, i)
+
+  both_scoped : (c : Connective) (x y : Typed) → TypedScoped scope x → TypedScoped scope y → TypedScoped scope (e.both c x y)
+  both_scoped c (boolean x) (boolean y) h i = both_of_scoped c x y h i
+  both_scoped c _ _ h i = tt
+
+  image_scoped : (base : Base) (t : Typed) → TypedScoped scope t → TypedScoped scope (e.image_of base t)
+  image_scoped Whole (number x) h = h
+  image_scoped Truth (boolean x) h = h
+  image_scoped _ _ h = tt
+
+  type_image_scoped : (base : Base) (designator : Pos) (a : Option (Pos × Typed)) → IfSome a (λ x. TypedScoped scope x.1) → TypedScoped scope (e.image_by_type base designator a).typed
+  type_image_scoped base designator None i = tt
+  type_image_scoped base designator (Some a) i = image_scoped base a.1 i
+
+  value_image_scoped : (t : tree.TextExpression) (designator : Pos) (a : Option (Pos × Typed)) → TextScoped t scope → TypedScoped scope (e.image_by_value t designator a).typed
+  value_image_scoped t designator None h = h
+  value_image_scoped t designator (Some a) h = tt
 
   any_image_scoped : (m : Meaning) (prefix designator : Ident) (a : Option (Pos × Typed)) → MeaningScoped scope m → IfSome a (λ x. TypedScoped scope x.1) → TypedScoped scope (e.image m prefix designator a).typed
-  any_image_scoped IntegerType prefix designator (Some a) h i = image_scoped a.1 i
-  any_image_scoped (Variable v) prefix designator None h i = h
+  any_image_scoped IntegerType prefix designator a h i = type_image_scoped Whole designator.at a i
+  any_image_scoped BooleanType prefix designator a h i = type_image_scoped Truth designator.at a i
+  any_image_scoped (Variable v) prefix designator a h i = value_image_scoped _ designator.at a h
+  any_image_scoped (Literal b) prefix designator a h i = value_image_scoped _ designator.at a h
   any_image_scoped _ prefix designator a h i = tt
 
   attribute_scoped : (m : Option Meaning) (prefix designator : Ident) (a : Option (Pos × Typed)) → VisibleScoped scope m → IfSome a (λ x. TypedScoped scope x.1) → TypedScoped scope (e.checked_attribute m prefix designator a).typed
@@ -138,9 +175,15 @@ module _ (scope : Scope) (n : Place) (sees : Sees scope n) where
   mutual
     expression_scoped : (x : plain.Expression) → TypedScoped scope (e.checked_expression x n).typed
     expression_scoped (plain.alone x) = relation_scoped x
+    expression_scoped (plain.connected c x y xs) = relations_scoped xs c _ _ (both_scoped scope c _ _ (relation_scoped x) (relation_scoped y))
+
+    relations_scoped : (x : plain.Relations) (c : Connective) (at : Pos) (left : Typed) → TypedScoped scope left → TypedScoped scope (e.checked_relations x n c at left).typed
+    relations_scoped plain.no_relations c at left h = h
+    relations_scoped (plain.more_relations x rest) c at left h = relations_scoped rest c at _ (both_scoped scope c left _ h (relation_scoped x))
 
     relation_scoped : (x : plain.Relation) → TypedScoped scope (e.checked_relation x n).typed
     relation_scoped (plain.unrelated x) = simple_scoped x
+    relation_scoped (plain.related operator x y) = compared_scoped scope operator _ _ (simple_scoped x) (simple_scoped y)
 
     simple_scoped : (x : plain.Simple) → TypedScoped scope (e.checked_simple x n).typed
     simple_scoped (plain.simple x t rest) = addeds_scoped rest _ _ (signed_scoped scope x _ _ (term_scoped t))
@@ -310,7 +353,7 @@ declarations_scoped (plain.more_declarations x rest) n q h =
 in_main : (name : List ℕ) → InBody (names.main_place name)
 in_main name = record {
   innermost = record { symbols = λ k _. All-nil (λ x. MeaningScoped (only k) x.1); counted = refl };
-  others = λ scope. let all = All-from_recursion (λ x. MeaningScoped scope x.1) in (all ((name, MainProcedure) ∷ []) (tt, tt), (all names.predefined (tt, (tt, tt)), tt));
+  others = λ scope. let all = All-from_recursion (λ x. MeaningScoped scope x.1) in (all ((name, MainProcedure) ∷ []) (tt, tt), (all names.predefined (tt, (tt, (tt, (tt, (tt, tt))))), tt));
 }
 
 body_scoped : (at : Pos) (main : Ident) (x : d.Declared) (b : plain.Body) → DeclaredScoped (names.main_place main.name) x → IsScoped (c.unit_program at main x b)

@@ -7,10 +7,11 @@ use Rattle.aud_typed.specs.declared.program.Subtype.TheVariants.{Integer}
 use Rattle.aud_typed.specs.Tree as tree
 use Rattle.aud_check.specs.declared.fault.Fault.{Fault}
 use Rattle.aud_check.specs.declared.names.Meaning.{Meaning}
-use Rattle.aud_check.specs.declared.names.Meaning.TheVariants.{IntegerType, PutLine, MainProcedure, Variable, Faulty}
+use Rattle.aud_check.specs.declared.names.Meaning.TheVariants.{IntegerType, BooleanType, Literal, PutLine, MainProcedure, Variable, Faulty}
+use Rattle.aud_check.specs.declared.rules.Base.TheVariants.{Whole}
 use Rattle.aud_check.specs.Names.{Region, Place, visible, is_declared, innermost, in_region, hiding}
 use Rattle.aud_check.specs.Rules.{name_not_declared, declared_once, wrong_kind_of_name}
-use Rattle.aud_check.specs.Expressions.{Typed, number, checked_expression, expression_at, not_integer}
+use Rattle.aud_check.specs.Expressions.{Typed, number, checked_expression, expression_at, wants}
 
 -- the faults of declarations, the place after them, and their elaborations, name by name (RM 3.11)
 pub record Declared : Type 0 where
@@ -18,11 +19,13 @@ pub record Declared : Type 0 where
   pub place : Place
   pub elaborations : List tree.Statement
 
--- a subtype mark must be that of a type (RM 3.2.2), of which there is only Integer
+-- a subtype mark must be that of a type (RM 3.2.2); as yet variables are only of type Integer
 abbrev pub subtype_faults : Option Meaning → Pos → List Fault
 subtype_faults None at = name_not_declared at
 subtype_faults (Some IntegerType) at = []
 subtype_faults (Some Faulty) at = []
+subtype_faults (Some BooleanType) at = wrong_kind_of_name at
+subtype_faults (Some (Literal b)) at = wrong_kind_of_name at
 subtype_faults (Some PutLine) at = wrong_kind_of_name at
 subtype_faults (Some MainProcedure) at = wrong_kind_of_name at
 subtype_faults (Some (Variable v)) at = wrong_kind_of_name at
@@ -34,7 +37,7 @@ is_integer_type _ = false
 -- the initial value must be of type Integer (RM 3.3.1(4), 5.2)
 abbrev pub initial_faults : MaybeExpression → Place → List Fault
 initial_faults no_expression place = []
-initial_faults (an_expression e) place = (checked_expression e place).faults ++ not_integer (expression_at e) (checked_expression e place).typed
+initial_faults (an_expression e) place = (checked_expression e place).faults ++ wants Whole (expression_at e) (checked_expression e place).typed
 
 abbrev pub integer_or_zero : Typed → tree.IntegerExpression
 integer_or_zero (number e) = e

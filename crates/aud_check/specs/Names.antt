@@ -1,11 +1,11 @@
 -- What names stand for, where they are visible, and what a construct knows of its place (RM 8.1, 8.2, 8.3).
-use Rattle.std.specs.Prelude.{ℕ, Bool, List, [], ◌∷◌, Option, Some, None, is_some, codes, if◌then◌else◌}
+use Rattle.std.specs.Prelude.{ℕ, Bool, true, false, List, [], ◌∷◌, Option, Some, None, is_some, codes, if◌then◌else◌}
 use Rattle.std.specs.Str.{bytes_eq}
 use Rattle.std.specs.List.{list_any}
 use Rattle.std.specs.Map.{lookup}
 use Rattle.aud_syntax.specs.declared.tree.Ident.{Ident}
 use Rattle.aud_check.specs.declared.names.Meaning.{Meaning}
-use Rattle.aud_check.specs.declared.names.Meaning.TheVariants.{IntegerType, PutLine, MainProcedure}
+use Rattle.aud_check.specs.declared.names.Meaning.TheVariants.{IntegerType, BooleanType, Literal, PutLine, MainProcedure}
 
 -- a name that a region declares, and what it stands for
 abbrev pub Symbol : Type 0
@@ -70,7 +70,7 @@ is_declared name symbols = is_some (named_in name symbols)
 
 -- the predefined names (RM 8.6(2), A.1)
 abbrev pub predefined : List Symbol
-predefined = (codes "INTEGER", IntegerType) ∷ (codes "PUT_LINE", PutLine) ∷ []
+predefined = (codes "INTEGER", IntegerType) ∷ (codes "BOOLEAN", BooleanType) ∷ (codes "FALSE", Literal false) ∷ (codes "TRUE", Literal true) ∷ (codes "PUT_LINE", PutLine) ∷ []
 
 -- the outermost region
 abbrev pub outermost : List Region

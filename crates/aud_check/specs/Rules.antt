@@ -1,9 +1,8 @@
--- The rules of the language that a program may break, each with its refusal, and where a breach stands. That a target is a variable
--- which may be changed (RM 5.2(5)) has a refusal and no rule here: each variable of this language may be changed.
+-- The rules of the language that a program may break, each with its refusal, and where a breach stands.
 use Rattle.std.specs.Prelude.{Bool, true, false, not, List, [], ◌∷◌, Option, Some, None, if◌then◌else◌, ℕ}
 use Rattle.std.specs.Str.{bytes_eq}
 use Rattle.aud_text.specs.declared.place.Pos.{Pos}
-use Rattle.aud_text.specs.declared.refusal.Refusal.TheVariants.{NameNotDeclared, DeclaredTwice, WrongKindOfName, WrongType, WrongNumberOfArguments, WrongNameAtEnd, NumberTooLarge}
+use Rattle.aud_text.specs.declared.refusal.Refusal.TheVariants.{NameNotDeclared, DeclaredTwice, WrongKindOfName, WrongType, WrongNumberOfArguments, NotAVariable, WrongNameAtEnd, NumberTooLarge}
 use Rattle.aud_syntax.specs.declared.tree.Ident.{Ident}
 use Rattle.aud_check.specs.declared.fault.Fault.{Fault}
 use Rattle.aud_check.specs.declared.rules.Base.{Base}
@@ -42,6 +41,10 @@ right_type asked at given = unless (fits asked given) (record { at = at; refusal
 -- as many arguments as formals, one for Image of a type and none for that of a variable (RM 6.4.1, 3.5(35), 4.10(40)); at the name
 abbrev pub wrong_number_of_arguments : Pos → List Fault
 wrong_number_of_arguments at = record { at = at; refusal = WrongNumberOfArguments } ∷ []
+
+-- a target is a variable that may be changed (RM 5.2(5)); at the target
+abbrev pub not_a_variable : Pos → List Fault
+not_a_variable at = record { at = at; refusal = NotAVariable } ∷ []
 
 -- the name after `end` is the procedure's (RM 6.3(4)); at the name
 abbrev pub right_name_at_end : List ℕ → Option Ident → List Fault

@@ -7,21 +7,33 @@ use Rattle.aud_typed.specs.declared.program.Subtype.TheVariants.{Integer}
 use Rattle.aud_typed.specs.Tree as tree
 use Rattle.aud_check.specs.declared.fault.Fault.{Fault}
 use Rattle.aud_check.specs.declared.names.Meaning.{Meaning}
-use Rattle.aud_check.specs.declared.names.Meaning.TheVariants.{IntegerType, PutLine, MainProcedure, Variable, Faulty}
+use Rattle.aud_check.specs.declared.names.Meaning.TheVariants.{IntegerType, BooleanType, Literal, PutLine, MainProcedure, Variable, Faulty}
 use Rattle.aud_check.specs.declared.rules.Base.{Base}
-use Rattle.aud_check.specs.declared.rules.Base.TheVariants.{Whole, Text}
+use Rattle.aud_check.specs.declared.rules.Base.TheVariants.{Whole, Truth, Text}
 use Rattle.aud_check.specs.Names.{Place, visible}
-use Rattle.aud_check.specs.Rules.{name_not_declared, wrong_kind_of_name, right_type, wrong_number_of_arguments}
-use Rattle.aud_check.specs.Expressions.{Typed, number, string, name_ident, checked_expression, expression_at, base_of, variable_faults}
+use Rattle.aud_check.specs.Rules.{name_not_declared, wrong_kind_of_name, right_type, wrong_number_of_arguments, not_a_variable}
+use Rattle.aud_check.specs.Expressions.{Typed, number, string, name_ident, checked_expression, expression_at, base_of}
 
 -- the type of what is assigned to, where it is known
 abbrev pub target_base : Option Meaning → Option Base
 target_base (Some (Variable v)) = Some Whole
+target_base (Some (Literal b)) = Some Truth
 target_base _ = None
 
--- the target of an assignment must be a variable, and the value of its type (RM 5.2(4))
+-- what is assigned to must be a variable that may be changed (RM 5.2(5)); nothing more is said of one whose declaration is faulty
+abbrev pub target_faults : Option Meaning → Pos → List Fault
+target_faults None at = name_not_declared at
+target_faults (Some (Variable v)) at = []
+target_faults (Some (Literal b)) at = not_a_variable at
+target_faults (Some Faulty) at = []
+target_faults (Some IntegerType) at = wrong_kind_of_name at
+target_faults (Some BooleanType) at = wrong_kind_of_name at
+target_faults (Some PutLine) at = wrong_kind_of_name at
+target_faults (Some MainProcedure) at = wrong_kind_of_name at
+
+-- the value must be of the target's type (RM 5.2(4))
 abbrev pub assign_faults : Option Meaning → Pos → Pos → Typed → List Fault
-assign_faults m target at value = variable_faults m target ++ right_type (target_base m) at (base_of value)
+assign_faults m target at value = target_faults m target ++ right_type (target_base m) at (base_of value)
 
 -- a faulty statement is left as a null statement
 abbrev pub assigned : Option Meaning → Pos → Typed → tree.Statement
@@ -35,6 +47,8 @@ callee_faults (Some PutLine) at = []
 callee_faults (Some MainProcedure) at = wrong_number_of_arguments at
 callee_faults (Some Faulty) at = []
 callee_faults (Some IntegerType) at = wrong_kind_of_name at
+callee_faults (Some BooleanType) at = wrong_kind_of_name at
+callee_faults (Some (Literal b)) at = wrong_kind_of_name at
 callee_faults (Some (Variable v)) at = wrong_kind_of_name at
 
 -- the type of the formal parameter, where there is one

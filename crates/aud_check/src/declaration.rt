@@ -13,8 +13,8 @@ ghost use Rattle.aud_check.specs.Ties.Regions.{plain_region, plain_place, names_
 use crate::expression::{expression, expression_at};
 use crate::fault::Least;
 use crate::names::{Meaning, Place, Region, Scope};
-use crate::rules::{declared_once, name_not_declared, wrong_kind_of_name};
-use crate::typed::{Typed, wants_integer};
+use crate::rules::{Base, declared_once, name_not_declared, wrong_kind_of_name};
+use crate::typed::{Typed, wants};
 use aud_syntax::tree::{Declaration, Expression, Ident, Identifiers};
 use aud_text::int32::Int32;
 use aud_text::name::Name;
@@ -76,7 +76,7 @@ fn initial_value(
         None => Ok(IntegerExpression::Number(Int32::new(0))),
         Some(e) => {
             let typed = expression(alloc, e, scope, faults)?;
-            wants_integer(expression_at(e), &typed, faults);
+            wants(Base::Whole, expression_at(e), &typed, faults);
             Ok(integer_or_zero(typed))
         }
     }

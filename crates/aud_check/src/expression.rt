@@ -1,23 +1,26 @@
 // Expressions.
 
 ghost use Rattle.std.specs.Prelude.{◌≡◌, option_map};
-ghost use Rattle.aud_syntax.specs.Ties.View.{plain_expression, plain_relation, plain_simple, plain_added, plain_term, plain_multiplied, plain_factor, plain_primary, plain_maybe};
-ghost use Rattle.aud_check.specs.Expressions.{expression_at, relation_at, simple_at, term_at, factor_at, primary_at, multiplying, checked_number, checked_name, checked_expression, checked_relation, checked_simple, checked_added, checked_term, checked_multiplied, checked_factor, checked_primary, checked_image, checked_attribute, image, variable_faults};
+ghost use Rattle.aud_syntax.specs.Ties.View.{plain_expression, plain_chain, plain_relation, plain_comparison, plain_simple, plain_added, plain_term, plain_multiplied, plain_factor, plain_primary, plain_maybe};
+ghost use Rattle.aud_typed.specs.Ties.View.{plain_text};
+ghost use Rattle.aud_check.specs.Expressions.{expression_at, relation_at, simple_at, term_at, factor_at, primary_at, multiplying, checked_number, checked_name, checked_expression, checked_relation, checked_simple, checked_added, checked_term, checked_multiplied, checked_factor, checked_primary, checked_image, checked_attribute, image_by_type, image_by_value, image, name_faults, further};
 ghost use Rattle.aud_check.specs.Least.{noted};
 ghost use Rattle.aud_check.specs.Ties.Typing.{plain_typed, Shows};
 
 use crate::fault::Least;
 use crate::names::{Meaning, Scope};
 use crate::rules::{
-    name_not_declared, number_too_large, wrong_kind_of_name, wrong_number_of_arguments,
+    Base, name_not_declared, number_too_large, wrong_kind_of_name, wrong_number_of_arguments,
 };
-use crate::typed::{Typed, adding_operator, arithmetic, highest, image_of, signed, wants_integer};
+use crate::typed::{
+    Typed, adding_operator, arithmetic, connecting, highest, image_of, relating, signed, wants,
+};
 use aud_syntax::tree::{
-    Added, Expression, Factor, Ident, Multiplied, Multiplying, Number, Primary, Relation, Simple,
-    Term,
+    Added, Chain, Comparison, Connective, Expression, Factor, Ident, Multiplied, Multiplying,
+    Number, Primary, Relation, Simple, Term,
 };
 use aud_text::place::Pos;
-use aud_typed::program::{Binary, IntegerExpression, TextExpression};
+use aud_typed::program::{Binary, BooleanExpression, IntegerExpression, TextExpression};
 use std::alloc::{AllocError, Global};
 
 const IMAGE: &[u8] = b"IMAGE";
@@ -62,16 +65,20 @@ fn simple_at(simple: &Simple) -> Pos
 fn relation_at(relation: &Relation) -> Pos
     ensures { result ≡ relation_at (plain_relation relation.now) }
 {
-    let Relation::Unrelated(simple) = relation;
-    simple_at(simple)
+    match relation {
+        Relation::Unrelated(simple) => simple_at(simple),
+        Relation::Related(comparison) => simple_at(&comparison.left),
+    }
 }
 
 /// Where an expression begins: its first token.
 pub fn expression_at(expression: &Expression) -> Pos
     ensures { result ≡ expression_at (plain_expression expression.now) }
 {
-    let Expression::Alone(relation) = expression;
-    relation_at(relation)
+    match expression {
+        Expression::Alone(relation) => relation_at(relation),
+        Expression::Connected(chain) => relation_at(&chain.first),
+    }
 }
 
 // The operator of RM 4.5.5.
@@ -98,13 +105,13 @@ fn checked_number(number: Number, faults: &mut Least) -> Result<Typed, AllocErro
     }
 }
 
-/// Notes where what is read or assigned is not a variable (RM 4.1, 4.4, 5.2).
-pub fn check_variable(meaning: Option<Meaning>, at: Pos, faults: &mut Least)
-    ensures { faults.new ≡ noted faults.old (variable_faults meaning at) }
+// Notes where what is read has no value (RM 4.1, 4.4).
+fn check_name(meaning: Option<Meaning>, at: Pos, faults: &mut Least)
+    ensures { faults.new ≡ noted faults.old (name_faults meaning at) }
 {
     match meaning {
         None => name_not_declared(at, faults),
-        Some(Meaning::Variable(_) | Meaning::Faulty) => {}
+        Some(Meaning::Variable(_) | Meaning::Literal(_) | Meaning::Faulty) => {}
         Some(_) => wrong_kind_of_name(at, faults),
     }
 }
@@ -112,12 +119,50 @@ pub fn check_variable(meaning: Option<Meaning>, at: Pos, faults: &mut Least)
 fn checked_name(meaning: Option<Meaning>, at: Pos, faults: &mut Least) -> Result<Typed, AllocError>
     ensures { Shows result faults.old faults.new (checked_name meaning at) }
 {
-    check_variable(meaning, at, faults);
+    check_name(meaning, at, faults);
     match meaning {
         Some(Meaning::Variable(variable)) => Ok(Typed::Number(IntegerExpression::Variable(
             variable,
         ))),
+        Some(Meaning::Literal(value)) => Ok(Typed::Truth(BooleanExpression::Truth(value))),
         _ => Ok(Typed::Unknown),
+    }
+}
+
+// Image of a type, with its argument and the place where that begins, if it has one.
+fn image_by_type(
+    base: Base,
+    designator: Pos,
+    argument: Option<(Pos, Typed)>,
+    faults: &mut Least,
+) -> Result<Typed, AllocError>
+    ensures { Shows result faults.old faults.new (image_by_type base designator
+        (option_map (λ p. (p.0, plain_typed p.1)) argument)) }
+{
+    let Some((at, argument)) = argument else {
+        wrong_number_of_arguments(designator, faults);
+        return Ok(Typed::Unknown);
+    };
+    wants(base, at, &argument, faults);
+    Ok(image_of(base, argument))
+}
+
+// Image of what has a value, which asks no argument.
+fn image_by_value(
+    text: TextExpression,
+    designator: Pos,
+    argument: Option<(Pos, Typed)>,
+    faults: &mut Least,
+) -> Result<Typed, AllocError>
+    ensures { Shows result faults.old faults.new (image_by_value (plain_text text) designator
+        (option_map (λ p. (p.0, plain_typed p.1)) argument)) }
+{
+    match argument {
+        None => Ok(Typed::Text(text)),
+        Some(_) => {
+            wrong_number_of_arguments(designator, faults);
+            Ok(Typed::Unknown)
+        }
     }
 }
 
@@ -132,24 +177,19 @@ fn image(
     ensures { Shows result faults.old faults.new (image meaning prefix.now designator.now
         (option_map (λ p. (p.0, plain_typed p.1)) argument)) }
 {
-    match (meaning, argument) {
-        (Meaning::IntegerType, Some((at, argument))) => {
-            wants_integer(at, &argument, faults);
-            Ok(image_of(argument))
+    match meaning {
+        Meaning::IntegerType => image_by_type(Base::Whole, designator.at, argument, faults),
+        Meaning::BooleanType => image_by_type(Base::Truth, designator.at, argument, faults),
+        Meaning::Variable(variable) => {
+            let text = TextExpression::Image(IntegerExpression::Variable(variable));
+            image_by_value(text, designator.at, argument, faults)
         }
-        (Meaning::Variable(variable), None) => {
-            Ok(Typed::Text(TextExpression::Image(IntegerExpression::Variable(variable))))
+        Meaning::Literal(value) => {
+            let text = TextExpression::ImageTruth(BooleanExpression::Truth(value));
+            image_by_value(text, designator.at, argument, faults)
         }
-        (Meaning::IntegerType, None) => {
-            wrong_number_of_arguments(designator.at, faults);
-            Ok(Typed::Unknown)
-        }
-        (Meaning::Variable(_), Some(_)) => {
-            wrong_number_of_arguments(designator.at, faults);
-            Ok(Typed::Unknown)
-        }
-        (Meaning::Faulty, _) => Ok(Typed::Unknown),
-        (Meaning::PutLine | Meaning::MainProcedure, _) => {
+        Meaning::Faulty => Ok(Typed::Unknown),
+        Meaning::PutLine | Meaning::MainProcedure => {
             wrong_kind_of_name(prefix.at, faults);
             Ok(Typed::Unknown)
         }
@@ -332,8 +372,87 @@ fn relation(
     ensures { Shows result faults.old faults.new
         (checked_relation (plain_relation relation.now) scope.now) }
 {
-    let Relation::Unrelated(e) = relation;
-    simple(alloc, e, scope, faults)
+    match relation {
+        Relation::Unrelated(e) => simple(alloc, e, scope, faults),
+        Relation::Related(both) => comparison(alloc, both, scope, faults),
+    }
+}
+
+#[cycle(expression)]
+fn comparison(
+    alloc: Global,
+    comparison: &Comparison,
+    scope: &Scope<'_>,
+    faults: &mut Least,
+) -> Result<Typed, AllocError>
+    ensures { Shows result faults.old faults.new
+        (checked_relation (plain_comparison comparison.now) scope.now) }
+{
+    let left = simple(alloc, &comparison.left, scope, faults)?;
+    let right = simple(alloc, &comparison.right, scope, faults)?;
+    relating(
+        alloc,
+        comparison.operator,
+        simple_at(&comparison.left),
+        left,
+        simple_at(&comparison.right),
+        right,
+        faults,
+    )
+}
+
+// A relation behind an operator, and what stands before it.
+#[cycle(expression)]
+fn further(
+    alloc: Global,
+    connective: Connective,
+    next: &Relation,
+    scope: &Scope<'_>,
+    at: Pos,
+    left: Typed,
+    faults: &mut Least,
+) -> Result<Typed, AllocError>
+    ensures { Shows result faults.old faults.new (further connective at (plain_typed left)
+        (relation_at (plain_relation next.now))
+        (checked_relation (plain_relation next.now) scope.now)) }
+{
+    let right = relation(alloc, next, scope, faults)?;
+    connecting(
+        alloc,
+        connective,
+        at,
+        left,
+        relation_at(next),
+        right,
+        faults,
+    )
+}
+
+#[cycle(expression)]
+fn chain(
+    alloc: Global,
+    chain: &Chain,
+    scope: &Scope<'_>,
+    faults: &mut Least,
+) -> Result<Typed, AllocError>
+    ensures { Shows result faults.old faults.new
+        (checked_expression (plain_chain chain.now) scope.now) }
+{
+    let at = relation_at(&chain.first);
+    let first = relation(alloc, &chain.first, scope, faults)?;
+    let mut left = further(
+        alloc,
+        chain.connective,
+        &chain.second,
+        scope,
+        at,
+        first,
+        faults,
+    )?;
+    for next in &chain.others {
+        left = further(alloc, chain.connective, next, scope, at, left, faults)?;
+    }
+    Ok(left)
 }
 
 /// Checks an expression (RM 4.4): notes its faults, and answers with its type what is left of it.
@@ -347,6 +466,8 @@ pub fn expression(
     ensures { Shows result faults.old faults.new
         (checked_expression (plain_expression e.now) scope.now) }
 {
-    let Expression::Alone(alone) = e;
-    relation(alloc, alone, scope, faults)
+    match e {
+        Expression::Alone(alone) => relation(alloc, alone, scope, faults),
+        Expression::Connected(relations) => chain(alloc, relations, scope, faults),
+    }
 }

@@ -14,6 +14,12 @@ use std::marker::Model;
 
 const INTEGER: &[u8] = b"INTEGER";
 
+const BOOLEAN: &[u8] = b"BOOLEAN";
+
+const FALSE: &[u8] = b"FALSE";
+
+const TRUE: &[u8] = b"TRUE";
+
 const PUT_LINE: &[u8] = b"PUT_LINE";
 
 /// What a visible name stands for (RM 8.3).
@@ -21,6 +27,10 @@ const PUT_LINE: &[u8] = b"PUT_LINE";
 pub enum Meaning {
     /// The predefined type Integer (RM 3.5.4).
     IntegerType,
+    /// The predefined type Boolean (RM 3.5.3).
+    BooleanType,
+    /// False or True (RM 3.5.3).
+    Literal(bool),
     /// The procedure that puts out a text as a line.
     PutLine,
     /// The main procedure.
@@ -158,6 +168,15 @@ fn predefined(name: &Name) -> Option<Meaning>
 {
     if name.as_bytes() == INTEGER {
         return Some(Meaning::IntegerType);
+    }
+    if name.as_bytes() == BOOLEAN {
+        return Some(Meaning::BooleanType);
+    }
+    if name.as_bytes() == FALSE {
+        return Some(Meaning::Literal(false));
+    }
+    if name.as_bytes() == TRUE {
+        return Some(Meaning::Literal(true));
     }
     if name.as_bytes() == PUT_LINE {
         return Some(Meaning::PutLine);

@@ -3,7 +3,7 @@
 ghost use Rattle.std.specs.Prelude.{◌≡◌, not};
 ghost use Rattle.aud_check.specs.Least.{noted};
 ghost use Rattle.aud_check.specs.Names.{is_declared};
-ghost use Rattle.aud_check.specs.Rules.{name_not_declared, declared_once, wrong_kind_of_name, fits, right_type, wrong_number_of_arguments, right_name_at_end, number_too_large};
+ghost use Rattle.aud_check.specs.Rules.{name_not_declared, declared_once, wrong_kind_of_name, fits, right_type, wrong_number_of_arguments, not_a_variable, right_name_at_end, number_too_large};
 
 use crate::fault::Least;
 use crate::names::Symbols;
@@ -74,6 +74,13 @@ pub fn wrong_number_of_arguments(at: Pos, faults: &mut Least)
     ensures { faults.new ≡ noted faults.old (wrong_number_of_arguments at) }
 {
     faults.note(at, Refusal::WrongNumberOfArguments);
+}
+
+/// A target is a variable that may be changed (RM 5.2(5)).
+pub fn not_a_variable(at: Pos, faults: &mut Least)
+    ensures { faults.new ≡ noted faults.old (not_a_variable at) }
+{
+    faults.note(at, Refusal::NotAVariable);
 }
 
 /// The name after `end` is the procedure's (RM 6.3(4)).

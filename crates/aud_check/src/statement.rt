@@ -5,14 +5,15 @@ ghost use Rattle.aud_syntax.specs.Ties.View.{plain_expression, plain_expressions
 ghost use Rattle.aud_syntax.specs.Plain.{no_args, more_args};
 ghost use Rattle.aud_typed.specs.Ties.View.{plain_statement as plain_typed_statement};
 ghost use Rattle.aud_check.specs.Least.{noted};
-ghost use Rattle.aud_check.specs.Statements.{target_base, assign_faults, assigned, callee_faults, formal_base, called, args_faults, called_with, statement_faults, typed_statement, statements_faults, typed_statements};
+ghost use Rattle.aud_check.specs.Statements.{target_base, target_faults, assign_faults, assigned, callee_faults, formal_base, called, args_faults, called_with, statement_faults, typed_statement, statements_faults, typed_statements};
 ghost use Rattle.aud_check.specs.Ties.Typing.{plain_typed, plain_sequence, Leaves};
 
-use crate::expression::{check_variable, expression, expression_at};
+use crate::expression::{expression, expression_at};
 use crate::fault::Least;
 use crate::names::{Meaning, Scope};
 use crate::rules::{
-    Base, name_not_declared, right_type, wrong_kind_of_name, wrong_number_of_arguments,
+    Base, name_not_declared, not_a_variable, right_type, wrong_kind_of_name,
+    wrong_number_of_arguments,
 };
 use crate::typed::{Typed, base_of, with_text};
 use aud_syntax::tree::{Expression, Ident, Statement, Statements};
@@ -28,7 +29,20 @@ fn target_base(meaning: Option<Meaning>) -> Option<Base>
 {
     match meaning {
         Some(Meaning::Variable(_)) => Some(Base::Whole),
+        Some(Meaning::Literal(_)) => Some(Base::Truth),
         _ => None,
+    }
+}
+
+// Notes where what is assigned to is not a variable that may be changed (RM 5.2(5)).
+fn check_target(meaning: Option<Meaning>, at: Pos, faults: &mut Least)
+    ensures { faults.new ≡ noted faults.old (target_faults meaning at) }
+{
+    match meaning {
+        None => name_not_declared(at, faults),
+        Some(Meaning::Variable(_) | Meaning::Faulty) => {}
+        Some(Meaning::Literal(_)) => not_a_variable(at, faults),
+        Some(_) => wrong_kind_of_name(at, faults),
     }
 }
 
@@ -45,7 +59,7 @@ fn assigned(
     ensures noted { faults.new
         ≡ noted faults.old (assign_faults meaning target at (plain_typed value)) }
 {
-    check_variable(meaning, target, faults);
+    check_target(meaning, target, faults);
     right_type(target_base(meaning), at, base_of(&value), faults);
     match (meaning, value) {
         (Some(Meaning::Variable(variable)), Typed::Number(value)) => {
@@ -65,7 +79,12 @@ fn check_callee(meaning: Option<Meaning>, at: Pos, faults: &mut Least)
         None => name_not_declared(at, faults),
         Some(Meaning::PutLine | Meaning::Faulty) => {}
         Some(Meaning::MainProcedure) => wrong_number_of_arguments(at, faults),
-        Some(Meaning::IntegerType | Meaning::Variable(_)) => wrong_kind_of_name(at, faults),
+        Some(
+            Meaning::IntegerType
+            | Meaning::BooleanType
+            | Meaning::Literal(_)
+            | Meaning::Variable(_),
+        ) => wrong_kind_of_name(at, faults),
     }
 }
 

@@ -3,22 +3,26 @@
 ghost use Rattle.std.specs.Prelude.{◌≡◌, [], ◌∷◌, IfOk};
 ghost use Rattle.aud_typed.specs.Tree.{binary, join};
 ghost use Rattle.aud_typed.specs.declared.program.Operation.{out-Operation};
-ghost use Rattle.aud_typed.specs.Ties.View.{plain_integer, plain_text};
+ghost use Rattle.aud_typed.specs.Ties.View.{plain_integer, plain_boolean, plain_text, connected};
 ghost use Rattle.aud_check.specs.Least.{noted};
-ghost use Rattle.aud_check.specs.Expressions.{base_of, not_integer, not_text, not_boolean, combined, joined, one, integer_only, image_of, arithmetic, joining, adding_operator, signed, highest};
-ghost use Rattle.aud_check.specs.Ties.Typing.{plain_typed, Shows};
+ghost use Rattle.aud_check.specs.Expressions.{base_of, wants, combined, joined, one, integer_only, negated, relation_of, compared, related_to, compared_with, operand_faults, relating, both, connecting, image_of, arithmetic, joining, adding_operator, signed, highest};
+ghost use Rattle.aud_check.specs.Ties.Typing.{plain_typed, typed_connective, Shows};
 
 use crate::fault::Least;
 use crate::rules::{Base, right_type};
-use aud_syntax::tree::{Adding, Highest, Sign, Signed};
+use aud_syntax::tree::{Adding, Connective, Highest, Relational, Sign, Signed};
 use aud_text::place::Pos;
-use aud_typed::program::{Binary, IntegerExpression, Operation, TextExpression, Unary};
+use aud_typed::program::{
+    Binary, BooleanExpression, Connective as TypedConnective, IntegerExpression, Logical,
+    Operation, Relation, TextExpression, Unary,
+};
 use std::alloc::{AllocError, Global};
 
 /// An expression with its type. Nothing is known of the type of a faulty one.
 #[derive(Drop, Debug)]
 pub enum Typed {
     Number(IntegerExpression),
+    Truth(BooleanExpression),
     Text(TextExpression),
     Unknown,
 }
@@ -29,28 +33,17 @@ pub fn base_of(typed: &Typed) -> Option<Base>
 {
     match typed {
         Typed::Number(_) => Some(Base::Whole),
+        Typed::Truth(_) => Some(Base::Truth),
         Typed::Text(_) => Some(Base::Text),
         Typed::Unknown => None,
     }
 }
 
-/// Notes where an expression that must be of type Integer has another type.
-pub fn wants_integer(at: Pos, typed: &Typed, faults: &mut Least)
-    ensures { faults.new ≡ noted faults.old (not_integer at (plain_typed typed.now)) }
+/// Notes where an expression that must be of a type has another one.
+pub fn wants(base: Base, at: Pos, typed: &Typed, faults: &mut Least)
+    ensures { faults.new ≡ noted faults.old (wants base at (plain_typed typed.now)) }
 {
-    right_type(Some(Base::Whole), at, base_of(typed), faults);
-}
-
-fn wants_text(at: Pos, typed: &Typed, faults: &mut Least)
-    ensures { faults.new ≡ noted faults.old (not_text at (plain_typed typed.now)) }
-{
-    right_type(Some(Base::Text), at, base_of(typed), faults);
-}
-
-fn wants_boolean(at: Pos, typed: &Typed, faults: &mut Least)
-    ensures { faults.new ≡ noted faults.old (not_boolean at (plain_typed typed.now)) }
-{
-    right_type(Some(Base::Truth), at, base_of(typed), faults);
+    right_type(Some(base), at, base_of(typed), faults);
 }
 
 // The parts of a chain that begins: what stands first, and one that follows.
@@ -90,8 +83,11 @@ fn combined(alloc: Global, operator: Binary, left: Typed, right: Typed) -> Resul
     ensures { IfOk result (λ typed. plain_typed typed
         ≡ combined operator (plain_typed left) (plain_typed right)) }
 {
-    match (left, right) {
-        (Typed::Number(left), Typed::Number(right)) => {
+    let Typed::Number(left) = left else {
+        return Ok(Typed::Unknown);
+    };
+    match right {
+        Typed::Number(right) => {
             let value = with_operation(alloc, left, Operation { operator, right })?;
             Ok(Typed::Number(value))
         }
@@ -123,8 +119,11 @@ fn joined(alloc: Global, left: Typed, right: Typed) -> Result<Typed, AllocError>
     ensures { IfOk result (λ typed. plain_typed typed
         ≡ joined (plain_typed left) (plain_typed right)) }
 {
-    match (left, right) {
-        (Typed::Text(left), Typed::Text(right)) => {
+    let Typed::Text(left) = left else {
+        return Ok(Typed::Unknown);
+    };
+    match right {
+        Typed::Text(right) => {
             let text = with_text(alloc, left, right)?;
             Ok(Typed::Text(text))
         }
@@ -153,13 +152,26 @@ fn integer_only(typed: Typed) -> Typed
     }
 }
 
-/// The text that Image makes of an Integer.
-pub fn image_of(typed: Typed) -> Typed
-    ensures { plain_typed result ≡ image_of (plain_typed typed) }
+/// The text that Image makes of a value of a type.
+pub fn image_of(base: Base, typed: Typed) -> Typed
+    ensures { plain_typed result ≡ image_of base (plain_typed typed) }
 {
-    match typed {
-        Typed::Number(x) => Typed::Text(TextExpression::Image(x)),
+    match (base, typed) {
+        (Base::Whole, Typed::Number(x)) => Typed::Text(TextExpression::Image(x)),
+        (Base::Truth, Typed::Truth(x)) => Typed::Text(TextExpression::ImageTruth(x)),
         _ => Typed::Unknown,
+    }
+}
+
+fn negated(alloc: Global, operand: Typed) -> Result<Typed, AllocError>
+    ensures { IfOk result (λ typed. plain_typed typed ≡ negated (plain_typed operand)) }
+{
+    match operand {
+        Typed::Truth(x) => {
+            let x = Box::new(alloc, x)?;
+            Ok(Typed::Truth(BooleanExpression::Not(x)))
+        }
+        _ => Ok(Typed::Unknown),
     }
 }
 
@@ -177,8 +189,8 @@ pub fn arithmetic(
     ensures { Shows result faults.old faults.new
         (arithmetic operator left_at (plain_typed left) right_at (plain_typed right)) }
 {
-    wants_integer(left_at, &left, faults);
-    wants_integer(right_at, &right, faults);
+    wants(Base::Whole, left_at, &left, faults);
+    wants(Base::Whole, right_at, &right, faults);
     combined(alloc, operator, left, right)
 }
 
@@ -194,8 +206,8 @@ fn joining(
     ensures { Shows result faults.old faults.new
         (joining left_at (plain_typed left) right_at (plain_typed right)) }
 {
-    wants_text(left_at, &left, faults);
-    wants_text(right_at, &right, faults);
+    wants(Base::Text, left_at, &left, faults);
+    wants(Base::Text, right_at, &right, faults);
     joined(alloc, left, right)
 }
 
@@ -240,7 +252,7 @@ pub fn signed(
     let Some(signed) = sign else {
         return Ok(operand);
     };
-    wants_integer(at, &operand, faults);
+    wants(Base::Whole, at, &operand, faults);
     match signed.sign {
         Sign::Plus => Ok(integer_only(operand)),
         Sign::Minus => one(alloc, Unary::Negative, operand),
@@ -259,12 +271,194 @@ pub fn highest(
 {
     match operator {
         Highest::Magnitude => {
-            wants_integer(at, &operand, faults);
+            wants(Base::Whole, at, &operand, faults);
             one(alloc, Unary::Magnitude, operand)
         }
         Highest::Not => {
-            wants_boolean(at, &operand, faults);
-            Ok(Typed::Unknown)
+            wants(Base::Truth, at, &operand, faults);
+            negated(alloc, operand)
         }
     }
+}
+
+fn relation_of(operator: Relational) -> Relation
+    ensures { result ≡ relation_of operator }
+{
+    match operator {
+        Relational::Equal => Relation::Equal,
+        Relational::Unequal => Relation::Unequal,
+        Relational::Less => Relation::Less,
+        Relational::AtMost => Relation::AtMost,
+        Relational::Greater => Relation::Greater,
+        Relational::AtLeast => Relation::AtLeast,
+    }
+}
+
+fn compared(
+    alloc: Global,
+    operator: Relational,
+    left: Typed,
+    right: Typed,
+) -> Result<Typed, AllocError>
+    ensures { IfOk result (λ typed. plain_typed typed
+        ≡ compared operator (plain_typed left) (plain_typed right)) }
+{
+    let relation = relation_of(operator);
+    match left {
+        Typed::Number(left) => Ok(related_to(relation, left, right)),
+        Typed::Truth(left) => compared_with(alloc, relation, left, right),
+        _ => Ok(Typed::Unknown),
+    }
+}
+
+// An Integer that is compared.
+fn related_to(relation: Relation, left: IntegerExpression, right: Typed) -> Typed
+    ensures { plain_typed result ≡ related_to relation (plain_integer left) (plain_typed right) }
+{
+    match right {
+        Typed::Number(right) => Typed::Truth(BooleanExpression::Relation(relation, left, right)),
+        _ => Typed::Unknown,
+    }
+}
+
+// A Boolean that is compared.
+fn compared_with(
+    alloc: Global,
+    relation: Relation,
+    left: BooleanExpression,
+    right: Typed,
+) -> Result<Typed, AllocError>
+    ensures { IfOk result (λ typed. plain_typed typed
+        ≡ compared_with relation (plain_boolean left) (plain_typed right)) }
+{
+    match right {
+        Typed::Truth(right) => {
+            let left = Box::new(alloc, left)?;
+            let right = Box::new(alloc, right)?;
+            Ok(Typed::Truth(BooleanExpression::Comparison(relation, left, right)))
+        }
+        _ => Ok(Typed::Unknown),
+    }
+}
+
+// Notes where the right operand has not the type of the left one, or that is a text.
+fn check_operands(
+    left_at: Pos,
+    left: Option<Base>,
+    right_at: Pos,
+    right: Option<Base>,
+    faults: &mut Least,
+)
+    ensures { faults.new ≡ noted faults.old (operand_faults left_at left right_at right) }
+{
+    match left {
+        Some(Base::Text) => right_type(Some(Base::Whole), left_at, left, faults),
+        _ => right_type(left, right_at, right, faults),
+    }
+}
+
+/// A relational operator (RM 4.5.2), whose operands begin at these places.
+pub fn relating(
+    alloc: Global,
+    operator: Relational,
+    left_at: Pos,
+    left: Typed,
+    right_at: Pos,
+    right: Typed,
+    faults: &mut Least,
+) -> Result<Typed, AllocError>
+    ensures { Shows result faults.old faults.new
+        (relating operator left_at (plain_typed left) right_at (plain_typed right)) }
+{
+    check_operands(left_at, base_of(&left), right_at, base_of(&right), faults);
+    compared(alloc, operator, left, right)
+}
+
+fn typed_connective(connective: Connective) -> TypedConnective
+    ensures { result ≡ typed_connective connective }
+{
+    match connective {
+        Connective::And => TypedConnective::Logical(Logical::And),
+        Connective::Or => TypedConnective::Logical(Logical::Or),
+        Connective::Xor => TypedConnective::Logical(Logical::Xor),
+        Connective::AndThen => TypedConnective::AndThen,
+        Connective::OrElse => TypedConnective::OrElse,
+    }
+}
+
+// A chain of two operands.
+fn chain(
+    alloc: Global,
+    connective: TypedConnective,
+    first: BooleanExpression,
+    next: BooleanExpression,
+) -> Result<BooleanExpression, AllocError>
+    ensures { IfOk result (λ value. plain_boolean value
+        ≡ connected connective (plain_boolean first) (plain_boolean next)) }
+{
+    let (first, rest) = begun(alloc, first, next)?;
+    Ok(BooleanExpression::Chain(connective, first, rest))
+}
+
+// The operand goes on the chain of the same operator before it, or begins one.
+fn with_operand(
+    alloc: Global,
+    connective: TypedConnective,
+    left: BooleanExpression,
+    next: BooleanExpression,
+) -> Result<BooleanExpression, AllocError>
+    ensures { IfOk result (λ value. plain_boolean value
+        ≡ connected connective (plain_boolean left) (plain_boolean next)) }
+{
+    match left {
+        BooleanExpression::Chain(own, first, mut rest) => {
+            if own != connective {
+                let left = BooleanExpression::Chain(own, first, rest);
+                return chain(alloc, connective, left, next);
+            }
+            rest.push(next)?;
+            Ok(BooleanExpression::Chain(own, first, rest))
+        }
+        first => chain(alloc, connective, first, next),
+    }
+}
+
+fn both(
+    alloc: Global,
+    connective: Connective,
+    left: Typed,
+    right: Typed,
+) -> Result<Typed, AllocError>
+    ensures { IfOk result (λ typed. plain_typed typed
+        ≡ both connective (plain_typed left) (plain_typed right)) }
+{
+    let Typed::Truth(left) = left else {
+        return Ok(Typed::Unknown);
+    };
+    match right {
+        Typed::Truth(right) => {
+            let value = with_operand(alloc, typed_connective(connective), left, right)?;
+            Ok(Typed::Truth(value))
+        }
+        _ => Ok(Typed::Unknown),
+    }
+}
+
+/// An operator on two Booleans (RM 4.5.1), whose operands begin at these places.
+#[tactic(auto, using(crate::proofs::Notes::noted_append))]
+pub fn connecting(
+    alloc: Global,
+    connective: Connective,
+    left_at: Pos,
+    left: Typed,
+    right_at: Pos,
+    right: Typed,
+    faults: &mut Least,
+) -> Result<Typed, AllocError>
+    ensures { Shows result faults.old faults.new
+        (connecting connective left_at (plain_typed left) right_at (plain_typed right)) }
+{
+    wants(Base::Truth, left_at, &left, faults);
+    wants(Base::Truth, right_at, &right, faults);
+    both(alloc, connective, left, right)
 }

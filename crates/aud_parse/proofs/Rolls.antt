@@ -7,9 +7,9 @@ use Rattle.aud_syntax.specs.declared.tree.Ident.{Ident}
 use Rattle.aud_syntax.specs.declared.tree.Signed.{Signed}
 use Rattle.aud_syntax.specs.declared.tree.Adding.{Adding}
 use Rattle.aud_syntax.specs.declared.tree.Operator.{Operator}
-use Rattle.aud_syntax.specs.declared.tree.Simple.{roll-Simple, rolls-Simple', Row_of-Added, end_of-Added, more_of-Added, items-the_row-Added, items_hidden-the_row-Added-1}
+use Rattle.aud_syntax.specs.declared.tree.Simple.{roll-Simple, rolls-Simple', Row_of-Added, end_of-Added, more_of-Added, items-the_row-Added, items_hidden-the_row-Added-2}
 use Rattle.aud_syntax.specs.declared.tree.Added.{Added, roll-Added, rolls-Added'}
-use Rattle.aud_syntax.specs.declared.tree.Term.{Term, roll-Term, rolls-Term', Row_of-Multiplied, end_of-Multiplied, more_of-Multiplied, items-the_row-Multiplied, items_hidden-the_row-Multiplied-2}
+use Rattle.aud_syntax.specs.declared.tree.Term.{Term, roll-Term, rolls-Term', Row_of-Multiplied, end_of-Multiplied, more_of-Multiplied, items-the_row-Multiplied, items_hidden-the_row-Multiplied-3}
 use Rattle.aud_syntax.specs.declared.tree.Multiplied.{Multiplied}
 use Rattle.aud_syntax.specs.declared.tree.Factor.{Factor}
 use Rattle.aud_syntax.specs.declared.tree.Expression.{Expression}
@@ -17,7 +17,7 @@ use Rattle.aud_syntax.specs.declared.tree.Name.{Name}
 use Rattle.aud_syntax.specs.declared.tree.Primary as primary
 use Rattle.aud_syntax.specs.declared.tree.Primary.{Primary}
 use Rattle.aud_syntax.proofs.Opened.{name_open, attribute_open}
-use Rattle.aud_syntax.specs.declared.tree.Expression.TheBlock.{hidden-the_row-Multiplied-2, hidden-the_row-Added-1}
+use Rattle.aud_syntax.specs.declared.tree.Expression.TheBlock.{hidden-the_row-Multiplied-3, hidden-the_row-Added-2}
 use Rattle.aud_syntax.specs.declared.tree.Declaration.{Declaration}
 use Rattle.aud_syntax.specs.declared.tree.Declaration.TheVariants as declaration
 use Rattle.aud_syntax.specs.declared.tree.Identifiers.{Identifiers}
@@ -42,14 +42,14 @@ pub added_roll : (s : Adding) (t : Term) → plain_added (roll-Added (record { o
 added_roll s t = ap plain_added (rolls-Added' _)
 
 pub term_roll : (f : Factor) (v : Vec Multiplied Global) → plain_term (roll-Term (record { first = f; rest = v })) ≡ m.term (plain_factor f) (the_multiplieds (list_item multiplied_item v.items))
-term_roll f v = ap plain_term (rolls-Term' _) ∙ ap (λ z. m.term (plain_factor f) z) (multiplied_rows _ (hidden-the_row-Multiplied-2 v) ∙ ap (λ l. the_multiplieds (list_item multiplied_item l)) (items_hidden-the_row-Multiplied-2 v))
+term_roll f v = ap plain_term (rolls-Term' _) ∙ ap (λ z. m.term (plain_factor f) z) (multiplied_rows _ (hidden-the_row-Multiplied-3 v) ∙ ap (λ l. the_multiplieds (list_item multiplied_item l)) (items_hidden-the_row-Multiplied-3 v))
 
 opt_sign_is : (s : Option Signed) → s ≡ opt_sign (opt_item a_sign s)
 opt_sign_is None = refl
 opt_sign_is (Some x) = refl
 
 pub simple_roll : (s : Option Signed) (t : Term) (v : Vec Added Global) → plain_simple (roll-Simple (record { sign = s; first = t; rest = v })) ≡ m.simple (opt_sign (opt_item a_sign s)) (plain_term t) (the_addeds (list_item added_item v.items))
-simple_roll s t v = ap plain_simple (rolls-Simple' _) ∙ ap (λ z. m.simple s (plain_term t) z) (added_rows _ (hidden-the_row-Added-1 v) ∙ ap (λ l. the_addeds (list_item added_item l)) (items_hidden-the_row-Added-1 v)) ∙ ap (λ z. m.simple z (plain_term t) (the_addeds (list_item added_item v.items))) (opt_sign_is s)
+simple_roll s t v = ap plain_simple (rolls-Simple' _) ∙ ap (λ z. m.simple s (plain_term t) z) (added_rows _ (hidden-the_row-Added-2 v) ∙ ap (λ l. the_addeds (list_item added_item l)) (items_hidden-the_row-Added-2 v)) ∙ ap (λ z. m.simple z (plain_term t) (the_addeds (list_item added_item v.items))) (opt_sign_is s)
 
 opt_operator_is : (s : Option Operator) → opt_operator (opt_item an_operator s) ≡ s
 opt_operator_is None = refl

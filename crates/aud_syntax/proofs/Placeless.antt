@@ -5,8 +5,9 @@ use Rattle.aud_lex.specs.Why.Spaced.{spaced}
 use Rattle.aud_syntax.specs.declared.tree.Ident.{Ident}
 use Rattle.aud_syntax.specs.declared.tree.Signed.{Signed}
 use Rattle.aud_syntax.specs.declared.tree.Operator.{Operator}
+use Rattle.aud_syntax.specs.declared.tree.Connective.{Connective}
 use Rattle.aud_syntax.specs.Plain as m
-use Rattle.aud_syntax.specs.Why.Bare.{bare_ident, bare_sign, bare_highest, bare_end, bare_expression, bare_relation, bare_name, bare_part, bare_args, bare_simple, bare_addeds, bare_added, bare_term, bare_multiplieds, bare_multiplied, bare_factor, bare_primary, bare_maybe, bare_declaration, bare_declarations, bare_statement, bare_more_statements, bare_statements, bare_body, bare}
+use Rattle.aud_syntax.specs.Why.Bare.{bare_ident, bare_sign, bare_highest, bare_end, bare_expression, bare_relations, bare_relation, bare_name, bare_part, bare_args, bare_simple, bare_addeds, bare_added, bare_term, bare_multiplieds, bare_multiplied, bare_factor, bare_primary, bare_maybe, bare_declaration, bare_declarations, bare_statement, bare_more_statements, bare_statements, bare_body, bare}
 use Rattle.aud_syntax.specs.Why.Printed as w
 use Rattle.aud_syntax.specs.Why.Laws.{WithoutPlaces}
 
@@ -25,9 +26,15 @@ end_same (Some x) = refl
 mutual
   expression_same : (e : m.Expression) → w.expression_words (bare_expression e) ≡ w.expression_words e
   expression_same (m.alone x) = relation_same x
+  expression_same (m.connected c x y xs) = cc (relation_same x, relation_same y, relations_same c xs)
+
+  relations_same : (c : Connective) (xs : m.Relations) → w.relations_words c (bare_relations xs) ≡ w.relations_words c xs
+  relations_same c m.no_relations = refl
+  relations_same c (m.more_relations x xs) = cc (relation_same x, relations_same c xs)
 
   relation_same : (e : m.Relation) → w.relation_words (bare_relation e) ≡ w.relation_words e
   relation_same (m.unrelated x) = simple_same x
+  relation_same (m.related operator x y) = cc (simple_same x, simple_same y)
 
   simple_same : (e : m.Simple) → w.simple_words (bare_simple e) ≡ w.simple_words e
   simple_same (m.simple s t rest) = cc (sign_same s, term_same t, addeds_same rest)

@@ -12,10 +12,12 @@ use Rattle.std.specs.Global.{Global}
 use Rattle.std.proofs.Common.{append-nil, subst}
 use Rattle.aud_syntax.specs.declared.tree.Ident.{Ident}
 use Rattle.aud_syntax.specs.declared.tree.Name as name
+use Rattle.aud_syntax.specs.declared.tree.Chain.{Chain}
+use Rattle.aud_syntax.specs.declared.tree.Expression.TheVariants.{Connected}
 use Rattle.aud_syntax.specs.declared.tree.Primary as primary
-use Rattle.aud_syntax.specs.Ties.View.{plain_expression, plain_boxed, plain_expressions, plain_name, plain_primary}
+use Rattle.aud_syntax.specs.Ties.View.{plain_expression, plain_chain, plain_boxed, plain_expressions, plain_name, plain_primary}
 use Rattle.aud_syntax.specs.Why.Printed.{ident_word, expression_words, name_words, primary_words, argument_words, args_words, more_args_words}
-use Rattle.aud_syntax.proofs.Opened.{name_open, attribute_open}
+use Rattle.aud_syntax.proofs.Opened.{chain_open, name_open, attribute_open}
 
 pub spaced_append : (a b : List Word) → spaced (a ++ b) ≡ spaced a ++ spaced b
 spaced_append [] b = refl
@@ -74,6 +76,10 @@ pub arguments_end : {X E : Type 0} (r : Result X E) (old out new before : List �
 arguments_end r old out new before xs ys e h n k =
     let all : out ≡ old ++ spaced (listed (codes "(") (plain_expressions xs)) = sym (append-nil out) ∙ sym (ap (λ z. out ++ spaced (listed before (plain_expressions z))) e) ∙ h in
     subst (λ z. OnOk r (new ≡ old ++ spaced z)) (some_arguments xs n) (all_written r old out new (listed (codes "(") (plain_expressions xs)) (word (codes ")") ∷ []) all k)
+
+-- relations with operators between them, as an expression
+pub chain_written : {X E : Type 0} (r : Result X E) (old new : List ℕ) (x : Box Chain Global) → OnOk r (new ≡ old ++ spaced (expression_words (plain_chain x.value))) → OnOk r (new ≡ old ++ spaced (expression_words (plain_expression (Connected x))))
+chain_written r old new x h = subst (λ z. OnOk r (new ≡ old ++ spaced (expression_words z))) (sym (chain_open x)) h
 
 -- a name, and an attribute, as primaries
 pub name_written : {X E : Type 0} (r : Result X E) (old new : List ℕ) (x : Box name.Name Global) → OnOk r (new ≡ old ++ spaced (name_words (plain_name x.value))) → OnOk r (new ≡ old ++ spaced (primary_words (plain_primary (primary.Name x))))

@@ -8,15 +8,23 @@ use Rattle.aud_syntax.specs.declared.tree.Signed.{Signed}
 use Rattle.aud_syntax.specs.declared.tree.Adding.{Adding}
 use Rattle.aud_syntax.specs.declared.tree.Multiplying.{Multiplying}
 use Rattle.aud_syntax.specs.declared.tree.Operator.{Operator}
+use Rattle.aud_syntax.specs.declared.tree.Relational.{Relational}
+use Rattle.aud_syntax.specs.declared.tree.Connective.{Connective}
 
 -- expressions and names (RM 4.1, 4.4)
 mutual
-  -- one relation
+  -- one relation, or the first, the second and further ones with the same operator between each two
   pub data Expression : Type 0 where
     alone : Relation → Expression
+    connected : Connective → Relation → Relation → Relations → Expression
+
+  pub data Relations : Type 0 where
+    no_relations : Relations
+    more_relations : Relation → Relations → Relations
 
   pub data Relation : Type 0 where
     unrelated : Simple → Relation
+    related : Relational → Simple → Simple → Relation
 
   pub data Simple : Type 0 where
     simple : Option Signed → Term → Addeds → Simple

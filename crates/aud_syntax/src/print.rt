@@ -4,13 +4,13 @@
 ghost use Rattle.std.specs.Prelude.{◌≡◌, ◌++◌, ◌∷◌, [], IfOk, OnOk};
 ghost use Rattle.aud_lex.specs.Why.Spaced.{word, last_word, spaced};
 ghost use Rattle.aud_syntax.specs.Ties.Writes.{Writes};
-ghost use Rattle.aud_syntax.specs.Ties.View.{plain_expression, plain_relation, plain_name, plain_part, plain_expressions, plain_simple, plain_added, plain_term, plain_multiplied, plain_factor, plain_primary, plain_maybe, plain_declaration, plain_declarations, plain_statement, plain_others, plain_statements, plain_body, plain_unit};
-ghost use Rattle.aud_syntax.specs.Why.Printed.{ident_word, number_word, doubled, literal_word, sign_words, adding_spelling, multiplying_spelling, operator_words, expression_words, relation_words, name_words, part_words, args_words, simple_words, added_words, term_words, multiplied_words, factor_words, primary_words, in_parentheses, more_ident_words, idents_words, initial_words, object_words, declaration_words, declarations_words, null_words, assignment_words, call_words, statement_words, more_statements_words, statements_words, end_words, body_words, unit_words, printed};
+ghost use Rattle.aud_syntax.specs.Ties.View.{plain_expression, plain_chain, plain_relation, plain_comparison, plain_name, plain_part, plain_expressions, plain_simple, plain_added, plain_term, plain_multiplied, plain_factor, plain_primary, plain_maybe, plain_declaration, plain_declarations, plain_statement, plain_others, plain_statements, plain_body, plain_unit};
+ghost use Rattle.aud_syntax.specs.Why.Printed.{ident_word, number_word, doubled, literal_word, sign_words, adding_spelling, multiplying_spelling, operator_words, relational_spelling, connective_words, expression_words, relation_words, connected_words, name_words, part_words, args_words, simple_words, added_words, term_words, multiplied_words, factor_words, primary_words, in_parentheses, more_ident_words, idents_words, initial_words, object_words, declaration_words, declarations_words, null_words, assignment_words, call_words, statement_words, more_statements_words, statements_words, end_words, body_words, unit_words, printed};
 
 use crate::tree::{
-    Added, Adding, Body, Declaration, Expression, Factor, Highest, Ident, Identifiers, Literal,
-    Multiplied, Multiplying, Name, NamePart, Number, Operator, Primary, Relation, Sign, Signed,
-    Simple, Statement, Statements, Term, Unit,
+    Added, Adding, Body, Chain, Comparison, Connective, Declaration, Expression, Factor, Highest,
+    Ident, Identifiers, Literal, Multiplied, Multiplying, Name, NamePart, Number, Operator,
+    Primary, Relation, Relational, Sign, Signed, Simple, Statement, Statements, Term, Unit,
 };
 use aud_text::digits::push_decimal;
 use aud_text::text::Text;
@@ -197,7 +197,36 @@ fn push_in_parentheses(out: &mut Vec<u8>, inner: &Expression) -> Result<(), Allo
 fn push_expression(out: &mut Vec<u8>, expression: &Expression) -> Result<(), AllocError>
     ensures { Writes result out.old out.new (expression_words (plain_expression expression.now)) }
 {
-    let Expression::Alone(relation) = expression;
+    match expression {
+        Expression::Alone(relation) => push_relation(out, relation),
+        Expression::Connected(chain) => push_chain(out, chain),
+    }
+}
+
+// RM 4.4(2)
+#[cycle(print)]
+fn push_chain(out: &mut Vec<u8>, chain: &Chain) -> Result<(), AllocError>
+    ensures { Writes result out.old out.new (expression_words (plain_chain chain.now)) }
+{
+    push_relation(out, &chain.first)?;
+    push_connected(out, chain.connective, &chain.second)?;
+    for next in &chain.others {
+        push_connected(out, chain.connective, next)?;
+    }
+    Ok(())
+}
+
+// A further relation behind the operator.
+#[cycle(print)]
+fn push_connected(
+    out: &mut Vec<u8>,
+    connective: Connective,
+    relation: &Relation,
+) -> Result<(), AllocError>
+    ensures { Writes result out.old out.new
+        (connected_words connective (plain_relation relation.now)) }
+{
+    push_connective(out, connective)?;
     push_relation(out, relation)
 }
 
@@ -205,8 +234,19 @@ fn push_expression(out: &mut Vec<u8>, expression: &Expression) -> Result<(), All
 fn push_relation(out: &mut Vec<u8>, relation: &Relation) -> Result<(), AllocError>
     ensures { Writes result out.old out.new (relation_words (plain_relation relation.now)) }
 {
-    let Relation::Unrelated(simple) = relation;
-    push_simple(out, simple)
+    match relation {
+        Relation::Unrelated(simple) => push_simple(out, simple),
+        Relation::Related(comparison) => push_comparison(out, comparison),
+    }
+}
+
+#[cycle(print)]
+fn push_comparison(out: &mut Vec<u8>, comparison: &Comparison) -> Result<(), AllocError>
+    ensures { Writes result out.old out.new (relation_words (plain_comparison comparison.now)) }
+{
+    push_simple(out, &comparison.left)?;
+    push_relational(out, comparison.operator)?;
+    push_simple(out, &comparison.right)
 }
 
 #[cycle(print)]
@@ -308,6 +348,40 @@ fn push_args(out: &mut Vec<u8>, args: &[Expression]) -> Result<(), AllocError>
         return Ok(());
     }
     push_word(out, b")")
+}
+
+// RM 4.5.1
+fn push_connective(out: &mut Vec<u8>, connective: Connective) -> Result<(), AllocError>
+    ensures { Writes result out.old out.new (connective_words connective) }
+{
+    match connective {
+        Connective::And => push_word(out, b"and"),
+        Connective::Or => push_word(out, b"or"),
+        Connective::Xor => push_word(out, b"xor"),
+        Connective::AndThen => push_two_words(out, b"and", b"then"),
+        Connective::OrElse => push_two_words(out, b"or", b"else"),
+    }
+}
+
+fn push_two_words(out: &mut Vec<u8>, first: &[u8], second: &[u8]) -> Result<(), AllocError>
+    ensures { Writes result out.old out.new (word first.now ∷ word second.now ∷ []) }
+{
+    push_word(out, first)?;
+    push_word(out, second)
+}
+
+// RM 4.5.2
+fn push_relational(out: &mut Vec<u8>, operator: Relational) -> Result<(), AllocError>
+    ensures { Writes result out.old out.new (word (relational_spelling operator) ∷ []) }
+{
+    match operator {
+        Relational::Equal => push_word(out, b"="),
+        Relational::Unequal => push_word(out, b"/="),
+        Relational::Less => push_word(out, b"<"),
+        Relational::AtMost => push_word(out, b"<="),
+        Relational::Greater => push_word(out, b">"),
+        Relational::AtLeast => push_word(out, b">="),
+    }
 }
 
 // RM 4.5.4

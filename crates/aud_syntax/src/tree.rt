@@ -71,12 +71,45 @@ pub struct Operator {
     pub at: Pos,
 }
 
+/// A relational operator (RM 4.5.2).
+#[derive(Clone, Copy, PartialEq, Eq, Debug)]
+pub enum Relational {
+    Equal,
+    Unequal,
+    Less,
+    AtMost,
+    Greater,
+    AtLeast,
+}
+
+/// A logical operator, or a short-circuit control form (RM 4.5.1).
+#[derive(Clone, Copy, PartialEq, Eq, Debug)]
+pub enum Connective {
+    And,
+    Or,
+    Xor,
+    AndThen,
+    OrElse,
+}
+
 /// An expression (RM 4.4).
 #[derive(Drop)]
 #[cycle(expression)]
 pub enum Expression {
     /// One relation, with no logical operator.
     Alone(Relation),
+    /// Several relations.
+    Connected(Box<Chain>),
+}
+
+/// Relations with the same operator between each two (RM 4.4(2)): the first, the second, and those behind them.
+#[derive(Drop)]
+#[cycle(expression)]
+pub struct Chain {
+    pub connective: Connective,
+    pub first: Relation,
+    pub second: Relation,
+    pub others: Vec<Relation>,
 }
 
 /// A relation (RM 4.4(3)).
@@ -85,6 +118,17 @@ pub enum Expression {
 pub enum Relation {
     /// What is compared with nothing.
     Unrelated(Simple),
+    /// What is compared.
+    Related(Box<Comparison>),
+}
+
+/// Two operands that are compared.
+#[derive(Drop)]
+#[cycle(expression)]
+pub struct Comparison {
+    pub operator: Relational,
+    pub left: Simple,
+    pub right: Simple,
 }
 
 /// Terms that are added (RM 4.4(4)).

@@ -1,17 +1,31 @@
 -- What is shown by a check of an expression or of statements in memory.
 use Rattle.std.specs.Prelude.{◌≡◌, List, Option, Result, Ok, Err}
 use Rattle.std.specs.declared.alloc.AllocError.{AllocError}
+use Rattle.aud_syntax.specs.declared.tree.Connective as source
+use Rattle.aud_syntax.specs.declared.tree.Connective.TheVariants.{And, Or, Xor, AndThen, OrElse}
+use Rattle.aud_typed.specs.declared.program.Connective as target
+use Rattle.aud_typed.specs.declared.program.Connective.TheVariants as connective
+use Rattle.aud_typed.specs.declared.program.Logical.TheVariants as logical
 use Rattle.aud_typed.specs.declared.program.Statements as sequence
-use Rattle.aud_typed.specs.Ties.View.{plain_integer, plain_text, plain_statement, plain_statements}
+use Rattle.aud_typed.specs.Ties.View.{plain_integer, plain_boolean, plain_text, plain_statement, plain_statements}
 use Rattle.aud_check.specs.declared.fault.Fault.{Fault}
 use Rattle.aud_check.specs.declared.typed.Typed as memory
-use Rattle.aud_check.specs.declared.typed.Typed.TheVariants.{Number, Text, Unknown}
+use Rattle.aud_check.specs.declared.typed.Typed.TheVariants.{Number, Truth, Text, Unknown}
 use Rattle.aud_check.specs.Least.{noted}
-use Rattle.aud_check.specs.Expressions.{Typed, number, string, unknown, Checked}
+use Rattle.aud_check.specs.Expressions.{Typed, number, boolean, string, unknown, Checked}
 use Rattle.aud_check.specs.Statements.{TypedStatements}
+
+-- the operator of a chain in memory
+abbrev pub typed_connective : source.Connective → target.Connective
+typed_connective And = connective.Logical logical.And
+typed_connective Or = connective.Logical logical.Or
+typed_connective Xor = connective.Logical logical.Xor
+typed_connective AndThen = connective.AndThen
+typed_connective OrElse = connective.OrElse
 
 abbrev pub plain_typed : memory.Typed → Typed
 plain_typed (Number e) = number (plain_integer e)
+plain_typed (Truth e) = boolean (plain_boolean e)
 plain_typed (Text t) = string (plain_text t)
 plain_typed Unknown = unknown
 

@@ -201,7 +201,7 @@ pub const TYPES: [Case; 13] = [
             - E33 1:41 wrong type\n- E33 1:44 wrong type\n- E33 1:46 wrong type\n",
     },
     Case {
-        name: "not has no operand that it could have",
+        name: "not asks a Boolean",
         sent: b"LOAD 1\n\
             procedure M is X : Integer; begin X := not 1; end M;\n\
             LOAD 1\n\
@@ -383,15 +383,15 @@ pub const SEVERAL: [Case; 4] = [
 
 /// What the language does not have so far.
 pub const LATER: [Case; 1] = [Case {
-    name: "no predefined names but Integer and Put_Line, no attribute but Image",
+    name: "no Put, no Natural, no variables of type Boolean, no attribute but Image",
     sent: b"LOAD 1\n\
             procedure M is begin Put (\"a\"); end M;\n\
             LOAD 1\n\
             procedure M is X : Natural; begin null; end M;\n\
             LOAD 1\n\
-            procedure M is X : Integer; begin X := True; end M;\n\
+            procedure M is X : Boolean; begin null; end M;\n\
             LOAD 1\n\
             procedure M is X : Integer; begin X := Integer'First; end M;\n",
     written: b"- E30 1:22 name not declared\n- E30 1:20 name not declared\n\
-            - E30 1:40 name not declared\n- E32 1:48 wrong kind of name\n",
+            - E32 1:20 wrong kind of name\n- E32 1:48 wrong kind of name\n",
 }];

@@ -1,8 +1,10 @@
 -- The plain tree of a tree in memory.
 use Rattle.std.specs.Prelude.{List, [], ◌∷◌, Option, Some, None, Box}
 use Rattle.std.specs.Global.{Global}
-use Rattle.aud_syntax.specs.declared.tree.Expression.{Expression, Alone}
-use Rattle.aud_syntax.specs.declared.tree.Relation.{Relation, Unrelated}
+use Rattle.aud_syntax.specs.declared.tree.Expression.{Expression, Alone, Connected'}
+use Rattle.aud_syntax.specs.declared.tree.Chain.{Chain, Row_of-Relation, end_of-Relation, more_of-Relation}
+use Rattle.aud_syntax.specs.declared.tree.Relation.{Relation, Unrelated, Related'}
+use Rattle.aud_syntax.specs.declared.tree.Comparison.{Comparison, Comparison'}
 use Rattle.aud_syntax.specs.declared.tree.Name as name
 use Rattle.aud_syntax.specs.declared.tree.NamePart.{NamePart, Row_of-Expression, end_of-Expression, more_of-Expression}
 use Rattle.aud_syntax.specs.declared.tree.Simple.{Simple, Simple', Row_of-Added, end_of-Added, more_of-Added}
@@ -24,9 +26,18 @@ use Rattle.aud_syntax.specs.Plain as m
 abbrev mutual
   pub plain_expression : Expression → m.Expression
   plain_expression (Alone x) = m.alone (plain_relation x)
+  plain_expression (Connected' _ connective first second _ others) = m.connected connective (plain_relation first) (plain_relation second) (plain_relations others)
+
+  pub plain_relations : {n : _} → Row_of-Relation n → m.Relations
+  plain_relations end_of-Relation = m.no_relations
+  plain_relations (more_of-Relation x xs) = m.more_relations (plain_relation x) (plain_relations xs)
 
   pub plain_relation : Relation → m.Relation
   plain_relation (Unrelated x) = m.unrelated (plain_simple x)
+  plain_relation (Related' _ x) = plain_comparison x
+
+  pub plain_comparison : Comparison → m.Relation
+  plain_comparison (Comparison' operator left right) = m.related operator (plain_simple left) (plain_simple right)
 
   pub plain_simple : Simple → m.Simple
   plain_simple (Simple' sign first _ rest) = m.simple sign (plain_term first) (plain_addeds rest)
@@ -59,6 +70,13 @@ abbrev mutual
   pub plain_args : {n : _} → Row_of-Expression n → m.Args
   plain_args end_of-Expression = m.no_args
   plain_args (more_of-Expression x xs) = m.more_args (plain_expression x) (plain_args xs)
+
+abbrev pub relation_list : List Relation → m.Relations
+relation_list [] = m.no_relations
+relation_list (x ∷ xs) = m.more_relations (plain_relation x) (relation_list xs)
+
+abbrev pub plain_chain : Chain → m.Expression
+plain_chain x = m.connected x.connective (plain_relation x.first) (plain_relation x.second) (relation_list x.others.items)
 
 abbrev pub plain_factor : Factor → m.Factor
 plain_factor x = m.factor x.operator (plain_primary x.primary)

@@ -6,7 +6,7 @@ use Rattle.aud_syntax.specs.declared.tree.Number.{Number}
 use Rattle.aud_syntax.specs.declared.tree.Literal.{Literal}
 use Rattle.aud_syntax.specs.declared.tree.Signed.{Signed}
 use Rattle.aud_syntax.specs.declared.tree.Operator.{Operator}
-use Rattle.aud_syntax.specs.Plain.{Expression, alone, Relation, unrelated, Simple, simple, Addeds, no_addeds, more_addeds, Added, added, Term, term, Multiplieds, no_multiplieds, more_multiplieds, Multiplied, multiplied, Factor, factor, Primary, integer, text, name, attribute, group, MaybeExpression, no_expression, an_expression, Name, named, Parts, no_parts, NamePart, part, Args, no_args, more_args, Declaration, object, Declarations, no_declarations, more_declarations, Statement, null, assign, call, Statements, in_order, MoreStatements, no_statements, more_statements, Body, body, Unit, unit}
+use Rattle.aud_syntax.specs.Plain.{Expression, alone, connected, Relations, no_relations, more_relations, Relation, unrelated, related, Simple, simple, Addeds, no_addeds, more_addeds, Added, added, Term, term, Multiplieds, no_multiplieds, more_multiplieds, Multiplied, multiplied, Factor, factor, Primary, integer, text, name, attribute, group, MaybeExpression, no_expression, an_expression, Name, named, Parts, no_parts, NamePart, part, Args, no_args, more_args, Declaration, object, Declarations, no_declarations, more_declarations, Statement, null, assign, call, Statements, in_order, MoreStatements, no_statements, more_statements, Body, body, Unit, unit}
 
 abbrev pub nowhere : Pos
 nowhere = record { line = 1; col = 1 }
@@ -41,9 +41,15 @@ bare_end (Some x) = Some (bare_ident x)
 abbrev mutual
   pub bare_expression : Expression → Expression
   bare_expression (alone x) = alone (bare_relation x)
+  bare_expression (connected connective x y xs) = connected connective (bare_relation x) (bare_relation y) (bare_relations xs)
+
+  pub bare_relations : Relations → Relations
+  bare_relations no_relations = no_relations
+  bare_relations (more_relations x xs) = more_relations (bare_relation x) (bare_relations xs)
 
   pub bare_relation : Relation → Relation
   bare_relation (unrelated x) = unrelated (bare_simple x)
+  bare_relation (related operator x y) = related operator (bare_simple x) (bare_simple y)
 
   pub bare_simple : Simple → Simple
   bare_simple (simple s t rest) = simple (bare_sign s) (bare_term t) (bare_addeds rest)

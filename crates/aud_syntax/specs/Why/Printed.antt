@@ -15,7 +15,11 @@ use Rattle.aud_syntax.specs.declared.tree.Multiplying.TheVariants as multiplying
 use Rattle.aud_syntax.specs.declared.tree.Highest.{Highest}
 use Rattle.aud_syntax.specs.declared.tree.Highest.TheVariants as highest
 use Rattle.aud_syntax.specs.declared.tree.Operator.{Operator}
-use Rattle.aud_syntax.specs.Plain.{Expression, alone, Relation, unrelated, Simple, simple, Addeds, no_addeds, more_addeds, Added, added, Term, term, Multiplieds, no_multiplieds, more_multiplieds, Multiplied, multiplied, Factor, factor, Primary, integer, text, name, attribute, group, MaybeExpression, no_expression, an_expression, Name, named, no_parts, NamePart, part, Args, no_args, more_args, Declaration, object, Declarations, no_declarations, more_declarations, Statement, null, assign, call, Statements, in_order, MoreStatements, no_statements, more_statements, Body, body, Unit, unit}
+use Rattle.aud_syntax.specs.declared.tree.Relational.{Relational}
+use Rattle.aud_syntax.specs.declared.tree.Relational.TheVariants as relational
+use Rattle.aud_syntax.specs.declared.tree.Connective.{Connective}
+use Rattle.aud_syntax.specs.declared.tree.Connective.TheVariants as connective
+use Rattle.aud_syntax.specs.Plain.{Expression, alone, connected, Relations, no_relations, more_relations, Relation, unrelated, related, Simple, simple, Addeds, no_addeds, more_addeds, Added, added, Term, term, Multiplieds, no_multiplieds, more_multiplieds, Multiplied, multiplied, Factor, factor, Primary, integer, text, name, attribute, group, MaybeExpression, no_expression, an_expression, Name, named, no_parts, NamePart, part, Args, no_args, more_args, Declaration, object, Declarations, no_declarations, more_declarations, Statement, null, assign, call, Statements, in_order, MoreStatements, no_statements, more_statements, Body, body, Unit, unit}
 
 -- a name as the tree has it, in capitals (RM 2.3)
 abbrev pub ident_word : Ident → Word
@@ -69,6 +73,21 @@ abbrev pub operator_words : Option Operator → List Word
 operator_words None = []
 operator_words (Some x) = word (highest_spelling x.highest) ∷ []
 
+abbrev pub relational_spelling : Relational → List ℕ
+relational_spelling relational.Equal = codes "="
+relational_spelling relational.Unequal = codes "/="
+relational_spelling relational.Less = codes "<"
+relational_spelling relational.AtMost = codes "<="
+relational_spelling relational.Greater = codes ">"
+relational_spelling relational.AtLeast = codes ">="
+
+abbrev pub connective_words : Connective → List Word
+connective_words connective.And = word (codes "and") ∷ []
+connective_words connective.Or = word (codes "or") ∷ []
+connective_words connective.Xor = word (codes "xor") ∷ []
+connective_words connective.AndThen = word (codes "and") ∷ word (codes "then") ∷ []
+connective_words connective.OrElse = word (codes "or") ∷ word (codes "else") ∷ []
+
 abbrev pub in_parentheses : List Word → List Word
 in_parentheses ws = word (codes "(") ∷ (ws ++ (word (codes ")") ∷ []))
 
@@ -76,9 +95,15 @@ in_parentheses ws = word (codes "(") ∷ (ws ++ (word (codes ")") ∷ []))
 abbrev mutual
   pub expression_words : Expression → List Word
   expression_words (alone x) = relation_words x
+  expression_words (connected c x y xs) = relation_words x ++ (connective_words c ++ relation_words y) ++ relations_words c xs
+
+  pub relations_words : Connective → Relations → List Word
+  relations_words c no_relations = []
+  relations_words c (more_relations x xs) = (connective_words c ++ relation_words x) ++ relations_words c xs
 
   pub relation_words : Relation → List Word
   relation_words (unrelated x) = simple_words x
+  relation_words (related operator x y) = simple_words x ++ (word (relational_spelling operator) ∷ simple_words y)
 
   pub simple_words : Simple → List Word
   simple_words (simple s t rest) = sign_words s ++ term_words t ++ addeds_words rest
@@ -130,6 +155,10 @@ abbrev mutual
   pub more_args_words : Args → List Word
   more_args_words no_args = []
   more_args_words (more_args e xs) = word (codes ",") ∷ (expression_words e ++ more_args_words xs)
+
+-- a further relation behind the operator
+abbrev pub connected_words : Connective → Relation → List Word
+connected_words c x = connective_words c ++ relation_words x
 
 -- RM 3.3.1
 abbrev pub more_ident_words : List Ident → List Word

@@ -1,15 +1,35 @@
-use Rattle.std.proofs.Common.{◌+◌, drop, arith}
+use Rattle.std.proofs.Common.{◌+◌, drop, arith, subst, sym}
 use Rattle.std.specs.Prelude.{Some}
 use Rattle.aud_check.specs.Names.{visible}
+use Rattle.aud_syntax.specs.declared.tree.Comparison.{out-Comparison}
 use Rattle.aud_syntax.specs.declared.tree.Added.{out-Added}
-use Rattle.aud_syntax.specs.Ties.View.{plain_expression, plain_simple, plain_term, plain_primary, plain_factor}
-use Rattle.aud_check.specs.Expressions.{checked_expression, expression_at, checked_simple, checked_term, checked_factor, checked_primary, adding_operator, arithmetic, multiplying, highest, checked_attribute, term_at, factor_at, primary_at}
-use Rattle.aud_check.specs.Ties.Typing.{plain_typed}
-use Rattle.aud_syntax.proofs.Opened.{added_open}
+use Rattle.aud_syntax.specs.Ties.View.{plain_expression, plain_chain, plain_relation, plain_simple, plain_term, plain_primary, plain_factor}
+use Rattle.aud_check.specs.Expressions.{Typed, Checked, with, checked_expression, expression_at, checked_relation, relation_at, simple_at, relating, connecting, checked_simple, checked_term, checked_factor, checked_primary, adding_operator, arithmetic, multiplying, highest, checked_attribute, term_at, factor_at, primary_at}
+use Rattle.aud_check.specs.Ties.Typing.{plain_typed, Shows}
+use Rattle.aud_syntax.proofs.Opened.{chain_open, comparison_open, added_open}
 use Rattle.aud_syntax.proofs.Written.{dropped}
-use Rattle.aud_check.proofs.Opened.{term_ahead, multiplied_ahead, simple_ahead, added_ahead}
+use Rattle.aud_check.proofs.Opened.{chain_ahead, further_ahead, term_ahead, multiplied_ahead, simple_ahead, added_ahead}
 use Rattle.aud_check.proofs.Notes.{shows_with}
 use Rattle.aud_check.proofs.expression.+expression.Goals as goal
+
+pub expression-returns-in-Connected : goal.expression-returns-in-Connected
+expression-returns-in-Connected t c = rw c.in-Connected.is (subst (λ z. Shows c.chain.result c.args.faults.now c.chain.new.faults (checked_expression z c.args.scope.now)) (sym (chain_open c.in-Connected.relations)) (rw c.deref.ensures at c.chain.ensures))
+
+pub chain-loop-next-init : goal.chain-loop-next-init
+chain-loop-next-init t c = chain_ahead c.args.chain.now c.args.scope.now c.args.faults.now c.relation.new.faults c.further.new.faults c.in_ok-first.first c.in_ok-left.left c.relation_at-at.result c.deref-next-items.result.now c.relation_at-at.ensures c.deref-next-items.ensures.value c.in_ok-first.ensures c.in_ok-left.ensures
+
+pub chain-loop-next-preserved : goal.chain-loop-next-preserved
+chain-loop-next-preserved t c = further_ahead c.args.scope.now c.args.faults.now c.loop-next.faults c.further-in-loop-next.new.faults (checked_expression (plain_chain c.args.chain.now) c.args.scope.now) c.args.chain.now.connective c.next-item.result (drop c.loop-next.next-index c.deref-next-items.result.now) (drop (c.loop-next.next-index + 1) c.deref-next-items.result.now) c.relation_at-at.result (plain_typed c.loop-next.left) c.in_ok-left-2.left (dropped c.deref-next-items.result.now c.loop-next.next-index c.next-item.result (omega arith) c.next-item.is) c.loop-next.invariant c.in_ok-left-2.ensures
+
+pub further-returns : goal.further-returns
+further-returns t c = shows_with c.args.faults.now c.relation.new.faults c.connecting.new.faults (checked_relation (plain_relation c.args.next.now) c.args.scope.now) (λ right. connecting c.args.connective c.args.at (plain_typed c.args.left) (relation_at (plain_relation c.args.next.now)) right) c.in_ok-right.right c.connecting.result c.in_ok-right.ensures (rw c.relation_at.ensures at c.connecting.ensures)
+
+pub comparison-returns : goal.comparison-returns
+comparison-returns t c =
+    let x = out-Comparison c.args.comparison.now in
+    let last : Typed → Typed → Checked = λ left right. relating x.operator (simple_at (plain_simple x.left)) left (simple_at (plain_simple x.right)) right in
+    rw (comparison_open c.args.comparison.now) (shows_with c.args.faults.now c.simple.new.faults c.relating.new.faults (checked_simple (plain_simple x.left) c.args.scope.now) (λ left. with (checked_simple (plain_simple x.right) c.args.scope.now) (last left)) c.in_ok-left.left c.relating.result c.in_ok-left.ensures
+    (shows_with c.simple.new.faults c.simple-2.new.faults c.relating.new.faults (checked_simple (plain_simple x.right) c.args.scope.now) (last (plain_typed c.in_ok-left.left)) c.in_ok-right.right c.relating.result c.in_ok-right.ensures (rw (c.simple_at.ensures, c.simple_at-2.ensures) at c.relating.ensures)))
 
 pub added-returns : goal.added-returns
 added-returns t c = rw added_open (shows_with c.args.faults.now c.term.new.faults c.adding_operator.new.faults (checked_term (plain_term (out-Added c.args.added.now).term) c.args.scope.now) (λ right. adding_operator (out-Added c.args.added.now).operator c.args.at (plain_typed c.args.left) (term_at (plain_term (out-Added c.args.added.now).term)) right) c.in_ok-right.right c.adding_operator.result c.in_ok-right.ensures (rw c.term_at.ensures at c.adding_operator.ensures))

@@ -1,10 +1,13 @@
 use Rattle.std.proofs.Common.{drop}
-use Rattle.aud_syntax.specs.Ties.View.{plain_simple, plain_term}
-use Rattle.aud_check.specs.Expressions.{checked_simple, checked_term, checked_addeds, checked_multiplieds}
+use Rattle.aud_syntax.specs.Ties.View.{plain_chain, relation_list, plain_simple, plain_term}
+use Rattle.aud_check.specs.Expressions.{checked_expression, checked_relations, checked_simple, checked_term, checked_addeds, checked_multiplieds}
 use Rattle.aud_check.specs.Ties.Typing.{plain_typed}
 use Rattle.aud_check.proofs.Notes.{Ahead}
 use Rattle.aud_syntax.proofs.Opened.{added_list, multiplied_list}
 use Rattle.aud_check.proofs.expression.+expression.Given as goal
+
+abbrev pub invariant-chain-loop-next : goal.invariant-chain-loop-next
+invariant-chain-loop-next l = Ahead l.faults (checked_relations (relation_list (drop l.next-index l.next-items)) l.scope l.chain.connective l.at (plain_typed l.left)) l.fn.faults (checked_expression (plain_chain l.fn.chain) l.fn.scope)
 
 abbrev pub invariant-simple-loop-next : goal.invariant-simple-loop-next
 invariant-simple-loop-next l = Ahead l.faults (checked_addeds (added_list (drop l.next-index l.next-items)) l.scope l.at (plain_typed l.left)) l.fn.faults (checked_simple (plain_simple l.fn.e) l.fn.scope)

@@ -2,13 +2,36 @@ use Rattle.std.proofs.Common.{◌+◌, ◌++◌, ◌∷◌, [], ◌∙◌, sym, 
 use Rattle.std.specs.Prelude.{Some, codes}
 use Rattle.std.proofs.lemmas.List.{drop_all}
 use Rattle.aud_lex.specs.Why.Spaced.{word}
+use Rattle.aud_syntax.specs.declared.tree.Comparison.{out-Comparison}
 use Rattle.aud_syntax.specs.declared.tree.Simple.{out-Simple}
 use Rattle.aud_syntax.specs.declared.tree.Term.{out-Term}
-use Rattle.aud_syntax.specs.Ties.View.{plain_expression, plain_simple, plain_added, plain_term, plain_multiplied, plain_factor}
-use Rattle.aud_syntax.specs.Why.Printed.{expression_words, sign_words, simple_words, addeds_words, added_words, term_words, multiplieds_words, multiplied_words, factor_words}
-use Rattle.aud_syntax.proofs.Opened.{added_list, multiplied_list, simple_open, term_open}
-use Rattle.aud_syntax.proofs.Written.{both_written, all_written, next_written, loop_begins, dropped, argument_written, arguments_end, name_written, attribute_written, attribute_alone}
+use Rattle.aud_syntax.specs.Ties.View.{plain_expression, relation_list, plain_chain, plain_relation, plain_simple, plain_added, plain_term, plain_multiplied, plain_factor}
+use Rattle.aud_syntax.specs.Why.Printed.{expression_words, relations_words, connected_words, relation_words, relational_spelling, sign_words, simple_words, addeds_words, added_words, term_words, multiplieds_words, multiplied_words, factor_words}
+use Rattle.aud_syntax.proofs.Opened.{added_list, multiplied_list, comparison_open, simple_open, term_open}
+use Rattle.aud_syntax.proofs.Written.{both_written, all_written, next_written, loop_begins, dropped, argument_written, arguments_end, chain_written, name_written, attribute_written, attribute_alone}
 use Rattle.aud_syntax.proofs.print.+print.Goals as goal
+
+pub push_expression-returns-in-Connected : goal.push_expression-returns-in-Connected
+push_expression-returns-in-Connected t c = rw c.in-Connected.is (chain_written c.push_chain.result c.args.out.now.items c.push_chain.new.out.items c.in-Connected.chain (rw c.deref.ensures at c.push_chain.ensures))
+
+pub push_chain-loop-next-init : goal.push_chain-loop-next-init
+push_chain-loop-next-init t c =
+    let x = c.args.chain.now in
+    loop_begins c.args.out.now.items c.push_connected.new.out.items (relation_words (plain_relation x.first) ++ connected_words x.connective (plain_relation x.second)) (relations_words x.connective (relation_list x.others.items)) (relations_words x.connective (relation_list c.deref-next-items.result.now)) (expression_words (plain_chain x))
+    (ap (λ z. relations_words x.connective (relation_list z)) c.deref-next-items.ensures.value)
+    refl
+    (both_written c.args.out.now.items c.push_relation.new.out.items c.push_connected.new.out.items (relation_words (plain_relation x.first)) (connected_words x.connective (plain_relation x.second)) c.in_ok-push_relation.ensures c.in_ok-push_connected.ensures)
+
+pub push_chain-loop-next-preserved : goal.push_chain-loop-next-preserved
+push_chain-loop-next-preserved t c =
+    next_written (λ xs. relations_words c.args.chain.now.connective (relation_list xs)) (λ x. connected_words c.args.chain.now.connective (plain_relation x)) (λ x xs. refl) c.deref-next-items.result.now c.loop-next.next-index c.next-item.result (omega arith) c.next-item.is c.loop-next.out.items c.push_connected-in-loop-next.new.out.items _ c.loop-next.invariant c.in_ok-push_connected-2.ensures
+
+pub push_comparison-returns : goal.push_comparison-returns
+push_comparison-returns t c =
+    let x = out-Comparison c.args.comparison.now in
+    rw (comparison_open c.args.comparison.now)
+    (all_written c.push_simple-2.result c.args.out.now.items c.push_simple.new.out.items c.push_simple-2.new.out.items (simple_words (plain_simple x.left)) (word (relational_spelling x.operator) ∷ simple_words (plain_simple x.right)) c.in_ok-push_simple.ensures
+    (all_written c.push_simple-2.result c.push_simple.new.out.items c.push_relational.new.out.items c.push_simple-2.new.out.items (word (relational_spelling x.operator) ∷ []) (simple_words (plain_simple x.right)) c.in_ok-push_relational.ensures c.push_simple-2.ensures))
 
 pub push_simple-loop-next-init : goal.push_simple-loop-next-init
 push_simple-loop-next-init t c =

@@ -1,11 +1,14 @@
 use Rattle.std.proofs.Common.{◌≡◌, ◌++◌, drop}
 use Rattle.aud_lex.specs.Why.Spaced.{spaced}
-use Rattle.aud_syntax.specs.Ties.View.{plain_simple, plain_term, plain_expressions}
-use Rattle.aud_syntax.specs.Why.Printed.{simple_words, addeds_words, term_words, multiplieds_words}
+use Rattle.aud_syntax.specs.Ties.View.{relation_list, plain_chain, plain_simple, plain_term, plain_expressions}
+use Rattle.aud_syntax.specs.Why.Printed.{expression_words, relations_words, simple_words, addeds_words, term_words, multiplieds_words}
 use Rattle.aud_syntax.proofs.Opened.{added_list, multiplied_list}
 use Rattle.std.specs.Prelude.{codes}
 use Rattle.aud_syntax.proofs.Written.{listed}
 use Rattle.aud_syntax.proofs.print.+print.Given as goal
+
+abbrev pub invariant-push_chain-loop-next : goal.invariant-push_chain-loop-next
+invariant-push_chain-loop-next l = l.out.items ++ spaced (relations_words l.chain.connective (relation_list (drop l.next-index l.next-items))) ≡ l.fn.out.items ++ spaced (expression_words (plain_chain l.fn.chain))
 
 abbrev pub invariant-push_simple-loop-next : goal.invariant-push_simple-loop-next
 invariant-push_simple-loop-next l = l.out.items ++ spaced (addeds_words (added_list (drop l.next-index l.next-items))) ≡ l.fn.out.items ++ spaced (simple_words (plain_simple l.fn.simple))
