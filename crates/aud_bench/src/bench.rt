@@ -37,7 +37,6 @@ pub struct Work {
 }
 
 /// A private server: the requests of one user in order, of which the first ones are answered.
-#[derive(Drop)]
 pub struct Bench {
     limits: Limits,
     journal: Vec<Request>,
@@ -51,6 +50,23 @@ pub struct Bench {
     progress: u32,
     quit: bool,
     spent: bool,
+}
+
+// One call wherever it is dropped.
+impl Drop for Bench {
+    fn drop(self) {
+        let Bench {
+            limits: _,
+            journal: _,
+            bytes: _,
+            answers: _,
+            finished: _,
+            machine: _,
+            progress: _,
+            quit: _,
+            spent: _,
+        } = self;
+    }
 }
 
 impl Model for Bench {

@@ -21,13 +21,25 @@ use std::alloc::{AllocError, Global};
 use std::marker::Model;
 
 /// A program under way. Where memory is refused to it, it is spent, and then refuses each call that might need more.
-#[derive(Drop)]
 pub struct Machine {
     program: Program,
     code: SoundCode,
     limits: Limits,
     progress: Progress,
     spent: bool,
+}
+
+// One call wherever it is dropped.
+impl Drop for Machine {
+    fn drop(self) {
+        let Machine {
+            program: _,
+            code: _,
+            limits: _,
+            progress: _,
+            spent: _,
+        } = self;
+    }
 }
 
 impl Model for Machine {

@@ -69,7 +69,6 @@ pub enum Stage {
 
 /// Where the program stands in its code and how far it is, with how many variables are elaborated; all frames, the output,
 /// the choices that wait, the time on its clock, and the steps taken.
-#[derive(Drop)]
 pub struct Progress {
     place: usize,
     stage: Stage,
@@ -80,6 +79,23 @@ pub struct Progress {
     choices: VecDeque<u32>,
     clock: u64,
     steps: u32,
+}
+
+// One call wherever it is dropped.
+impl Drop for Progress {
+    fn drop(self) {
+        let Progress {
+            place: _,
+            stage: _,
+            elaborated: _,
+            frames: _,
+            output: _,
+            cut: _,
+            choices: _,
+            clock: _,
+            steps: _,
+        } = self;
+    }
 }
 
 impl Model for Progress {

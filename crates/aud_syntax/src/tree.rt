@@ -208,7 +208,6 @@ pub struct Identifiers {
 }
 
 /// A declaration (RM 3.1).
-#[derive(Drop)]
 pub enum Declaration {
     /// Variables, their subtype and their initial value (RM 3.3.1).
     Object(Identifiers, Ident, Option<Expression>),
@@ -232,7 +231,6 @@ pub struct Statements {
 }
 
 /// A body's statements (RM 11.2(2)), where they begin and end, and the name after `end`.
-#[derive(Drop)]
 pub struct Body {
     pub begin: Pos,
     pub statements: Statements,
@@ -241,11 +239,40 @@ pub struct Body {
 }
 
 /// A program: its main procedure (RM 10.1.1).
-#[derive(Drop)]
 pub struct Unit {
     /// Where its first word stands.
     pub at: Pos,
     pub name: Ident,
     pub declarations: Vec<Declaration>,
     pub body: Body,
+}
+
+// A drop of its own is one call wherever such a tree is dropped; a derived one would be its parts' drops, each time anew.
+
+impl Drop for Declaration {
+    fn drop(self) {
+        let Declaration::Object(_, _, _) = self;
+    }
+}
+
+impl Drop for Body {
+    fn drop(self) {
+        let Body {
+            begin: _,
+            statements: _,
+            end: _,
+            name: _,
+        } = self;
+    }
+}
+
+impl Drop for Unit {
+    fn drop(self) {
+        let Unit {
+            at: _,
+            name: _,
+            declarations: _,
+            body: _,
+        } = self;
+    }
 }

@@ -190,8 +190,8 @@ pub struct Statements {
     pub others: Vec<Statement>,
 }
 
-/// A typed program: its main procedure, whose variables are Integers.
-#[derive(Drop, Debug)]
+/// A typed program: its main procedure.
+#[derive(Debug)]
 pub struct Program {
     pub name: Name,
     /// Where its first word stands.
@@ -205,4 +205,19 @@ pub struct Program {
     pub statements: Statements,
     /// Where the `end` of its body stands.
     pub end: Pos,
+}
+
+// A drop of its own is one call wherever a program is dropped; a derived one would be its parts' drops, each time anew.
+impl Drop for Program {
+    fn drop(self) {
+        let Program {
+            name: _,
+            at: _,
+            variables: _,
+            declarations: _,
+            begin: _,
+            statements: _,
+            end: _,
+        } = self;
+    }
 }
