@@ -6,8 +6,10 @@ use Rattle.aud_lex.specs.Element.{Element}
 use Rattle.aud_syntax.specs.declared.tree.Ident.{Ident}
 use Rattle.aud_syntax.specs.declared.tree.Sign.TheVariants as sign
 use Rattle.aud_syntax.specs.declared.tree.Highest.TheVariants as highest
+use Rattle.aud_syntax.specs.declared.tree.Connective.{Connective}
+use Rattle.aud_syntax.specs.declared.tree.Connective.TheVariants as connective
 use Rattle.aud_syntax.specs.Plain as m
-use Rattle.aud_syntax.specs.Why.Bare.{nowhere, bare_ident, bare_number, bare_literal, bare_signed, bare_operator, bare_sign, bare_highest, bare_end, bare_expression, bare_relation, bare_name, bare_part, bare_args, bare_simple, bare_addeds, bare_added, bare_term, bare_multiplieds, bare_multiplied, bare_factor, bare_primary, bare_maybe, bare_declaration, bare_declarations, bare_statement, bare_more_statements, bare_statements, bare_body, bare}
+use Rattle.aud_syntax.specs.Why.Bare.{nowhere, bare_ident, bare_number, bare_literal, bare_signed, bare_operator, bare_sign, bare_highest, bare_end, bare_expression, bare_relation, bare_relations, bare_name, bare_part, bare_args, bare_simple, bare_addeds, bare_added, bare_term, bare_multiplieds, bare_multiplied, bare_factor, bare_primary, bare_maybe, bare_declaration, bare_declarations, bare_statement, bare_more_statements, bare_statements, bare_body, bare}
 use Rattle.aud_parse.specs.Grammar as g
 use Rattle.aud_parse.specs.Grammar.{Phrase, Symbol, T, P, N, L, Down, A, Opt, Rep, rule}
 use Rattle.aud_parse.specs.Actions as a
@@ -39,7 +41,10 @@ bare_item (a.a_multiplied x) = a.a_multiplied (bare_multiplied x)
 bare_item (a.a_term x) = a.a_term (bare_term x)
 bare_item (a.an_added x) = a.an_added (bare_added x)
 bare_item (a.a_simple x) = a.a_simple (bare_simple x)
+bare_item (a.a_relational x) = a.a_relational x
+bare_item (a.a_compared operator x) = a.a_compared operator (bare_simple x)
 bare_item (a.a_relation x) = a.a_relation (bare_relation x)
+bare_item (a.a_chain operator x xs) = a.a_chain operator (bare_relation x) (bare_relations xs)
 bare_item (a.an_expression x) = a.an_expression (bare_expression x)
 bare_item (a.assigned x) = a.assigned (bare_expression x)
 bare_item (a.called x) = a.called (bare_args x)
@@ -127,6 +132,10 @@ bare_the_simple : (x : Item) → a.the_simple (bare_item x) ≡ bare_simple (a.t
 bare_the_simple (a.a_simple y) = refl
 bare_the_simple _ = refl
 
+bare_the_relational : (x : Item) → a.the_relational (bare_item x) ≡ a.the_relational x
+bare_the_relational (a.a_relational y) = refl
+bare_the_relational _ = refl
+
 bare_the_relation : (x : Item) → a.the_relation (bare_item x) ≡ bare_relation (a.the_relation x)
 bare_the_relation (a.a_relation y) = refl
 bare_the_relation _ = refl
@@ -179,6 +188,10 @@ bare_the_addeds : (x : Item) → a.the_addeds (bare_item x) ≡ bare_addeds (a.t
 bare_the_addeds (cons x y) = cc (bare_the_added x, bare_the_addeds y)
 bare_the_addeds _ = refl
 
+bare_the_relations : (x : Item) → a.the_relations (bare_item x) ≡ bare_relations (a.the_relations x)
+bare_the_relations (cons x y) = cc (bare_the_relation x, bare_the_relations y)
+bare_the_relations _ = refl
+
 bare_more : (x : Item) → a.more_statements (bare_item x) ≡ bare_more_statements (a.more_statements x)
 bare_more (cons x y) = cc (bare_the_statement x, bare_more y)
 bare_more _ = refl
@@ -202,6 +215,14 @@ bare_the_declarations _ = refl
 bare_with_attribute : (n : m.Name) (x : Item) → a.with_attribute (bare_name n) (bare_item x) ≡ bare_primary (a.with_attribute n x)
 bare_with_attribute n (a.an_attribute j e) = refl
 bare_with_attribute n _ = refl
+
+bare_compared : (x : m.Simple) (y : Item) → a.compared (bare_simple x) (bare_item y) ≡ bare_relation (a.compared x y)
+bare_compared x (a.a_compared operator y) = refl
+bare_compared x _ = refl
+
+bare_connected : (x : m.Relation) (y : Item) → a.connected (bare_relation x) (bare_item y) ≡ bare_expression (a.connected x y)
+bare_connected x (a.a_chain operator y ys) = refl
+bare_connected x _ = refl
 
 bare_begun : (i : Ident) (x : Item) → a.begun (bare_ident i) (bare_item x) ≡ bare_statement (a.begun i x)
 bare_begun i (a.assigned e) = refl
@@ -241,6 +262,9 @@ made_4 f h st =
     let three : List Item = pop two in
     cc (h (top st) (top one) (top two) (top three), bare_top st, bare_pop st, bare_top one, bare_pop one, bare_top two, bare_pop two, bare_top three, bare_pop three)
 
+bare_chained : (operator : Connective) (st : List Item) → bares (a.chained operator st) ≡ a.chained operator (bares st)
+bare_chained operator = made_2 (λ x y. a.a_chain operator (a.the_relation x) (a.the_relations y)) (λ x y. cc (bare_the_relation x, bare_the_relations y))
+
 pub bare_listed : (st : List Item) → bares (listed st) ≡ listed (bares st)
 bare_listed = made_2 cons (λ x y. refl)
 
@@ -262,8 +286,20 @@ bare_made g.NullStatement e = made_1 (λ x. a.a_statement (m.null (a.place x))) 
 bare_made g.NameStatement e = made_2 (λ x y. a.a_statement (a.begun (a.the_ident x) y)) (λ x y. cc (bare_the_ident x, bare_begun (a.the_ident x) y))
 bare_made g.Assignment e = made_1 (λ x. a.assigned (a.the_expression x)) (λ x. cc (bare_the_expression x))
 bare_made g.Call e = made_1 (λ x. a.called (a.the_args x)) (λ x. cc (bare_the_args x))
-bare_made g.Expression e = made_1 (λ x. a.an_expression (m.alone (a.the_relation x))) (λ x. cc (bare_the_relation x))
-bare_made g.Relation e = made_1 (λ x. a.a_relation (m.unrelated (a.the_simple x))) (λ x. cc (bare_the_simple x))
+bare_made g.Expression e = made_2 (λ x y. a.an_expression (a.connected (a.the_relation x) y)) (λ x y. cc (bare_the_relation x, bare_connected (a.the_relation x) y))
+bare_made g.AndThen e = bare_chained connective.AndThen
+bare_made g.AndOnly e = bare_chained connective.And
+bare_made g.OrElse e = bare_chained connective.OrElse
+bare_made g.OrOnly e = bare_chained connective.Or
+bare_made g.XorLogic e = bare_chained connective.Xor
+bare_made g.Relation e = made_2 (λ x y. a.a_relation (a.compared (a.the_simple x) y)) (λ x y. cc (bare_the_simple x, bare_compared (a.the_simple x) y))
+bare_made g.Compared e = made_2 (λ x y. a.a_compared (a.the_relational x) (a.the_simple y)) (λ x y. cc (bare_the_relational x, bare_the_simple y))
+bare_made g.Equal e = λ st. refl
+bare_made g.Unequal e = λ st. refl
+bare_made g.Less e = λ st. refl
+bare_made g.AtMost e = λ st. refl
+bare_made g.Greater e = λ st. refl
+bare_made g.AtLeast e = λ st. refl
 bare_made g.Simple e = made_3 (λ x y z. a.a_simple (m.simple (a.opt_sign x) (a.the_term y) (a.the_addeds z))) (λ x y z. cc (bare_opt_sign x, bare_the_term y, bare_the_addeds z))
 bare_made g.Positive e = made_1 (λ x. a.a_sign (record { sign = sign.Plus; at = a.place x })) (λ x. ap (λ (z : Pos). a.a_sign (record { sign = sign.Plus; at = z })) (bare_place x))
 bare_made g.Negative e = made_1 (λ x. a.a_sign (record { sign = sign.Minus; at = a.place x })) (λ x. ap (λ (z : Pos). a.a_sign (record { sign = sign.Minus; at = z })) (bare_place x))

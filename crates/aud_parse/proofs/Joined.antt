@@ -18,7 +18,7 @@ comes_with : {s0 : Symbol} {c : Kind} {r : ℕ} (start mid : Rest) {f : List Ite
 comes_with {r = r} start mid x (Ok p) e before is = λ k ds v o. to (before k ds v (e.reads.1 r k ds v o)) (is ds ∙ ap (λ t. x t ∷ ds) (sym e.reads.0))
 comes_with {r = r} start mid x (Err e) h before is = fails_through {K = λ k. k} e (h.reads r) before
 
-fewer_still : {X : Type 0} (start mid : Rest) (res : Result (X × Rest) Fault) → IfOk res (λ p. Fewer p.1 mid) → NoMore mid start → IfOk res (λ p. Fewer p.1 start)
+pub fewer_still : {X : Type 0} (start mid : Rest) (res : Result (X × Rest) Fault) → IfOk res (λ p. Fewer p.1 mid) → NoMore mid start → IfOk res (λ p. Fewer p.1 start)
 fewer_still start mid (Ok p) h m = omega (arith, h, m)
 fewer_still start mid (Err e) h m = tt
 

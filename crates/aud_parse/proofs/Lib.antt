@@ -9,6 +9,7 @@ pub mod Total
 pub mod Spelled
 pub mod Passing
 pub mod Joined
+pub mod Connecting
 pub mod Parentheses
 pub mod Rolls
 pub mod Verdicts

@@ -13,10 +13,14 @@ use Rattle.aud_syntax.specs.declared.tree.Term.{Term, roll-Term, rolls-Term', Ro
 use Rattle.aud_syntax.specs.declared.tree.Multiplied.{Multiplied}
 use Rattle.aud_syntax.specs.declared.tree.Factor.{Factor}
 use Rattle.aud_syntax.specs.declared.tree.Expression.{Expression}
+use Rattle.aud_syntax.specs.declared.tree.Expression.TheVariants.{Connected}
+use Rattle.aud_syntax.specs.declared.tree.Connective.{Connective}
+use Rattle.aud_syntax.specs.declared.tree.Chain.{Chain}
+use Rattle.aud_syntax.specs.declared.tree.Relation.{Relation}
 use Rattle.aud_syntax.specs.declared.tree.Name.{Name}
 use Rattle.aud_syntax.specs.declared.tree.Primary as primary
 use Rattle.aud_syntax.specs.declared.tree.Primary.{Primary}
-use Rattle.aud_syntax.proofs.Opened.{name_open, attribute_open}
+use Rattle.aud_syntax.proofs.Opened.{chain_open, name_open, attribute_open}
 use Rattle.aud_syntax.specs.declared.tree.Expression.TheBlock.{hidden-the_row-Multiplied-3, hidden-the_row-Added-2}
 use Rattle.aud_syntax.specs.declared.tree.Declaration.{Declaration}
 use Rattle.aud_syntax.specs.declared.tree.Declaration.TheVariants as declaration
@@ -25,10 +29,10 @@ use Rattle.aud_syntax.specs.declared.tree.Statement.{Statement}
 use Rattle.aud_syntax.specs.declared.tree.Statements.{Statements}
 use Rattle.aud_syntax.specs.declared.tree.Body.{Body}
 use Rattle.aud_syntax.specs.Plain as m
-use Rattle.aud_syntax.specs.Ties.View.{plain_name, plain_primary, plain_factor, plain_multiplieds, plain_term, plain_added, plain_addeds, plain_simple, plain_maybe, plain_declaration, plain_declarations, plain_others, plain_statements, plain_statement, plain_body}
+use Rattle.aud_syntax.specs.Ties.View.{plain_name, plain_primary, plain_factor, plain_multiplieds, plain_term, plain_added, plain_addeds, plain_simple, plain_expression, plain_relation, relation_list, plain_chain, plain_maybe, plain_declaration, plain_declarations, plain_others, plain_statements, plain_statement, plain_body}
 use Rattle.aud_parse.specs.Grammar as g
-use Rattle.aud_parse.specs.Actions.{Item, made, none, with_attribute, place, an_ident, a_sign, an_operator, a_primary, a_factor, some_names, some_statements, a_declaration, a_body, a_unit, the_idents, the_declarations, more_statements, opt_ident, opt_expression, opt_sign, opt_operator, the_multiplieds, the_addeds}
-use Rattle.aud_parse.specs.Ties.Items.{list_item, opt_item, name_item, attribute_item, factor_item, multiplied_item, primary_item, added_item, expression_item, names_item, declaration_item, statement_item, statements_item, body_item, unit_item}
+use Rattle.aud_parse.specs.Actions.{Item, made, none, with_attribute, place, an_ident, a_sign, an_operator, a_primary, a_factor, an_expression, chained, some_names, some_statements, a_declaration, a_body, a_unit, the_idents, the_declarations, more_statements, opt_ident, opt_expression, opt_sign, opt_operator, the_multiplieds, the_addeds, the_relations}
+use Rattle.aud_parse.specs.Ties.Items.{list_item, opt_item, name_item, attribute_item, factor_item, multiplied_item, primary_item, added_item, relation_item, expression_item, boxed_item, names_item, declaration_item, statement_item, statements_item, body_item, unit_item}
 
 pub multiplied_rows : (n : _) (row : Row_of-Multiplied n) → plain_multiplieds row ≡ the_multiplieds (list_item multiplied_item (items-the_row-Multiplied n row))
 multiplied_rows n end_of-Multiplied = refl
@@ -57,6 +61,18 @@ opt_operator_is (Some x) = refl
 
 pub factor_items : (s : Option Operator) (p : Primary) (ds : List Item) → made g.Factor (opt_item an_operator s ∷ primary_item p ∷ ds) ≡ factor_item (record { operator = s; primary = p }) ∷ ds
 factor_items s p ds = ap (λ z. a_factor (m.factor z (plain_primary p)) ∷ ds) (opt_operator_is s)
+
+relations_items : (xs : List Relation) → the_relations (list_item relation_item xs) ≡ relation_list xs
+relations_items [] = refl
+relations_items (x ∷ xs) = ap (λ z. m.more_relations (plain_relation x) z) (relations_items xs)
+
+pub chain_items : (b : Box Expression Global) (x : Box Chain Global) (operator : Connective) (first second : Relation) (v : Vec Relation Global) (ds : List Item) → b.value ≡ Connected x →
+    x.value ≡ record { connective = operator; first = first; second = second; others = v } → made g.Expression (relation_item first ∷ chained operator (relation_item second ∷ list_item relation_item v.items ∷ ds)) ≡ boxed_item b ∷ ds
+chain_items b x operator first second v ds h i =
+    ap (λ z. an_expression (m.connected operator (plain_relation first) (plain_relation second) z) ∷ ds) (relations_items v.items)
+    ∙ ap (λ (z : Chain). an_expression (plain_chain z) ∷ ds) (sym i)
+    ∙ ap (λ z. an_expression z ∷ ds) (sym (chain_open x))
+    ∙ ap (λ z. an_expression (plain_expression z) ∷ ds) (sym h)
 
 pub name_items : (b : Box Name Global) (x : Name) (ds : List Item) → b.value ≡ x → made g.Named (name_item x ∷ none ∷ ds) ≡ primary_item (primary.Name b) ∷ ds
 name_items b x ds h = ap (λ z. a_primary (m.name (plain_name z)) ∷ ds) (sym h) ∙ ap (λ z. a_primary z ∷ ds) (sym (name_open b))

@@ -1,6 +1,6 @@
 -- Small texts are read by computing.
 use Rattle.std.proofs.Common.{refl}
-use Rattle.aud_parse.specs.Why.Rows.{Programs, Declarations, Statements, Primaries, Operators, WrongPrograms, WrongDeclarations, WrongStatements, WrongExpressions, FewLevels, AllLevels}
+use Rattle.aud_parse.specs.Why.Rows.{Programs, Declarations, Statements, Primaries, Operators, Comparisons, Logic, WrongPrograms, WrongDeclarations, WrongStatements, WrongExpressions, WrongLogic, FewLevels, AllLevels}
 
 pub programs : Programs
 programs = (refl, refl, refl, refl, refl)
@@ -17,6 +17,12 @@ primaries = (refl, refl, refl, refl, refl, refl, refl, refl, refl, refl, refl)
 pub operators : Operators
 operators = (refl, refl, refl, refl, refl, refl, refl, refl, refl, refl, refl, refl, refl, refl)
 
+pub comparisons : Comparisons
+comparisons = (refl, refl, refl, refl, refl, refl, refl, refl)
+
+pub logic : Logic
+logic = (refl, refl, refl, refl, refl, refl, refl, refl, refl, refl, refl, refl, refl)
+
 pub wrong_programs : WrongPrograms
 wrong_programs = (refl, refl, refl, refl, refl, refl, refl, refl, refl, refl, refl, refl, refl, refl)
 
@@ -27,10 +33,13 @@ pub wrong_statements : WrongStatements
 wrong_statements = (refl, refl, refl, refl, refl, refl, refl, refl, refl, refl, refl, refl)
 
 pub wrong_expressions : WrongExpressions
-wrong_expressions = (refl, refl, refl, refl, refl, refl, refl, refl, refl, refl, refl, refl, refl, refl, refl, refl, refl, refl, refl, refl, refl)
+wrong_expressions = (refl, refl, refl, refl, refl, refl, refl, refl, refl, refl, refl, refl, refl, refl, refl, refl, refl, refl, refl, refl, refl, refl, refl, refl, refl)
+
+pub wrong_logic : WrongLogic
+wrong_logic = (refl, refl, refl, refl, refl, refl, refl, refl, refl, refl, refl, refl, refl, refl, refl, refl, refl, refl, refl)
 
 pub few_levels : FewLevels
-few_levels = (refl, refl, refl, refl, refl, refl, refl, refl, refl, refl, refl, refl)
+few_levels = (refl, refl, refl, refl, refl, refl, refl, refl, refl, refl, refl, refl, refl, refl)
 
 pub all_levels : AllLevels
 all_levels = (refl, refl)

@@ -16,10 +16,14 @@ use Rattle.aud_syntax.specs.declared.tree.Signed.{Signed}
 use Rattle.aud_syntax.specs.declared.tree.Adding.{Adding}
 use Rattle.aud_syntax.specs.declared.tree.Multiplying.{Multiplying}
 use Rattle.aud_syntax.specs.declared.tree.Operator.{Operator}
+use Rattle.aud_syntax.specs.declared.tree.Relational.{Relational}
+use Rattle.aud_syntax.specs.declared.tree.Connective.{Connective}
 use Rattle.aud_syntax.specs.declared.tree.Sign.TheVariants as sign
 use Rattle.aud_syntax.specs.declared.tree.Adding.TheVariants as adding
 use Rattle.aud_syntax.specs.declared.tree.Multiplying.TheVariants as multiplying
 use Rattle.aud_syntax.specs.declared.tree.Highest.TheVariants as highest
+use Rattle.aud_syntax.specs.declared.tree.Relational.TheVariants as relational
+use Rattle.aud_syntax.specs.declared.tree.Connective.TheVariants as connective
 use Rattle.aud_syntax.specs.Plain as m
 use Rattle.aud_syntax.specs.Why.Printed as w
 use Rattle.aud_parse.specs.Grammar as g
@@ -36,8 +40,10 @@ use Rattle.aud_parse.proofs.Places.{is_code}
 -- the sorts of trees
 data Sort : Type 0 where
   s_unit s_declarations s_declaration s_idents s_more_ident s_initial s_body s_statements s_statement s_rest : Sort
-  s_expression s_relation s_simple s_sign s_added s_adding s_term s_multiplied s_multiplying s_factor s_operator : Sort
+  s_expression s_logic s_and_rest s_or_rest s_relation s_compared s_relational s_simple s_sign s_added s_adding s_term s_multiplied s_multiplying s_factor s_operator : Sort
   s_primary s_attribute s_parens s_name s_part s_args s_ident s_number s_literal : Sort
+  -- a further relation behind this operator
+  s_more_relation : Connective → Sort
 
 abbrev sort : Phrase → Sort
 sort g.Unit = s_unit
@@ -57,7 +63,30 @@ sort g.NameRest = s_rest
 sort g.Assignment = s_rest
 sort g.Call = s_rest
 sort g.Expression = s_expression
+sort g.Logic = s_logic
+sort g.AndLogic = s_logic
+sort g.AndRest = s_and_rest
+sort g.AndThen = s_and_rest
+sort g.AndOnly = s_and_rest
+sort g.MoreAndThen = s_more_relation connective.AndThen
+sort g.MoreAnd = s_more_relation connective.And
+sort g.OrLogic = s_logic
+sort g.OrRest = s_or_rest
+sort g.OrElse = s_or_rest
+sort g.OrOnly = s_or_rest
+sort g.MoreOrElse = s_more_relation connective.OrElse
+sort g.MoreOr = s_more_relation connective.Or
+sort g.XorLogic = s_logic
+sort g.MoreXor = s_more_relation connective.Xor
 sort g.Relation = s_relation
+sort g.Compared = s_compared
+sort g.RelationalOperator = s_relational
+sort g.Equal = s_relational
+sort g.Unequal = s_relational
+sort g.Less = s_relational
+sort g.AtMost = s_relational
+sort g.Greater = s_relational
+sort g.AtLeast = s_relational
 sort g.Simple = s_simple
 sort g.Sign = s_sign
 sort g.Positive = s_sign
@@ -100,6 +129,10 @@ attribute_words x e = word (codes "'") ∷ w.ident_word x ∷ w.argument_words e
 abbrev expression_words : m.Expression → List Word
 expression_words e = w.expression_words e
 
+-- the second relation and those behind it, each but the second behind the operator
+abbrev behind_words : Connective → m.Relation → m.Relations → List Word
+behind_words operator x xs = w.relation_words x ++ w.relations_words operator xs
+
 -- an item of a sort, and its words
 data Says : Sort → Item → List Word → Type 0 where
   says_unit : (u : m.Unit) → Says s_unit (a.a_unit u) (w.unit_words u)
@@ -114,6 +147,14 @@ data Says : Sort → Item → List Word → Type 0 where
   says_assigned : (e : m.Expression) → Says s_rest (a.assigned e) (word (codes ":=") ∷ (expression_words e ++ (last_word (codes ";") ∷ [])))
   says_called : (xs : m.Args) → Says s_rest (a.called xs) (w.args_words xs ++ (last_word (codes ";") ∷ []))
   says_expression : (e : m.Expression) → Says s_expression (a.an_expression e) (expression_words e)
+  says_logic : (operator : Connective) (x : m.Relation) (xs : m.Relations) → Says s_logic (a.a_chain operator x xs) (w.connected_words operator x ++ w.relations_words operator xs)
+  says_and_then : (x : m.Relation) (xs : m.Relations) → Says s_and_rest (a.a_chain connective.AndThen x xs) (word (codes "then") ∷ behind_words connective.AndThen x xs)
+  says_and : (x : m.Relation) (xs : m.Relations) → Says s_and_rest (a.a_chain connective.And x xs) (behind_words connective.And x xs)
+  says_or_else : (x : m.Relation) (xs : m.Relations) → Says s_or_rest (a.a_chain connective.OrElse x xs) (word (codes "else") ∷ behind_words connective.OrElse x xs)
+  says_or : (x : m.Relation) (xs : m.Relations) → Says s_or_rest (a.a_chain connective.Or x xs) (behind_words connective.Or x xs)
+  says_more_relation : (operator : Connective) (x : m.Relation) → Says (s_more_relation operator) (a.a_relation x) (w.connected_words operator x)
+  says_compared : (operator : Relational) (x : m.Simple) → Says s_compared (a.a_compared operator x) (word (w.relational_spelling operator) ∷ w.simple_words x)
+  says_relational : (x : Relational) → Says s_relational (a.a_relational x) (word (w.relational_spelling x) ∷ [])
   says_relation : (x : m.Relation) → Says s_relation (a.a_relation x) (w.relation_words x)
   says_simple : (x : m.Simple) → Says s_simple (a.a_simple x) (w.simple_words x)
   says_sign : (s : Signed) → Says s_sign (a.a_sign s) (w.sign_words (Some s))
@@ -176,6 +217,10 @@ multiplieds_row : {x : Item} {us : List Word} → Row s_multiplied x us → us �
 multiplieds_row row_end = refl
 multiplieds_row (row_more (says_multiplied y) r) = ap (λ z. w.multiplied_words y ++ z) (multiplieds_row r)
 
+relations_row : {operator : Connective} {x : Item} {us : List Word} → Row (s_more_relation operator) x us → us ≡ w.relations_words operator (a.the_relations x)
+relations_row row_end = refl
+relations_row (row_more (says_more_relation operator y) r) = ap (λ z. w.connected_words operator y ++ z) (relations_row r)
+
 no_member : {p : Phrase} → Member p [] → ⊥
 no_member h = elim h [ ]
 
@@ -185,6 +230,10 @@ two a b us ws e = append_assoc a b ws ∙ ap (λ z. a ++ (z ++ ws)) (sym e)
 
 three : (a b c us ws : List Word) → us ≡ c → (a ++ b ++ c) ++ ws ≡ a ++ (b ++ (us ++ ws))
 three a b c us ws e = append_assoc (a ++ b) c ws ∙ append_assoc a b (c ++ ws) ∙ ap (λ z. a ++ (b ++ (z ++ ws))) (sym e)
+
+-- three phrases, of which the last two are one item
+last_two : (a b c ws : List Word) → (a ++ b ++ c) ++ ws ≡ a ++ ((b ++ c) ++ ws)
+last_two a b c ws = append_assoc (a ++ b) c ws ∙ append_assoc a b (c ++ ws) ∙ ap (λ z. a ++ z) (sym (append_assoc b c ws))
 
 -- the words of a phrase are those of its symbols
 told_rule : (p : Phrase) {k : List Symbol} {ds : List Item} {ws : List Word} → Told (rule p ++ k) ds ws → Told (N p ∷ k) (made p ds) ws
@@ -226,8 +275,55 @@ told_rule g.Assignment (t_word b (t_part (says_expression e) (t_word {ws = ws} s
     so (t_part (says_assigned e) r) (ap (λ z. word (codes ":=") ∷ z) (append_assoc (expression_words e) (last_word (codes ";") ∷ []) ws))
 told_rule g.Call (t_part (says_args x) (t_word {ws = ws} s r)) =
     so (t_part (says_called x) r) (append_assoc (w.args_words x) (last_word (codes ";") ∷ []) ws)
-told_rule g.Expression (t_part (says_relation x) r) = t_part (says_expression (m.alone x)) r
-told_rule g.Relation (t_part (says_simple x) r) = t_part (says_relation (m.unrelated x)) r
+told_rule g.Expression (t_part (says_relation x) (t_some {ws = ws} (says_logic o y ys) r)) =
+    so (t_part (says_expression (m.connected o x y ys)) r) (last_two (w.relation_words x) (w.connected_words o y) (w.relations_words o ys) ws)
+told_rule g.Expression (t_part (says_relation x) (t_none r)) = t_part (says_expression (m.alone x)) r
+told_rule g.Logic (t_one here s r) = t_part s r
+told_rule g.Logic (t_one (later here) s r) = t_part s r
+told_rule g.Logic (t_one (later (later here)) s r) = t_part s r
+told_rule g.Logic (t_one (later (later (later h))) s r) = absurd (no_member h)
+told_rule g.AndLogic (t_word b (t_part (says_and_then x xs) r)) = t_part (says_logic connective.AndThen x xs) r
+told_rule g.AndLogic (t_word b (t_part (says_and x xs) r)) = t_part (says_logic connective.And x xs) r
+told_rule g.AndRest (t_one here s r) = t_part s r
+told_rule g.AndRest (t_one (later here) s r) = t_part s r
+told_rule g.AndRest (t_one (later (later h)) s r) = absurd (no_member h)
+told_rule g.AndThen (t_word b (t_part (says_relation y) (t_row {x = x} {us = us} {ws = ws} row r))) =
+    so (t_part (says_and_then y (a.the_relations x)) r) (ap (λ z. word (codes "then") ∷ z) (two (w.relation_words y) (w.relations_words connective.AndThen (a.the_relations x)) us ws (relations_row row)))
+told_rule g.AndOnly (t_part (says_relation y) (t_row {x = x} {us = us} {ws = ws} row r)) =
+    so (t_part (says_and y (a.the_relations x)) r) (two (w.relation_words y) (w.relations_words connective.And (a.the_relations x)) us ws (relations_row row))
+told_rule g.MoreAndThen (t_word b (t_word c (t_part (says_relation x) r))) = t_part (says_more_relation connective.AndThen x) r
+told_rule g.MoreAnd (t_word b (t_part (says_relation x) r)) = t_part (says_more_relation connective.And x) r
+told_rule g.OrLogic (t_word b (t_part (says_or_else x xs) r)) = t_part (says_logic connective.OrElse x xs) r
+told_rule g.OrLogic (t_word b (t_part (says_or x xs) r)) = t_part (says_logic connective.Or x xs) r
+told_rule g.OrRest (t_one here s r) = t_part s r
+told_rule g.OrRest (t_one (later here) s r) = t_part s r
+told_rule g.OrRest (t_one (later (later h)) s r) = absurd (no_member h)
+told_rule g.OrElse (t_word b (t_part (says_relation y) (t_row {x = x} {us = us} {ws = ws} row r))) =
+    so (t_part (says_or_else y (a.the_relations x)) r) (ap (λ z. word (codes "else") ∷ z) (two (w.relation_words y) (w.relations_words connective.OrElse (a.the_relations x)) us ws (relations_row row)))
+told_rule g.OrOnly (t_part (says_relation y) (t_row {x = x} {us = us} {ws = ws} row r)) =
+    so (t_part (says_or y (a.the_relations x)) r) (two (w.relation_words y) (w.relations_words connective.Or (a.the_relations x)) us ws (relations_row row))
+told_rule g.MoreOrElse (t_word b (t_word c (t_part (says_relation x) r))) = t_part (says_more_relation connective.OrElse x) r
+told_rule g.MoreOr (t_word b (t_part (says_relation x) r)) = t_part (says_more_relation connective.Or x) r
+told_rule g.XorLogic (t_part (says_more_relation o y) (t_row {x = x} {us = us} {ws = ws} row r)) =
+    so (t_part (says_logic connective.Xor y (a.the_relations x)) r) (two (w.connected_words connective.Xor y) (w.relations_words connective.Xor (a.the_relations x)) us ws (relations_row row))
+told_rule g.MoreXor (t_word b (t_part (says_relation x) r)) = t_part (says_more_relation connective.Xor x) r
+told_rule g.Relation (t_part (says_simple x) (t_some {ws = ws} (says_compared o y) r)) =
+    so (t_part (says_relation (m.related o x y)) r) (append_assoc (w.simple_words x) (word (w.relational_spelling o) ∷ w.simple_words y) ws)
+told_rule g.Relation (t_part (says_simple x) (t_none r)) = t_part (says_relation (m.unrelated x)) r
+told_rule g.Compared (t_part (says_relational o) (t_part (says_simple x) r)) = t_part (says_compared o x) r
+told_rule g.RelationalOperator (t_one here s r) = t_part s r
+told_rule g.RelationalOperator (t_one (later here) s r) = t_part s r
+told_rule g.RelationalOperator (t_one (later (later here)) s r) = t_part s r
+told_rule g.RelationalOperator (t_one (later (later (later here))) s r) = t_part s r
+told_rule g.RelationalOperator (t_one (later (later (later (later here)))) s r) = t_part s r
+told_rule g.RelationalOperator (t_one (later (later (later (later (later here))))) s r) = t_part s r
+told_rule g.RelationalOperator (t_one (later (later (later (later (later (later h)))))) s r) = absurd (no_member h)
+told_rule g.Equal (t_word x r) = t_part (says_relational relational.Equal) r
+told_rule g.Unequal (t_word x r) = t_part (says_relational relational.Unequal) r
+told_rule g.Less (t_word x r) = t_part (says_relational relational.Less) r
+told_rule g.AtMost (t_word x r) = t_part (says_relational relational.AtMost) r
+told_rule g.Greater (t_word x r) = t_part (says_relational relational.Greater) r
+told_rule g.AtLeast (t_word x r) = t_part (says_relational relational.AtLeast) r
 told_rule g.Simple (t_some (says_sign s) (t_part (says_term t) (t_row {x = x} {us = us} {ws = ws} row r))) =
     so (t_part (says_simple (m.simple (Some s) t (a.the_addeds x))) r) (three (w.sign_words (Some s)) (w.term_words t) (w.addeds_words (a.the_addeds x)) us ws (addeds_row row))
 told_rule g.Simple (t_none (t_part (says_term t) (t_row {x = x} {us = us} {ws = ws} row r))) =

@@ -13,6 +13,10 @@ use Rattle.aud_syntax.specs.declared.tree.Adding.TheVariants as adding
 use Rattle.aud_syntax.specs.declared.tree.Multiplying.{Multiplying}
 use Rattle.aud_syntax.specs.declared.tree.Multiplying.TheVariants as multiplying
 use Rattle.aud_syntax.specs.declared.tree.Operator.{Operator}
+use Rattle.aud_syntax.specs.declared.tree.Relational.{Relational}
+use Rattle.aud_syntax.specs.declared.tree.Relational.TheVariants as relational
+use Rattle.aud_syntax.specs.declared.tree.Connective.{Connective}
+use Rattle.aud_syntax.specs.declared.tree.Connective.TheVariants as connective
 use Rattle.aud_syntax.specs.declared.tree.Highest.TheVariants as highest
 use Rattle.aud_syntax.specs.Plain as m
 use Rattle.aud_parse.specs.Grammar as g
@@ -43,7 +47,12 @@ pub data Item : Type 0 where
   a_term : m.Term → Item
   an_added : m.Added → Item
   a_simple : m.Simple → Item
+  a_relational : Relational → Item
+  -- what the first operand of a relation is compared with
+  a_compared : Relational → m.Simple → Item
   a_relation : m.Relation → Item
+  -- the operator behind the first relation, the second relation and those behind it
+  a_chain : Connective → m.Relation → m.Relations → Item
   an_expression : m.Expression → Item
   -- what follows the name with which a statement begins: what is assigned, and the arguments of a call
   assigned : m.Expression → Item
@@ -203,9 +212,17 @@ abbrev pub the_simple : Item → m.Simple
 the_simple (a_simple x) = x
 the_simple _ = no_simple
 
+abbrev pub the_relational : Item → Relational
+the_relational (a_relational x) = x
+the_relational _ = relational.Equal
+
 abbrev pub the_relation : Item → m.Relation
 the_relation (a_relation x) = x
 the_relation _ = no_relation
+
+abbrev pub the_relations : Item → m.Relations
+the_relations (cons x xs) = m.more_relations (the_relation x) (the_relations xs)
+the_relations _ = m.no_relations
 
 abbrev pub the_expression : Item → m.Expression
 the_expression (an_expression x) = x
@@ -257,6 +274,16 @@ abbrev pub with_attribute : m.Name → Item → m.Primary
 with_attribute n (an_attribute j e) = m.attribute n j e
 with_attribute n _ = m.name n
 
+-- the relation that begins with an operand, by what follows the operand (RM 4.4(3))
+abbrev pub compared : m.Simple → Item → m.Relation
+compared x (a_compared operator y) = m.related operator x y
+compared x _ = m.unrelated x
+
+-- the expression that begins with a relation, by what follows the relation (RM 4.4(2))
+abbrev pub connected : m.Relation → Item → m.Expression
+connected x (a_chain operator y ys) = m.connected operator x y ys
+connected x _ = m.alone x
+
 -- a name of one part
 abbrev pub one_part : Ident → m.Args → m.Name
 one_part i xs = m.named (m.part i xs) m.no_parts
@@ -281,6 +308,10 @@ literal_of x = record { text = unquoted (the_text x); at = place x }
 abbrev pub listed : List Item → List Item
 listed st = cons (top st) (top (pop st)) ∷ pop (pop st)
 
+-- the second relation and those behind it, with the operator between each two
+abbrev pub chained : Connective → List Item → List Item
+chained operator st = a_chain operator (the_relation (top st)) (the_relations (top (pop st))) ∷ pop (pop st)
+
 -- the tree of a phrase from what its rule has read, in front of what comes after it
 abbrev pub made : g.Phrase → List Item → List Item
 made g.Unit st = a_unit (m.unit (place (top st)) (the_ident (top (pop st))) (the_declarations (top (pop (pop st)))) (the_body (top (pop (pop (pop st)))))) ∷ pop (pop (pop (pop st)))
@@ -293,8 +324,20 @@ made g.NullStatement st = a_statement (m.null (place (top st))) ∷ pop st
 made g.NameStatement st = a_statement (begun (the_ident (top st)) (top (pop st))) ∷ pop (pop st)
 made g.Assignment st = assigned (the_expression (top st)) ∷ pop st
 made g.Call st = called (the_args (top st)) ∷ pop st
-made g.Expression st = an_expression (m.alone (the_relation (top st))) ∷ pop st
-made g.Relation st = a_relation (m.unrelated (the_simple (top st))) ∷ pop st
+made g.Expression st = an_expression (connected (the_relation (top st)) (top (pop st))) ∷ pop (pop st)
+made g.AndThen st = chained connective.AndThen st
+made g.AndOnly st = chained connective.And st
+made g.OrElse st = chained connective.OrElse st
+made g.OrOnly st = chained connective.Or st
+made g.XorLogic st = chained connective.Xor st
+made g.Relation st = a_relation (compared (the_simple (top st)) (top (pop st))) ∷ pop (pop st)
+made g.Compared st = a_compared (the_relational (top st)) (the_simple (top (pop st))) ∷ pop (pop st)
+made g.Equal st = a_relational relational.Equal ∷ st
+made g.Unequal st = a_relational relational.Unequal ∷ st
+made g.Less st = a_relational relational.Less ∷ st
+made g.AtMost st = a_relational relational.AtMost ∷ st
+made g.Greater st = a_relational relational.Greater ∷ st
+made g.AtLeast st = a_relational relational.AtLeast ∷ st
 made g.Simple st = a_simple (m.simple (opt_sign (top st)) (the_term (top (pop st))) (the_addeds (top (pop (pop st))))) ∷ pop (pop (pop st))
 made g.Positive st = a_sign (record { sign = sign.Plus; at = place (top st) }) ∷ pop st
 made g.Negative st = a_sign (record { sign = sign.Minus; at = place (top st) }) ∷ pop st

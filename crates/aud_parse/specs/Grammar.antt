@@ -7,7 +7,10 @@ use Rattle.aud_lex.specs.declared.token.Kind.TheVariants as kind
 pub data Phrase : Type 0 where
   Unit Declarations DeclarationList Declaration Identifiers MoreIdentifiers Initial Body : Phrase
   Statements StatementList Statement NullStatement NameStatement NameRest Assignment Call : Phrase
-  Expression Relation Simple Sign Positive Negative Added AddingOperator Plus Minus Join : Phrase
+  Expression Logic AndLogic AndRest AndThen AndOnly MoreAndThen MoreAnd : Phrase
+  OrLogic OrRest OrElse OrOnly MoreOrElse MoreOr XorLogic MoreXor : Phrase
+  Relation Compared RelationalOperator Equal Unequal Less AtMost Greater AtLeast : Phrase
+  Simple Sign Positive Negative Added AddingOperator Plus Minus Join : Phrase
   Term Multiplied MultiplyingOperator Times Divide Modulo Remainder : Phrase
   Factor Operator Magnitude Not : Phrase
   Primary Integer String Named Attribute Group Parens InParens : Phrase
@@ -60,9 +63,32 @@ rule NameStatement = N Identifier ∷ N NameRest ∷ []
 rule NameRest = A (Assignment ∷ Call ∷ []) ∷ []
 rule Assignment = T kind.Becomes ∷ N Expression ∷ T kind.Semicolon ∷ []
 rule Call = N Args ∷ T kind.Semicolon ∷ []
--- RM 4.4
-rule Expression = N Relation ∷ []
-rule Relation = N Simple ∷ []
+-- RM 4.4: between the relations of an expression stands the same operator
+rule Expression = N Relation ∷ Opt Logic ∷ []
+rule Logic = A (AndLogic ∷ OrLogic ∷ XorLogic ∷ []) ∷ []
+rule AndLogic = T kind.And ∷ N AndRest ∷ []
+rule AndRest = A (AndThen ∷ AndOnly ∷ []) ∷ []
+rule AndThen = T kind.Then ∷ N Relation ∷ Rep MoreAndThen ∷ []
+rule AndOnly = N Relation ∷ Rep MoreAnd ∷ []
+rule MoreAndThen = T kind.And ∷ T kind.Then ∷ N Relation ∷ []
+rule MoreAnd = T kind.And ∷ N Relation ∷ []
+rule OrLogic = T kind.Or ∷ N OrRest ∷ []
+rule OrRest = A (OrElse ∷ OrOnly ∷ []) ∷ []
+rule OrElse = T kind.Else ∷ N Relation ∷ Rep MoreOrElse ∷ []
+rule OrOnly = N Relation ∷ Rep MoreOr ∷ []
+rule MoreOrElse = T kind.Or ∷ T kind.Else ∷ N Relation ∷ []
+rule MoreOr = T kind.Or ∷ N Relation ∷ []
+rule XorLogic = N MoreXor ∷ Rep MoreXor ∷ []
+rule MoreXor = T kind.Xor ∷ N Relation ∷ []
+rule Relation = N Simple ∷ Opt Compared ∷ []
+rule Compared = N RelationalOperator ∷ N Simple ∷ []
+rule RelationalOperator = A (Equal ∷ Unequal ∷ Less ∷ AtMost ∷ Greater ∷ AtLeast ∷ []) ∷ []
+rule Equal = T kind.Equal ∷ []
+rule Unequal = T kind.NotEqual ∷ []
+rule Less = T kind.Less ∷ []
+rule AtMost = T kind.LessOrEqual ∷ []
+rule Greater = T kind.Greater ∷ []
+rule AtLeast = T kind.GreaterOrEqual ∷ []
 rule Simple = Opt Sign ∷ N Term ∷ Rep Added ∷ []
 rule Sign = A (Positive ∷ Negative ∷ []) ∷ []
 rule Positive = P kind.Plus ∷ []

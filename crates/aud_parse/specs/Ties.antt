@@ -1,4 +1,5 @@
 pub mod Behind
+pub mod Connects
 pub mod Gives
 pub mod Items
 pub mod Outcome

@@ -3,19 +3,23 @@
 // What is not called at each level of parentheses is not inlined, so that its values do not stand in
 // the stack frames of each level.
 
+ghost use Rattle.std.specs.Prelude.{◌≡◌, ◌∷◌, []};
 ghost use Rattle.aud_parse.specs.Grammar as g;
 ghost use Rattle.aud_parse.specs.Grammar.{N, Opt, Rep};
-ghost use Rattle.aud_parse.specs.Actions.{a_sign, an_adding, a_multiplying, an_operator};
-ghost use Rattle.aud_parse.specs.Ties.Items.{vec_item, opt_item, parens_item, name_item, args_item, attribute_item, primary_item, factor_item, multiplied_item, term_item, added_item, simple_item, boxed_item};
-ghost use Rattle.aud_parse.specs.Ties.Reads.{Reads, MayRead, ReadsFlat, Takes, TakesAny};
+ghost use Rattle.aud_parse.specs.First.{firsts};
+ghost use Rattle.aud_parse.specs.Actions.{a_sign, an_adding, a_multiplying, an_operator, a_relational, chained, made};
+ghost use Rattle.aud_parse.specs.Ties.Items.{vec_item, opt_item, parens_item, name_item, args_item, attribute_item, primary_item, factor_item, multiplied_item, term_item, added_item, simple_item, relation_item, boxed_item};
+ghost use Rattle.aud_parse.specs.Ties.Reads.{Reads, MayRead, ReadsFlat, Completes, Takes, TakesAny};
+ghost use Rattle.aud_parse.specs.Ties.Connects.{further, Connects, Reconnects};
 
-use crate::cursor::{Read, Rest, accept, deeper, is, token, word};
+use crate::cursor::{Fault, Read, Rest, accept, deeper, is, token, word};
 use crate::leaf::{ident, literal};
 use crate::value::number_value;
 use aud_lex::token::Kind;
 use aud_syntax::tree::{
-    Added, Adding, Expression, Factor, Highest, Ident, Multiplied, Multiplying, Name, NamePart,
-    Number, Operator, Primary, Relation, Sign, Signed, Simple, Term,
+    Added, Adding, Chain, Comparison, Connective, Expression, Factor, Highest, Ident, Multiplied,
+    Multiplying, Name, NamePart, Number, Operator, Primary, Relation, Relational, Sign, Signed,
+    Simple, Term,
 };
 use aud_text::place::Pos;
 use std::alloc::Global;
@@ -240,13 +244,163 @@ fn simple(alloc: Global, start: Rest, room: u32) -> Read<Simple>
     ))
 }
 
+/// A relational operator, if one comes next (RM 4.5.2).
+fn relational(start: Rest) -> Option<(Relational, Rest)>
+    ensures { Takes a_relational g.RelationalOperator start.entry result }
+{
+    if let Some((_, rest)) = accept(start, Kind::Equal) {
+        return Some((Relational::Equal, rest));
+    }
+    if let Some((_, rest)) = accept(start, Kind::NotEqual) {
+        return Some((Relational::Unequal, rest));
+    }
+    if let Some((_, rest)) = accept(start, Kind::Less) {
+        return Some((Relational::Less, rest));
+    }
+    if let Some((_, rest)) = accept(start, Kind::LessOrEqual) {
+        return Some((Relational::AtMost, rest));
+    }
+    if let Some((_, rest)) = accept(start, Kind::Greater) {
+        return Some((Relational::Greater, rest));
+    }
+    if let Some((_, rest)) = accept(start, Kind::GreaterOrEqual) {
+        return Some((Relational::AtLeast, rest));
+    }
+    None
+}
+
+/// A relation of two operands, of which the second comes next (RM 4.4(3)).
+#[cycle(expression)]
+#[inline(never)]
+fn related(
+    alloc: Global,
+    left: Simple,
+    operator: Relational,
+    start: Rest,
+    room: u32,
+) -> Read<Relation>
+    ensures { Completes
+        (λ es. made g.Relation (simple_item left ∷ made g.Compared (a_relational operator ∷ es)))
+        relation_item (N g.Simple ∷ []) room start.entry result }
+{
+    let (right, rest) = simple(alloc, start, room)?;
+    let comparison = Comparison {
+        operator,
+        left,
+        right,
+    };
+    Ok((Relation::Related(Box::new(alloc, comparison)?), rest))
+}
+
+/// A relation (RM 4.4(3)).
+#[cycle(expression)]
+fn relation(alloc: Global, start: Rest, room: u32) -> Read<Relation>
+    ensures { Reads relation_item (N g.Relation) room start.entry result }
+{
+    let (left, rest) = simple(alloc, start, room)?;
+    if let Some((operator, behind)) = relational(rest) {
+        return related(alloc, left, operator, behind, room);
+    }
+    Ok((Relation::Unrelated(left), rest))
+}
+
+/// A logical operator or short-circuit control form, if one comes next (RM 4.5.1).
+fn logical(start: Rest) -> Option<(Connective, Rest)>
+    ensures { Connects start.entry result }
+{
+    if let Some((_, rest)) = accept(start, Kind::And) {
+        if let Some((_, behind)) = accept(rest, Kind::Then) {
+            return Some((Connective::AndThen, behind));
+        }
+        return Some((Connective::And, rest));
+    }
+    if let Some((_, rest)) = accept(start, Kind::Or) {
+        if let Some((_, behind)) = accept(rest, Kind::Else) {
+            return Some((Connective::OrElse, behind));
+        }
+        return Some((Connective::Or, rest));
+    }
+    if let Some((_, rest)) = accept(start, Kind::Xor) {
+        return Some((Connective::Xor, rest));
+    }
+    None
+}
+
+/// The word with which a logical operator or short-circuit control form begins.
+fn first_word(operator: Connective) -> Kind
+    ensures { firsts (further operator) ≡ result ∷ [] }
+{
+    match operator {
+        Connective::And | Connective::AndThen => Kind::And,
+        Connective::Or | Connective::OrElse => Kind::Or,
+        Connective::Xor => Kind::Xor,
+    }
+}
+
+/// Passes the same operator once more.
+fn again(operator: Connective, start: Rest) -> Result<Rest, Fault>
+    ensures { Reconnects operator start.entry result }
+{
+    let rest = word(start, first_word(operator))?;
+    match operator {
+        Connective::AndThen => word(rest, Kind::Then),
+        Connective::OrElse => word(rest, Kind::Else),
+        Connective::And | Connective::Or | Connective::Xor => Ok(rest),
+    }
+}
+
+/// The further relations, each behind the same operator: without parentheses no two are mixed.
+#[cycle(expression)]
+#[inline(never)]
+fn relations(alloc: Global, operator: Connective, start: Rest, room: u32) -> Read<Vec<Relation>>
+    ensures { MayRead (vec_item relation_item) (Rep (further operator)) room start.entry result }
+{
+    let mut all = Vec::new(alloc);
+    let mut rest = start;
+    'turns: while is(rest, first_word(operator)) {
+        let behind = again(operator, rest)?;
+        let (relation, after) = relation(alloc, behind, room)?;
+        all.push(relation)?;
+        rest = after;
+    }
+    Ok((all, rest))
+}
+
+/// An expression of several relations, of which the second comes next (RM 4.4(2)).
+#[cycle(expression)]
+#[inline(never)]
+fn connected(
+    alloc: Global,
+    first: Relation,
+    connective: Connective,
+    start: Rest,
+    room: u32,
+) -> Read<Box<Expression>>
+    ensures { Completes (λ es. made g.Expression (relation_item first ∷ chained connective es))
+        boxed_item (N g.Relation ∷ Rep (further connective) ∷ []) room start.entry result }
+{
+    let (second, rest) = relation(alloc, start, room)?;
+    let (others, rest) = relations(alloc, connective, rest, room)?;
+    let chain = Chain {
+        connective,
+        first,
+        second,
+        others,
+    };
+    let boxed = Box::new(alloc, Expression::Connected(Box::new(alloc, chain)?))?;
+    Ok((boxed, rest))
+}
+
 /// An expression (RM 4.4).
 #[cycle(expression)]
 pub fn expression(alloc: Global, start: Rest, room: u32) -> Read<Box<Expression>>
     ensures { Reads boxed_item (N g.Expression) room start.entry result }
 {
-    let (sum, rest) = simple(alloc, start, room)?;
-    let boxed = Box::new(alloc, Expression::Alone(Relation::Unrelated(sum)))?;
+    let (first, rest) = relation(alloc, start, room)?;
+    if let Some((connective, behind)) = logical(rest) {
+        return connected(alloc, first, connective, behind, room);
+    }
+    let boxed = Box::new(alloc, Expression::Alone(first))?;
     Ok((boxed, rest))
 }
 

@@ -10,6 +10,7 @@ use Rattle.aud_syntax.specs.declared.tree.Multiplied.{Multiplied}
 use Rattle.aud_syntax.specs.declared.tree.Term.{Term}
 use Rattle.aud_syntax.specs.declared.tree.Added.{Added}
 use Rattle.aud_syntax.specs.declared.tree.Simple.{Simple}
+use Rattle.aud_syntax.specs.declared.tree.Relation.{Relation}
 use Rattle.aud_syntax.specs.declared.tree.Expression.{Expression}
 use Rattle.aud_syntax.specs.declared.tree.Name.{Name}
 use Rattle.aud_syntax.specs.declared.tree.Declaration.{Declaration}
@@ -17,8 +18,8 @@ use Rattle.aud_syntax.specs.declared.tree.Statement.{Statement}
 use Rattle.aud_syntax.specs.declared.tree.Statements.{Statements}
 use Rattle.aud_syntax.specs.declared.tree.Body.{Body}
 use Rattle.aud_syntax.specs.declared.tree.Unit as declared
-use Rattle.aud_syntax.specs.Ties.View.{plain_expression, plain_boxed, plain_expressions, plain_name, plain_primary, plain_factor, plain_multiplied, plain_term, plain_added, plain_simple, plain_declaration, plain_statement, plain_statements, plain_body, plain_unit}
-use Rattle.aud_parse.specs.Actions.{Item, none, cons, in_parens, an_attribute, some_args, a_name, a_primary, a_factor, a_multiplied, a_term, an_added, a_simple, an_expression, assigned, called, some_names, a_declaration, a_statement, some_statements, a_body, a_unit}
+use Rattle.aud_syntax.specs.Ties.View.{plain_expression, plain_boxed, plain_expressions, plain_name, plain_primary, plain_factor, plain_multiplied, plain_term, plain_added, plain_simple, plain_relation, plain_declaration, plain_statement, plain_statements, plain_body, plain_unit}
+use Rattle.aud_parse.specs.Actions.{Item, none, cons, in_parens, an_attribute, some_args, a_name, a_primary, a_factor, a_multiplied, a_term, an_added, a_simple, a_relation, an_expression, assigned, called, some_names, a_declaration, a_statement, some_statements, a_body, a_unit}
 
 abbrev pub list_item : {X : Type 0} → (X → Item) → List X → Item
 list_item f [] = none
@@ -60,6 +61,9 @@ added_item x = an_added (plain_added x)
 
 abbrev pub simple_item : Simple → Item
 simple_item x = a_simple (plain_simple x)
+
+abbrev pub relation_item : Relation → Item
+relation_item x = a_relation (plain_relation x)
 
 abbrev pub expression_item : Expression → Item
 expression_item x = an_expression (plain_expression x)

@@ -3,14 +3,19 @@ use Rattle.std.specs.Prelude.{◌≡◌, ℕ, zero, suc, ◌+◌, List, [], ◌�
 use Rattle.aud_text.specs.declared.place.Pos.{Pos}
 use Rattle.aud_lex.specs.Element.{Element}
 use Rattle.aud_lex.specs.Lexed.{lexed}
+use Rattle.aud_syntax.specs.declared.tree.Sign.TheVariants as sign
 use Rattle.aud_syntax.specs.declared.tree.Adding.TheVariants.{Plus, Minus, Join}
 use Rattle.aud_syntax.specs.declared.tree.Multiplying.TheVariants.{Times, Divide, Modulo, Remainder}
-use Rattle.aud_syntax.specs.Plain.{Expression, added, multiplied, Primary, attribute, group, no_expression, an_expression, Declaration, object, Statement, null, assign, Body, body, Unit, unit}
+use Rattle.aud_syntax.specs.declared.tree.Relational.{Relational}
+use Rattle.aud_syntax.specs.declared.tree.Relational.TheVariants.{Equal, Unequal, Less, AtMost, Greater, AtLeast}
+use Rattle.aud_syntax.specs.declared.tree.Connective.{Connective}
+use Rattle.aud_syntax.specs.declared.tree.Connective.TheVariants.{And, Or, Xor, AndThen, OrElse}
+use Rattle.aud_syntax.specs.Plain.{Expression, alone, connected, Relations, no_relations, more_relations, Relation, unrelated, related, Simple, simple, added, multiplied, Primary, attribute, group, no_expression, an_expression, Declaration, object, Statement, null, assign, Body, body, Unit, unit}
 use Rattle.aud_syntax.specs.Plain as m
 use Rattle.aud_parse.specs.Grammar as g
 use Rattle.aud_parse.specs.Actions.{the_unit}
 use Rattle.aud_parse.specs.Parsed.{Fault, wrong_at, deep_at, parsed, parsed_as}
-use Rattle.aud_syntax.specs.Why.Shorthand.{at, id, var_at, called, num, too_large, str, var, just, magnitude, opposite, product, multiplying, one, sum, adding, only, only_term, positive, negative, declarations, statements}
+use Rattle.aud_syntax.specs.Why.Shorthand.{at, id, var_at, called, num, too_large, str, var, just, magnitude, opposite, product, multiplying, one, addeds, sum, adding, only, only_term, positive, negative, declarations, statements}
 
 -- how tokens are read, where there are tokens
 abbrev pub read_by : (List Element → Result Unit Fault) → Result (List Element) Pos → Option (Result Unit Fault)
@@ -176,8 +181,78 @@ Operators =
     × ExpressionIs (codes "-abs X")
     (negative (col 1) (product (magnitude (col 2) (var (codes "X") (col 6))) []) [])
 
+-- relations and logical expressions, written shortly
+
+abbrev pub operand : Primary → Simple
+operand p = simple None (one p) (addeds [])
+
+-- without a comparison
+abbrev pub truth : Primary → Relation
+truth p = unrelated (operand p)
+
+abbrev pub comparing : Relational → Primary → Primary → Relation
+comparing operator p q = related operator (operand p) (operand q)
+
+abbrev pub relations : List Relation → Relations
+relations [] = no_relations
+relations (x ∷ xs) = more_relations x (relations xs)
+
+abbrev pub joined : Connective → Relation → Relation → List Relation → Expression
+joined operator first second others = connected operator first second (relations others)
+
+abbrev pub variable : List ℕ → ℕ → Relation
+variable spelling n = truth (var spelling (col n))
+
+abbrev pub opposite_of : ℕ → Primary → Relation
+opposite_of n p = unrelated (simple None (product (opposite (col n) p) []) (addeds []))
+
+abbrev pub divided : Primary → Primary → Simple
+divided p q = simple None (product (just p) (multiplying Divide q ∷ [])) (addeds [])
+
+abbrev pub minus_one : ℕ → Simple
+minus_one n = simple (Some (record { sign = sign.Minus; at = col n })) (one (num 1 (col (n + 1)))) (addeds [])
+
+-- relations: two operands at most (RM 4.4(3), 4.5.2)
+abbrev pub Comparisons : Type 0
+Comparisons =
+    ExpressionIs (codes "1 = 2") (alone (comparing Equal (num 1 (col 1)) (num 2 (col 5))))
+    × ExpressionIs (codes "1 /= 2") (alone (comparing Unequal (num 1 (col 1)) (num 2 (col 6))))
+    × ExpressionIs (codes "1 < 2") (alone (comparing Less (num 1 (col 1)) (num 2 (col 5))))
+    × ExpressionIs (codes "1 <= 2") (alone (comparing AtMost (num 1 (col 1)) (num 2 (col 6))))
+    × ExpressionIs (codes "1 > 2") (alone (comparing Greater (num 1 (col 1)) (num 2 (col 5))))
+    × ExpressionIs (codes "1 >= 2") (alone (comparing AtLeast (num 1 (col 1)) (num 2 (col 6))))
+    × ExpressionIs (codes "Y / X > -1")
+    (alone (related Greater (divided (var (codes "Y") (col 1)) (var (codes "X") (col 5))) (minus_one 9)))
+    × ExpressionIs (codes "(1 = 2) = (3 < 4)")
+    (alone (comparing Equal (group (col 1) (alone (comparing Equal (num 1 (col 2)) (num 2 (col 6))))) (group (col 11) (alone (comparing Less (num 3 (col 12)) (num 4 (col 16)))))))
+
+-- logical operators and short-circuit control forms (RM 4.4(2), 4.5.1)
+abbrev pub Logic : Type 0
+Logic =
+    ExpressionIs (codes "A and B") (joined And (variable (codes "A") 1) (variable (codes "B") 7) [])
+    × ExpressionIs (codes "A or B") (joined Or (variable (codes "A") 1) (variable (codes "B") 6) [])
+    × ExpressionIs (codes "A xor B") (joined Xor (variable (codes "A") 1) (variable (codes "B") 7) [])
+    × ExpressionIs (codes "A and then B") (joined AndThen (variable (codes "A") 1) (variable (codes "B") 12) [])
+    × ExpressionIs (codes "A or else B") (joined OrElse (variable (codes "A") 1) (variable (codes "B") 11) [])
+    × ExpressionIs (codes "A and B and C and D")
+    (joined And (variable (codes "A") 1) (variable (codes "B") 7) (variable (codes "C") 13 ∷ variable (codes "D") 19 ∷ []))
+    × ExpressionIs (codes "A or B or C")
+    (joined Or (variable (codes "A") 1) (variable (codes "B") 6) (variable (codes "C") 11 ∷ []))
+    × ExpressionIs (codes "A xor B xor C")
+    (joined Xor (variable (codes "A") 1) (variable (codes "B") 7) (variable (codes "C") 13 ∷ []))
+    × ExpressionIs (codes "A and then B and then C")
+    (joined AndThen (variable (codes "A") 1) (variable (codes "B") 12) (variable (codes "C") 23 ∷ []))
+    × ExpressionIs (codes "A or else B or else C")
+    (joined OrElse (variable (codes "A") 1) (variable (codes "B") 11) (variable (codes "C") 21 ∷ []))
+    × ExpressionIs (codes "not A and B")
+    (joined And (opposite_of 1 (var (codes "A") (col 5))) (variable (codes "B") 11) [])
+    × ExpressionIs (codes "(A or B) and C")
+    (joined And (truth (group (col 1) (joined Or (variable (codes "A") 2) (variable (codes "B") 7) []))) (variable (codes "C") 14) [])
+    × ExpressionIs (codes "X = 1 and then Y / X > 2")
+    (joined AndThen (comparing Equal (var (codes "X") (col 1)) (num 1 (col 5))) (related Greater (divided (var (codes "Y") (col 16)) (var (codes "X") (col 20))) (operand (num 2 (col 24)))) [])
+
 abbrev pub TreesOfTexts : Type 0
-TreesOfTexts = Programs × Declarations × Statements × Primaries × Operators
+TreesOfTexts = Programs × Declarations × Statements × Primaries × Operators × Comparisons × Logic
 
 -- programs that go wrong; the number of tokens stands for their end
 abbrev pub WrongPrograms : Type 0
@@ -237,8 +312,12 @@ WrongExpressions =
     × ExpressionStops (codes "abs abs X") 1
     × ExpressionStops (codes "not") 1
     × ExpressionStops (codes "2 ** 3") 1
-    × ExpressionStops (codes "1 = 2") 1
-    × ExpressionStops (codes "A and B") 1
+    × ExpressionStops (codes "= 1") 0
+    × ExpressionStops (codes "1 <") 2
+    × ExpressionStops (codes "1 = = 2") 2
+    × ExpressionStops (codes "1 = 2 = 3") 3
+    × ExpressionStops (codes "1 < 2 and 3 < 4 < 5") 7
+    × ExpressionStops (codes "not A = not") 4
     × ExpressionStops (codes "A.B") 1
     × ExpressionStops (codes "A (1)") 1
     × ExpressionStops (codes "1'Image") 1
@@ -249,8 +328,31 @@ WrongExpressions =
     × ExpressionStops (codes "(1") 2
     × ExpressionStops (codes "1)") 1
 
+-- logical operators that are mixed, and others that go wrong
+abbrev pub WrongLogic : Type 0
+WrongLogic =
+    ExpressionStops (codes "and A") 0
+    × ExpressionStops (codes "A and") 2
+    × ExpressionStops (codes "A and then") 3
+    × ExpressionStops (codes "A or else") 3
+    × ExpressionStops (codes "A xor") 2
+    × ExpressionStops (codes "A and B and") 4
+    × ExpressionStops (codes "A and or B") 2
+    × ExpressionStops (codes "A and else B") 2
+    × ExpressionStops (codes "A or then B") 2
+    × ExpressionStops (codes "A xor else B") 2
+    × ExpressionStops (codes "A then B") 1
+    × ExpressionStops (codes "A and B or C") 3
+    × ExpressionStops (codes "A or B xor C") 3
+    × ExpressionStops (codes "A xor B and C") 3
+    × ExpressionStops (codes "A and B and then C") 4
+    × ExpressionStops (codes "A and then B and C") 5
+    × ExpressionStops (codes "A and then B or else C") 4
+    × ExpressionStops (codes "A or B or else C") 4
+    × ExpressionStops (codes "A or else B or C") 5
+
 abbrev pub FaultsOfTexts : Type 0
-FaultsOfTexts = WrongPrograms × WrongDeclarations × WrongStatements × WrongExpressions
+FaultsOfTexts = WrongPrograms × WrongDeclarations × WrongStatements × WrongExpressions × WrongLogic
 
 -- the same with limit levels, fewer than in the language
 abbrev pub IsReadWithin : ℕ → List ℕ → Result Unit Fault → Type 0
@@ -275,6 +377,8 @@ FewLevels =
     × IsReadWithin 1 (with_statements (codes "Put_Line (1);")) (Err (deep_at (4 + 1)))
     × IsReadWithin 1 (with_statements (codes "X := Y'Image (1);")) (Err (deep_at (4 + 5)))
     × IsReadWithin 2 (with_statements (codes "X := (1) + (2 + (3));")) (Err (deep_at (4 + 9)))
+    × IsReadWithin 1 (with_statements (codes "X := A < (1) and B;")) (Err (deep_at (4 + 4)))
+    × IsReadWithin 1 (with_statements (codes "X := A and (B);")) (Err (deep_at (4 + 4)))
     × IsReadWithin 1 (with_statements (codes "X := );")) (Err (wrong_at (4 + 2)))
     × IsReadWithin 1 (with_statements (codes "X := 1 2 (3);")) (Err (wrong_at (4 + 3)))
     × IsReadWithin 1 (with_statements (codes "X := (1 2);")) (Err (deep_at (4 + 2)))

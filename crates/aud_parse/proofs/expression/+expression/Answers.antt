@@ -1,8 +1,9 @@
 use Rattle.aud_parse.specs.Grammar as g
-use Rattle.std.proofs.Common.{sym, ◌∙◌, refl, rules}
+use Rattle.std.proofs.Common.{sym, ◌∙◌, refl, rules, arith}
 use Rattle.aud_parse.specs.Ties.Outcome.{o_rule, o_this, o_other, o_last, o_yes, o_no, o_more}
 use Rattle.aud_parse.proofs.Passing.{to, exit, hand_on, level_in, level_out, turns_push, turns_end, no_level}
-use Rattle.aud_parse.proofs.Rolls.{term_roll, added_roll, simple_roll, factor_items, name_items, named_items}
+use Rattle.aud_parse.proofs.Rolls.{term_roll, added_roll, simple_roll, factor_items, name_items, named_items, chain_items}
+use Rattle.aud_parse.proofs.Connecting.{next_so, completes, exit_in}
 use Rattle.aud_parse.proofs.expression.+expression.Goals as goal
 
 pub parens-returns-in_err-inside : goal.parens-returns-in_err-inside
@@ -92,11 +93,36 @@ simple-returns-in_err-more t c = exit _ _ _ c.from_residual-in_err-more.ensures.
 pub simple-returns : goal.simple-returns
 simple-returns t c = record { reads = λ k ds v o. rw simple_roll (o_rule (c.opt_sign-sign.ensures.reads _ _ _ _ (c.in_ok-first.ensures.reads _ _ _ (c.in_ok-more.ensures.reads _ _ _ o)))); shorter = search rules }
 
-pub expression-returns-in_err-sum : goal.expression-returns-in_err-sum
-expression-returns-in_err-sum t c = exit _ _ _ c.from_residual.ensures.1 c.in_err-sum.ensures.reads (λ k ds v o. o_rule (o_rule o))
+pub relation-returns-in_err-left : goal.relation-returns-in_err-left
+relation-returns-in_err-left t c = exit _ _ _ c.from_residual.ensures.1 c.in_err-left.ensures.reads (λ k ds v o. o_rule o)
+
+pub relation-returns-in-Some : goal.relation-returns-in-Some
+relation-returns-in-Some t c = completes _ c.args.start c.in-Some.behind _ c.related.ensures (omega (arith, c.in-Some.ensures.shorter, c.in_ok-left.ensures.shorter)) (λ k ds v o. o_rule (c.in_ok-left.ensures.reads _ _ _ (o_yes c.in-Some.ensures.reads.0 (o_rule (c.in-Some.ensures.reads.1 _ _ _ _ o)))))
+
+pub relation-returns : goal.relation-returns
+relation-returns t c = record { reads = λ k ds v o. o_rule (c.in_ok-left.ensures.reads _ _ _ (o_no c.in_default.ensures.reads o)); shorter = search rules }
+
+pub expression-returns-in_err-first : goal.expression-returns-in_err-first
+expression-returns-in_err-first t c = exit _ _ _ c.from_residual.ensures.1 c.in_err-first.ensures.reads (λ k ds v o. o_rule o)
+
+pub expression-returns-in-Some : goal.expression-returns-in-Some
+expression-returns-in-Some t c = completes _ c.args.start c.in-Some.behind _ c.connected.ensures (omega (arith, c.in-Some.ensures.shorter, c.in_ok-first.ensures.shorter)) (λ k ds v o. o_rule (c.in_ok-first.ensures.reads _ _ _ (o_yes c.in-Some.ensures.reads.0 (c.in-Some.ensures.reads.1 _ _ _ _ o))))
 
 pub expression-returns : goal.expression-returns
-expression-returns t c = record { reads = λ k ds v o. rw c.in_ok-boxed.ensures.ok (o_rule (o_rule (c.in_ok-sum.ensures.reads _ _ _ o))); shorter = search rules }
+expression-returns t c = record { reads = λ k ds v o. rw c.in_ok-boxed.ensures.ok (o_rule (c.in_ok-first.ensures.reads _ _ _ (o_no c.in_default.ensures.reads o))); shorter = search rules }
+
+pub connected-returns-in_err-others : goal.connected-returns-in_err-others
+connected-returns-in_err-others t c = exit_in _ _ _ c.from_residual-in_err-others.ensures.1 c.in_err-others.ensures.reads (λ k ds v o. c.in_ok-second.ensures.reads _ _ _ o)
+
+pub connected-returns : goal.connected-returns
+connected-returns t c = record {
+  reads = λ k ds v o. (
+    _,
+    c.in_ok-second.ensures.reads _ _ _ (c.in_ok-others.ensures.reads _ _ _ o),
+    chain_items c.in_ok-boxed.boxed c.in_ok-new.field-0 c.args.connective c.args.first c.in_ok-second.second c.in_ok-others.others ds c.in_ok-boxed.ensures.ok c.in_ok-new.ensures.ok,
+  );
+  shorter = search rules;
+}
 
 pub multiplieds-returns-in_err-factor : goal.multiplieds-returns-in_err-factor
 multiplieds-returns-in_err-factor t c = exit _ _ _ c.from_residual.ensures.1 c.in_err-factor.ensures.reads (λ k ds v o. c.turns.invariant.turns.by _ _ _ (o_more c.in-Some.ensures.reads.0 (o_rule (c.in-Some.ensures.reads.1 _ _ _ _ o))))
@@ -115,3 +141,16 @@ addeds-turns-preserved t c = record { turns = turns_push _ c.turns.invariant.tur
 
 pub addeds-returns : goal.addeds-returns
 addeds-returns t c = record { reads = turns_end c.turns.invariant.turns c.in_default.ensures.reads; shorter = search rules }
+
+pub relations-returns-in_err-behind : goal.relations-returns-in_err-behind
+relations-returns-in_err-behind t c = exit _ _ _ c.from_residual.ensures.1 (c.in_err-behind.ensures.reads c.args.room) (λ k ds v o. c.turns.invariant.turns.by _ _ _ (o_more (next_so c.turns.rest.tokens.now c.first_word.ensures c.is.ensures c.turns-test.true) o))
+
+pub relations-returns-in_err-relation : goal.relations-returns-in_err-relation
+relations-returns-in_err-relation t c = exit _ _ _ c.from_residual-in_err-relation.ensures.1 c.in_err-relation.ensures.reads
+    (λ k ds v o. c.turns.invariant.turns.by _ _ _ (o_more (next_so c.turns.rest.tokens.now c.first_word.ensures c.is.ensures c.turns-test.true) (c.in_ok-behind.ensures.reads _ _ _ _ o)))
+
+pub relations-turns-preserved : goal.relations-turns-preserved
+relations-turns-preserved t c = record { turns = turns_push _ c.turns.invariant.turns (next_so c.turns.rest.tokens.now c.first_word.ensures c.is.ensures c.turns-test.true) (λ k ds v o. c.in_ok-behind.ensures.reads _ _ _ _ (c.in_ok-relation.ensures.reads _ _ _ o)) c.in_ok-push.ensures.items; shorter = search rules }
+
+pub relations-returns : goal.relations-returns
+relations-returns t c = record { reads = turns_end c.turns.invariant.turns (next_so c.turns.rest.tokens.now c.first_word.ensures c.is.ensures c.turns-test.false); shorter = search rules }

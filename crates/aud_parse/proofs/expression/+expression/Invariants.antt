@@ -1,6 +1,7 @@
 use Rattle.std.proofs.Common.{◌+◌, ◌*◌, ◌≤◌, length}
 use Rattle.aud_parse.specs.Grammar as g
-use Rattle.aud_parse.specs.Ties.Items.{multiplied_item, added_item}
+use Rattle.aud_parse.specs.Ties.Items.{multiplied_item, added_item, relation_item}
+use Rattle.aud_parse.specs.Ties.Connects.{further}
 use Rattle.aud_parse.proofs.Passing.{Turns}
 use Rattle.aud_parse.proofs.expression.+expression.Given as goal
 
@@ -32,7 +33,19 @@ abbrev pub decreases-simple : goal.decreases-simple
 decreases-simple l = 16 * l.room + 10
 
 abbrev pub decreases-expression : goal.decreases-expression
-decreases-expression l = 16 * l.room + 11
+decreases-expression l = 16 * l.room + 15
+
+abbrev pub decreases-related : goal.decreases-related
+decreases-related l = 16 * l.room + 11
+
+abbrev pub decreases-relation : goal.decreases-relation
+decreases-relation l = 16 * l.room + 12
+
+abbrev pub decreases-relations : goal.decreases-relations
+decreases-relations l = 16 * l.room + 13
+
+abbrev pub decreases-connected : goal.decreases-connected
+decreases-connected l = 16 * l.room + 14
 
 abbrev pub invariant-multiplieds-turns : goal.invariant-multiplieds-turns
 invariant-multiplieds-turns l = record { turns : Turns multiplied_item g.Multiplied l.room l.start.tokens.now l.all.items l.rest.tokens.now; shorter : length l.rest.tokens.now ≤ length l.start.tokens.now }
@@ -45,3 +58,9 @@ invariant-addeds-turns l = record { turns : Turns added_item g.Added l.room l.st
 
 abbrev pub decreases-addeds-turns : goal.decreases-addeds-turns
 decreases-addeds-turns l = length l.rest.tokens.now
+
+abbrev pub invariant-relations-turns : goal.invariant-relations-turns
+invariant-relations-turns l = record { turns : Turns relation_item (further l.operator) l.room l.start.tokens.now l.all.items l.rest.tokens.now; shorter : length l.rest.tokens.now ≤ length l.start.tokens.now }
+
+abbrev pub decreases-relations-turns : goal.decreases-relations-turns
+decreases-relations-turns l = length l.rest.tokens.now
