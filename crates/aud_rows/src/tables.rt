@@ -4,6 +4,7 @@ pub mod checks;
 pub mod lexis;
 pub mod limits;
 pub mod lines;
+pub mod logic;
 pub mod rows;
 pub mod runs;
 pub mod syntax;

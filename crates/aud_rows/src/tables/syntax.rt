@@ -310,6 +310,58 @@ pub const STATEMENTS: [Case; 9] = [
     },
 ];
 
+/// Relations and logical expressions.
+pub const LOGIC: [Case; 4] = [
+    Case {
+        name: "no mixture of logical operators without parentheses",
+        sent: b"LOAD 1\n\
+            procedure M is begin X := A and B or C; end M;\n\
+            LOAD 1\n\
+            procedure M is begin X := A xor B and C; end M;\n\
+            LOAD 1\n\
+            procedure M is begin X := A and B and then C; end M;\n\
+            LOAD 1\n\
+            procedure M is begin X := A or B or else C; end M;\n",
+        written: b"- E21 1:35 syntax\n- E21 1:35 syntax\n- E21 1:39 syntax\n- E21 1:37 syntax\n",
+    },
+    Case {
+        name: "a short circuit goes on with its two words",
+        sent: b"LOAD 1\n\
+            procedure M is begin X := A and then B and C; end M;\n\
+            LOAD 1\n\
+            procedure M is begin X := A or else B or C; end M;\n\
+            LOAD 1\n\
+            procedure M is begin X := A and else B; end M;\n\
+            LOAD 1\n\
+            procedure M is begin X := A then B; end M;\n",
+        written: b"- E21 1:44 syntax\n- E21 1:42 syntax\n- E21 1:33 syntax\n- E21 1:29 syntax\n",
+    },
+    Case {
+        name: "one relation without parentheses",
+        sent: b"LOAD 1\n\
+            procedure M is begin X := 1 = 2 = 3; end M;\n\
+            LOAD 1\n\
+            procedure M is begin X := 1 < A <= 3; end M;\n\
+            LOAD 1\n\
+            procedure M is begin X := 1 = = 2; end M;\n",
+        written: b"- E21 1:33 syntax\n- E21 1:33 syntax\n- E21 1:31 syntax\n",
+    },
+    Case {
+        name: "an operand is missing",
+        sent: b"LOAD 1\n\
+            procedure M is begin X := A and; end M;\n\
+            LOAD 1\n\
+            procedure M is begin X := A and or B; end M;\n\
+            LOAD 1\n\
+            procedure M is begin X := 1 <; end M;\n\
+            LOAD 1\n\
+            procedure M is begin X := >= 1; end M;\n\
+            LOAD 1\n\
+            procedure M is begin X := not not A; end M;\n",
+        written: b"- E21 1:32 syntax\n- E21 1:33 syntax\n- E21 1:30 syntax\n- E21 1:27 syntax\n- E21 1:31 syntax\n",
+    },
+];
+
 /// What the language does not have so far.
 pub const LATER: [Case; 7] = [
     Case {
@@ -388,21 +440,12 @@ pub const LATER: [Case; 7] = [
         written: b"- E21 1:25 syntax\n- E21 1:28 syntax\n- E21 1:28 syntax\n- E21 1:29 syntax\n",
     },
     Case {
-        name: "no relations, logical operators and powers",
+        name: "no powers and membership tests",
         sent: b"LOAD 1\n\
-            procedure M is begin X := 1 = 2; end M;\n\
-            LOAD 1\n\
-            procedure M is begin X := 1 <= 2; end M;\n\
-            LOAD 1\n\
-            procedure M is begin X := 1 and 2; end M;\n\
-            LOAD 1\n\
-            procedure M is begin X := 1 or else 2; end M;\n\
-            LOAD 1\n\
             procedure M is begin X := 2 ** 3; end M;\n\
             LOAD 1\n\
             procedure M is begin X := 1 in 1 .. 2; end M;\n",
-        written: b"- E21 1:29 syntax\n- E21 1:29 syntax\n- E21 1:29 syntax\n\
-            - E21 1:29 syntax\n- E21 1:29 syntax\n- E21 1:29 syntax\n",
+        written: b"- E21 1:29 syntax\n- E21 1:29 syntax\n",
     },
     Case {
         name: "no numbers with a point, and no labels",
@@ -421,4 +464,4 @@ pub const LATER: [Case; 7] = [
 ];
 
 /// All of them.
-pub const TABLES: [&[Case]; 4] = [&UNIT, &DECLARATIONS, &STATEMENTS, &LATER];
+pub const TABLES: [&[Case]; 5] = [&UNIT, &DECLARATIONS, &STATEMENTS, &LOGIC, &LATER];

@@ -1,7 +1,7 @@
 // The sessions of the tables, sent to a server in memory.
 
 use crate::case::{Case, LongCase, spelled};
-use crate::tables::{checks, lexis, limits, lines, rows, runs, syntax, values};
+use crate::tables::{checks, lexis, limits, lines, logic, rows, runs, syntax, values};
 use aud_server::solo::{SoloFault, solo};
 use std::alloc::Global;
 use std::io;
@@ -82,18 +82,25 @@ fn finds_syntax_faults(rt: HostRuntime) -> Result<(), SoloFault> {
 
 #[test]
 fn finds_broken_rules(rt: HostRuntime) -> Result<(), SoloFault> {
-    let tables: [&[Case]; 4] = [
+    let tables: [&[Case]; 5] = [
         &checks::NAMES,
         &checks::TYPES,
         &checks::SEVERAL,
         &checks::LATER,
+        &logic::CHECKS,
     ];
     meets(&rt, rt.alloc(), &tables)
 }
 
 #[test]
 fn evaluates(rt: HostRuntime) -> Result<(), SoloFault> {
-    meets(&rt, rt.alloc(), &[&values::VALUES, &values::EXCEPTIONS])
+    let tables: [&[Case]; 4] = [
+        &values::VALUES,
+        &values::EXCEPTIONS,
+        &logic::TRUTHS,
+        &logic::RAISED,
+    ];
+    meets(&rt, rt.alloc(), &tables)
 }
 
 #[test]
