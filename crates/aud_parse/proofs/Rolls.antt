@@ -66,8 +66,8 @@ relations_items : (xs : List Relation) → the_relations (list_item relation_ite
 relations_items [] = refl
 relations_items (x ∷ xs) = ap (λ z. m.more_relations (plain_relation x) z) (relations_items xs)
 
-pub term_items : (b : Box Term Global) (f x : Factor) (v : Vec Multiplied Global) (ds : List Item) → b.value ≡ roll-Term (record { first = x; rest = v }) → x ≡ f →
-    made g.Term (factor_item f ∷ list_item multiplied_item v.items ∷ ds) ≡ boxed_item term_item b ∷ ds
+pub term_items : (b : Box Term Global) (f : Box Factor Global) (x : Factor) (v : Vec Multiplied Global) (ds : List Item) → b.value ≡ roll-Term (record { first = x; rest = v }) → x ≡ f.value →
+    made g.Term (boxed_item factor_item f ∷ list_item multiplied_item v.items ∷ ds) ≡ boxed_item term_item b ∷ ds
 term_items b f x v ds h i =
     ap (λ z. a_term (m.term (plain_factor z) (the_multiplieds (list_item multiplied_item v.items))) ∷ ds) (sym i) ∙ ap (λ z. a_term z ∷ ds) (sym (term_roll x v)) ∙ ap (λ z. a_term (plain_term z) ∷ ds) (sym h)
 

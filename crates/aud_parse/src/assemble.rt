@@ -6,13 +6,28 @@
 ghost use Rattle.std.specs.Prelude.{◌∷◌, []};
 ghost use Rattle.aud_parse.specs.Grammar as g;
 ghost use Rattle.aud_parse.specs.Actions.{none, a_sign, a_relational, chained, made};
-ghost use Rattle.aud_parse.specs.Ties.Items.{vec_item, opt_item, boxed_item, term_item, added_item, simple_item, relation_item, expression_item};
+ghost use Rattle.aud_parse.specs.Ties.Items.{vec_item, opt_item, boxed_item, factor_item, multiplied_item, term_item, added_item, simple_item, relation_item, expression_item};
 ghost use Rattle.aud_parse.specs.Ties.Makes.{Makes};
 
 use aud_syntax::tree::{
-    Added, Chain, Comparison, Connective, Expression, Relation, Relational, Signed, Simple, Term,
+    Added, Chain, Comparison, Connective, Expression, Factor, Multiplied, Relation, Relational,
+    Signed, Simple, Term,
 };
 use std::alloc::{AllocError, Global};
+
+/// A term.
+#[inline(never)]
+pub fn product(
+    alloc: Global,
+    first: Box<Factor>,
+    rest: Vec<Multiplied>,
+) -> Result<Box<Term>, AllocError>
+    ensures { Makes term_item g.Term
+        (boxed_item factor_item first ∷ vec_item multiplied_item rest ∷ []) result }
+{
+    let first = Box::into_inner(first);
+    Ok(Box::new(alloc, Term { first, rest })?)
+}
 
 /// A simple expression.
 #[inline(never)]

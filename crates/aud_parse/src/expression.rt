@@ -12,7 +12,7 @@ ghost use Rattle.aud_parse.specs.Ties.Items.{vec_item, opt_item, parens_item, na
 ghost use Rattle.aud_parse.specs.Ties.Reads.{Reads, MayRead, ReadsFlat, Takes, TakesAny};
 ghost use Rattle.aud_parse.specs.Ties.Connects.{further, Connects, Reconnects};
 
-use crate::assemble::{alone, connected, related, sum, unrelated};
+use crate::assemble::{alone, connected, product, related, sum, unrelated};
 use crate::behind::{both, ended};
 use crate::cursor::{Fault, Read, Rest, accept, deeper, is, token, word};
 use crate::leaf::{ident, literal};
@@ -127,12 +127,12 @@ fn opt_operator(start: Rest) -> (Option<Operator>, Rest)
 
 /// A factor (RM 4.4(6)).
 #[cycle(expression)]
-fn factor(alloc: Global, start: Rest, room: u32) -> Read<Factor>
-    ensures { Reads factor_item (N g.Factor) room start.entry result }
+fn factor(alloc: Global, start: Rest, room: u32) -> Read<Box<Factor>>
+    ensures { Reads (boxed_item factor_item) (N g.Factor) room start.entry result }
 {
     let (operator, rest) = opt_operator(start);
     let (primary, rest) = primary(alloc, rest, room)?;
-    Ok((Factor { operator, primary }, rest))
+    Ok((Box::new(alloc, Factor { operator, primary })?, rest))
 }
 
 /// A multiplying operator, if one comes next (RM 4.5.5).
@@ -164,6 +164,7 @@ fn multiplieds(alloc: Global, start: Rest, room: u32) -> Read<Vec<Multiplied>>
     let mut rest = start;
     'turns: while let Some((operator, behind)) = multiplying(rest) {
         let (factor, after) = factor(alloc, behind, room)?;
+        let factor = Box::into_inner(factor);
         all.push(Multiplied { operator, factor })?;
         rest = after;
     }
@@ -177,7 +178,7 @@ fn term(alloc: Global, start: Rest, room: u32) -> Read<Box<Term>>
 {
     let (first, rest) = factor(alloc, start, room)?;
     let ((first, more), rest) = both(first, multiplieds(alloc, rest, room))?;
-    Ok((Box::new(alloc, Term { first, rest: more })?, rest))
+    Ok((product(alloc, first, more)?, rest))
 }
 
 /// A binary adding operator, if one comes next (RM 4.5.3).

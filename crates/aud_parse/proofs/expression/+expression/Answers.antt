@@ -1,9 +1,9 @@
 use Rattle.aud_parse.specs.Grammar as g
-use Rattle.std.proofs.Common.{sym, ◌∙◌, refl, rules, arith}
+use Rattle.std.proofs.Common.{sym, ◌∙◌, refl, rules}
 use Rattle.aud_parse.specs.Ties.Outcome.{o_rule, o_this, o_other, o_last, o_yes, o_no, o_more}
 use Rattle.aud_parse.proofs.Passing.{to, exit, hand_on, level_in, level_out, turns_push, turns_end, no_level}
 use Rattle.aud_parse.proofs.Joined.{joined, not_joined, joined_twice, not_joined_twice}
-use Rattle.aud_parse.proofs.Rolls.{added_roll, term_items, factor_items, name_items, named_items}
+use Rattle.aud_parse.proofs.Rolls.{added_roll, factor_items, name_items, named_items}
 use Rattle.aud_parse.proofs.Connecting.{next_so}
 use Rattle.aud_parse.proofs.expression.+expression.Goals as goal
 
@@ -74,7 +74,7 @@ pub factor-returns-in_err-primary : goal.factor-returns-in_err-primary
 factor-returns-in_err-primary t c = exit _ _ _ c.from_residual.ensures.1 c.in_err-primary.ensures.reads (λ k ds v o. o_rule (c.opt_operator-operator.ensures.reads _ _ _ _ o))
 
 pub factor-returns : goal.factor-returns
-factor-returns t c = record { reads = λ k ds v o. to (o_rule (c.opt_operator-operator.ensures.reads _ _ _ _ (c.in_ok-primary.ensures.reads _ _ _ o))) (factor_items _ _ _); shorter = search rules }
+factor-returns t c = record { reads = λ k ds v o. rw c.in_ok-new.ensures.ok (to (o_rule (c.opt_operator-operator.ensures.reads _ _ _ _ (c.in_ok-primary.ensures.reads _ _ _ o))) (factor_items _ _ _)); shorter = search rules }
 
 pub term-returns-in_err-first : goal.term-returns-in_err-first
 term-returns-in_err-first t c = exit _ _ _ c.from_residual.ensures.1 c.in_err-first.ensures.reads (λ k ds v o. o_rule o)
@@ -85,7 +85,7 @@ term-returns-in_err-first-2 t c = exit _ _ _ c.from_residual-in_err-first-2.ensu
 pub term-returns : goal.term-returns
 term-returns t c =
     let j = joined _ c.in_ok-first-2.ensures c.multiplieds.ensures in
-    record { reads = λ k ds v o. to (o_rule (c.in_ok-first.ensures.reads _ _ _ (j.reads _ _ _ o))) (term_items c.in_ok-new.field-0 c.in_ok-first.first c.in_ok-first-2.first c.in_ok-first-2.more ds c.in_ok-new.ensures.ok j.first); shorter = search rules }
+    record { reads = λ k ds v o. to (o_rule (c.in_ok-first.ensures.reads _ _ _ (j.reads _ _ _ o))) ((rw j.first at c.in_ok-product.ensures) ds); shorter = search rules }
 
 pub simple-returns-in_err-first : goal.simple-returns-in_err-first
 simple-returns-in_err-first t c = exit _ _ _ c.from_residual.ensures.1 c.in_err-first.ensures.reads (λ k ds v o. o_rule (c.opt_sign-sign.ensures.reads _ _ _ _ o))
@@ -137,7 +137,7 @@ pub multiplieds-returns-in_err-factor : goal.multiplieds-returns-in_err-factor
 multiplieds-returns-in_err-factor t c = exit _ _ _ c.from_residual.ensures.1 c.in_err-factor.ensures.reads (λ k ds v o. c.turns.invariant.turns.by _ _ _ (o_more c.in-Some.ensures.reads.0 (o_rule (c.in-Some.ensures.reads.1 _ _ _ _ o))))
 
 pub multiplieds-turns-preserved : goal.multiplieds-turns-preserved
-multiplieds-turns-preserved t c = record { turns = turns_push _ c.turns.invariant.turns c.in-Some.ensures.reads.0 (λ k ds v o. o_rule (c.in-Some.ensures.reads.1 _ _ _ _ (c.in_ok-factor.ensures.reads _ _ _ o))) c.in_ok-push.ensures.items; shorter = search rules }
+multiplieds-turns-preserved t c = record { turns = turns_push _ c.turns.invariant.turns c.in-Some.ensures.reads.0 (λ k ds v o. rw c.into_inner-factor.ensures (o_rule (c.in-Some.ensures.reads.1 _ _ _ _ (c.in_ok-factor.ensures.reads _ _ _ o)))) c.in_ok-push.ensures.items; shorter = search rules }
 
 pub multiplieds-returns : goal.multiplieds-returns
 multiplieds-returns t c = record { reads = turns_end c.turns.invariant.turns c.in_default.ensures.reads; shorter = search rules }
