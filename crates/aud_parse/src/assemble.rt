@@ -4,16 +4,34 @@
 // These functions are not inlined, so no such tree stands in the stack frames of each level.
 
 ghost use Rattle.std.specs.Prelude.{◌∷◌, []};
+ghost use Rattle.aud_syntax.specs.Plain as m;
+ghost use Rattle.aud_syntax.specs.Ties.View.{plain_factor, plain_term};
 ghost use Rattle.aud_parse.specs.Grammar as g;
-ghost use Rattle.aud_parse.specs.Actions.{none, a_sign, a_relational, chained, made};
+ghost use Rattle.aud_parse.specs.Actions.{none, a_sign, a_relational, a_multiplied, an_added, chained, made};
 ghost use Rattle.aud_parse.specs.Ties.Items.{vec_item, opt_item, boxed_item, factor_item, multiplied_item, term_item, added_item, simple_item, relation_item, expression_item};
-ghost use Rattle.aud_parse.specs.Ties.Makes.{Makes};
+ghost use Rattle.aud_parse.specs.Ties.Makes.{Makes, Pushes};
 
 use aud_syntax::tree::{
-    Added, Chain, Comparison, Connective, Expression, Factor, Multiplied, Relation, Relational,
-    Signed, Simple, Term,
+    Added, Adding, Chain, Comparison, Connective, Expression, Factor, Multiplied, Multiplying,
+    Relation, Relational, Signed, Simple, Term,
 };
 use std::alloc::{AllocError, Global};
+
+/// Pushes a further factor.
+#[inline(never)]
+pub fn push_multiplied(
+    all: &mut Vec<Multiplied>,
+    operator: Multiplying,
+    factor: Box<Factor>,
+) -> Result<(), AllocError>
+    ensures { Pushes multiplied_item
+        (a_multiplied (m.multiplied operator (plain_factor factor.value)))
+        all.old.items all.new.items result }
+{
+    let factor = Box::into_inner(factor);
+    all.push(Multiplied { operator, factor })?;
+    Ok(())
+}
 
 /// A term.
 #[inline(never)]
@@ -27,6 +45,17 @@ pub fn product(
 {
     let first = Box::into_inner(first);
     Ok(Box::new(alloc, Term { first, rest })?)
+}
+
+/// Pushes a further term.
+#[inline(never)]
+pub fn push_added(all: &mut Vec<Added>, operator: Adding, term: Box<Term>) -> Result<(), AllocError>
+    ensures { Pushes added_item (an_added (m.added operator (plain_term term.value)))
+        all.old.items all.new.items result }
+{
+    let term = Box::into_inner(term);
+    all.push(Added { operator, term })?;
+    Ok(())
 }
 
 /// A simple expression.
@@ -73,6 +102,16 @@ pub fn related(
     Ok(Box::new(alloc, Relation::Related(boxed))?)
 }
 
+/// Pushes a further relation.
+#[inline(never)]
+pub fn push_relation(all: &mut Vec<Relation>, relation: Box<Relation>) -> Result<(), AllocError>
+    ensures { Pushes relation_item (boxed_item relation_item relation)
+        all.old.items all.new.items result }
+{
+    all.push(Box::into_inner(relation))?;
+    Ok(())
+}
+
 /// An expression of one relation.
 #[inline(never)]
 pub fn alone(alloc: Global, relation: Box<Relation>) -> Result<Box<Expression>, AllocError>
@@ -92,7 +131,8 @@ pub fn connected(
     second: Box<Relation>,
     others: Vec<Relation>,
 ) -> Result<Box<Expression>, AllocError>
-    ensures { Makes expression_item g.Expression (boxed_item relation_item first ∷ chained connective
+    ensures { Makes expression_item g.Expression
+        (boxed_item relation_item first ∷ chained connective
         (boxed_item relation_item second ∷ vec_item relation_item others ∷ [])) result }
 {
     let chain = Chain {

@@ -12,7 +12,9 @@ ghost use Rattle.aud_parse.specs.Ties.Items.{vec_item, opt_item, parens_item, na
 ghost use Rattle.aud_parse.specs.Ties.Reads.{Reads, MayRead, ReadsFlat, Takes, TakesAny};
 ghost use Rattle.aud_parse.specs.Ties.Connects.{further, Connects, Reconnects};
 
-use crate::assemble::{alone, connected, product, related, sum, unrelated};
+use crate::assemble::{
+    alone, connected, product, push_added, push_multiplied, push_relation, related, sum, unrelated,
+};
 use crate::behind::{both, ended};
 use crate::cursor::{Fault, Read, Rest, accept, deeper, is, token, word};
 use crate::leaf::{ident, literal};
@@ -164,8 +166,7 @@ fn multiplieds(alloc: Global, start: Rest, room: u32) -> Read<Vec<Multiplied>>
     let mut rest = start;
     'turns: while let Some((operator, behind)) = multiplying(rest) {
         let (factor, after) = factor(alloc, behind, room)?;
-        let factor = Box::into_inner(factor);
-        all.push(Multiplied { operator, factor })?;
+        push_multiplied(&mut all, operator, factor)?;
         rest = after;
     }
     Ok((all, rest))
@@ -207,8 +208,7 @@ fn addeds(alloc: Global, start: Rest, room: u32) -> Read<Vec<Added>>
     let mut rest = start;
     'turns: while let Some((operator, behind)) = adding(rest) {
         let (term, after) = term(alloc, behind, room)?;
-        let term = Box::into_inner(term);
-        all.push(Added { operator, term })?;
+        push_added(&mut all, operator, term)?;
         rest = after;
     }
     Ok((all, rest))
@@ -334,7 +334,7 @@ fn relations(alloc: Global, operator: Connective, start: Rest, room: u32) -> Rea
     'turns: while is(rest, first_word(operator)) {
         let behind = again(operator, rest)?;
         let (relation, after) = relation(alloc, behind, room)?;
-        all.push(Box::into_inner(relation))?;
+        push_relation(&mut all, relation)?;
         rest = after;
     }
     Ok((all, rest))
