@@ -18,7 +18,7 @@ comes_with : {s0 : Symbol} {c : Kind} {r : ℕ} (start mid : Rest) {f : List Ite
 comes_with {r = r} start mid x (Ok p) e before is = λ k ds v o. to (before k ds v (e.reads.1 r k ds v o)) (is ds ∙ ap (λ t. x t ∷ ds) (sym e.reads.0))
 comes_with {r = r} start mid x (Err e) h before is = fails_through {K = λ k. k} e (h.reads r) before
 
-pub fewer_still : {X : Type 0} (start mid : Rest) (res : Result (X × Rest) Fault) → IfOk res (λ p. Fewer p.1 mid) → NoMore mid start → IfOk res (λ p. Fewer p.1 start)
+fewer_still : {X : Type 0} (start mid : Rest) (res : Result (X × Rest) Fault) → IfOk res (λ p. Fewer p.1 mid) → NoMore mid start → IfOk res (λ p. Fewer p.1 start)
 fewer_still start mid (Ok p) h m = omega (arith, h, m)
 fewer_still start mid (Err e) h m = tt
 
@@ -51,6 +51,31 @@ pub not_joined : {X Y : Type 0} {Left : Rest → Rest → Type 0} {y : Y → Ite
     Err e ≡ both x next → Reading Left y s r start next → FailsAt s r start.tokens.now e
 not_joined x (Ok p) e h = cc
 not_joined x {e} (Err e') i h = let j : e ≡ e' = cc in rw j h.reads
+
+-- the same behind two trees
+pub record JoinedTwice {X Y Z : Type 0} (Left : Rest → Rest → Type 0) (z : Z → Item) (s : Symbol) (r : ℕ) (start : Rest) (x : X) (y : Y) (a : X) (b : Y) (c : Z) (rest : Rest) : Type 0 where
+  pub outer : a ≡ x
+  pub first : b ≡ y
+  pub reads : Passes s r start.tokens.now (λ ds. z c ∷ ds) r rest.tokens.now
+  pub shorter : Left rest start
+
+pub joined_twice : {X Y Z : Type 0} {Left : Rest → Rest → Type 0} {z : Z → Item} {s : Symbol} {r : ℕ} {start : Rest} {x a : X} {y b : Y} {c : Z} {rest : Rest} {inner : Result ((Y × Z) × Rest) Fault} (next : Result (Z × Rest) Fault) →
+    Ok ((a, (b, c)), rest) ≡ both x inner → inner ≡ both y next → Reading Left z s r start next → JoinedTwice Left z s r start x y a b c rest
+joined_twice {X} {Y} {Z} {x = x} {a} {y} {b} {c} {rest} {inner} (Ok p) e i h =
+    let f : Ok ((a, (b, c)), rest) ≡ Ok ((x, (y, p.0)), p.1) = e ∙ ap (λ w. both x w) i in
+    let q : ((a, (b, c)), rest) ≡ ((x, (y, p.0)), p.1) = cc in
+    let j : c ≡ p.0 = ap (λ (w : (X × (Y × Z)) × Rest). w.0.1.1) q in
+    let k : rest ≡ p.1 = ap (λ (w : (X × (Y × Z)) × Rest). w.1) q in
+    rw (j, k) (record { outer = ap (λ (w : (X × (Y × Z)) × Rest). w.0.0) q; first = ap (λ (w : (X × (Y × Z)) × Rest). w.0.1.0) q; reads = h.reads; shorter = h.shorter })
+joined_twice {x = x} (Err e') e i h = let f = e ∙ ap (λ w. both x w) i in cc
+
+pub not_joined_twice : {X Y Z : Type 0} {Left : Rest → Rest → Type 0} {z : Z → Item} {s : Symbol} {r : ℕ} {start : Rest} (x : X) (y : Y) {e : Fault} {inner : Result ((Y × Z) × Rest) Fault} (next : Result (Z × Rest) Fault) →
+    Err e ≡ both x inner → inner ≡ both y next → Reading Left z s r start next → FailsAt s r start.tokens.now e
+not_joined_twice x y next h i reads = not_joined y next (joined_err x h i) reads
+  where
+    joined_err : {X Y : Type 0} (x : X) {e : Fault} {inner joint : Result (Y × Rest) Fault} → Err e ≡ both x inner → inner ≡ joint → Err e ≡ joint
+    joined_err x {inner = Ok p} h i = cc
+    joined_err x {e} {inner = Err e'} h i = let k : e ≡ e' = cc in ap Err k ∙ i
 
 -- what is read with any room
 pub at_room : {X : Type 0} {Left : Rest → Rest → Type 0} {x : X → Item} {s : Symbol} {start : Rest} {res : Result (X × Rest) Fault} (r : ℕ) → FlatReading Left x s start res → Reading Left x s r start res

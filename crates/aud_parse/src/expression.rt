@@ -1,25 +1,28 @@
 // Expressions (RM 4.4).
 //
-// What is not called at each level of parentheses is not inlined, so that its values do not stand in
-// the stack frames of each level.
+// Trees are handed on in boxes, and what is not called at each level of parentheses is not inlined, so
+// that little stands in the stack frames of each level.
 
 ghost use Rattle.std.specs.Prelude.{◌≡◌, ◌∷◌, []};
 ghost use Rattle.aud_parse.specs.Grammar as g;
 ghost use Rattle.aud_parse.specs.Grammar.{N, Opt, Rep};
 ghost use Rattle.aud_parse.specs.First.{firsts};
-ghost use Rattle.aud_parse.specs.Actions.{a_sign, an_adding, a_multiplying, an_operator, a_relational, chained, made};
-ghost use Rattle.aud_parse.specs.Ties.Items.{vec_item, opt_item, parens_item, name_item, args_item, attribute_item, primary_item, factor_item, multiplied_item, term_item, added_item, simple_item, relation_item, boxed_item};
-ghost use Rattle.aud_parse.specs.Ties.Reads.{Reads, MayRead, ReadsFlat, Completes, Takes, TakesAny};
+ghost use Rattle.aud_parse.specs.Actions.{a_sign, an_adding, a_multiplying, an_operator, a_relational};
+ghost use Rattle.aud_parse.specs.Ties.Items.{vec_item, opt_item, parens_item, name_item, args_item, attribute_item, primary_item, factor_item, multiplied_item, term_item, added_item, simple_item, relation_item, expression_item, boxed_item};
+ghost use Rattle.aud_parse.specs.Ties.Reads.{Reads, MayRead, ReadsFlat, Takes, TakesAny};
 ghost use Rattle.aud_parse.specs.Ties.Connects.{further, Connects, Reconnects};
 
+use crate::assemble::{
+    alone, connected, product, push_added, push_multiplied, push_relation, related, sum, unrelated,
+};
+use crate::behind::{both, ended};
 use crate::cursor::{Fault, Read, Rest, accept, deeper, is, token, word};
 use crate::leaf::{ident, literal};
 use crate::value::number_value;
 use aud_lex::token::Kind;
 use aud_syntax::tree::{
-    Added, Adding, Chain, Comparison, Connective, Expression, Factor, Highest, Ident, Multiplied,
-    Multiplying, Name, NamePart, Number, Operator, Primary, Relation, Relational, Sign, Signed,
-    Simple, Term,
+    Added, Adding, Connective, Expression, Factor, Highest, Ident, Multiplied, Multiplying, Name,
+    NamePart, Number, Operator, Primary, Relation, Relational, Sign, Signed, Simple, Term,
 };
 use aud_text::place::Pos;
 use std::alloc::Global;
@@ -32,7 +35,7 @@ pub fn parens(alloc: Global, start: Rest, room: u32) -> Read<(Pos, Box<Expressio
     let inside = deeper(start, room, is(start, Kind::LeftParenthesis))?;
     let (open, rest) = token(start, Kind::LeftParenthesis)?;
     let (inner, rest) = expression(alloc, rest, inside)?;
-    let rest = word(rest, Kind::RightParenthesis)?;
+    let (inner, rest) = ended(inner, rest, Kind::RightParenthesis)?;
     Ok(((open.at(), inner), rest))
 }
 
@@ -126,12 +129,12 @@ fn opt_operator(start: Rest) -> (Option<Operator>, Rest)
 
 /// A factor (RM 4.4(6)).
 #[cycle(expression)]
-fn factor(alloc: Global, start: Rest, room: u32) -> Read<Factor>
-    ensures { Reads factor_item (N g.Factor) room start.entry result }
+fn factor(alloc: Global, start: Rest, room: u32) -> Read<Box<Factor>>
+    ensures { Reads (boxed_item factor_item) (N g.Factor) room start.entry result }
 {
     let (operator, rest) = opt_operator(start);
     let (primary, rest) = primary(alloc, rest, room)?;
-    Ok((Factor { operator, primary }, rest))
+    Ok((Box::new(alloc, Factor { operator, primary })?, rest))
 }
 
 /// A multiplying operator, if one comes next (RM 4.5.5).
@@ -163,7 +166,7 @@ fn multiplieds(alloc: Global, start: Rest, room: u32) -> Read<Vec<Multiplied>>
     let mut rest = start;
     'turns: while let Some((operator, behind)) = multiplying(rest) {
         let (factor, after) = factor(alloc, behind, room)?;
-        all.push(Multiplied { operator, factor })?;
+        push_multiplied(&mut all, operator, factor)?;
         rest = after;
     }
     Ok((all, rest))
@@ -171,12 +174,12 @@ fn multiplieds(alloc: Global, start: Rest, room: u32) -> Read<Vec<Multiplied>>
 
 /// A term (RM 4.4(5)).
 #[cycle(expression)]
-fn term(alloc: Global, start: Rest, room: u32) -> Read<Term>
-    ensures { Reads term_item (N g.Term) room start.entry result }
+fn term(alloc: Global, start: Rest, room: u32) -> Read<Box<Term>>
+    ensures { Reads (boxed_item term_item) (N g.Term) room start.entry result }
 {
     let (first, rest) = factor(alloc, start, room)?;
-    let (more, rest) = multiplieds(alloc, rest, room)?;
-    Ok((Term { first, rest: more }, rest))
+    let ((first, more), rest) = both(first, multiplieds(alloc, rest, room))?;
+    Ok((product(alloc, first, more)?, rest))
 }
 
 /// A binary adding operator, if one comes next (RM 4.5.3).
@@ -205,7 +208,7 @@ fn addeds(alloc: Global, start: Rest, room: u32) -> Read<Vec<Added>>
     let mut rest = start;
     'turns: while let Some((operator, behind)) = adding(rest) {
         let (term, after) = term(alloc, behind, room)?;
-        all.push(Added { operator, term })?;
+        push_added(&mut all, operator, term)?;
         rest = after;
     }
     Ok((all, rest))
@@ -228,20 +231,13 @@ fn opt_sign(start: Rest) -> (Option<Signed>, Rest)
 
 /// A simple expression (RM 4.4(4)).
 #[cycle(expression)]
-fn simple(alloc: Global, start: Rest, room: u32) -> Read<Simple>
-    ensures { Reads simple_item (N g.Simple) room start.entry result }
+fn simple(alloc: Global, start: Rest, room: u32) -> Read<Box<Simple>>
+    ensures { Reads (boxed_item simple_item) (N g.Simple) room start.entry result }
 {
     let (sign, rest) = opt_sign(start);
     let (first, rest) = term(alloc, rest, room)?;
-    let (more, rest) = addeds(alloc, rest, room)?;
-    Ok((
-        Simple {
-            sign,
-            first,
-            rest: more,
-        },
-        rest,
-    ))
+    let ((first, more), rest) = both(first, addeds(alloc, rest, room))?;
+    Ok((sum(alloc, sign, first, more)?, rest))
 }
 
 /// A relational operator, if one comes next (RM 4.5.2).
@@ -269,39 +265,17 @@ fn relational(start: Rest) -> Option<(Relational, Rest)>
     None
 }
 
-/// A relation of two operands, of which the second comes next (RM 4.4(3)).
-#[cycle(expression)]
-#[inline(never)]
-fn related(
-    alloc: Global,
-    left: Simple,
-    operator: Relational,
-    start: Rest,
-    room: u32,
-) -> Read<Relation>
-    ensures { Completes
-        (λ es. made g.Relation (simple_item left ∷ made g.Compared (a_relational operator ∷ es)))
-        relation_item (N g.Simple ∷ []) room start.entry result }
-{
-    let (right, rest) = simple(alloc, start, room)?;
-    let comparison = Comparison {
-        operator,
-        left,
-        right,
-    };
-    Ok((Relation::Related(Box::new(alloc, comparison)?), rest))
-}
-
 /// A relation (RM 4.4(3)).
 #[cycle(expression)]
-fn relation(alloc: Global, start: Rest, room: u32) -> Read<Relation>
-    ensures { Reads relation_item (N g.Relation) room start.entry result }
+fn relation(alloc: Global, start: Rest, room: u32) -> Read<Box<Relation>>
+    ensures { Reads (boxed_item relation_item) (N g.Relation) room start.entry result }
 {
     let (left, rest) = simple(alloc, start, room)?;
     if let Some((operator, behind)) = relational(rest) {
-        return related(alloc, left, operator, behind, room);
+        let ((left, right), rest) = both(left, simple(alloc, behind, room))?;
+        return Ok((related(alloc, operator, left, right)?, rest));
     }
-    Ok((Relation::Unrelated(left), rest))
+    Ok((unrelated(alloc, left)?, rest))
 }
 
 /// A logical operator or short-circuit control form, if one comes next (RM 4.5.1).
@@ -360,48 +334,25 @@ fn relations(alloc: Global, operator: Connective, start: Rest, room: u32) -> Rea
     'turns: while is(rest, first_word(operator)) {
         let behind = again(operator, rest)?;
         let (relation, after) = relation(alloc, behind, room)?;
-        all.push(relation)?;
+        push_relation(&mut all, relation)?;
         rest = after;
     }
     Ok((all, rest))
 }
 
-/// An expression of several relations, of which the second comes next (RM 4.4(2)).
-#[cycle(expression)]
-#[inline(never)]
-fn connected(
-    alloc: Global,
-    first: Relation,
-    connective: Connective,
-    start: Rest,
-    room: u32,
-) -> Read<Box<Expression>>
-    ensures { Completes (λ es. made g.Expression (relation_item first ∷ chained connective es))
-        boxed_item (N g.Relation ∷ Rep (further connective) ∷ []) room start.entry result }
-{
-    let (second, rest) = relation(alloc, start, room)?;
-    let (others, rest) = relations(alloc, connective, rest, room)?;
-    let chain = Chain {
-        connective,
-        first,
-        second,
-        others,
-    };
-    let boxed = Box::new(alloc, Expression::Connected(Box::new(alloc, chain)?))?;
-    Ok((boxed, rest))
-}
-
 /// An expression (RM 4.4).
 #[cycle(expression)]
 pub fn expression(alloc: Global, start: Rest, room: u32) -> Read<Box<Expression>>
-    ensures { Reads boxed_item (N g.Expression) room start.entry result }
+    ensures { Reads (boxed_item expression_item) (N g.Expression) room start.entry result }
 {
     let (first, rest) = relation(alloc, start, room)?;
-    if let Some((connective, behind)) = logical(rest) {
-        return connected(alloc, first, connective, behind, room);
+    if let Some((operator, behind)) = logical(rest) {
+        let ((first, second), rest) = both(first, relation(alloc, behind, room))?;
+        let others = relations(alloc, operator, rest, room);
+        let ((first, (second, others)), rest) = both(first, both(second, others))?;
+        return Ok((connected(alloc, operator, first, second, others)?, rest));
     }
-    let boxed = Box::new(alloc, Expression::Alone(first))?;
-    Ok((boxed, rest))
+    Ok((alone(alloc, first)?, rest))
 }
 
 /// The arguments of a call, which lie one level deeper (RM 6.4).

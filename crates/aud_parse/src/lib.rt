@@ -1,6 +1,7 @@
 // The parser.
 #![tactic(auto)]
 
+mod assemble;
 mod behind;
 mod cursor;
 mod declaration;

@@ -32,6 +32,9 @@ abbrev pub opt_item : {X : Type 0} → (X → Item) → Option X → Item
 opt_item f None = none
 opt_item f (Some x) = f x
 
+abbrev pub boxed_item : {X : Type 0} → (X → Item) → Box X Global → Item
+boxed_item f x = f x.value
+
 abbrev pub parens_item : Pos × Box Expression Global → Item
 parens_item x = in_parens x.0 (plain_expression x.1.value)
 
@@ -67,9 +70,6 @@ relation_item x = a_relation (plain_relation x)
 
 abbrev pub expression_item : Expression → Item
 expression_item x = an_expression (plain_expression x)
-
-abbrev pub boxed_item : Box Expression Global → Item
-boxed_item x = expression_item x.value
 
 abbrev pub assigned_item : Expression → Item
 assigned_item x = assigned (plain_expression x)

@@ -1,5 +1,5 @@
 -- What a function of the parser promises.
-use Rattle.std.specs.Prelude.{◌≡◌, ℕ, ◌+◌, ◌<◌, ◌≤◌, List, [], ◌∷◌, ◌++◌, length, Bool, true, false, if◌then◌else◌, Option, Some, None, Result, Ok, Err, IfOk, IfSome}
+use Rattle.std.specs.Prelude.{◌≡◌, ℕ, ◌+◌, ◌<◌, ◌≤◌, List, [], ◌∷◌, length, Bool, true, false, if◌then◌else◌, Option, Some, None, Result, Ok, Err, IfOk, IfSome}
 use Rattle.std.specs.Borrow.{Bor}
 use Rattle.aud_lex.specs.Element.{Element}
 use Rattle.aud_lex.specs.declared.token.Kind.{Kind}
@@ -26,12 +26,6 @@ FailsAt s r ts fault.Memory = Unit {0}
 FailsAt s r ts (fault.Wrong rest) = (k : List Symbol) → Fails (s ∷ k) r ts (Wrong rest.tokens.now)
 FailsAt s r ts (fault.Deep rest) = (k : List Symbol) → Fails (s ∷ k) r ts (Deep rest.tokens.now)
 
--- the same of several symbols
-abbrev pub FailsIn : List Symbol → ℕ → List Element → Fault → Type 0
-FailsIn s r ts fault.Memory = Unit {0}
-FailsIn s r ts (fault.Wrong rest) = (k : List Symbol) → Fails (s ++ k) r ts (Wrong rest.tokens.now)
-FailsIn s r ts (fault.Deep rest) = (k : List Symbol) → Fails (s ++ k) r ts (Deep rest.tokens.now)
-
 -- a tree is read by the symbol, or reading fails
 abbrev pub Comes : {X : Type 0} → (X → Item) → Symbol → ℕ → Rest → Result (X × Rest) Fault → Type 0
 Comes f s room start (Ok p) = Passes s room start.tokens.now (λ ds. f p.0 ∷ ds) room p.1.tokens.now
@@ -55,18 +49,7 @@ Reads f s room start result = Reading Fewer f s room start result
 abbrev pub MayRead : {X : Type 0} → (X → Item) → Symbol → ℕ → Rest → Result (X × Rest) Fault → Type 0
 MayRead f s room start result = Reading NoMore f s room start result
 
--- what the symbols read is made into a tree, with what was read before it; or reading fails
-abbrev pub Completing : {X : Type 0} → (List Item → List Item) → (X → Item) → List Symbol → ℕ → Rest → Result (X × Rest) Fault → Type 0
-Completing make f s room start (Ok p) =
-    (k : List Symbol) (ds : List Item) (v : Verdict) → Out k room p.1.tokens.now ds v → (es : List Item) × Out (s ++ k) room start.tokens.now es v × (make es ≡ f p.0 ∷ ds)
-Completing make f s room start (Err e) = FailsIn s room start.tokens.now e
-
--- the tree, and the tokens after it
-pub record Completes {X : Type 0} (make : List Item → List Item) (f : X → Item) (s : List Symbol) (room : ℕ) (start : Rest) (result : Result (X × Rest) Fault) : Type 0 where
-  pub reads : Completing make f s room start result
-  pub shorter : IfOk result (λ p. Fewer p.1 start)
-
--- a tree is read by a symbol that opens no level, with any room
+-- the same of what opens no level, with any room
 pub record FlatReading {X : Type 0} (Left : Rest → Rest → Type 0) (f : X → Item) (s : Symbol) (start : Rest) (result : Result (X × Rest) Fault) : Type 0 where
   pub reads : (room : ℕ) → Comes f s room start result
   pub shorter : IfOk result (λ p. Left p.1 start)

@@ -1,9 +1,10 @@
 use Rattle.aud_parse.specs.Grammar as g
-use Rattle.std.proofs.Common.{sym, ◌∙◌, refl, rules, arith}
+use Rattle.std.proofs.Common.{sym, ◌∙◌, refl, rules}
 use Rattle.aud_parse.specs.Ties.Outcome.{o_rule, o_this, o_other, o_last, o_yes, o_no, o_more}
 use Rattle.aud_parse.proofs.Passing.{to, exit, hand_on, level_in, level_out, turns_push, turns_end, no_level}
-use Rattle.aud_parse.proofs.Rolls.{term_roll, added_roll, simple_roll, factor_items, name_items, named_items, chain_items}
-use Rattle.aud_parse.proofs.Connecting.{next_so, completes, exit_in}
+use Rattle.aud_parse.proofs.Joined.{joined, not_joined, joined_twice, not_joined_twice}
+use Rattle.aud_parse.proofs.Rolls.{factor_items, name_items, named_items}
+use Rattle.aud_parse.proofs.Connecting.{next_so}
 use Rattle.aud_parse.proofs.expression.+expression.Goals as goal
 
 pub parens-returns-in_err-inside : goal.parens-returns-in_err-inside
@@ -15,11 +16,11 @@ parens-returns-in_err-open t c = exit _ _ _ c.from_residual-in_err-open.ensures.
 pub parens-returns-in_err-inner : goal.parens-returns-in_err-inner
 parens-returns-in_err-inner t c = exit _ _ _ c.from_residual-in_err-inner.ensures.1 c.in_err-inner.ensures.reads (λ k ds v o. o_rule (level_in c.in_ok-inside.ensures (o_rule (c.in_ok-open.ensures.reads _ _ _ _ o))))
 
-pub parens-returns-in_err-rest : goal.parens-returns-in_err-rest
-parens-returns-in_err-rest t c = exit _ _ _ c.from_residual-in_err-rest.ensures.1 (c.in_err-rest.ensures.reads c.in_ok-inside.inside) (λ k ds v o. o_rule (level_in c.in_ok-inside.ensures (o_rule (c.in_ok-open.ensures.reads _ _ _ _ (c.in_ok-inner.ensures.reads _ _ _ o)))))
+pub parens-returns-in_err-inner-2 : goal.parens-returns-in_err-inner-2
+parens-returns-in_err-inner-2 t c = exit _ _ _ c.from_residual-in_err-inner-2.ensures.1 (c.in_err-inner-2.ensures.reads c.in_ok-inside.inside) (λ k ds v o. o_rule (level_in c.in_ok-inside.ensures (o_rule (c.in_ok-open.ensures.reads _ _ _ _ (c.in_ok-inner.ensures.reads _ _ _ o)))))
 
 pub parens-returns : goal.parens-returns
-parens-returns t c = record { reads = λ k ds v o. rw c.at.ensures (o_rule (level_in c.in_ok-inside.ensures (o_rule (c.in_ok-open.ensures.reads _ _ _ _ (c.in_ok-inner.ensures.reads _ _ _ (c.in_ok-rest.ensures.reads _ _ _ _ (level_out c.in_ok-inside.ensures o))))))); shorter = search rules }
+parens-returns t c = record { reads = λ k ds v o. rw (c.at.ensures, c.in_ok-inner-2.ensures.reads.0) (o_rule (level_in c.in_ok-inside.ensures (o_rule (c.in_ok-open.ensures.reads _ _ _ _ (c.in_ok-inner.ensures.reads _ _ _ (c.in_ok-inner-2.ensures.reads.1 _ _ _ _ (level_out c.in_ok-inside.ensures o))))))); shorter = search rules }
 
 pub attribute-returns-in_err-rest : goal.attribute-returns-in_err-rest
 attribute-returns-in_err-rest t c = exit _ _ _ c.from_residual.ensures.1 (c.in_err-rest.ensures.reads c.args.room) (λ k ds v o. o_rule o)
@@ -73,62 +74,72 @@ pub factor-returns-in_err-primary : goal.factor-returns-in_err-primary
 factor-returns-in_err-primary t c = exit _ _ _ c.from_residual.ensures.1 c.in_err-primary.ensures.reads (λ k ds v o. o_rule (c.opt_operator-operator.ensures.reads _ _ _ _ o))
 
 pub factor-returns : goal.factor-returns
-factor-returns t c = record { reads = λ k ds v o. to (o_rule (c.opt_operator-operator.ensures.reads _ _ _ _ (c.in_ok-primary.ensures.reads _ _ _ o))) (factor_items _ _ _); shorter = search rules }
+factor-returns t c = record { reads = λ k ds v o. rw c.in_ok-new.ensures.ok (to (o_rule (c.opt_operator-operator.ensures.reads _ _ _ _ (c.in_ok-primary.ensures.reads _ _ _ o))) (factor_items _ _ _)); shorter = search rules }
 
 pub term-returns-in_err-first : goal.term-returns-in_err-first
 term-returns-in_err-first t c = exit _ _ _ c.from_residual.ensures.1 c.in_err-first.ensures.reads (λ k ds v o. o_rule o)
 
-pub term-returns-in_err-more : goal.term-returns-in_err-more
-term-returns-in_err-more t c = exit _ _ _ c.from_residual-in_err-more.ensures.1 c.in_err-more.ensures.reads (λ k ds v o. o_rule (c.in_ok-first.ensures.reads _ _ _ o))
+pub term-returns-in_err-first-2 : goal.term-returns-in_err-first-2
+term-returns-in_err-first-2 t c = exit _ _ _ c.from_residual-in_err-first-2.ensures.1 (not_joined _ _ c.in_err-first-2.ensures c.multiplieds.ensures) (λ k ds v o. o_rule (c.in_ok-first.ensures.reads _ _ _ o))
 
 pub term-returns : goal.term-returns
-term-returns t c = record { reads = λ k ds v o. rw term_roll (o_rule (c.in_ok-first.ensures.reads _ _ _ (c.in_ok-more.ensures.reads _ _ _ o))); shorter = search rules }
+term-returns t c =
+    let j = joined _ c.in_ok-first-2.ensures c.multiplieds.ensures in
+    record { reads = λ k ds v o. to (o_rule (c.in_ok-first.ensures.reads _ _ _ (j.reads _ _ _ o))) ((rw j.first at c.in_ok-product.ensures) ds); shorter = search rules }
 
 pub simple-returns-in_err-first : goal.simple-returns-in_err-first
 simple-returns-in_err-first t c = exit _ _ _ c.from_residual.ensures.1 c.in_err-first.ensures.reads (λ k ds v o. o_rule (c.opt_sign-sign.ensures.reads _ _ _ _ o))
 
-pub simple-returns-in_err-more : goal.simple-returns-in_err-more
-simple-returns-in_err-more t c = exit _ _ _ c.from_residual-in_err-more.ensures.1 c.in_err-more.ensures.reads (λ k ds v o. o_rule (c.opt_sign-sign.ensures.reads _ _ _ _ (c.in_ok-first.ensures.reads _ _ _ o)))
+pub simple-returns-in_err-first-2 : goal.simple-returns-in_err-first-2
+simple-returns-in_err-first-2 t c = exit _ _ _ c.from_residual-in_err-first-2.ensures.1 (not_joined _ _ c.in_err-first-2.ensures c.addeds.ensures) (λ k ds v o. o_rule (c.opt_sign-sign.ensures.reads _ _ _ _ (c.in_ok-first.ensures.reads _ _ _ o)))
 
 pub simple-returns : goal.simple-returns
-simple-returns t c = record { reads = λ k ds v o. rw simple_roll (o_rule (c.opt_sign-sign.ensures.reads _ _ _ _ (c.in_ok-first.ensures.reads _ _ _ (c.in_ok-more.ensures.reads _ _ _ o)))); shorter = search rules }
+simple-returns t c =
+    let j = joined _ c.in_ok-first-2.ensures c.addeds.ensures in
+    record { reads = λ k ds v o. to (o_rule (c.opt_sign-sign.ensures.reads _ _ _ _ (c.in_ok-first.ensures.reads _ _ _ (j.reads _ _ _ o)))) ((rw j.first at c.in_ok-sum.ensures) ds); shorter = search rules }
 
 pub relation-returns-in_err-left : goal.relation-returns-in_err-left
 relation-returns-in_err-left t c = exit _ _ _ c.from_residual.ensures.1 c.in_err-left.ensures.reads (λ k ds v o. o_rule o)
 
+pub relation-returns-in_err-left-2 : goal.relation-returns-in_err-left-2
+relation-returns-in_err-left-2 t c = exit _ _ _ c.from_residual-in_err-left-2.ensures.1 (not_joined _ _ c.in_err-left-2.ensures c.simple-in-Some.ensures) (λ k ds v o. o_rule (c.in_ok-left.ensures.reads _ _ _ (o_yes c.in-Some.ensures.reads.0 (o_rule (c.in-Some.ensures.reads.1 _ _ _ _ o)))))
+
 pub relation-returns-in-Some : goal.relation-returns-in-Some
-relation-returns-in-Some t c = completes _ c.args.start c.in-Some.behind _ c.related.ensures (omega (arith, c.in-Some.ensures.shorter, c.in_ok-left.ensures.shorter)) (λ k ds v o. o_rule (c.in_ok-left.ensures.reads _ _ _ (o_yes c.in-Some.ensures.reads.0 (o_rule (c.in-Some.ensures.reads.1 _ _ _ _ o)))))
+relation-returns-in-Some t c =
+    let j = joined _ c.in_ok-left-2.ensures c.simple-in-Some.ensures in
+    record { reads = λ k ds v o. to (o_rule (c.in_ok-left.ensures.reads _ _ _ (o_yes c.in-Some.ensures.reads.0 (o_rule (c.in-Some.ensures.reads.1 _ _ _ _ (j.reads _ _ _ o)))))) ((rw j.first at c.in_ok-related.ensures) ds); shorter = search rules }
 
 pub relation-returns : goal.relation-returns
-relation-returns t c = record { reads = λ k ds v o. o_rule (c.in_ok-left.ensures.reads _ _ _ (o_no c.in_default.ensures.reads o)); shorter = search rules }
+relation-returns t c = record { reads = λ k ds v o. to (o_rule (c.in_ok-left.ensures.reads _ _ _ (o_no c.in_default.ensures.reads o))) (c.in_ok-unrelated.ensures ds); shorter = search rules }
 
 pub expression-returns-in_err-first : goal.expression-returns-in_err-first
 expression-returns-in_err-first t c = exit _ _ _ c.from_residual.ensures.1 c.in_err-first.ensures.reads (λ k ds v o. o_rule o)
 
+pub expression-returns-in_err-first-2 : goal.expression-returns-in_err-first-2
+expression-returns-in_err-first-2 t c = exit _ _ _ c.from_residual-in_err-first-2.ensures.1 (not_joined _ _ c.in_err-first-2.ensures c.relation-in-Some.ensures) (λ k ds v o. o_rule (c.in_ok-first.ensures.reads _ _ _ (o_yes c.in-Some.ensures.reads.0 (c.in-Some.ensures.reads.1 _ _ _ _ o))))
+
+pub expression-returns-in_err-first-3 : goal.expression-returns-in_err-first-3
+expression-returns-in_err-first-3 t c =
+    let j = joined _ c.in_ok-first-2.ensures c.relation-in-Some.ensures in
+    exit _ _ _ c.from_residual-in_err-first-3.ensures.1 (not_joined_twice _ _ _ c.in_err-first-3.ensures c.both-in-Some.ensures c.relations-others.ensures)
+    (λ k ds v o. o_rule (c.in_ok-first.ensures.reads _ _ _ (o_yes c.in-Some.ensures.reads.0 (c.in-Some.ensures.reads.1 _ _ _ _ (j.reads _ _ _ o)))))
+
 pub expression-returns-in-Some : goal.expression-returns-in-Some
-expression-returns-in-Some t c = completes _ c.args.start c.in-Some.behind _ c.connected.ensures (omega (arith, c.in-Some.ensures.shorter, c.in_ok-first.ensures.shorter)) (λ k ds v o. o_rule (c.in_ok-first.ensures.reads _ _ _ (o_yes c.in-Some.ensures.reads.0 (c.in-Some.ensures.reads.1 _ _ _ _ o))))
+expression-returns-in-Some t c =
+    let j = joined _ c.in_ok-first-2.ensures c.relation-in-Some.ensures in
+    let i = joined_twice _ c.in_ok-first-3.ensures c.both-in-Some.ensures c.relations-others.ensures in
+    record { reads = λ k ds v o. to (o_rule (c.in_ok-first.ensures.reads _ _ _ (o_yes c.in-Some.ensures.reads.0 (c.in-Some.ensures.reads.1 _ _ _ _ (j.reads _ _ _ (i.reads _ _ _ o)))))) ((rw (i.outer, i.first, j.first) at c.in_ok-connected.ensures) ds); shorter = search rules }
 
 pub expression-returns : goal.expression-returns
-expression-returns t c = record { reads = λ k ds v o. rw c.in_ok-boxed.ensures.ok (o_rule (c.in_ok-first.ensures.reads _ _ _ (o_no c.in_default.ensures.reads o))); shorter = search rules }
-
-pub connected-returns-in_err-others : goal.connected-returns-in_err-others
-connected-returns-in_err-others t c = exit_in _ _ _ c.from_residual-in_err-others.ensures.1 c.in_err-others.ensures.reads (λ k ds v o. c.in_ok-second.ensures.reads _ _ _ o)
-
-pub connected-returns : goal.connected-returns
-connected-returns t c = record {
-  reads = λ k ds v o. (
-    _,
-    c.in_ok-second.ensures.reads _ _ _ (c.in_ok-others.ensures.reads _ _ _ o),
-    chain_items c.in_ok-boxed.boxed c.in_ok-new.field-0 c.args.connective c.args.first c.in_ok-second.second c.in_ok-others.others ds c.in_ok-boxed.ensures.ok c.in_ok-new.ensures.ok,
-  );
-  shorter = search rules;
-}
+expression-returns t c = record { reads = λ k ds v o. to (o_rule (c.in_ok-first.ensures.reads _ _ _ (o_no c.in_default.ensures.reads o))) (c.in_ok-alone.ensures ds); shorter = search rules }
 
 pub multiplieds-returns-in_err-factor : goal.multiplieds-returns-in_err-factor
 multiplieds-returns-in_err-factor t c = exit _ _ _ c.from_residual.ensures.1 c.in_err-factor.ensures.reads (λ k ds v o. c.turns.invariant.turns.by _ _ _ (o_more c.in-Some.ensures.reads.0 (o_rule (c.in-Some.ensures.reads.1 _ _ _ _ o))))
 
 pub multiplieds-turns-preserved : goal.multiplieds-turns-preserved
-multiplieds-turns-preserved t c = record { turns = turns_push _ c.turns.invariant.turns c.in-Some.ensures.reads.0 (λ k ds v o. o_rule (c.in-Some.ensures.reads.1 _ _ _ _ (c.in_ok-factor.ensures.reads _ _ _ o))) c.in_ok-push.ensures.items; shorter = search rules }
+multiplieds-turns-preserved t c =
+    let w = c.in_ok-push_multiplied.ensures in
+    record { turns = turns_push w.0 c.turns.invariant.turns c.in-Some.ensures.reads.0 (λ k ds v o. rw w.2 (o_rule (c.in-Some.ensures.reads.1 _ _ _ _ (c.in_ok-factor.ensures.reads _ _ _ o)))) w.1; shorter = search rules }
 
 pub multiplieds-returns : goal.multiplieds-returns
 multiplieds-returns t c = record { reads = turns_end c.turns.invariant.turns c.in_default.ensures.reads; shorter = search rules }
@@ -137,7 +148,9 @@ pub addeds-returns-in_err-term : goal.addeds-returns-in_err-term
 addeds-returns-in_err-term t c = exit _ _ _ c.from_residual.ensures.1 c.in_err-term.ensures.reads (λ k ds v o. c.turns.invariant.turns.by _ _ _ (o_more c.in-Some.ensures.reads.0 (o_rule (c.in-Some.ensures.reads.1 _ _ _ _ o))))
 
 pub addeds-turns-preserved : goal.addeds-turns-preserved
-addeds-turns-preserved t c = record { turns = turns_push _ c.turns.invariant.turns c.in-Some.ensures.reads.0 (λ k ds v o. rw added_roll (o_rule (c.in-Some.ensures.reads.1 _ _ _ _ (c.in_ok-term.ensures.reads _ _ _ o)))) c.in_ok-push.ensures.items; shorter = search rules }
+addeds-turns-preserved t c =
+    let w = c.in_ok-push_added.ensures in
+    record { turns = turns_push w.0 c.turns.invariant.turns c.in-Some.ensures.reads.0 (λ k ds v o. rw w.2 (o_rule (c.in-Some.ensures.reads.1 _ _ _ _ (c.in_ok-term.ensures.reads _ _ _ o)))) w.1; shorter = search rules }
 
 pub addeds-returns : goal.addeds-returns
 addeds-returns t c = record { reads = turns_end c.turns.invariant.turns c.in_default.ensures.reads; shorter = search rules }
@@ -150,7 +163,9 @@ relations-returns-in_err-relation t c = exit _ _ _ c.from_residual-in_err-relati
     (λ k ds v o. c.turns.invariant.turns.by _ _ _ (o_more (next_so c.turns.rest.tokens.now c.first_word.ensures c.is.ensures c.turns-test.true) (c.in_ok-behind.ensures.reads _ _ _ _ o)))
 
 pub relations-turns-preserved : goal.relations-turns-preserved
-relations-turns-preserved t c = record { turns = turns_push _ c.turns.invariant.turns (next_so c.turns.rest.tokens.now c.first_word.ensures c.is.ensures c.turns-test.true) (λ k ds v o. c.in_ok-behind.ensures.reads _ _ _ _ (c.in_ok-relation.ensures.reads _ _ _ o)) c.in_ok-push.ensures.items; shorter = search rules }
+relations-turns-preserved t c =
+    let w = c.in_ok-push_relation.ensures in
+    record { turns = turns_push w.0 c.turns.invariant.turns (next_so c.turns.rest.tokens.now c.first_word.ensures c.is.ensures c.turns-test.true) (λ k ds v o. rw w.2 (c.in_ok-behind.ensures.reads _ _ _ _ (c.in_ok-relation.ensures.reads _ _ _ o))) w.1; shorter = search rules }
 
 pub relations-returns : goal.relations-returns
 relations-returns t c = record { reads = turns_end c.turns.invariant.turns (next_so c.turns.rest.tokens.now c.first_word.ensures c.is.ensures c.turns-test.false); shorter = search rules }

@@ -33,19 +33,13 @@ abbrev pub decreases-simple : goal.decreases-simple
 decreases-simple l = 16 * l.room + 10
 
 abbrev pub decreases-expression : goal.decreases-expression
-decreases-expression l = 16 * l.room + 15
-
-abbrev pub decreases-related : goal.decreases-related
-decreases-related l = 16 * l.room + 11
+decreases-expression l = 16 * l.room + 13
 
 abbrev pub decreases-relation : goal.decreases-relation
-decreases-relation l = 16 * l.room + 12
+decreases-relation l = 16 * l.room + 11
 
 abbrev pub decreases-relations : goal.decreases-relations
-decreases-relations l = 16 * l.room + 13
-
-abbrev pub decreases-connected : goal.decreases-connected
-decreases-connected l = 16 * l.room + 14
+decreases-relations l = 16 * l.room + 12
 
 abbrev pub invariant-multiplieds-turns : goal.invariant-multiplieds-turns
 invariant-multiplieds-turns l = record { turns : Turns multiplied_item g.Multiplied l.room l.start.tokens.now l.all.items l.rest.tokens.now; shorter : length l.rest.tokens.now ≤ length l.start.tokens.now }

@@ -1,4 +1,4 @@
-use Rattle.std.proofs.Common.{ap, ◌∙◌, refl, ⊎_elim}
+use Rattle.std.proofs.Common.{ap, ⊎_elim}
 use Rattle.aud_parse.proofs.Connecting.{second, not_again, one_word, two_words}
 use Rattle.aud_parse.proofs.expression.again.Goals as goal
 

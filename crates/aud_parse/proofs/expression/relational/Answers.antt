@@ -2,7 +2,7 @@ use Rattle.std.proofs.Common.{List, [], ◌∷◌, rules}
 use Rattle.aud_lex.specs.declared.token.Kind.{Kind}
 use Rattle.aud_lex.specs.declared.token.Kind.TheVariants as kind
 use Rattle.aud_parse.specs.Ties.Outcome.{o_rule, o_this, o_other, o_last}
-use Rattle.aud_parse.proofs.Passing.{word_passes, in_this, in_others, in_none}
+use Rattle.aud_parse.proofs.Passing.{word_passes, in_this, in_others}
 use Rattle.aud_parse.proofs.expression.relational.Goals as goal
 
 -- the operators behind each
