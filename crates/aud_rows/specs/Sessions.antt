@@ -24,3 +24,13 @@ abbrev pub ZeroDivision : Type 0
 ZeroDivision =
     answers_to (codes "LOAD 1\nprocedure M is begin Put_Line (Integer'Image (1 / 0)); end M;\nRUN 9\nOUTPUT\n")
     ≡ codes "+ 1\nloaded M\n+ 2\nran 3 ended\nmain raised CONSTRAINT_ERROR\n+ 1\nbytes 0\n"
+
+abbrev pub Signs : Type 0
+Signs =
+    answers_to (codes "LOAD 1\nprocedure M is W, X, Y, Z : Integer := 7; begin W := (-W) mod 3; X := -X mod 3; Y := -Y / 2; Z := (-Z) rem 2; Put_Line (W'Image & X'Image & Y'Image & Z'Image); end M;\nRUN 100\nOUTPUT\n")
+    ≡ codes "+ 1\nloaded M\n+ 1\nran 11 ended\n+ 2\nbytes 9\n 2-1-3-1\n"
+
+abbrev pub Mixture : Type 0
+Mixture =
+    answers_to (codes "LOAD 1\nprocedure M is begin X := A and B or C; end M;\nLOAD 1\nprocedure M is begin X := 1; end M;\n")
+    ≡ codes "- E21 1:35 syntax\n- E30 1:22 name not declared\n"

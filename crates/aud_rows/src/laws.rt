@@ -1,6 +1,6 @@
 // Sessions whose answers follow from the definitions by computing.
 
-ghost use Rattle.aud_rows.specs.Sessions.{NullProgram, NoProgram, Sum, ZeroDivision};
+ghost use Rattle.aud_rows.specs.Sessions.{NullProgram, NoProgram, Sum, ZeroDivision, Signs, Mixture};
 ghost use Rattle.aud_rows.specs.Worked.{RowsHold};
 
 /// A program of one null statement ends in three steps.
@@ -21,6 +21,16 @@ pub fn sum()
 /// A division by zero ends the program.
 pub fn zero_division()
     ensures { ZeroDivision }
+{}
+
+/// A sign stands before the whole first term, and binds less than `mod`, `rem` and the quotient.
+pub fn signs()
+    ensures { Signs }
+{}
+
+/// Logical operators are not mixed without parentheses, and a name that is used is declared.
+pub fn mixture()
+    ensures { Mixture }
 {}
 
 /// Programs of the whole language, with tasks, entries, protected objects and abort among them, answer what was worked out by
