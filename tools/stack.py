@@ -93,6 +93,18 @@ def shapes():
     yield "attributes in one another", wrapped(
         f"procedure M is X:Integer;begin X:={images};end M;"
     ), "- E33"
+    text, _ = source(
+        "procedure M is begin Put_Line(Boolean'Image(", lambda i: "1=1", "));end M;", " and "
+    )
+    yield "one chain of relations", text, 3
+    logic = "1=1 and(" * (DEEP - 2) + "1=1" + ")" * (DEEP - 2)
+    yield "logical operators nested to the right", wrapped(
+        f"procedure M is begin Put_Line(Boolean'Image({logic}));end M;"
+    ), 3
+    levels = "1=1 and 1=1 and 1=1+1*(" * DEEP + "1" + ")" * DEEP
+    yield "operators of every level nested to the right", wrapped(
+        f"procedure M is X:Integer;begin X:={levels};end M;"
+    ), "- E33"
     yield "one parenthesis too many", wrapped(
         f"procedure M is X:Integer;begin X:=({nest});end M;"
     ), "- E23"
