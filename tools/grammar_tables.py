@@ -15,7 +15,7 @@ END = 999
 # the phrases that may come last in a list of tokens
 LAST = ["Unit", "Expression"]
 
-SYMBOL = r"A \([^()]*\)|T kind\.\w+|P kind\.\w+|W \w+|N \w+|L \w+|Down|Opt \w+|Rep \w+"
+SYMBOL = r"A \([^()]*\)|T kind\.\w+|P kind\.\w+|W [\w.]+|N \w+|L \w+|Down|Opt \w+|Rep \w+"
 
 
 def read_codes():

@@ -49,8 +49,44 @@ def chain(operator, operand):
     return text, 4
 
 
+def nested_statements():
+    """Statements at the limit of levels; the statements of the body are one, and those of each part of a statement one."""
+    inner = DEEP
+    ifs = "if 1=1 then\n" * inner + "null;\n" + "end if;\n" * inner
+    yield "ifs in one another", f"procedure M is begin\n{ifs}end M;\n", inner + 3
+    others = "if 1=2 then null;elsif 1=1 then\n" * inner + "null;\n" + "end if;\n" * inner
+    yield "ifs in elsif parts", f"procedure M is begin\n{others}end M;\n", 2 * inner + 3
+    last = "if 1=2 then null;else\n" * inner + "null;\n" + "end if;\n" * inner
+    yield "ifs in else parts", f"procedure M is begin\n{last}end M;\n", inner + 3
+    loops = "loop\n" * inner + "null;\n" + "exit;end loop;\n" * inner
+    yield "loops in one another", f"procedure M is begin\n{loops}end M;\n", inner + 3
+    labels = "".join(f"{name(i)}:while 1=1 loop\n" for i in range(inner))
+    ends = "".join(f"exit when 1=1;end loop {name(i)};\n" for i in reversed(range(inner)))
+    yield "loops with labels and conditions", f"procedure M is begin\n{labels}null;\n{ends}end M;\n", 2 * inner + 3
+    text, _ = source("procedure M is begin loop exit;", lambda i: "end loop;loop exit;", "end loop;end M;")
+    yield "one list of loops", text, None
+    text, _ = source("procedure M is begin if 1=2 then null;", lambda i: "elsif 1=2 then null;", "end if;end M;")
+    yield "one list of elsif parts", text, None
+
+
+def nested_arguments():
+    """Names with arguments, which nothing has as yet."""
+    calls = "F(" * DEEP + "1" + ")" * DEEP
+    yield "arguments in one another", wrapped(f"procedure M is X:Integer;begin X:={calls};end M;"), "- E30"
+    levels = "1=1 and 1=1 and 1=1+1*A'B(" * DEEP + "1" + ")" * DEEP
+    yield "operators of every level around attributes", wrapped(
+        f"procedure M is X:Integer;begin X:={levels};end M;"
+    ), "- E30"
+    targets = "A(" * DEEP + "1" + ")" * DEEP
+    yield "arguments of a target in one another", wrapped(f"procedure M is begin {targets}:=1;end M;"), "- E30"
+    text, _ = source("procedure M is begin F(", lambda i: "1", ");end M;", ",")
+    yield "one list of arguments", text, "- E30"
+    text, _ = source("procedure M is begin A.", lambda i: "B", ";end M;", ".")
+    yield "one name of many parts", text, "- E30"
+
+
 def shapes():
-    """Names, source texts, and the steps of each, or the refusal."""
+    """Names, source texts, and the steps of each (None: whatever they are), or the refusal."""
     for operator in "+", "-", "*", " mod ":
         yield f"one chain of {operator.strip()}", *chain(operator, "1")
     yield "one chain of parenthesized operands", *chain("+", "(1)")
@@ -105,6 +141,8 @@ def shapes():
     yield "operators of every level nested to the right", wrapped(
         f"procedure M is X:Integer;begin X:={levels};end M;"
     ), "- E33"
+    yield from nested_statements()
+    yield from nested_arguments()
     yield "one parenthesis too many", wrapped(
         f"procedure M is X:Integer;begin X:=({nest});end M;"
     ), "- E23"
@@ -127,7 +165,9 @@ def answered(program, text, size):
 
 
 def is_right(answer, result):
-    """Loaded, and ended after this number of steps; or refused by this code."""
+    """Loaded, and ended, after this number of steps where it is known; or refused by this code."""
+    if result is None:
+        return answer.startswith("+ 1\nloaded M\n+ 1\nran ") and answer.endswith(" ended\n+ 0\n")
     if isinstance(result, int):
         return answer == f"+ 1\nloaded M\n+ 1\nran {result} ended\n+ 0\n"
     return answer.startswith(result)

@@ -15,6 +15,7 @@ use Rattle.aud_check.specs.declared.fault.Fault.{Fault}
 use Rattle.aud_check.specs.Least.{noted}
 use Rattle.aud_check.specs.Declarations.{Declared, checked_declaration, checked_declarations}
 use Rattle.aud_check.specs.Ties.DeclarativePart.{Declares}
+use Rattle.aud_check.specs.Labels.{Labels}
 use Rattle.aud_check.specs.Statements.{statement_faults, others_faults}
 use Rattle.aud_check.proofs.Notes.{noted_append}
 
@@ -24,9 +25,9 @@ typed_ahead now next typed t rest all p q h =
     ap (λ l. plain_typed_statements l ++ rest) p ∙ ap (λ l. l ++ rest) (map-append plain_statement now (typed ∷ [])) ∙ append_assoc (plain_typed_statements now) (plain_statement typed ∷ []) rest ∙ ap (λ z. plain_typed_statements now ++ (z ∷ rest)) q ∙ h
 
 -- the faults of one more statement
-pub statements_ahead : (mid new all : Option Fault) (x : source.Statement) (xs ys : List source.Statement) (place : Place) → xs ≡ x ∷ ys → new ≡ noted mid (statement_faults (plain_source x) place) → noted mid (others_faults (plain_others xs) place) ≡ all → noted new (others_faults (plain_others ys) place) ≡ all
-statements_ahead mid new all x xs ys place p q h =
-    ap (λ o. noted o (others_faults (plain_others ys) place)) q ∙ sym (noted_append mid (statement_faults (plain_source x) place) (others_faults (plain_others ys) place)) ∙ sym (ap (λ l. noted mid (others_faults (plain_others l) place)) p) ∙ h
+pub statements_ahead : (mid new all : Option Fault) (x : source.Statement) (xs ys : List source.Statement) (labels : Labels) (place : Place) → xs ≡ x ∷ ys → new ≡ noted mid (statement_faults (plain_source x) labels place) → noted mid (others_faults (plain_others xs) labels place) ≡ all → noted new (others_faults (plain_others ys) labels place) ≡ all
+statements_ahead mid new all x xs ys labels place p q h =
+    ap (λ o. noted o (others_faults (plain_others ys) labels place)) q ∙ sym (noted_append mid (statement_faults (plain_source x) labels place) (others_faults (plain_others ys) labels place)) ∙ sym (ap (λ l. noted mid (others_faults (plain_others l) labels place)) p) ∙ h
 
 -- what is still to be declared, from some faults and a part on, amounts to what was asked
 pub record DeclaresAhead (now_faults : Option Fault) (now : DeclarativePart) (rest : Declared) (old_faults : Option Fault) (old : DeclarativePart) (all : Declared) : Type 0 where

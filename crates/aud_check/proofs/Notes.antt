@@ -1,16 +1,23 @@
 -- Faults that are noted one after the other.
-use Rattle.std.specs.Prelude.{List, [], ◌∷◌, ◌++◌, Option, Result, Ok, Err}
+use Rattle.std.specs.Prelude.{List, [], ◌∷◌, ◌++◌, Option, Result, Ok, Err, IfOk}
 use Rattle.std.specs.declared.alloc.AllocError.{AllocError}
 use Rattle.std.proofs.Common.{◌≡◌, refl, sym, ◌∙◌, ap}
 use Rattle.aud_check.specs.declared.fault.Fault.{Fault}
 use Rattle.aud_check.specs.declared.typed.Typed as memory
 use Rattle.aud_check.specs.Least.{note, noted}
 use Rattle.aud_check.specs.Expressions.{Typed, Checked, with}
-use Rattle.aud_check.specs.Ties.Typing.{plain_typed, Shows}
+use Rattle.aud_check.specs.Ties.Typing.{plain_typed, Leaves, Shows}
 
 pub noted_append : (o : Option Fault) (fs gs : List Fault) → noted o (fs ++ gs) ≡ noted (noted o fs) gs
 noted_append o [] gs = refl
 noted_append o (f ∷ fs) gs = noted_append (note o f) fs gs
+
+pub noted_then : (o m n : Option Fault) (fs gs : List Fault) → m ≡ noted o fs → n ≡ noted m gs → n ≡ noted o (fs ++ gs)
+noted_then o m n fs gs p q = q ∙ ap (λ z. noted z gs) p ∙ sym (noted_append o fs gs)
+
+pub leaves : {X Y : Type 0} (plain : X → Y) (r : Result X AllocError) (old new : Option Fault) (fs : List Fault) (y : Y) → new ≡ noted old fs → IfOk r (λ x. plain x ≡ y) → Leaves plain r old new fs y
+leaves plain (Ok x) old new fs y p h = (p, h)
+leaves plain (Err e) old new fs y p h = tt
 
 -- a part is checked, and then the rest with the part's type
 pub shows_with : (old mid new : Option Fault) (c : Checked) (f : Typed → Checked) (t : memory.Typed) (r : Result memory.Typed AllocError) → Shows (Ok t) old mid c → Shows r mid new (f (plain_typed t)) → Shows r old new (with c f)

@@ -1,6 +1,10 @@
 -- Trees by their parts.
-use Rattle.std.proofs.Common.{◌≡◌, List, ◌∷◌, ap}
-use Rattle.std.specs.Prelude.{Option}
+use Rattle.std.proofs.Common.{◌≡◌, List, ◌∷◌, ap, ◌∙◌}
+use Rattle.std.specs.Prelude.{Option, Box}
+use Rattle.std.specs.Global.{Global}
+use Rattle.aud_syntax.specs.declared.tree.Ident.{Ident}
+use Rattle.aud_syntax.specs.declared.tree.Primary.{Attribute}
+use Rattle.aud_check.specs.Resolution.{name_ident}
 use Rattle.aud_text.specs.declared.place.Pos.{Pos}
 use Rattle.aud_syntax.specs.declared.tree.Multiplied.{Multiplied}
 use Rattle.aud_syntax.specs.declared.tree.Simple.{Simple, out-Simple}
@@ -9,18 +13,27 @@ use Rattle.aud_syntax.specs.declared.tree.Term.{Term, out-Term}
 use Rattle.aud_syntax.specs.declared.tree.Connective.{Connective}
 use Rattle.aud_syntax.specs.declared.tree.Chain.{Chain}
 use Rattle.aud_syntax.specs.declared.tree.Relation.{Relation}
-use Rattle.aud_syntax.specs.Ties.View.{plain_chain, plain_relation, relation_list, plain_simple, plain_added, plain_term, plain_multiplied, plain_factor}
-use Rattle.aud_syntax.proofs.Opened.{multiplied_list, added_list, term_open, simple_open}
+use Rattle.aud_syntax.specs.declared.tree.Expression.{Expression}
+use Rattle.aud_syntax.specs.declared.tree.NamePart.{NamePart}
+use Rattle.aud_syntax.specs.declared.tree.Name.{Name, out-Name}
+use Rattle.aud_syntax.specs.Ties.View.{plain_expression, plain_expressions, plain_name, plain_part, part_list, plain_chain, plain_relation, relation_list, plain_simple, plain_added, plain_term, plain_multiplied, plain_factor, plain_primary}
+use Rattle.aud_syntax.proofs.Opened.{multiplied_list, added_list, term_open, simple_open, name_open, attribute_open}
 use Rattle.aud_syntax.specs.Plain as m
 use Rattle.std.specs.Prelude.{Ok}
 use Rattle.aud_check.specs.declared.fault.Fault.{Fault}
 use Rattle.aud_check.specs.declared.typed.Typed as memory
 use Rattle.aud_check.specs.Names.{Place}
-use Rattle.aud_check.specs.Expressions.{Typed, Checked, with, simple_at, term_at, signed_at, factor_at, relation_at, signed, further, checked_expression, checked_relations, checked_relation, checked_simple, checked_addeds, checked_added, checked_term, checked_multiplieds, checked_multiplied, checked_factor}
+use Rattle.aud_check.specs.Expressions.{primary_at, Typed, unknown, Checked, with, checked_arguments, checked_parts, checked_part, checked_args, simple_at, term_at, signed_at, factor_at, relation_at, signed, further, checked_expression, checked_relations, checked_relation, checked_simple, checked_addeds, checked_added, checked_term, checked_multiplieds, checked_multiplied, checked_factor}
 use Rattle.aud_check.specs.Ties.Typing.{plain_typed, Shows}
 use Rattle.aud_check.proofs.Notes.{Ahead, ahead_all, ahead_with}
 
 -- where they begin
+pub name_begins : (n : Name) → (name_ident (plain_name n)).at ≡ (out-Name n).first.ident.at
+name_begins n = ap (λ z. (name_ident z).at) (name_open n)
+
+pub attribute_begins : (x : Box Name Global) (i : Ident) (e : Option (Box Expression Global)) → primary_at (plain_primary (Attribute x i e)) ≡ (out-Name x.value).first.ident.at
+attribute_begins x i e = ap primary_at (attribute_open x i e) ∙ name_begins x.value
+
 pub term_begins : (t : Term) → term_at (plain_term t) ≡ factor_at (plain_factor (out-Term t).first)
 term_begins t = ap term_at (term_open t)
 
@@ -55,3 +68,19 @@ chain_ahead e place old mid new x y at items p q h k =
 pub further_ahead : (place : Place) (old mid new : Option Fault) (all : Checked) (c : Connective) (x : Relation) (xs ys : List Relation) (at : Pos) (left : Typed) (t : memory.Typed) → xs ≡ x ∷ ys → Ahead mid (checked_relations (relation_list xs) place c at left) old all → Shows (Ok t) mid new (further c at left (relation_at (plain_relation x)) (checked_relation (plain_relation x) place)) → Ahead new (checked_relations (relation_list ys) place c at (plain_typed t)) old all
 further_ahead place old mid new all c x xs ys at left t p a h =
     ahead_with old mid new all (further c at left (relation_at (plain_relation x)) (checked_relation (plain_relation x) place)) (λ z. checked_relations (relation_list ys) place c at z) t (rw p at a) h
+
+-- the loops over the arguments of a part, and over the parts of a name
+pub args_ahead : (xs items : List Expression) (place : Place) (old : Option Fault) (before : Typed) → items ≡ xs → Ahead old (checked_args (plain_expressions items) place before) old (checked_args (plain_expressions xs) place before)
+args_ahead xs items place old before p = rw p (ahead_all old (checked_args (plain_expressions xs) place before))
+
+pub argument_ahead : (place : Place) (old mid new : Option Fault) (all : Checked) (x : Expression) (xs ys : List Expression) (last : Typed) (t : memory.Typed) → xs ≡ x ∷ ys → Ahead mid (checked_args (plain_expressions xs) place last) old all → Shows (Ok t) mid new (checked_expression (plain_expression x) place) → Ahead new (checked_args (plain_expressions ys) place (plain_typed t)) old all
+argument_ahead place old mid new all x xs ys last t p a h =
+    ahead_with old mid new all (checked_expression (plain_expression x) place) (λ z. checked_args (plain_expressions ys) place z) t (rw p at a) h
+
+pub arguments_ahead : (n : Name) (place : Place) (old mid : Option Fault) (x : memory.Typed) (items : List NamePart) → items ≡ (out-Name n).others.items → Shows (Ok x) old mid (checked_part (plain_part (out-Name n).first) place unknown) → Ahead mid (checked_parts (part_list items) place (plain_typed x)) old (checked_arguments (plain_name n) place)
+arguments_ahead n place old mid x items p h =
+    rw (p, name_open n) (ahead_with old old mid (checked_arguments (m.named (plain_part (out-Name n).first) (part_list (out-Name n).others.items)) place) (checked_part (plain_part (out-Name n).first) place unknown) (λ last. checked_parts (part_list (out-Name n).others.items) place last) x (ahead_all old _) h)
+
+pub part_ahead : (place : Place) (old mid new : Option Fault) (all : Checked) (x : NamePart) (xs ys : List NamePart) (last : Typed) (t : memory.Typed) → xs ≡ x ∷ ys → Ahead mid (checked_parts (part_list xs) place last) old all → Shows (Ok t) mid new (checked_part (plain_part x) place last) → Ahead new (checked_parts (part_list ys) place (plain_typed t)) old all
+part_ahead place old mid new all x xs ys last t p a h =
+    ahead_with old mid new all (checked_part (plain_part x) place last) (λ z. checked_parts (part_list ys) place z) t (rw p at a) h

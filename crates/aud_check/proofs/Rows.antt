@@ -31,7 +31,7 @@ sum s t rest = alone (unrelated (simple s t rest))
 
 -- procedure P is .. begin .. end P;
 abbrev main : List Declaration → Statement → List Statement → Unit
-main ds s ss = unit (at 1 1) (id (codes "P") (at 1 11)) (declarations ds) (body (at 5 1) (statements s ss) (at 9 1) (Some (id (codes "P") (at 9 5))))
+main ds s ss = unit [] (at 1 1) (id (codes "P") (at 1 11)) (declarations ds) (body (at 5 1) (statements s ss) (at 9 1) (Some (id (codes "P") (at 9 5))))
 
 abbrev integer_type : Pos → Ident
 integer_type place = id (codes "INTEGER") place
@@ -107,7 +107,7 @@ twice_row = refl
 kind_row : faults (main (object (id (codes "C") (at 3 1)) [] (id (codes "P") (at 3 5)) no_expression ∷ []) (assign (var_at (codes "C") (at 6 1)) (only (str (codes "x") (at 6 6)))) []) ≡ fault (at 3 5) WrongKindOfName ∷ []
 kind_row = refl
 
-attribute_row : checked (main (two ∷ []) (called (id (codes "PUT_LINE") (at 7 1)) (only (attribute (var_at (codes "B") (at 7 11)) (id (codes "FIRST") (at 7 13)) no_expression))) []) ≡ Err (fault (at 7 13) WrongKindOfName)
+attribute_row : checked (main (two ∷ []) (called (id (codes "PUT_LINE") (at 7 1)) (only (attribute (var_at (codes "B") (at 7 11)) (id (codes "FIRST") (at 7 13)) no_expression))) []) ≡ Err (fault (at 7 11) WrongKindOfName)
 attribute_row = refl
 
 -- (1 + 2) * 3 & "x": the left operand begins at its first token
@@ -164,7 +164,7 @@ less_unknown_row = refl
 and_row : faults (main (two ∷ []) (put_truth (connected And (unrelated (operand (named_at (codes "A") 26))) (unrelated (operand (named_at (codes "B") 32))) no_relations)) []) ≡ fault (at 7 26) WrongType ∷ fault (at 7 32) WrongType ∷ []
 and_row = refl
 
--- variables are Integers
+-- A is an Integer
 truth_assigned_row : checked (main (two ∷ []) (assign (var_at (codes "A") (at 7 1)) (alone (less (named_at (codes "A") 6) (named_at (codes "B") 10)))) []) ≡ Err (fault (at 7 6) WrongType)
 truth_assigned_row = refl
 
@@ -180,11 +180,11 @@ arguments_row = refl
 itself_row : checked (main (two ∷ []) (called (id (codes "P") (at 7 1)) (only (num 1 (at 7 4)))) []) ≡ Err (fault (at 7 1) WrongNumberOfArguments)
 itself_row = refl
 
--- the grammar makes no call without arguments
+-- Put_Line has one argument
 alone_row : checked (main [] (call (var_at (codes "PUT_LINE") (at 7 1))) []) ≡ Err (fault (at 7 1) WrongNumberOfArguments)
 alone_row = refl
 
-end_row : checked (unit (at 1 1) (id (codes "P") (at 1 11)) no_declarations (body (at 2 1) (statements (null (at 3 1)) []) (at 4 1) (Some (id (codes "Q") (at 4 5))))) ≡ Err (fault (at 4 5) WrongNameAtEnd)
+end_row : checked (unit [] (at 1 1) (id (codes "P") (at 1 11)) no_declarations (body (at 2 1) (statements (null (at 3 1)) []) (at 4 1) (Some (id (codes "Q") (at 4 5))))) ≡ Err (fault (at 4 5) WrongNameAtEnd)
 end_row = refl
 
 large_row : checked (main [] (called (id (codes "PUT_LINE") (at 7 1)) (only (attribute (named (part (integer_type (at 7 11)) no_args) no_parts) (id (codes "IMAGE") (at 7 19)) (an_expression (only (integer (record { value = None; at = at 7 26 }))))))) []) ≡ Err (fault (at 7 26) NumberTooLarge)

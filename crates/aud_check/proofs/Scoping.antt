@@ -1,8 +1,9 @@
 -- Where there are no faults, each variable of the typed program has been elaborated where it is read or assigned.
 use Rattle.std.specs.Prelude.{IfSome}
+use Rattle.std.specs.Map.{lookup}
 use Rattle.std.specs.List.{All, AllByRecursion}
 use Rattle.std.specs.Str.{bytes_eq}
-use Rattle.std.proofs.Common.{◌≡◌, ℕ, suc, ℤ, ◌+◌, ◌≤◌, Bool, true, false, List, [], ◌∷◌, ◌++◌, length, Option, Some, None, if◌then◌else◌, map, arith, codes, not, refl, sym, ◌∙◌, ap, subst, add-one}
+use Rattle.std.proofs.Common.{◌≡◌, ℕ, suc, ℤ, ◌+◌, ◌≤◌, Bool, true, false, List, [], ◌∷◌, ◌++◌, length, Option, Some, None, if◌then◌else◌, map, arith, not, refl, sym, ◌∙◌, ap, subst, add-one}
 use Rattle.std.proofs.lemmas.List.{length-map, length_push}
 use Rattle.std.proofs.lemmas.List.Elements.{All-from_recursion, All-nil, All-push}
 use Rattle.std.proofs.lemmas.Map.Entries.{All-lookup}
@@ -19,14 +20,25 @@ use Rattle.aud_syntax.specs.declared.tree.Relational.{Relational}
 use Rattle.aud_syntax.specs.declared.tree.Connective.{Connective}
 use Rattle.aud_syntax.specs.declared.tree.Connective.TheVariants as connective
 use Rattle.aud_syntax.specs.Plain as plain
+use Rattle.aud_typed.specs.declared.program.Variable.{Variable}
+use Rattle.aud_typed.specs.declared.program.Subtype.{Subtype}
+use Rattle.aud_typed.specs.declared.program.Subtype.TheVariants.{Integer, Natural, Positive, Boolean}
 use Rattle.aud_typed.specs.declared.program.Unary.{Unary}
 use Rattle.aud_typed.specs.declared.program.Unary.TheVariants as unary
 use Rattle.aud_typed.specs.declared.program.Binary.{Binary}
 use Rattle.aud_typed.specs.Tree as tree
-use Rattle.aud_typed.specs.Why.Scoped.{Scope, IntegerScoped, BooleanScoped, ValueScoped, TextScoped, scope_after, StatementScoped, scope_behind, PartScoped, IsScoped}
+use Rattle.aud_typed.specs.Why.Scoped.{Scope, IsElaborated, IntegerScoped, BooleanScoped, ValueScoped, TextScoped, scope_after, StatementScoped, scope_behind, PartScoped, IsScoped}
 use Rattle.aud_check.specs.declared.fault.Fault.{Fault}
 use Rattle.aud_check.specs.declared.names.Meaning.{Meaning}
-use Rattle.aud_check.specs.declared.names.Meaning.TheVariants.{IntegerType, BooleanType, Literal, PutLine, MainProcedure, Variable}
+use Rattle.aud_check.specs.declared.names.Meaning.TheVariants.{ScalarType, Literal, Object, Builtin, MainProcedure}
+use Rattle.aud_check.specs.declared.names.Builtin as names_in_memory
+use Rattle.aud_check.specs.declared.names.Builtin.TheVariants.{Put, PutLine, NewLine}
+use Rattle.aud_check.specs.declared.attribute.Attribute.{Attribute}
+use Rattle.aud_check.specs.declared.attribute.Attribute.TheVariants.{Image, First, Last, Other}
+use Rattle.aud_check.specs.Resolution as resolution
+use Rattle.aud_check.specs.Resolution.{Resolved}
+use Rattle.aud_check.specs.Assignments as assignments
+use Rattle.aud_check.specs.Calls as calls
 use Rattle.aud_check.specs.declared.rules.Base.{Base}
 use Rattle.aud_check.specs.declared.rules.Base.TheVariants.{Whole, Truth}
 use Rattle.aud_check.specs.Names as names
@@ -35,6 +47,8 @@ use Rattle.aud_check.specs.Rules as rules
 use Rattle.aud_check.specs.Expressions as e
 use Rattle.aud_check.specs.Expressions.{Typed, number, boolean, string, unknown}
 use Rattle.aud_check.specs.Declarations as d
+use Rattle.aud_check.specs.Conditions as q
+use Rattle.aud_check.specs.Labels.{Labels}
 use Rattle.aud_check.specs.Statements as s
 use Rattle.aud_check.specs.Checked as c
 
@@ -146,30 +160,104 @@ module _ (scope : Scope) where
   both_scoped c (boolean x) (boolean y) h i = both_of_scoped c x y h i
   both_scoped c _ _ h i = tt
 
-  image_scoped : (base : Base) (t : Typed) → TypedScoped scope t → TypedScoped scope (e.image_of base t)
-  image_scoped Whole (number x) h = h
-  image_scoped Truth (boolean x) h = h
-  image_scoped _ _ h = tt
+  no_argument_scoped : (designator : Pos) (a : Option (Pos × Typed)) (t : Typed) → TypedScoped scope t → TypedScoped scope (e.without_argument designator a t).typed
+  no_argument_scoped designator None t h = h
+  no_argument_scoped designator (Some a) t h = tt
 
-  type_image_scoped : (base : Base) (designator : Pos) (a : Option (Pos × Typed)) → IfSome a (λ x. TypedScoped scope x.1) → TypedScoped scope (e.image_by_type base designator a).typed
-  type_image_scoped base designator None i = tt
-  type_image_scoped base designator (Some a) i = image_scoped base a.1 i
+  image_scoped : (t : Typed) → TypedScoped scope t → TypedScoped scope (e.image_of t)
+  image_scoped (number x) h = h
+  image_scoped (boolean x) h = h
+  image_scoped _ h = tt
 
-  value_image_scoped : (t : tree.TextExpression) (designator : Pos) (a : Option (Pos × Typed)) → TextScoped t scope → TypedScoped scope (e.image_by_value t designator a).typed
-  value_image_scoped t designator None h = h
-  value_image_scoped t designator (Some a) h = tt
+  image_of_type_scoped : (base : Base) (t : Typed) → TypedScoped scope t → TypedScoped scope (e.image_of_type base t)
+  image_of_type_scoped Whole (number x) h = h
+  image_of_type_scoped Truth (boolean x) h = h
+  image_of_type_scoped _ _ h = tt
 
-  any_image_scoped : (m : Meaning) (prefix designator : Ident) (a : Option (Pos × Typed)) → MeaningScoped scope m → IfSome a (λ x. TypedScoped scope x.1) → TypedScoped scope (e.image m prefix designator a).typed
-  any_image_scoped IntegerType prefix designator a h i = type_image_scoped Whole designator.at a i
-  any_image_scoped BooleanType prefix designator a h i = type_image_scoped Truth designator.at a i
-  any_image_scoped (Variable v) prefix designator a h i = value_image_scoped _ designator.at a h
-  any_image_scoped (Literal b) prefix designator a h i = value_image_scoped _ designator.at a h
+  image_with_scoped : (base : Base) (designator : Pos) (a : Option (Pos × Typed)) → IfSome a (λ x. TypedScoped scope x.1) → TypedScoped scope (e.image_with base designator a).typed
+  image_with_scoped base designator None i = tt
+  image_with_scoped base designator (Some a) i = image_of_type_scoped base a.1 i
+
+  any_image_scoped : (m : Meaning) (prefix designator : Pos) (a : Option (Pos × Typed)) → MeaningScoped scope m → IfSome a (λ x. TypedScoped scope x.1) → TypedScoped scope (e.image m prefix designator a).typed
+  any_image_scoped (ScalarType t) prefix designator a h i = image_with_scoped (rules.base_of_subtype t) designator a i
+  any_image_scoped (Object o) prefix designator a h i = no_argument_scoped designator a _ (image_scoped (e.stored o.variable o.subtype) h)
+  any_image_scoped (Literal b) prefix designator a h i = no_argument_scoped designator a _ tt
   any_image_scoped _ prefix designator a h i = tt
 
-  attribute_scoped : (m : Option Meaning) (prefix designator : Ident) (a : Option (Pos × Typed)) → VisibleScoped scope m → IfSome a (λ x. TypedScoped scope x.1) → TypedScoped scope (e.checked_attribute m prefix designator a).typed
+  bound_scoped : (x : Option ℤ) (prefix designator : Pos) (a : Option (Pos × Typed)) → TypedScoped scope (e.bound x prefix designator a).typed
+  bound_scoped None prefix designator a = tt
+  bound_scoped (Some x) prefix designator a = no_argument_scoped designator a _ tt
+
+  attribute_of_scoped : (x : Option Attribute) (m : Meaning) (prefix designator : Pos) (a : Option (Pos × Typed)) → MeaningScoped scope m → IfSome a (λ x. TypedScoped scope x.1) → TypedScoped scope (e.attribute_named x m prefix designator a).typed
+  attribute_of_scoped None m prefix designator a h i = tt
+  attribute_of_scoped (Some Image) m prefix designator a h i = any_image_scoped m prefix designator a h i
+  attribute_of_scoped (Some First) m prefix designator a h i = bound_scoped (e.first_of m) prefix designator a
+  attribute_of_scoped (Some Last) m prefix designator a h i = bound_scoped (e.last_of m) prefix designator a
+  attribute_of_scoped (Some Other) m prefix designator a h i = tt
+
+  attribute_scoped : (m : Option Meaning) (prefix : Pos) (designator : Ident) (a : Option (Pos × Typed)) → VisibleScoped scope m → IfSome a (λ x. TypedScoped scope x.1) → TypedScoped scope (e.attribute_if m prefix designator a).typed
   attribute_scoped None prefix designator a h i = tt
-  attribute_scoped (Some m) prefix designator a h i =
-      either (λ (x : e.Checked). TypedScoped scope x.typed) (bytes_eq designator.name (codes "IMAGE")) _ _ (any_image_scoped m prefix designator a h i) tt
+  attribute_scoped (Some m) prefix designator a h i = attribute_of_scoped (lookup (bytes_eq designator.name) e.attributes) m prefix designator.at a h i
+
+  -- what names denote
+
+  denoted_scoped : (m : Meaning) (p : plain.NamePart) (ps : plain.Parts) → MeaningScoped scope m → VisibleScoped scope (resolution.denoted_by m p ps).denoted.meaning
+  denoted_scoped m p ps h = either (λ (x : Resolved). VisibleScoped scope x.denoted.meaning) (resolution.may_stand m p ps) _ _ h tt
+
+  text_io_scoped : (m : Option Meaning) (p : plain.NamePart) (ps : plain.Parts) → VisibleScoped scope (resolution.in_text_io m p ps).denoted.meaning
+  text_io_scoped (Some (Builtin b)) p ps = denoted_scoped (Builtin b) p ps tt
+  text_io_scoped _ p ps = tt
+
+  library_scoped : (p : plain.NamePart) (ps : plain.Parts) (n : Place) → VisibleScoped scope (resolution.in_library p ps n).denoted.meaning
+  library_scoped p (plain.more_parts q (plain.more_parts r rest)) n =
+      either (λ (x : Resolved). VisibleScoped scope x.denoted.meaning) (resolution.is_text_io p q n) _ _ (text_io_scoped (names.named_in (resolution.part_ident r).name names.predefined) r rest) tt
+  library_scoped p (plain.more_parts q plain.no_parts) n = tt
+  library_scoped p plain.no_parts n = tt
+
+  or_library_scoped : (m : Option Meaning) (p : plain.NamePart) (ps : plain.Parts) (n : Place) → VisibleScoped scope m → VisibleScoped scope (resolution.or_in_library m p ps n).denoted.meaning
+  or_library_scoped (Some m) p ps n h = denoted_scoped m p ps h
+  or_library_scoped None p ps n h = library_scoped p ps n
+
+  -- values for places that ask for a subtype
+
+  default_scoped : (t : Subtype) → ValueScoped (d.default_value t) scope
+  default_scoped Integer = tt
+  default_scoped Natural = tt
+  default_scoped Positive = tt
+  default_scoped Boolean = tt
+
+  value_scoped : (t : Subtype) (x : Typed) → TypedScoped scope x → ValueScoped (d.value_for t x) scope
+  value_scoped t (number x) h = h
+  value_scoped t (boolean x) h = h
+  value_scoped t (string x) h = default_scoped t
+  value_scoped t unknown h = default_scoped t
+
+  stored_elaborated : (v : Variable) (t : Subtype) → TypedScoped scope (e.stored v (Some t)) → IsElaborated v scope
+  stored_elaborated v Integer h = h
+  stored_elaborated v Natural h = h
+  stored_elaborated v Positive h = h
+  stored_elaborated v Boolean h = h
+
+module _ (scope : Scope) where
+  -- statements one after the other
+
+  before_scoped : (x : tree.Statement) (xs : List tree.Statement) → IsStatement scope x → AllByRecursion (IsStatement scope) xs → StatementScoped (tree.before x xs) scope
+  before_scoped x [] h i = h.0
+  before_scoped x (y ∷ ys) h i = (h.0, rw h.1 (before_scoped y ys i.0 i.1))
+
+  others_part_scoped : (xs : List tree.Statement) → AllByRecursion (IsStatement scope) xs → PartScoped (tree.part_of xs) scope
+  others_part_scoped [] h = tt
+  others_part_scoped (x ∷ xs) h = before_scoped x xs h.0 h.1
+
+  -- conditions and loops
+
+  truth_scoped : (t : Typed) → TypedScoped scope t → BooleanScoped (q.truth_of t) scope
+  truth_scoped (boolean x) h = h
+  truth_scoped _ h = tt
+
+  looped_scoped : (at : Pos) (x : Option tree.BooleanExpression) (body : tree.Statement) → IfSome x (λ b. BooleanScoped b scope) → StatementScoped body scope → IsStatement scope (s.looped at x body)
+  looped_scoped at None body h i = (i, refl)
+  looped_scoped at (Some x) body h i = ((h, i), refl)
 
 module _ (scope : Scope) (n : Place) (sees : Sees scope n) where
   mutual
@@ -209,54 +297,91 @@ module _ (scope : Scope) (n : Place) (sees : Sees scope n) where
     factor_scoped (plain.factor None p) = primary_scoped p
     factor_scoped (plain.factor (Some operator) p) = highest_scoped scope operator.highest _ _ (primary_scoped p)
 
+    resolved_scoped : (x : plain.Name) → VisibleScoped scope (resolution.resolved x n).denoted.meaning
+    resolved_scoped (plain.named p ps) = or_library_scoped scope (names.visible (resolution.part_ident p).name n) p ps n (sees (resolution.part_ident p).name)
+
     primary_scoped : (x : plain.Primary) → TypedScoped scope (e.checked_primary x n).typed
     primary_scoped (plain.integer x) = number_scoped scope x.value x.at
     primary_scoped (plain.text x) = tt
-    primary_scoped (plain.name x) = read_scoped scope _ (sees (e.name_ident x).name)
-    primary_scoped (plain.attribute x designator argument) = argument_scoped argument (e.name_ident x) designator
+    primary_scoped (plain.name x) = read_scoped scope _ (resolved_scoped x)
+    primary_scoped (plain.attribute x designator argument) = argument_scoped argument (resolution.resolved x n) designator (resolved_scoped x)
     primary_scoped (plain.group at x) = expression_scoped x
 
-    argument_scoped : (x : plain.MaybeExpression) (prefix designator : Ident) → TypedScoped scope (e.checked_image x n prefix designator).typed
-    argument_scoped plain.no_expression prefix designator = attribute_scoped scope _ prefix designator None (sees prefix.name) tt
-    argument_scoped (plain.an_expression x) prefix designator = attribute_scoped scope _ prefix designator (Some (e.expression_at x, (e.checked_expression x n).typed)) (sees prefix.name) (expression_scoped x)
+    argument_scoped : (x : plain.MaybeExpression) (prefix : Resolved) (designator : Ident) → VisibleScoped scope prefix.denoted.meaning → TypedScoped scope (e.checked_image x n prefix designator).typed
+    argument_scoped plain.no_expression prefix designator h = attribute_scoped scope prefix.denoted.meaning prefix.denoted.at designator None h tt
+    argument_scoped (plain.an_expression x) prefix designator h = attribute_scoped scope prefix.denoted.meaning prefix.denoted.at designator (Some (e.expression_at x, (e.checked_expression x n).typed)) h (expression_scoped x)
+
+    args_scoped : (x : plain.Args) (last : Typed) → TypedScoped scope last → TypedScoped scope (e.checked_args x n last).typed
+    args_scoped plain.no_args last h = h
+    args_scoped (plain.more_args x xs) last h = args_scoped xs _ (expression_scoped x)
+
+    part_scoped : (x : plain.NamePart) (last : Typed) → TypedScoped scope last → TypedScoped scope (e.checked_part x n last).typed
+    part_scoped (plain.part i xs) last h = args_scoped xs last h
+
+    parts_scoped : (x : plain.Parts) (last : Typed) → TypedScoped scope last → TypedScoped scope (e.checked_parts x n last).typed
+    parts_scoped plain.no_parts last h = h
+    parts_scoped (plain.more_parts p ps) last h = parts_scoped ps _ (part_scoped p last h)
+
+  arguments_scoped : (x : plain.Name) → TypedScoped scope (e.checked_arguments x n).typed
+  arguments_scoped (plain.named p ps) = parts_scoped ps _ (part_scoped p unknown tt)
 
   -- statements
 
-  assigned_scoped : (m : Option Meaning) (at : Pos) (t : Typed) → VisibleScoped scope m → TypedScoped scope t → IsStatement scope (s.assigned m at t)
-  assigned_scoped (Some (Variable v)) at (number x) h i = ((h, i), refl)
+  assigned_to_scoped : (v : Variable) (t : Option Subtype) (at : Pos) (x : Typed) → TypedScoped scope (e.stored v t) → TypedScoped scope x → IsStatement scope (assignments.assigned_to v t at x)
+  assigned_to_scoped v None at x h i = (tt, refl)
+  assigned_to_scoped v (Some t) at x h i = ((stored_elaborated scope v t h, value_scoped scope t x i), refl)
+
+  assigned_scoped : (m : Option Meaning) (at : Pos) (t : Typed) → VisibleScoped scope m → TypedScoped scope t → IsStatement scope (assignments.assigned m at t)
+  assigned_scoped (Some (Object o)) at t h i = assigned_to_scoped o.variable o.subtype at t h i
   assigned_scoped _ at _ h i = (tt, refl)
 
-  called_scoped : (m : Option Meaning) (at : Pos) (t : Typed) → TypedScoped scope t → IsStatement scope (s.called m at t)
-  called_scoped (Some PutLine) at (string x) h = ((h, tt), refl)
-  called_scoped _ at _ h = (tt, refl)
+  put_scoped : (b : names_in_memory.Builtin) (at : Pos) (t : Typed) → TypedScoped scope t → IsStatement scope (calls.put_out b at t)
+  put_scoped Put at (string x) h = (h, refl)
+  put_scoped PutLine at (string x) h = ((h, tt), refl)
+  put_scoped NewLine at t h = (tt, refl)
+  put_scoped _ at _ h = (tt, refl)
 
-  called_with_scoped : (xs : plain.Args) (i : Ident) → IsStatement scope (s.called_with xs i n)
-  called_with_scoped (plain.more_args x plain.no_args) i = called_scoped (names.visible i.name n) i.at _ (expression_scoped x)
-  called_with_scoped _ i = (tt, refl)
+  called_scoped : (m : Option Meaning) (at : Pos) (t : Typed) → TypedScoped scope t → IsStatement scope (calls.called m at t)
+  called_scoped (Some (Builtin b)) at t h = put_scoped b at t h
+  called_scoped _ at t h = (tt, refl)
 
-  statement_scoped : (x : plain.Statement) → IsStatement scope (s.typed_statement x n)
-  statement_scoped (plain.null at) = (tt, refl)
-  statement_scoped (plain.assign x value) = assigned_scoped (names.visible (e.name_ident x).name n) (e.name_ident x).at _ (sees (e.name_ident x).name) (expression_scoped value)
-  statement_scoped (plain.call x) = called_with_scoped (s.name_args x) (e.name_ident x)
+  condition_scoped : (x : plain.Expression) → BooleanScoped (q.condition x n) scope
+  condition_scoped x = truth_scoped scope (e.checked_expression x n).typed (expression_scoped x)
 
-  others_scoped : (x : plain.MoreStatements) → AllByRecursion (IsStatement scope) (s.typed_others x n)
-  others_scoped plain.no_statements = tt
-  others_scoped (plain.more_statements x xs) = (statement_scoped x, others_scoped xs)
+  maybe_condition_scoped : (x : plain.MaybeExpression) → BooleanScoped (q.maybe_condition x n) scope
+  maybe_condition_scoped plain.no_expression = tt
+  maybe_condition_scoped (plain.an_expression x) = condition_scoped x
+
+  loop_condition_scoped : (x : plain.Iteration) → IfSome (s.loop_condition x n) (λ b. BooleanScoped b scope)
+  loop_condition_scoped plain.forever = tt
+  loop_condition_scoped (plain.while x) = condition_scoped x
+
+  mutual
+    statement_scoped : (x : plain.Statement) (labels : Labels) → IsStatement scope (s.typed_statement x labels n)
+    statement_scoped (plain.null at) labels = (tt, refl)
+    statement_scoped (plain.assign x value) labels = assigned_scoped (resolution.resolved x n).denoted.meaning (resolution.name_ident x).at _ (resolved_scoped x) (expression_scoped value)
+    statement_scoped (plain.call x) labels = called_scoped (resolution.resolved x n).denoted.meaning (resolution.name_ident x).at _ (arguments_scoped x)
+    statement_scoped (plain.if_then at x ss arms otherwise) labels =
+        ((condition_scoped x, sequence_scoped ss labels, arms_scoped arms labels _ (others_part_scoped scope _ (others_scoped otherwise labels))), refl)
+    statement_scoped (plain.loop label at i ss last semicolon) labels = looped_scoped scope (s.loop_at label at) (s.loop_condition i n) _ (loop_condition_scoped i) (sequence_scoped ss (label ∷ labels))
+    statement_scoped (plain.exit at name x) labels = (maybe_condition_scoped x, refl)
+
+    arms_scoped : (x : plain.Arms) (labels : Labels) (otherwise : tree.Part) → PartScoped otherwise scope → PartScoped (s.typed_arms x labels n otherwise) scope
+    arms_scoped plain.no_arms labels otherwise h = h
+    arms_scoped (plain.more_arms at x ss arms) labels otherwise h = (condition_scoped x, sequence_scoped ss labels, arms_scoped arms labels otherwise h)
+
+    sequence_scoped : (x : plain.Statements) (labels : Labels) → StatementScoped (s.sequence_of (s.typed_statements x labels n)) scope
+    sequence_scoped (plain.in_order x xs) labels = before_scoped scope _ _ (statement_scoped x labels) (others_scoped xs labels)
+
+    others_scoped : (x : plain.MoreStatements) (labels : Labels) → AllByRecursion (IsStatement scope) (s.typed_others x labels n)
+    others_scoped plain.no_statements labels = tt
+    others_scoped (plain.more_statements x xs) labels = (statement_scoped x labels, others_scoped xs labels)
 
   -- the initial value of a declaration
 
-  zero_scoped : (t : Typed) → TypedScoped scope t → IntegerScoped (d.integer_or_zero t) scope
-  zero_scoped (number x) h = h
-  zero_scoped _ h = tt
-
-  initial_scoped : (x : plain.MaybeExpression) → IntegerScoped (d.initial_value x n) scope
-  initial_scoped plain.no_expression = tt
-  initial_scoped (plain.an_expression x) = zero_scoped (e.checked_expression x n).typed (expression_scoped x)
-
-module _ (scope : Scope) where
-  before_scoped : (x : tree.Statement) (xs : List tree.Statement) → IsStatement scope x → AllByRecursion (IsStatement scope) xs → StatementScoped (tree.before x xs) scope
-  before_scoped x [] h i = h.0
-  before_scoped x (y ∷ ys) h i = (h.0, rw h.1 (before_scoped y ys i.0 i.1))
+  initial_scoped : (x : plain.MaybeExpression) (t : Option Subtype) → ValueScoped (d.initial_value x t n) scope
+  initial_scoped plain.no_expression t = default_scoped scope (d.known t)
+  initial_scoped (plain.an_expression x) t = value_scoped scope (d.known t) (e.checked_expression x n).typed (expression_scoped x)
 
 -- declarations
 
@@ -286,13 +411,16 @@ record RegionScoped (r : Region) : Type 0 where
   symbols : (k : ℕ) → r.cells ≤ k → SymbolsScoped (only k) r.symbols
   counted : length r.symbols ≡ r.cells
 
-new_scoped : (good : Bool) (k cells : ℕ) → cells + 1 ≤ k → MeaningScoped (only k) (d.new_meaning good cells)
-new_scoped true k cells h = omega arith
-new_scoped false k cells h = tt
+new_scoped : (t : Option Subtype) (is_constant : Bool) (k cells : ℕ) → cells + 1 ≤ k → MeaningScoped (only k) (d.new_meaning t is_constant cells)
+new_scoped None is_constant k cells h = tt
+new_scoped (Some Integer) is_constant k cells h = omega arith
+new_scoped (Some Natural) is_constant k cells h = omega arith
+new_scoped (Some Positive) is_constant k cells h = omega arith
+new_scoped (Some Boolean) is_constant k cells h = omega arith
 
-variable_scoped : (name : List ℕ) (good : Bool) (r : Region) → RegionScoped r → RegionScoped (d.with_variable name good r)
-variable_scoped name good r h = record {
-  symbols = λ k more. All-push (λ x. MeaningScoped (only k) x.1) r.symbols _ (h.symbols k (omega arith)) (new_scoped good k r.cells more);
+object_scoped : (name : List ℕ) (t : Option Subtype) (is_constant : Bool) (r : Region) → RegionScoped r → RegionScoped (d.with_object name t is_constant r)
+object_scoped name t is_constant r h = record {
+  symbols = λ k more. All-push (λ x. MeaningScoped (only k) x.1) r.symbols _ (h.symbols k (omega arith)) (new_scoped t is_constant k r.cells more);
   counted = length_push r.symbols _ ∙ ap (λ z. z + 1) h.counted;
 }
 
@@ -308,15 +436,15 @@ new_name false f h = refl
 abbrev RegionElaborated : ℕ → List tree.Statement → Region → Type 0
 RegionElaborated k ys r = RegionScoped r × Elaborates k ys r.cells
 
-names_scoped : (is : List Ident) (good : Bool) (at : Pos) (x : tree.IntegerExpression) (r : Region) → d.twice_faults is good r ≡ [] → RegionScoped r → ((k : ℕ) → r.cells ≤ k → IntegerScoped x (only k)) → RegionElaborated r.cells (d.elaboration is at x) (d.declared_names is good r)
-names_scoped [] good at x r q h value = (h, none)
-names_scoped (i ∷ is) good at x r q h value =
+names_scoped : (is : List Ident) (t : Option Subtype) (is_constant : Bool) (at : Pos) (x : tree.ValueExpression) (r : Region) → d.twice_faults is t is_constant r ≡ [] → RegionScoped r → ((k : ℕ) → r.cells ≤ k → ValueScoped x (only k)) → RegionElaborated r.cells (d.elaboration is at x) (d.declared_names is t is_constant r)
+names_scoped [] t is_constant at x r q h value = (h, none)
+names_scoped (i ∷ is) t is_constant at x r q h value =
     let faults = both_none _ _ q in
     let new : names.is_declared i.name r.symbols ≡ false = new_name _ _ faults.0 in
-    let grown : d.with_name i good r ≡ d.with_variable i.name good r = rw new in
-    let rest = names_scoped is good at x (d.with_variable i.name good r) (rw new at faults.1) (variable_scoped i.name good r h) (λ k more. value k (omega arith)) in
-    let elaborated : Elaborates (suc r.cells) (d.elaboration is at x) (d.declared_names is good (d.with_variable i.name good r)).cells = rw (← add-one r.cells) rest.1 in
-    subst (λ z. RegionElaborated r.cells (d.elaboration (i ∷ is) at x) (d.declared_names is good z)) (sym grown) (rest.0, one_more (value r.cells (omega arith)) elaborated)
+    let grown : d.with_name i t is_constant r ≡ d.with_object i.name t is_constant r = rw new in
+    let rest = names_scoped is t is_constant at x (d.with_object i.name t is_constant r) (rw new at faults.1) (object_scoped i.name t is_constant r h) (λ k more. value k (omega arith)) in
+    let elaborated : Elaborates (suc r.cells) (d.elaboration is at x) (d.declared_names is t is_constant (d.with_object i.name t is_constant r)).cells = rw (← add-one r.cells) rest.1 in
+    subst (λ z. RegionElaborated r.cells (d.elaboration (i ∷ is) at x) (d.declared_names is t is_constant z)) (sym grown) (rest.0, one_more (value r.cells (omega arith)) elaborated)
 
 -- a place in the main procedure's body: no variable is declared further out
 record InBody (n : Place) : Type 0 where
@@ -334,11 +462,16 @@ body_regions n k h more = regions_scoped (only k) n.regions (h.innermost.symbols
 abbrev DeclaredScoped : Place → d.Declared → Type 0
 DeclaredScoped n x = InBody x.place × Elaborates (names.innermost n).cells x.elaborations (names.innermost x.place).cells
 
-declaration_scoped : (x : plain.Declaration) (n : Place) → (d.checked_declaration x n).faults ≡ [] → InBody n → DeclaredScoped n (d.checked_declaration x n)
-declaration_scoped (plain.object first others subtype initial) n q h =
-    let value = λ (k : ℕ) (more : (names.innermost n).cells ≤ k). initial_scoped (only k) (names.hiding (first ∷ others) n) (regions_see (only k) (names.hiding (first ∷ others) n) (body_regions n k h more)) initial in
-    let all = names_scoped (first ∷ others) _ first.at _ (names.innermost n) (both_none _ _ (both_none _ _ q).1).1 h.innermost value in
+objects_scoped : (is : List Ident) (at : Pos) (mark : Ident) (initial : plain.MaybeExpression) (is_constant : Bool) (n : Place) → (d.checked_object is at mark initial is_constant n).faults ≡ [] → InBody n → DeclaredScoped n (d.checked_object is at mark initial is_constant n)
+objects_scoped is at mark initial is_constant n q h =
+    let t : Option Subtype = d.subtype_meant (names.visible mark.name (names.hiding is n)) in
+    let value = λ (k : ℕ) (more : (names.innermost n).cells ≤ k). initial_scoped (only k) (names.hiding is n) (regions_see (only k) (names.hiding is n) (body_regions n k h more)) initial t in
+    let all = names_scoped is t is_constant at _ (names.innermost n) (both_none _ _ (both_none _ _ q).1).1 h.innermost value in
     (record { innermost = all.0; others = h.others }, all.1)
+
+declaration_scoped : (x : plain.Declaration) (n : Place) → (d.checked_declaration x n).faults ≡ [] → InBody n → DeclaredScoped n (d.checked_declaration x n)
+declaration_scoped (plain.object first others mark initial) n q h = objects_scoped (first ∷ others) first.at mark initial false n q h
+declaration_scoped (plain.constant first others mark value) n q h = objects_scoped (first ∷ others) first.at mark (plain.an_expression value) true n q h
 
 declarations_scoped : (x : plain.Declarations) (n : Place) → (d.checked_declarations x n).faults ≡ [] → InBody n → DeclaredScoped n (d.checked_declarations x n)
 declarations_scoped plain.no_declarations n q h = (h, none)
@@ -353,22 +486,22 @@ declarations_scoped (plain.more_declarations x rest) n q h =
 in_main : (name : List ℕ) → InBody (names.main_place name)
 in_main name = record {
   innermost = record { symbols = λ k _. All-nil (λ x. MeaningScoped (only k) x.1); counted = refl };
-  others = λ scope. let all = All-from_recursion (λ x. MeaningScoped scope x.1) in (all ((name, MainProcedure) ∷ []) (tt, tt), (all names.predefined (tt, (tt, (tt, (tt, (tt, tt))))), tt));
+  others = λ scope. let all = All-from_recursion (λ x. MeaningScoped scope x.1) in (all ((name, MainProcedure) ∷ []) (tt, tt), (all names.predefined (tt, (tt, (tt, (tt, (tt, (tt, (tt, (tt, (tt, tt))))))))), tt));
 }
 
 body_scoped : (at : Pos) (main : Ident) (x : d.Declared) (b : plain.Body) → DeclaredScoped (names.main_place main.name) x → IsScoped (c.unit_program at main x b)
-body_scoped at main x (plain.body begin (plain.in_order s others) end last) h =
+body_scoped at main x (plain.body begin ss end last) h =
     let r : Region = names.innermost x.place in
-    let variables : length (map tree.whole_of (map (λ z. z.0) r.symbols)) ≡ r.cells = length-map _ _ ∙ length-map r.symbols (λ z. z.0) ∙ h.0.innermost.counted in
+    let variables : length (map c.named r.symbols) ≡ r.cells = length-map r.symbols c.named ∙ h.0.innermost.counted in
     let declarations = part_elaborates 0 r.cells x.elaborations h.1 in
     let sees = regions_see (only r.cells) x.place (body_regions x.place r.cells h.0 (omega arith)) in
     record {
       declarations = declarations.0;
       variables = declarations.1 ∙ ap only (sym variables);
-      statements = rw variables (before_scoped (only r.cells) _ _ (statement_scoped (only r.cells) x.place sees s) (others_scoped (only r.cells) x.place sees others));
+      statements = rw variables (sequence_scoped (only r.cells) x.place sees ss []);
     }
 
 pub typed_scoped : (u : plain.Unit) → c.faults u ≡ [] → IsScoped (c.typed u)
-typed_scoped (plain.unit at name declarations (plain.body begin xs end last)) q =
+typed_scoped (plain.unit context at name declarations (plain.body begin xs end last)) q =
     let main : Place = names.main_place name.name in
     body_scoped at name (d.checked_declarations declarations main) (plain.body begin xs end last) (declarations_scoped declarations main (both_none _ _ q).0 (in_main name.name))

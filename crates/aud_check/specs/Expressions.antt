@@ -1,6 +1,7 @@
 -- Expressions: their faults, their types, and what is left of them once their names are resolved (RM 4).
-use Rattle.std.specs.Prelude.{ℤ, List, [], ◌++◌, Option, Some, None, codes, if◌then◌else◌}
+use Rattle.std.specs.Prelude.{ℕ, ℤ, pos, negsuc, List, [], ◌∷◌, ◌++◌, Option, Some, None, codes}
 use Rattle.std.specs.Str.{bytes_eq}
+use Rattle.std.specs.Map.{lookup}
 use Rattle.aud_text.specs.declared.place.Pos.{Pos}
 use Rattle.aud_syntax.specs.declared.tree.Ident.{Ident}
 use Rattle.aud_syntax.specs.declared.tree.Signed.{Signed}
@@ -15,7 +16,10 @@ use Rattle.aud_syntax.specs.declared.tree.Relational.{Relational}
 use Rattle.aud_syntax.specs.declared.tree.Relational.TheVariants as relational
 use Rattle.aud_syntax.specs.declared.tree.Connective.{Connective}
 use Rattle.aud_syntax.specs.declared.tree.Connective.TheVariants as connective
-use Rattle.aud_syntax.specs.Plain.{Expression, alone, connected, Relations, no_relations, more_relations, Relation, unrelated, related, Simple, simple, Addeds, no_addeds, more_addeds, Added, added, Term, term, Multiplieds, no_multiplieds, more_multiplieds, Multiplied, multiplied, Factor, factor, Primary, integer, text, name, attribute, group, MaybeExpression, no_expression, an_expression, Name, named, NamePart, part}
+use Rattle.aud_syntax.specs.Plain.{Expression, alone, connected, Relations, no_relations, more_relations, Relation, unrelated, related, Simple, simple, Addeds, no_addeds, more_addeds, Added, added, Term, term, Multiplieds, no_multiplieds, more_multiplieds, Multiplied, multiplied, Factor, factor, Primary, integer, text, name, attribute, group, MaybeExpression, no_expression, an_expression, Name, named, Parts, no_parts, more_parts, NamePart, part, Args, no_args, more_args}
+use Rattle.aud_typed.specs.declared.program.Variable.{Variable}
+use Rattle.aud_typed.specs.declared.program.Subtype.{Subtype}
+use Rattle.aud_typed.specs.declared.program.Subtype.TheVariants.{Integer, Natural, Positive, Boolean}
 use Rattle.aud_typed.specs.declared.program.Unary.{Unary}
 use Rattle.aud_typed.specs.declared.program.Unary.TheVariants as unary
 use Rattle.aud_typed.specs.declared.program.Binary.{Binary}
@@ -26,11 +30,15 @@ use Rattle.aud_typed.specs.declared.program.Logical.TheVariants as logical
 use Rattle.aud_typed.specs.Tree as tree
 use Rattle.aud_check.specs.declared.fault.Fault.{Fault}
 use Rattle.aud_check.specs.declared.names.Meaning.{Meaning}
-use Rattle.aud_check.specs.declared.names.Meaning.TheVariants.{IntegerType, BooleanType, Literal, PutLine, MainProcedure, Variable, Faulty}
+use Rattle.aud_check.specs.declared.names.Meaning.TheVariants.{ScalarType, Literal, Object, Builtin, MainProcedure}
+use Rattle.aud_check.specs.declared.attribute.Attribute.{Attribute}
+use Rattle.aud_check.specs.declared.attribute.Attribute.TheVariants.{Image, First, Last, Other}
 use Rattle.aud_check.specs.declared.rules.Base.{Base}
 use Rattle.aud_check.specs.declared.rules.Base.TheVariants.{Whole, Truth, Text}
-use Rattle.aud_check.specs.Names.{Place, visible}
-use Rattle.aud_check.specs.Rules.{name_not_declared, wrong_kind_of_name, right_type, wrong_number_of_arguments, number_too_large}
+use Rattle.aud_check.specs.declared.resolution.Denoted.{Denoted}
+use Rattle.aud_check.specs.Names.{Place}
+use Rattle.aud_check.specs.Resolution.{Resolved, resolved, name_ident}
+use Rattle.aud_check.specs.Rules.{base_of_subtype, wrong_kind_of_name, right_type, wrong_number_of_arguments, number_too_large}
 
 -- an expression with its type, unknown where the expression is faulty
 pub data Typed : Type 0 where
@@ -55,13 +63,6 @@ after faults c = record { faults = faults ++ c.faults; typed = c.typed }
 
 abbrev pub with : Checked → (Typed → Checked) → Checked
 with c further = after c.faults (further c.typed)
-
--- the identifier with which a name begins (RM 4.1); where a name is an operand, a prefix or a target, the grammar gives it no more
-abbrev pub part_ident : NamePart → Ident
-part_ident (part i xs) = i
-
-abbrev pub name_ident : Name → Ident
-name_ident (named p ps) = part_ident p
 
 -- where an expression begins: its first token (RM 4.4)
 abbrev pub primary_at : Primary → Pos
@@ -210,54 +211,103 @@ abbrev pub checked_number : Option ℤ → Pos → Checked
 checked_number (Some value) at = fine (number (tree.number value))
 checked_number None at = faulty (number_too_large at)
 
--- what is read must be a variable, or False or True (RM 4.1, 4.4); nothing more is said of a variable whose declaration is faulty
+-- what is read must be a variable or constant, or False or True (RM 4.1, 4.4)
 abbrev pub name_faults : Option Meaning → Pos → List Fault
-name_faults None at = name_not_declared at
-name_faults (Some (Variable v)) at = []
+name_faults None at = []
+name_faults (Some (Object o)) at = []
 name_faults (Some (Literal b)) at = []
-name_faults (Some Faulty) at = []
-name_faults (Some IntegerType) at = wrong_kind_of_name at
-name_faults (Some BooleanType) at = wrong_kind_of_name at
-name_faults (Some PutLine) at = wrong_kind_of_name at
+name_faults (Some (ScalarType s)) at = wrong_kind_of_name at
+name_faults (Some (Builtin b)) at = wrong_kind_of_name at
 name_faults (Some MainProcedure) at = wrong_kind_of_name at
 
+-- the value of a variable or constant; where its subtype is not known, nothing is known of its type
+abbrev pub stored : Variable → Option Subtype → Typed
+stored v None = unknown
+stored v (Some Integer) = number (tree.variable v)
+stored v (Some Natural) = number (tree.variable v)
+stored v (Some Positive) = number (tree.variable v)
+stored v (Some Boolean) = boolean (tree.stored (tree.scalar v Boolean))
+
 abbrev pub value_read : Option Meaning → Typed
-value_read (Some (Variable v)) = number (tree.variable v)
+value_read (Some (Object o)) = stored o.variable o.subtype
 value_read (Some (Literal b)) = boolean (tree.truth b)
 value_read _ = unknown
 
 -- a name as a primary
-abbrev pub checked_name : Option Meaning → Pos → Checked
-checked_name m at = record { faults = name_faults m at; typed = value_read m }
+abbrev pub checked_name : Denoted → Checked
+checked_name d = record { faults = name_faults d.meaning d.at; typed = value_read d.meaning }
 
--- the text that Image makes of a value of a type
-abbrev pub image_of : Base → Typed → Typed
-image_of Whole (number e) = string (tree.image e)
-image_of Truth (boolean e) = string (tree.image_truth e)
-image_of _ _ = unknown
+-- Attributes (RM 4.1.4, K.2). The prefix and the designator stand at a place; the argument, if there is one, comes with that where it begins.
 
--- X'Image of a variable or literal (RM 4.10(40)) asks no argument, Image of a type one (RM 3.5(35)); it comes with the place where it begins
-abbrev pub image_by_type : Base → Pos → Option (Pos × Typed) → Checked
-image_by_type base designator None = faulty (wrong_number_of_arguments designator)
-image_by_type base designator (Some a) = record { faults = wants base a.0 a.1; typed = image_of base a.1 }
+-- those of arrays, entries and tasks are known, but as yet there is nothing that has them
+abbrev pub attributes : List (List ℕ × Attribute)
+attributes =
+    (codes "IMAGE", Image) ∷ (codes "FIRST", First) ∷ (codes "LAST", Last)
+    ∷ (codes "LENGTH", Other) ∷ (codes "COUNT", Other) ∷ (codes "CALLABLE", Other) ∷ (codes "TERMINATED", Other) ∷ []
 
-abbrev pub image_by_value : tree.TextExpression → Pos → Option (Pos × Typed) → Checked
-image_by_value t designator None = fine (string t)
-image_by_value t designator (Some a) = faulty (wrong_number_of_arguments designator)
+abbrev pub without_argument : Pos → Option (Pos × Typed) → Typed → Checked
+without_argument designator None t = fine t
+without_argument designator (Some a) t = faulty (wrong_number_of_arguments designator)
 
-abbrev pub image : Meaning → Ident → Ident → Option (Pos × Typed) → Checked
-image IntegerType prefix designator argument = image_by_type Whole designator.at argument
-image BooleanType prefix designator argument = image_by_type Truth designator.at argument
-image (Literal b) prefix designator argument = image_by_value (tree.image_truth (tree.truth b)) designator.at argument
-image (Variable v) prefix designator argument = image_by_value (tree.image (tree.variable v)) designator.at argument
-image Faulty prefix designator argument = fine unknown
-image PutLine prefix designator argument = faulty (wrong_kind_of_name prefix.at)
-image MainProcedure prefix designator argument = faulty (wrong_kind_of_name prefix.at)
+-- the text that Image makes of a value
+abbrev pub image_of : Typed → Typed
+image_of (number e) = string (tree.image e)
+image_of (boolean e) = string (tree.image_truth e)
+image_of _ = unknown
 
--- an attribute's prefix must be declared, and its designator must be Image (RM 4.1.4)
-abbrev pub checked_attribute : Option Meaning → Ident → Ident → Option (Pos × Typed) → Checked
-checked_attribute None prefix designator argument = faulty (name_not_declared prefix.at)
-checked_attribute (Some m) prefix designator argument = if bytes_eq designator.name (codes "IMAGE") then image m prefix designator argument else faulty (wrong_kind_of_name designator.at)
+-- of one of a type
+abbrev pub image_of_type : Base → Typed → Typed
+image_of_type Whole (number e) = string (tree.image e)
+image_of_type Truth (boolean e) = string (tree.image_truth e)
+image_of_type _ _ = unknown
+
+-- the argument is of the subtype's type, and is not tested against its range (RM 3.5(35))
+abbrev pub image_with : Base → Pos → Option (Pos × Typed) → Checked
+image_with base designator None = faulty (wrong_number_of_arguments designator)
+image_with base designator (Some a) = record { faults = wants base a.0 a.1; typed = image_of_type base a.1 }
+
+-- RM 3.5(35), 4.10(40)
+abbrev pub image : Meaning → Pos → Pos → Option (Pos × Typed) → Checked
+image (ScalarType s) prefix designator argument = image_with (base_of_subtype s) designator argument
+image (Object o) prefix designator argument = without_argument designator argument (image_of (stored o.variable o.subtype))
+image (Literal b) prefix designator argument = without_argument designator argument (string (tree.image_truth (tree.truth b)))
+image (Builtin b) prefix designator argument = faulty (wrong_kind_of_name prefix)
+image MainProcedure prefix designator argument = faulty (wrong_kind_of_name prefix)
+
+-- the bounds of Integer and its subtypes (RM 3.5(12, 13), 3.5.4(11, 12)); those of Boolean are not in the profile
+abbrev pub first_of : Meaning → Option ℤ
+first_of (ScalarType Integer) = Some (negsuc 2147483647)
+first_of (ScalarType Natural) = Some (pos 0)
+first_of (ScalarType Positive) = Some (pos 1)
+first_of _ = None
+
+abbrev pub last_of : Meaning → Option ℤ
+last_of (ScalarType Integer) = Some (pos 2147483647)
+last_of (ScalarType Natural) = Some (pos 2147483647)
+last_of (ScalarType Positive) = Some (pos 2147483647)
+last_of _ = None
+
+abbrev pub bound : Option ℤ → Pos → Pos → Option (Pos × Typed) → Checked
+bound None prefix designator argument = faulty (wrong_kind_of_name prefix)
+bound (Some value) prefix designator argument = without_argument designator argument (number (tree.number value))
+
+abbrev pub attribute_of : Attribute → Meaning → Pos → Pos → Option (Pos × Typed) → Checked
+attribute_of Image m prefix designator argument = image m prefix designator argument
+attribute_of First m prefix designator argument = bound (first_of m) prefix designator argument
+attribute_of Last m prefix designator argument = bound (last_of m) prefix designator argument
+attribute_of Other m prefix designator argument = faulty (wrong_kind_of_name prefix)
+
+-- the designator must be an attribute's
+abbrev pub attribute_named : Option Attribute → Meaning → Pos → Pos → Option (Pos × Typed) → Checked
+attribute_named None m prefix designator argument = faulty (wrong_kind_of_name designator)
+attribute_named (Some a) m prefix designator argument = attribute_of a m prefix designator argument
+
+abbrev pub attribute_if : Option Meaning → Pos → Ident → Option (Pos × Typed) → Checked
+attribute_if None prefix designator argument = fine unknown
+attribute_if (Some m) prefix designator argument = attribute_named (lookup (bytes_eq designator.name) attributes) m prefix designator.at argument
+
+abbrev pub checked_attribute : Denoted → Ident → Option (Pos × Typed) → Checked
+checked_attribute d designator argument = attribute_if d.meaning d.at designator argument
 
 abbrev mutual
   -- RM 4.4(2)
@@ -307,10 +357,25 @@ abbrev mutual
   pub checked_primary : Primary → Place → Checked
   checked_primary (integer n) place = checked_number n.value n.at
   checked_primary (text l) place = fine (string (tree.literal l.text))
-  checked_primary (name n) place = checked_name (visible (name_ident n).name place) (name_ident n).at
-  checked_primary (attribute n designator argument) place = checked_image argument place (name_ident n) designator
+  checked_primary (name n) place = with (checked_arguments n place) (λ t. after (resolved n place).faults (checked_name (resolved n place).denoted))
+  checked_primary (attribute n designator argument) place = with (checked_arguments n place) (λ t. checked_image argument place (resolved n place) designator)
   checked_primary (group at e) place = checked_expression e place
 
-  pub checked_image : MaybeExpression → Place → Ident → Ident → Checked
-  checked_image no_expression place prefix designator = checked_attribute (visible prefix.name place) prefix designator None
-  checked_image (an_expression e) place prefix designator = with (checked_expression e place) (λ t. checked_attribute (visible prefix.name place) prefix designator (Some (expression_at e, t)))
+  pub checked_image : MaybeExpression → Place → Resolved → Ident → Checked
+  checked_image no_expression place prefix designator = after prefix.faults (checked_attribute prefix.denoted designator None)
+  checked_image (an_expression e) place prefix designator = with (checked_expression e place) (λ t. after prefix.faults (checked_attribute prefix.denoted designator (Some (expression_at e, t))))
+
+  -- the arguments of a name, also where none may stand: their faults, and what the last of them is
+  pub checked_arguments : Name → Place → Checked
+  checked_arguments (named p ps) place = with (checked_part p place unknown) (λ last. checked_parts ps place last)
+
+  pub checked_parts : Parts → Place → Typed → Checked
+  checked_parts no_parts place last = fine last
+  checked_parts (more_parts p ps) place last = with (checked_part p place last) (λ t. checked_parts ps place t)
+
+  pub checked_part : NamePart → Place → Typed → Checked
+  checked_part (part i xs) place last = checked_args xs place last
+
+  pub checked_args : Args → Place → Typed → Checked
+  checked_args no_args place last = fine last
+  checked_args (more_args e es) place last = with (checked_expression e place) (λ t. checked_args es place t)

@@ -1,8 +1,13 @@
 pub mod Least
 pub mod Names
 pub mod Rules
+pub mod Resolution
 pub mod Expressions
 pub mod Declarations
+pub mod Assignments
+pub mod Calls
+pub mod Conditions
+pub mod Labels
 pub mod Statements
 pub mod Checked
 pub mod Ties

@@ -5,7 +5,9 @@ use Rattle.std.specs.List.{list_any}
 use Rattle.std.specs.Map.{lookup}
 use Rattle.aud_syntax.specs.declared.tree.Ident.{Ident}
 use Rattle.aud_check.specs.declared.names.Meaning.{Meaning}
-use Rattle.aud_check.specs.declared.names.Meaning.TheVariants.{IntegerType, BooleanType, Literal, PutLine, MainProcedure}
+use Rattle.aud_check.specs.declared.names.Meaning.TheVariants.{ScalarType, Literal, Builtin, MainProcedure}
+use Rattle.aud_check.specs.declared.names.Builtin.TheVariants.{Put, PutLine, NewLine}
+use Rattle.aud_typed.specs.declared.program.Subtype.TheVariants.{Integer, Natural, Positive, Boolean}
 
 -- a name that a region declares, and what it stands for
 abbrev pub Symbol : Type 0
@@ -68,9 +70,12 @@ visible name place = if is_hidden name place.hidden then None else declared name
 abbrev pub is_declared : List ℕ → List Symbol → Bool
 is_declared name symbols = is_some (named_in name symbols)
 
--- the predefined names (RM 8.6(2), A.1)
+-- the predefined names (RM 8.6(2), A.1, A.10.1)
 abbrev pub predefined : List Symbol
-predefined = (codes "INTEGER", IntegerType) ∷ (codes "BOOLEAN", BooleanType) ∷ (codes "FALSE", Literal false) ∷ (codes "TRUE", Literal true) ∷ (codes "PUT_LINE", PutLine) ∷ []
+predefined =
+    (codes "INTEGER", ScalarType Integer) ∷ (codes "NATURAL", ScalarType Natural) ∷ (codes "POSITIVE", ScalarType Positive) ∷ (codes "BOOLEAN", ScalarType Boolean)
+    ∷ (codes "FALSE", Literal false) ∷ (codes "TRUE", Literal true)
+    ∷ (codes "PUT", Builtin Put) ∷ (codes "PUT_LINE", Builtin PutLine) ∷ (codes "NEW_LINE", Builtin NewLine) ∷ []
 
 -- the outermost region
 abbrev pub outermost : List Region

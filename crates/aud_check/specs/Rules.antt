@@ -2,12 +2,14 @@
 use Rattle.std.specs.Prelude.{Bool, true, false, not, List, [], ◌∷◌, Option, Some, None, if◌then◌else◌, ℕ}
 use Rattle.std.specs.Str.{bytes_eq}
 use Rattle.aud_text.specs.declared.place.Pos.{Pos}
-use Rattle.aud_text.specs.declared.refusal.Refusal.TheVariants.{NameNotDeclared, DeclaredTwice, WrongKindOfName, WrongType, WrongNumberOfArguments, NotAVariable, WrongNameAtEnd, NumberTooLarge}
+use Rattle.aud_text.specs.declared.refusal.Refusal.TheVariants.{NameNotDeclared, DeclaredTwice, WrongKindOfName, WrongType, WrongNumberOfArguments, NotAVariable, WrongNameAtEnd, ExitWithoutLoop, NumberTooLarge}
 use Rattle.aud_syntax.specs.declared.tree.Ident.{Ident}
 use Rattle.aud_check.specs.declared.fault.Fault.{Fault}
 use Rattle.aud_check.specs.declared.rules.Base.{Base}
 use Rattle.aud_check.specs.declared.rules.Base.TheVariants.{Whole, Truth, Text}
 use Rattle.aud_check.specs.Names.{Symbol, is_declared}
+use Rattle.aud_typed.specs.declared.program.Subtype.{Subtype}
+use Rattle.aud_typed.specs.declared.program.Subtype.TheVariants.{Integer, Natural, Positive, Boolean}
 
 abbrev pub unless : Bool → Fault → List Fault
 unless good f = if good then [] else f ∷ []
@@ -24,6 +26,17 @@ declared_once name at symbols = unless (not (is_declared name symbols)) (record 
 abbrev pub wrong_kind_of_name : Pos → List Fault
 wrong_kind_of_name at = record { at = at; refusal = WrongKindOfName } ∷ []
 
+-- the type of a subtype (RM 3.2), where that is known
+abbrev pub base_of_subtype : Subtype → Base
+base_of_subtype Integer = Whole
+base_of_subtype Natural = Whole
+base_of_subtype Positive = Whole
+base_of_subtype Boolean = Truth
+
+abbrev pub base_asked : Option Subtype → Option Base
+base_asked None = None
+base_asked (Some s) = Some (base_of_subtype s)
+
 abbrev pub same_base : Base → Base → Bool
 same_base Whole Whole = true
 same_base Truth Truth = true
@@ -38,11 +51,11 @@ fits _ _ = true
 abbrev pub right_type : Option Base → Pos → Option Base → List Fault
 right_type asked at given = unless (fits asked given) (record { at = at; refusal = WrongType })
 
--- as many arguments as formals, one for Image of a type and none for that of a variable (RM 6.4.1, 3.5(35), 4.10(40)); at the name
+-- as many arguments as formals (RM 6.4.1), one for Image of a type and none for other attributes (RM 3.5(35), 4.10(40), 3.5(12)); at the name
 abbrev pub wrong_number_of_arguments : Pos → List Fault
 wrong_number_of_arguments at = record { at = at; refusal = WrongNumberOfArguments } ∷ []
 
--- a target is a variable that may be changed (RM 5.2(5)); at the target
+-- a target is a variable (RM 5.2(5)), and no constant (RM 3.3.1(5)); at the target
 abbrev pub not_a_variable : Pos → List Fault
 not_a_variable at = record { at = at; refusal = NotAVariable } ∷ []
 
@@ -50,6 +63,17 @@ not_a_variable at = record { at = at; refusal = NotAVariable } ∷ []
 abbrev pub right_name_at_end : List ℕ → Option Ident → List Fault
 right_name_at_end name None = []
 right_name_at_end name (Some last) = unless (bytes_eq last.name name) (record { at = last.at; refusal = WrongNameAtEnd })
+
+-- a labelled loop has its label after `end loop`, another has no name there (RM 5.5(5)); at the name, or the semicolon
+abbrev pub right_label_at_end : Option Ident → Option Ident → Pos → List Fault
+right_label_at_end None None semicolon = []
+right_label_at_end None (Some last) semicolon = record { at = last.at; refusal = WrongNameAtEnd } ∷ []
+right_label_at_end (Some label) None semicolon = record { at = semicolon; refusal = WrongNameAtEnd } ∷ []
+right_label_at_end (Some label) (Some last) semicolon = right_name_at_end label.name (Some last)
+
+-- an exit leaves a loop that encloses it (RM 5.7(4)); at `exit`
+abbrev pub exit_in_loop : Bool → Pos → List Fault
+exit_in_loop good at = unless good (record { at = at; refusal = ExitWithoutLoop })
 
 -- a number is at most the last Integer (RM 3.5.4); at the number
 abbrev pub number_too_large : Pos → List Fault

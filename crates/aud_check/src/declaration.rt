@@ -1,26 +1,28 @@
-// Declarations of variables.
+// Declarations of variables and constants.
 
-ghost use Rattle.std.specs.Prelude.{◌≡◌, ◌++◌, IfOk, OnOk};
-ghost use Rattle.aud_syntax.specs.Ties.View.{plain_maybe, plain_declaration, plain_declarations};
-ghost use Rattle.aud_typed.specs.Ties.View.{plain_integer, plain_statements as plain_typed_statements};
+ghost use Rattle.std.specs.Prelude.{◌≡◌, ◌++◌, true, false, OnOk};
+ghost use Rattle.aud_syntax.specs.Plain.{an_expression};
+ghost use Rattle.aud_syntax.specs.Ties.View.{plain_expression, plain_maybe, plain_declaration, plain_declarations};
+ghost use Rattle.aud_typed.specs.Ties.View.{plain_value, plain_statements as plain_typed_statements};
 ghost use Rattle.aud_check.specs.Least.{noted};
+ghost use Rattle.aud_check.specs.Names.{visible};
 ghost use Rattle.aud_check.specs.Rules.{declared_once};
-ghost use Rattle.aud_check.specs.Declarations.{subtype_faults, is_integer_type, initial_faults, initial_value, integer_or_zero, new_meaning, with_name, declared_names, twice_faults, elaboration, checked_declaration, checked_declarations};
+ghost use Rattle.aud_check.specs.Declarations.{subtype_faults, subtype_meant, initial_faults, initial_value, default_value, value_for, known, new_meaning, with_name, declared_names, twice_faults, elaboration, checked_object, checked_declaration, checked_declarations};
 ghost use Rattle.aud_check.specs.Ties.Typing.{plain_typed, Leaves};
 ghost use Rattle.aud_check.specs.Ties.DeclarativePart.{Declares};
 ghost use Rattle.aud_check.specs.Ties.Regions.{plain_region, plain_place, names_in};
 
+use crate::copying::copy_value;
 use crate::expression::{expression, expression_at};
 use crate::fault::Least;
-use crate::names::{Meaning, Place, Region, Scope};
-use crate::rules::{Base, declared_once, name_not_declared, wrong_kind_of_name};
-use crate::typed::{Typed, wants};
+use crate::names::{Meaning, Object, Place, Region, Scope};
+use crate::rules::{base_asked, declared_once, name_not_declared, right_type, wrong_kind_of_name};
+use crate::typed::{Typed, base_of};
 use aud_syntax::tree::{Declaration, Expression, Ident, Identifiers};
 use aud_text::int32::Int32;
-use aud_text::name::Name;
 use aud_text::place::Pos;
 use aud_typed::program::{
-    IntegerExpression, Operation, Statement, Subtype, ValueExpression, Variable,
+    BooleanExpression, IntegerExpression, Statement, Subtype, ValueExpression, Variable,
 };
 use std::alloc::{AllocError, Global};
 
@@ -31,109 +33,140 @@ pub struct DeclarativePart {
     pub elaborations: Vec<Statement>,
 }
 
-// Notes where a subtype mark is not that of a type (RM 3.2.2).
+// Notes where a subtype mark is not that of a subtype (RM 3.2.2).
 fn check_subtype(meaning: Option<Meaning>, at: Pos, faults: &mut Least)
     ensures { faults.new ≡ noted faults.old (subtype_faults meaning at) }
 {
     match meaning {
         None => name_not_declared(at, faults),
-        Some(Meaning::IntegerType | Meaning::Faulty) => {}
+        Some(Meaning::ScalarType(_)) => {}
         Some(_) => wrong_kind_of_name(at, faults),
     }
 }
 
-fn is_integer_type(meaning: Option<Meaning>) -> bool
-    ensures { result ≡ is_integer_type meaning }
+fn subtype_meant(meaning: Option<Meaning>) -> Option<Subtype>
+    ensures { result ≡ subtype_meant meaning }
 {
     match meaning {
-        Some(Meaning::IntegerType) => true,
-        _ => false,
+        Some(Meaning::ScalarType(subtype)) => Some(subtype),
+        _ => None,
     }
 }
 
-fn integer_or_zero(typed: Typed) -> IntegerExpression
-    ensures { plain_integer result ≡ integer_or_zero (plain_typed typed) }
+// The subtype that a mark names, if it names one.
+fn subtype_mark(mark: &Ident, scope: &Scope<'_>, faults: &mut Least) -> Option<Subtype>
+    ensures subtype { result ≡ subtype_meant (visible mark.now.name scope.now) }
+    ensures noted { faults.new
+        ≡ noted faults.old (subtype_faults (visible mark.now.name scope.now) mark.now.at) }
 {
-    match typed {
-        Typed::Number(value) => value,
-        _ => IntegerExpression::Number(Int32::new(0)),
+    let meaning = scope.visible(&mark.name);
+    check_subtype(meaning, mark.at, faults);
+    subtype_meant(meaning)
+}
+
+// What a variable without an initial value starts with.
+fn default_value(subtype: Subtype) -> ValueExpression
+    ensures { plain_value result ≡ default_value subtype }
+{
+    match subtype {
+        Subtype::Integer | Subtype::Natural => {
+            ValueExpression::Whole(subtype, IntegerExpression::Number(Int32::new(0)))
+        }
+        Subtype::Positive => {
+            ValueExpression::Whole(subtype, IntegerExpression::Number(Int32::new(1)))
+        }
+        Subtype::Boolean => ValueExpression::Truth(BooleanExpression::Truth(false)),
     }
 }
 
-// The initial value, 0 where there is none.
+/// A value for a place that asks for a subtype, in whose range a number must be (RM 4.6(51)).
+pub fn value_for(subtype: Subtype, value: Typed) -> ValueExpression
+    ensures { plain_value result ≡ value_for subtype (plain_typed value) }
+{
+    match value {
+        Typed::Number(value) => ValueExpression::Whole(subtype, value),
+        Typed::Truth(value) => ValueExpression::Truth(value),
+        _ => default_value(subtype),
+    }
+}
+
+fn known(subtype: Option<Subtype>) -> Subtype
+    ensures { result ≡ known subtype }
+{
+    match subtype {
+        None => Subtype::Integer,
+        Some(subtype) => subtype,
+    }
+}
+
+// The value that a declaration gives.
 #[tactic(auto, using(crate::proofs::Notes::noted_append))]
+fn given_value(
+    alloc: Global,
+    value: &Expression,
+    subtype: Option<Subtype>,
+    scope: &Scope<'_>,
+    faults: &mut Least,
+) -> Result<ValueExpression, AllocError>
+    ensures { Leaves plain_value result faults.old faults.new
+        (initial_faults (an_expression (plain_expression value.now)) subtype scope.now)
+        (initial_value (an_expression (plain_expression value.now)) subtype scope.now) }
+{
+    let typed = expression(alloc, value, scope, faults)?;
+    right_type(
+        base_asked(subtype),
+        expression_at(value),
+        base_of(&typed),
+        faults,
+    );
+    Ok(value_for(known(subtype), typed))
+}
+
 fn initial_value(
     alloc: Global,
     initial: &Option<Expression>,
+    subtype: Option<Subtype>,
     scope: &Scope<'_>,
     faults: &mut Least,
-) -> Result<IntegerExpression, AllocError>
-    ensures { Leaves plain_integer result faults.old faults.new
-        (initial_faults (plain_maybe initial.now) scope.now)
-        (initial_value (plain_maybe initial.now) scope.now) }
+) -> Result<ValueExpression, AllocError>
+    ensures { Leaves plain_value result faults.old faults.new
+        (initial_faults (plain_maybe initial.now) subtype scope.now)
+        (initial_value (plain_maybe initial.now) subtype scope.now) }
 {
     match initial {
-        None => Ok(IntegerExpression::Number(Int32::new(0))),
-        Some(e) => {
-            let typed = expression(alloc, e, scope, faults)?;
-            wants(Base::Whole, expression_at(e), &typed, faults);
-            Ok(integer_or_zero(typed))
-        }
+        None => Ok(default_value(known(subtype))),
+        Some(value) => given_value(alloc, value, subtype, scope, faults),
     }
 }
 
-fn copy(alloc: Global, value: &IntegerExpression) -> Result<IntegerExpression, AllocError>
-    ensures { IfOk result (λ other. plain_integer other ≡ plain_integer value.now) }
+fn new_meaning(subtype: Option<Subtype>, constant: bool, index: usize) -> Meaning
+    ensures { result ≡ new_meaning subtype constant index }
 {
-    match value {
-        IntegerExpression::Number(number) => Ok(IntegerExpression::Number(*number)),
-        IntegerExpression::Variable(variable) => Ok(IntegerExpression::Variable(*variable)),
-        IntegerExpression::Unary(operator, x) => {
-            let x = Box::new(alloc, copy(alloc, x)?)?;
-            Ok(IntegerExpression::Unary(*operator, x))
-        }
-        IntegerExpression::Chain(first, rest) => {
-            let first = Box::new(alloc, copy(alloc, first)?)?;
-            let mut copied = Vec::with_capacity(alloc, rest.len())?;
-            for next in rest {
-                let right = copy(alloc, &next.right)?;
-                copied.push(Operation {
-                    operator: next.operator,
-                    right,
-                })?;
-            }
-            Ok(IntegerExpression::Chain(first, copied))
-        }
-    }
+    Meaning::Object(Object {
+        variable: Variable { level: 0, index },
+        subtype,
+        constant,
+    })
 }
 
-fn new_meaning(good: bool, index: usize) -> Meaning
-    ensures { result ≡ new_meaning good index }
-{
-    if good {
-        Meaning::Variable(Variable { level: 0, index })
-    } else {
-        Meaning::Faulty
-    }
-}
-
-// Declares one name more, a variable with a cell of its own.
+// Declares one name more, a variable or constant with a cell of its own.
 fn declare_name(
     alloc: Global,
     ident: &Ident,
-    good: bool,
+    subtype: Option<Subtype>,
+    constant: bool,
     region: &mut Region,
     faults: &mut Least,
 ) -> Result<(), AllocError>
-    ensures region { OnOk result
-        (plain_region region.new ≡ with_name ident.now good (plain_region region.old)) }
+    ensures region { OnOk result (plain_region region.new
+        ≡ with_name ident.now subtype constant (plain_region region.old)) }
     ensures noted { OnOk result (faults.new ≡ noted faults.old
         (declared_once ident.now.name ident.now.at region.old.symbols.entries)) }
 {
     if declared_once(ident, &region.symbols, faults) {
         let cells = region.cells.checked_add(1).ok_or(AllocError)?;
         let name = ident.name.try_clone(alloc)?;
-        let meaning = new_meaning(good, region.cells);
+        let meaning = new_meaning(subtype, constant, region.cells);
         region.symbols.insert(name, meaning)?;
         region.cells = cells;
     }
@@ -144,18 +177,19 @@ fn declare_name(
 fn declare(
     alloc: Global,
     names: &Identifiers,
-    good: bool,
+    subtype: Option<Subtype>,
+    constant: bool,
     region: &mut Region,
     faults: &mut Least,
 ) -> Result<(), AllocError>
     ensures region { OnOk result (plain_region region.new
-        ≡ declared_names (names_in names.now) good (plain_region region.old)) }
+        ≡ declared_names (names_in names.now) subtype constant (plain_region region.old)) }
     ensures noted { OnOk result (faults.new ≡ noted faults.old
-        (twice_faults (names_in names.now) good (plain_region region.old))) }
+        (twice_faults (names_in names.now) subtype constant (plain_region region.old))) }
 {
-    declare_name(alloc, &names.first, good, region, faults)?;
+    declare_name(alloc, &names.first, subtype, constant, region, faults)?;
     for other in &names.others {
-        declare_name(alloc, other, good, region, faults)?;
+        declare_name(alloc, other, subtype, constant, region, faults)?;
     }
     Ok(())
 }
@@ -164,27 +198,67 @@ fn declare(
 fn elaborate(
     alloc: Global,
     names: &Identifiers,
-    value: IntegerExpression,
+    value: ValueExpression,
     elaborations: &mut Vec<Statement>,
 ) -> Result<(), AllocError>
     ensures { OnOk result (plain_typed_statements elaborations.new.items
         ≡ plain_typed_statements elaborations.old.items
-        ++ elaboration (names_in names.now) names.now.first.at (plain_integer value)) }
+        ++ elaboration (names_in names.now) names.now.first.at (plain_value value)) }
 {
     let at = names.first.at;
     for _other in &names.others {
-        let copied = copy(alloc, &value)?;
-        elaborations.push(Statement::Declare(
-            at,
-            ValueExpression::Whole(Subtype::Integer, copied),
-        ))?;
+        let copied = copy_value(alloc, &value)?;
+        elaborations.push(Statement::Declare(at, copied))?;
     }
-    elaborations.push(Statement::Declare(at, ValueExpression::Whole(Subtype::Integer, value)))?;
+    elaborations.push(Statement::Declare(at, value))?;
     Ok(())
 }
 
-/// Checks a declaration (RM 3.3.1): notes its faults, and adds to the part what it declares.
+// Declares variables (RM 3.3.1).
 #[tactic(auto, using(crate::proofs::Notes::noted_append))]
+fn variables(
+    alloc: Global,
+    names: &Identifiers,
+    mark: &Ident,
+    initial: &Option<Expression>,
+    part: &mut DeclarativePart,
+    faults: &mut Least,
+) -> Result<(), AllocError>
+    ensures { OnOk result (Declares faults.old faults.new part.old part.new
+        (checked_object (names_in names.now) names.now.first.at mark.now
+        (plain_maybe initial.now) false (plain_place part.old.place))) }
+{
+    let scope = Scope::within(&part.place, names);
+    let subtype = subtype_mark(mark, &scope, faults);
+    let value = initial_value(alloc, initial, subtype, &scope, faults)?;
+    let region = &mut part.place.innermost;
+    declare(alloc, names, subtype, false, region, faults)?;
+    elaborate(alloc, names, value, &mut part.elaborations)
+}
+
+// Declares constants (RM 3.3.1(5)).
+#[tactic(auto, using(crate::proofs::Notes::noted_append))]
+fn constants(
+    alloc: Global,
+    names: &Identifiers,
+    mark: &Ident,
+    value: &Expression,
+    part: &mut DeclarativePart,
+    faults: &mut Least,
+) -> Result<(), AllocError>
+    ensures { OnOk result (Declares faults.old faults.new part.old part.new
+        (checked_object (names_in names.now) names.now.first.at mark.now
+        (an_expression (plain_expression value.now)) true (plain_place part.old.place))) }
+{
+    let scope = Scope::within(&part.place, names);
+    let subtype = subtype_mark(mark, &scope, faults);
+    let value = given_value(alloc, value, subtype, &scope, faults)?;
+    let region = &mut part.place.innermost;
+    declare(alloc, names, subtype, true, region, faults)?;
+    elaborate(alloc, names, value, &mut part.elaborations)
+}
+
+/// Checks a declaration (RM 3.3.1): notes its faults, and adds to the part what it declares.
 pub fn declaration(
     alloc: Global,
     declaration: &Declaration,
@@ -194,19 +268,14 @@ pub fn declaration(
     ensures { OnOk result (Declares faults.old faults.new part.old part.new
         (checked_declaration (plain_declaration declaration.now) (plain_place part.old.place))) }
 {
-    let Declaration::Object(names, subtype, initial) = declaration;
-    let scope = Scope::within(&part.place, names);
-    let meaning = scope.visible(&subtype.name);
-    check_subtype(meaning, subtype.at, faults);
-    let value = initial_value(alloc, initial, &scope, faults)?;
-    declare(
-        alloc,
-        names,
-        is_integer_type(meaning),
-        &mut part.place.innermost,
-        faults,
-    )?;
-    elaborate(alloc, names, value, &mut part.elaborations)
+    match declaration {
+        Declaration::Object(names, mark, initial) => {
+            variables(alloc, names, mark, initial, part, faults)
+        }
+        Declaration::Constant(names, mark, value) => {
+            constants(alloc, names, mark, value, part, faults)
+        }
+    }
 }
 
 /// Checks a declarative part (RM 3.11).

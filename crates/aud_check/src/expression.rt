@@ -1,29 +1,27 @@
 // Expressions.
 
-ghost use Rattle.std.specs.Prelude.{◌≡◌, option_map};
-ghost use Rattle.aud_syntax.specs.Ties.View.{plain_expression, plain_chain, plain_relation, plain_comparison, plain_simple, plain_added, plain_term, plain_multiplied, plain_factor, plain_primary, plain_maybe};
-ghost use Rattle.aud_typed.specs.Ties.View.{plain_text};
-ghost use Rattle.aud_check.specs.Expressions.{expression_at, relation_at, simple_at, term_at, factor_at, primary_at, multiplying, checked_number, checked_name, checked_expression, checked_relation, checked_simple, checked_added, checked_term, checked_multiplied, checked_factor, checked_primary, checked_image, checked_attribute, image_by_type, image_by_value, image, name_faults, further};
+ghost use Rattle.std.specs.Prelude.{◌≡◌, ◌++◌};
+ghost use Rattle.aud_syntax.specs.Ties.View.{plain_expression, plain_chain, plain_relation, plain_comparison, plain_simple, plain_added, plain_term, plain_multiplied, plain_factor, plain_primary, plain_name, plain_part};
+ghost use Rattle.aud_check.specs.Resolution.{resolved};
+ghost use Rattle.aud_check.specs.Expressions.{expression_at, relation_at, simple_at, term_at, factor_at, primary_at, multiplying, checked_number, name_faults, value_read, checked_name, checked_attribute, checked_expression, checked_relation, checked_simple, checked_added, checked_term, checked_multiplied, checked_factor, checked_primary, checked_arguments, checked_part, further};
 ghost use Rattle.aud_check.specs.Least.{noted};
-ghost use Rattle.aud_check.specs.Ties.Typing.{plain_typed, Shows};
+ghost use Rattle.aud_check.specs.Ties.Typing.{plain_typed, plain_argument, Shows};
 
+use crate::attribute::attribute_value;
 use crate::fault::Least;
 use crate::names::{Meaning, Scope};
-use crate::rules::{
-    Base, name_not_declared, number_too_large, wrong_kind_of_name, wrong_number_of_arguments,
-};
+use crate::resolution::resolve;
+use crate::rules::{number_too_large, wrong_kind_of_name};
 use crate::typed::{
-    Typed, adding_operator, arithmetic, connecting, highest, image_of, relating, signed, wants,
+    Typed, adding_operator, arithmetic, connecting, highest, relating, signed, stored,
 };
 use aud_syntax::tree::{
-    Added, Chain, Comparison, Connective, Expression, Factor, Ident, Multiplied, Multiplying,
-    Number, Primary, Relation, Simple, Term,
+    Added, Chain, Comparison, Connective, Expression, Factor, Ident, Multiplied, Multiplying, Name,
+    NamePart, Number, Primary, Relation, Simple, Term,
 };
 use aud_text::place::Pos;
 use aud_typed::program::{Binary, BooleanExpression, IntegerExpression, TextExpression};
 use std::alloc::{AllocError, Global};
-
-const IMAGE: &[u8] = b"IMAGE";
 
 /// Where a primary begins.
 fn primary_at(primary: &Primary) -> Pos
@@ -110,113 +108,94 @@ fn check_name(meaning: Option<Meaning>, at: Pos, faults: &mut Least)
     ensures { faults.new ≡ noted faults.old (name_faults meaning at) }
 {
     match meaning {
-        None => name_not_declared(at, faults),
-        Some(Meaning::Variable(_) | Meaning::Literal(_) | Meaning::Faulty) => {}
-        Some(_) => wrong_kind_of_name(at, faults),
-    }
-}
-
-fn checked_name(meaning: Option<Meaning>, at: Pos, faults: &mut Least) -> Result<Typed, AllocError>
-    ensures { Shows result faults.old faults.new (checked_name meaning at) }
-{
-    check_name(meaning, at, faults);
-    match meaning {
-        Some(Meaning::Variable(variable)) => Ok(Typed::Number(IntegerExpression::Variable(
-            variable,
-        ))),
-        Some(Meaning::Literal(value)) => Ok(Typed::Truth(BooleanExpression::Truth(value))),
-        _ => Ok(Typed::Unknown),
-    }
-}
-
-// Image of a type, with its argument and the place where that begins, if it has one.
-fn image_by_type(
-    base: Base,
-    designator: Pos,
-    argument: Option<(Pos, Typed)>,
-    faults: &mut Least,
-) -> Result<Typed, AllocError>
-    ensures { Shows result faults.old faults.new (image_by_type base designator
-        (option_map (λ p. (p.0, plain_typed p.1)) argument)) }
-{
-    let Some((at, argument)) = argument else {
-        wrong_number_of_arguments(designator, faults);
-        return Ok(Typed::Unknown);
-    };
-    wants(base, at, &argument, faults);
-    Ok(image_of(base, argument))
-}
-
-// Image of what has a value, which asks no argument.
-fn image_by_value(
-    text: TextExpression,
-    designator: Pos,
-    argument: Option<(Pos, Typed)>,
-    faults: &mut Least,
-) -> Result<Typed, AllocError>
-    ensures { Shows result faults.old faults.new (image_by_value (plain_text text) designator
-        (option_map (λ p. (p.0, plain_typed p.1)) argument)) }
-{
-    match argument {
-        None => Ok(Typed::Text(text)),
-        Some(_) => {
-            wrong_number_of_arguments(designator, faults);
-            Ok(Typed::Unknown)
+        None | Some(Meaning::Object(_) | Meaning::Literal(_)) => {}
+        Some(Meaning::ScalarType(_) | Meaning::Builtin(_) | Meaning::MainProcedure) => {
+            wrong_kind_of_name(at, faults);
         }
     }
 }
 
-// Image, with its argument and the place where that begins, if it has one.
-fn image(
-    meaning: Meaning,
-    prefix: &Ident,
-    designator: &Ident,
-    argument: Option<(Pos, Typed)>,
-    faults: &mut Least,
-) -> Result<Typed, AllocError>
-    ensures { Shows result faults.old faults.new (image meaning prefix.now designator.now
-        (option_map (λ p. (p.0, plain_typed p.1)) argument)) }
+fn value_read(meaning: Option<Meaning>) -> Typed
+    ensures { plain_typed result ≡ value_read meaning }
 {
     match meaning {
-        Meaning::IntegerType => image_by_type(Base::Whole, designator.at, argument, faults),
-        Meaning::BooleanType => image_by_type(Base::Truth, designator.at, argument, faults),
-        Meaning::Variable(variable) => {
-            let text = TextExpression::Image(IntegerExpression::Variable(variable));
-            image_by_value(text, designator.at, argument, faults)
-        }
-        Meaning::Literal(value) => {
-            let text = TextExpression::ImageTruth(BooleanExpression::Truth(value));
-            image_by_value(text, designator.at, argument, faults)
-        }
-        Meaning::Faulty => Ok(Typed::Unknown),
-        Meaning::PutLine | Meaning::MainProcedure => {
-            wrong_kind_of_name(prefix.at, faults);
-            Ok(Typed::Unknown)
-        }
+        Some(Meaning::Object(object)) => stored(object.variable, object.subtype),
+        Some(Meaning::Literal(value)) => Typed::Truth(BooleanExpression::Truth(value)),
+        _ => Typed::Unknown,
     }
 }
 
-// An attribute: its argument and what it begins with, and the prefix's meaning.
-fn attribute(
-    meaning: Option<Meaning>,
-    prefix: &Ident,
+// A name as a primary.
+#[tactic(auto, using(crate::proofs::Notes::noted_append))]
+fn name_value(name: &Name, scope: &Scope<'_>, faults: &mut Least) -> Typed
+    ensures typed { plain_typed result
+        ≡ (checked_name (resolved (plain_name name.now) scope.now).denoted).typed }
+    ensures noted { faults.new ≡ noted faults.old
+        ((resolved (plain_name name.now) scope.now).faults
+        ++ (checked_name (resolved (plain_name name.now) scope.now).denoted).faults) }
+{
+    let denoted = resolve(name, scope, faults);
+    check_name(denoted.meaning, denoted.at, faults);
+    value_read(denoted.meaning)
+}
+
+// An attribute of what a name denotes.
+#[tactic(auto, using(crate::proofs::Notes::noted_append))]
+fn name_attribute(
+    prefix: &Name,
     designator: &Ident,
     argument: Option<(Pos, Typed)>,
+    scope: &Scope<'_>,
+    faults: &mut Least,
+) -> Typed
+    ensures typed { plain_typed result
+        ≡ (checked_attribute (resolved (plain_name prefix.now) scope.now).denoted designator.now
+        (plain_argument argument)).typed }
+    ensures noted { faults.new ≡ noted faults.old
+        ((resolved (plain_name prefix.now) scope.now).faults
+        ++ (checked_attribute (resolved (plain_name prefix.now) scope.now).denoted designator.now
+        (plain_argument argument)).faults) }
+{
+    let denoted = resolve(prefix, scope, faults);
+    attribute_value(denoted, designator, argument, faults)
+}
+
+// The arguments of a part of a name: the last of them, and where there is none what was the last before.
+#[cycle(expression)]
+fn part_arguments(
+    alloc: Global,
+    part: &NamePart,
+    before: Typed,
+    scope: &Scope<'_>,
     faults: &mut Least,
 ) -> Result<Typed, AllocError>
     ensures { Shows result faults.old faults.new
-        (checked_attribute meaning prefix.now designator.now
-        (option_map (λ p. (p.0, plain_typed p.1)) argument)) }
+        (checked_part (plain_part part.now) scope.now (plain_typed before)) }
 {
-    let Some(meaning) = meaning else {
-        name_not_declared(prefix.at, faults);
-        return Ok(Typed::Unknown);
-    };
-    if designator.name.as_bytes() != IMAGE {
-        wrong_kind_of_name(designator.at, faults);
-        return Ok(Typed::Unknown);
+    let mut last = before;
+    for argument in &part.args {
+        drop(last);
+        last = expression(alloc, argument, scope, faults)?;
     }
-    image(meaning, prefix, designator, argument, faults)
+    Ok(last)
+}
+
+/// Checks the arguments of a name: notes their faults, also where none may stand, and answers what the last of them is.
+#[cycle(expression)]
+pub fn arguments(
+    alloc: Global,
+    name: &Name,
+    scope: &Scope<'_>,
+    faults: &mut Least,
+) -> Result<Typed, AllocError>
+    ensures { Shows result faults.old faults.new
+        (checked_arguments (plain_name name.now) scope.now) }
+{
+    let mut last = part_arguments(alloc, &name.first, Typed::Unknown, scope, faults)?;
+    for part in &name.others {
+        last = part_arguments(alloc, part, last, scope, faults)?;
+    }
+    Ok(last)
 }
 
 #[cycle(expression)]
@@ -236,18 +215,19 @@ fn primary(
             Ok(Typed::Text(TextExpression::Literal(text)))
         }
         Primary::Name(name) => {
-            let ident = &name.first.ident;
-            checked_name(scope.visible(&ident.name), ident.at, faults)
+            let last = arguments(alloc, name, scope, faults)?;
+            drop(last);
+            Ok(name_value(name, scope, faults))
         }
         Primary::Attribute(prefix, designator, argument) => {
-            let prefix = &prefix.first.ident;
-            let meaning = scope.visible(&prefix.name);
+            let last = arguments(alloc, prefix, scope, faults)?;
+            drop(last);
             match argument {
-                None => attribute(meaning, prefix, designator, None, faults),
+                None => Ok(name_attribute(prefix, designator, None, scope, faults)),
                 Some(e) => {
                     let typed = expression(alloc, e, scope, faults)?;
                     let argument = Some((expression_at(e), typed));
-                    attribute(meaning, prefix, designator, argument, faults)
+                    Ok(name_attribute(prefix, designator, argument, scope, faults))
                 }
             }
         }

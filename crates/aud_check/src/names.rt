@@ -1,18 +1,22 @@
 // Names, and what they stand for.
 
-ghost use Rattle.std.specs.Prelude.{◌≡◌, IfOk};
+ghost use Rattle.std.specs.Prelude.{◌≡◌, IfOk, is_some};
 ghost use Rattle.std.specs.Option.{option_copied};
 ghost use Rattle.aud_check.specs.Names.{Place as Plain, empty_region, named_in, predefined, declared, hiding, is_hidden, visible, main_place};
 ghost use Rattle.aud_check.specs.Ties.Regions.{plain_region, plain_regions, plain_place, names_in, hidden_names};
 
 use aud_syntax::tree::{Ident, Identifiers};
 use aud_text::name::Name;
-use aud_typed::program::Variable;
+use aud_typed::program::{Subtype, Variable};
 use indexmap::IndexMap;
 use std::alloc::{AllocError, Global};
 use std::marker::Model;
 
 const INTEGER: &[u8] = b"INTEGER";
+
+const NATURAL: &[u8] = b"NATURAL";
+
+const POSITIVE: &[u8] = b"POSITIVE";
 
 const BOOLEAN: &[u8] = b"BOOLEAN";
 
@@ -20,24 +24,38 @@ const FALSE: &[u8] = b"FALSE";
 
 const TRUE: &[u8] = b"TRUE";
 
+const PUT: &[u8] = b"PUT";
+
 const PUT_LINE: &[u8] = b"PUT_LINE";
+
+const NEW_LINE: &[u8] = b"NEW_LINE";
 
 /// What a visible name stands for (RM 8.3).
 #[derive(Clone, Copy, PartialEq, Eq, Debug)]
 pub enum Meaning {
-    /// The predefined type Integer (RM 3.5.4).
-    IntegerType,
-    /// The predefined type Boolean (RM 3.5.3).
-    BooleanType,
+    /// Integer, Natural, Positive or Boolean (RM 3.5.3, 3.5.4).
+    ScalarType(Subtype),
     /// False or True (RM 3.5.3).
     Literal(bool),
-    /// The procedure that puts out a text as a line.
-    PutLine,
-    /// The main procedure.
+    Object(Object),
+    Builtin(Builtin),
     MainProcedure,
-    Variable(Variable),
-    /// A variable whose declaration is faulty: nothing is known of its type.
-    Faulty,
+}
+
+/// A variable or constant (RM 3.3.1): its subtype, which is not known where its declaration is faulty.
+#[derive(Clone, Copy, PartialEq, Eq, Debug)]
+pub struct Object {
+    pub variable: Variable,
+    pub subtype: Option<Subtype>,
+    pub constant: bool,
+}
+
+/// The procedures that put out texts (RM A.10).
+#[derive(Clone, Copy, PartialEq, Eq, Debug)]
+pub enum Builtin {
+    Put,
+    PutLine,
+    NewLine,
 }
 
 /// The names that a region declares, in the order of their declarations, and what they stand for.
@@ -84,6 +102,16 @@ impl Place {
             outer,
         })
     }
+
+    // What the regions around the place declare a name to be.
+    fn declared(&self, name: &Name) -> Option<Meaning>
+        ensures { result ≡ declared name.now (plain_place self.now).regions }
+    {
+        match self.innermost.symbols.get(name) {
+            Some(meaning) => Some(*meaning),
+            None => declared(&self.outer, name),
+        }
+    }
 }
 
 /// What is visible at a place, which may stand within a declaration.
@@ -120,6 +148,13 @@ impl<'a> Scope<'a> {
         }
     }
 
+    /// Whether a region around the place declares a name, or the predefined one.
+    pub fn is_declared(&self, name: &Name) -> bool
+        ensures { result ≡ is_some (declared name.now self.now.regions) }
+    {
+        self.place.declared(name).is_some()
+    }
+
     /// What a name stands for, none where no declaration of it is visible (RM 8.3).
     pub fn visible(&self, name: &Name) -> Option<Meaning>
         ensures { result ≡ visible name.now self.now }
@@ -127,10 +162,7 @@ impl<'a> Scope<'a> {
         if is_hidden(name, self.hidden) {
             return None;
         }
-        match self.place.innermost.symbols.get(name) {
-            Some(meaning) => Some(*meaning),
-            None => declared(&self.place.outer, name),
-        }
+        self.place.declared(name)
     }
 }
 
@@ -162,15 +194,21 @@ fn declared(regions: &[Region], name: &Name) -> Option<Meaning>
     }
 }
 
-// What the outermost region declares a name to be.
-fn predefined(name: &Name) -> Option<Meaning>
+/// What the outermost region declares a name to be.
+pub fn predefined(name: &Name) -> Option<Meaning>
     ensures { result ≡ named_in name.now predefined }
 {
     if name.as_bytes() == INTEGER {
-        return Some(Meaning::IntegerType);
+        return Some(Meaning::ScalarType(Subtype::Integer));
+    }
+    if name.as_bytes() == NATURAL {
+        return Some(Meaning::ScalarType(Subtype::Natural));
+    }
+    if name.as_bytes() == POSITIVE {
+        return Some(Meaning::ScalarType(Subtype::Positive));
     }
     if name.as_bytes() == BOOLEAN {
-        return Some(Meaning::BooleanType);
+        return Some(Meaning::ScalarType(Subtype::Boolean));
     }
     if name.as_bytes() == FALSE {
         return Some(Meaning::Literal(false));
@@ -178,8 +216,14 @@ fn predefined(name: &Name) -> Option<Meaning>
     if name.as_bytes() == TRUE {
         return Some(Meaning::Literal(true));
     }
+    if name.as_bytes() == PUT {
+        return Some(Meaning::Builtin(Builtin::Put));
+    }
     if name.as_bytes() == PUT_LINE {
-        return Some(Meaning::PutLine);
+        return Some(Meaning::Builtin(Builtin::PutLine));
+    }
+    if name.as_bytes() == NEW_LINE {
+        return Some(Meaning::Builtin(Builtin::NewLine));
     }
     None
 }

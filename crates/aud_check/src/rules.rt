@@ -3,7 +3,7 @@
 ghost use Rattle.std.specs.Prelude.{◌≡◌, not};
 ghost use Rattle.aud_check.specs.Least.{noted};
 ghost use Rattle.aud_check.specs.Names.{is_declared};
-ghost use Rattle.aud_check.specs.Rules.{name_not_declared, declared_once, wrong_kind_of_name, fits, right_type, wrong_number_of_arguments, not_a_variable, right_name_at_end, number_too_large};
+ghost use Rattle.aud_check.specs.Rules.{base_of_subtype, base_asked, name_not_declared, declared_once, wrong_kind_of_name, fits, right_type, wrong_number_of_arguments, not_a_variable, right_name_at_end, right_label_at_end, exit_in_loop, number_too_large};
 
 use crate::fault::Least;
 use crate::names::Symbols;
@@ -11,6 +11,7 @@ use aud_syntax::tree::Ident;
 use aud_text::name::Name;
 use aud_text::place::Pos;
 use aud_text::refusal::Refusal;
+use aud_typed::program::Subtype;
 
 /// The types that places ask.
 #[derive(Clone, Copy, PartialEq, Eq, Debug)]
@@ -21,6 +22,26 @@ pub enum Base {
     Truth,
     /// A text, which is put out.
     Text,
+}
+
+/// The type of a subtype (RM 3.2).
+pub fn base_of_subtype(subtype: Subtype) -> Base
+    ensures { result ≡ base_of_subtype subtype }
+{
+    match subtype {
+        Subtype::Integer | Subtype::Natural | Subtype::Positive => Base::Whole,
+        Subtype::Boolean => Base::Truth,
+    }
+}
+
+/// The type of a subtype, where that is known.
+pub fn base_asked(subtype: Option<Subtype>) -> Option<Base>
+    ensures { result ≡ base_asked subtype }
+{
+    match subtype {
+        None => None,
+        Some(subtype) => Some(base_of_subtype(subtype)),
+    }
 }
 
 /// A name is visible (RM 8.3).
@@ -68,15 +89,15 @@ pub fn right_type(asked: Option<Base>, at: Pos, given: Option<Base>, faults: &mu
     }
 }
 
-/// As many arguments as formals, one for Image of a type and none for that of a variable
-/// (RM 6.4.1, 3.5(35), 4.10(40)).
+/// As many arguments as formals (RM 6.4.1), one for Image of a type and none for other attributes
+/// (RM 3.5(35), 4.10(40), 3.5(12)).
 pub fn wrong_number_of_arguments(at: Pos, faults: &mut Least)
     ensures { faults.new ≡ noted faults.old (wrong_number_of_arguments at) }
 {
     faults.note(at, Refusal::WrongNumberOfArguments);
 }
 
-/// A target is a variable that may be changed (RM 5.2(5)).
+/// A target is a variable (RM 5.2(5)), and no constant (RM 3.3.1(5)).
 pub fn not_a_variable(at: Pos, faults: &mut Least)
     ensures { faults.new ≡ noted faults.old (not_a_variable at) }
 {
@@ -91,6 +112,33 @@ pub fn right_name_at_end(name: &Name, last: &Option<Ident>, faults: &mut Least)
         if last.name != *name {
             faults.note(last.at, Refusal::WrongNameAtEnd);
         }
+    }
+}
+
+/// A labelled loop has its label after `end loop`, another has no name there (RM 5.5(5)).
+pub fn right_label_at_end(
+    label: &Option<Ident>,
+    last: &Option<Ident>,
+    semicolon: Pos,
+    faults: &mut Least,
+)
+    ensures { faults.new
+        ≡ noted faults.old (right_label_at_end label.now last.now semicolon) }
+{
+    match (label, last) {
+        (None, None) => {}
+        (None, Some(last)) => faults.note(last.at, Refusal::WrongNameAtEnd),
+        (Some(_), None) => faults.note(semicolon, Refusal::WrongNameAtEnd),
+        (Some(label), Some(_)) => right_name_at_end(&label.name, last, faults),
+    }
+}
+
+/// An exit leaves a loop that encloses it (RM 5.7(4)).
+pub fn exit_in_loop(good: bool, at: Pos, faults: &mut Least)
+    ensures { faults.new ≡ noted faults.old (exit_in_loop good at) }
+{
+    if !good {
+        faults.note(at, Refusal::ExitWithoutLoop);
     }
 }
 

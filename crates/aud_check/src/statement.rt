@@ -1,205 +1,268 @@
 // Statements.
 
-ghost use Rattle.std.specs.Prelude.{◌≡◌, IfOk};
-ghost use Rattle.aud_syntax.specs.Ties.View.{plain_expression, plain_expressions, plain_statement, plain_statements};
-ghost use Rattle.aud_syntax.specs.Plain.{no_args, more_args};
-ghost use Rattle.aud_typed.specs.Ties.View.{plain_statement as plain_typed_statement};
-ghost use Rattle.aud_check.specs.Least.{noted};
-ghost use Rattle.aud_check.specs.Statements.{target_base, target_faults, assign_faults, assigned, callee_faults, formal_base, called, args_faults, called_with, statement_faults, typed_statement, statements_faults, typed_statements};
-ghost use Rattle.aud_check.specs.Ties.Typing.{plain_typed, plain_sequence, Leaves};
+ghost use Rattle.std.specs.Prelude.{◌≡◌, ◌++◌, is_some, option_map, IfOk};
+ghost use Rattle.aud_syntax.specs.Ties.View.{plain_expression, plain_maybe, plain_statement, plain_others, plain_statements, plain_if_statement, arm_list, plain_iteration, plain_loop_statement};
+ghost use Rattle.aud_typed.specs.Tree.{exit, part_of};
+ghost use Rattle.aud_typed.specs.Ties.View.{plain_boolean, plain_statement as plain_typed_statement, statements_in, part_of_arms};
+ghost use Rattle.aud_check.specs.Rules.{exit_in_loop};
+ghost use Rattle.aud_check.specs.Conditions.{condition_faults, maybe_condition_faults, maybe_condition};
+ghost use Rattle.aud_check.specs.Statements.{iteration_faults, loop_condition, looped, loop_number, statement_faults, typed_statement, statements_faults, typed_statements, others_faults, typed_others};
+ghost use Rattle.aud_check.specs.Ties.Arms.{plain_arm, typed_arm, arm_then, LeavesArms};
+ghost use Rattle.aud_check.specs.Ties.Labels.{plain_labels};
+ghost use Rattle.aud_check.specs.Ties.Typing.{plain_sequence, plain_items, Leaves};
 
-use crate::expression::{expression, expression_at};
+use crate::assignment::assignment;
+use crate::behind::{both, boxed};
+use crate::call::call;
+use crate::condition::{condition, maybe_condition};
 use crate::fault::Least;
-use crate::names::{Meaning, Scope};
-use crate::rules::{
-    Base, name_not_declared, not_a_variable, right_type, wrong_kind_of_name,
-    wrong_number_of_arguments,
+use crate::labels::{exit_loop, loop_at, with_label};
+use crate::names::Scope;
+use crate::rules::{exit_in_loop, right_label_at_end};
+use aud_syntax::tree::{
+    Arm, Expression, Ident, IfStatement, Iteration, LoopStatement, Statement, Statements,
 };
-use crate::typed::{Typed, base_of, with_text};
-use aud_syntax::tree::{Expression, Ident, Statement, Statements};
 use aud_text::place::Pos;
 use aud_typed::program::{
-    Reference, Statement as TypedStatement, Statements as TypedStatements, Subtype, TextExpression,
-    ValueExpression,
+    Arm as TypedArm, BooleanExpression, IfStatement as TypedIf, Statement as TypedStatement,
+    Statements as TypedStatements,
 };
 use std::alloc::{AllocError, Global};
 
-fn target_base(meaning: Option<Meaning>) -> Option<Base>
-    ensures { result ≡ target_base meaning }
-{
-    match meaning {
-        Some(Meaning::Variable(_)) => Some(Base::Whole),
-        Some(Meaning::Literal(_)) => Some(Base::Truth),
-        _ => None,
-    }
-}
-
-// Notes where what is assigned to is not a variable that may be changed (RM 5.2(5)).
-fn check_target(meaning: Option<Meaning>, at: Pos, faults: &mut Least)
-    ensures { faults.new ≡ noted faults.old (target_faults meaning at) }
-{
-    match meaning {
-        None => name_not_declared(at, faults),
-        Some(Meaning::Variable(_) | Meaning::Faulty) => {}
-        Some(Meaning::Literal(_)) => not_a_variable(at, faults),
-        Some(_) => wrong_kind_of_name(at, faults),
-    }
-}
-
-// An assignment whose target has this meaning; a faulty one is left as a null statement.
-#[tactic(auto, using(crate::proofs::Notes::noted_append))]
-fn assigned(
-    meaning: Option<Meaning>,
-    target: Pos,
-    at: Pos,
-    value: Typed,
-    faults: &mut Least,
-) -> TypedStatement
-    ensures typed { plain_typed_statement result ≡ assigned meaning target (plain_typed value) }
-    ensures noted { faults.new
-        ≡ noted faults.old (assign_faults meaning target at (plain_typed value)) }
-{
-    check_target(meaning, target, faults);
-    right_type(target_base(meaning), at, base_of(&value), faults);
-    match (meaning, value) {
-        (Some(Meaning::Variable(variable)), Typed::Number(value)) => {
-            let subtype = Subtype::Integer;
-            let reference = Reference { variable, subtype };
-            TypedStatement::Assign(target, reference, ValueExpression::Whole(subtype, value))
-        }
-        _ => TypedStatement::Null(target),
-    }
-}
-
-// Notes where what is called is not a procedure with a formal parameter.
-fn check_callee(meaning: Option<Meaning>, at: Pos, faults: &mut Least)
-    ensures { faults.new ≡ noted faults.old (callee_faults meaning at) }
-{
-    match meaning {
-        None => name_not_declared(at, faults),
-        Some(Meaning::PutLine | Meaning::Faulty) => {}
-        Some(Meaning::MainProcedure) => wrong_number_of_arguments(at, faults),
-        Some(
-            Meaning::IntegerType
-            | Meaning::BooleanType
-            | Meaning::Literal(_)
-            | Meaning::Variable(_),
-        ) => wrong_kind_of_name(at, faults),
-    }
-}
-
-fn formal_base(meaning: Option<Meaning>) -> Option<Base>
-    ensures { result ≡ formal_base meaning }
-{
-    match meaning {
-        Some(Meaning::PutLine) => Some(Base::Text),
-        _ => None,
-    }
-}
-
-// A call of what has this meaning: the text, and then the end of the line. A faulty one is left as a null statement.
-fn called(
+// The condition of a loop, if it has one.
+fn iteration(
     alloc: Global,
-    meaning: Option<Meaning>,
-    name: Pos,
-    argument: Typed,
+    iteration: &Iteration,
+    scope: &Scope<'_>,
+    faults: &mut Least,
+) -> Result<Option<BooleanExpression>, AllocError>
+    ensures { Leaves (option_map plain_boolean) result faults.old faults.new
+        (iteration_faults (plain_iteration iteration.now) scope.now)
+        (loop_condition (plain_iteration iteration.now) scope.now) }
+{
+    match iteration {
+        Iteration::Forever => Ok(None),
+        Iteration::While(e) => Ok(Some(condition(alloc, e, scope, faults)?)),
+    }
+}
+
+// A loop with these statements.
+#[inline(never)]
+fn looped(
+    alloc: Global,
+    at: Pos,
+    condition: Option<BooleanExpression>,
+    body: TypedStatements,
 ) -> Result<TypedStatement, AllocError>
     ensures { IfOk result (λ typed. plain_typed_statement typed
-        ≡ called meaning name (plain_typed argument)) }
+        ≡ looped at (option_map plain_boolean condition) (statements_in body)) }
 {
-    match (meaning, argument) {
-        (Some(Meaning::PutLine), Typed::Text(text)) => {
-            let line = with_text(alloc, text, TextExpression::NewLine)?;
-            Ok(TypedStatement::Put(name, line))
+    match condition {
+        None => Ok(TypedStatement::Loop(Box::new(alloc, body)?)),
+        Some(condition) => {
+            let (condition, body) = both(condition, boxed(alloc, body))?;
+            Ok(TypedStatement::While(at, condition, body))
         }
-        _ => Ok(TypedStatement::Null(name)),
     }
 }
 
-// A call with one argument.
+// An exit (RM 5.7) of the loop that is this number of loops further out than the innermost one, if there is such a loop.
 #[tactic(auto, using(crate::proofs::Notes::noted_append))]
-fn one_argument(
+#[inline(never)]
+fn exit(
     alloc: Global,
-    ident: &Ident,
-    argument: &Expression,
+    at: Pos,
+    found: Option<usize>,
+    condition: &Option<Expression>,
     scope: &Scope<'_>,
     faults: &mut Least,
 ) -> Result<TypedStatement, AllocError>
     ensures { Leaves plain_typed_statement result faults.old faults.new
-        (args_faults (more_args (plain_expression argument.now) no_args) ident.now scope.now)
-        (called_with (more_args (plain_expression argument.now) no_args) ident.now scope.now) }
+        (exit_in_loop (is_some found) at
+        ++ maybe_condition_faults (plain_maybe condition.now) scope.now)
+        (exit at (loop_number found) (maybe_condition (plain_maybe condition.now) scope.now)) }
 {
-    let typed = expression(alloc, argument, scope, faults)?;
-    let meaning = scope.visible(&ident.name);
-    check_callee(meaning, ident.at, faults);
-    right_type(
-        formal_base(meaning),
-        expression_at(argument),
-        base_of(&typed),
-        faults,
-    );
-    called(alloc, meaning, ident.at, typed)
+    exit_in_loop(found.is_some(), at, faults);
+    let condition = maybe_condition(alloc, condition, scope, faults)?;
+    Ok(TypedStatement::Exit(at, found.unwrap_or(0), condition))
 }
 
-// A call: each procedure that may be called has one formal parameter, so that there is one argument.
-fn call(
+// An if statement of its first arm and the others, and the statements behind `else`.
+#[inline(never)]
+fn if_of(
     alloc: Global,
-    ident: &Ident,
-    args: &[Expression],
-    scope: &Scope<'_>,
-    faults: &mut Least,
+    arms: (TypedArm, Vec<TypedArm>),
+    otherwise: Vec<TypedStatement>,
 ) -> Result<TypedStatement, AllocError>
-    ensures { Leaves plain_typed_statement result faults.old faults.new
-        (args_faults (plain_expressions args.now) ident.now scope.now)
-        (called_with (plain_expressions args.now) ident.now scope.now) }
+    ensures { IfOk result (λ typed. plain_typed_statement typed ≡ arm_then (plain_arm arms.0)
+        (part_of_arms arms.1.items (part_of (plain_items otherwise)))) }
 {
-    if args.len() != 1 {
-        wrong_number_of_arguments(ident.at, faults);
-        return Ok(TypedStatement::Null(ident.at));
-    }
-    one_argument(alloc, ident, &args[0], scope, faults)
+    let (first, others) = arms;
+    let statement = boxed(
+        alloc,
+        TypedIf {
+            first,
+            others,
+            otherwise,
+        },
+    )?;
+    Ok(TypedStatement::If(statement))
 }
 
-/// Checks a statement (RM 5.1): notes its faults, and answers what is left of it.
-#[tactic(auto, using(crate::proofs::Notes::noted_append))]
-pub fn statement(
+// A statement (RM 5.1) in loops with these labels, the innermost one's first.
+#[cycle(statement)]
+fn statement<'a>(
     alloc: Global,
-    statement: &Statement,
+    statement: &'a Statement,
+    labels: &[&'a Option<Ident>],
     scope: &Scope<'_>,
     faults: &mut Least,
 ) -> Result<TypedStatement, AllocError>
     ensures { Leaves plain_typed_statement result faults.old faults.new
-        (statement_faults (plain_statement statement.now) scope.now)
-        (typed_statement (plain_statement statement.now) scope.now) }
+        (statement_faults (plain_statement statement.now) (plain_labels labels.now) scope.now)
+        (typed_statement (plain_statement statement.now) (plain_labels labels.now) scope.now) }
 {
     match statement {
         Statement::Null(at) => Ok(TypedStatement::Null(*at)),
-        Statement::Assign(target, value) => {
-            let typed = expression(alloc, value, scope, faults)?;
-            let target = &target.first.ident;
-            let meaning = scope.visible(&target.name);
-            Ok(assigned(meaning, target.at, expression_at(value), typed, faults))
+        Statement::Assign(target, value) => assignment(alloc, target, value, scope, faults),
+        Statement::Call(name) => call(alloc, name, scope, faults),
+        Statement::If(statement) => if_statement(alloc, statement, labels, scope, faults),
+        Statement::Loop(statement) => loop_statement(alloc, statement, labels, scope, faults),
+        Statement::Exit(at, name, condition) => {
+            let found = exit_loop(name, labels);
+            exit(alloc, *at, found, condition, scope, faults)
         }
-        Statement::Call(name) => call(alloc, &name.first.ident, &name.first.args, scope, faults),
     }
 }
 
-/// Checks a sequence of statements (RM 5.1): notes its faults, and answers what is left of it.
-pub fn statements(
+// An if statement (RM 5.3).
+#[tactic(auto, using(crate::proofs::Notes::noted_append))]
+#[cycle(statement)]
+#[inline(never)]
+fn if_statement<'a>(
     alloc: Global,
-    statements: &Statements,
+    statement: &'a IfStatement,
+    labels: &[&'a Option<Ident>],
+    scope: &Scope<'_>,
+    faults: &mut Least,
+) -> Result<TypedStatement, AllocError>
+    ensures { Leaves plain_typed_statement result faults.old faults.new
+        (statement_faults (plain_if_statement statement.now) (plain_labels labels.now) scope.now)
+        (typed_statement (plain_if_statement statement.now) (plain_labels labels.now) scope.now) }
+{
+    let first = arm(alloc, &statement.first, labels, scope, faults)?;
+    let arms = both(first, arms(alloc, &statement.others, labels, scope, faults))?;
+    let otherwise = more_statements(alloc, &statement.otherwise, labels, scope, faults);
+    let (arms, otherwise) = both(arms, otherwise)?;
+    if_of(alloc, arms, otherwise)
+}
+
+// The arms behind each `elsif`.
+#[cycle(statement)]
+fn arms<'a>(
+    alloc: Global,
+    arms: &'a [Arm],
+    labels: &[&'a Option<Ident>],
+    scope: &Scope<'_>,
+    faults: &mut Least,
+) -> Result<Vec<TypedArm>, AllocError>
+    ensures { LeavesArms result faults.old faults.new
+        (arm_list arms.now) (plain_labels labels.now) scope.now }
+{
+    let mut typed = Vec::with_capacity(alloc, arms.len())?;
+    for next in arms {
+        let other = arm(alloc, next, labels, scope, faults)?;
+        typed.push(other)?;
+    }
+    Ok(typed)
+}
+
+// A condition, and the statements that are done where it is true.
+#[tactic(auto, using(crate::proofs::Notes::noted_append))]
+#[cycle(statement)]
+fn arm<'a>(
+    alloc: Global,
+    arm: &'a Arm,
+    labels: &[&'a Option<Ident>],
+    scope: &Scope<'_>,
+    faults: &mut Least,
+) -> Result<TypedArm, AllocError>
+    ensures { Leaves plain_arm result faults.old faults.new
+        (condition_faults (plain_expression arm.now.condition) scope.now ++ statements_faults
+        (plain_statements arm.now.statements) (plain_labels labels.now) scope.now)
+        (typed_arm arm.now (plain_labels labels.now) scope.now) }
+{
+    let condition = condition(alloc, &arm.condition, scope, faults)?;
+    let statements = statements(alloc, &arm.statements, labels, scope, faults);
+    let (condition, statements) = both(condition, statements)?;
+    Ok(TypedArm {
+        at: arm.at,
+        condition,
+        statements,
+    })
+}
+
+// A loop (RM 5.5), whose statements see its label.
+#[tactic(auto, using(crate::proofs::Notes::noted_append))]
+#[cycle(statement)]
+#[inline(never)]
+fn loop_statement<'a>(
+    alloc: Global,
+    statement: &'a LoopStatement,
+    labels: &[&'a Option<Ident>],
+    scope: &Scope<'_>,
+    faults: &mut Least,
+) -> Result<TypedStatement, AllocError>
+    ensures { Leaves plain_typed_statement result faults.old faults.new
+        (statement_faults (plain_loop_statement statement.now) (plain_labels labels.now) scope.now)
+        (typed_statement (plain_loop_statement statement.now) (plain_labels labels.now) scope.now) }
+{
+    let label = &statement.label;
+    right_label_at_end(label, &statement.name, statement.semicolon, faults);
+    let inner = with_label(alloc, label, labels)?;
+    let condition = iteration(alloc, &statement.iteration, scope, faults)?;
+    let body = statements(alloc, &statement.statements, &inner, scope, faults);
+    let (condition, body) = both(condition, body)?;
+    looped(alloc, loop_at(label, statement.at), condition, body)
+}
+
+/// Checks a sequence of statements (RM 5.1(2)) in loops with these labels, the innermost one's first:
+/// notes its faults, and answers what is left of it.
+#[tactic(auto, using(crate::proofs::Notes::noted_append))]
+#[cycle(statement)]
+pub fn statements<'a>(
+    alloc: Global,
+    statements: &'a Statements,
+    labels: &[&'a Option<Ident>],
     scope: &Scope<'_>,
     faults: &mut Least,
 ) -> Result<TypedStatements, AllocError>
     ensures { Leaves plain_sequence result faults.old faults.new
-        (statements_faults (plain_statements statements.now) scope.now)
-        (typed_statements (plain_statements statements.now) scope.now) }
+        (statements_faults (plain_statements statements.now) (plain_labels labels.now) scope.now)
+        (typed_statements (plain_statements statements.now) (plain_labels labels.now) scope.now) }
 {
-    let first = statement(alloc, &statements.first, scope, faults)?;
-    let mut others = Vec::with_capacity(alloc, statements.others.len())?;
-    for next in &statements.others {
-        let other = statement(alloc, next, scope, faults)?;
-        others.push(other)?;
-    }
+    let first = statement(alloc, &statements.first, labels, scope, faults)?;
+    let others = more_statements(alloc, &statements.others, labels, scope, faults);
+    let (first, others) = both(first, others)?;
     Ok(TypedStatements { first, others })
+}
+
+#[cycle(statement)]
+fn more_statements<'a>(
+    alloc: Global,
+    others: &'a [Statement],
+    labels: &[&'a Option<Ident>],
+    scope: &Scope<'_>,
+    faults: &mut Least,
+) -> Result<Vec<TypedStatement>, AllocError>
+    ensures { Leaves plain_items result faults.old faults.new
+        (others_faults (plain_others others.now) (plain_labels labels.now) scope.now)
+        (typed_others (plain_others others.now) (plain_labels labels.now) scope.now) }
+{
+    let mut typed = Vec::with_capacity(alloc, others.len())?;
+    for next in others {
+        let other = statement(alloc, next, labels, scope, faults)?;
+        typed.push(other)?;
+    }
+    Ok(typed)
 }

@@ -5,7 +5,7 @@ ghost use Rattle.aud_typed.specs.Tree.{binary, join};
 ghost use Rattle.aud_typed.specs.declared.program.Operation.{out-Operation};
 ghost use Rattle.aud_typed.specs.Ties.View.{plain_integer, plain_boolean, plain_text, connected};
 ghost use Rattle.aud_check.specs.Least.{noted};
-ghost use Rattle.aud_check.specs.Expressions.{base_of, wants, combined, joined, one, integer_only, negated, relation_of, compared, related_to, compared_with, operand_faults, relating, both, connecting, image_of, arithmetic, joining, adding_operator, signed, highest};
+ghost use Rattle.aud_check.specs.Expressions.{base_of, wants, combined, joined, one, integer_only, negated, relation_of, compared, related_to, compared_with, operand_faults, relating, both, connecting, stored, arithmetic, joining, adding_operator, signed, highest};
 ghost use Rattle.aud_check.specs.Ties.Typing.{plain_typed, typed_connective, Shows};
 
 use crate::fault::Least;
@@ -14,7 +14,7 @@ use aud_syntax::tree::{Adding, Connective, Highest, Relational, Sign, Signed};
 use aud_text::place::Pos;
 use aud_typed::program::{
     Binary, BooleanExpression, Connective as TypedConnective, IntegerExpression, Logical,
-    Operation, Relation, TextExpression, Unary,
+    Operation, Relation, Subtype, TextExpression, Unary, Variable,
 };
 use std::alloc::{AllocError, Global};
 
@@ -36,6 +36,19 @@ pub fn base_of(typed: &Typed) -> Option<Base>
         Typed::Truth(_) => Some(Base::Truth),
         Typed::Text(_) => Some(Base::Text),
         Typed::Unknown => None,
+    }
+}
+
+/// The value of a variable or constant.
+pub fn stored(variable: Variable, subtype: Option<Subtype>) -> Typed
+    ensures { plain_typed result ≡ stored variable subtype }
+{
+    match subtype {
+        None => Typed::Unknown,
+        Some(Subtype::Integer | Subtype::Natural | Subtype::Positive) => {
+            Typed::Number(IntegerExpression::Variable(variable))
+        }
+        Some(Subtype::Boolean) => Typed::Truth(BooleanExpression::Variable(variable)),
     }
 }
 
@@ -148,17 +161,6 @@ fn integer_only(typed: Typed) -> Typed
 {
     match typed {
         Typed::Number(x) => Typed::Number(x),
-        _ => Typed::Unknown,
-    }
-}
-
-/// The text that Image makes of a value of a type.
-pub fn image_of(base: Base, typed: Typed) -> Typed
-    ensures { plain_typed result ≡ image_of base (plain_typed typed) }
-{
-    match (base, typed) {
-        (Base::Whole, Typed::Number(x)) => Typed::Text(TextExpression::Image(x)),
-        (Base::Truth, Typed::Truth(x)) => Typed::Text(TextExpression::ImageTruth(x)),
         _ => Typed::Unknown,
     }
 }

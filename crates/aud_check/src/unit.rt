@@ -2,25 +2,53 @@
 
 ghost use Rattle.std.specs.Prelude.{◌≡◌, map, IfOk};
 ghost use Rattle.aud_syntax.specs.Ties.View.{plain_unit};
-ghost use Rattle.aud_typed.specs.Ties.View.{plain_program};
-ghost use Rattle.aud_check.specs.Checked.{faults as program_faults, typed as typed_program};
+ghost use Rattle.aud_typed.specs.Ties.View.{plain_program, plain_named};
+ghost use Rattle.aud_check.specs.Checked.{named, faults as program_faults, typed as typed_program};
+ghost use Rattle.aud_check.specs.Ties.Regions.{shown_in, named_of};
 ghost use Rattle.aud_check.specs.Ties.Typing.{Leaves};
 
 use crate::declaration::{DeclarativePart, declarations};
 use crate::fault::Least;
-use crate::names::{Place, Scope, Symbols};
+use crate::names::{Meaning, Object, Place, Scope, Symbols};
 use crate::rules::right_name_at_end;
 use crate::statement::statements;
 use aud_syntax::tree::Unit;
-use aud_text::name::Name;
-use aud_typed::program::Program;
+use aud_typed::program::{Named, Program, Shown, Subtype};
 use std::alloc::{AllocError, Global};
 
-// The symbols' names.
-fn names_of(alloc: Global, symbols: Symbols) -> Result<Vec<Name>, AllocError>
-    ensures { IfOk result (λ names. names.items ≡ map (λ s. s.0) symbols.entries) }
+// How a variable or constant is shown.
+fn shown(meaning: Meaning) -> Shown
+    ensures { result ≡ shown_in meaning }
 {
-    symbols.into_keys().collect(alloc)
+    match meaning {
+        Meaning::Object(
+            Object {
+                subtype: Some(Subtype::Boolean),
+                ..
+            },
+        ) => Shown::Truth,
+        _ => Shown::Whole,
+    }
+}
+
+fn shown_symbols(alloc: Global, symbols: Symbols) -> Result<Vec<Named>, AllocError>
+    ensures { IfOk result (λ variables. variables.items ≡ map named_of symbols.entries) }
+{
+    symbols
+        .into_iter()
+        .map(|(name, meaning)| Named {
+            name,
+            shown: shown(meaning),
+        })
+        .collect(alloc)
+}
+
+// The symbols' names, and how they are shown.
+fn variables_of(alloc: Global, symbols: Symbols) -> Result<Vec<Named>, AllocError>
+    ensures { IfOk result (λ variables. map plain_named variables.items
+        ≡ map named symbols.entries) }
+{
+    shown_symbols(alloc, symbols)
 }
 
 /// Checks a program (RM 10.1.1): notes its faults, and answers what is left of it.
@@ -43,9 +71,9 @@ pub fn typed(alloc: Global, unit: &Unit, faults: &mut Least) -> Result<Program, 
         elaborations,
     } = part;
     let scope = Scope::new(&place);
-    let statements = statements(alloc, &unit.body.statements, &scope, faults)?;
+    let statements = statements(alloc, &unit.body.statements, &[], &scope, faults)?;
     right_name_at_end(main, &unit.body.name, faults);
-    let variables = names_of(alloc, place.innermost.symbols)?;
+    let variables = variables_of(alloc, place.innermost.symbols)?;
     let name = main.try_clone(alloc)?;
     Ok(Program {
         name,

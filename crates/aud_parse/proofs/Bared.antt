@@ -1,5 +1,6 @@
 -- Places do not matter: tokens that are alike are read alike.
-use Rattle.std.proofs.Common.{◌≡◌, List, [], ◌∷◌, map, refl, ap, Bool, true, false}
+use Rattle.std.proofs.Common.{◌≡◌, List, [], ◌∷◌, map, refl, ap, ◌∙◌, Bool, true, false}
+use Rattle.std.specs.Prelude.{None}
 use Rattle.aud_text.specs.declared.place.Pos.{Pos}
 use Rattle.aud_lex.specs.declared.token.Kind.TheVariants as kind
 use Rattle.aud_lex.specs.Element.{Element}
@@ -9,7 +10,7 @@ use Rattle.aud_syntax.specs.declared.tree.Highest.TheVariants as highest
 use Rattle.aud_syntax.specs.declared.tree.Connective.{Connective}
 use Rattle.aud_syntax.specs.declared.tree.Connective.TheVariants as connective
 use Rattle.aud_syntax.specs.Plain as m
-use Rattle.aud_syntax.specs.Why.Bare.{nowhere, bare_ident, bare_number, bare_literal, bare_signed, bare_operator, bare_sign, bare_highest, bare_end, bare_expression, bare_relation, bare_relations, bare_name, bare_part, bare_args, bare_simple, bare_addeds, bare_added, bare_term, bare_multiplieds, bare_multiplied, bare_factor, bare_primary, bare_maybe, bare_declaration, bare_declarations, bare_statement, bare_more_statements, bare_statements, bare_body, bare}
+use Rattle.aud_syntax.specs.Why.Bare.{nowhere, bare_ident, bare_number, bare_literal, bare_signed, bare_operator, bare_sign, bare_highest, bare_end, bare_expression, bare_relation, bare_relations, bare_name, bare_part, bare_parts, bare_args, bare_simple, bare_addeds, bare_added, bare_term, bare_multiplieds, bare_multiplied, bare_factor, bare_primary, bare_maybe, bare_declaration, bare_declarations, bare_statement, bare_more_statements, bare_statements, bare_body, bare_context, bare, bare_arms, bare_iteration}
 use Rattle.aud_parse.specs.Grammar as g
 use Rattle.aud_parse.specs.Grammar.{Phrase, Symbol, T, P, N, L, Down, A, Opt, Rep, rule}
 use Rattle.aud_parse.specs.Actions as a
@@ -47,12 +48,19 @@ bare_item (a.a_relation x) = a.a_relation (bare_relation x)
 bare_item (a.a_chain operator x xs) = a.a_chain operator (bare_relation x) (bare_relations xs)
 bare_item (a.an_expression x) = a.an_expression (bare_expression x)
 bare_item (a.assigned x) = a.assigned (bare_expression x)
-bare_item (a.called x) = a.called (bare_args x)
+bare_item a.called = a.called
+bare_item (a.assigns xs ps e) = a.assigns (bare_args xs) (bare_parts ps) (bare_expression e)
+bare_item (a.calls xs ps) = a.calls (bare_args xs) (bare_parts ps)
 bare_item (a.a_statement x) = a.a_statement (bare_statement x)
 bare_item (a.some_statements x) = a.some_statements (bare_statements x)
+bare_item (a.an_arm at e x) = a.an_arm nowhere (bare_expression e) (bare_statements x)
+bare_item (a.an_iteration at x) = a.an_iteration nowhere (bare_iteration x)
 bare_item (a.a_body x) = a.a_body (bare_body x)
 bare_item (a.some_names x xs) = a.some_names (bare_ident x) (map bare_ident xs)
+bare_item (a.a_variable x e) = a.a_variable (bare_ident x) (bare_maybe e)
+bare_item (a.a_constant x e) = a.a_constant (bare_ident x) (bare_expression e)
 bare_item (a.a_declaration x) = a.a_declaration (bare_declaration x)
+bare_item (a.a_context x) = a.a_context (bare_context x)
 bare_item (a.a_unit x) = a.a_unit (bare x)
 
 abbrev pub bares : List Item → List Item
@@ -152,6 +160,14 @@ bare_the_part : (x : Item) → a.the_part (bare_item x) ≡ bare_part (a.the_par
 bare_the_part (a.a_part y) = refl
 bare_the_part _ = refl
 
+bare_the_parts : (x : Item) → a.the_parts (bare_item x) ≡ bare_parts (a.the_parts x)
+bare_the_parts (cons x y) = cc (bare_the_part x, bare_the_parts y)
+bare_the_parts _ = refl
+
+bare_expression_args : (x : Item) → a.expression_args (bare_item x) ≡ bare_args (a.expression_args x)
+bare_expression_args (cons x y) = cc (bare_the_expression x, bare_expression_args y)
+bare_expression_args _ = refl
+
 bare_the_name : (x : Item) → a.the_name (bare_item x) ≡ bare_name (a.the_name x)
 bare_the_name (a.a_name y) = refl
 bare_the_name _ = refl
@@ -212,6 +228,19 @@ bare_the_declarations : (x : Item) → a.the_declarations (bare_item x) ≡ bare
 bare_the_declarations (cons x y) = cc (bare_the_declaration x, bare_the_declarations y)
 bare_the_declarations _ = refl
 
+bare_the_context : (x : Item) → a.the_context (bare_item x) ≡ bare_context (a.the_context x)
+bare_the_context (a.a_context y) = refl
+bare_the_context _ = refl
+
+bare_the_contexts : (x : Item) → a.the_contexts (bare_item x) ≡ map bare_context (a.the_contexts x)
+bare_the_contexts (cons x y) = cc (bare_the_context x, bare_the_contexts y)
+bare_the_contexts _ = refl
+
+bare_declared : (i : Ident) (is : List Ident) (x : Item) → a.declared (bare_ident i) (map bare_ident is) (bare_item x) ≡ bare_declaration (a.declared i is x)
+bare_declared i is (a.a_variable j e) = refl
+bare_declared i is (a.a_constant j e) = refl
+bare_declared i is _ = refl
+
 bare_with_attribute : (n : m.Name) (x : Item) → a.with_attribute (bare_name n) (bare_item x) ≡ bare_primary (a.with_attribute n x)
 bare_with_attribute n (a.an_attribute j e) = refl
 bare_with_attribute n _ = refl
@@ -224,9 +253,38 @@ bare_connected : (x : m.Relation) (y : Item) → a.connected (bare_relation x) (
 bare_connected x (a.a_chain operator y ys) = refl
 bare_connected x _ = refl
 
+bare_followed : (xs : m.Args) (ps : m.Parts) (x : Item) → a.followed (bare_args xs) (bare_parts ps) (bare_item x) ≡ bare_item (a.followed xs ps x)
+bare_followed xs ps (a.assigned e) = refl
+bare_followed xs ps _ = refl
+
+bare_otherwise : (x : Item) → a.otherwise (bare_item x) ≡ bare_more_statements (a.otherwise x)
+bare_otherwise (a.some_statements (m.in_order y ys)) = refl
+bare_otherwise _ = refl
+
+bare_with_arm : (x : Item) (xs : m.Arms) → a.with_arm (bare_item x) (bare_arms xs) ≡ bare_arms (a.with_arm x xs)
+bare_with_arm (a.an_arm at e y) xs = refl
+bare_with_arm _ xs = refl
+
+bare_the_arms : (x : Item) → a.the_arms (bare_item x) ≡ bare_arms (a.the_arms x)
+bare_the_arms (cons x y) = ap (λ z. a.with_arm (bare_item x) z) (bare_the_arms y) ∙ bare_with_arm x (a.the_arms y)
+bare_the_arms _ = refl
+
+bare_the_iteration : (x : Item) → a.the_iteration (bare_item x) ≡ bare_iteration (a.the_iteration x)
+bare_the_iteration (a.an_iteration at y) = refl
+bare_the_iteration _ = refl
+
+bare_loop_place : (x y : Item) → a.loop_place (bare_item x) (bare_item y) ≡ nowhere
+bare_loop_place (a.an_iteration at z) y = refl
+bare_loop_place _ y = bare_place y
+
+bare_labelled : (i : Ident) (x : m.Statement) → a.labelled (bare_ident i) (bare_statement x) ≡ bare_statement (a.labelled i x)
+bare_labelled i (m.loop label at x statements end semicolon) = refl
+bare_labelled i _ = refl
+
 bare_begun : (i : Ident) (x : Item) → a.begun (bare_ident i) (bare_item x) ≡ bare_statement (a.begun i x)
-bare_begun i (a.assigned e) = refl
-bare_begun i (a.called e) = refl
+bare_begun i (a.assigns xs ps e) = refl
+bare_begun i (a.calls xs ps) = refl
+bare_begun i (a.a_statement x) = bare_labelled i x
 bare_begun i _ = refl
 
 -- an item made of those on top
@@ -262,6 +320,16 @@ made_4 f h st =
     let three : List Item = pop two in
     cc (h (top st) (top one) (top two) (top three), bare_top st, bare_pop st, bare_top one, bare_pop one, bare_top two, bare_pop two, bare_top three, bare_pop three)
 
+made_5 : (f : Item → Item → Item → Item → Item → Item) → ((x y u v w : Item) → f (bare_item x) (bare_item y) (bare_item u) (bare_item v) (bare_item w) ≡ bare_item (f x y u v w)) → (st : List Item) →
+    bares (f (top st) (top (pop st)) (top (pop (pop st))) (top (pop (pop (pop st)))) (top (pop (pop (pop (pop st))))) ∷ pop (pop (pop (pop (pop st)))))
+    ≡ f (top (bares st)) (top (pop (bares st))) (top (pop (pop (bares st)))) (top (pop (pop (pop (bares st))))) (top (pop (pop (pop (pop (bares st)))))) ∷ pop (pop (pop (pop (pop (bares st)))))
+made_5 f h st =
+    let one : List Item = pop st in
+    let two : List Item = pop one in
+    let three : List Item = pop two in
+    let four : List Item = pop three in
+    cc (h (top st) (top one) (top two) (top three) (top four), bare_top st, bare_pop st, bare_top one, bare_pop one, bare_top two, bare_pop two, bare_top three, bare_pop three, bare_top four, bare_pop four)
+
 bare_chained : (operator : Connective) (st : List Item) → bares (a.chained operator st) ≡ a.chained operator (bares st)
 bare_chained operator = made_2 (λ x y. a.a_chain operator (a.the_relation x) (a.the_relations y)) (λ x y. cc (bare_the_relation x, bare_the_relations y))
 
@@ -276,16 +344,25 @@ is_leaf g.Literal = true
 is_leaf _ = false
 
 pub bare_made : (p : Phrase) → is_leaf p ≡ false → (st : List Item) → bares (made p st) ≡ made p (bares st)
-bare_made g.Unit e = made_4 (λ x y z w. a.a_unit (m.unit (a.place x) (a.the_ident y) (a.the_declarations z) (a.the_body w))) (λ x y z w. cc (bare_place x, bare_the_ident y, bare_the_declarations z, bare_the_body w))
+bare_made g.Unit e = made_5 (λ v x y z w. a.a_unit (m.unit (a.the_contexts v) (a.place x) (a.the_ident y) (a.the_declarations z) (a.the_body w))) (λ v x y z w. cc (bare_the_contexts v, bare_place x, bare_the_ident y, bare_the_declarations z, bare_the_body w))
+bare_made g.WithClause e = made_2 (λ x y. a.a_context (m.with_text_io (a.place x))) (λ x y. cc (bare_place x))
+bare_made g.UseClause e = made_2 (λ x y. a.a_context (m.use_text_io (a.place x))) (λ x y. cc (bare_place x))
 bare_made g.DeclarationList e = bare_listed
-bare_made g.Declaration e = made_3 (λ x y z. a.a_declaration (m.object (a.first_name x) (a.other_names x) (a.the_ident y) (a.opt_expression z))) (λ x y z. cc (bare_first_name x, bare_other_names x, bare_the_ident y, bare_opt_expression z))
+bare_made g.Declaration e = made_2 (λ x y. a.a_declaration (a.declared (a.first_name x) (a.other_names x) y)) (λ x y. cc (bare_first_name x, bare_other_names x, bare_declared (a.first_name x) (a.other_names x) y))
+bare_made g.Variable e = made_2 (λ x y. a.a_variable (a.the_ident x) (a.opt_expression y)) (λ x y. cc (bare_the_ident x, bare_opt_expression y))
+bare_made g.Constant e = made_2 (λ x y. a.a_constant (a.the_ident x) (a.the_expression y)) (λ x y. cc (bare_the_ident x, bare_the_expression y))
 bare_made g.Identifiers e = made_2 (λ x y. a.some_names (a.the_ident x) (a.the_idents y)) (λ x y. cc (bare_the_ident x, bare_the_idents y))
 bare_made g.Body e = made_4 (λ x y z w. a.a_body (m.body (a.place x) (a.the_statements y) (a.place z) (a.opt_ident w))) (λ x y z w. cc (bare_place x, bare_the_statements y, bare_place z, bare_opt_ident w))
 bare_made g.StatementList e = made_2 (λ x y. a.some_statements (m.in_order (a.the_statement x) (a.more_statements y))) (λ x y. cc (bare_the_statement x, bare_more y))
 bare_made g.NullStatement e = made_1 (λ x. a.a_statement (m.null (a.place x))) (λ x. cc (bare_place x))
 bare_made g.NameStatement e = made_2 (λ x y. a.a_statement (a.begun (a.the_ident x) y)) (λ x y. cc (bare_the_ident x, bare_begun (a.the_ident x) y))
 bare_made g.Assignment e = made_1 (λ x. a.assigned (a.the_expression x)) (λ x. cc (bare_the_expression x))
-bare_made g.Call e = made_1 (λ x. a.called (a.the_args x)) (λ x. cc (bare_the_args x))
+bare_made g.NamedStatement e = made_3 (λ x y z. a.followed (a.the_args x) (a.the_parts y) z) (λ x y z. cc (bare_the_args x, bare_the_parts y, bare_followed (a.the_args x) (a.the_parts y) z))
+bare_made g.If e = made_5 (λ x y z u v. a.a_statement (m.if_then (a.place x) (a.the_expression y) (a.the_statements z) (a.the_arms u) (a.otherwise v))) (λ x y z u v. cc (bare_place x, bare_the_expression y, bare_the_statements z, bare_the_arms u, bare_otherwise v))
+bare_made g.Elsif e = made_3 (λ x y z. a.an_arm (a.place x) (a.the_expression y) (a.the_statements z)) (λ x y z. cc (bare_place x, bare_the_expression y, bare_the_statements z))
+bare_made g.Loop e = made_5 (λ x y z u v. a.a_statement (m.loop None (a.loop_place x y) (a.the_iteration x) (a.the_statements z) (a.opt_ident u) (a.place v))) (λ x y z u v. cc (bare_loop_place x y, bare_the_iteration x, bare_the_statements z, bare_opt_ident u, bare_place v))
+bare_made g.While e = made_2 (λ x y. a.an_iteration (a.place x) (m.while (a.the_expression y))) (λ x y. cc (bare_place x, bare_the_expression y))
+bare_made g.Exit e = made_3 (λ x y z. a.a_statement (m.exit (a.place x) (a.opt_ident y) (a.opt_expression z))) (λ x y z. cc (bare_place x, bare_opt_ident y, bare_opt_expression z))
 bare_made g.Expression e = made_2 (λ x y. a.an_expression (a.connected (a.the_relation x) y)) (λ x y. cc (bare_the_relation x, bare_connected (a.the_relation x) y))
 bare_made g.AndThen e = bare_chained connective.AndThen
 bare_made g.AndOnly e = bare_chained connective.And
@@ -322,9 +399,9 @@ bare_made g.Named e = made_2 (λ x y. a.a_primary (a.with_attribute (a.the_name 
 bare_made g.Attribute e = made_2 (λ x y. a.an_attribute (a.the_ident x) (a.opt_inside y)) (λ x y. cc (bare_the_ident x, bare_opt_inside y))
 bare_made g.Group e = made_1 (λ x. a.a_primary (m.group (a.opening x) (a.inside x))) (λ x. cc (bare_opening x, bare_inside x))
 bare_made g.InParens e = made_2 (λ x y. a.in_parens (a.place x) (a.the_expression y)) (λ x y. cc (bare_place x, bare_the_expression y))
-bare_made g.Name e = made_1 (λ x. a.a_name (m.named (a.the_part x) m.no_parts)) (λ x. cc (bare_the_part x))
-bare_made g.NamePart e = made_1 (λ x. a.a_part (m.part (a.the_ident x) m.no_args)) (λ x. cc (bare_the_ident x))
-bare_made g.InArgs e = made_1 (λ x. a.some_args (m.more_args (a.the_expression x) m.no_args)) (λ x. cc (bare_the_expression x))
+bare_made g.Name e = made_2 (λ x y. a.a_name (m.named (a.the_part x) (a.the_parts y))) (λ x y. cc (bare_the_part x, bare_the_parts y))
+bare_made g.NamePart e = made_2 (λ x y. a.a_part (m.part (a.the_ident x) (a.the_args y))) (λ x y. cc (bare_the_ident x, bare_the_args y))
+bare_made g.InArgs e = made_2 (λ x y. a.some_args (m.more_args (a.the_expression x) (a.expression_args y))) (λ x y. cc (bare_the_expression x, bare_expression_args y))
 bare_made g.Identifier e = λ st. cc
 bare_made g.Number e = λ st. cc
 bare_made g.Literal e = λ st. cc

@@ -1,6 +1,8 @@
 -- What a function reads that hands its trees on while it reads.
-use Rattle.std.proofs.Common.{◌≡◌, ℕ, List, ◌∷◌, ap, sym, arith, ◌∙◌}
-use Rattle.std.specs.Prelude.{Result, Ok, Err, IfOk}
+use Rattle.std.proofs.Common.{◌≡◌, ℕ, List, ◌∷◌, ◌++◌, ap, sym, arith, ◌∙◌}
+use Rattle.std.specs.Prelude.{Result, Ok, Err, IfOk, IsErrAnd}
+use Rattle.std.proofs.lemmas.Result.{err_from_is_err_and}
+use Rattle.aud_lex.specs.Element.{Element}
 use Rattle.aud_lex.specs.declared.token.Kind.{Kind}
 use Rattle.aud_parse.specs.Grammar.{Symbol, T}
 use Rattle.aud_parse.specs.Parsed.{Verdict}
@@ -8,7 +10,8 @@ use Rattle.aud_parse.specs.Actions.{Item}
 use Rattle.aud_parse.specs.Ties.Outcome.{Out}
 use Rattle.aud_parse.specs.declared.cursor.Rest.{Rest}
 use Rattle.aud_parse.specs.declared.cursor.Fault.{Fault}
-use Rattle.aud_parse.specs.Ties.Reads.{Passes, FailsAt, Comes, Fewer, NoMore, Reading, FlatReading}
+use Rattle.aud_parse.specs.declared.cursor.Fault.TheVariants as fault
+use Rattle.aud_parse.specs.Ties.Reads.{Passes, FailsAt, FailsIn, Comes, Fewer, NoMore, Reading, FlatReading}
 use Rattle.aud_parse.specs.Ties.Behind.{Ends, both}
 use Rattle.aud_parse.proofs.Passing.{to, fails_through}
 
@@ -18,7 +21,7 @@ comes_with : {s0 : Symbol} {c : Kind} {r : ℕ} (start mid : Rest) {f : List Ite
 comes_with {r = r} start mid x (Ok p) e before is = λ k ds v o. to (before k ds v (e.reads.1 r k ds v o)) (is ds ∙ ap (λ t. x t ∷ ds) (sym e.reads.0))
 comes_with {r = r} start mid x (Err e) h before is = fails_through {K = λ k. k} e (h.reads r) before
 
-fewer_still : {X : Type 0} (start mid : Rest) (res : Result (X × Rest) Fault) → IfOk res (λ p. Fewer p.1 mid) → NoMore mid start → IfOk res (λ p. Fewer p.1 start)
+pub fewer_still : {X : Type 0} (start mid : Rest) (res : Result (X × Rest) Fault) → IfOk res (λ p. Fewer p.1 mid) → NoMore mid start → IfOk res (λ p. Fewer p.1 start)
 fewer_still start mid (Ok p) h m = omega (arith, h, m)
 fewer_still start mid (Err e) h m = tt
 
@@ -80,3 +83,19 @@ not_joined_twice x y next h i reads = not_joined y next (joined_err x h i) reads
 -- what is read with any room
 pub at_room : {X : Type 0} {Left : Rest → Rest → Type 0} {x : X → Item} {s : Symbol} {start : Rest} {res : Result (X × Rest) Fault} (r : ℕ) → FlatReading Left x s start res → Reading Left x s r start res
 at_room r h = record { reads = h.reads r; shorter = h.shorter }
+
+-- several symbols that are read behind others, as part of one
+
+fails_all : {s0 : Symbol} (S : List Symbol) (K : List Symbol → List Symbol) {r r' : ℕ} {ts ts' : List Element} {f : List Item → List Item} (e : Fault) →
+    FailsIn S r' ts' e → ((k : List Symbol) (ds : List Item) (v : Verdict) → Out (S ++ K k) r' ts' ds v → Out (s0 ∷ k) r ts (f ds) v) → FailsAt s0 r ts e
+fails_all S K fault.Memory h before = tt
+fails_all S K {f = f} (fault.Wrong rest) h before = λ k. let o = h (K k) in (f o.0, before k o.0 _ o.1)
+fails_all S K {f = f} (fault.Deep rest) h before = λ k. let o = h (K k) in (f o.0, before k o.0 _ o.1)
+
+-- the exit by a `?` of what has read them
+pub exit_all : {Left : Rest → Rest → Type 0} {s0 : Symbol} (S : List Symbol) (K : List Symbol → List Symbol) {r r' : ℕ} {start : Rest} {ts' : List Element} {f : List Item → List Item} {X : Type 0} (x : X → Item) (e : Fault)
+    (res : Result (X × Rest) Fault) → IsErrAnd res (λ y. y ≡ e) → FailsIn S r' ts' e →
+    ((k : List Symbol) (ds : List Item) (v : Verdict) → Out (S ++ K k) r' ts' ds v → Out (s0 ∷ k) r start.tokens.now (f ds) v) → Reading Left x s0 r start res
+exit_all S K x e res is h before =
+    let p = err_from_is_err_and res is in
+    rw (p.1, p.2) (record { reads = fails_all S K e h before; shorter = tt })

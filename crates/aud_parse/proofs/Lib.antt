@@ -10,7 +10,6 @@ pub mod Spelled
 pub mod Passing
 pub mod Joined
 pub mod Connecting
-pub mod Parentheses
 pub mod Rolls
 pub mod Verdicts
 pub mod Literals
@@ -19,6 +18,7 @@ pub mod Answered
 pub mod Bared
 pub mod Places
 pub mod Canonical
+pub mod SameWords
 pub mod Worded
 pub mod RoundTrip
 pub mod Rows

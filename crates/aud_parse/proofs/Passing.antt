@@ -1,15 +1,17 @@
 -- How symbols are passed: words, tokens, levels, loops, and the exit of a function at a fault.
 use Rattle.std.proofs.Common.{◌≡◌, ℕ, suc, ◌+◌, ◌≤◌, List, [], ◌∷◌, ◌++◌, length, ap, Bool, true, false, refl, sym, arith, subst, ◌∙◌}
 use Rattle.std.specs.Prelude.{◌==◌, if◌then◌else◌, Result, Ok, Err, IsErrAnd}
+use Rattle.std.proofs.lemmas.Bool.{eqb-true}
+use Rattle.aud_text.specs.Name.{capitals}
 use Rattle.std.proofs.lemmas.Result.{err_from_is_err_and}
 use Rattle.aud_lex.specs.Element.{Element}
 use Rattle.aud_lex.specs.Kinds.{kind_number}
 use Rattle.aud_lex.specs.declared.token.Kind.{Kind}
-use Rattle.aud_parse.specs.Grammar.{Phrase, Symbol, T, P, N, L, Down, Rep, rule}
-use Rattle.aud_parse.specs.First.{next_in, firsts}
+use Rattle.aud_parse.specs.Grammar.{Word, Phrase, Symbol, T, P, W, N, L, Down, Rep, rule}
+use Rattle.aud_parse.specs.First.{next_in, next_word, same_text, firsts}
 use Rattle.aud_parse.specs.Parsed.{Verdict, Wrong, Deep}
 use Rattle.aud_parse.specs.Actions.{Item, token, none, listed, made}
-use Rattle.aud_parse.specs.Ties.Outcome.{Out, o_level, o_down, o_rule, o_deep, o_shut, o_word, o_token, o_more, o_stop}
+use Rattle.aud_parse.specs.Ties.Outcome.{Out, o_level, o_down, o_rule, o_deep, o_shut, o_word, o_token, o_spelled, o_more, o_stop}
 use Rattle.aud_parse.specs.Ties.Items.{list_item}
 use Rattle.aud_parse.specs.declared.cursor.Rest.{Rest}
 use Rattle.aud_parse.specs.declared.cursor.Fault.{Fault}
@@ -28,6 +30,20 @@ word_passes h k ds v o = rw h.1 (o_word (rw h.1 at h.0) o)
 
 pub token_passes : {c : Kind} {r : ℕ} {ts ts' : List Element} {t : Element} → (next_in (c ∷ []) ts ≡ true) × (ts ≡ t ∷ ts') → Passes (P c) r ts (λ ds. token t ∷ ds) r ts'
 token_passes h k ds v o = rw h.1 (o_token (rw h.1 at h.0) o)
+
+-- an identifier that the grammar names, where it comes next
+
+pub next_word_there : (w : Word) (ts : List Element) → next_word w ts ≡ true → 1 ≤ length ts
+next_word_there w [] e = cc
+next_word_there w (t ∷ ts) e = omega arith
+
+pub spelled_passes : (w : Word) (ts ts' : List Element) (t : Element) (r : ℕ) → next_word w ts ≡ true → ts ≡ t ∷ ts' → Passes (W w) r ts (λ ds. ds) r ts'
+spelled_passes w ts ts' t r e is k ds v o = rw is (o_spelled (rw is at e) o)
+
+pub more_text : (xs ys : List ℕ) → (length xs == 0) ≡ false → (length ys == 0) ≡ true → false ≡ same_text (capitals xs) ys
+more_text [] ys h i = cc
+more_text (x ∷ xs) [] h i = refl
+more_text (x ∷ xs) (y ∷ ys) h i = absurd (omega (arith, eqb-true (length (y ∷ ys)) 0 i))
 
 -- the next token is of one of some kinds
 
@@ -110,11 +126,15 @@ exit_flat x e res is h g =
     let p = err_from_is_err_and res is in
     rw (p.1, p.2) (record { reads = λ room. fails_through e (h room) (g room); shorter = tt })
 
--- a function that hands on the answer of another
+-- a function that hands on the answer of another, behind what it has passed
+pub hand_after : {s0 s : Symbol} {r : ℕ} {X : Type 0} (x : X → Item) (start mid : Rest) (res : Result (X × Rest) Fault) → Comes x s r mid res →
+    ((k : List Symbol) (ds : List Item) (v : Verdict) → Out (s ∷ k) r mid.tokens.now ds v → Out (s0 ∷ k) r start.tokens.now ds v) → Comes x s0 r start res
+hand_after x start mid (Ok p) h g = λ k ds v o. g k _ v (h k ds v o)
+hand_after x start mid (Err e) h g = fails_through e h g
+
 pub hand_on : {s0 s : Symbol} {r : ℕ} {X : Type 0} (x : X → Item) (start : Rest) (res : Result (X × Rest) Fault) → Comes x s r start res →
     ((k : List Symbol) (ds : List Item) (v : Verdict) → Out (s ∷ k) r start.tokens.now ds v → Out (s0 ∷ k) r start.tokens.now ds v) → Comes x s0 r start res
-hand_on x start (Ok p) h g = λ k ds v o. g k _ v (h k ds v o)
-hand_on x start (Err e) h g = fails_through e h g
+hand_on x start res h g = hand_after x start start res h g
 
 -- the same one level deeper
 pub level_on : {s0 : Symbol} {q : Phrase} {r : ℕ} {X : Type 0} (x : X → Item) (start : Rest) (i : ℕ) (res : Result (X × Rest) Fault) → r ≡ i + 1 → Comes x (N q) i start res →
@@ -150,7 +170,7 @@ headed_push : {X : Type 0} (f : X → Item) (xs : List X) (x : X) (ds : List Ite
 headed_push f [] x ds = refl
 headed_push f (y ∷ xs) x ds = ap (λ z. f y ∷ listed z) (headed_push f xs x ds)
 
-headed_items : {X : Type 0} (f : X → Item) (xs : List X) (x : X) (ds : List Item) → listed (headed f xs (f x ∷ none ∷ ds)) ≡ list_item f (xs ++ x ∷ []) ∷ ds
+pub headed_items : {X : Type 0} (f : X → Item) (xs : List X) (x : X) (ds : List Item) → listed (headed f xs (f x ∷ none ∷ ds)) ≡ list_item f (xs ++ x ∷ []) ∷ ds
 headed_items f [] x ds = refl
 headed_items f (y ∷ xs) x ds = ap (λ z. listed (f y ∷ z)) (headed_items f xs x ds)
 
@@ -162,8 +182,13 @@ pub heads_push : {X : Type 0} {f : X → Item} {q p : Phrase} {r : ℕ} {ts ts' 
     Heads f q p r ts ys us
 heads_push {p = p} x t s g is = record { by = λ k ds v o. rw (is, headed_push) (t.by k _ v (s (Rep p ∷ k) _ v (g k ds v o))) }
 
+-- the last turn, and what is read behind the list
+pub heads_on : {X : Type 0} {f : X → Item} {q p : Phrase} {r : ℕ} {ts ts' ts'' : List Element} {xs : List X} (x : X) → Heads f q p r ts xs ts' → Passes (N q) r ts' (λ ds. f x ∷ ds) r ts'' → next_in (firsts p) ts'' ≡ false →
+    (k : List Symbol) (ds : List Item) (v : Verdict) → Out k r ts'' ds v → Out (N q ∷ Rep p ∷ k) r ts (headed f xs (f x ∷ none ∷ ds)) v
+heads_on {p = p} x t s e k ds v o = t.by k _ v (s (Rep p ∷ k) _ v (o_stop e o))
+
 pub heads_end : {X : Type 0} {f : X → Item} {s0 : Symbol} {q p : Phrase} {r : ℕ} {ts ts' ts'' : List Element} {xs ys : List X} (x : X) →
     Heads f q p r ts xs ts' → Passes (N q) r ts' (λ ds. f x ∷ ds) r ts'' → next_in (firsts p) ts'' ≡ false → ys ≡ xs ++ x ∷ [] →
     ((k : List Symbol) (ds : List Item) (v : Verdict) → Out (N q ∷ Rep p ∷ k) r ts ds v → Out (s0 ∷ k) r ts (listed ds) v) → Passes s0 r ts (λ ds. list_item f ys ∷ ds) r ts''
-heads_end {f = f} {p = p} {xs = xs} x t s e is g k ds v o =
-    to (g k _ v (t.by k _ v (s (Rep p ∷ k) _ v (o_stop e o)))) (headed_items f xs x ds ∙ ap (λ l. list_item f l ∷ ds) (sym is))
+heads_end {f = f} {xs = xs} x t s e is g k ds v o =
+    to (g k _ v (heads_on x t s e k ds v o)) (headed_items f xs x ds ∙ ap (λ l. list_item f l ∷ ds) (sym is))

@@ -1,5 +1,5 @@
 -- The items of trees that are built from their phrases.
-use Rattle.std.proofs.Common.{◌≡◌, List, [], ◌∷◌, refl, sym, ap, ◌∙◌}
+use Rattle.std.proofs.Common.{◌≡◌, List, [], ◌∷◌, map, refl, sym, ap, ◌∙◌}
 use Rattle.std.specs.Prelude.{Option, Some, None, Vec}
 use Rattle.std.specs.Global.{Global}
 use Rattle.std.specs.Prelude.{Box}
@@ -7,9 +7,9 @@ use Rattle.aud_syntax.specs.declared.tree.Ident.{Ident}
 use Rattle.aud_syntax.specs.declared.tree.Signed.{Signed}
 use Rattle.aud_syntax.specs.declared.tree.Adding.{Adding}
 use Rattle.aud_syntax.specs.declared.tree.Operator.{Operator}
-use Rattle.aud_syntax.specs.declared.tree.Simple.{Simple, roll-Simple, rolls-Simple', Row_of-Added, end_of-Added, more_of-Added, items-the_row-Added, items_hidden-the_row-Added-2}
+use Rattle.aud_syntax.specs.declared.tree.Simple.{Simple, roll-Simple, rolls-Simple', Row_of-Added, end_of-Added, more_of-Added, items-the_row-Added, items_hidden-the_row-Added-3}
 use Rattle.aud_syntax.specs.declared.tree.Added.{Added, roll-Added, rolls-Added'}
-use Rattle.aud_syntax.specs.declared.tree.Term.{Term, roll-Term, rolls-Term', Row_of-Multiplied, end_of-Multiplied, more_of-Multiplied, items-the_row-Multiplied, items_hidden-the_row-Multiplied-3}
+use Rattle.aud_syntax.specs.declared.tree.Term.{Term, roll-Term, rolls-Term', Row_of-Multiplied, end_of-Multiplied, more_of-Multiplied, items-the_row-Multiplied, items_hidden-the_row-Multiplied-4}
 use Rattle.aud_syntax.specs.declared.tree.Multiplied.{Multiplied}
 use Rattle.aud_syntax.specs.declared.tree.Factor.{Factor}
 use Rattle.aud_syntax.specs.declared.tree.Expression.{Expression}
@@ -17,22 +17,26 @@ use Rattle.aud_syntax.specs.declared.tree.Expression.TheVariants.{Connected}
 use Rattle.aud_syntax.specs.declared.tree.Connective.{Connective}
 use Rattle.aud_syntax.specs.declared.tree.Chain.{Chain}
 use Rattle.aud_syntax.specs.declared.tree.Relation.{Relation}
-use Rattle.aud_syntax.specs.declared.tree.Name.{Name}
+use Rattle.aud_syntax.specs.declared.tree.Name.{Name, roll-Name}
+use Rattle.aud_syntax.specs.declared.tree.NamePart.{NamePart}
 use Rattle.aud_syntax.specs.declared.tree.Primary as primary
 use Rattle.aud_syntax.specs.declared.tree.Primary.{Primary}
-use Rattle.aud_syntax.proofs.Opened.{chain_open, name_open, attribute_open}
-use Rattle.aud_syntax.specs.declared.tree.Expression.TheBlock.{hidden-the_row-Multiplied-3, hidden-the_row-Added-2}
+use Rattle.aud_syntax.proofs.Opened.{chain_open, attribute_open, name_roll}
+use Rattle.aud_syntax.specs.declared.tree.Expression.TheBlock.{hidden-the_row-Multiplied-4, hidden-the_row-Added-3}
 use Rattle.aud_syntax.specs.declared.tree.Declaration.{Declaration}
-use Rattle.aud_syntax.specs.declared.tree.Declaration.TheVariants as declaration
-use Rattle.aud_syntax.specs.declared.tree.Identifiers.{Identifiers}
 use Rattle.aud_syntax.specs.declared.tree.Statement.{Statement}
 use Rattle.aud_syntax.specs.declared.tree.Statements.{Statements}
+use Rattle.aud_syntax.specs.declared.tree.Statement.TheVariants as statement
+use Rattle.aud_syntax.specs.declared.tree.Arm.{Arm}
+use Rattle.aud_text.specs.declared.place.Pos.{Pos}
 use Rattle.aud_syntax.specs.declared.tree.Body.{Body}
+use Rattle.aud_syntax.specs.declared.tree.Context.{Context}
 use Rattle.aud_syntax.specs.Plain as m
-use Rattle.aud_syntax.specs.Ties.View.{plain_name, plain_primary, plain_factor, plain_multiplieds, plain_term, plain_added, plain_addeds, plain_simple, plain_expression, plain_relation, relation_list, plain_chain, plain_maybe, plain_declaration, plain_declarations, plain_others, plain_statements, plain_statement, plain_body}
+use Rattle.aud_syntax.specs.Ties.View.{plain_name, plain_primary, plain_factor, plain_multiplieds, plain_term, plain_added, plain_addeds, plain_simple, plain_expression, plain_relation, relation_list, plain_chain, plain_maybe, plain_declaration, plain_declarations, plain_others, plain_statements, plain_statement, plain_context, plain_body, plain_expressions, plain_part, part_list, arm_list}
 use Rattle.aud_parse.specs.Grammar as g
-use Rattle.aud_parse.specs.Actions.{Item, made, none, with_attribute, place, an_ident, a_sign, an_operator, a_primary, a_factor, a_term, a_simple, an_expression, chained, some_names, some_statements, a_declaration, a_body, a_unit, the_idents, the_declarations, more_statements, opt_ident, opt_expression, opt_sign, opt_operator, the_multiplieds, the_addeds, the_relations}
-use Rattle.aud_parse.specs.Ties.Items.{list_item, opt_item, name_item, attribute_item, factor_item, multiplied_item, primary_item, term_item, added_item, simple_item, relation_item, expression_item, boxed_item, names_item, declaration_item, statement_item, statements_item, body_item, unit_item}
+use Rattle.aud_parse.specs.Actions.{Item, made, place, an_ident, a_sign, an_operator, a_primary, a_factor, a_term, a_simple, an_expression, chained, some_names, some_statements, a_body, a_unit, the_idents, the_declarations, more_statements, opt_ident, opt_expression, opt_sign, opt_operator, the_multiplieds, the_addeds, the_relations, listed, top, pop, some_args, a_part, a_name, a_statement, the_args, the_parts, expression_args, a_variable, the_contexts, an_arm, the_arms, otherwise, the_iteration, loop_place}
+use Rattle.aud_parse.specs.Ties.Items.{list_item, opt_item, name_item, attribute_item, factor_item, multiplied_item, primary_item, term_item, added_item, simple_item, relation_item, expression_item, boxed_item, names_item, declaration_item, statement_item, statements_item, body_item, unit_item, args_of, args_item, part_item, rest_item, variable_item, context_item, boxed_statement_item, boxed_statements_item, arm_item, boxed_arm_item, while_item}
+use Rattle.aud_parse.specs.Ties.Parts.{assigned_or_called, else_statements, iteration_of, begins_at, behind_label}
 
 pub multiplied_rows : (n : _) (row : Row_of-Multiplied n) → plain_multiplieds row ≡ the_multiplieds (list_item multiplied_item (items-the_row-Multiplied n row))
 multiplied_rows n end_of-Multiplied = refl
@@ -46,14 +50,14 @@ pub added_roll : (s : Adding) (t : Term) → plain_added (roll-Added (record { o
 added_roll s t = ap plain_added (rolls-Added' _)
 
 term_roll : (f : Factor) (v : Vec Multiplied Global) → plain_term (roll-Term (record { first = f; rest = v })) ≡ m.term (plain_factor f) (the_multiplieds (list_item multiplied_item v.items))
-term_roll f v = ap plain_term (rolls-Term' _) ∙ ap (λ z. m.term (plain_factor f) z) (multiplied_rows _ (hidden-the_row-Multiplied-3 v) ∙ ap (λ l. the_multiplieds (list_item multiplied_item l)) (items_hidden-the_row-Multiplied-3 v))
+term_roll f v = ap plain_term (rolls-Term' _) ∙ ap (λ z. m.term (plain_factor f) z) (multiplied_rows _ (hidden-the_row-Multiplied-4 v) ∙ ap (λ l. the_multiplieds (list_item multiplied_item l)) (items_hidden-the_row-Multiplied-4 v))
 
 opt_sign_is : (s : Option Signed) → s ≡ opt_sign (opt_item a_sign s)
 opt_sign_is None = refl
 opt_sign_is (Some x) = refl
 
 simple_roll : (s : Option Signed) (t : Term) (v : Vec Added Global) → plain_simple (roll-Simple (record { sign = s; first = t; rest = v })) ≡ m.simple (opt_sign (opt_item a_sign s)) (plain_term t) (the_addeds (list_item added_item v.items))
-simple_roll s t v = ap plain_simple (rolls-Simple' _) ∙ ap (λ z. m.simple s (plain_term t) z) (added_rows _ (hidden-the_row-Added-2 v) ∙ ap (λ l. the_addeds (list_item added_item l)) (items_hidden-the_row-Added-2 v)) ∙ ap (λ z. m.simple z (plain_term t) (the_addeds (list_item added_item v.items))) (opt_sign_is s)
+simple_roll s t v = ap plain_simple (rolls-Simple' _) ∙ ap (λ z. m.simple s (plain_term t) z) (added_rows _ (hidden-the_row-Added-3 v) ∙ ap (λ l. the_addeds (list_item added_item l)) (items_hidden-the_row-Added-3 v)) ∙ ap (λ z. m.simple z (plain_term t) (the_addeds (list_item added_item v.items))) (opt_sign_is s)
 
 opt_operator_is : (s : Option Operator) → opt_operator (opt_item an_operator s) ≡ s
 opt_operator_is None = refl
@@ -89,11 +93,51 @@ chain_items b x operator f s first second v ds h i j k =
     ∙ ap (λ z. an_expression z ∷ ds) (sym (chain_open x))
     ∙ ap (λ z. an_expression (plain_expression z) ∷ ds) (sym h)
 
-pub name_items : (b : Box Name Global) (x : Name) (ds : List Item) → b.value ≡ x → made g.Named (name_item x ∷ none ∷ ds) ≡ primary_item (primary.Name b) ∷ ds
-name_items b x ds h = ap (λ z. a_primary (m.name (plain_name z)) ∷ ds) (sym h) ∙ ap (λ z. a_primary z ∷ ds) (sym (name_open b))
+args_are : (xs : List Expression) → expression_args (list_item expression_item xs) ≡ plain_expressions xs
+args_are [] = refl
+args_are (x ∷ xs) = ap (λ z. m.more_args (plain_expression x) z) (args_are xs)
 
-pub named_items : (b : Box Name Global) (x : Name) (j : Ident) (e : Option (Box Expression Global)) (ds : List Item) → b.value ≡ x → made g.Named (name_item x ∷ attribute_item (j, e) ∷ ds) ≡ primary_item (primary.Attribute b j e) ∷ ds
-named_items b x j e ds h = ap (λ z. a_primary (with_attribute (plain_name z) (attribute_item (j, e))) ∷ ds) (sym h) ∙ ap (λ z. a_primary z ∷ ds) (sym (attribute_open b j e))
+the_args_are : (xs : List Expression) → the_args (args_of xs) ≡ plain_expressions xs
+the_args_are [] = refl
+the_args_are (x ∷ xs) = refl
+
+parts_are : (xs : List NamePart) → the_parts (list_item part_item xs) ≡ part_list xs
+parts_are [] = refl
+parts_are (x ∷ xs) = ap (λ z. m.more_parts (plain_part x) z) (parts_are xs)
+
+pub args_items : (es ds : List Item) (xs : List Expression) → listed es ≡ list_item expression_item xs ∷ ds → made g.InArgs es ≡ args_of xs ∷ ds
+args_items es ds [] e = cc
+args_items es ds (x ∷ xs) e = ap (λ z. some_args (expression_args (top z)) ∷ pop z) e ∙ ap (λ z. some_args (m.more_args (plain_expression x) z) ∷ ds) (args_are xs)
+
+pub part_items : (i : Ident) (v : Vec Expression Global) (ds : List Item) → made g.NamePart (an_ident i ∷ args_item v ∷ ds) ≡ part_item (record { ident = i; args = v }) ∷ ds
+part_items i v ds = ap (λ z. a_part (m.part i z) ∷ ds) (the_args_are v.items)
+
+-- a name is made of its parts
+pub parts_items : (b : Box Name Global) (first : NamePart) (v : Vec NamePart Global) (ds : List Item) → b.value ≡ roll-Name (record { first = first; others = v }) → made g.Name (part_item first ∷ list_item part_item v.items ∷ ds) ≡ name_item b ∷ ds
+parts_items b first v ds h = ap (λ z. a_name (m.named (plain_part first) z) ∷ ds) (parts_are v.items) ∙ ap (λ z. a_name z ∷ ds) (sym (name_roll first v)) ∙ ap (λ z. a_name (plain_name z) ∷ ds) (sym h)
+
+name_is : (x : Name) (i : Ident) (args : Vec Expression Global) (v : Vec NamePart Global) → x ≡ roll-Name (record { first = record { ident = i; args = args }; others = v }) → m.named (m.part i (the_args (args_item args))) (the_parts (list_item part_item v.items)) ≡ plain_name x
+name_is x i args v h =
+    ap (λ z. m.named (m.part i z) (the_parts (list_item part_item v.items))) (the_args_are args.items)
+    ∙ ap (λ z. m.named (m.part i (plain_expressions args.items)) z) (parts_are v.items)
+    ∙ sym (name_roll (record { ident = i; args = args }) v)
+    ∙ ap plain_name (sym h)
+
+begun_is : (i : Ident) (x y : Item) (value : Option Expression) (ds : List Item) →
+    made g.NameStatement (an_ident i ∷ made g.NamedStatement (x ∷ y ∷ rest_item value ∷ ds)) ≡ a_statement (assigned_or_called (m.named (m.part i (the_args x)) (the_parts y)) value) ∷ ds
+begun_is i x y None ds = refl
+begun_is i x y (Some e) ds = refl
+
+pub begun_items : (b : Box Statement Global) (x : Name) (i : Ident) (args : Vec Expression Global) (v : Vec NamePart Global) (value : Option Expression) (ds : List Item) →
+    plain_statement b.value ≡ assigned_or_called (plain_name x) value → x ≡ roll-Name (record { first = record { ident = i; args = args }; others = v }) →
+    made g.NameStatement (an_ident i ∷ made g.NamedStatement (args_item args ∷ list_item part_item v.items ∷ rest_item value ∷ ds)) ≡ boxed_statement_item b ∷ ds
+begun_items b x i args v value ds h e =
+    begun_is i (args_item args) (list_item part_item v.items) value ds
+    ∙ ap (λ z. a_statement (assigned_or_called z value) ∷ ds) (name_is x i args v e)
+    ∙ ap (λ z. a_statement z ∷ ds) (sym h)
+
+pub named_items : (b : Box Name Global) (j : Ident) (e : Option (Box Expression Global)) (ds : List Item) → made g.Named (name_item b ∷ attribute_item (j, e) ∷ ds) ≡ primary_item (primary.Attribute b j e) ∷ ds
+named_items b j e ds = ap (λ z. a_primary z ∷ ds) (sym (attribute_open b j e))
 
 idents_items : (xs : List Ident) → the_idents (list_item an_ident xs) ≡ xs
 idents_items [] = refl
@@ -110,8 +154,8 @@ opt_expression_is (Some e) = refl
 pub names_items : (x : Ident) (v : Vec Ident Global) (ds : List Item) → made g.Identifiers (an_ident x ∷ list_item an_ident v.items ∷ ds) ≡ names_item (record { first = x; others = v }) ∷ ds
 names_items x v ds = ap (λ z. some_names x z ∷ ds) (idents_items v.items)
 
-pub declaration_items : (x : Identifiers) (i : Ident) (e : Option Expression) (ds : List Item) → made g.Declaration (names_item x ∷ an_ident i ∷ opt_item expression_item e ∷ ds) ≡ declaration_item (declaration.Object x i e) ∷ ds
-declaration_items x i e ds = ap (λ z. a_declaration (m.object x.first x.others.items i z) ∷ ds) (opt_expression_is e)
+pub variable_items : (i : Ident) (e : Option Expression) (ds : List Item) → made g.Variable (an_ident i ∷ opt_item expression_item e ∷ ds) ≡ variable_item (i, e) ∷ ds
+variable_items i e ds = ap (λ z. a_variable i z ∷ ds) (opt_expression_is e)
 
 declarations_items : (xs : List Declaration) → the_declarations (list_item declaration_item xs) ≡ plain_declarations xs
 declarations_items [] = refl
@@ -124,10 +168,72 @@ others_items (x ∷ xs) = ap (λ z. m.more_statements (plain_statement x) z) (ot
 pub statements_items : (x : Statement) (v : Vec Statement Global) (ds : List Item) → made g.StatementList (statement_item x ∷ list_item statement_item v.items ∷ ds) ≡ statements_item (record { first = x; others = v }) ∷ ds
 statements_items x v ds = ap (λ z. some_statements (m.in_order (plain_statement x) z) ∷ ds) (others_items v.items)
 
+-- statements of the parts that were read
+
+pub boxed_items : (b : Box Statement Global) (x : Statement) (ds : List Item) → b.value ≡ x → statement_item x ∷ ds ≡ boxed_statement_item b ∷ ds
+boxed_items b x ds h = ap (λ z. statement_item z ∷ ds) (sym h)
+
+pub in_order_items : (b : Box Statements Global) (first : Box Statement Global) (others : Vec Statement Global) (ds : List Item) → b.value ≡ record { first = first.value; others = others } →
+    made g.StatementList (boxed_statement_item first ∷ list_item statement_item others.items ∷ ds) ≡ boxed_statements_item b ∷ ds
+in_order_items b first others ds h = statements_items first.value others ds ∙ ap (λ z. statements_item z ∷ ds) (sym h)
+
+pub arm_items : (b : Box Arm Global) (at : Pos) (first : Item) (e : Box Expression Global) (x : Box Statements Global) (ds : List Item) → b.value ≡ record { at = at; condition = e.value; statements = x.value } → at ≡ place first →
+    made g.Elsif (first ∷ boxed_item expression_item e ∷ boxed_statements_item x ∷ ds) ≡ boxed_arm_item b ∷ ds
+arm_items b at first e x ds h i = ap (λ z. an_arm z (plain_expression e.value) (plain_statements x.value) ∷ ds) (sym i) ∙ ap (λ z. arm_item z ∷ ds) (sym h)
+
+arms_are : (xs : List Arm) → the_arms (list_item arm_item xs) ≡ arm_list xs
+arms_are [] = refl
+arms_are (x ∷ xs) = ap (λ z. m.more_arms x.at (plain_expression x.condition) (plain_statements x.statements) z) (arms_are xs)
+
+else_is : (x : Option (Box Statements Global)) → otherwise (opt_item boxed_statements_item x) ≡ plain_others (else_statements x)
+else_is None = refl
+else_is (Some b) = refl
+
+pub if_items : (b : Box Statement Global) (begin : Item) (e : Box Expression Global) (x : Box Statements Global) (arms : Vec Arm Global) (others : Option (Box Statements Global)) (ds : List Item) →
+    plain_statement b.value ≡ m.if_then (place begin) (plain_expression e.value) (plain_statements x.value) (arm_list arms.items) (plain_others (else_statements others)) →
+    made g.If (begin ∷ boxed_item expression_item e ∷ boxed_statements_item x ∷ list_item arm_item arms.items ∷ opt_item boxed_statements_item others ∷ ds) ≡ boxed_statement_item b ∷ ds
+if_items b begin e x arms others ds h =
+    ap (λ z. a_statement (m.if_then (place begin) (plain_expression e.value) (plain_statements x.value) z (otherwise (opt_item boxed_statements_item others))) ∷ ds) (arms_are arms.items)
+    ∙ ap (λ z. a_statement (m.if_then (place begin) (plain_expression e.value) (plain_statements x.value) (arm_list arms.items) z) ∷ ds) (else_is others)
+    ∙ ap (λ z. a_statement z ∷ ds) (sym h)
+
+labelled_is : (label : Option Ident) (at : Pos) (i : m.Iteration) (x : m.Statements) (last : Option Ident) (semicolon : Pos) (ds : List Item) →
+    behind_label label (a_statement (m.loop None at i x last semicolon) ∷ ds) ≡ a_statement (m.loop label at i x last semicolon) ∷ ds
+labelled_is None at i x last semicolon ds = refl
+labelled_is (Some j) at i x last semicolon ds = refl
+
+scheme_is : (scheme : Option (Pos × Box Expression Global)) (begin : Item) (label last : Option Ident) (x : m.Statements) (semicolon : Pos) →
+    m.loop label (loop_place (opt_item while_item scheme) begin) (the_iteration (opt_item while_item scheme)) x last semicolon ≡ m.loop label (begins_at scheme (place begin)) (iteration_of scheme) x last semicolon
+scheme_is None begin label last x semicolon = refl
+scheme_is (Some y) begin label last x semicolon = refl
+
+pub loop_items : (b : Box Statement Global) (label : Option Ident) (scheme : Option (Pos × Box Expression Global)) (begin : Item) (x : Box Statements Global) (last : Option Ident) (semicolon : Item) (ds : List Item) →
+    plain_statement b.value ≡ m.loop label (begins_at scheme (place begin)) (iteration_of scheme) (plain_statements x.value) last (place semicolon) →
+    behind_label label (made g.Loop (opt_item while_item scheme ∷ begin ∷ boxed_statements_item x ∷ opt_item an_ident last ∷ semicolon ∷ ds)) ≡ boxed_statement_item b ∷ ds
+loop_items b label scheme begin x last semicolon ds h =
+    ap (λ z. behind_label label (a_statement (m.loop None (loop_place (opt_item while_item scheme) begin) (the_iteration (opt_item while_item scheme)) (plain_statements x.value) z (place semicolon)) ∷ ds)) (opt_ident_is last)
+    ∙ labelled_is label (loop_place (opt_item while_item scheme) begin) (the_iteration (opt_item while_item scheme)) (plain_statements x.value) last (place semicolon) ds
+    ∙ ap (λ z. a_statement z ∷ ds) (scheme_is scheme begin label last (plain_statements x.value) (place semicolon))
+    ∙ ap (λ z. a_statement z ∷ ds) (sym h)
+
+exit_items : (at : Pos) (label : Option Ident) (e : Option Expression) (ds : List Item) → a_statement (m.exit at (opt_ident (opt_item an_ident label)) (opt_expression (opt_item expression_item e))) ∷ ds ≡ statement_item (statement.Exit at label e) ∷ ds
+exit_items at label e ds =
+    ap (λ z. a_statement (m.exit at z (opt_expression (opt_item expression_item e))) ∷ ds) (opt_ident_is label)
+    ∙ ap (λ z. a_statement (m.exit at label z) ∷ ds) (opt_expression_is e)
+
+pub boxed_exit_items : (b : Box Statement Global) (at : Item) (label : Option Ident) (e : Option Expression) (ds : List Item) → b.value ≡ statement.Exit (place at) label e →
+    made g.Exit (at ∷ opt_item an_ident label ∷ opt_item expression_item e ∷ ds) ≡ boxed_statement_item b ∷ ds
+boxed_exit_items b at label e ds h = exit_items (place at) label e ds ∙ boxed_items b (statement.Exit (place at) label e) ds h
+
 pub body_items : (begin end : Item) (x : Statements) (i : Option Ident) (ds : List Item) →
     made g.Body (begin ∷ statements_item x ∷ end ∷ opt_item an_ident i ∷ ds) ≡ a_body (m.body (place begin) (plain_statements x) (place end) i) ∷ ds
 body_items begin end x i ds = ap (λ z. a_body (m.body (place begin) (plain_statements x) (place end) z) ∷ ds) (opt_ident_is i)
 
-pub unit_items : (first : Item) (i : Ident) (v : Vec Declaration Global) (b : Body) (ds : List Item) →
-    made g.Unit (first ∷ an_ident i ∷ list_item declaration_item v.items ∷ body_item b ∷ ds) ≡ unit_item (record { at = place first; name = i; declarations = v; body = b }) ∷ ds
-unit_items first i v b ds = ap (λ z. a_unit (m.unit (place first) i z (plain_body b)) ∷ ds) (declarations_items v.items)
+contexts_items : (xs : List Context) → the_contexts (list_item context_item xs) ≡ map plain_context xs
+contexts_items [] = refl
+contexts_items (x ∷ xs) = ap (λ z. plain_context x ∷ z) (contexts_items xs)
+
+pub unit_items : (context : Vec Context Global) (first : Item) (i : Ident) (v : Vec Declaration Global) (b : Body) (ds : List Item) →
+    made g.Unit (list_item context_item context.items ∷ first ∷ an_ident i ∷ list_item declaration_item v.items ∷ body_item b ∷ ds) ≡ unit_item (record { context = context; at = place first; name = i; declarations = v; body = b }) ∷ ds
+unit_items context first i v b ds = ap (λ z. a_unit (m.unit z (place first) i (the_declarations (list_item declaration_item v.items)) (plain_body b)) ∷ ds) (contexts_items context.items)
+    ∙ ap (λ z. a_unit (m.unit (map plain_context context.items) (place first) i z (plain_body b)) ∷ ds) (declarations_items v.items)

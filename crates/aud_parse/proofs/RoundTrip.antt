@@ -8,7 +8,7 @@ use Rattle.aud_lex.specs.Element.{Element}
 use Rattle.aud_lex.specs.Kinds.{kind_number}
 use Rattle.aud_lex.specs.Tokens.{is_token, kind_of}
 use Rattle.aud_lex.specs.Lexed.{lexed, element}
-use Rattle.aud_lex.specs.Why.Spaced.{spaced}
+use Rattle.aud_lex.specs.Why.Spaced.{Word}
 use Rattle.aud_lex.proofs.Elements.{are_tokens}
 use Rattle.aud_lex.proofs.Spacing.{read_back}
 use Rattle.aud_syntax.specs.Plain as m
@@ -21,6 +21,7 @@ use Rattle.aud_parse.specs.Why.Laws.{RoundTrip, OneText}
 use Rattle.aud_parse.proofs.Answered.{the_spelled}
 use Rattle.aud_parse.proofs.Places.{alike_read}
 use Rattle.aud_parse.proofs.Canonical.{Stays, spelling, written, stays}
+use Rattle.aud_parse.proofs.SameWords.{texts, Same}
 use Rattle.aud_parse.proofs.Worded.{words_of}
 
 -- each token is of the kind that its bytes say
@@ -36,6 +37,10 @@ written_tokens (t ∷ ts) k =
     let h : element t.text t.at ≡ t = cc in
     let l : Kinds ts = cc in
     ap (λ b. b && list_all (λ w. is_token w.bytes) (map written ts)) (kept t h).token ∙ written_tokens ts l
+
+all_tokens : (ws : List Word) → list_all (λ w. is_token w.bytes) ws ≡ list_all is_token (texts ws)
+all_tokens [] = refl
+all_tokens (w ∷ ws) = ap (λ b. is_token w.bytes && b) (all_tokens ws)
 
 one_alike : (t e : Element) → element t.text t.at ≡ t → element e.text e.at ≡ e → e.text ≡ (written t).bytes → Alike t e
 one_alike t e h k p =
@@ -67,11 +72,11 @@ again (Err f) u e = cc
 pub round_trip : RoundTrip
 round_trip source ts u e p =
     let k : Kinds ts = (are_tokens source ts e).1 in
-    let w : unit_words u ≡ map written ts = words_of ts u ((the_spelled ts u).0 p) in
-    let b = read_back (map written ts) (written_tokens ts k) in
-    let l : Kinds b.0 = (are_tokens (spaced (map written ts)) b.0 b.1).1 in
-    let r = again (parsed b.0) u (ap stripped (sym p) ∙ alike_read ts b.0 (all_alike ts b.0 k l b.2)) in
-    (b.0, r.0, ap (λ z. lexed (spaced z)) w ∙ b.1, r.1, r.2)
+    let w : Same (unit_words u) (map written ts) = words_of ts u ((the_spelled ts u).0 p) in
+    let b = read_back (unit_words u) (all_tokens (unit_words u) ∙ ap (list_all is_token) w ∙ sym (all_tokens (map written ts)) ∙ written_tokens ts k) in
+    let l : Kinds b.0 = (are_tokens (printed u) b.0 b.1).1 in
+    let r = again (parsed b.0) u (ap stripped (sym p) ∙ alike_read ts b.0 (all_alike ts b.0 k l (b.2 ∙ w))) in
+    (b.0, r.0, b.1, r.1, r.2)
 
 one_answer : {X E : Type 0} (r : Result X E) (x y : X) → r ≡ Ok x → r ≡ Ok y → x ≡ y
 one_answer r x y e f = cc

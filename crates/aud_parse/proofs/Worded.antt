@@ -1,6 +1,6 @@
--- The words of a tree are the tokens that spell it, each written canonically.
+-- The words of a tree are the tokens that spell it, each written canonically, but for the ends of lines.
 use Rattle.std.proofs.Common.{append-nil, ◌≡◌, ℕ, List, [], ◌∷◌, ◌++◌, map, refl, sym, ap, ◌∙◌, subst, append_assoc}
-use Rattle.std.specs.Prelude.{Some, None, codes, true, ◌==◌}
+use Rattle.std.specs.Prelude.{Option, Some, None, codes, true, ◌==◌}
 use Rattle.std.proofs.lemmas.Bool.{eqb-true}
 use Rattle.aud_lex.specs.declared.token.Kind.{Kind}
 use Rattle.aud_lex.specs.declared.token.Kind.TheVariants as kind
@@ -36,22 +36,33 @@ use Rattle.aud_parse.specs.Why.Derives.{Member, here, later, Derives, d_end, d_w
 use Rattle.aud_parse.proofs.Canonical.{written_as, written}
 use Rattle.aud_parse.proofs.Choices.{and_in}
 use Rattle.aud_parse.proofs.Places.{is_code}
+use Rattle.aud_parse.proofs.SameWords.{texts, Same, same_both, one_on, two, three, last_two, list_between, list_first, arm, arm_same, in_if, if_words, if_same, in_loop, loop_words, loop_same, in_body, body_words, body_same, procedure_words, unit_same}
 
 -- the sorts of trees
 data Sort : Type 0 where
+  s_context s_library s_object_rest : Sort
+  s_behind s_selected s_more_arg : Sort
   s_unit s_declarations s_declaration s_idents s_more_ident s_initial s_body s_statements s_statement s_rest : Sort
   s_expression s_logic s_and_rest s_or_rest s_relation s_compared s_relational s_simple s_sign s_added s_adding s_term s_multiplied s_multiplying s_factor s_operator : Sort
   s_primary s_attribute s_parens s_name s_part s_args s_ident s_number s_literal : Sort
+  s_arm s_else s_loop s_while s_when : Sort
   -- a further relation behind this operator
   s_more_relation : Connective → Sort
 
 abbrev sort : Phrase → Sort
 sort g.Unit = s_unit
+sort g.Clause = s_context
+sort g.WithClause = s_context
+sort g.UseClause = s_context
+sort g.Library = s_library
 sort g.Declarations = s_declarations
 sort g.DeclarationList = s_declarations
 sort g.Declaration = s_declaration
 sort g.Identifiers = s_idents
 sort g.MoreIdentifiers = s_more_ident
+sort g.ObjectRest = s_object_rest
+sort g.Variable = s_object_rest
+sort g.Constant = s_object_rest
 sort g.Initial = s_initial
 sort g.Body = s_body
 sort g.Statements = s_statements
@@ -59,9 +70,19 @@ sort g.StatementList = s_statements
 sort g.Statement = s_statement
 sort g.NullStatement = s_statement
 sort g.NameStatement = s_statement
-sort g.NameRest = s_rest
+sort g.NameRest = s_behind
+sort g.NamedStatement = s_behind
+sort g.StatementRest = s_rest
 sort g.Assignment = s_rest
 sort g.Call = s_rest
+sort g.Labelled = s_behind
+sort g.If = s_statement
+sort g.Elsif = s_arm
+sort g.ElsePart = s_else
+sort g.Loop = s_loop
+sort g.While = s_while
+sort g.Exit = s_statement
+sort g.When = s_when
 sort g.Expression = s_expression
 sort g.Logic = s_logic
 sort g.AndLogic = s_logic
@@ -117,6 +138,8 @@ sort g.Parens = s_parens
 sort g.InParens = s_parens
 sort g.Name = s_name
 sort g.NamePart = s_part
+sort g.Selected = s_selected
+sort g.MoreArgs = s_more_arg
 sort g.Args = s_args
 sort g.InArgs = s_args
 sort g.Identifier = s_ident
@@ -133,19 +156,55 @@ expression_words e = w.expression_words e
 abbrev behind_words : Connective → m.Relation → m.Relations → List Word
 behind_words operator x xs = w.relation_words x ++ w.relations_words operator xs
 
+-- the library unit of a context clause
+abbrev library_words : List Word
+library_words = word (codes "ADA") ∷ word (codes ".") ∷ word (codes "TEXT_IO") ∷ last_word (codes ";") ∷ []
+
+-- the words behind the names of variables and constants
+
+abbrev variable_words : Ident → m.MaybeExpression → List Word
+variable_words i e = w.ident_word i ∷ (w.initial_words e ++ (last_word (codes ";") ∷ []))
+
+abbrev constant_words : Ident → m.Expression → List Word
+constant_words i e = word (codes "constant") ∷ w.ident_word i ∷ word (codes ":=") ∷ (expression_words e ++ (last_word (codes ";") ∷ []))
+
+-- the words behind a name with which a statement begins, and behind its first identifier
+
+abbrev assigned_words : m.Expression → List Word
+assigned_words e = word (codes ":=") ∷ (expression_words e ++ (last_word (codes ";") ∷ []))
+
+abbrev behind_words_of : m.Args → m.Parts → List Word → List Word
+behind_words_of xs ps ws = w.args_words xs ++ w.parts_words ps ++ ws
+
 -- an item of a sort, and its words
 data Says : Sort → Item → List Word → Type 0 where
-  says_unit : (u : m.Unit) → Says s_unit (a.a_unit u) (w.unit_words u)
+  says_unit : (u : m.Unit) (us : List Word) → Same us (w.unit_words u) → Says s_unit (a.a_unit u) us
+  says_context : (x : m.Context) → Says s_context (a.a_context x) (w.context_words x)
+  says_library : Says s_library none library_words
+  says_variable : (i : Ident) (e : m.MaybeExpression) → Says s_object_rest (a.a_variable i e) (variable_words i e)
+  says_constant : (i : Ident) (e : m.Expression) → Says s_object_rest (a.a_constant i e) (constant_words i e)
   says_declarations : (x : Item) → Says s_declarations x (w.declarations_words (a.the_declarations x))
   says_declaration : (d : m.Declaration) → Says s_declaration (a.a_declaration d) (w.declaration_words d)
   says_idents : (x : Ident) (xs : List Ident) → Says s_idents (a.some_names x xs) (w.idents_words x xs)
   says_more_ident : (i : Ident) → Says s_more_ident (a.an_ident i) (word (codes ",") ∷ w.ident_word i ∷ [])
   says_initial : (e : m.Expression) → Says s_initial (a.an_expression e) (word (codes ":=") ∷ expression_words e)
-  says_body : (b : m.Body) → Says s_body (a.a_body b) (w.body_words b)
-  says_statements : (x : m.Statements) → Says s_statements (a.some_statements x) (w.statements_words x)
-  says_statement : (s : m.Statement) → Says s_statement (a.a_statement s) (w.statement_words s)
-  says_assigned : (e : m.Expression) → Says s_rest (a.assigned e) (word (codes ":=") ∷ (expression_words e ++ (last_word (codes ";") ∷ [])))
-  says_called : (xs : m.Args) → Says s_rest (a.called xs) (w.args_words xs ++ (last_word (codes ";") ∷ []))
+  says_body : (b : m.Body) (us : List Word) → Same us (w.body_words b) → Says s_body (a.a_body b) us
+  says_statements : (x : m.Statements) (us : List Word) → Same us (w.statements_words x) → Says s_statements (a.some_statements x) us
+  says_statement : (s : m.Statement) (us : List Word) → Same us (w.statement_words s) → Says s_statement (a.a_statement s) us
+  says_assigned : (e : m.Expression) → Says s_rest (a.assigned e) (assigned_words e)
+  says_called : Says s_rest a.called (last_word (codes ";") ∷ [])
+  says_assigns : (xs : m.Args) (ps : m.Parts) (e : m.Expression) → Says s_behind (a.assigns xs ps e) (behind_words_of xs ps (assigned_words e))
+  says_calls : (xs : m.Args) (ps : m.Parts) → Says s_behind (a.calls xs ps) (behind_words_of xs ps (last_word (codes ";") ∷ []))
+  says_labelled : (at : Pos) (i : m.Iteration) (x : m.Statements) (last : Option Ident) (semicolon : Pos) (us : List Word) → Same us (w.statement_words (m.loop None at i x last semicolon)) →
+      Says s_behind (a.a_statement (m.loop None at i x last semicolon)) (word (codes ":") ∷ us)
+  says_selected : (x : m.NamePart) → Says s_selected (a.a_part x) (word (codes ".") ∷ w.part_words x)
+  says_more_arg : (e : m.Expression) → Says s_more_arg (a.an_expression e) (word (codes ",") ∷ expression_words e)
+  says_arm : (at : Pos) (e : m.Expression) (x : m.Statements) (us : List Word) → Same us (w.arm_words (codes "elsif") (expression_words e) (w.statements_words x)) → Says s_arm (a.an_arm at e x) us
+  says_else : (x : m.Statement) (xs : m.MoreStatements) (us : List Word) → Same us (last_word (codes "else") ∷ w.statements_words (m.in_order x xs)) → Says s_else (a.some_statements (m.in_order x xs)) us
+  says_loop : (at : Pos) (i : m.Iteration) (x : m.Statements) (last : Option Ident) (semicolon : Pos) (us : List Word) → Same us (w.statement_words (m.loop None at i x last semicolon)) →
+      Says s_loop (a.a_statement (m.loop None at i x last semicolon)) us
+  says_while : (at : Pos) (e : m.Expression) → Says s_while (a.an_iteration at (m.while e)) (word (codes "while") ∷ expression_words e)
+  says_when : (e : m.Expression) → Says s_when (a.an_expression e) (word (codes "when") ∷ expression_words e)
   says_expression : (e : m.Expression) → Says s_expression (a.an_expression e) (expression_words e)
   says_logic : (operator : Connective) (x : m.Relation) (xs : m.Relations) → Says s_logic (a.a_chain operator x xs) (w.connected_words operator x ++ w.relations_words operator xs)
   says_and_then : (x : m.Relation) (xs : m.Relations) → Says s_and_rest (a.a_chain connective.AndThen x xs) (word (codes "then") ∷ behind_words connective.AndThen x xs)
@@ -197,13 +256,21 @@ data Told : List Symbol → List Item → List Word → Type 0 where
 so : {s : List Symbol} {ds : List Item} {us ws : List Word} → Told s ds us → us ≡ ws → Told s ds ws
 so {s} {ds} h e = subst (λ z. Told s ds z) e h
 
+contexts_row : {x : Item} {us : List Word} → Row s_context x us → us ≡ w.contexts_words (a.the_contexts x)
+contexts_row row_end = refl
+contexts_row (row_more (says_context c) r) = ap (λ z. w.context_words c ++ z) (contexts_row r)
+
 declarations_row : {x : Item} {us : List Word} → Row s_declaration x us → us ≡ w.declarations_words (a.the_declarations x)
 declarations_row row_end = refl
 declarations_row (row_more (says_declaration d) r) = ap (λ z. w.declaration_words d ++ z) (declarations_row r)
 
-statements_row : {x : Item} {us : List Word} → Row s_statement x us → us ≡ w.more_statements_words (a.more_statements x)
+statements_row : {x : Item} {us : List Word} → Row s_statement x us → Same us (w.more_statements_words (a.more_statements x))
 statements_row row_end = refl
-statements_row (row_more (says_statement s) r) = ap (λ z. w.statement_words s ++ z) (statements_row r)
+statements_row (row_more {xs = xs} {vs = vs} (says_statement s us h) r) = same_both us (w.statement_words s) vs (w.more_statements_words (a.more_statements xs)) h (statements_row r)
+
+arms_row : {x : Item} {us : List Word} → Row s_arm x us → Same us (w.arms_words (a.the_arms x))
+arms_row row_end = refl
+arms_row (row_more {xs = xs} {vs = vs} (says_arm at e x us h) r) = same_both us (w.arm_words (codes "elsif") (expression_words e) (w.statements_words x)) vs (w.arms_words (a.the_arms xs)) h (arms_row r)
 
 idents_row : {x : Item} {us : List Word} → Row s_more_ident x us → us ≡ w.more_ident_words (a.the_idents x)
 idents_row row_end = refl
@@ -217,6 +284,14 @@ multiplieds_row : {x : Item} {us : List Word} → Row s_multiplied x us → us �
 multiplieds_row row_end = refl
 multiplieds_row (row_more (says_multiplied y) r) = ap (λ z. w.multiplied_words y ++ z) (multiplieds_row r)
 
+parts_row : {x : Item} {us : List Word} → Row s_selected x us → us ≡ w.parts_words (a.the_parts x)
+parts_row row_end = refl
+parts_row (row_more (says_selected p) r) = ap (λ z. (word (codes ".") ∷ w.part_words p) ++ z) (parts_row r)
+
+more_args_row : {x : Item} {us : List Word} → Row s_more_arg x us → us ≡ w.more_args_words (a.expression_args x)
+more_args_row row_end = refl
+more_args_row (row_more (says_more_arg e) r) = ap (λ z. word (codes ",") ∷ (expression_words e ++ z)) (more_args_row r)
+
 relations_row : {operator : Connective} {x : Item} {us : List Word} → Row (s_more_relation operator) x us → us ≡ w.relations_words operator (a.the_relations x)
 relations_row row_end = refl
 relations_row (row_more (says_more_relation operator y) r) = ap (λ z. w.connected_words operator y ++ z) (relations_row r)
@@ -224,57 +299,101 @@ relations_row (row_more (says_more_relation operator y) r) = ap (λ z. w.connect
 no_member : {p : Phrase} → Member p [] → ⊥
 no_member h = elim h [ ]
 
--- two phrases, of which the second is a list
-two : (a b us ws : List Word) → us ≡ b → (a ++ b) ++ ws ≡ a ++ (us ++ ws)
-two a b us ws e = append_assoc a b ws ∙ ap (λ z. a ++ (z ++ ws)) (sym e)
-
-three : (a b c us ws : List Word) → us ≡ c → (a ++ b ++ c) ++ ws ≡ a ++ (b ++ (us ++ ws))
-three a b c us ws e = append_assoc (a ++ b) c ws ∙ append_assoc a b (c ++ ws) ∙ ap (λ z. a ++ (b ++ (z ++ ws))) (sym e)
-
--- three phrases, of which the last two are one item
-last_two : (a b c ws : List Word) → (a ++ b ++ c) ++ ws ≡ a ++ ((b ++ c) ++ ws)
-last_two a b c ws = append_assoc (a ++ b) c ws ∙ append_assoc a b (c ++ ws) ∙ ap (λ z. a ++ z) (sym (append_assoc b c ws))
-
 -- the words of a phrase are those of its symbols
 told_rule : (p : Phrase) {k : List Symbol} {ds : List Item} {ws : List Word} → Told (rule p ++ k) ds ws → Told (N p ∷ k) (made p ds) ws
-told_rule g.Unit (t_token u (t_part (says_ident i) (t_word y (t_some (says_declarations d) (t_part {ws = ws} (says_body b) r))))) =
-    so (t_part (says_unit (m.unit u.at i (a.the_declarations d) b)) r) (ap (λ z. word (codes "procedure") ∷ w.ident_word i ∷ last_word (codes "is") ∷ z) (append_assoc (w.declarations_words (a.the_declarations d)) (w.body_words b) ws))
-told_rule g.Unit (t_token u (t_part (says_ident i) (t_word y (t_none (t_part (says_body b) r))))) = t_part (says_unit (m.unit u.at i m.no_declarations b)) r
+told_rule g.Unit (t_row {x = x} {us = us} row (t_token u (t_part (says_ident i) (t_word y (t_some (says_declarations d) (t_part {ws = ws} (says_body b vs h) r)))))) =
+    so (t_part (says_unit (m.unit (a.the_contexts x) u.at i (a.the_declarations d) b) (w.contexts_words (a.the_contexts x) ++ procedure_words i (a.the_declarations d) vs) (unit_same (a.the_contexts x) i (a.the_declarations d) vs (w.body_words b) h)) r)
+    (list_first (w.contexts_words (a.the_contexts x)) (procedure_words i (a.the_declarations d) vs) us ws (contexts_row row)
+    ∙ ap (λ z. us ++ (word (codes "procedure") ∷ w.ident_word i ∷ last_word (codes "is") ∷ z)) (append_assoc (w.declarations_words (a.the_declarations d)) vs ws))
+told_rule g.Unit (t_row {x = x} {us = us} row (t_token u (t_part (says_ident i) (t_word y (t_none (t_part {ws = ws} (says_body b vs h) r)))))) =
+    so (t_part (says_unit (m.unit (a.the_contexts x) u.at i m.no_declarations b) (w.contexts_words (a.the_contexts x) ++ procedure_words i m.no_declarations vs) (unit_same (a.the_contexts x) i m.no_declarations vs (w.body_words b) h)) r)
+    (list_first (w.contexts_words (a.the_contexts x)) (procedure_words i m.no_declarations vs) us ws (contexts_row row))
+told_rule g.Clause (t_one here s r) = t_part s r
+told_rule g.Clause (t_one (later here) s r) = t_part s r
+told_rule g.Clause (t_one (later (later h)) s r) = absurd (no_member h)
+told_rule g.WithClause (t_token t (t_part says_library r)) = t_part (says_context (m.with_text_io t.at)) r
+told_rule g.UseClause (t_token t (t_part says_library r)) = t_part (says_context (m.use_text_io t.at)) r
+told_rule g.Library (t_spelled (t_word p (t_spelled (t_word s r)))) = t_part says_library r
 told_rule g.Declarations (t_level s (t_down r)) = t_part s r
 told_rule g.DeclarationList (t_part (says_declaration d) (t_row {x = x} {us = us} {ws = ws} row r)) =
     so (t_part (says_declarations (cons (a.a_declaration d) x)) r) (two (w.declaration_words d) (w.declarations_words (a.the_declarations x)) us ws (declarations_row row))
-told_rule g.Declaration (t_part (says_idents x xs) (t_word c (t_part (says_ident i) (t_some (says_initial e) (t_word {ws = ws} s r))))) =
-    so (t_part (says_declaration (m.object x xs i (m.an_expression e))) r)
-    (append_assoc (w.idents_words x xs) (word (codes ":") ∷ w.ident_word i ∷ word (codes ":=") ∷ (expression_words e ++ (last_word (codes ";") ∷ []))) ws
-    ∙ ap (λ z. w.idents_words x xs ++ (word (codes ":") ∷ w.ident_word i ∷ word (codes ":=") ∷ z)) (append_assoc (expression_words e) (last_word (codes ";") ∷ []) ws))
-told_rule g.Declaration (t_part (says_idents x xs) (t_word c (t_part (says_ident i) (t_none (t_word {ws = ws} s r))))) =
-    so (t_part (says_declaration (m.object x xs i m.no_expression)) r) (append_assoc (w.idents_words x xs) (word (codes ":") ∷ w.ident_word i ∷ last_word (codes ";") ∷ []) ws)
+told_rule g.Declaration (t_part (says_idents x xs) (t_word c (t_part {ws = ws} (says_variable i e) r))) =
+    so (t_part (says_declaration (m.object x xs i e)) r) (append_assoc (w.idents_words x xs) (word (codes ":") ∷ variable_words i e) ws)
+told_rule g.Declaration (t_part (says_idents x xs) (t_word c (t_part {ws = ws} (says_constant i e) r))) =
+    so (t_part (says_declaration (m.constant x xs i e)) r) (append_assoc (w.idents_words x xs) (word (codes ":") ∷ constant_words i e) ws)
+told_rule g.ObjectRest (t_one here s r) = t_part s r
+told_rule g.ObjectRest (t_one (later here) s r) = t_part s r
+told_rule g.ObjectRest (t_one (later (later h)) s r) = absurd (no_member h)
+told_rule g.Variable (t_part (says_ident i) (t_some (says_initial e) (t_word {ws = ws} s r))) =
+    so (t_part (says_variable i (m.an_expression e)) r) (ap (λ z. w.ident_word i ∷ word (codes ":=") ∷ z) (append_assoc (expression_words e) (last_word (codes ";") ∷ []) ws))
+told_rule g.Variable (t_part (says_ident i) (t_none (t_word s r))) = t_part (says_variable i m.no_expression) r
+told_rule g.Constant (t_word c (t_part (says_ident i) (t_part (says_initial e) (t_word {ws = ws} s r)))) =
+    so (t_part (says_constant i e) r) (ap (λ z. word (codes "constant") ∷ w.ident_word i ∷ word (codes ":=") ∷ z) (append_assoc (expression_words e) (last_word (codes ";") ∷ []) ws))
 told_rule g.Identifiers (t_part (says_ident i) (t_row {x = x} {us = us} {ws = ws} row r)) =
     so (t_part (says_idents i (a.the_idents x)) r) (ap (λ z. w.ident_word i ∷ (z ++ ws)) (sym (idents_row row)))
 told_rule g.MoreIdentifiers (t_word c (t_part (says_ident i) r)) = t_part (says_more_ident i) r
 told_rule g.Initial (t_word c (t_part (says_expression e) r)) = t_part (says_initial e) r
-told_rule g.Body (t_token b (t_part (says_statements x) (t_token e (t_some (says_ident i) (t_word {ws = ws} s r))))) =
-    so (t_part (says_body (m.body b.at x e.at (Some i))) r)
-    (ap (λ z. last_word (codes "begin") ∷ z) (append_assoc (w.statements_words x) (word (codes "end") ∷ w.ident_word i ∷ last_word (codes ";") ∷ []) ws))
-told_rule g.Body (t_token b (t_part (says_statements x) (t_token e (t_none (t_word {ws = ws} s r))))) =
-    so (t_part (says_body (m.body b.at x e.at None)) r)
-    (ap (λ z. last_word (codes "begin") ∷ z) (append_assoc (w.statements_words x) (word (codes "end") ∷ last_word (codes ";") ∷ []) ws))
+told_rule g.Body (t_token b (t_part (says_statements x us h) (t_token e (t_some (says_ident i) (t_word {ws = ws} s r))))) =
+    so (t_part (says_body (m.body b.at x e.at (Some i)) (in_body us (w.ident_word i ∷ []) []) (body_same us (w.statements_words x) (w.ident_word i ∷ []) h)) r) (body_words us (w.ident_word i ∷ []) ws)
+told_rule g.Body (t_token b (t_part (says_statements x us h) (t_token e (t_none (t_word {ws = ws} s r))))) =
+    so (t_part (says_body (m.body b.at x e.at None) (in_body us [] []) (body_same us (w.statements_words x) [] h)) r) (body_words us [] ws)
 told_rule g.Statements (t_level s (t_down r)) = t_part s r
-told_rule g.StatementList (t_part (says_statement d) (t_row {x = x} {us = us} {ws = ws} row r)) =
-    so (t_part (says_statements (m.in_order d (a.more_statements x))) r) (two (w.statement_words d) (w.more_statements_words (a.more_statements x)) us ws (statements_row row))
+told_rule g.StatementList (t_part (says_statement d vs h) (t_row {x = x} {us = us} {ws = ws} row r)) =
+    so (t_part (says_statements (m.in_order d (a.more_statements x)) (vs ++ us) (same_both vs (w.statement_words d) us (w.more_statements_words (a.more_statements x)) h (statements_row row))) r) (append_assoc vs us ws)
 told_rule g.Statement (t_one here s r) = t_part s r
 told_rule g.Statement (t_one (later here) s r) = t_part s r
-told_rule g.Statement (t_one (later (later h)) s r) = absurd (no_member h)
-told_rule g.NullStatement (t_token n (t_word s r)) = t_part (says_statement (m.null n.at)) r
-told_rule g.NameStatement (t_part (says_ident i) (t_part (says_assigned e) r)) = t_part (says_statement (m.assign (a.one_part i m.no_args) e)) r
-told_rule g.NameStatement (t_part (says_ident i) (t_part (says_called xs) r)) = t_part (says_statement (m.call (a.one_part i xs))) r
+told_rule g.Statement (t_one (later (later here)) s r) = t_part s r
+told_rule g.Statement (t_one (later (later (later here))) (says_loop at i x last semicolon us h) r) = t_part (says_statement (m.loop None at i x last semicolon) us h) r
+told_rule g.Statement (t_one (later (later (later (later here)))) s r) = t_part s r
+told_rule g.Statement (t_one (later (later (later (later (later h))))) s r) = absurd (no_member h)
+told_rule g.NullStatement (t_token n (t_word s r)) = t_part (says_statement (m.null n.at) w.null_words refl) r
+told_rule g.NameStatement (t_part (says_ident i) (t_part (says_assigns xs ps e) r)) =
+    t_part (says_statement (m.assign (m.named (m.part i xs) ps) e) (w.ident_word i ∷ behind_words_of xs ps (assigned_words e)) refl) r
+told_rule g.NameStatement (t_part (says_ident i) (t_part (says_calls xs ps) r)) =
+    t_part (says_statement (m.call (m.named (m.part i xs) ps)) (w.ident_word i ∷ behind_words_of xs ps (last_word (codes ";") ∷ [])) refl) r
+told_rule g.NameStatement (t_part (says_ident i) (t_part (says_labelled at j x last semicolon us h) r)) =
+    t_part (says_statement (m.loop (Some i) at j x last semicolon) (w.ident_word i ∷ word (codes ":") ∷ us) (ap (λ z. i.name ∷ codes ":" ∷ z) h)) r
 told_rule g.NameRest (t_one here s r) = t_part s r
 told_rule g.NameRest (t_one (later here) s r) = t_part s r
 told_rule g.NameRest (t_one (later (later h)) s r) = absurd (no_member h)
+told_rule g.Labelled (t_word c (t_part (says_loop at i x last semicolon us h) r)) = t_part (says_labelled at i x last semicolon us h) r
+told_rule g.NamedStatement (t_some (says_args xs) (t_row {x = x} {us = us} row (t_part {ws = ws} (says_assigned e) r))) =
+    so (t_part (says_assigns xs (a.the_parts x) e) r) (list_between (w.args_words xs) (w.parts_words (a.the_parts x)) (assigned_words e) us ws (parts_row row))
+told_rule g.NamedStatement (t_some (says_args xs) (t_row {x = x} {us = us} row (t_part {ws = ws} says_called r))) =
+    so (t_part (says_calls xs (a.the_parts x)) r) (list_between (w.args_words xs) (w.parts_words (a.the_parts x)) (last_word (codes ";") ∷ []) us ws (parts_row row))
+told_rule g.NamedStatement (t_none (t_row {x = x} {us = us} row (t_part {ws = ws} (says_assigned e) r))) =
+    so (t_part (says_assigns m.no_args (a.the_parts x) e) r) (list_between [] (w.parts_words (a.the_parts x)) (assigned_words e) us ws (parts_row row))
+told_rule g.NamedStatement (t_none (t_row {x = x} {us = us} row (t_part {ws = ws} says_called r))) =
+    so (t_part (says_calls m.no_args (a.the_parts x)) r) (list_between [] (w.parts_words (a.the_parts x)) (last_word (codes ";") ∷ []) us ws (parts_row row))
+told_rule g.StatementRest (t_one here s r) = t_part s r
+told_rule g.StatementRest (t_one (later here) s r) = t_part s r
+told_rule g.StatementRest (t_one (later (later h)) s r) = absurd (no_member h)
 told_rule g.Assignment (t_word b (t_part (says_expression e) (t_word {ws = ws} s r))) =
     so (t_part (says_assigned e) r) (ap (λ z. word (codes ":=") ∷ z) (append_assoc (expression_words e) (last_word (codes ";") ∷ []) ws))
-told_rule g.Call (t_part (says_args x) (t_word {ws = ws} s r)) =
-    so (t_part (says_called x) r) (append_assoc (w.args_words x) (last_word (codes ";") ∷ []) ws)
+told_rule g.Call (t_word s r) = t_part says_called r
+told_rule g.If (t_token i (t_part (says_expression e) (t_word c (t_part (says_statements x ss h) (t_row {x = arms} {us = vs} row (t_some (says_else y ys os j) (t_word n (t_word f (t_word {ws = ws} s r))))))))) =
+    so (t_part (says_statement (m.if_then i.at e x (a.the_arms arms) (m.more_statements y ys)) (in_if (expression_words e) ss vs os []) (if_same e x (a.the_arms arms) (m.more_statements y ys) ss vs os h (arms_row row) j)) r) (if_words (expression_words e) ss vs os ws)
+told_rule g.If (t_token i (t_part (says_expression e) (t_word c (t_part (says_statements x ss h) (t_row {x = arms} {us = vs} row (t_none (t_word n (t_word f (t_word {ws = ws} s r))))))))) =
+    so (t_part (says_statement (m.if_then i.at e x (a.the_arms arms) m.no_statements) (in_if (expression_words e) ss vs [] []) (if_same e x (a.the_arms arms) m.no_statements ss vs [] h (arms_row row) refl)) r) (if_words (expression_words e) ss vs [] ws)
+told_rule g.Elsif (t_token i (t_part (says_expression e) (t_word c (t_part {ws = ws} (says_statements x ss h) r)))) =
+    so (t_part (says_arm i.at e x (arm (codes "elsif") (expression_words e) ss) (arm_same (codes "elsif") (expression_words e) ss (w.statements_words x) h)) r) (one_on _ _ _ (append_assoc (expression_words e) (word (codes "then") ∷ ss) ws))
+told_rule g.ElsePart (t_word c (t_part (says_statements (m.in_order y ys) us h) r)) = t_part (says_else y ys (word (codes "else") ∷ us) (ap (λ z. codes "else" ∷ z) h)) r
+told_rule g.Loop (t_some (says_while at e) (t_token l (t_part (says_statements x us h) (t_word n (t_word p (t_some (says_ident i) (t_token {ws = ws} s r))))))) =
+    so (t_part (says_loop at (m.while e) x (Some i) s.at (in_loop (word (codes "while") ∷ expression_words e) us (w.ident_word i ∷ []) []) (loop_same (word (codes "while") ∷ expression_words e) us (w.statements_words x) (w.ident_word i ∷ []) h)) r) (loop_words (word (codes "while") ∷ expression_words e) us (w.ident_word i ∷ []) ws)
+told_rule g.Loop (t_some (says_while at e) (t_token l (t_part (says_statements x us h) (t_word n (t_word p (t_none (t_token {ws = ws} s r))))))) =
+    so (t_part (says_loop at (m.while e) x None s.at (in_loop (word (codes "while") ∷ expression_words e) us [] []) (loop_same (word (codes "while") ∷ expression_words e) us (w.statements_words x) [] h)) r) (loop_words (word (codes "while") ∷ expression_words e) us [] ws)
+told_rule g.Loop (t_none (t_token l (t_part (says_statements x us h) (t_word n (t_word p (t_some (says_ident i) (t_token {ws = ws} s r))))))) =
+    so (t_part (says_loop l.at m.forever x (Some i) s.at (in_loop [] us (w.ident_word i ∷ []) []) (loop_same [] us (w.statements_words x) (w.ident_word i ∷ []) h)) r) (loop_words [] us (w.ident_word i ∷ []) ws)
+told_rule g.Loop (t_none (t_token l (t_part (says_statements x us h) (t_word n (t_word p (t_none (t_token {ws = ws} s r))))))) =
+    so (t_part (says_loop l.at m.forever x None s.at (in_loop [] us [] []) (loop_same [] us (w.statements_words x) [] h)) r) (loop_words [] us [] ws)
+told_rule g.While (t_token t (t_part (says_expression e) r)) = t_part (says_while t.at e) r
+told_rule g.Exit (t_token t (t_some (says_ident i) (t_some (says_when e) (t_word {ws = ws} s r)))) =
+    so (t_part (says_statement (m.exit t.at (Some i) (m.an_expression e)) (w.exit_words (Some i) (m.an_expression e)) refl) r) (one_on _ _ _ (one_on _ _ _ (append_assoc (word (codes "when") ∷ expression_words e) (last_word (codes ";") ∷ []) ws)))
+told_rule g.Exit (t_token t (t_some (says_ident i) (t_none (t_word {ws = ws} s r)))) = t_part (says_statement (m.exit t.at (Some i) m.no_expression) (w.exit_words (Some i) m.no_expression) refl) r
+told_rule g.Exit (t_token t (t_none (t_some (says_when e) (t_word {ws = ws} s r)))) =
+    so (t_part (says_statement (m.exit t.at None (m.an_expression e)) (w.exit_words None (m.an_expression e)) refl) r) (one_on _ _ _ (append_assoc (word (codes "when") ∷ expression_words e) (last_word (codes ";") ∷ []) ws))
+told_rule g.Exit (t_token t (t_none (t_none (t_word {ws = ws} s r)))) = t_part (says_statement (m.exit t.at None m.no_expression) (w.exit_words None m.no_expression) refl) r
+told_rule g.When (t_word c (t_part (says_expression e) r)) = t_part (says_when e) r
 told_rule g.Expression (t_part (says_relation x) (t_some {ws = ws} (says_logic o y ys) r)) =
     so (t_part (says_expression (m.connected o x y ys)) r) (last_two (w.relation_words x) (w.connected_words o y) (w.relations_words o ys) ws)
 told_rule g.Expression (t_part (says_relation x) (t_none r)) = t_part (says_expression (m.alone x)) r
@@ -375,12 +494,16 @@ told_rule g.Group (t_part (says_parens at e) r) = t_part (says_primary (m.group 
 told_rule g.Parens (t_level s (t_down r)) = t_part s r
 told_rule g.InParens (t_token t (t_part (says_expression e) (t_word {ws = ws} x r))) =
     so (t_part (says_parens t.at e) r) (ap (λ z. word (codes "(") ∷ z) (append_assoc (expression_words e) (word (codes ")") ∷ []) ws))
-told_rule g.Name (t_part (says_part x) r) = t_part (says_name (m.named x m.no_parts)) r
-told_rule g.NamePart (t_part (says_ident i) r) = t_part (says_part (m.part i m.no_args)) r
+told_rule g.Name (t_part (says_part p) (t_row {x = x} {us = us} {ws = ws} row r)) =
+    so (t_part (says_name (m.named p (a.the_parts x))) r) (two (w.part_words p) (w.parts_words (a.the_parts x)) us ws (parts_row row))
+told_rule g.NamePart (t_part (says_ident i) (t_some (says_args xs) r)) = t_part (says_part (m.part i xs)) r
+told_rule g.NamePart (t_part (says_ident i) (t_none r)) = t_part (says_part (m.part i m.no_args)) r
+told_rule g.Selected (t_word p (t_part (says_part x) r)) = t_part (says_selected x) r
 told_rule g.Args (t_level s (t_down r)) = t_part s r
-told_rule g.InArgs (t_word o (t_part (says_expression e) (t_word {ws = ws} x r))) =
-    so (t_part (says_args (m.more_args e m.no_args)) r)
-    (ap (λ z. word (codes "(") ∷ z) (ap (λ z. (z ++ (word (codes ")") ∷ [])) ++ ws) (append-nil (expression_words e)) ∙ append_assoc (expression_words e) (word (codes ")") ∷ []) ws))
+told_rule g.InArgs (t_word o (t_part (says_expression e) (t_row {x = x} {us = us} row (t_word {ws = ws} c r)))) =
+    so (t_part (says_args (m.more_args e (a.expression_args x))) r)
+    (ap (λ z. word (codes "(") ∷ z) (list_between (expression_words e) (w.more_args_words (a.expression_args x)) (word (codes ")") ∷ []) us ws (more_args_row row)))
+told_rule g.MoreArgs (t_word c (t_part (says_expression e) r)) = t_part (says_more_arg e) r
 told_rule g.Identifier (t_token t r) = t_part (says_ident (a.ident_of (token t))) r
 told_rule g.Number (t_token t r) = t_part (says_number (a.number_of (token t))) r
 told_rule g.Literal (t_token t r) = t_part (says_literal (a.literal_of (token t))) r
@@ -422,9 +545,9 @@ told (d_no d) = t_none (told d)
 told (d_more d) = told_more (told d)
 told (d_stop d) = t_row row_end (told d)
 
-unit_told : {ds : List Item} {ws : List Word} → Told (N g.Unit ∷ []) ds ws → w.unit_words (the_unit (top ds)) ≡ ws
-unit_told (t_part (says_unit u) t_end) = sym (append-nil (w.unit_words u))
+unit_told : {ds : List Item} {ws : List Word} → Told (N g.Unit ∷ []) ds ws → Same (w.unit_words (the_unit (top ds))) ws
+unit_told (t_part (says_unit u us h) t_end) = sym h ∙ ap texts (sym (append-nil us))
 
 -- the words of a program are its tokens, each written canonically
-pub words_of : (ts : List Element) (u : m.Unit) → Spells ts u → w.unit_words u ≡ map written ts
-words_of ts u s = ap w.unit_words (sym s.2) ∙ unit_told (told s.1)
+pub words_of : (ts : List Element) (u : m.Unit) → Spells ts u → Same (w.unit_words u) (map written ts)
+words_of ts u s = ap (λ v. texts (w.unit_words v)) (sym s.2) ∙ unit_told (told s.1)

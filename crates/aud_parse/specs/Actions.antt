@@ -54,15 +54,26 @@ pub data Item : Type 0 where
   -- the operator behind the first relation, the second relation and those behind it
   a_chain : Connective → m.Relation → m.Relations → Item
   an_expression : m.Expression → Item
-  -- what follows the name with which a statement begins: what is assigned, and the arguments of a call
+  -- what follows a name with which a statement begins: what is assigned, or nothing
   assigned : m.Expression → Item
-  called : m.Args → Item
+  called : Item
+  -- the same with the arguments and the other parts of the name
+  assigns : m.Args → m.Parts → m.Expression → Item
+  calls : m.Args → m.Parts → Item
   a_statement : m.Statement → Item
   some_statements : m.Statements → Item
+  -- a further condition of an if statement: where it begins, the condition, and the statements behind it
+  an_arm : Pos → m.Expression → m.Statements → Item
+  -- how often a loop is gone through, and where that is said
+  an_iteration : Pos → m.Iteration → Item
   a_body : m.Body → Item
   -- the first name of a declaration, and the others
   some_names : Ident → List Ident → Item
+  -- what follows the names of variables and constants
+  a_variable : Ident → m.MaybeExpression → Item
+  a_constant : Ident → m.Expression → Item
   a_declaration : m.Declaration → Item
+  a_context : m.Context → Item
   a_unit : m.Unit → Item
 
 abbrev pub top : List Item → Item
@@ -176,6 +187,10 @@ abbrev pub the_part : Item → m.NamePart
 the_part (a_part x) = x
 the_part _ = m.part no_ident m.no_args
 
+abbrev pub the_parts : Item → m.Parts
+the_parts (cons x xs) = m.more_parts (the_part x) (the_parts xs)
+the_parts _ = m.no_parts
+
 abbrev pub the_name : Item → m.Name
 the_name (a_name x) = x
 the_name _ = no_name
@@ -228,6 +243,11 @@ abbrev pub the_expression : Item → m.Expression
 the_expression (an_expression x) = x
 the_expression _ = nothing
 
+-- a list of expressions
+abbrev pub expression_args : Item → m.Args
+expression_args (cons x xs) = m.more_args (the_expression x) (expression_args xs)
+expression_args _ = m.no_args
+
 abbrev pub opt_expression : Item → m.MaybeExpression
 opt_expression (an_expression x) = m.an_expression x
 opt_expression _ = m.no_expression
@@ -250,9 +270,38 @@ abbrev pub the_statements : Item → m.Statements
 the_statements (some_statements x) = x
 the_statements _ = no_statements
 
+-- all statements of a sequence
+abbrev all_of : m.Statements → m.MoreStatements
+all_of (m.in_order x xs) = m.more_statements x xs
+
+-- the statements behind `else`, if there are any
+abbrev pub otherwise : Item → m.MoreStatements
+otherwise (some_statements x) = all_of x
+otherwise _ = m.no_statements
+
+abbrev pub with_arm : Item → m.Arms → m.Arms
+with_arm (an_arm at e x) xs = m.more_arms at e x xs
+with_arm _ xs = xs
+
+abbrev pub the_arms : Item → m.Arms
+the_arms (cons x xs) = with_arm x (the_arms xs)
+the_arms _ = m.no_arms
+
+abbrev pub the_iteration : Item → m.Iteration
+the_iteration (an_iteration at x) = x
+the_iteration _ = m.forever
+
+-- where a loop begins: at its iteration scheme, or at `loop`
+abbrev pub loop_place : Item → Item → Pos
+loop_place (an_iteration at x) y = at
+loop_place _ y = place y
+
+abbrev no_declaration : m.Declaration
+no_declaration = m.object no_ident [] no_ident m.no_expression
+
 abbrev pub the_declaration : Item → m.Declaration
 the_declaration (a_declaration x) = x
-the_declaration _ = m.object no_ident [] no_ident m.no_expression
+the_declaration _ = no_declaration
 
 abbrev pub the_declarations : Item → m.Declarations
 the_declarations (cons x xs) = m.more_declarations (the_declaration x) (the_declarations xs)
@@ -265,9 +314,17 @@ abbrev pub the_body : Item → m.Body
 the_body (a_body x) = x
 the_body _ = no_body
 
+abbrev pub the_context : Item → m.Context
+the_context (a_context x) = x
+the_context _ = m.with_text_io no_place
+
+abbrev pub the_contexts : Item → List m.Context
+the_contexts (cons x xs) = the_context x ∷ the_contexts xs
+the_contexts _ = []
+
 abbrev pub the_unit : Item → m.Unit
 the_unit (a_unit x) = x
-the_unit _ = m.unit no_place no_ident m.no_declarations no_body
+the_unit _ = m.unit [] no_place no_ident m.no_declarations no_body
 
 -- the primary that begins with a name, by what follows the name (RM 4.1, 4.1.4)
 abbrev pub with_attribute : m.Name → Item → m.Primary
@@ -284,15 +341,28 @@ abbrev pub connected : m.Relation → Item → m.Expression
 connected x (a_chain operator y ys) = m.connected operator x y ys
 connected x _ = m.alone x
 
--- a name of one part
-abbrev pub one_part : Ident → m.Args → m.Name
-one_part i xs = m.named (m.part i xs) m.no_parts
+-- what follows the first identifier of a statement's name, by what follows the name (RM 5.2, 6.4)
+abbrev pub followed : m.Args → m.Parts → Item → Item
+followed xs ps (assigned e) = assigns xs ps e
+followed xs ps _ = calls xs ps
 
--- the statement that begins with an identifier, by what follows it (RM 5.2, 6.4)
+-- a loop behind its name (RM 5.5(2))
+abbrev pub labelled : Ident → m.Statement → m.Statement
+labelled i (m.loop label at x statements end semicolon) = m.loop (Some i) at x statements end semicolon
+labelled i x = x
+
+-- the statement that begins with an identifier, by what follows it (RM 5.2, 5.5, 6.4)
 abbrev pub begun : Ident → Item → m.Statement
-begun i (assigned e) = m.assign (one_part i m.no_args) e
-begun i (called xs) = m.call (one_part i xs)
+begun i (assigns xs ps e) = m.assign (m.named (m.part i xs) ps) e
+begun i (calls xs ps) = m.call (m.named (m.part i xs) ps)
+begun i (a_statement x) = labelled i x
 begun i _ = no_statement
+
+-- the declaration that begins with some names, by what follows them (RM 3.3.1)
+abbrev pub declared : Ident → List Ident → Item → m.Declaration
+declared x xs (a_variable i e) = m.object x xs i e
+declared x xs (a_constant i e) = m.constant x xs i e
+declared x xs _ = no_declaration
 
 -- an identifier's letters are kept as capitals (RM 2.3(5))
 abbrev pub ident_of : Item → Ident
@@ -314,16 +384,27 @@ chained operator st = a_chain operator (the_relation (top st)) (the_relations (t
 
 -- the tree of a phrase from what its rule has read, in front of what comes after it
 abbrev pub made : g.Phrase → List Item → List Item
-made g.Unit st = a_unit (m.unit (place (top st)) (the_ident (top (pop st))) (the_declarations (top (pop (pop st)))) (the_body (top (pop (pop (pop st)))))) ∷ pop (pop (pop (pop st)))
+made g.Unit st = a_unit (m.unit (the_contexts (top st)) (place (top (pop st))) (the_ident (top (pop (pop st)))) (the_declarations (top (pop (pop (pop st))))) (the_body (top (pop (pop (pop (pop st))))))) ∷ pop (pop (pop (pop (pop st))))
+made g.WithClause st = a_context (m.with_text_io (place (top st))) ∷ pop (pop st)
+made g.UseClause st = a_context (m.use_text_io (place (top st))) ∷ pop (pop st)
+made g.Library st = none ∷ st
 made g.DeclarationList st = listed st
-made g.Declaration st = a_declaration (m.object (first_name (top st)) (other_names (top st)) (the_ident (top (pop st))) (opt_expression (top (pop (pop st))))) ∷ pop (pop (pop st))
+made g.Declaration st = a_declaration (declared (first_name (top st)) (other_names (top st)) (top (pop st))) ∷ pop (pop st)
+made g.Variable st = a_variable (the_ident (top st)) (opt_expression (top (pop st))) ∷ pop (pop st)
+made g.Constant st = a_constant (the_ident (top st)) (the_expression (top (pop st))) ∷ pop (pop st)
 made g.Identifiers st = some_names (the_ident (top st)) (the_idents (top (pop st))) ∷ pop (pop st)
 made g.Body st = a_body (m.body (place (top st)) (the_statements (top (pop st))) (place (top (pop (pop st)))) (opt_ident (top (pop (pop (pop st)))))) ∷ pop (pop (pop (pop st)))
 made g.StatementList st = some_statements (m.in_order (the_statement (top st)) (more_statements (top (pop st)))) ∷ pop (pop st)
 made g.NullStatement st = a_statement (m.null (place (top st))) ∷ pop st
 made g.NameStatement st = a_statement (begun (the_ident (top st)) (top (pop st))) ∷ pop (pop st)
 made g.Assignment st = assigned (the_expression (top st)) ∷ pop st
-made g.Call st = called (the_args (top st)) ∷ pop st
+made g.NamedStatement st = followed (the_args (top st)) (the_parts (top (pop st))) (top (pop (pop st))) ∷ pop (pop (pop st))
+made g.Call st = called ∷ st
+made g.If st = a_statement (m.if_then (place (top st)) (the_expression (top (pop st))) (the_statements (top (pop (pop st)))) (the_arms (top (pop (pop (pop st))))) (otherwise (top (pop (pop (pop (pop st))))))) ∷ pop (pop (pop (pop (pop st))))
+made g.Elsif st = an_arm (place (top st)) (the_expression (top (pop st))) (the_statements (top (pop (pop st)))) ∷ pop (pop (pop st))
+made g.Loop st = a_statement (m.loop None (loop_place (top st) (top (pop st))) (the_iteration (top st)) (the_statements (top (pop (pop st)))) (opt_ident (top (pop (pop (pop st))))) (place (top (pop (pop (pop (pop st))))))) ∷ pop (pop (pop (pop (pop st))))
+made g.While st = an_iteration (place (top st)) (m.while (the_expression (top (pop st)))) ∷ pop (pop st)
+made g.Exit st = a_statement (m.exit (place (top st)) (opt_ident (top (pop st))) (opt_expression (top (pop (pop st))))) ∷ pop (pop (pop st))
 made g.Expression st = an_expression (connected (the_relation (top st)) (top (pop st))) ∷ pop (pop st)
 made g.AndThen st = chained connective.AndThen st
 made g.AndOnly st = chained connective.And st
@@ -360,9 +441,9 @@ made g.Named st = a_primary (with_attribute (the_name (top st)) (top (pop st))) 
 made g.Attribute st = an_attribute (the_ident (top st)) (opt_inside (top (pop st))) ∷ pop (pop st)
 made g.Group st = a_primary (m.group (opening (top st)) (inside (top st))) ∷ pop st
 made g.InParens st = in_parens (place (top st)) (the_expression (top (pop st))) ∷ pop (pop st)
-made g.Name st = a_name (m.named (the_part (top st)) m.no_parts) ∷ pop st
-made g.NamePart st = a_part (m.part (the_ident (top st)) m.no_args) ∷ pop st
-made g.InArgs st = some_args (m.more_args (the_expression (top st)) m.no_args) ∷ pop st
+made g.Name st = a_name (m.named (the_part (top st)) (the_parts (top (pop st)))) ∷ pop (pop st)
+made g.NamePart st = a_part (m.part (the_ident (top st)) (the_args (top (pop st)))) ∷ pop (pop st)
+made g.InArgs st = some_args (m.more_args (the_expression (top st)) (expression_args (top (pop st)))) ∷ pop (pop st)
 made g.Identifier st = an_ident (ident_of (top st)) ∷ pop st
 made g.Number st = a_number (number_of (top st)) ∷ pop st
 made g.Literal st = a_literal (literal_of (top st)) ∷ pop st

@@ -5,7 +5,7 @@ use Rattle.aud_lex.specs.declared.token.Kind.{Kind}
 use Rattle.aud_lex.specs.declared.token.Kind.TheVariants as kind
 use Rattle.aud_lex.specs.Element.{Element}
 use Rattle.aud_lex.specs.Kinds.{kind_number}
-use Rattle.aud_parse.specs.Grammar as g
+use Rattle.aud_parse.specs.declared.word.Word.TheVariants as word
 use Rattle.aud_parse.specs.Grammar.{Word, Phrase, Symbol, T, P, W, N, L, Down, A, Opt, Rep, rule}
 
 -- the kind with this number is one of these
@@ -20,9 +20,9 @@ next_in ks (t ∷ ts) = among ks (kind_number t.kind)
 
 -- how the identifiers are spelled that the grammar names, in capitals, as names are compared (RM 2.3(5))
 abbrev pub spelling : Word → List ℕ
-spelling g.Ada = codes "ADA"
-spelling g.TextIo = codes "TEXT_IO"
-spelling g.Duration = codes "DURATION"
+spelling word.Ada = codes "ADA"
+spelling word.TextIo = codes "TEXT_IO"
+spelling word.Duration = codes "DURATION"
 
 -- two texts are the same
 abbrev pub same_text : List ℕ → List ℕ → Bool

@@ -2,11 +2,16 @@
 use Rattle.std.specs.Prelude.{List, [], ◌∷◌}
 use Rattle.aud_lex.specs.declared.token.Kind.{Kind}
 use Rattle.aud_lex.specs.declared.token.Kind.TheVariants as kind
+pub use Rattle.aud_parse.specs.declared.word.Word.{Word}
+use Rattle.aud_parse.specs.declared.word.Word.TheVariants as word
 
 -- the names of the grammar's phrases
 pub data Phrase : Type 0 where
   Unit Declarations DeclarationList Declaration Identifiers MoreIdentifiers Initial Body : Phrase
+  Clause WithClause UseClause Library ObjectRest Variable Constant : Phrase
+  Selected MoreArgs NamedStatement StatementRest : Phrase
   Statements StatementList Statement NullStatement NameStatement NameRest Assignment Call : Phrase
+  Labelled If Elsif ElsePart Loop While Exit When : Phrase
   Expression Logic AndLogic AndRest AndThen AndOnly MoreAndThen MoreAnd : Phrase
   OrLogic OrRest OrElse OrOnly MoreOrElse MoreOr XorLogic MoreXor : Phrase
   Relation Compared RelationalOperator Equal Unequal Less AtMost Greater AtLeast : Phrase
@@ -16,10 +21,6 @@ pub data Phrase : Type 0 where
   Primary Integer String Named Attribute Group Parens InParens : Phrase
   Name NamePart Args InArgs : Phrase
   Identifier Number Literal : Phrase
-
--- identifiers that the grammar itself names (RM A.10.1, 9.6)
-pub data Word : Type 0 where
-  Ada TextIo Duration : Word
 
 -- a symbol of a rule
 pub data Symbol : Type 0 where
@@ -41,28 +42,48 @@ pub data Symbol : Type 0 where
   Rep : Phrase → Symbol
 
 abbrev pub rule : Phrase → List Symbol
--- a program is its main procedure (RM 10.1.1, 6.3)
-rule Unit = P kind.Procedure ∷ N Identifier ∷ T kind.Is ∷ Opt Declarations ∷ N Body ∷ []
+-- a program is its main procedure, behind context clauses for Ada.Text_IO (RM 10.1.1, 6.3, 10.1.2, 8.4)
+rule Unit = Rep Clause ∷ P kind.Procedure ∷ N Identifier ∷ T kind.Is ∷ Opt Declarations ∷ N Body ∷ []
+rule Clause = A (WithClause ∷ UseClause ∷ []) ∷ []
+rule WithClause = P kind.With ∷ N Library ∷ []
+rule UseClause = P kind.Use ∷ N Library ∷ []
+rule Library = W word.Ada ∷ T kind.Point ∷ W word.TextIo ∷ T kind.Semicolon ∷ []
 -- declarations lie one level deeper (RM 3.11)
 rule Declarations = L DeclarationList ∷ Down ∷ []
 rule DeclarationList = N Declaration ∷ Rep Declaration ∷ []
--- variables (RM 3.3.1)
-rule Declaration = N Identifiers ∷ T kind.Colon ∷ N Identifier ∷ Opt Initial ∷ T kind.Semicolon ∷ []
+-- variables and constants (RM 3.3.1)
+rule Declaration = N Identifiers ∷ T kind.Colon ∷ N ObjectRest ∷ []
 rule Identifiers = N Identifier ∷ Rep MoreIdentifiers ∷ []
 rule MoreIdentifiers = T kind.Comma ∷ N Identifier ∷ []
+rule ObjectRest = A (Variable ∷ Constant ∷ []) ∷ []
+rule Variable = N Identifier ∷ Opt Initial ∷ T kind.Semicolon ∷ []
+rule Constant = T kind.Constant ∷ N Identifier ∷ N Initial ∷ T kind.Semicolon ∷ []
 rule Initial = T kind.Becomes ∷ N Expression ∷ []
 -- RM 6.3, 11.2
 rule Body = P kind.Begin ∷ N Statements ∷ P kind.End ∷ Opt Identifier ∷ T kind.Semicolon ∷ []
 -- statements lie one level deeper (RM 5.1)
 rule Statements = L StatementList ∷ Down ∷ []
 rule StatementList = N Statement ∷ Rep Statement ∷ []
-rule Statement = A (NullStatement ∷ NameStatement ∷ []) ∷ []
+rule Statement = A (NullStatement ∷ NameStatement ∷ If ∷ Loop ∷ Exit ∷ []) ∷ []
 rule NullStatement = P kind.Null ∷ T kind.Semicolon ∷ []
--- an assignment or a call (RM 5.2, 6.4)
+-- a loop behind its name, an assignment or a call (RM 5.5, 5.2, 6.4)
 rule NameStatement = N Identifier ∷ N NameRest ∷ []
-rule NameRest = A (Assignment ∷ Call ∷ []) ∷ []
+rule NameRest = A (Labelled ∷ NamedStatement ∷ []) ∷ []
+rule Labelled = T kind.Colon ∷ N Loop ∷ []
+rule NamedStatement = Opt Args ∷ Rep Selected ∷ N StatementRest ∷ []
+rule StatementRest = A (Assignment ∷ Call ∷ []) ∷ []
 rule Assignment = T kind.Becomes ∷ N Expression ∷ T kind.Semicolon ∷ []
-rule Call = N Args ∷ T kind.Semicolon ∷ []
+rule Call = T kind.Semicolon ∷ []
+-- RM 5.3
+rule If = P kind.If ∷ N Expression ∷ T kind.Then ∷ N Statements ∷ Rep Elsif ∷ Opt ElsePart ∷ T kind.End ∷ T kind.If ∷ T kind.Semicolon ∷ []
+rule Elsif = P kind.Elsif ∷ N Expression ∷ T kind.Then ∷ N Statements ∷ []
+rule ElsePart = T kind.Else ∷ N Statements ∷ []
+-- RM 5.5
+rule Loop = Opt While ∷ P kind.Loop ∷ N Statements ∷ T kind.End ∷ T kind.Loop ∷ Opt Identifier ∷ P kind.Semicolon ∷ []
+rule While = P kind.While ∷ N Expression ∷ []
+-- RM 5.7
+rule Exit = P kind.Exit ∷ Opt Identifier ∷ Opt When ∷ T kind.Semicolon ∷ []
+rule When = T kind.When ∷ N Expression ∷ []
 -- RM 4.4: between the relations of an expression stands the same operator
 rule Expression = N Relation ∷ Opt Logic ∷ []
 rule Logic = A (AndLogic ∷ OrLogic ∷ XorLogic ∷ []) ∷ []
@@ -119,11 +140,13 @@ rule Group = N Parens ∷ []
 -- what stands in parentheses lies one level deeper
 rule Parens = L InParens ∷ Down ∷ []
 rule InParens = P kind.LeftParenthesis ∷ N Expression ∷ T kind.RightParenthesis ∷ []
--- RM 4.1: a name has one part; what is called has arguments, and no other name (RM 6.4)
-rule Name = N NamePart ∷ []
-rule NamePart = N Identifier ∷ []
+-- RM 4.1: parts between points, each with the arguments of a call or an index (RM 4.1.1, 4.1.3, 6.4)
+rule Name = N NamePart ∷ Rep Selected ∷ []
+rule NamePart = N Identifier ∷ Opt Args ∷ []
+rule Selected = T kind.Point ∷ N NamePart ∷ []
 rule Args = L InArgs ∷ Down ∷ []
-rule InArgs = T kind.LeftParenthesis ∷ N Expression ∷ T kind.RightParenthesis ∷ []
+rule InArgs = T kind.LeftParenthesis ∷ N Expression ∷ Rep MoreArgs ∷ T kind.RightParenthesis ∷ []
+rule MoreArgs = T kind.Comma ∷ N Expression ∷ []
 rule Identifier = P kind.Identifier ∷ []
 rule Number = P kind.Integer ∷ []
 rule Literal = P kind.Text ∷ []

@@ -4,4 +4,5 @@ pub mod Gives
 pub mod Items
 pub mod Makes
 pub mod Outcome
+pub mod Parts
 pub mod Reads

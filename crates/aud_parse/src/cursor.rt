@@ -1,10 +1,12 @@
 // Looking at the tokens one by one.
 
 ghost use Rattle.std.specs.Prelude.{◌≡◌, ◌∷◌, [], length, ◌≤◌};
-ghost use Rattle.aud_parse.specs.First.{next_in};
+ghost use Rattle.aud_text.specs.Name.{capitals};
+ghost use Rattle.aud_parse.specs.First.{next_in, next_word, same_text};
 ghost use Rattle.aud_parse.specs.declared.cursor.Fault.TheVariants as fault;
-ghost use Rattle.aud_parse.specs.Ties.Reads.{ReadsWord, ReadsToken, Accepts, Deepens};
+ghost use Rattle.aud_parse.specs.Ties.Reads.{ReadsWord, ReadsToken, ReadsSpelled, Accepts, Deepens};
 
+use crate::word::Word;
 use aud_lex::token::{Kind, Token};
 use std::alloc::{AllocError, AllocFailed};
 
@@ -92,6 +94,42 @@ pub fn token(start: Rest, kind: Kind) -> Read<&Token>
         Some(found) => Ok(found),
         None => Err(Fault::Wrong(start)),
     }
+}
+
+/// Whether the bytes, in capitals, are these.
+fn same(text: &[u8], wanted: &[u8]) -> bool
+    ensures { result ≡ same_text (capitals text.now) wanted.now }
+{
+    if text.is_empty() {
+        return wanted.is_empty();
+    }
+    if wanted.is_empty() {
+        return false;
+    }
+    text[0].to_ascii_uppercase() == wanted[0] && same(&text[1..], &wanted[1..])
+}
+
+/// Whether the next token is this identifier, whatever the case of its letters (RM 2.3(5)).
+fn is_spelled(start: Rest, word: Word) -> bool
+    ensures { result ≡ next_word word start.entry.tokens.now }
+{
+    match start.tokens.first() {
+        None => false,
+        Some(t) => {
+            t.kind().number() == Kind::Identifier.number() && same(t.text(), word.spelling())
+        }
+    }
+}
+
+/// Passes an identifier that the grammar names.
+pub fn spelled(start: Rest, word: Word) -> Result<Rest, Fault>
+    ensures { ReadsSpelled word start.entry result }
+{
+    if !is_spelled(start, word) {
+        return Err(Fault::Wrong(start));
+    }
+    let (_, rest) = split(start);
+    Ok(rest)
 }
 
 /// The levels that may be opened inside one more level, which the next token opens if it `begins`

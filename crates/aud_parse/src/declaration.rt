@@ -1,12 +1,12 @@
-// Declarations of variables (RM 3.3.1).
+// Declarations of variables and constants (RM 3.3.1).
 
 ghost use Rattle.aud_parse.specs.Grammar as g;
 ghost use Rattle.aud_parse.specs.Grammar.{N, Opt, Rep};
 ghost use Rattle.aud_parse.specs.Actions.{an_ident};
-ghost use Rattle.aud_parse.specs.Ties.Items.{vec_item, opt_item, expression_item, names_item, declaration_item};
+ghost use Rattle.aud_parse.specs.Ties.Items.{vec_item, opt_item, expression_item, boxed_item, names_item, variable_item, constant_item, declaration_item};
 ghost use Rattle.aud_parse.specs.Ties.Reads.{Reads, MayRead, ReadsFlat, MayReadFlat};
 
-use crate::behind::ended;
+use crate::behind::{both, ended};
 use crate::cursor::{Read, Rest, accept, deeper, is, word};
 use crate::expression::expression;
 use crate::leaf::ident;
@@ -37,30 +37,56 @@ fn identifiers(alloc: Global, start: Rest) -> Read<Identifiers>
     Ok((Identifiers { first, others }, rest))
 }
 
+/// A value behind `:=`.
+fn initial(alloc: Global, start: Rest, room: u32) -> Read<Box<Expression>>
+    ensures { Reads (boxed_item expression_item) (N g.Initial) room start.entry result }
+{
+    let rest = word(start, Kind::Becomes)?;
+    expression(alloc, rest, room)
+}
+
 /// The value with which variables begin, if there is one.
 fn opt_initial(alloc: Global, start: Rest, room: u32) -> Read<Option<Expression>>
     ensures { MayRead (opt_item expression_item) (Opt g.Initial) room start.entry result }
 {
-    if let Some((_, behind)) = accept(start, Kind::Becomes) {
-        let (value, rest) = expression(alloc, behind, room)?;
+    if is(start, Kind::Becomes) {
+        let (value, rest) = initial(alloc, start, room)?;
         return Ok((Some(Box::into_inner(value)), rest));
     }
     Ok((None, start))
 }
 
-/// Variables of one subtype.
+/// The subtype of variables, and the value with which they begin, if there is one.
+fn variable(alloc: Global, start: Rest, room: u32) -> Read<(Ident, Option<Expression>)>
+    ensures { Reads variable_item (N g.Variable) room start.entry result }
+{
+    let (subtype, rest) = ident(alloc, start)?;
+    let (value, rest) = opt_initial(alloc, rest, room)?;
+    ended((subtype, value), rest, Kind::Semicolon)
+}
+
+/// The subtype of constants, and their value.
+fn constant(alloc: Global, start: Rest, room: u32) -> Read<(Ident, Expression)>
+    ensures { Reads constant_item (N g.Constant) room start.entry result }
+{
+    let rest = word(start, Kind::Constant)?;
+    let (subtype, rest) = ident(alloc, rest)?;
+    let (value, rest) = initial(alloc, rest, room)?;
+    ended((subtype, Box::into_inner(value)), rest, Kind::Semicolon)
+}
+
+/// Variables or constants of one subtype.
 fn declaration(alloc: Global, start: Rest, room: u32) -> Read<Declaration>
     ensures { Reads declaration_item (N g.Declaration) room start.entry result }
 {
     let (names, rest) = identifiers(alloc, start)?;
     let rest = word(rest, Kind::Colon)?;
-    let (subtype, rest) = ident(alloc, rest)?;
-    let (value, rest) = opt_initial(alloc, rest, room)?;
-    ended(
-        Declaration::Object(names, subtype, value),
-        rest,
-        Kind::Semicolon,
-    )
+    if is(rest, Kind::Identifier) {
+        let ((names, object), rest) = both(names, variable(alloc, rest, room))?;
+        return Ok((Declaration::Object(names, object.0, object.1), rest));
+    }
+    let ((names, object), rest) = both(names, constant(alloc, rest, room))?;
+    Ok((Declaration::Constant(names, object.0, object.1), rest))
 }
 
 /// Declarations, at least one.

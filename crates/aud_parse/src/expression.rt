@@ -8,8 +8,8 @@ ghost use Rattle.aud_parse.specs.Grammar as g;
 ghost use Rattle.aud_parse.specs.Grammar.{N, Opt, Rep};
 ghost use Rattle.aud_parse.specs.First.{firsts};
 ghost use Rattle.aud_parse.specs.Actions.{a_sign, an_adding, a_multiplying, an_operator, a_relational};
-ghost use Rattle.aud_parse.specs.Ties.Items.{vec_item, opt_item, parens_item, name_item, args_item, attribute_item, primary_item, factor_item, multiplied_item, term_item, added_item, simple_item, relation_item, expression_item, boxed_item};
-ghost use Rattle.aud_parse.specs.Ties.Reads.{Reads, MayRead, ReadsFlat, Takes, TakesAny};
+ghost use Rattle.aud_parse.specs.Ties.Items.{vec_item, opt_item, parens_item, part_item, name_item, args_item, attribute_item, primary_item, factor_item, multiplied_item, term_item, added_item, simple_item, relation_item, expression_item, boxed_item};
+ghost use Rattle.aud_parse.specs.Ties.Reads.{Reads, MayRead, Takes, TakesAny};
 ghost use Rattle.aud_parse.specs.Ties.Connects.{further, Connects, Reconnects};
 
 use crate::assemble::{
@@ -29,7 +29,7 @@ use std::alloc::Global;
 
 /// An expression in parentheses, which lies one level deeper, and where they open.
 #[cycle(expression)]
-pub fn parens(alloc: Global, start: Rest, room: u32) -> Read<(Pos, Box<Expression>)>
+fn parens(alloc: Global, start: Rest, room: u32) -> Read<(Pos, Box<Expression>)>
     ensures { Reads parens_item (N g.Parens) room start.entry result }
 {
     let inside = deeper(start, room, is(start, Kind::LeftParenthesis))?;
@@ -53,14 +53,81 @@ fn attribute(alloc: Global, start: Rest, room: u32) -> Read<(Ident, Option<Box<E
     Ok(((name, None), rest))
 }
 
-/// A name without arguments (RM 4.1).
-fn name(alloc: Global, start: Rest) -> Read<Name>
-    ensures { ReadsFlat name_item (N g.Name) start.entry result }
+/// Arguments in their parentheses (RM 4.1.1, 6.4).
+#[cycle(expression)]
+#[inline(never)]
+fn in_args(alloc: Global, start: Rest, room: u32) -> Read<Vec<Expression>>
+    ensures { Reads args_item (N g.InArgs) room start.entry result }
+{
+    let mut all = Vec::new(alloc);
+    let mut rest = word(start, Kind::LeftParenthesis)?;
+    'turns: loop {
+        let (one, after) = expression(alloc, rest, room)?;
+        all.push(Box::into_inner(one))?;
+        let Some((_, behind)) = accept(after, Kind::Comma) else {
+            let rest = word(after, Kind::RightParenthesis)?;
+            return Ok((all, rest));
+        };
+        rest = behind;
+    }
+}
+
+/// Arguments, which lie one level deeper.
+#[cycle(expression)]
+fn args(alloc: Global, start: Rest, room: u32) -> Read<Vec<Expression>>
+    ensures { Reads args_item (N g.Args) room start.entry result }
+{
+    let inside = deeper(start, room, is(start, Kind::LeftParenthesis))?;
+    in_args(alloc, start, inside)
+}
+
+/// Arguments, if there are any.
+#[cycle(expression)]
+pub fn opt_args(alloc: Global, start: Rest, room: u32) -> Read<Vec<Expression>>
+    ensures { MayRead args_item (Opt g.Args) room start.entry result }
+{
+    if is(start, Kind::LeftParenthesis) {
+        return args(alloc, start, room);
+    }
+    Ok((Vec::new(alloc), start))
+}
+
+/// A part of a name: an identifier, and the arguments behind it (RM 4.1).
+#[cycle(expression)]
+fn part(alloc: Global, start: Rest, room: u32) -> Read<NamePart>
+    ensures { Reads part_item (N g.NamePart) room start.entry result }
 {
     let (ident, rest) = ident(alloc, start)?;
-    let args = Vec::new(alloc);
-    let first = NamePart { ident, args };
-    Ok((Name { first }, rest))
+    let (args, rest) = opt_args(alloc, rest, room)?;
+    Ok((NamePart { ident, args }, rest))
+}
+
+/// The further parts of a name, each behind a point (RM 4.1.3).
+#[cycle(expression)]
+#[inline(never)]
+pub fn selected(alloc: Global, start: Rest, room: u32) -> Read<Vec<NamePart>>
+    ensures { MayRead (vec_item part_item) (Rep g.Selected) room start.entry result }
+{
+    let mut all = Vec::new(alloc);
+    let mut rest = start;
+    'turns: while let Some((_, behind)) = accept(rest, Kind::Point) {
+        let (part, after) = part(alloc, behind, room)?;
+        all.push(part)?;
+        rest = after;
+    }
+    Ok((all, rest))
+}
+
+/// A name (RM 4.1).
+#[cycle(expression)]
+#[inline(never)]
+fn name(alloc: Global, start: Rest, room: u32) -> Read<Box<Name>>
+    ensures { Reads name_item (N g.Name) room start.entry result }
+{
+    let (first, rest) = part(alloc, start, room)?;
+    let (others, rest) = selected(alloc, rest, room)?;
+    let boxed = Box::new(alloc, Name { first, others })?;
+    Ok((boxed, rest))
 }
 
 /// A name, or an attribute of it (RM 4.1, 4.1.4).
@@ -69,8 +136,7 @@ fn name(alloc: Global, start: Rest) -> Read<Name>
 fn named(alloc: Global, start: Rest, room: u32) -> Read<Primary>
     ensures { Reads primary_item (N g.Named) room start.entry result }
 {
-    let (name, rest) = name(alloc, start)?;
-    let prefix = Box::new(alloc, name)?;
+    let (prefix, rest) = name(alloc, start, room)?;
     if is(rest, Kind::Apostrophe) {
         let (attribute, rest) = attribute(alloc, rest, room)?;
         let (designator, argument) = attribute;
@@ -353,14 +419,4 @@ pub fn expression(alloc: Global, start: Rest, room: u32) -> Read<Box<Expression>
         return Ok((connected(alloc, operator, first, second, others)?, rest));
     }
     Ok((alone(alloc, first)?, rest))
-}
-
-/// The arguments of a call, which lie one level deeper (RM 6.4).
-pub fn args(alloc: Global, start: Rest, room: u32) -> Read<Vec<Expression>>
-    ensures { Reads args_item (N g.Args) room start.entry result }
-{
-    let (argument, rest) = parens(alloc, start, room)?;
-    let mut all = Vec::new(alloc);
-    all.push(Box::into_inner(argument.1))?;
-    Ok((all, rest))
 }

@@ -3,6 +3,8 @@
 
 mod assemble;
 mod behind;
+mod build;
+mod clauses;
 mod cursor;
 mod declaration;
 mod expression;
@@ -11,5 +13,6 @@ mod leaf;
 mod parser;
 mod statement;
 mod value;
+mod word;
 
 pub use crate::parser::{SyntaxFault, parse};

@@ -9,6 +9,7 @@ ghost use Rattle.aud_parse.specs.Ties.Items.{unit_item};
 ghost use Rattle.aud_parse.specs.Ties.Reads.{Reads};
 ghost use Rattle.aud_parse.specs.Ties.Gives.{Gives};
 
+use crate::clauses::context;
 use crate::cursor::{Fault, Read, Rest, token, word};
 use crate::declaration::opt_declarations;
 use crate::leaf::ident;
@@ -34,17 +35,19 @@ pub enum SyntaxFault {
     TooDeep(usize),
 }
 
-/// A main procedure (RM 6.3, 10.1.1).
+/// A main procedure, behind its context clauses (RM 6.3, 10.1.1).
 fn unit(alloc: Global, start: Rest, room: u32) -> Read<Unit>
     ensures { Reads unit_item (N g.Unit) room start.entry result }
 {
-    let (first, rest) = token(start, Kind::Procedure)?;
+    let (context, rest) = context(alloc, start)?;
+    let (first, rest) = token(rest, Kind::Procedure)?;
     let (name, rest) = ident(alloc, rest)?;
     let rest = word(rest, Kind::Is)?;
     let (declarations, rest) = opt_declarations(alloc, rest, room)?;
     let (body, rest) = body(alloc, rest, room)?;
     Ok((
         Unit {
+            context,
             at: first.at(),
             name,
             declarations,

@@ -1,27 +1,45 @@
 // Statements (RM 5.1) and bodies (RM 11.2).
+//
+// Statements lie in one another, so what is called at each level has boxes in its stack frame, and no
+// trees. What is made of them is made by functions that are not inlined (`crate::build`).
 
+ghost use Rattle.std.specs.Prelude.{◌≡◌, ◌∷◌, [], ℕ};
+ghost use Rattle.aud_lex.specs.declared.token.Kind.TheVariants as kind;
 ghost use Rattle.aud_parse.specs.Grammar as g;
-ghost use Rattle.aud_parse.specs.Grammar.{N, Opt, Rep};
-ghost use Rattle.aud_parse.specs.Actions.{an_ident};
-ghost use Rattle.aud_parse.specs.Ties.Items.{vec_item, opt_item, assigned_item, called_item, statement_item, statements_item, body_item};
-ghost use Rattle.aud_parse.specs.Ties.Reads.{Reads, MayRead, ReadsFlat, MayReadFlat};
+ghost use Rattle.aud_parse.specs.Grammar.{N, T, P, Opt, Rep};
+ghost use Rattle.aud_parse.specs.Actions.{an_ident, token, made};
+ghost use Rattle.aud_parse.specs.Ties.Items.{vec_item, opt_item, assigned_item, rest_item, expression_item, boxed_item, while_item, statement_item, boxed_statement_item, boxed_statements_item, arm_item, boxed_arm_item, body_item, guarded_items};
+ghost use Rattle.aud_parse.specs.Ties.Parts.{behind_label};
+ghost use Rattle.aud_parse.specs.Ties.Reads.{Reads, MayRead, ReadsFlat, MayReadFlat, Completes, ReadsAll};
 
 use crate::behind::{both, ended};
-use crate::cursor::{Read, Rest, deeper, is, is_one_of, token, word};
-use crate::expression::{args, expression};
+use crate::build::{Guarded, Scheme, add, arm_of, assign_or_call, in_order, made_if, made_loop};
+use crate::cursor::{Read, Rest, accept, deeper, is, is_one_of, token, word};
+use crate::expression::{expression, opt_args, selected};
 use crate::leaf::ident;
-use aud_lex::token::Kind;
-use aud_syntax::tree::{Body, Expression, Ident, Name, NamePart, Statement, Statements};
+use aud_lex::token::{Kind, Token};
+use aud_syntax::tree::{Arm, Body, Expression, Ident, Name, NamePart, Statement, Statements};
 use std::alloc::Global;
 
-const STATEMENTS: [Kind; 2] = [Kind::Null, Kind::Identifier];
+const STATEMENTS: [Kind; 6] = [
+    Kind::Null,
+    Kind::Identifier,
+    Kind::If,
+    Kind::While,
+    Kind::Loop,
+    Kind::Exit,
+];
+
+const LOOPS: [Kind; 2] = [Kind::While, Kind::Loop];
 
 /// A null statement (RM 5.1(6)).
-fn null(start: Rest) -> Read<Statement>
-    ensures { ReadsFlat statement_item (N g.NullStatement) start.entry result }
+#[inline(never)]
+fn null(alloc: Global, start: Rest) -> Read<Box<Statement>>
+    ensures { ReadsFlat boxed_statement_item (N g.NullStatement) start.entry result }
 {
     let (t, rest) = token(start, Kind::Null)?;
-    ended(Statement::Null(t.at()), rest, Kind::Semicolon)
+    let statement = Box::new(alloc, Statement::Null(t.at()))?;
+    ended(statement, rest, Kind::Semicolon)
 }
 
 /// What is assigned, behind the name (RM 5.2).
@@ -33,41 +51,237 @@ fn assignment(alloc: Global, start: Rest, room: u32) -> Read<Expression>
     ended(Box::into_inner(value), rest, Kind::Semicolon)
 }
 
-/// The arguments of a call, behind the name (RM 6.4).
-fn call(alloc: Global, start: Rest, room: u32) -> Read<Vec<Expression>>
-    ensures { Reads called_item (N g.Call) room start.entry result }
+/// What is assigned to a name; nothing, where it is called (RM 5.2, 6.4).
+fn statement_rest(alloc: Global, start: Rest, room: u32) -> Read<Option<Expression>>
+    ensures { Reads rest_item (N g.StatementRest) room start.entry result }
 {
-    let (all, rest) = args(alloc, start, room)?;
-    ended(all, rest, Kind::Semicolon)
+    if is(start, Kind::Becomes) {
+        let (value, rest) = assignment(alloc, start, room)?;
+        return Ok((Some(value), rest));
+    }
+    let rest = word(start, Kind::Semicolon)?;
+    Ok((None, rest))
 }
 
-/// A statement that begins with a name.
-fn named(alloc: Global, start: Rest, room: u32) -> Read<Statement>
-    ensures { Reads statement_item (N g.NameStatement) room start.entry result }
+/// An assignment or a call, behind the first identifier of its name (RM 5.2, 6.4).
+#[inline(never)]
+fn named(alloc: Global, ident: Ident, start: Rest, room: u32) -> Read<Box<Statement>>
+    ensures { Completes (λ es. made g.NameStatement (an_ident ident ∷ es))
+        boxed_statement_item (N g.NamedStatement ∷ []) room start.entry result }
+{
+    let (args, rest) = opt_args(alloc, start, room)?;
+    let (others, rest) = selected(alloc, rest, room)?;
+    let first = NamePart { ident, args };
+    let name = Name { first, others };
+    let ((name, value), rest) = both(name, statement_rest(alloc, rest, room))?;
+    let statement = assign_or_call(alloc, name, value)?;
+    Ok((statement, rest))
+}
+
+/// The condition of an exit, if there is one (RM 5.7).
+fn opt_when(alloc: Global, start: Rest, room: u32) -> Read<Option<Expression>>
+    ensures { MayRead (opt_item expression_item) (Opt g.When) room start.entry result }
+{
+    if let Some((_, behind)) = accept(start, Kind::When) {
+        let (condition, rest) = expression(alloc, behind, room)?;
+        return Ok((Some(Box::into_inner(condition)), rest));
+    }
+    Ok((None, start))
+}
+
+/// An exit statement (RM 5.7).
+#[inline(never)]
+fn exit(alloc: Global, start: Rest, room: u32) -> Read<Box<Statement>>
+    ensures { Reads boxed_statement_item (N g.Exit) room start.entry result }
+{
+    let (t, rest) = token(start, Kind::Exit)?;
+    let (label, rest) = opt_ident(alloc, rest)?;
+    let (condition, rest) = opt_when(alloc, rest, room)?;
+    let statement = Box::new(alloc, Statement::Exit(t.at(), label, condition))?;
+    ended(statement, rest, Kind::Semicolon)
+}
+
+/// How often a loop is gone through, if that is said, and where (RM 5.5(3)).
+#[inline(never)]
+fn opt_while(alloc: Global, start: Rest, room: u32) -> Read<Scheme>
+    ensures { MayRead (opt_item while_item) (Opt g.While) room start.entry result }
+{
+    if let Some((t, behind)) = accept(start, Kind::While) {
+        let (condition, rest) = expression(alloc, behind, room)?;
+        return Ok((Some((t.at(), condition)), rest));
+    }
+    Ok((None, start))
+}
+
+/// What ends a loop, and the loop of all its parts.
+#[inline(never)]
+fn end_loop<'a>(
+    alloc: Global,
+    parts: (Option<Ident>, Scheme, Box<Statements>),
+    begin: &Token,
+    start: Rest<'a>,
+) -> Read<'a, Box<Statement>>
+    ensures { (room : ℕ) → Completes
+        (λ es. behind_label parts.0 (made g.Loop (opt_item while_item parts.1
+        ∷ token begin.now ∷ boxed_statements_item parts.2 ∷ es)))
+        boxed_statement_item
+        (T kind.End ∷ T kind.Loop ∷ Opt g.Identifier ∷ P kind.Semicolon ∷ [])
+        room start.entry result }
+{
+    let (parts, rest) = ended(parts, start, Kind::End)?;
+    let (parts, rest) = ended(parts, rest, Kind::Loop)?;
+    let ((parts, name), rest) = both(parts, opt_ident(alloc, rest))?;
+    let (((label, scheme, inner), last), rest) = both(parts, token(rest, Kind::Semicolon))?;
+    let statement = made_loop(alloc, label, scheme, begin.at(), inner, (name, last.at()))?;
+    Ok((statement, rest))
+}
+
+/// A loop statement behind its name, if it has one (RM 5.5).
+#[cycle(statement)]
+#[inline(never)]
+fn loop_statement(
+    alloc: Global,
+    label: Option<Ident>,
+    start: Rest,
+    room: u32,
+) -> Read<Box<Statement>>
+    ensures { Completes (λ es. behind_label label es) boxed_statement_item (N g.Loop ∷ [])
+        room start.entry result }
+{
+    let (scheme, rest) = opt_while(alloc, start, room)?;
+    let (begin, rest) = token(rest, Kind::Loop)?;
+    let (inner, rest) = statements(alloc, rest, room)?;
+    end_loop(alloc, (label, scheme, inner), begin, rest)
+}
+
+/// A statement that begins with a name: its label, or what is assigned to or called.
+#[cycle(statement)]
+fn name_statement(alloc: Global, start: Rest, room: u32) -> Read<Box<Statement>>
+    ensures { Reads boxed_statement_item (N g.NameStatement) room start.entry result }
 {
     let (ident, rest) = ident(alloc, start)?;
-    if is(rest, Kind::Becomes) {
-        let (value, rest) = assignment(alloc, rest, room)?;
-        let args = Vec::new(alloc);
-        let first = NamePart { ident, args };
-        return Ok((Statement::Assign(Name { first }, value), rest));
+    if let Some((_, behind)) = accept(rest, Kind::Colon) {
+        return loop_statement(alloc, Some(ident), behind, room);
     }
-    let (args, rest) = call(alloc, rest, room)?;
-    let first = NamePart { ident, args };
-    Ok((Statement::Call(Name { first }), rest))
+    named(alloc, ident, rest, room)
+}
+
+/// A condition of an if statement (RM 5.3).
+#[inline(never)]
+fn condition(alloc: Global, start: Rest, room: u32) -> Read<Box<Expression>>
+    ensures { Reads (boxed_item expression_item) (N g.Expression) room start.entry result }
+{
+    expression(alloc, start, room)
+}
+
+/// A condition, and the statements behind `then`.
+#[cycle(statement)]
+fn guarded(alloc: Global, start: Rest, room: u32) -> Read<Guarded>
+    ensures { ReadsAll guarded_items
+        (N g.Expression ∷ T kind.Then ∷ N g.Statements ∷ []) room start.entry result }
+{
+    let (condition, rest) = condition(alloc, start, room)?;
+    let rest = word(rest, Kind::Then)?;
+    let (inner, rest) = statements(alloc, rest, room)?;
+    Ok(((condition, inner), rest))
+}
+
+/// A further condition of an if statement, and its statements (RM 5.3).
+#[cycle(statement)]
+fn elsif(alloc: Global, start: Rest, room: u32) -> Read<Box<Arm>>
+    ensures { Reads boxed_arm_item (N g.Elsif) room start.entry result }
+{
+    let (t, rest) = token(start, Kind::Elsif)?;
+    let (parts, rest) = guarded(alloc, rest, room)?;
+    let arm = arm_of(alloc, t.at(), parts)?;
+    Ok((arm, rest))
+}
+
+/// The further conditions of an if statement.
+#[cycle(statement)]
+fn elsifs(alloc: Global, start: Rest, room: u32) -> Read<Vec<Arm>>
+    ensures { MayRead (vec_item arm_item) (Rep g.Elsif) room start.entry result }
+{
+    let mut all = Vec::new(alloc);
+    let mut rest = start;
+    'turns: while is(rest, Kind::Elsif) {
+        let (next, after) = elsif(alloc, rest, room)?;
+        all = add(all, next)?;
+        rest = after;
+    }
+    Ok((all, rest))
+}
+
+/// The statements behind `else`, if there are any.
+#[cycle(statement)]
+fn opt_else(alloc: Global, start: Rest, room: u32) -> Read<Option<Box<Statements>>>
+    ensures { MayRead (opt_item boxed_statements_item) (Opt g.ElsePart) room start.entry result }
+{
+    if let Some((_, behind)) = accept(start, Kind::Else) {
+        let (inner, rest) = statements(alloc, behind, room)?;
+        return Ok((Some(inner), rest));
+    }
+    Ok((None, start))
+}
+
+/// What ends an if statement, and the statement of all its parts.
+#[inline(never)]
+fn end_if<'a>(
+    alloc: Global,
+    parts: (Guarded, Vec<Arm>, Option<Box<Statements>>),
+    begin: &Token,
+    start: Rest<'a>,
+) -> Read<'a, Box<Statement>>
+    ensures { (room : ℕ) → Completes
+        (λ es. made g.If (token begin.now ∷ boxed_item expression_item parts.0.0
+        ∷ boxed_statements_item parts.0.1 ∷ vec_item arm_item parts.1
+        ∷ opt_item boxed_statements_item parts.2 ∷ es))
+        boxed_statement_item
+        (T kind.End ∷ T kind.If ∷ T kind.Semicolon ∷ [])
+        room start.entry result }
+{
+    let (parts, rest) = ended(parts, start, Kind::End)?;
+    let (parts, rest) = ended(parts, rest, Kind::If)?;
+    let ((first, others, otherwise), rest) = ended(parts, rest, Kind::Semicolon)?;
+    let statement = made_if(alloc, begin.at(), first, others, otherwise)?;
+    Ok((statement, rest))
+}
+
+/// An if statement (RM 5.3).
+#[cycle(statement)]
+#[inline(never)]
+fn if_statement(alloc: Global, start: Rest, room: u32) -> Read<Box<Statement>>
+    ensures { Reads boxed_statement_item (N g.If) room start.entry result }
+{
+    let (begin, rest) = token(start, Kind::If)?;
+    let (first, rest) = guarded(alloc, rest, room)?;
+    let (others, rest) = elsifs(alloc, rest, room)?;
+    let (otherwise, rest) = opt_else(alloc, rest, room)?;
+    end_if(alloc, (first, others, otherwise), begin, rest)
 }
 
 /// A statement.
-fn statement(alloc: Global, start: Rest, room: u32) -> Read<Statement>
-    ensures { Reads statement_item (N g.Statement) room start.entry result }
+#[cycle(statement)]
+fn statement(alloc: Global, start: Rest, room: u32) -> Read<Box<Statement>>
+    ensures { Reads boxed_statement_item (N g.Statement) room start.entry result }
 {
     if is(start, Kind::Null) {
-        return null(start);
+        return null(alloc, start);
     }
-    named(alloc, start, room)
+    if is(start, Kind::Identifier) {
+        return name_statement(alloc, start, room);
+    }
+    if is(start, Kind::If) {
+        return if_statement(alloc, start, room);
+    }
+    if is_one_of(start, &LOOPS) {
+        return loop_statement(alloc, None, start, room);
+    }
+    exit(alloc, start, room)
 }
 
 /// The further statements.
+#[cycle(statement)]
 fn more_statements(alloc: Global, start: Rest, room: u32) -> Read<Vec<Statement>>
     ensures { MayRead (vec_item statement_item) (Rep g.Statement) room start.entry result }
 {
@@ -75,30 +289,33 @@ fn more_statements(alloc: Global, start: Rest, room: u32) -> Read<Vec<Statement>
     let mut rest = start;
     'turns: while is_one_of(rest, &STATEMENTS) {
         let (next, after) = statement(alloc, rest, room)?;
-        all.push(next)?;
+        all = add(all, next)?;
         rest = after;
     }
     Ok((all, rest))
 }
 
 /// Statements, at least one.
-fn statement_list(alloc: Global, start: Rest, room: u32) -> Read<Statements>
-    ensures { Reads statements_item (N g.StatementList) room start.entry result }
+#[cycle(statement)]
+fn statement_list(alloc: Global, start: Rest, room: u32) -> Read<Box<Statements>>
+    ensures { Reads boxed_statements_item (N g.StatementList) room start.entry result }
 {
     let (first, rest) = statement(alloc, start, room)?;
-    let ((first, others), rest) = both(first, more_statements(alloc, rest, room))?;
-    Ok((Statements { first, others }, rest))
+    let (others, rest) = more_statements(alloc, rest, room)?;
+    let statements = in_order(alloc, first, others)?;
+    Ok((statements, rest))
 }
 
 /// Statements, which lie one level deeper.
-fn statements(alloc: Global, start: Rest, room: u32) -> Read<Statements>
-    ensures { Reads statements_item (N g.Statements) room start.entry result }
+#[cycle(statement)]
+fn statements(alloc: Global, start: Rest, room: u32) -> Read<Box<Statements>>
+    ensures { Reads boxed_statements_item (N g.Statements) room start.entry result }
 {
     let inside = deeper(start, room, is_one_of(start, &STATEMENTS))?;
     statement_list(alloc, start, inside)
 }
 
-/// The name behind `end`, if there is one.
+/// The name behind `end`, or of the loop that is left, if there is one.
 fn opt_ident(alloc: Global, start: Rest) -> Read<Option<Ident>>
     ensures { MayReadFlat (opt_item an_ident) (Opt g.Identifier) start.entry result }
 {
@@ -119,7 +336,7 @@ pub fn body(alloc: Global, start: Rest, room: u32) -> Read<Body>
     let ((statements, name), rest) = both(statements, opt_ident(alloc, rest))?;
     let body = Body {
         begin: begin.at(),
-        statements,
+        statements: Box::into_inner(statements),
         end: end.at(),
         name,
     };

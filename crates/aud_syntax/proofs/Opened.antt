@@ -2,24 +2,32 @@
 use Rattle.std.proofs.Common.{◌≡◌, List, [], ◌∷◌, refl, ap, sym, ◌∙◌}
 use Rattle.std.specs.Prelude.{Option, Some, None, Vec, Box}
 use Rattle.std.specs.Global.{Global}
+use mathlib.Core.Former.{list_count, this}
 use Rattle.aud_syntax.specs.declared.tree.Signed.{Signed}
 use Rattle.aud_syntax.specs.declared.tree.Adding.{Adding}
 use Rattle.aud_syntax.specs.declared.tree.Factor.{Factor}
 use Rattle.aud_syntax.specs.declared.tree.Multiplied.{Multiplied}
-use Rattle.aud_syntax.specs.declared.tree.Simple.{Simple, out-Simple, roll-Simple, roll-out-Simple, rolls-Simple', Row_of-Added, end_of-Added, more_of-Added, items-the_row-Added, items_hidden-the_row-Added-2}
+use Rattle.aud_syntax.specs.declared.tree.Simple.{Simple, out-Simple, roll-Simple, roll-out-Simple, rolls-Simple', Row_of-Added, end_of-Added, more_of-Added, items-the_row-Added, items_hidden-the_row-Added-3}
 use Rattle.aud_syntax.specs.declared.tree.Added.{Added, out-Added, roll-Added, roll-out-Added, rolls-Added'}
-use Rattle.aud_syntax.specs.declared.tree.Term.{Term, out-Term, roll-Term, roll-out-Term, rolls-Term', Row_of-Multiplied, end_of-Multiplied, more_of-Multiplied, items-the_row-Multiplied, items_hidden-the_row-Multiplied-3}
-use Rattle.aud_syntax.specs.declared.tree.Expression.TheBlock.{hidden-the_row-Relation-0, hidden-the_row-Expression-1, hidden-the_row-Added-2, hidden-the_row-Multiplied-3}
+use Rattle.aud_syntax.specs.declared.tree.Term.{Term, out-Term, roll-Term, roll-out-Term, rolls-Term', Row_of-Multiplied, end_of-Multiplied, more_of-Multiplied, items-the_row-Multiplied, items_hidden-the_row-Multiplied-4}
+use Rattle.aud_syntax.specs.declared.tree.Expression.TheBlock.{hidden-the_row-Relation-0, hidden-the_row-Expression-1, shown-the_row-Expression-1, hidden-the_row-NamePart-2, hidden-the_row-Added-3, hidden-the_row-Multiplied-4}
 use Rattle.aud_syntax.specs.declared.tree.Expression.{Expression}
 use Rattle.aud_syntax.specs.declared.tree.Expression.TheVariants.{Connected}
 use Rattle.aud_syntax.specs.declared.tree.Chain.{Chain, Row_of-Relation, end_of-Relation, more_of-Relation, items-the_row-Relation, items_hidden-the_row-Relation-0}
 use Rattle.aud_syntax.specs.declared.tree.Relational.{Relational}
 use Rattle.aud_syntax.specs.declared.tree.Comparison.{Comparison, out-Comparison, roll-Comparison, roll-out-Comparison, rolls-Comparison'}
-use Rattle.aud_syntax.specs.declared.tree.NamePart.{Row_of-Expression, end_of-Expression, more_of-Expression, items-the_row-Expression, items_hidden-the_row-Expression-1}
+use Rattle.aud_syntax.specs.declared.tree.NamePart.{NamePart, Row_of-Expression, end_of-Expression, more_of-Expression, items-the_row-Expression, items_hidden-the_row-Expression-1, items_shown-the_row-Expression-1}
 use Rattle.aud_syntax.specs.declared.tree.Ident.{Ident}
 use Rattle.aud_syntax.specs.declared.tree.Name as name
+use Rattle.aud_syntax.specs.declared.tree.Name.{out-Name, roll-Name, roll-out-Name, rolls-Name', Row_of-NamePart, end_of-NamePart, more_of-NamePart, items-the_row-NamePart, items_hidden-the_row-NamePart-2}
 use Rattle.aud_syntax.specs.declared.tree.Primary as primary
-use Rattle.aud_syntax.specs.Ties.View.{plain_expression, plain_boxed, plain_expressions, plain_args, plain_name, plain_primary, plain_relation, plain_relations, relation_list, plain_chain, plain_comparison, plain_simple, plain_addeds, plain_added, plain_term, plain_multiplieds, plain_multiplied, plain_factor}
+use Rattle.aud_syntax.specs.declared.tree.Statement.{Statement, Row_of-Statement, end_of-Statement, more_of-Statement, items-the_row-Statement, items_hidden-the_row-Statement-0, items_shown-the_row-Statement-0}
+use Rattle.aud_syntax.specs.declared.tree.Statement.TheVariants.{Loop}
+use Rattle.aud_syntax.specs.declared.tree.Statement.TheBlock.{hidden-the_row-Statement-0, shown-the_row-Statement-0, shown-the_row-Arm-1}
+use Rattle.aud_syntax.specs.declared.tree.IfStatement.{IfStatement, IfStatement', out-IfStatement, roll-IfStatement, out-roll-IfStatement, Row_of-Arm, end_of-Arm, more_of-Arm, items-the_row-Arm, items_shown-the_row-Arm-1}
+use Rattle.aud_syntax.specs.declared.tree.Arm.{Arm}
+use Rattle.aud_syntax.specs.declared.tree.LoopStatement.{LoopStatement}
+use Rattle.aud_syntax.specs.Ties.View.{plain_expression, plain_boxed, plain_expressions, plain_args, plain_name, plain_part, plain_parts, part_list, plain_primary, plain_relation, plain_relations, relation_list, plain_chain, plain_comparison, plain_simple, plain_addeds, plain_added, plain_term, plain_multiplieds, plain_multiplied, plain_factor, plain_statement, plain_row, plain_others, plain_statements, plain_if, plain_arms, arm_list, plain_iteration, plain_if_statement, plain_loop_statement}
 use Rattle.aud_syntax.specs.Plain as m
 
 abbrev pub multiplied_list : List Multiplied → m.Multiplieds
@@ -45,13 +53,13 @@ pub added_open : (x : Added) → plain_added x ≡ m.added (out-Added x).operato
 added_open x = ap plain_added (sym (roll-out-Added x)) ∙ added_roll (out-Added x).operator (out-Added x).term
 
 term_roll : (f : Factor) (v : Vec Multiplied Global) → plain_term (roll-Term (record { first = f; rest = v })) ≡ m.term (plain_factor f) (multiplied_list v.items)
-term_roll f v = ap plain_term (rolls-Term' _) ∙ ap (λ z. m.term (plain_factor f) z) (multiplied_rows _ (hidden-the_row-Multiplied-3 v) ∙ ap multiplied_list (items_hidden-the_row-Multiplied-3 v))
+term_roll f v = ap plain_term (rolls-Term' _) ∙ ap (λ z. m.term (plain_factor f) z) (multiplied_rows _ (hidden-the_row-Multiplied-4 v) ∙ ap multiplied_list (items_hidden-the_row-Multiplied-4 v))
 
 pub term_open : (t : Term) → plain_term t ≡ m.term (plain_factor (out-Term t).first) (multiplied_list (out-Term t).rest.items)
 term_open t = ap plain_term (sym (roll-out-Term t)) ∙ term_roll (out-Term t).first (out-Term t).rest
 
 simple_roll : (s : Option Signed) (t : Term) (v : Vec Added Global) → plain_simple (roll-Simple (record { sign = s; first = t; rest = v })) ≡ m.simple s (plain_term t) (added_list v.items)
-simple_roll s t v = ap plain_simple (rolls-Simple' _) ∙ ap (λ z. m.simple s (plain_term t) z) (added_rows _ (hidden-the_row-Added-2 v) ∙ ap added_list (items_hidden-the_row-Added-2 v))
+simple_roll s t v = ap plain_simple (rolls-Simple' _) ∙ ap (λ z. m.simple s (plain_term t) z) (added_rows _ (hidden-the_row-Added-3 v) ∙ ap added_list (items_hidden-the_row-Added-3 v))
 
 pub simple_open : (e : Simple) → plain_simple e ≡ m.simple (out-Simple e).sign (plain_term (out-Simple e).first) (added_list (out-Simple e).rest.items)
 simple_open e = ap plain_simple (sym (roll-out-Simple e)) ∙ simple_roll (out-Simple e).sign (out-Simple e).first (out-Simple e).rest
@@ -76,9 +84,59 @@ expression_rows n (more_of-Expression x row) = ap (λ z. m.more_args (plain_expr
 arguments : (v : Vec Expression Global) → plain_args (hidden-the_row-Expression-1 v) ≡ plain_expressions v.items
 arguments v = expression_rows _ (hidden-the_row-Expression-1 v) ∙ ap plain_expressions (items_hidden-the_row-Expression-1 v)
 
-pub name_open : (x : Box name.Name Global) → plain_primary (primary.Name x) ≡ m.name (plain_name x.value)
-name_open x = ap (λ z. m.name (m.named (m.part x.value.first.ident z) m.no_parts)) (arguments x.value.first.args)
+arguments_shown : (shape : Vec (Unit {0}) Global) (row : Row_of-Expression (list_count (this {0}) shape.items 0)) → plain_args row ≡ plain_expressions (shown-the_row-Expression-1 shape row).items
+arguments_shown shape row = expression_rows _ row ∙ ap plain_expressions (sym (items_shown-the_row-Expression-1 shape row))
+
+part_rows : (n : _) (row : Row_of-NamePart n) → plain_parts row ≡ part_list (items-the_row-NamePart n row)
+part_rows n end_of-NamePart = refl
+part_rows n (more_of-NamePart i shape xs row) = cc (arguments_shown shape xs, part_rows _ row)
+
+-- a name as it is made of its parts, and as it is taken apart
+pub name_roll : (first : NamePart) (others : Vec NamePart Global) → plain_name (roll-Name (record { first = first; others = others })) ≡ m.named (plain_part first) (part_list others.items)
+name_roll first others = ap plain_name (rolls-Name' _) ∙ cc (arguments first.args, part_rows _ (hidden-the_row-NamePart-2 others) ∙ ap part_list (items_hidden-the_row-NamePart-2 others))
+
+pub name_open : (x : name.Name) → plain_name x ≡ m.named (plain_part (out-Name x).first) (part_list (out-Name x).others.items)
+name_open x = ap plain_name (sym (roll-out-Name x)) ∙ name_roll (out-Name x).first (out-Name x).others
 
 pub attribute_open : (x : Box name.Name Global) (i : Ident) (e : Option (Box Expression Global)) → plain_primary (primary.Attribute x i e) ≡ m.attribute (plain_name x.value) i (plain_boxed e)
-attribute_open x i None = ap (λ z. m.attribute (m.named (m.part x.value.first.ident z) m.no_parts) i m.no_expression) (arguments x.value.first.args)
-attribute_open x i (Some e) = ap (λ z. m.attribute (m.named (m.part x.value.first.ident z) m.no_parts) i (m.an_expression (plain_expression e.value))) (arguments x.value.first.args)
+attribute_open x i None = refl
+attribute_open x i (Some e) = refl
+
+-- statements
+
+statement_rows : (n : _) (row : Row_of-Statement n) → plain_row row ≡ plain_others (items-the_row-Statement n row)
+statement_rows n end_of-Statement = refl
+statement_rows n (more_of-Statement x row) = ap (λ z. m.more_statements (plain_statement x) z) (statement_rows _ row)
+
+others_are : (v : Vec Statement Global) → plain_row (hidden-the_row-Statement-0 v) ≡ plain_others v.items
+others_are v = statement_rows _ (hidden-the_row-Statement-0 v) ∙ ap plain_others (items_hidden-the_row-Statement-0 v)
+
+pub loop_open : (x : Box LoopStatement Global) → plain_statement (Loop x) ≡ plain_loop_statement x.value
+loop_open x = ap (λ z. m.loop x.value.label x.value.at (plain_iteration x.value.iteration) (m.in_order (plain_statement x.value.statements.first) z) x.value.name x.value.semicolon) (others_are x.value.statements.others)
+
+statements_shown : (shape : Vec (Unit {0}) Global) (row : Row_of-Statement (list_count (this {0}) shape.items 0)) → plain_row row ≡ plain_others (shown-the_row-Statement-0 shape row).items
+statements_shown shape row = statement_rows _ row ∙ ap plain_others (sym (items_shown-the_row-Statement-0 shape row))
+
+arm_rows : (n : _) (row : Row_of-Arm n) → plain_arms row ≡ arm_list (items-the_row-Arm n row)
+arm_rows n end_of-Arm = refl
+arm_rows n (more_of-Arm at e first shape others row) =
+    ap (λ z. m.more_arms at (plain_expression e) (m.in_order (plain_statement first) z) (plain_arms row)) (statements_shown shape others)
+    ∙ ap (λ z. m.more_arms at (plain_expression e) (m.in_order (plain_statement first) (plain_others (shown-the_row-Statement-0 shape others).items)) z) (arm_rows _ row)
+
+arms_shown : (shape : Vec (Unit {0}) Global) (row : Row_of-Arm (list_count (this {0}) shape.items 0)) → plain_arms row ≡ arm_list (shown-the_row-Arm-1 shape row).items
+arms_shown shape row = arm_rows _ row ∙ ap arm_list (sym (items_shown-the_row-Arm-1 shape row))
+
+pub if_open : (x : IfStatement) → plain_if x ≡ plain_if_statement x
+unfolding out-IfStatement shown-the_row-Statement-0 shown-the_row-Arm-1 denote.Hole.Carrier.out
+if_open (IfStatement' at e first shape others arms_shape arms else_shape otherwise) =
+    let statements = m.in_order (plain_statement first) (plain_others (shown-the_row-Statement-0 shape others).items) in
+    ap (λ z. m.if_then at (plain_expression e) (m.in_order (plain_statement first) z) (plain_arms arms) (plain_row otherwise)) (statements_shown shape others)
+    ∙ ap (λ z. m.if_then at (plain_expression e) statements z (plain_row otherwise)) (arms_shown arms_shape arms)
+    ∙ ap (λ z. m.if_then at (plain_expression e) statements (arm_list (shown-the_row-Arm-1 arms_shape arms).items) z) (statements_shown else_shape otherwise)
+
+-- an if statement as it is made of its parts
+pub if_roll : (first : Arm) (others : Vec Arm Global) (otherwise : Vec Statement Global) →
+    plain_if (roll-IfStatement (record { first = first; others = others; otherwise = otherwise })) ≡ m.if_then first.at (plain_expression first.condition) (plain_statements first.statements) (arm_list others.items) (plain_others otherwise.items)
+if_roll first others otherwise =
+    if_open (roll-IfStatement (record { first = first; others = others; otherwise = otherwise }))
+    ∙ ap (λ x. m.if_then x.first.at (plain_expression x.first.condition) (plain_statements x.first.statements) (arm_list x.others.items) (plain_others x.otherwise.items)) (out-roll-IfStatement (record { first = first; others = others; otherwise = otherwise }))

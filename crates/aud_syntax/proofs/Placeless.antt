@@ -1,13 +1,13 @@
 -- The words of a tree do not depend on its places.
 use Rattle.std.proofs.Common.{◌≡◌, List, [], ◌∷◌, map, refl, sym, ap, ◌∙◌}
 use Rattle.std.specs.Prelude.{Option, Some, None}
-use Rattle.aud_lex.specs.Why.Spaced.{spaced}
+use Rattle.aud_lex.specs.Why.Spaced.{Word, spaced}
 use Rattle.aud_syntax.specs.declared.tree.Ident.{Ident}
 use Rattle.aud_syntax.specs.declared.tree.Signed.{Signed}
 use Rattle.aud_syntax.specs.declared.tree.Operator.{Operator}
 use Rattle.aud_syntax.specs.declared.tree.Connective.{Connective}
 use Rattle.aud_syntax.specs.Plain as m
-use Rattle.aud_syntax.specs.Why.Bare.{bare_ident, bare_sign, bare_highest, bare_end, bare_expression, bare_relations, bare_relation, bare_name, bare_part, bare_args, bare_simple, bare_addeds, bare_added, bare_term, bare_multiplieds, bare_multiplied, bare_factor, bare_primary, bare_maybe, bare_declaration, bare_declarations, bare_statement, bare_more_statements, bare_statements, bare_body, bare}
+use Rattle.aud_syntax.specs.Why.Bare.{bare_ident, bare_sign, bare_highest, bare_end, bare_expression, bare_relations, bare_relation, bare_name, bare_parts, bare_part, bare_args, bare_simple, bare_addeds, bare_added, bare_term, bare_multiplieds, bare_multiplied, bare_factor, bare_primary, bare_maybe, bare_declaration, bare_declarations, bare_iteration, bare_statement, bare_more_statements, bare_statements, bare_arms, bare_body, bare_context, bare}
 use Rattle.aud_syntax.specs.Why.Printed as w
 use Rattle.aud_syntax.specs.Why.Laws.{WithoutPlaces}
 
@@ -71,7 +71,11 @@ mutual
   maybe_same (m.an_expression e) = cc (expression_same e)
 
   name_same : (x : m.Name) → w.name_words (bare_name x) ≡ w.name_words x
-  name_same (m.named x m.no_parts) = part_same x
+  name_same (m.named x xs) = cc (part_same x, parts_same xs)
+
+  parts_same : (xs : m.Parts) → w.parts_words (bare_parts xs) ≡ w.parts_words xs
+  parts_same m.no_parts = refl
+  parts_same (m.more_parts x xs) = cc (part_same x, parts_same xs)
 
   part_same : (x : m.NamePart) → w.part_words (bare_part x) ≡ w.part_words x
   part_same (m.part i xs) = cc (args_same xs)
@@ -94,28 +98,61 @@ more_idents_same (x ∷ xs) = cc (more_idents_same xs)
 
 declaration_same : (x : m.Declaration) → w.declaration_words (bare_declaration x) ≡ w.declaration_words x
 declaration_same (m.object x xs subtype value) = cc (more_idents_same xs, initial_same value)
+declaration_same (m.constant x xs subtype value) = cc (more_idents_same xs, expression_same value)
 
 declarations_same : (xs : m.Declarations) → w.declarations_words (bare_declarations xs) ≡ w.declarations_words xs
 declarations_same m.no_declarations = refl
 declarations_same (m.more_declarations x xs) = cc (declaration_same x, declarations_same xs)
 
-statement_same : (x : m.Statement) → w.statement_words (bare_statement x) ≡ w.statement_words x
-statement_same (m.null at) = refl
-statement_same (m.assign x e) = cc (name_same x, expression_same e)
-statement_same (m.call x) = cc (name_same x)
+label_same : (s : Option Ident) → w.label_words (bare_end s) ≡ w.label_words s
+label_same None = refl
+label_same (Some x) = refl
 
-more_statements_same : (xs : m.MoreStatements) → w.more_statements_words (bare_more_statements xs) ≡ w.more_statements_words xs
-more_statements_same m.no_statements = refl
-more_statements_same (m.more_statements x xs) = cc (statement_same x, more_statements_same xs)
+iteration_same : (i : m.Iteration) → w.iteration_words (bare_iteration i) ≡ w.iteration_words i
+iteration_same m.forever = refl
+iteration_same (m.while e) = cc (expression_same e)
 
-statements_same : (xs : m.Statements) → w.statements_words (bare_statements xs) ≡ w.statements_words xs
-statements_same (m.in_order x xs) = cc (statement_same x, more_statements_same xs)
+condition_same : (e : m.MaybeExpression) → w.condition_words (bare_maybe e) ≡ w.condition_words e
+condition_same m.no_expression = refl
+condition_same (m.an_expression e) = cc (expression_same e)
+
+otherwise_same : (xs : m.MoreStatements) (ws : List Word) → w.otherwise_words (bare_more_statements xs) ws ≡ w.otherwise_words xs ws
+otherwise_same m.no_statements ws = refl
+otherwise_same (m.more_statements x xs) ws = refl
+
+mutual
+  statement_same : (x : m.Statement) → w.statement_words (bare_statement x) ≡ w.statement_words x
+  statement_same (m.null at) = refl
+  statement_same (m.assign x e) = cc (name_same x, expression_same e)
+  statement_same (m.call x) = cc (name_same x)
+  statement_same (m.if_then at e statements arms otherwise) = cc (expression_same e, statements_same statements, arms_same arms, otherwise_same otherwise (w.more_statements_words (bare_more_statements otherwise)), more_statements_same otherwise)
+  statement_same (m.loop label at i statements last semicolon) = cc (label_same label, iteration_same i, statements_same statements, end_same last)
+  statement_same (m.exit at label e) = cc (end_same label, condition_same e)
+
+  more_statements_same : (xs : m.MoreStatements) → w.more_statements_words (bare_more_statements xs) ≡ w.more_statements_words xs
+  more_statements_same m.no_statements = refl
+  more_statements_same (m.more_statements x xs) = cc (statement_same x, more_statements_same xs)
+
+  statements_same : (xs : m.Statements) → w.statements_words (bare_statements xs) ≡ w.statements_words xs
+  statements_same (m.in_order x xs) = cc (statement_same x, more_statements_same xs)
+
+  arms_same : (xs : m.Arms) → w.arms_words (bare_arms xs) ≡ w.arms_words xs
+  arms_same m.no_arms = refl
+  arms_same (m.more_arms at e statements arms) = cc (expression_same e, statements_same statements, arms_same arms)
 
 body_same : (x : m.Body) → w.body_words (bare_body x) ≡ w.body_words x
 body_same (m.body begin statements end last) = cc (statements_same statements, end_same last)
 
+context_same : (x : m.Context) → w.context_words (bare_context x) ≡ w.context_words x
+context_same (m.with_text_io at) = refl
+context_same (m.use_text_io at) = refl
+
+contexts_same : (xs : List m.Context) → w.contexts_words (map bare_context xs) ≡ w.contexts_words xs
+contexts_same [] = refl
+contexts_same (x ∷ xs) = cc (context_same x, contexts_same xs)
+
 unit_same : (u : m.Unit) → w.unit_words (bare u) ≡ w.unit_words u
-unit_same (m.unit at x declarations rest) = cc (declarations_same declarations, body_same rest)
+unit_same (m.unit context at x declarations rest) = cc (contexts_same context, declarations_same declarations, body_same rest)
 
 pub without_places : WithoutPlaces
 without_places u v e = ap spaced (sym (unit_same u) ∙ ap w.unit_words e ∙ unit_same v)

@@ -4,7 +4,7 @@ use Rattle.std.proofs.Math.Seq.{drop-cons}
 use Rattle.std.specs.Prelude.{Result, Ok, Err, OnOk}
 use Rattle.std.proofs.Common.{false, ◌==◌}
 use Rattle.std.specs.Prelude.{codes}
-use Rattle.aud_lex.specs.Why.Spaced.{Word, word, separator, spaced}
+use Rattle.aud_lex.specs.Why.Spaced.{Word, word, last_word, separator, spaced}
 use Rattle.aud_syntax.specs.declared.tree.Expression.{Expression}
 use Rattle.aud_syntax.specs.Plain as m
 use Rattle.std.specs.Prelude.{Option, None, Box}
@@ -15,9 +15,13 @@ use Rattle.aud_syntax.specs.declared.tree.Name as name
 use Rattle.aud_syntax.specs.declared.tree.Chain.{Chain}
 use Rattle.aud_syntax.specs.declared.tree.Expression.TheVariants.{Connected}
 use Rattle.aud_syntax.specs.declared.tree.Primary as primary
-use Rattle.aud_syntax.specs.Ties.View.{plain_expression, plain_chain, plain_boxed, plain_expressions, plain_name, plain_primary}
-use Rattle.aud_syntax.specs.Why.Printed.{ident_word, expression_words, name_words, primary_words, argument_words, args_words, more_args_words}
-use Rattle.aud_syntax.proofs.Opened.{chain_open, name_open, attribute_open}
+use Rattle.aud_syntax.specs.declared.tree.Statement.{Statement}
+use Rattle.aud_syntax.specs.declared.tree.Statement.TheVariants.{Loop}
+use Rattle.aud_syntax.specs.declared.tree.IfStatement.{IfStatement}
+use Rattle.aud_syntax.specs.declared.tree.LoopStatement.{LoopStatement}
+use Rattle.aud_syntax.specs.Ties.View.{plain_expression, plain_chain, plain_boxed, plain_expressions, plain_name, plain_primary, plain_statement, plain_others, plain_if, plain_if_statement, plain_loop_statement}
+use Rattle.aud_syntax.specs.Why.Printed.{ident_word, expression_words, name_words, primary_words, argument_words, args_words, more_args_words, otherwise_words, statement_words, more_statements_words}
+use Rattle.aud_syntax.proofs.Opened.{chain_open, attribute_open, if_open, loop_open}
 
 pub spaced_append : (a b : List Word) → spaced (a ++ b) ≡ spaced a ++ spaced b
 spaced_append [] b = refl
@@ -81,10 +85,7 @@ arguments_end r old out new before xs ys e h n k =
 pub chain_written : {X E : Type 0} (r : Result X E) (old new : List ℕ) (x : Box Chain Global) → OnOk r (new ≡ old ++ spaced (expression_words (plain_chain x.value))) → OnOk r (new ≡ old ++ spaced (expression_words (plain_expression (Connected x))))
 chain_written r old new x h = subst (λ z. OnOk r (new ≡ old ++ spaced (expression_words z))) (sym (chain_open x)) h
 
--- a name, and an attribute, as primaries
-pub name_written : {X E : Type 0} (r : Result X E) (old new : List ℕ) (x : Box name.Name Global) → OnOk r (new ≡ old ++ spaced (name_words (plain_name x.value))) → OnOk r (new ≡ old ++ spaced (primary_words (plain_primary (primary.Name x))))
-name_written r old new x h = subst (λ z. OnOk r (new ≡ old ++ spaced (primary_words z))) (sym (name_open x)) h
-
+-- an attribute as a primary
 pub attribute_written : {X E : Type 0} (r : Result X E) (old a b c new : List ℕ) (x : Box name.Name Global) (i : Ident) (e : Option (Box Expression Global)) → a ≡ old ++ spaced (name_words (plain_name x.value)) → b ≡ a ++ spaced (word (codes "'") ∷ []) →
     c ≡ b ++ spaced (ident_word i ∷ []) → OnOk r (new ≡ c ++ spaced (argument_words (plain_boxed e))) → OnOk r (new ≡ old ++ spaced (primary_words (plain_primary (primary.Attribute x i e))))
 attribute_written r old a b c new x i e h k l n =
@@ -96,3 +97,16 @@ attribute_written r old a b c new x i e h k l n =
 pub attribute_alone : (old a b c : List ℕ) (x : Box name.Name Global) (i : Ident) → a ≡ old ++ spaced (name_words (plain_name x.value)) → b ≡ a ++ spaced (word (codes "'") ∷ []) → c ≡ b ++ spaced (ident_word i ∷ []) →
     c ≡ old ++ spaced (primary_words (plain_primary (primary.Attribute x i None)))
 attribute_alone old a b c x i h k l = attribute_written {X = ℕ} {E = ℕ} (Ok 0) old a b c c x i None h k l (sym (append-nil c))
+
+-- an if statement and a loop, as statements
+pub if_written : {X E : Type 0} (r : Result X E) (old new : List ℕ) (x : IfStatement) → OnOk r (new ≡ old ++ spaced (statement_words (plain_if_statement x))) → OnOk r (new ≡ old ++ spaced (statement_words (plain_if x)))
+if_written r old new x h = subst (λ z. OnOk r (new ≡ old ++ spaced (statement_words z))) (sym (if_open x)) h
+
+pub loop_written : {X E : Type 0} (r : Result X E) (old new : List ℕ) (x : Box LoopStatement Global) → OnOk r (new ≡ old ++ spaced (statement_words (plain_loop_statement x.value))) → OnOk r (new ≡ old ++ spaced (statement_words (plain_statement (Loop x))))
+loop_written r old new x h = subst (λ z. OnOk r (new ≡ old ++ spaced (statement_words z))) (sym (loop_open x)) h
+
+-- an else part
+pub else_written : {X E : Type 0} (r : Result X E) (old mid new : List ℕ) (xs : List Statement) → (length xs == 0) ≡ false → mid ≡ old ++ spaced (last_word (codes "else") ∷ []) → OnOk r (new ≡ mid ++ spaced (more_statements_words (plain_others xs))) →
+    OnOk r (new ≡ old ++ spaced (otherwise_words (plain_others xs) (more_statements_words (plain_others xs))))
+else_written r old mid new [] e h k = cc
+else_written r old mid new (x ∷ xs) e h k = all_written r old mid new (last_word (codes "else") ∷ []) (more_statements_words (plain_others (x ∷ xs))) h k

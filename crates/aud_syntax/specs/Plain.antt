@@ -67,6 +67,7 @@ mutual
 
   pub data Parts : Type 0 where
     no_parts : Parts
+    more_parts : NamePart → Parts → Parts
 
   pub data NamePart : Type 0 where
     part : Ident → Args → NamePart
@@ -76,21 +77,33 @@ mutual
     no_args : Args
     more_args : Expression → Args → Args
 
+-- the first name, the others, the subtype and the value (RM 3.1, 3.3.1)
+pub data Declaration : Type 0 where
+  object : Ident → List Ident → Ident → MaybeExpression → Declaration
+  constant : Ident → List Ident → Ident → Expression → Declaration
+
+pub data Declarations : Type 0 where
+  no_declarations : Declarations
+  more_declarations : Declaration → Declarations → Declarations
+
+-- RM 5.5(3)
+pub data Iteration : Type 0 where
+  forever : Iteration
+  while : Expression → Iteration
+
+-- RM 5.1
 mutual
-  -- the first name, the others, the subtype and the initial value (RM 3.1, 3.3.1)
-  pub data Declaration : Type 0 where
-    object : Ident → List Ident → Ident → MaybeExpression → Declaration
-
-  pub data Declarations : Type 0 where
-    no_declarations : Declarations
-    more_declarations : Declaration → Declarations → Declarations
-
-  -- RM 5.1
   pub data Statement : Type 0 where
     null : Pos → Statement
     assign : Name → Expression → Statement
     -- its arguments are those of the name
     call : Name → Statement
+    -- where `if` stands, its condition and statements, those behind each `elsif`, and the statements behind `else` (RM 5.3)
+    if_then : Pos → Expression → Statements → Arms → MoreStatements → Statement
+    -- its name, where its first word behind that stands, the name behind `end loop`, and where the semicolon stands (RM 5.5)
+    loop : Option Ident → Pos → Iteration → Statements → Option Ident → Pos → Statement
+    -- where it stands, the name of the loop, and the condition (RM 5.7)
+    exit : Pos → Option Ident → MaybeExpression → Statement
 
   -- the first statement, and those behind it (RM 5.1(2))
   pub data Statements : Type 0 where
@@ -100,10 +113,20 @@ mutual
     no_statements : MoreStatements
     more_statements : Statement → MoreStatements → MoreStatements
 
-  -- where the statements begin, the statements, where they end, and the name after `end` (RM 11.2)
-  pub data Body : Type 0 where
-    body : Pos → Statements → Pos → Option Ident → Body
+  -- of each: where `elsif` stands
+  pub data Arms : Type 0 where
+    no_arms : Arms
+    more_arms : Pos → Expression → Statements → Arms → Arms
 
--- where it begins, its name, its declarations and its body (RM 10.1.1)
+-- where the statements begin, the statements, where they end, and the name after `end` (RM 11.2)
+pub data Body : Type 0 where
+  body : Pos → Statements → Pos → Option Ident → Body
+
+-- a context clause for Ada.Text_IO, and where it begins (RM 10.1.2, 8.4)
+pub data Context : Type 0 where
+  with_text_io : Pos → Context
+  use_text_io : Pos → Context
+
+-- its context clauses, where `procedure` stands, its name, its declarations and its body (RM 10.1.1)
 pub data Unit : Type 0 where
-  unit : Pos → Ident → Declarations → Body → Unit
+  unit : List Context → Pos → Ident → Declarations → Body → Unit

@@ -185,11 +185,12 @@ pub enum Primary {
     Group(Pos, Box<Expression>),
 }
 
-/// A name (RM 4.1).
+/// A name (RM 4.1): its first part, and those behind points.
 #[derive(Drop)]
 #[cycle(expression)]
 pub struct Name {
     pub first: NamePart,
+    pub others: Vec<NamePart>,
 }
 
 /// An identifier of a name, and the arguments in the parentheses behind it.
@@ -211,20 +212,69 @@ pub struct Identifiers {
 pub enum Declaration {
     /// Variables, their subtype and their initial value (RM 3.3.1).
     Object(Identifiers, Ident, Option<Expression>),
+    /// Constants, their subtype and their value (RM 3.3.1).
+    Constant(Identifiers, Ident, Expression),
 }
 
 /// A statement (RM 5.1).
 #[derive(Drop)]
+#[cycle(statement)]
 pub enum Statement {
     /// A null statement, and where it stands.
     Null(Pos),
     Assign(Name, Expression),
     /// What is called; the arguments are those of the name.
     Call(Name),
+    If(Box<IfStatement>),
+    Loop(Box<LoopStatement>),
+    /// Where `exit` stands, the name of the loop that is left, and the condition (RM 5.7).
+    Exit(Pos, Option<Ident>, Option<Expression>),
+}
+
+/// An if statement (RM 5.3): what stands behind `if`, what behind each `elsif`, and the statements behind `else`, of which
+/// there are none where there is no `else`.
+#[derive(Drop)]
+#[cycle(statement)]
+pub struct IfStatement {
+    pub first: Arm,
+    pub others: Vec<Arm>,
+    pub otherwise: Vec<Statement>,
+}
+
+/// A condition, where its `if` or `elsif` stands, and the statements behind its `then`.
+#[derive(Drop)]
+#[cycle(statement)]
+pub struct Arm {
+    pub at: Pos,
+    pub condition: Expression,
+    pub statements: Statements,
+}
+
+/// A loop statement (RM 5.5): its name, where its first word behind that stands, its statements, the name behind `end loop`,
+/// and where its semicolon stands.
+#[derive(Drop)]
+#[cycle(statement)]
+pub struct LoopStatement {
+    pub label: Option<Ident>,
+    pub at: Pos,
+    pub iteration: Iteration,
+    pub statements: Statements,
+    pub name: Option<Ident>,
+    pub semicolon: Pos,
+}
+
+/// How often a loop is gone through (RM 5.5(3)).
+#[derive(Drop)]
+pub enum Iteration {
+    /// There is no iteration scheme.
+    Forever,
+    /// As long as the condition is true.
+    While(Expression),
 }
 
 /// A sequence of statements (RM 5.1(2)): the first, and those behind it.
 #[derive(Drop)]
+#[cycle(statement)]
 pub struct Statements {
     pub first: Statement,
     pub others: Vec<Statement>,
@@ -238,9 +288,19 @@ pub struct Body {
     pub name: Option<Ident>,
 }
 
-/// A program: its main procedure (RM 10.1.1).
+/// A context clause for Ada.Text_IO, and where it begins.
+#[derive(Clone, Copy, PartialEq, Eq, Debug)]
+pub enum Context {
+    /// A with clause (RM 10.1.2).
+    With(Pos),
+    /// A use clause (RM 8.4).
+    Use(Pos),
+}
+
+/// A program: its main procedure, and the context clauses before it (RM 10.1.1).
 pub struct Unit {
-    /// Where its first word stands.
+    pub context: Vec<Context>,
+    /// Where its `procedure` stands.
     pub at: Pos,
     pub name: Ident,
     pub declarations: Vec<Declaration>,
@@ -251,7 +311,10 @@ pub struct Unit {
 
 impl Drop for Declaration {
     fn drop(self) {
-        let Declaration::Object(_, _, _) = self;
+        match self {
+            Declaration::Object(_, _, _) => {}
+            Declaration::Constant(_, _, _) => {}
+        }
     }
 }
 
@@ -269,6 +332,7 @@ impl Drop for Body {
 impl Drop for Unit {
     fn drop(self) {
         let Unit {
+            context: _,
             at: _,
             name: _,
             declarations: _,

@@ -1,7 +1,7 @@
 -- The number and the words of each refusal.
 use Rattle.std.specs.Prelude.{ℕ, List, codes}
 use Rattle.aud_text.specs.declared.refusal.Refusal.{Refusal}
-use Rattle.aud_text.specs.declared.refusal.Refusal.TheVariants.{UnknownCommand, BadArgument, LineTooLong, JournalFull, NoProgram, StepBudget, NotAscii, Lexical, Syntax, SourceTooLong, TooDeep, NameNotDeclared, DeclaredTwice, WrongKindOfName, WrongType, WrongNumberOfArguments, NotAVariable, WrongNameAtEnd, NumberTooLarge, OutOfMemory}
+use Rattle.aud_text.specs.declared.refusal.Refusal.TheVariants.{UnknownCommand, BadArgument, LineTooLong, JournalFull, NoProgram, StepBudget, NotAscii, Lexical, Syntax, SourceTooLong, TooDeep, NameNotDeclared, DeclaredTwice, WrongKindOfName, WrongType, WrongNumberOfArguments, NotAVariable, WrongNameAtEnd, ExitWithoutLoop, NumberTooLarge, OutOfMemory}
 
 -- the number after the letter E; of two faults at one place the one with the lesser number is reported
 abbrev pub number : Refusal → ℕ
@@ -23,6 +23,7 @@ number WrongType = 33
 number WrongNumberOfArguments = 34
 number NotAVariable = 35
 number WrongNameAtEnd = 36
+number ExitWithoutLoop = 40
 number NumberTooLarge = 45
 number OutOfMemory = 90
 
@@ -45,5 +46,6 @@ words WrongType = codes "wrong type"
 words WrongNumberOfArguments = codes "wrong number of arguments"
 words NotAVariable = codes "not a variable"
 words WrongNameAtEnd = codes "wrong name at end"
+words ExitWithoutLoop = codes "exit without loop"
 words NumberTooLarge = codes "number too large"
 words OutOfMemory = codes "out of memory"

@@ -24,6 +24,7 @@ pub enum Refusal {
     WrongNumberOfArguments,
     NotAVariable,
     WrongNameAtEnd,
+    ExitWithoutLoop,
     NumberTooLarge,
     OutOfMemory,
 }
@@ -52,6 +53,7 @@ impl Refusal {
             Refusal::WrongNumberOfArguments => 34,
             Refusal::NotAVariable => 35,
             Refusal::WrongNameAtEnd => 36,
+            Refusal::ExitWithoutLoop => 40,
             Refusal::NumberTooLarge => 45,
             Refusal::OutOfMemory => 90,
         }
@@ -80,6 +82,7 @@ impl Refusal {
             Refusal::WrongNumberOfArguments => b"wrong number of arguments",
             Refusal::NotAVariable => b"not a variable",
             Refusal::WrongNameAtEnd => b"wrong name at end",
+            Refusal::ExitWithoutLoop => b"exit without loop",
             Refusal::NumberTooLarge => b"number too large",
             Refusal::OutOfMemory => b"out of memory",
         }

@@ -190,14 +190,28 @@ pub struct Statements {
     pub others: Vec<Statement>,
 }
 
-/// A typed program: its main procedure.
+/// How a variable is shown: as a number, or as False or True.
+#[derive(Clone, Copy, PartialEq, Eq, Debug)]
+pub enum Shown {
+    Whole,
+    Truth,
+}
+
+/// The name of a variable or constant, and how its value is shown.
+#[derive(Drop, Debug)]
+pub struct Named {
+    pub name: Name,
+    pub shown: Shown,
+}
+
+/// A typed program: its main procedure, whose variables and constants are of scalar subtypes.
 #[derive(Debug)]
 pub struct Program {
     pub name: Name,
     /// Where its first word stands.
     pub at: Pos,
-    /// The names of its variables, in the order of their declarations.
-    pub variables: Vec<Name>,
+    /// Its variables and constants, in the order of their declarations.
+    pub variables: Vec<Named>,
     /// Its declarations, name by name, in their order.
     pub declarations: Vec<Statement>,
     /// Where the `begin` of its body stands.

@@ -1,9 +1,16 @@
 -- The plain data of a place in memory, and of the names of a declaration.
-use Rattle.std.specs.Prelude.{List, [], ◌∷◌, ◌++◌, map, reverse, Option, Some, None}
+use Rattle.std.specs.Prelude.{ℕ, List, [], ◌∷◌, ◌++◌, map, reverse, Option, Some, None}
 use Rattle.aud_syntax.specs.declared.tree.Ident.{Ident}
 use Rattle.aud_syntax.specs.declared.tree.Identifiers.{Identifiers}
 use Rattle.aud_check.specs.declared.names.Region as memory
 use Rattle.aud_check.specs.declared.names.Place as memory_place
+use Rattle.aud_typed.specs.declared.program.Subtype.{Subtype}
+use Rattle.aud_typed.specs.declared.program.Subtype.TheVariants.{Boolean}
+use Rattle.aud_typed.specs.declared.program.Shown.{Shown}
+use Rattle.aud_typed.specs.declared.program.Shown.TheVariants as shown
+use Rattle.aud_typed.specs.declared.program.Named.{Named}
+use Rattle.aud_check.specs.declared.names.Meaning.{Meaning}
+use Rattle.aud_check.specs.declared.names.Meaning.TheVariants as meaning
 use Rattle.aud_check.specs.Names.{Region, Place, outermost}
 
 abbrev pub plain_region : memory.Region → Region
@@ -23,3 +30,15 @@ names_in x = x.first ∷ x.others.items
 abbrev pub hidden_names : Option Identifiers → List Ident
 hidden_names None = []
 hidden_names (Some x) = names_in x
+
+-- a symbol in memory as the typed program has it
+abbrev pub shown_by : Option Subtype → Shown
+shown_by (Some Boolean) = shown.Truth
+shown_by _ = shown.Whole
+
+abbrev pub shown_in : Meaning → Shown
+shown_in (meaning.Object o) = shown_by o.subtype
+shown_in _ = shown.Whole
+
+abbrev pub named_of : List ℕ × Meaning → Named
+named_of s = record { name = s.0; shown = shown_in s.1 }

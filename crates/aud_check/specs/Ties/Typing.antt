@@ -1,13 +1,17 @@
 -- What is shown by a check of an expression or of statements in memory.
-use Rattle.std.specs.Prelude.{◌≡◌, List, Option, Result, Ok, Err}
+use Rattle.std.specs.Prelude.{◌≡◌, List, Option, option_map, Vec, Result, Ok, Err}
+use Rattle.std.specs.Global.{Global}
 use Rattle.std.specs.declared.alloc.AllocError.{AllocError}
 use Rattle.aud_syntax.specs.declared.tree.Connective as source
 use Rattle.aud_syntax.specs.declared.tree.Connective.TheVariants.{And, Or, Xor, AndThen, OrElse}
 use Rattle.aud_typed.specs.declared.program.Connective as target
 use Rattle.aud_typed.specs.declared.program.Connective.TheVariants as connective
 use Rattle.aud_typed.specs.declared.program.Logical.TheVariants as logical
+use Rattle.aud_typed.specs.declared.program.Statement as memory_statement
 use Rattle.aud_typed.specs.declared.program.Statements as sequence
+use Rattle.aud_typed.specs.Tree as tree
 use Rattle.aud_typed.specs.Ties.View.{plain_integer, plain_boolean, plain_text, plain_statement, plain_statements}
+use Rattle.aud_text.specs.declared.place.Pos.{Pos}
 use Rattle.aud_check.specs.declared.fault.Fault.{Fault}
 use Rattle.aud_check.specs.declared.typed.Typed as memory
 use Rattle.aud_check.specs.declared.typed.Typed.TheVariants.{Number, Truth, Text, Unknown}
@@ -29,8 +33,15 @@ plain_typed (Truth e) = boolean (plain_boolean e)
 plain_typed (Text t) = string (plain_text t)
 plain_typed Unknown = unknown
 
+-- the argument of an attribute, and where it begins
+abbrev pub plain_argument : Option (Pos × memory.Typed) → Option (Pos × Typed)
+plain_argument argument = option_map (λ p. (p.0, plain_typed p.1)) argument
+
 abbrev pub plain_sequence : sequence.Statements → TypedStatements
 plain_sequence ss = record { first = plain_statement ss.first; others = plain_statements ss.others.items }
+
+abbrev pub plain_items : Vec memory_statement.Statement Global → List tree.Statement
+plain_items ss = plain_statements ss.items
 
 -- the faults are noted, and this is what is left; nothing is said where memory is refused
 abbrev pub Leaves : {X Y : Type 0} → (X → Y) → Result X AllocError → Option Fault → Option Fault → List Fault → Y → Type 0

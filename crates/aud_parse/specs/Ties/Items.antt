@@ -13,13 +13,17 @@ use Rattle.aud_syntax.specs.declared.tree.Simple.{Simple}
 use Rattle.aud_syntax.specs.declared.tree.Relation.{Relation}
 use Rattle.aud_syntax.specs.declared.tree.Expression.{Expression}
 use Rattle.aud_syntax.specs.declared.tree.Name.{Name}
+use Rattle.aud_syntax.specs.declared.tree.NamePart.{NamePart}
 use Rattle.aud_syntax.specs.declared.tree.Declaration.{Declaration}
 use Rattle.aud_syntax.specs.declared.tree.Statement.{Statement}
 use Rattle.aud_syntax.specs.declared.tree.Statements.{Statements}
+use Rattle.aud_syntax.specs.declared.tree.Arm.{Arm}
 use Rattle.aud_syntax.specs.declared.tree.Body.{Body}
+use Rattle.aud_syntax.specs.declared.tree.Context.{Context}
 use Rattle.aud_syntax.specs.declared.tree.Unit as declared
-use Rattle.aud_syntax.specs.Ties.View.{plain_expression, plain_boxed, plain_expressions, plain_name, plain_primary, plain_factor, plain_multiplied, plain_term, plain_added, plain_simple, plain_relation, plain_declaration, plain_statement, plain_statements, plain_body, plain_unit}
-use Rattle.aud_parse.specs.Actions.{Item, none, cons, in_parens, an_attribute, some_args, a_name, a_primary, a_factor, a_multiplied, a_term, an_added, a_simple, a_relation, an_expression, assigned, called, some_names, a_declaration, a_statement, some_statements, a_body, a_unit}
+use Rattle.aud_syntax.specs.Ties.View.{plain_expression, plain_boxed, plain_maybe, plain_expressions, plain_part, plain_name, plain_primary, plain_factor, plain_multiplied, plain_term, plain_added, plain_simple, plain_relation, plain_declaration, plain_statement, plain_statements, plain_body, plain_context, plain_unit}
+use Rattle.aud_parse.specs.Actions.{Item, none, cons, in_parens, an_attribute, some_args, a_part, a_name, a_primary, a_factor, a_multiplied, a_term, an_added, a_simple, a_relation, an_expression, assigned, called, some_names, a_variable, a_constant, a_declaration, a_statement, some_statements, a_body, a_context, a_unit, an_arm, an_iteration}
+use Rattle.aud_syntax.specs.Plain as m
 
 abbrev pub list_item : {X : Type 0} → (X → Item) → List X → Item
 list_item f [] = none
@@ -41,11 +45,19 @@ parens_item x = in_parens x.0 (plain_expression x.1.value)
 abbrev pub attribute_item : Ident × Option (Box Expression Global) → Item
 attribute_item x = an_attribute x.0 (plain_boxed x.1)
 
-abbrev pub name_item : Name → Item
-name_item x = a_name (plain_name x)
+abbrev pub name_item : Box Name Global → Item
+name_item x = a_name (plain_name x.value)
+
+-- arguments, none where there are no parentheses
+abbrev pub args_of : List Expression → Item
+args_of [] = none
+args_of (x ∷ xs) = some_args (plain_expressions (x ∷ xs))
 
 abbrev pub args_item : Vec Expression Global → Item
-args_item v = some_args (plain_expressions v.items)
+args_item v = args_of v.items
+
+abbrev pub part_item : NamePart → Item
+part_item x = a_part (plain_part x)
 
 abbrev pub primary_item : Primary → Item
 primary_item x = a_primary (plain_primary x)
@@ -74,11 +86,19 @@ expression_item x = an_expression (plain_expression x)
 abbrev pub assigned_item : Expression → Item
 assigned_item x = assigned (plain_expression x)
 
-abbrev pub called_item : Vec Expression Global → Item
-called_item v = called (plain_expressions v.items)
+-- the value that is assigned, none where there is a call
+abbrev pub rest_item : Option Expression → Item
+rest_item None = called
+rest_item (Some e) = assigned_item e
 
 abbrev pub names_item : Identifiers → Item
 names_item x = some_names x.first x.others.items
+
+abbrev pub variable_item : Ident × Option Expression → Item
+variable_item x = a_variable x.0 (plain_maybe x.1)
+
+abbrev pub constant_item : Ident × Expression → Item
+constant_item x = a_constant x.0 (plain_expression x.1)
 
 abbrev pub declaration_item : Declaration → Item
 declaration_item x = a_declaration (plain_declaration x)
@@ -89,8 +109,30 @@ statement_item x = a_statement (plain_statement x)
 abbrev pub statements_item : Statements → Item
 statements_item x = some_statements (plain_statements x)
 
+abbrev pub boxed_statement_item : Box Statement Global → Item
+boxed_statement_item b = statement_item b.value
+
+abbrev pub boxed_statements_item : Box Statements Global → Item
+boxed_statements_item b = statements_item b.value
+
+abbrev pub arm_item : Arm → Item
+arm_item x = an_arm x.at (plain_expression x.condition) (plain_statements x.statements)
+
+abbrev pub boxed_arm_item : Box Arm Global → Item
+boxed_arm_item b = arm_item b.value
+
+abbrev pub while_item : Pos × Box Expression Global → Item
+while_item x = an_iteration x.0 (m.while (plain_expression x.1.value))
+
+-- a condition and the statements behind it
+abbrev pub guarded_items : Box Expression Global × Box Statements Global → List Item
+guarded_items x = boxed_item expression_item x.0 ∷ boxed_statements_item x.1 ∷ []
+
 abbrev pub body_item : Body → Item
 body_item x = a_body (plain_body x)
+
+abbrev pub context_item : Context → Item
+context_item x = a_context (plain_context x)
 
 abbrev pub unit_item : declared.Unit → Item
 unit_item x = a_unit (plain_unit x)

@@ -1,9 +1,9 @@
 -- What a function of the parser promises.
-use Rattle.std.specs.Prelude.{◌≡◌, ℕ, ◌+◌, ◌<◌, ◌≤◌, List, [], ◌∷◌, length, Bool, true, false, if◌then◌else◌, Option, Some, None, Result, Ok, Err, IfOk, IfSome}
+use Rattle.std.specs.Prelude.{◌≡◌, ℕ, ◌+◌, ◌<◌, ◌≤◌, List, [], ◌∷◌, ◌++◌, length, Bool, true, false, if◌then◌else◌, Option, Some, None, Result, Ok, Err, IfOk, IfSome}
 use Rattle.std.specs.Borrow.{Bor}
 use Rattle.aud_lex.specs.Element.{Element}
 use Rattle.aud_lex.specs.declared.token.Kind.{Kind}
-use Rattle.aud_parse.specs.Grammar.{Phrase, Symbol, T, P, N}
+use Rattle.aud_parse.specs.Grammar.{Word, Phrase, Symbol, T, P, W, N}
 use Rattle.aud_parse.specs.First.{next_in, firsts}
 use Rattle.aud_parse.specs.Actions.{Item, token}
 use Rattle.aud_parse.specs.Parsed.{Verdict, Wrong, Deep}
@@ -25,6 +25,12 @@ abbrev pub FailsAt : Symbol → ℕ → List Element → Fault → Type 0
 FailsAt s r ts fault.Memory = Unit {0}
 FailsAt s r ts (fault.Wrong rest) = (k : List Symbol) → Fails (s ∷ k) r ts (Wrong rest.tokens.now)
 FailsAt s r ts (fault.Deep rest) = (k : List Symbol) → Fails (s ∷ k) r ts (Deep rest.tokens.now)
+
+-- the same of several symbols
+abbrev pub FailsIn : List Symbol → ℕ → List Element → Fault → Type 0
+FailsIn s r ts fault.Memory = Unit {0}
+FailsIn s r ts (fault.Wrong rest) = (k : List Symbol) → Fails (s ++ k) r ts (Wrong rest.tokens.now)
+FailsIn s r ts (fault.Deep rest) = (k : List Symbol) → Fails (s ++ k) r ts (Deep rest.tokens.now)
 
 -- a tree is read by the symbol, or reading fails
 abbrev pub Comes : {X : Type 0} → (X → Item) → Symbol → ℕ → Rest → Result (X × Rest) Fault → Type 0
@@ -49,7 +55,28 @@ Reads f s room start result = Reading Fewer f s room start result
 abbrev pub MayRead : {X : Type 0} → (X → Item) → Symbol → ℕ → Rest → Result (X × Rest) Fault → Type 0
 MayRead f s room start result = Reading NoMore f s room start result
 
--- the same of what opens no level, with any room
+-- what the symbols read is made into a tree, with what was read before it; or reading fails
+abbrev pub Completing : {X : Type 0} → (List Item → List Item) → (X → Item) → List Symbol → ℕ → Rest → Result (X × Rest) Fault → Type 0
+Completing make f s room start (Ok p) =
+    (k : List Symbol) (ds : List Item) (v : Verdict) → Out k room p.1.tokens.now ds v → (es : List Item) × Out (s ++ k) room start.tokens.now es v × (make es ≡ f p.0 ∷ ds)
+Completing make f s room start (Err e) = FailsIn s room start.tokens.now e
+
+-- the tree, and the tokens after it
+pub record Completes {X : Type 0} (make : List Item → List Item) (f : X → Item) (s : List Symbol) (room : ℕ) (start : Rest) (result : Result (X × Rest) Fault) : Type 0 where
+  pub reads : Completing make f s room start result
+  pub shorter : IfOk result (λ p. Fewer p.1 start)
+
+-- the symbols read these items, one each; or reading fails
+abbrev pub ComesAll : {X : Type 0} → (X → List Item) → List Symbol → ℕ → Rest → Result (X × Rest) Fault → Type 0
+ComesAll f s room start (Ok p) = (k : List Symbol) (ds : List Item) (v : Verdict) → Out k room p.1.tokens.now ds v → Out (s ++ k) room start.tokens.now (f p.0 ++ ds) v
+ComesAll f s room start (Err e) = FailsIn s room start.tokens.now e
+
+-- several trees, and the tokens after them
+pub record ReadsAll {X : Type 0} (f : X → List Item) (s : List Symbol) (room : ℕ) (start : Rest) (result : Result (X × Rest) Fault) : Type 0 where
+  pub reads : ComesAll f s room start result
+  pub shorter : IfOk result (λ p. Fewer p.1 start)
+
+-- a tree is read by a symbol that opens no level, with any room
 pub record FlatReading {X : Type 0} (Left : Rest → Rest → Type 0) (f : X → Item) (s : Symbol) (start : Rest) (result : Result (X × Rest) Fault) : Type 0 where
   pub reads : (room : ℕ) → Comes f s room start result
   pub shorter : IfOk result (λ p. Left p.1 start)
@@ -64,15 +91,23 @@ MayReadFlat f s start result = FlatReading NoMore f s start result
 abbrev pub ReadsToken : Kind → Rest → Result (Bor Element × Rest) Fault → Type 0
 ReadsToken c start result = ReadsFlat (λ t. token t.now) (P c) start result
 
--- a word is passed, or reading fails
-abbrev pub ComesBehind : Kind → Rest → Result Rest Fault → Type 0
-ComesBehind c start (Ok rest) = (room : ℕ) → Passes (T c) room start.tokens.now (λ ds. ds) room rest.tokens.now
-ComesBehind c start (Err e) = (room : ℕ) → FailsAt (T c) room start.tokens.now e
+-- the symbol is passed, of which the tree keeps nothing, or reading fails
+abbrev pub ComesBehind : Symbol → Rest → Result Rest Fault → Type 0
+ComesBehind s start (Ok rest) = (room : ℕ) → Passes s room start.tokens.now (λ ds. ds) room rest.tokens.now
+ComesBehind s start (Err e) = (room : ℕ) → FailsAt s room start.tokens.now e
+
+-- the tokens after the symbol
+pub record ReadsPast (s : Symbol) (start : Rest) (result : Result Rest Fault) : Type 0 where
+  pub reads : ComesBehind s start result
+  pub shorter : IfOk result (λ rest. Fewer rest start)
 
 -- the tokens after a word
-pub record ReadsWord (c : Kind) (start : Rest) (result : Result Rest Fault) : Type 0 where
-  pub reads : ComesBehind c start result
-  pub shorter : IfOk result (λ rest. Fewer rest start)
+abbrev pub ReadsWord : Kind → Rest → Result Rest Fault → Type 0
+ReadsWord c start result = ReadsPast (T c) start result
+
+-- the tokens after an identifier that the grammar names
+abbrev pub ReadsSpelled : Word → Rest → Result Rest Fault → Type 0
+ReadsSpelled w start result = ReadsPast (W w) start result
 
 -- the next token is of this kind, or of another
 abbrev pub NextIs : Kind → Rest → Option (Bor Element × Rest) → Type 0

@@ -1,5 +1,5 @@
 -- Small texts: the trees of some, and the tokens at which others go wrong.
-use Rattle.std.specs.Prelude.{◌≡◌, ℕ, zero, suc, ◌+◌, List, [], ◌∷◌, ◌++◌, replicate, codes, Option, Some, None, Result, Ok, Err}
+use Rattle.std.specs.Prelude.{◌≡◌, ℕ, zero, suc, ◌+◌, ◌-◌, ◌*◌, List, [], ◌∷◌, ◌++◌, replicate, codes, Option, Some, None, Result, Ok, Err}
 use Rattle.aud_text.specs.declared.place.Pos.{Pos}
 use Rattle.aud_lex.specs.Element.{Element}
 use Rattle.aud_lex.specs.Lexed.{lexed}
@@ -10,12 +10,12 @@ use Rattle.aud_syntax.specs.declared.tree.Relational.{Relational}
 use Rattle.aud_syntax.specs.declared.tree.Relational.TheVariants.{Equal, Unequal, Less, AtMost, Greater, AtLeast}
 use Rattle.aud_syntax.specs.declared.tree.Connective.{Connective}
 use Rattle.aud_syntax.specs.declared.tree.Connective.TheVariants.{And, Or, Xor, AndThen, OrElse}
-use Rattle.aud_syntax.specs.Plain.{Expression, alone, connected, Relations, no_relations, more_relations, Relation, unrelated, related, Simple, simple, added, multiplied, Primary, attribute, group, no_expression, an_expression, Declaration, object, Statement, null, assign, Body, body, Unit, unit}
+use Rattle.aud_syntax.specs.Plain.{Expression, alone, connected, Relations, no_relations, more_relations, Relation, unrelated, related, Simple, simple, added, multiplied, Primary, name, attribute, group, Name, named, part, no_expression, an_expression, Declaration, object, constant, Statement, null, assign, call, Body, body, Unit, unit, Statements, Arms, no_arms, more_arms, if_then, forever, while, loop, exit}
 use Rattle.aud_syntax.specs.Plain as m
 use Rattle.aud_parse.specs.Grammar as g
 use Rattle.aud_parse.specs.Actions.{the_unit}
 use Rattle.aud_parse.specs.Parsed.{Fault, wrong_at, deep_at, parsed, parsed_as}
-use Rattle.aud_syntax.specs.Why.Shorthand.{at, id, var_at, called, num, too_large, str, var, just, magnitude, opposite, product, multiplying, one, addeds, sum, adding, only, only_term, positive, negative, declarations, statements}
+use Rattle.aud_syntax.specs.Why.Shorthand.{at, id, var_at, called, num, too_large, str, var, just, magnitude, opposite, product, multiplying, one, addeds, sum, adding, only, only_term, positive, negative, declarations, more, statements}
 
 -- how tokens are read, where there are tokens
 abbrev pub read_by : (List Element → Result Unit Fault) → Result (List Element) Pos → Option (Result Unit Fault)
@@ -28,7 +28,7 @@ IsRead source what = read_by parsed (lexed source) ≡ Some what
 
 -- a program from the first byte on, whose name is P
 abbrev pub program : List Declaration → Body → Unit
-program ds b = unit (at 1 1) (id (codes "P") (at 1 11)) (declarations ds) b
+program ds b = unit [] (at 1 1) (id (codes "P") (at 1 11)) (declarations ds) b
 
 -- the text as declarations, statements or an expression, in the second line of a program, and a place there
 
@@ -100,8 +100,20 @@ Programs =
     × IsRead (codes "procedure P is begin null; end Other_Name;")
     (Ok (program [] (body (at 1 16) (statements (null (at 1 22)) []) (at 1 28) (Some (id (codes "OTHER_NAME") (at 1 32))))))
     × IsRead (codes "-- a comment\n  procedure P is begin null; end;")
-    (Ok (unit (at 2 3) (id (codes "P") (at 2 13)) (declarations []) (body (at 2 18) (statements (null (at 2 24)) []) (at 2 30) None)))
-    × IsRead example (Ok (unit (at 1 1) (id (codes "SUM") (at 1 11)) (declarations (example_declaration ∷ [])) example_body))
+    (Ok (unit [] (at 2 3) (id (codes "P") (at 2 13)) (declarations []) (body (at 2 18) (statements (null (at 2 24)) []) (at 2 30) None)))
+    × IsRead example (Ok (unit [] (at 1 1) (id (codes "SUM") (at 1 11)) (declarations (example_declaration ∷ [])) example_body))
+
+-- a body that does nothing, behind `procedure P is` at the beginning of a line
+abbrev pub nothing : ℕ → Body
+nothing line = body (at line 16) (statements (null (at line 22)) []) (at line 28) None
+
+-- context clauses (RM 10.1.2, 8.4)
+abbrev pub Clauses : Type 0
+Clauses =
+    IsRead (codes "with Ada.Text_IO;\nprocedure P is begin null; end;")
+    (Ok (unit (m.with_text_io (at 1 1) ∷ []) (at 2 1) (id (codes "P") (at 2 11)) (declarations []) (nothing 2)))
+    × IsRead (codes "WITH ADA.TEXT_IO; use ada . text_io;\nprocedure P is begin null; end;")
+    (Ok (unit (m.with_text_io (at 1 1) ∷ m.use_text_io (at 1 19) ∷ []) (at 2 1) (id (codes "P") (at 2 11)) (declarations []) (nothing 2)))
 
 -- declarations (RM 3.3.1)
 abbrev pub Declarations : Type 0
@@ -117,22 +129,78 @@ Declarations =
     ∷ object (id (codes "B") (col 8)) (id (codes "C") (col 11) ∷ []) (id (codes "U") (col 15)) (an_expression (negative (col 20) (one (num 1 (col 21))) []))
     ∷ object (id (codes "D") (col 24)) [] (id (codes "V") (col 28)) no_expression
     ∷ [])
+    × DeclarationsAre (codes "X : constant T := 1;")
+    (constant (id (codes "X") (col 1)) [] (id (codes "T") (col 14)) (only (num 1 (col 19))) ∷ [])
+    × DeclarationsAre (codes "A, B : constant T := 1; C : U;")
+    (constant (id (codes "A") (col 1)) (id (codes "B") (col 4) ∷ []) (id (codes "T") (col 17)) (only (num 1 (col 22)))
+    ∷ object (id (codes "C") (col 25)) [] (id (codes "U") (col 29)) no_expression
+    ∷ [])
+
+-- names, written shortly
+
+abbrev pub arguments : List Primary → m.Args
+arguments [] = m.no_args
+arguments (p ∷ ps) = m.more_args (only p) (arguments ps)
+
+abbrev pub parts : List m.NamePart → m.Parts
+parts [] = m.no_parts
+parts (x ∷ xs) = m.more_parts x (parts xs)
+
+-- an identifier of the second line, and its arguments
+abbrev pub a_part : List ℕ → ℕ → List Primary → m.NamePart
+a_part spelling n ps = part (id spelling (col n)) (arguments ps)
+
+abbrev pub the_name : m.NamePart → List m.NamePart → Name
+the_name x xs = named x (parts xs)
 
 -- statements (RM 5.1, 5.2, 6.4)
-abbrev pub Statements : Type 0
-Statements =
+abbrev pub Sequences : Type 0
+Sequences =
     StatementsAre (codes "null;")
     (null (col 1)) []
     × StatementsAre (codes "X := 1;")
     (assign (var_at (codes "X") (col 1)) (only (num 1 (col 6)))) []
     × StatementsAre (codes "Put_Line (\"x\");")
     (called (id (codes "PUT_LINE") (col 1)) (only (str (codes "x") (col 11)))) []
+    × StatementsAre (codes "Put_Line;")
+    (call (var_at (codes "PUT_LINE") (col 1))) []
+    × StatementsAre (codes "P (1, X, 2);")
+    (call (the_name (a_part (codes "P") 1 (num 1 (col 4) ∷ var (codes "X") (col 7) ∷ num 2 (col 10) ∷ [])) [])) []
+    × StatementsAre (codes "A.B := 1;")
+    (assign (the_name (a_part (codes "A") 1 []) (a_part (codes "B") 3 [] ∷ [])) (only (num 1 (col 8)))) []
+    × StatementsAre (codes "A (1) := 2;")
+    (assign (the_name (a_part (codes "A") 1 (num 1 (col 4) ∷ [])) []) (only (num 2 (col 10)))) []
+    × StatementsAre (codes "A (1).B.C (2, 3);")
+    (call (the_name (a_part (codes "A") 1 (num 1 (col 4) ∷ [])) (a_part (codes "B") 7 [] ∷ a_part (codes "C") 9 (num 2 (col 12) ∷ num 3 (col 15) ∷ []) ∷ []))) []
     × StatementsAre (codes "null; X := 1; P (X); null;")
     (null (col 1))
     (assign (var_at (codes "X") (col 7)) (only (num 1 (col 12)))
     ∷ called (id (codes "P") (col 15)) (only (var (codes "X") (col 18)))
     ∷ null (col 22)
     ∷ [])
+
+abbrev pub alone_statement : Statement → Statements
+alone_statement x = statements x []
+
+-- control flow (RM 5.3, 5.5, 5.7)
+abbrev pub ControlFlow : Type 0
+ControlFlow =
+    StatementsAre (codes "if A then null; end if;")
+    (if_then (col 1) (only (var (codes "A") (col 4))) (alone_statement (null (col 11))) no_arms m.no_statements) []
+    × StatementsAre (codes "if A then null; else null; X := 1; end if;")
+    (if_then (col 1) (only (var (codes "A") (col 4))) (alone_statement (null (col 11))) no_arms (more (null (col 22) ∷ assign (var_at (codes "X") (col 28)) (only (num 1 (col 33))) ∷ []))) []
+    × StatementsAre (codes "if A then null; elsif B then null; elsif C then null; end if; null;")
+    (if_then (col 1) (only (var (codes "A") (col 4))) (alone_statement (null (col 11))) (more_arms (col 17) (only (var (codes "B") (col 23))) (alone_statement (null (col 30))) (more_arms (col 36) (only (var (codes "C") (col 42))) (alone_statement (null (col 49))) no_arms)) m.no_statements) (null (col 63) ∷ [])
+    × StatementsAre (codes "loop exit; end loop;")
+    (loop None (col 1) forever (alone_statement (exit (col 6) None no_expression)) None (col 20)) []
+    × StatementsAre (codes "while A loop null; end loop;")
+    (loop None (col 1) (while (only (var (codes "A") (col 7)))) (alone_statement (null (col 14))) None (col 28)) []
+    × StatementsAre (codes "L : loop exit L when A; end loop L;")
+    (loop (Some (id (codes "L") (col 1))) (col 5) forever (alone_statement (exit (col 10) (Some (id (codes "L") (col 15))) (an_expression (only (var (codes "A") (col 22)))))) (Some (id (codes "L") (col 34))) (col 35)) []
+    × StatementsAre (codes "L : while A loop exit when B; exit L; end loop;")
+    (loop (Some (id (codes "L") (col 1))) (col 5) (while (only (var (codes "A") (col 11)))) (statements (exit (col 18) None (an_expression (only (var (codes "B") (col 28))))) (exit (col 31) (Some (id (codes "L") (col 36))) no_expression ∷ [])) None (col 47)) []
+    × StatementsAre (codes "if A then loop if B then exit; end if; end loop; end if;")
+    (if_then (col 1) (only (var (codes "A") (col 4))) (alone_statement (loop None (col 11) forever (alone_statement (if_then (col 16) (only (var (codes "B") (col 19))) (alone_statement (exit (col 26) None no_expression)) no_arms m.no_statements)) None (col 48))) no_arms m.no_statements) []
 
 -- primaries (RM 2.3(5), 2.4.1(4, 5), 2.6(4, 5), 4.1, 4.1.4, 4.4(7))
 abbrev pub Primaries : Type 0
@@ -146,6 +214,10 @@ Primaries =
     × ExpressionIs (codes "Some_Name") (only (var (codes "SOME_NAME") (col 1)))
     × ExpressionIs (codes "X'Image") (only (attribute (var_at (codes "X") (col 1)) (id (codes "IMAGE") (col 3)) no_expression))
     × ExpressionIs (codes "T'Image (X)") (only (attribute (var_at (codes "T") (col 1)) (id (codes "IMAGE") (col 3)) (an_expression (only (var (codes "X") (col 10))))))
+    × ExpressionIs (codes "A.B") (only (name (the_name (a_part (codes "A") 1 []) (a_part (codes "B") 3 [] ∷ []))))
+    × ExpressionIs (codes "F (1, X)") (only (name (the_name (a_part (codes "F") 1 (num 1 (col 4) ∷ var (codes "X") (col 7) ∷ [])) [])))
+    × ExpressionIs (codes "F (G (1))") (only (name (the_name (a_part (codes "F") 1 (name (the_name (a_part (codes "G") 4 (num 1 (col 7) ∷ [])) []) ∷ [])) [])))
+    × ExpressionIs (codes "A (1).B'Image") (only (attribute (the_name (a_part (codes "A") 1 (num 1 (col 4) ∷ [])) (a_part (codes "B") 7 [] ∷ [])) (id (codes "IMAGE") (col 9)) no_expression))
     × ExpressionIs (codes "(X)") (only (group (col 1) (only (var (codes "X") (col 2)))))
     × ExpressionIs (codes "((1))") (only (group (col 1) (only (group (col 2) (only (num 1 (col 3)))))))
 
@@ -252,7 +324,7 @@ Logic =
     (joined AndThen (comparing Equal (var (codes "X") (col 1)) (num 1 (col 5))) (related Greater (divided (var (codes "Y") (col 16)) (var (codes "X") (col 20))) (operand (num 2 (col 24)))) [])
 
 abbrev pub TreesOfTexts : Type 0
-TreesOfTexts = Programs × Declarations × Statements × Primaries × Operators × Comparisons × Logic
+TreesOfTexts = Programs × Clauses × Declarations × Sequences × ControlFlow × Primaries × Operators × Comparisons × Logic
 
 -- programs that go wrong; the number of tokens stands for their end
 abbrev pub WrongPrograms : Type 0
@@ -272,13 +344,28 @@ WrongPrograms =
     × IsRead (codes "procedure P is begin null; end P.Q;") (Err (wrong_at 8))
     × IsRead (codes "procedure P is begin null; end; null;") (Err (wrong_at 8))
 
+abbrev pub WrongClauses : Type 0
+WrongClauses =
+    IsRead (codes "with") (Err (wrong_at 1))
+    × IsRead (codes "with X;") (Err (wrong_at 1))
+    × IsRead (codes "with Ada;") (Err (wrong_at 2))
+    × IsRead (codes "with Ada.Calendar;") (Err (wrong_at 3))
+    × IsRead (codes "with Ada.Text_IO, Ada.Text_IO;") (Err (wrong_at 4))
+    × IsRead (codes "with Ada.Text_IO.Editing;") (Err (wrong_at 4))
+    × IsRead (codes "with use Ada.Text_IO;") (Err (wrong_at 1))
+    × IsRead (codes "use Ada.Text_IO;") (Err (wrong_at 5))
+    × IsRead (codes "procedure P is begin null; end; use Ada.Text_IO;") (Err (wrong_at 8))
+
 abbrev pub WrongDeclarations : Type 0
 WrongDeclarations =
     DeclarationsStop (codes "null;") 0
     × DeclarationsStop (codes "X") 1
     × DeclarationsStop (codes "X Y : T;") 1
     × DeclarationsStop (codes "X, : T;") 2
-    × DeclarationsStop (codes "X : constant T := 1;") 2
+    × DeclarationsStop (codes "X : constant T;") 4
+    × DeclarationsStop (codes "X : constant := 1;") 3
+    × DeclarationsStop (codes "constant X : T := 1;") 0
+    × DeclarationsStop (codes "X : T constant := 1;") 3
     × DeclarationsStop (codes "X : T") 3
     × DeclarationsStop (codes "X : T = 1;") 3
     × DeclarationsStop (codes "X : T :=;") 4
@@ -289,16 +376,46 @@ abbrev pub WrongStatements : Type 0
 WrongStatements =
     StatementsStop (codes "") 0
     × StatementsStop (codes ";") 0
-    × StatementsStop (codes "if") 0
+    × StatementsStop (codes "if") 1
     × StatementsStop (codes "null") 1
-    × StatementsStop (codes "Put_Line;") 1
     × StatementsStop (codes "X = 1;") 1
     × StatementsStop (codes "X := 1") 3
     × StatementsStop (codes "X := ;") 2
     × StatementsStop (codes "Put_Line ();") 2
-    × StatementsStop (codes "Put_Line (\"a\", \"b\");") 3
+    × StatementsStop (codes "Put_Line (\"a\", );") 4
+    × StatementsStop (codes "Put_Line (\"a\" \"b\");") 3
+    × StatementsStop (codes "A (1) (2) := 3;") 4
+    × StatementsStop (codes "A. := 1;") 2
+    × StatementsStop (codes "A.B") 3
+    × StatementsStop (codes "1 := 2;") 0
     × StatementsStop (codes "Put_Line (\"a\") & \"b\";") 4
-    × StatementsStop (codes "null; X : T;") 3
+    × StatementsStop (codes "null; X : T;") 4
+
+abbrev pub WrongControlFlow : Type 0
+WrongControlFlow =
+    StatementsStop (codes "if A") 2
+    × StatementsStop (codes "if A then") 3
+    × StatementsStop (codes "if A null;") 2
+    × StatementsStop (codes "if A then end if;") 3
+    × StatementsStop (codes "if A then null; end;") 6
+    × StatementsStop (codes "if A and then then") 4
+    × StatementsStop (codes "if A then null; else end if;") 6
+    × StatementsStop (codes "if A then null; else null; elsif B then null; end if;") 8
+    × StatementsStop (codes "else null;") 0
+    × StatementsStop (codes "elsif A then null;") 0
+    × StatementsStop (codes "while A null;") 2
+    × StatementsStop (codes "while loop null; end loop;") 1
+    × StatementsStop (codes "loop end loop;") 1
+    × StatementsStop (codes "loop null; end;") 4
+    × StatementsStop (codes "loop null; end loop 1;") 5
+    × StatementsStop (codes "for I in 1 .. 2 loop null; end loop;") 0
+    × StatementsStop (codes "L : null;") 2
+    × StatementsStop (codes "L : M : loop null; end loop;") 2
+    × StatementsStop (codes "L.M : loop null; end loop;") 3
+    × StatementsStop (codes "exit 1;") 1
+    × StatementsStop (codes "exit L M;") 2
+    × StatementsStop (codes "exit when;") 2
+    × StatementsStop (codes "exit when A L;") 3
 
 abbrev pub WrongExpressions : Type 0
 WrongExpressions =
@@ -318,8 +435,13 @@ WrongExpressions =
     × ExpressionStops (codes "1 = 2 = 3") 3
     × ExpressionStops (codes "1 < 2 and 3 < 4 < 5") 7
     × ExpressionStops (codes "not A = not") 4
-    × ExpressionStops (codes "A.B") 1
-    × ExpressionStops (codes "A (1)") 1
+    × ExpressionStops (codes "A.") 2
+    × ExpressionStops (codes "A.1") 2
+    × ExpressionStops (codes "A ()") 2
+    × ExpressionStops (codes "A (1,)") 4
+    × ExpressionStops (codes "A (1 2)") 3
+    × ExpressionStops (codes "A (1) (2)") 4
+    × ExpressionStops (codes "A'B.C") 3
     × ExpressionStops (codes "1'Image") 1
     × ExpressionStops (codes "X'") 2
     × ExpressionStops (codes "X'Image'Image") 3
@@ -352,7 +474,7 @@ WrongLogic =
     × ExpressionStops (codes "A or else B or C") 5
 
 abbrev pub FaultsOfTexts : Type 0
-FaultsOfTexts = WrongPrograms × WrongDeclarations × WrongStatements × WrongExpressions × WrongLogic
+FaultsOfTexts = WrongPrograms × WrongClauses × WrongDeclarations × WrongStatements × WrongControlFlow × WrongExpressions × WrongLogic
 
 -- the same with limit levels, fewer than in the language
 abbrev pub IsReadWithin : ℕ → List ℕ → Result Unit Fault → Type 0
@@ -376,9 +498,19 @@ FewLevels =
     × IsReadWithin 1 (with_statements (codes "X := (1);")) (Err (deep_at (4 + 2)))
     × IsReadWithin 1 (with_statements (codes "Put_Line (1);")) (Err (deep_at (4 + 1)))
     × IsReadWithin 1 (with_statements (codes "X := Y'Image (1);")) (Err (deep_at (4 + 5)))
+    × IsReadWithin 1 (with_statements (codes "X := Y (1);")) (Err (deep_at (4 + 3)))
+    × IsReadWithin 1 (with_statements (codes "X.Y (1) := 2;")) (Err (deep_at (4 + 3)))
+    × IsReadWithin 2 (with_statements (codes "X (1).Y (2, Z (3)) := 4;")) (Err (deep_at (4 + 10)))
     × IsReadWithin 2 (with_statements (codes "X := (1) + (2 + (3));")) (Err (deep_at (4 + 9)))
     × IsReadWithin 1 (with_statements (codes "X := A < (1) and B;")) (Err (deep_at (4 + 4)))
     × IsReadWithin 1 (with_statements (codes "X := A and (B);")) (Err (deep_at (4 + 4)))
+    × IsReadWithin 1 (with_statements (codes "if A then null; end if;")) (Err (deep_at (4 + 3)))
+    × IsReadWithin 1 (with_statements (codes "if (A) then null; end if;")) (Err (deep_at (4 + 1)))
+    × IsReadWithin 2 (with_statements (codes "if A then null; elsif B then loop null; end loop; end if;")) (Err (deep_at (4 + 9)))
+    × IsReadWithin 2 (with_statements (codes "if A then null; else loop null; end loop; end if;")) (Err (deep_at (4 + 7)))
+    × IsReadWithin 2 (with_statements (codes "L : while A loop exit when (B); end loop;")) (Err (deep_at (4 + 7)))
+    × IsReadWithin 1 (with_statements (codes "loop end loop;")) (Err (wrong_at (4 + 1)))
+    × IsReadWithin 2 (with_statements (codes "if A then null; else null; end if; loop exit; end loop; null")) (Err (wrong_at (4 + 18)))
     × IsReadWithin 1 (with_statements (codes "X := );")) (Err (wrong_at (4 + 2)))
     × IsReadWithin 1 (with_statements (codes "X := 1 2 (3);")) (Err (wrong_at (4 + 3)))
     × IsReadWithin 1 (with_statements (codes "X := (1 2);")) (Err (deep_at (4 + 2)))
@@ -393,9 +525,26 @@ nested (suc deep) n = only (group (col n) (nested deep (n + 1)))
 abbrev pub in_parentheses : ℕ → List ℕ
 in_parentheses deep = replicate deep 40 ++ codes "1" ++ replicate deep 41
 
+-- this number of loops in one another, and their trees, of which the first begins at column n and ends at column e
+
+abbrev pub repeated : ℕ → List ℕ → List ℕ
+repeated zero text = []
+repeated (suc n) text = text ++ repeated n text
+
+abbrev pub in_loops : ℕ → List ℕ
+in_loops deep = repeated deep (codes "loop ") ++ codes "null;" ++ repeated deep (codes "end loop;")
+
+abbrev pub looped : ℕ → ℕ → ℕ → Statement
+looped zero n e = null (col n)
+looped (suc deep) n e = loop None (col n) forever (alone_statement (looped deep (n + 5) (e - 9))) None (col e)
+
 -- the statements are one of the 200 levels
 abbrev pub AllLevels : Type 0
-AllLevels = ExpressionIs (in_parentheses 199) (nested 199 1) × IsRead (with_expression (in_parentheses 200)) (Err (deep_at (6 + 199)))
+AllLevels =
+    ExpressionIs (in_parentheses 199) (nested 199 1)
+    × IsRead (with_expression (in_parentheses 200)) (Err (deep_at (6 + 199)))
+    × StatementsAre (in_loops 199) (looped 199 1 (14 * 199 + 5)) []
+    × IsRead (with_statements (in_loops 200)) (Err (deep_at (4 + 200)))
 
 abbrev pub LevelsOfTexts : Type 0
 LevelsOfTexts = FewLevels × AllLevels

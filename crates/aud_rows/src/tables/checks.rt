@@ -380,18 +380,3 @@ pub const SEVERAL: [Case; 4] = [
         written: b"- E33 1:54 wrong type\n",
     },
 ];
-
-/// What the language does not have so far.
-pub const LATER: [Case; 1] = [Case {
-    name: "no Put, no Natural, no variables of type Boolean, no attribute but Image",
-    sent: b"LOAD 1\n\
-            procedure M is begin Put (\"a\"); end M;\n\
-            LOAD 1\n\
-            procedure M is X : Natural; begin null; end M;\n\
-            LOAD 1\n\
-            procedure M is X : Boolean; begin null; end M;\n\
-            LOAD 1\n\
-            procedure M is X : Integer; begin X := Integer'First; end M;\n",
-    written: b"- E30 1:22 name not declared\n- E30 1:20 name not declared\n\
-            - E32 1:20 wrong kind of name\n- E32 1:48 wrong kind of name\n",
-}];

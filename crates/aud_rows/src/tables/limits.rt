@@ -1,11 +1,4 @@
 // Sessions at the limits and just past them, which are too long to be written out.
-//
-// Two limits are out of reach of requests, and are left to tests/benches.rt:
-// - The 1,000,000 steps that a LOAD gives. There are no loops so far: a program takes one step for each name that it
-//   declares, one for each statement, and two at its end. A declared name takes two bytes of source at least, a statement
-//   five, so the 32,768 bytes of a source come to fewer than 17,000 steps, and each LOAD begins to count anew.
-// - The 65,536 bytes of output. A byte of a string puts out a byte, and the eight bytes `X'Image&` put out eleven at most,
-//   so the 32,768 bytes of a source put out fewer than 46,000, and each LOAD begins with no output.
 
 use crate::case::{LongCase, Piece};
 use std::alloc::{AllocError, Global};
@@ -381,6 +374,53 @@ pub const SIZES: [LongCase; 6] = [
         written: &[Piece::Text(
             b"- E22 source too long\n- E13 journal full\n+ 1\nloaded M\n- E13 journal full\n+ 0\n",
         )],
+    },
+];
+
+/// Programs that do not end: 1,000,000 steps of a LOAD, and 65,536 bytes of output.
+pub const LOOPS: [LongCase; 3] = [
+    LongCase {
+        name: "an unending loop takes the steps of a LOAD",
+        sent: &[
+            Piece::Text(b"LOAD 1\nprocedure M is begin loop null; end loop; end M;\n"),
+            Piece::Many(11, b"RUN 100000\n"),
+            Piece::Text(b"RUN 1\nOUTPUT\nLOAD 1\nprocedure M is begin null; end M;\nRUN 9\n"),
+        ],
+        written: &[
+            Piece::Text(b"+ 1\nloaded M\n"),
+            Piece::Many(10, b"+ 1\nran 100000 more\n"),
+            Piece::Many(2, b"- E17 step budget\n"),
+            Piece::Text(b"+ 1\nbytes 0\n+ 1\nloaded M\n+ 1\nran 3 ended\n"),
+        ],
+    },
+    LongCase {
+        name: "the last steps of a LOAD are fewer than a RUN asks",
+        sent: &[
+            Piece::Text(b"LOAD 1\nprocedure M is begin while True loop null; end loop; end M;\n"),
+            Piece::Many(9, b"RUN 100000\n"),
+            Piece::Text(b"RUN 99998\nRUN 1\nRUN 100000\nRUN 1\n"),
+        ],
+        written: &[
+            Piece::Text(b"+ 1\nloaded M\n"),
+            Piece::Many(9, b"+ 1\nran 100000 more\n"),
+            Piece::Text(
+                b"+ 1\nran 99998 more\n+ 1\nran 1 more\n+ 1\nran 1 more\n- E17 step budget\n",
+            ),
+        ],
+    },
+    LongCase {
+        name: "an unending loop fills the output, and stops there",
+        sent: &[Piece::Text(
+            b"LOAD 1\nprocedure M is begin loop Put (\"0123456789\"); end loop; end M;\nRUN 6000\nRUN 6000\nRUN 1\nOUTPUT\n",
+        )],
+        written: &[
+            Piece::Text(
+                b"+ 1\nloaded M\n+ 1\nran 6000 more\n+ 1\nran 554 output full\n+ 1\nran 0 output full\n",
+            ),
+            Piece::Text(b"+ 2\nbytes 65536\n"),
+            Piece::Many(6_553, b"0123456789"),
+            Piece::Text(b"012345\n"),
+        ],
     },
 ];
 

@@ -2,7 +2,7 @@
 
 use crate::case::Case;
 
-pub const ROWS: [Case; 13] = [
+pub const ROWS: [Case; 14] = [
     Case {
         name: "a null statement, complete and close",
         sent: b"LOAD 1\n\
@@ -114,5 +114,14 @@ pub const ROWS: [Case; 13] = [
         name: "a QUIT without its line feed",
         sent: b"QUIT",
         written: b"",
+    },
+    Case {
+        name: "types, expressions and control flow together",
+        sent: b"LOAD 1\n\
+            procedure M is B : Boolean := False; I : Natural := 0; begin while I < 3 loop I := I + 1; exit when B or else I = 2; end loop; if I = 2 and then not B then Put (\"two\"); elsif I / 0 = 1 then Put (\"no\"); else Put (\"other\"); end if; New_Line; Put_Line (B'Image & Boolean'Image (I > 1)); end M;\n\
+            RUN 8\n\
+            RUN 100\n\
+            OUTPUT\n",
+        written: b"+ 1\nloaded M\n+ 1\nran 8 more\n+ 1\nran 6 ended\n+ 3\nbytes 14\ntwo\nFALSETRUE\n",
     },
 ];

@@ -114,7 +114,7 @@ pub const UNIT: [Case; 13] = [
         name: "a declaration behind begin",
         sent: b"LOAD 1\n\
             procedure M is begin null; X : Integer; end M;\n",
-        written: b"- E21 1:30 syntax\n",
+        written: b"- E21 1:32 syntax\n",
     },
     Case {
         name: "the first of several syntax faults",
@@ -189,18 +189,14 @@ pub const DECLARATIONS: [Case; 5] = [
 /// Statements and expressions.
 pub const STATEMENTS: [Case; 9] = [
     Case {
-        name: "a name alone is no statement",
+        name: "what stands behind the name of a target or a loop",
         sent: b"LOAD 1\n\
-            procedure M is begin X; end M;\n\
-            LOAD 1\n\
-            procedure M is begin Put_Line; end M;\n\
-            LOAD 1\n\
             procedure M is begin X = 1; end M;\n\
             LOAD 1\n\
             procedure M is begin X : = 1; end M;\n\
             LOAD 1\n\
             procedure M is begin 1 := X; end M;\n",
-        written: b"- E21 1:23 syntax\n- E21 1:30 syntax\n- E21 1:24 syntax\n- E21 1:24 syntax\n- E21 1:22 syntax\n",
+        written: b"- E21 1:24 syntax\n- E21 1:26 syntax\n- E21 1:22 syntax\n",
     },
     Case {
         name: "the argument of a call",
@@ -363,17 +359,11 @@ pub const LOGIC: [Case; 4] = [
 ];
 
 /// What the language does not have so far.
-pub const LATER: [Case; 7] = [
+pub const LATER: [Case; 5] = [
     Case {
-        name: "no statement but null, assignment and call",
+        name: "no for loops, blocks, cases, and statements of tasks and procedures",
         sent: b"LOAD 1\n\
-            procedure M is begin if X then null; end if; end M;\n\
-            LOAD 1\n\
             procedure M is begin for I in 1 .. 2 loop null; end loop; end M;\n\
-            LOAD 1\n\
-            procedure M is begin while X loop null; end loop; end M;\n\
-            LOAD 1\n\
-            procedure M is begin loop null; end loop; end M;\n\
             LOAD 1\n\
             procedure M is begin begin null; end; end M;\n\
             LOAD 1\n\
@@ -386,11 +376,11 @@ pub const LATER: [Case; 7] = [
             procedure M is begin delay 1.0; end M;\n\
             LOAD 1\n\
             procedure M is begin case X is end case; end M;\n",
-        written: b"- E21 1:22 syntax\n- E21 1:22 syntax\n- E21 1:22 syntax\n- E21 1:22 syntax\n- E21 1:22 syntax\n\
-            - E21 1:22 syntax\n- E21 1:22 syntax\n- E21 1:22 syntax\n- E21 1:22 syntax\n- E21 1:22 syntax\n",
+        written: b"- E21 1:22 syntax\n- E21 1:22 syntax\n- E21 1:22 syntax\n- E21 1:22 syntax\n\
+            - E21 1:22 syntax\n- E21 1:22 syntax\n- E21 1:22 syntax\n",
     },
     Case {
-        name: "no declaration but of variables",
+        name: "no declaration but of variables and constants",
         sent: b"LOAD 1\n\
             procedure M is task T; begin null; end M;\n\
             LOAD 1\n\
@@ -398,46 +388,21 @@ pub const LATER: [Case; 7] = [
             LOAD 1\n\
             procedure M is type T is new Integer; begin null; end M;\n\
             LOAD 1\n\
-            procedure M is X : constant Integer := 1; begin null; end M;\n\
-            LOAD 1\n\
             procedure M is X : array (1 .. 2) of Integer; begin null; end M;\n\
             LOAD 1\n\
             procedure M is X : exception; begin null; end M;\n\
             LOAD 1\n\
             procedure M is X : Integer range 1 .. 2; begin null; end M;\n",
-        written: b"- E21 1:16 syntax\n- E21 1:16 syntax\n- E21 1:16 syntax\n- E21 1:20 syntax\n\
+        written: b"- E21 1:16 syntax\n- E21 1:16 syntax\n- E21 1:16 syntax\n\
             - E21 1:20 syntax\n- E21 1:20 syntax\n- E21 1:28 syntax\n",
     },
     Case {
-        name: "no context clauses, formal parameters and handlers",
-        sent: b"LOAD 2\n\
-            with Ada.Text_IO; use Ada.Text_IO;\n\
-            procedure M is begin null; end M;\n\
-            LOAD 1\n\
+        name: "no formal parameters and handlers",
+        sent: b"LOAD 1\n\
             procedure M (X : Integer) is begin null; end M;\n\
             LOAD 1\n\
             procedure M is begin null; exception when others => null; end M;\n",
-        written: b"- E21 1:1 syntax\n- E21 1:13 syntax\n- E21 1:28 syntax\n",
-    },
-    Case {
-        name: "no call without an argument or with two",
-        sent: b"LOAD 1\n\
-            procedure M is begin M; end M;\n\
-            LOAD 1\n\
-            procedure M is begin Put_Line (\"a\", \"b\"); end M;\n",
-        written: b"- E21 1:23 syntax\n- E21 1:35 syntax\n",
-    },
-    Case {
-        name: "no names with a point or an index",
-        sent: b"LOAD 1\n\
-            procedure M is begin Ada.Text_IO.Put_Line (\"a\"); end M;\n\
-            LOAD 1\n\
-            procedure M is begin X := M.X; end M;\n\
-            LOAD 1\n\
-            procedure M is begin X (1) := 2; end M;\n\
-            LOAD 1\n\
-            procedure M is begin X := Y (1); end M;\n",
-        written: b"- E21 1:25 syntax\n- E21 1:28 syntax\n- E21 1:28 syntax\n- E21 1:29 syntax\n",
+        written: b"- E21 1:13 syntax\n- E21 1:28 syntax\n",
     },
     Case {
         name: "no powers and membership tests",
@@ -448,7 +413,7 @@ pub const LATER: [Case; 7] = [
         written: b"- E21 1:29 syntax\n- E21 1:29 syntax\n",
     },
     Case {
-        name: "no numbers with a point, and no labels",
+        name: "no numbers with a point, and no labels but those of loops",
         sent: b"LOAD 1\n\
             procedure M is begin X := 1.5; end M;\n\
             LOAD 1\n\
@@ -459,7 +424,7 @@ pub const LATER: [Case; 7] = [
             procedure M is begin <<L>> null; end M;\n\
             LOAD 1\n\
             procedure M is begin L : null; end M;\n",
-        written: b"- E21 1:27 syntax\n- E21 1:31 syntax\n- E21 1:32 syntax\n- E21 1:22 syntax\n- E21 1:24 syntax\n",
+        written: b"- E21 1:27 syntax\n- E21 1:31 syntax\n- E21 1:32 syntax\n- E21 1:22 syntax\n- E21 1:26 syntax\n",
     },
 ];
 

@@ -1,7 +1,10 @@
 // The sessions of the tables, sent to a server in memory.
 
 use crate::case::{Case, LongCase, spelled};
-use crate::tables::{checks, lexis, limits, lines, logic, rows, runs, syntax, values};
+use crate::tables::{
+    checks, constructs, control, lexis, limits, lines, logic, rows, runs, subtypes, syntax, types,
+    values,
+};
 use aud_server::solo::{SoloFault, solo};
 use std::alloc::Global;
 use std::io;
@@ -77,17 +80,19 @@ fn reads_tokens(rt: HostRuntime) -> Result<(), SoloFault> {
 
 #[test]
 fn finds_syntax_faults(rt: HostRuntime) -> Result<(), SoloFault> {
-    meets(&rt, rt.alloc(), &syntax::TABLES)
+    meets(&rt, rt.alloc(), &syntax::TABLES)?;
+    meets(&rt, rt.alloc(), &[&constructs::SYNTAX])
 }
 
 #[test]
 fn finds_broken_rules(rt: HostRuntime) -> Result<(), SoloFault> {
-    let tables: [&[Case]; 5] = [
+    let tables: [&[Case]; 6] = [
         &checks::NAMES,
         &checks::TYPES,
         &checks::SEVERAL,
-        &checks::LATER,
         &logic::CHECKS,
+        &types::CHECKS,
+        &constructs::CHECKS,
     ];
     meets(&rt, rt.alloc(), &tables)
 }
@@ -99,6 +104,23 @@ fn evaluates(rt: HostRuntime) -> Result<(), SoloFault> {
         &values::EXCEPTIONS,
         &logic::TRUTHS,
         &logic::RAISED,
+    ];
+    meets(&rt, rt.alloc(), &tables)
+}
+
+#[test]
+fn keeps_values_in_their_ranges(rt: HostRuntime) -> Result<(), SoloFault> {
+    let tables: [&[Case]; 3] = [&subtypes::VALUES, &subtypes::RANGES, &subtypes::SIGNS];
+    meets(&rt, rt.alloc(), &tables)
+}
+
+#[test]
+fn decides_and_repeats(rt: HostRuntime) -> Result<(), SoloFault> {
+    let tables: [&[Case]; 4] = [
+        &control::IFS,
+        &control::LOOPS,
+        &control::PROGRAMS,
+        &control::OUTPUTS,
     ];
     meets(&rt, rt.alloc(), &tables)
 }
@@ -137,6 +159,11 @@ fn counts_requests(rt: HostRuntime) -> Result<(), SoloFault> {
 #[test]
 fn measures_requests(rt: HostRuntime) -> Result<(), SoloFault> {
     meets_long(&rt, rt.alloc(), &limits::SIZES)
+}
+
+#[test]
+fn stops_what_does_not_end(rt: HostRuntime) -> Result<(), SoloFault> {
+    meets_long(&rt, rt.alloc(), &limits::LOOPS)
 }
 
 #[test]

@@ -46,3 +46,24 @@ fn no_declarations_and_no_name_at_the_end(rt: HostRuntime) -> Result<(), Fail> {
     let text = b"procedure P is\nbegin\nQ := + not A rem B / 2147483647 ;\nend ;\n";
     expect_canonical(&rt, rt.alloc(), source, text)
 }
+
+#[test]
+fn relations_and_logical_expressions(rt: HostRuntime) -> Result<(), Fail> {
+    let source =
+        b"procedure P is B:constant Boolean:=1<2 AND not(A/=B)and C>=-D;begin X:=A OR\nELSE(B XOR C)or else 1=2;end;";
+    let text = b"procedure P is\nB : constant BOOLEAN := 1 < 2 and not ( A /= B ) and C >= - D ;\n\
+        begin\nX := A or else ( B xor C ) or else 1 = 2 ;\nend ;\n";
+    expect_canonical(&rt, rt.alloc(), source, text)
+}
+
+#[test]
+fn control_flow_clauses_and_names_with_parts(rt: HostRuntime) -> Result<(), Fail> {
+    let source = b"WITH ada.text_io;use Ada . Text_IO;procedure P is begin\n\
+        L:while X<3 loop if A then exit l when B;elsif C then Ada.Text_IO.put(\"x\");null;else loop exit;end loop;end if;end loop L;\n\
+        T(1,2).U:=V(3).W'Image;New_Line;end;";
+    let text = b"with ADA . TEXT_IO ;\nuse ADA . TEXT_IO ;\nprocedure P is\nbegin\n\
+        L : while X < 3 loop\nif A then\nexit L when B ;\nelsif C then\nADA . TEXT_IO . PUT ( \"x\" ) ;\nnull ;\n\
+        else\nloop\nexit ;\nend loop ;\nend if ;\nend loop L ;\n\
+        T ( 1 , 2 ) . U := V ( 3 ) . W ' IMAGE ;\nNEW_LINE ;\nend ;\n";
+    expect_canonical(&rt, rt.alloc(), source, text)
+}

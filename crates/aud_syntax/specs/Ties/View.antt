@@ -1,10 +1,11 @@
 -- The plain tree of a tree in memory.
-use Rattle.std.specs.Prelude.{List, [], ◌∷◌, Option, Some, None, Box}
+use Rattle.std.specs.Prelude.{List, [], ◌∷◌, map, Option, Some, None, Box}
 use Rattle.std.specs.Global.{Global}
 use Rattle.aud_syntax.specs.declared.tree.Expression.{Expression, Alone, Connected'}
 use Rattle.aud_syntax.specs.declared.tree.Chain.{Chain, Row_of-Relation, end_of-Relation, more_of-Relation}
 use Rattle.aud_syntax.specs.declared.tree.Relation.{Relation, Unrelated, Related'}
 use Rattle.aud_syntax.specs.declared.tree.Comparison.{Comparison, Comparison'}
+use Rattle.aud_syntax.specs.declared.tree.Name.{Row_of-NamePart, end_of-NamePart, more_of-NamePart}
 use Rattle.aud_syntax.specs.declared.tree.Name as name
 use Rattle.aud_syntax.specs.declared.tree.NamePart.{NamePart, Row_of-Expression, end_of-Expression, more_of-Expression}
 use Rattle.aud_syntax.specs.declared.tree.Simple.{Simple, Simple', Row_of-Added, end_of-Added, more_of-Added}
@@ -15,9 +16,15 @@ use Rattle.aud_syntax.specs.declared.tree.Factor.{Factor}
 use Rattle.aud_syntax.specs.declared.tree.Primary.{Primary, Integer, Text, Name', Attribute', Group', Held-Primary-Attribute-2, None', Some'}
 use Rattle.aud_syntax.specs.declared.tree.Declaration.{Declaration}
 use Rattle.aud_syntax.specs.declared.tree.Declaration.TheVariants as declaration
-use Rattle.aud_syntax.specs.declared.tree.Statement.{Statement}
+use Rattle.aud_syntax.specs.declared.tree.Statement.{Statement, Null, Assign, Call, If', Loop', Exit, Row_of-Statement, end_of-Statement, more_of-Statement}
+use Rattle.aud_syntax.specs.declared.tree.IfStatement.{IfStatement, IfStatement', out-IfStatement, Row_of-Arm, end_of-Arm, more_of-Arm}
+use Rattle.aud_syntax.specs.declared.tree.Arm.{Arm}
+use Rattle.aud_syntax.specs.declared.tree.LoopStatement.{LoopStatement}
+use Rattle.aud_syntax.specs.declared.tree.Iteration.{Iteration}
+use Rattle.aud_syntax.specs.declared.tree.Iteration.TheVariants as iteration
 use Rattle.aud_syntax.specs.declared.tree.Statements.{Statements}
-use Rattle.aud_syntax.specs.declared.tree.Statement.TheVariants as statement
+use Rattle.aud_syntax.specs.declared.tree.Context.{Context}
+use Rattle.aud_syntax.specs.declared.tree.Context.TheVariants as context
 use Rattle.aud_syntax.specs.declared.tree.Body.{Body}
 use Rattle.aud_syntax.specs.declared.tree.Unit as declared
 use Rattle.aud_syntax.specs.Plain as m
@@ -59,13 +66,20 @@ abbrev mutual
   pub plain_primary : Primary → m.Primary
   plain_primary (Integer x) = m.integer x
   plain_primary (Text x) = m.text x
-  plain_primary (Name' _ i _ xs) = m.name (m.named (m.part i (plain_args xs)) m.no_parts)
-  plain_primary (Attribute' _ i _ xs y e) = m.attribute (m.named (m.part i (plain_args xs)) m.no_parts) y (plain_argument e)
+  plain_primary (Name' _ x) = m.name (plain_name x)
+  plain_primary (Attribute' _ x y e) = m.attribute (plain_name x) y (plain_argument e)
   plain_primary (Group' at _ e) = m.group at (plain_expression e)
 
   pub plain_argument : Held-Primary-Attribute-2 → m.MaybeExpression
   plain_argument None' = m.no_expression
   plain_argument (Some' _ e) = m.an_expression (plain_expression e)
+
+  pub plain_name : name.Name → m.Name
+  plain_name (name.Name' i _ xs _ others) = m.named (m.part i (plain_args xs)) (plain_parts others)
+
+  pub plain_parts : {n : _} → Row_of-NamePart n → m.Parts
+  plain_parts end_of-NamePart = m.no_parts
+  plain_parts (more_of-NamePart i _ xs others) = m.more_parts (m.part i (plain_args xs)) (plain_parts others)
 
   pub plain_args : {n : _} → Row_of-Expression n → m.Args
   plain_args end_of-Expression = m.no_args
@@ -91,8 +105,9 @@ plain_expressions (x ∷ xs) = m.more_args (plain_expression x) (plain_expressio
 abbrev pub plain_part : NamePart → m.NamePart
 plain_part x = m.part x.ident (plain_expressions x.args.items)
 
-abbrev pub plain_name : name.Name → m.Name
-plain_name x = m.named (plain_part x.first) m.no_parts
+abbrev pub part_list : List NamePart → m.Parts
+part_list [] = m.no_parts
+part_list (x ∷ xs) = m.more_parts (plain_part x) (part_list xs)
 
 abbrev pub plain_maybe : Option Expression → m.MaybeExpression
 plain_maybe None = m.no_expression
@@ -105,16 +120,39 @@ plain_boxed (Some e) = m.an_expression (plain_expression e.value)
 -- RM 3.1
 abbrev pub plain_declaration : Declaration → m.Declaration
 plain_declaration (declaration.Object names subtype value) = m.object names.first names.others.items subtype (plain_maybe value)
+plain_declaration (declaration.Constant names subtype value) = m.constant names.first names.others.items subtype (plain_expression value)
 
 abbrev pub plain_declarations : List Declaration → m.Declarations
 plain_declarations [] = m.no_declarations
 plain_declarations (x ∷ xs) = m.more_declarations (plain_declaration x) (plain_declarations xs)
 
+abbrev pub plain_iteration : Iteration → m.Iteration
+plain_iteration iteration.Forever = m.forever
+plain_iteration (iteration.While e) = m.while (plain_expression e)
+
 -- RM 5.1
-abbrev pub plain_statement : Statement → m.Statement
-plain_statement (statement.Null at) = m.null at
-plain_statement (statement.Assign x e) = m.assign (plain_name x) (plain_expression e)
-plain_statement (statement.Call x) = m.call (plain_name x)
+abbrev mutual
+  pub plain_statement : Statement → m.Statement
+  plain_statement (Null at) = m.null at
+  plain_statement (Assign x e) = m.assign (plain_name x) (plain_expression e)
+  plain_statement (Call x) = m.call (plain_name x)
+  plain_statement (If' _ s) = plain_if s
+  plain_statement (Loop' _ label at i first _ others name semicolon) = m.loop label at (plain_iteration i) (m.in_order (plain_statement first) (plain_row others)) name semicolon
+  plain_statement (Exit at label e) = m.exit at label (plain_maybe e)
+
+  pub plain_row : {n : _} → Row_of-Statement n → m.MoreStatements
+  plain_row end_of-Statement = m.no_statements
+  plain_row (more_of-Statement x xs) = m.more_statements (plain_statement x) (plain_row xs)
+
+  -- RM 5.3
+  pub plain_if : IfStatement → m.Statement
+  plain_if (IfStatement' at e first _ others _ arms _ otherwise) = m.if_then at (plain_expression e) (m.in_order (plain_statement first) (plain_row others)) (plain_arms arms) (plain_row otherwise)
+
+  pub plain_arms : {n : _} → Row_of-Arm n → m.Arms
+  plain_arms end_of-Arm = m.no_arms
+  plain_arms (more_of-Arm at e first _ others arms) = m.more_arms at (plain_expression e) (m.in_order (plain_statement first) (plain_row others)) (plain_arms arms)
+
+-- The same by the parts of what is in memory.
 
 abbrev pub plain_others : List Statement → m.MoreStatements
 plain_others [] = m.no_statements
@@ -123,10 +161,27 @@ plain_others (x ∷ xs) = m.more_statements (plain_statement x) (plain_others xs
 abbrev pub plain_statements : Statements → m.Statements
 plain_statements x = m.in_order (plain_statement x.first) (plain_others x.others.items)
 
+abbrev pub arm_list : List Arm → m.Arms
+arm_list [] = m.no_arms
+arm_list (x ∷ xs) = m.more_arms x.at (plain_expression x.condition) (plain_statements x.statements) (arm_list xs)
+
+abbrev pub plain_if_statement : IfStatement → m.Statement
+plain_if_statement s =
+    let x = out-IfStatement s in
+    m.if_then x.first.at (plain_expression x.first.condition) (plain_statements x.first.statements) (arm_list x.others.items) (plain_others x.otherwise.items)
+
+abbrev pub plain_loop_statement : LoopStatement → m.Statement
+plain_loop_statement x = m.loop x.label x.at (plain_iteration x.iteration) (plain_statements x.statements) x.name x.semicolon
+
 -- RM 11.2
 abbrev pub plain_body : Body → m.Body
 plain_body x = m.body x.begin (plain_statements x.statements) x.end x.name
 
+-- RM 8.4, 10.1.2
+abbrev pub plain_context : Context → m.Context
+plain_context (context.With at) = m.with_text_io at
+plain_context (context.Use at) = m.use_text_io at
+
 -- RM 10.1.1
 abbrev pub plain_unit : declared.Unit → m.Unit
-plain_unit x = m.unit x.at x.name (plain_declarations x.declarations.items) (plain_body x.body)
+plain_unit x = m.unit (map plain_context x.context.items) x.at x.name (plain_declarations x.declarations.items) (plain_body x.body)

@@ -6,7 +6,7 @@ use Rattle.aud_syntax.specs.declared.tree.Number.{Number}
 use Rattle.aud_syntax.specs.declared.tree.Literal.{Literal}
 use Rattle.aud_syntax.specs.declared.tree.Signed.{Signed}
 use Rattle.aud_syntax.specs.declared.tree.Operator.{Operator}
-use Rattle.aud_syntax.specs.Plain.{Expression, alone, connected, Relations, no_relations, more_relations, Relation, unrelated, related, Simple, simple, Addeds, no_addeds, more_addeds, Added, added, Term, term, Multiplieds, no_multiplieds, more_multiplieds, Multiplied, multiplied, Factor, factor, Primary, integer, text, name, attribute, group, MaybeExpression, no_expression, an_expression, Name, named, Parts, no_parts, NamePart, part, Args, no_args, more_args, Declaration, object, Declarations, no_declarations, more_declarations, Statement, null, assign, call, Statements, in_order, MoreStatements, no_statements, more_statements, Body, body, Unit, unit}
+use Rattle.aud_syntax.specs.Plain.{Expression, alone, connected, Relations, no_relations, more_relations, Relation, unrelated, related, Simple, simple, Addeds, no_addeds, more_addeds, Added, added, Term, term, Multiplieds, no_multiplieds, more_multiplieds, Multiplied, multiplied, Factor, factor, Primary, integer, text, name, attribute, group, MaybeExpression, no_expression, an_expression, Name, named, Parts, no_parts, more_parts, NamePart, part, Args, no_args, more_args, Declaration, object, constant, Declarations, no_declarations, more_declarations, Statement, null, assign, call, if_then, loop, exit, Arms, no_arms, more_arms, Iteration, forever, while, Statements, in_order, MoreStatements, no_statements, more_statements, Body, body, Context, with_text_io, use_text_io, Unit, unit}
 
 abbrev pub nowhere : Pos
 nowhere = record { line = 1; col = 1 }
@@ -90,6 +90,7 @@ abbrev mutual
 
   pub bare_parts : Parts → Parts
   bare_parts no_parts = no_parts
+  bare_parts (more_parts x xs) = more_parts (bare_part x) (bare_parts xs)
 
   pub bare_part : NamePart → NamePart
   bare_part (part i xs) = part (bare_ident i) (bare_args xs)
@@ -100,25 +101,42 @@ abbrev mutual
 
 abbrev pub bare_declaration : Declaration → Declaration
 bare_declaration (object x xs subtype value) = object (bare_ident x) (map bare_ident xs) (bare_ident subtype) (bare_maybe value)
+bare_declaration (constant x xs subtype value) = constant (bare_ident x) (map bare_ident xs) (bare_ident subtype) (bare_expression value)
 
 abbrev pub bare_declarations : Declarations → Declarations
 bare_declarations no_declarations = no_declarations
 bare_declarations (more_declarations x xs) = more_declarations (bare_declaration x) (bare_declarations xs)
 
-abbrev pub bare_statement : Statement → Statement
-bare_statement (null at) = null nowhere
-bare_statement (assign x e) = assign (bare_name x) (bare_expression e)
-bare_statement (call x) = call (bare_name x)
+abbrev pub bare_iteration : Iteration → Iteration
+bare_iteration forever = forever
+bare_iteration (while e) = while (bare_expression e)
 
-abbrev pub bare_more_statements : MoreStatements → MoreStatements
-bare_more_statements no_statements = no_statements
-bare_more_statements (more_statements x xs) = more_statements (bare_statement x) (bare_more_statements xs)
+abbrev mutual
+  pub bare_statement : Statement → Statement
+  bare_statement (null at) = null nowhere
+  bare_statement (assign x e) = assign (bare_name x) (bare_expression e)
+  bare_statement (call x) = call (bare_name x)
+  bare_statement (if_then at e statements arms otherwise) = if_then nowhere (bare_expression e) (bare_statements statements) (bare_arms arms) (bare_more_statements otherwise)
+  bare_statement (loop label at i statements last semicolon) = loop (bare_end label) nowhere (bare_iteration i) (bare_statements statements) (bare_end last) nowhere
+  bare_statement (exit at label e) = exit nowhere (bare_end label) (bare_maybe e)
 
-abbrev pub bare_statements : Statements → Statements
-bare_statements (in_order x xs) = in_order (bare_statement x) (bare_more_statements xs)
+  pub bare_more_statements : MoreStatements → MoreStatements
+  bare_more_statements no_statements = no_statements
+  bare_more_statements (more_statements x xs) = more_statements (bare_statement x) (bare_more_statements xs)
+
+  pub bare_statements : Statements → Statements
+  bare_statements (in_order x xs) = in_order (bare_statement x) (bare_more_statements xs)
+
+  pub bare_arms : Arms → Arms
+  bare_arms no_arms = no_arms
+  bare_arms (more_arms at e statements arms) = more_arms nowhere (bare_expression e) (bare_statements statements) (bare_arms arms)
 
 abbrev pub bare_body : Body → Body
 bare_body (body begin statements end last) = body nowhere (bare_statements statements) nowhere (bare_end last)
 
+abbrev pub bare_context : Context → Context
+bare_context (with_text_io at) = with_text_io nowhere
+bare_context (use_text_io at) = use_text_io nowhere
+
 abbrev pub bare : Unit → Unit
-bare (unit at x declarations rest) = unit nowhere (bare_ident x) (bare_declarations declarations) (bare_body rest)
+bare (unit context at x declarations rest) = unit (map bare_context context) nowhere (bare_ident x) (bare_declarations declarations) (bare_body rest)

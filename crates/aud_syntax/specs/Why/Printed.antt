@@ -19,7 +19,7 @@ use Rattle.aud_syntax.specs.declared.tree.Relational.{Relational}
 use Rattle.aud_syntax.specs.declared.tree.Relational.TheVariants as relational
 use Rattle.aud_syntax.specs.declared.tree.Connective.{Connective}
 use Rattle.aud_syntax.specs.declared.tree.Connective.TheVariants as connective
-use Rattle.aud_syntax.specs.Plain.{Expression, alone, connected, Relations, no_relations, more_relations, Relation, unrelated, related, Simple, simple, Addeds, no_addeds, more_addeds, Added, added, Term, term, Multiplieds, no_multiplieds, more_multiplieds, Multiplied, multiplied, Factor, factor, Primary, integer, text, name, attribute, group, MaybeExpression, no_expression, an_expression, Name, named, no_parts, NamePart, part, Args, no_args, more_args, Declaration, object, Declarations, no_declarations, more_declarations, Statement, null, assign, call, Statements, in_order, MoreStatements, no_statements, more_statements, Body, body, Unit, unit}
+use Rattle.aud_syntax.specs.Plain.{Expression, alone, connected, Relations, no_relations, more_relations, Relation, unrelated, related, Simple, simple, Addeds, no_addeds, more_addeds, Added, added, Term, term, Multiplieds, no_multiplieds, more_multiplieds, Multiplied, multiplied, Factor, factor, Primary, integer, text, name, attribute, group, MaybeExpression, no_expression, an_expression, Name, named, Parts, no_parts, more_parts, NamePart, part, Args, no_args, more_args, Declaration, object, constant, Declarations, no_declarations, more_declarations, Statement, null, assign, call, if_then, loop, exit, Arms, no_arms, more_arms, Iteration, forever, while, Statements, in_order, MoreStatements, no_statements, more_statements, Body, body, Context, with_text_io, use_text_io, Unit, unit}
 
 -- a name as the tree has it, in capitals (RM 2.3)
 abbrev pub ident_word : Ident → Word
@@ -142,7 +142,11 @@ abbrev mutual
 
   -- RM 4.1
   pub name_words : Name → List Word
-  name_words (named x no_parts) = part_words x
+  name_words (named x xs) = part_words x ++ parts_words xs
+
+  pub parts_words : Parts → List Word
+  parts_words no_parts = []
+  parts_words (more_parts x xs) = (word (codes ".") ∷ part_words x) ++ parts_words xs
 
   pub part_words : NamePart → List Word
   part_words (part i xs) = ident_word i ∷ args_words xs
@@ -175,8 +179,12 @@ initial_words (an_expression e) = word (codes ":=") ∷ expression_words e
 abbrev pub object_words : Ident → List Ident → Ident → MaybeExpression → List Word
 object_words x xs subtype value = idents_words x xs ++ (word (codes ":") ∷ ident_word subtype ∷ (initial_words value ++ (last_word (codes ";") ∷ [])))
 
+abbrev pub constant_words : Ident → List Ident → Ident → Expression → List Word
+constant_words x xs subtype value = idents_words x xs ++ (word (codes ":") ∷ word (codes "constant") ∷ ident_word subtype ∷ word (codes ":=") ∷ (expression_words value ++ (last_word (codes ";") ∷ [])))
+
 abbrev pub declaration_words : Declaration → List Word
 declaration_words (object x xs subtype value) = object_words x xs subtype value
+declaration_words (constant x xs subtype value) = constant_words x xs subtype value
 
 abbrev pub declarations_words : Declarations → List Word
 declarations_words no_declarations = []
@@ -194,31 +202,82 @@ assignment_words x e = name_words x ++ (word (codes ":=") ∷ (expression_words 
 abbrev pub call_words : Name → List Word
 call_words x = name_words x ++ (last_word (codes ";") ∷ [])
 
--- RM 5.1
-abbrev pub statement_words : Statement → List Word
-statement_words (null at) = null_words
-statement_words (assign x e) = assignment_words x e
-statement_words (call x) = call_words x
-
-abbrev pub more_statements_words : MoreStatements → List Word
-more_statements_words no_statements = []
-more_statements_words (more_statements x xs) = statement_words x ++ more_statements_words xs
-
-abbrev pub statements_words : Statements → List Word
-statements_words (in_order x xs) = statement_words x ++ more_statements_words xs
-
--- the name after `end` (RM 6.3)
+-- the name after `end`, and the loop that is left (RM 5.5, 5.7, 6.3)
 abbrev pub end_words : Option Ident → List Word
 end_words None = []
 end_words (Some x) = ident_word x ∷ []
+
+-- the name before a loop (RM 5.5)
+abbrev pub label_words : Option Ident → List Word
+label_words None = []
+label_words (Some x) = ident_word x ∷ word (codes ":") ∷ []
+
+-- RM 5.5(3)
+abbrev pub iteration_words : Iteration → List Word
+iteration_words forever = []
+iteration_words (while e) = word (codes "while") ∷ expression_words e
+
+-- RM 5.7
+abbrev pub condition_words : MaybeExpression → List Word
+condition_words no_expression = []
+condition_words (an_expression e) = word (codes "when") ∷ expression_words e
+
+abbrev pub exit_words : Option Ident → MaybeExpression → List Word
+exit_words label e = word (codes "exit") ∷ (end_words label ++ (condition_words e ++ (last_word (codes ";") ∷ [])))
+
+-- `if` or `elsif`, the condition and the statements (RM 5.3)
+abbrev pub arm_words : List ℕ → List Word → List Word → List Word
+arm_words spelling condition statements = word spelling ∷ (condition ++ (last_word (codes "then") ∷ statements))
+
+-- `else` and the words of the statements behind it, if there are any (RM 5.3)
+abbrev pub otherwise_words : MoreStatements → List Word → List Word
+otherwise_words no_statements statements = []
+otherwise_words (more_statements x xs) statements = last_word (codes "else") ∷ statements
+
+-- RM 5.1
+abbrev mutual
+  pub statement_words : Statement → List Word
+  statement_words (null at) = null_words
+  statement_words (assign x e) = assignment_words x e
+  statement_words (call x) = call_words x
+  statement_words (if_then at e statements arms otherwise) = arm_words (codes "if") (expression_words e) (statements_words statements) ++ (arms_words arms ++ (otherwise_words otherwise (more_statements_words otherwise) ++ (word (codes "end") ∷ word (codes "if") ∷ last_word (codes ";") ∷ [])))
+  statement_words (loop label at i statements last semicolon) = label_words label ++ (iteration_words i ++ (last_word (codes "loop") ∷ (statements_words statements ++ (word (codes "end") ∷ word (codes "loop") ∷ (end_words last ++ (last_word (codes ";") ∷ []))))))
+  statement_words (exit at label e) = exit_words label e
+
+  pub more_statements_words : MoreStatements → List Word
+  more_statements_words no_statements = []
+  more_statements_words (more_statements x xs) = statement_words x ++ more_statements_words xs
+
+  pub statements_words : Statements → List Word
+  statements_words (in_order x xs) = statement_words x ++ more_statements_words xs
+
+  pub arms_words : Arms → List Word
+  arms_words no_arms = []
+  arms_words (more_arms at e statements arms) = arm_words (codes "elsif") (expression_words e) (statements_words statements) ++ arms_words arms
 
 -- RM 11.2
 abbrev pub body_words : Body → List Word
 body_words (body begin statements end last) = last_word (codes "begin") ∷ (statements_words statements ++ (word (codes "end") ∷ (end_words last ++ (last_word (codes ";") ∷ []))))
 
+-- RM 8.4, 10.1.2
+abbrev pub context_spelling : Context → List ℕ
+context_spelling (with_text_io at) = codes "with"
+context_spelling (use_text_io at) = codes "use"
+
+-- a clause for Ada.Text_IO
+abbrev pub clause_words : List ℕ → List Word
+clause_words spelling = word spelling ∷ word (codes "ADA") ∷ word (codes ".") ∷ word (codes "TEXT_IO") ∷ last_word (codes ";") ∷ []
+
+abbrev pub context_words : Context → List Word
+context_words x = clause_words (context_spelling x)
+
+abbrev pub contexts_words : List Context → List Word
+contexts_words [] = []
+contexts_words (x ∷ xs) = context_words x ++ contexts_words xs
+
 -- RM 6.3, 10.1.1
 abbrev pub unit_words : Unit → List Word
-unit_words (unit at x declarations rest) = word (codes "procedure") ∷ ident_word x ∷ last_word (codes "is") ∷ (declarations_words declarations ++ body_words rest)
+unit_words (unit context at x declarations rest) = contexts_words context ++ (word (codes "procedure") ∷ ident_word x ∷ last_word (codes "is") ∷ (declarations_words declarations ++ body_words rest))
 
 abbrev pub printed : Unit → List ℕ
 printed u = spaced (unit_words u)

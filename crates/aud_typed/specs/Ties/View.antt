@@ -14,6 +14,9 @@ use Rattle.aud_typed.specs.declared.program.IfStatement.{IfStatement, IfStatemen
 use Rattle.aud_typed.specs.declared.program.Arm.{Arm}
 use Rattle.aud_typed.specs.declared.program.Statements.{Statements}
 use Rattle.aud_typed.specs.declared.program.Subtype.TheVariants.{Boolean}
+use Rattle.aud_typed.specs.declared.program.Shown.{Shown}
+use Rattle.aud_typed.specs.declared.program.Shown.TheVariants as shown
+use Rattle.aud_typed.specs.declared.program.Named.{Named}
 use Rattle.aud_typed.specs.declared.program.Program.{Program}
 use Rattle.aud_typed.specs.Tree as tree
 use Rattle.aud_typed.specs.Tree.{before, part_of, Part, some}
@@ -97,11 +100,18 @@ abbrev mutual
 abbrev pub plain_statements : List Statement → List tree.Statement
 plain_statements ss = map plain_statement ss
 
+abbrev pub plain_shown : Shown → tree.Shown
+plain_shown shown.Whole = tree.as_whole
+plain_shown shown.Truth = tree.as_truth
+
+abbrev pub plain_named : Named → tree.Named
+plain_named n = record { name = n.name; shown = plain_shown n.shown }
+
 abbrev pub plain_program : Program → tree.Program
 plain_program p = tree.program_of_main (record {
   name = p.name;
   at = p.at;
-  variables = p.variables.items;
+  variables = map plain_named p.variables.items;
   declarations = plain_statements p.declarations.items;
   begin = p.begin;
   first = plain_statement p.statements.first;

@@ -1,14 +1,14 @@
 use Rattle.std.proofs.Common.{◌+◌, drop, arith, subst, sym}
-use Rattle.std.specs.Prelude.{Some}
-use Rattle.aud_check.specs.Names.{visible}
+use Rattle.std.specs.Prelude.{Some, None, Ok}
+use Rattle.aud_check.specs.Resolution.{Resolved, resolved}
 use Rattle.aud_syntax.specs.declared.tree.Comparison.{out-Comparison}
 use Rattle.aud_syntax.specs.declared.tree.Added.{out-Added}
-use Rattle.aud_syntax.specs.Ties.View.{plain_expression, plain_chain, plain_relation, plain_simple, plain_term, plain_primary, plain_factor}
-use Rattle.aud_check.specs.Expressions.{Typed, Checked, with, checked_expression, expression_at, checked_relation, relation_at, simple_at, relating, connecting, checked_simple, checked_term, checked_factor, checked_primary, adding_operator, arithmetic, multiplying, highest, checked_attribute, term_at, factor_at, primary_at}
+use Rattle.aud_syntax.specs.Ties.View.{plain_expression, plain_chain, plain_relation, plain_simple, plain_term, plain_primary, plain_factor, plain_name, plain_part}
+use Rattle.aud_check.specs.Expressions.{Typed, Checked, after, with, checked_name, checked_part, checked_arguments, checked_expression, expression_at, checked_relation, relation_at, simple_at, relating, connecting, checked_simple, checked_term, checked_factor, checked_primary, adding_operator, arithmetic, multiplying, highest, checked_attribute, term_at, factor_at, primary_at}
 use Rattle.aud_check.specs.Ties.Typing.{plain_typed, Shows}
 use Rattle.aud_syntax.proofs.Opened.{chain_open, comparison_open, added_open}
 use Rattle.aud_syntax.proofs.Written.{dropped}
-use Rattle.aud_check.proofs.Opened.{chain_ahead, further_ahead, term_ahead, multiplied_ahead, simple_ahead, added_ahead}
+use Rattle.aud_check.proofs.Opened.{argument_ahead, arguments_ahead, part_ahead, chain_ahead, further_ahead, term_ahead, multiplied_ahead, simple_ahead, added_ahead}
 use Rattle.aud_check.proofs.Notes.{shows_with}
 use Rattle.aud_check.proofs.expression.+expression.Goals as goal
 
@@ -52,5 +52,29 @@ term-loop-next-init t c = term_ahead c.args.term.now c.args.scope.now c.args.fau
 pub term-loop-next-preserved : goal.term-loop-next-preserved
 term-loop-next-preserved t c = multiplied_ahead c.args.scope.now c.args.faults.now c.loop-next.faults c.multiplied.new.faults (checked_term (plain_term c.args.term.now) c.args.scope.now) c.next-item.result (drop c.loop-next.next-index c.deref-next-items.result.now) (drop (c.loop-next.next-index + 1) c.deref-next-items.result.now) c.term_at-at.result (plain_typed c.loop-next.left) c.in_ok-left-2.left (dropped c.deref-next-items.result.now c.loop-next.next-index c.next-item.result (omega arith) c.next-item.is) c.loop-next.invariant c.in_ok-left-2.ensures
 
+pub part_arguments-loop-argument-preserved : goal.part_arguments-loop-argument-preserved
+part_arguments-loop-argument-preserved t c = argument_ahead c.args.scope.now c.args.faults.now c.loop-argument.faults c.expression.new.faults (checked_part (plain_part c.args.part.now) c.args.scope.now (plain_typed c.args.before)) c.argument-item.result (drop c.loop-argument.argument-index c.deref-argument-items.result.now) (drop (c.loop-argument.argument-index + 1) c.deref-argument-items.result.now) (plain_typed c.loop-argument.last) c.in_ok-last.last (dropped c.deref-argument-items.result.now c.loop-argument.argument-index c.argument-item.result (omega arith) c.argument-item.is) c.loop-argument.invariant c.in_ok-last.ensures
+
+pub arguments-loop-part-init : goal.arguments-loop-part-init
+arguments-loop-part-init t c = arguments_ahead c.args.name.now c.args.scope.now c.args.faults.now c.part_arguments.new.faults c.in_ok-last.last c.deref-part-items.result.now c.deref-part-items.ensures.value c.in_ok-last.ensures
+
+pub arguments-loop-part-preserved : goal.arguments-loop-part-preserved
+arguments-loop-part-preserved t c = part_ahead c.args.scope.now c.args.faults.now c.loop-part.faults c.part_arguments-in-loop-part.new.faults (checked_arguments (plain_name c.args.name.now) c.args.scope.now) c.part-item.result (drop c.loop-part.part-index c.deref-part-items.result.now) (drop (c.loop-part.part-index + 1) c.deref-part-items.result.now) (plain_typed c.loop-part.last) c.in_ok-last-2.last (dropped c.deref-part-items.result.now c.loop-part.part-index c.part-item.result (omega arith) c.part-item.is) c.loop-part.invariant c.in_ok-last-2.ensures
+
+pub primary-returns-in_ok-last-in-Name : goal.primary-returns-in_ok-last-in-Name
+primary-returns-in_ok-last-in-Name t c =
+    let read : Resolved = resolved (plain_name c.in-Name.name.value) c.args.scope.now in
+    rw c.in-Name.is (shows_with c.args.faults.now c.arguments.new.faults c.name_value.new.faults (checked_arguments (plain_name c.in-Name.name.value) c.args.scope.now) (λ last. after read.faults (checked_name read.denoted)) c.in_ok-last-in-Name.last (Ok c.name_value.result) (rw c.deref.ensures at c.in_ok-last-in-Name.ensures) (rw c.deref-in-Name.ensures at c.name_value.ensures.noted, rw c.deref-in-Name.ensures at c.name_value.ensures.typed))
+
+pub primary-returns-in-None : goal.primary-returns-in-None
+primary-returns-in-None t c =
+    let prefix : Resolved = resolved (plain_name c.in-Attribute.prefix.value) c.args.scope.now in
+    rw (c.in-Attribute.is, c.in-None.is) (shows_with c.args.faults.now c.arguments-in-Attribute.new.faults c.name_attribute.new.faults (checked_arguments (plain_name c.in-Attribute.prefix.value) c.args.scope.now) (λ last. after prefix.faults (checked_attribute prefix.denoted c.in-Attribute.designator None)) c.in_ok-last-in-Attribute.last (Ok c.name_attribute.result) (rw c.deref-in-Attribute.ensures at c.in_ok-last-in-Attribute.ensures) (rw c.deref-in-None.ensures at c.name_attribute.ensures.noted, rw c.deref-in-None.ensures at c.name_attribute.ensures.typed))
+
 pub primary-returns-in_ok-typed-in-Some : goal.primary-returns-in_ok-typed-in-Some
-primary-returns-in_ok-typed-in-Some t c = rw (c.in-Attribute.is, c.in-Some.is) (shows_with c.args.faults.now c.expression.new.faults c.attribute-in-Some.new.faults (checked_expression (plain_expression c.in-Some.e.value) c.args.scope.now) (λ x. checked_attribute (visible c.in-Attribute.prefix.value.first.ident.name c.args.scope.now) c.in-Attribute.prefix.value.first.ident c.in-Attribute.designator (Some (expression_at (plain_expression c.in-Some.e.value), x))) c.in_ok-typed-in-Some.typed c.attribute-in-Some.result (rw c.deref-in-Some.ensures at c.in_ok-typed-in-Some.ensures) (rw (c.visible-meaning.ensures, c.deref-in-Attribute.ensures, c.expression_at.ensures, c.deref-in-Some-2.ensures) at c.attribute-in-Some.ensures))
+primary-returns-in_ok-typed-in-Some t c =
+    let prefix : Resolved = resolved (plain_name c.in-Attribute.prefix.value) c.args.scope.now in
+    let argument = plain_expression c.in-Some.e.value in
+    let rest : Typed → Checked = λ x. after prefix.faults (checked_attribute prefix.denoted c.in-Attribute.designator (Some (expression_at argument, x))) in
+    rw (c.in-Attribute.is, c.in-Some.is) (shows_with c.args.faults.now c.arguments-in-Attribute.new.faults c.name_attribute-in-Some.new.faults (checked_arguments (plain_name c.in-Attribute.prefix.value) c.args.scope.now) (λ last. with (checked_expression argument c.args.scope.now) rest) c.in_ok-last-in-Attribute.last (Ok c.name_attribute-in-Some.result) (rw c.deref-in-Attribute.ensures at c.in_ok-last-in-Attribute.ensures)
+    (shows_with c.arguments-in-Attribute.new.faults c.expression.new.faults c.name_attribute-in-Some.new.faults (checked_expression argument c.args.scope.now) rest c.in_ok-typed-in-Some.typed (Ok c.name_attribute-in-Some.result) (rw c.deref-in-Some.ensures at c.in_ok-typed-in-Some.ensures) (rw (c.expression_at.ensures, c.deref-in-Some-2.ensures, c.deref-in-Some-3.ensures) at c.name_attribute-in-Some.ensures.noted, rw (c.expression_at.ensures, c.deref-in-Some-2.ensures, c.deref-in-Some-3.ensures) at c.name_attribute-in-Some.ensures.typed)))

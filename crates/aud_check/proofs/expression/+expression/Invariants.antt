@@ -1,6 +1,6 @@
 use Rattle.std.proofs.Common.{drop}
-use Rattle.aud_syntax.specs.Ties.View.{plain_chain, relation_list, plain_simple, plain_term}
-use Rattle.aud_check.specs.Expressions.{checked_expression, checked_relations, checked_simple, checked_term, checked_addeds, checked_multiplieds}
+use Rattle.aud_syntax.specs.Ties.View.{plain_chain, relation_list, plain_simple, plain_term, plain_expressions, plain_name, plain_part, part_list}
+use Rattle.aud_check.specs.Expressions.{checked_args, checked_part, checked_parts, checked_arguments, checked_expression, checked_relations, checked_simple, checked_term, checked_addeds, checked_multiplieds}
 use Rattle.aud_check.specs.Ties.Typing.{plain_typed}
 use Rattle.aud_check.proofs.Notes.{Ahead}
 use Rattle.aud_syntax.proofs.Opened.{added_list, multiplied_list}
@@ -14,3 +14,9 @@ invariant-simple-loop-next l = Ahead l.faults (checked_addeds (added_list (drop 
 
 abbrev pub invariant-term-loop-next : goal.invariant-term-loop-next
 invariant-term-loop-next l = Ahead l.faults (checked_multiplieds (multiplied_list (drop l.next-index l.next-items)) l.scope l.at (plain_typed l.left)) l.fn.faults (checked_term (plain_term l.fn.term) l.fn.scope)
+
+abbrev pub invariant-part_arguments-loop-argument : goal.invariant-part_arguments-loop-argument
+invariant-part_arguments-loop-argument l = Ahead l.faults (checked_args (plain_expressions (drop l.argument-index l.argument-items)) l.scope (plain_typed l.last)) l.fn.faults (checked_part (plain_part l.fn.part) l.fn.scope (plain_typed l.fn.before))
+
+abbrev pub invariant-arguments-loop-part : goal.invariant-arguments-loop-part
+invariant-arguments-loop-part l = Ahead l.faults (checked_parts (part_list (drop l.part-index l.part-items)) l.scope (plain_typed l.last)) l.fn.faults (checked_arguments (plain_name l.fn.name) l.fn.scope)

@@ -1,8 +1,7 @@
-use Rattle.std.proofs.Common.{rules}
-use Rattle.aud_parse.specs.Ties.Outcome.{o_rule}
+use Rattle.std.proofs.Common.{sym, ◌∙◌, rules}
+use Rattle.aud_parse.specs.Ties.Outcome.{o_rule, o_this, o_other, o_last}
 use Rattle.aud_parse.proofs.Passing.{exit}
-use Rattle.aud_parse.proofs.Joined.{ends}
-use Rattle.aud_parse.proofs.Rolls.{declaration_items}
+use Rattle.aud_parse.proofs.Joined.{joined, not_joined}
 use Rattle.aud_parse.proofs.declaration.declaration.Goals as goal
 
 pub returns-in_err-names : goal.returns-in_err-names
@@ -11,14 +10,18 @@ returns-in_err-names c = exit _ _ _ c.from_residual.ensures.1 (c.in_err-names.en
 pub returns-in_err-rest : goal.returns-in_err-rest
 returns-in_err-rest c = exit _ _ _ c.from_residual-in_err-rest.ensures.1 (c.in_err-rest.ensures.reads c.args.room) (λ k ds v o. o_rule (c.in_ok-names.ensures.reads _ _ _ _ o))
 
-pub returns-in_err-subtype : goal.returns-in_err-subtype
-returns-in_err-subtype c = exit _ _ _ c.from_residual-in_err-subtype.ensures.1 (c.in_err-subtype.ensures.reads c.args.room) (λ k ds v o. o_rule (c.in_ok-names.ensures.reads _ _ _ _ (c.in_ok-rest.ensures.reads _ _ _ _ o)))
+pub returns-in_err-names-2 : goal.returns-in_err-names-2
+returns-in_err-names-2 c = exit _ _ _ c.from_residual-in_err-names-2.ensures.1 (not_joined _ _ c.in_err-names-2.ensures c.variable.ensures) (λ k ds v o. o_rule (c.in_ok-names.ensures.reads _ _ _ _ (c.in_ok-rest.ensures.reads _ _ _ _ (o_rule (o_this (sym c.is.ensures ∙ c.if-is.true) o)))))
 
-pub returns-in_err-value : goal.returns-in_err-value
-returns-in_err-value c = exit _ _ _ c.from_residual-in_err-value.ensures.1 c.in_err-value.ensures.reads (λ k ds v o. o_rule (c.in_ok-names.ensures.reads _ _ _ _ (c.in_ok-rest.ensures.reads _ _ _ _ (c.in_ok-subtype.ensures.reads _ _ _ _ o))))
+pub returns-then-is : goal.returns-then-is
+returns-then-is c =
+    let j = joined _ c.in_ok-names-2.ensures c.variable.ensures in
+    record { reads = λ k ds v o. rw j.first (o_rule (c.in_ok-names.ensures.reads _ _ _ _ (c.in_ok-rest.ensures.reads _ _ _ _ (o_rule (o_this (sym c.is.ensures ∙ c.if-is.true) (j.reads _ _ _ o)))))); shorter = search rules }
+
+pub returns-in_err-names-3 : goal.returns-in_err-names-3
+returns-in_err-names-3 c = exit _ _ _ c.from_residual-in_err-names-3.ensures.1 (not_joined _ _ c.in_err-names-3.ensures c.constant.ensures) (λ k ds v o. o_rule (c.in_ok-names.ensures.reads _ _ _ _ (c.in_ok-rest.ensures.reads _ _ _ _ (o_rule (o_other (sym c.is.ensures ∙ c.if-is.false) (o_last o))))))
 
 pub returns : goal.returns
 returns c =
-    ends c.args.start c.in_ok-value.rest _ _ c.ended.ensures (search rules)
-    (λ k ds v o. o_rule (c.in_ok-names.ensures.reads _ _ _ _ (c.in_ok-rest.ensures.reads _ _ _ _ (c.in_ok-subtype.ensures.reads _ _ _ _ (c.in_ok-value.ensures.reads _ _ _ o)))))
-    (declaration_items c.in_ok-names.names _ _)
+    let j = joined _ c.in_ok-names-3.ensures c.constant.ensures in
+    record { reads = λ k ds v o. rw j.first (o_rule (c.in_ok-names.ensures.reads _ _ _ _ (c.in_ok-rest.ensures.reads _ _ _ _ (o_rule (o_other (sym c.is.ensures ∙ c.if-is.false) (o_last (j.reads _ _ _ o))))))); shorter = search rules }

@@ -1,10 +1,12 @@
 use Rattle.aud_parse.specs.Grammar as g
-use Rattle.std.proofs.Common.{sym, ◌∙◌, refl, rules}
+use Rattle.std.proofs.Common.{sym, ◌∙◌, refl, rules, ap, ◌∷◌}
 use Rattle.aud_parse.specs.Ties.Outcome.{o_rule, o_this, o_other, o_last, o_yes, o_no, o_more}
-use Rattle.aud_parse.proofs.Passing.{to, exit, hand_on, level_in, level_out, turns_push, turns_end, no_level}
+use Rattle.aud_parse.proofs.Passing.{to, exit, hand_on, level_in, level_out, turns_push, turns_end, no_level, word_passes, level_on, heads_none, heads_push, heads_on, headed, headed_items}
 use Rattle.aud_parse.proofs.Joined.{joined, not_joined, joined_twice, not_joined_twice}
-use Rattle.aud_parse.proofs.Rolls.{factor_items, name_items, named_items}
+use Rattle.aud_parse.proofs.Rolls.{factor_items, args_items, part_items, parts_items, named_items}
 use Rattle.aud_parse.proofs.Connecting.{next_so}
+use Rattle.aud_parse.specs.Actions.{none}
+use Rattle.aud_parse.specs.Ties.Items.{list_item, args_of, expression_item}
 use Rattle.aud_parse.proofs.expression.+expression.Goals as goal
 
 pub parens-returns-in_err-inside : goal.parens-returns-in_err-inside
@@ -37,17 +39,84 @@ attribute-returns-then-is t c = record { reads = λ k ds v o. o_rule (c.in_ok-re
 pub attribute-returns : goal.attribute-returns
 attribute-returns t c = record { reads = λ k ds v o. o_rule (c.in_ok-rest.ensures.reads _ _ _ _ (c.in_ok-name.ensures.reads _ _ _ _ (o_no (sym c.is.ensures ∙ c.if-is.false) o))); shorter = search rules }
 
-pub named-returns-in_err-name : goal.named-returns-in_err-name
-named-returns-in_err-name t c = exit _ _ _ c.from_residual.ensures.1 (c.in_err-name.ensures.reads c.args.room) (λ k ds v o. o_rule o)
+pub in_args-returns-in_err-rest : goal.in_args-returns-in_err-rest
+in_args-returns-in_err-rest t c = exit _ _ _ c.from_residual.ensures.1 (c.in_err-rest.ensures.reads c.args.room) (λ k ds v o. o_rule o)
+
+pub in_args-turns-init : goal.in_args-turns-init
+in_args-turns-init t c = record { inside = c.in_ok-rest.rest.tokens.now; opened = c.in_ok-rest.ensures.reads c.args.room; turns = heads_none c.new-all.ensures.items; shorter = search rules }
+
+pub in_args-returns-in_err-one : goal.in_args-returns-in_err-one
+in_args-returns-in_err-one t c = exit _ _ _ c.from_residual-in_err-one.ensures.1 c.in_err-one.ensures.reads (λ k ds v o. o_rule (c.turns.invariant.opened _ _ _ (c.turns.invariant.turns.by _ _ _ o)))
+
+pub in_args-returns-in_err-rest-2 : goal.in_args-returns-in_err-rest-2
+in_args-returns-in_err-rest-2 t c = exit _ _ _ c.from_residual-in_err-rest-2.ensures.1 (c.in_err-rest-2.ensures.reads c.args.room) (λ k ds v o. o_rule (c.turns.invariant.opened _ _ _ (heads_on c.into_inner.result c.turns.invariant.turns (rw c.into_inner.ensures c.in_ok-one.ensures.reads) c.in_default.ensures.reads _ _ _ o)))
+
+pub in_args-returns-in_default : goal.in_args-returns-in_default
+in_args-returns-in_default t c = record {
+  reads = λ k ds v o.
+      to (o_rule (c.turns.invariant.opened _ _ _ (heads_on c.into_inner.result c.turns.invariant.turns (rw c.into_inner.ensures c.in_ok-one.ensures.reads) c.in_default.ensures.reads _ _ _ (c.in_ok-rest-2.ensures.reads _ _ _ _ o))))
+      (args_items (headed expression_item c.turns.all.items (expression_item c.into_inner.result ∷ none ∷ ds)) ds _ (headed_items expression_item c.turns.all.items c.into_inner.result ds ∙ ap (λ l. list_item expression_item l ∷ ds) (sym c.in_ok-push.ensures.items)));
+  shorter = search rules;
+}
+
+pub in_args-turns-preserved : goal.in_args-turns-preserved
+in_args-turns-preserved t c = record {
+  inside = c.turns.invariant.inside;
+  opened = c.turns.invariant.opened;
+  turns = heads_push c.into_inner.result c.turns.invariant.turns (rw c.into_inner.ensures c.in_ok-one.ensures.reads) (λ k ds v o. o_more c.in-Some.ensures.reads.0 (o_rule (word_passes c.in-Some.ensures.reads _ _ _ o))) c.in_ok-push.ensures.items;
+  shorter = search rules;
+}
+
+pub args-returns-in_err-inside : goal.args-returns-in_err-inside
+args-returns-in_err-inside t c = no_level _ g.Args g.InArgs _ c.args.start _ _ _ refl c.from_residual.ensures.1 c.in_err-inside.ensures c.is.ensures
+
+pub args-returns : goal.args-returns
+args-returns t c = record { reads = level_on _ c.args.start _ _ c.in_ok-inside.ensures c.in_args.ensures.reads (λ k ds v o. o_rule o); shorter = search rules }
+
+pub opt_args-returns-then-is : goal.opt_args-returns-then-is
+opt_args-returns-then-is t c = record { reads = hand_on _ c.args.start _ c.args-then-is.ensures.reads (λ k ds v o. o_yes (sym c.is.ensures ∙ c.if-is.true) o); shorter = search rules }
+
+pub opt_args-returns : goal.opt_args-returns
+opt_args-returns t c = record { reads = λ k ds v o. to (o_no (sym c.is.ensures ∙ c.if-is.false) o) (ap (λ l. args_of l ∷ ds) (sym c.new.ensures.items)); shorter = search rules }
+
+pub part-returns-in_err-ident : goal.part-returns-in_err-ident
+part-returns-in_err-ident t c = exit _ _ _ c.from_residual.ensures.1 (c.in_err-ident.ensures.reads c.args.room) (λ k ds v o. o_rule o)
+
+pub part-returns-in_err-args : goal.part-returns-in_err-args
+part-returns-in_err-args t c = exit _ _ _ c.from_residual-in_err-args.ensures.1 c.in_err-args.ensures.reads (λ k ds v o. o_rule (c.in_ok-ident.ensures.reads _ _ _ _ o))
+
+pub part-returns : goal.part-returns
+part-returns t c = record { reads = λ k ds v o. to (o_rule (c.in_ok-ident.ensures.reads _ _ _ _ (c.in_ok-args.ensures.reads _ _ _ o))) (part_items c.in_ok-ident.ident c.in_ok-args.args ds); shorter = search rules }
+
+pub selected-returns-in_err-part : goal.selected-returns-in_err-part
+selected-returns-in_err-part t c = exit _ _ _ c.from_residual.ensures.1 c.in_err-part.ensures.reads (λ k ds v o. c.turns.invariant.turns.by _ _ _ (o_more c.in-Some.ensures.reads.0 (o_rule (word_passes c.in-Some.ensures.reads _ _ _ o))))
+
+pub selected-turns-preserved : goal.selected-turns-preserved
+selected-turns-preserved t c = record { turns = turns_push _ c.turns.invariant.turns c.in-Some.ensures.reads.0 (λ k ds v o. o_rule (word_passes c.in-Some.ensures.reads _ _ _ (c.in_ok-part.ensures.reads _ _ _ o))) c.in_ok-push.ensures.items; shorter = search rules }
+
+pub selected-returns : goal.selected-returns
+selected-returns t c = record { reads = turns_end c.turns.invariant.turns c.in_default.ensures.reads; shorter = search rules }
+
+pub name-returns-in_err-first : goal.name-returns-in_err-first
+name-returns-in_err-first t c = exit _ _ _ c.from_residual.ensures.1 c.in_err-first.ensures.reads (λ k ds v o. o_rule o)
+
+pub name-returns-in_err-others : goal.name-returns-in_err-others
+name-returns-in_err-others t c = exit _ _ _ c.from_residual-in_err-others.ensures.1 c.in_err-others.ensures.reads (λ k ds v o. o_rule (c.in_ok-first.ensures.reads _ _ _ o))
+
+pub name-returns : goal.name-returns
+name-returns t c = record { reads = λ k ds v o. to (o_rule (c.in_ok-first.ensures.reads _ _ _ (c.in_ok-others.ensures.reads _ _ _ o))) (parts_items c.in_ok-boxed.boxed c.in_ok-first.first c.in_ok-others.others ds c.in_ok-boxed.ensures.ok); shorter = search rules }
+
+pub named-returns-in_err-prefix : goal.named-returns-in_err-prefix
+named-returns-in_err-prefix t c = exit _ _ _ c.from_residual.ensures.1 c.in_err-prefix.ensures.reads (λ k ds v o. o_rule o)
 
 pub named-returns-in_err-attribute : goal.named-returns-in_err-attribute
-named-returns-in_err-attribute t c = exit _ _ _ c.from_residual-in_err-attribute.ensures.1 c.in_err-attribute.ensures.reads (λ k ds v o. o_rule (c.in_ok-name.ensures.reads _ _ _ _ (o_yes (sym c.is.ensures ∙ c.if-is.true) o)))
+named-returns-in_err-attribute t c = exit _ _ _ c.from_residual-in_err-attribute.ensures.1 c.in_err-attribute.ensures.reads (λ k ds v o. o_rule (c.in_ok-prefix.ensures.reads _ _ _ (o_yes (sym c.is.ensures ∙ c.if-is.true) o)))
 
 pub named-returns-then-is : goal.named-returns-then-is
-named-returns-then-is t c = record { reads = λ k ds v o. to (o_rule (c.in_ok-name.ensures.reads _ _ _ _ (o_yes (sym c.is.ensures ∙ c.if-is.true) (c.in_ok-attribute.ensures.reads _ _ _ o)))) (named_items c.in_ok-prefix.prefix c.in_ok-name.name _ _ _ c.in_ok-prefix.ensures.ok); shorter = search rules }
+named-returns-then-is t c = record { reads = λ k ds v o. to (o_rule (c.in_ok-prefix.ensures.reads _ _ _ (o_yes (sym c.is.ensures ∙ c.if-is.true) (c.in_ok-attribute.ensures.reads _ _ _ o)))) (named_items c.in_ok-prefix.prefix _ _ _); shorter = search rules }
 
 pub named-returns : goal.named-returns
-named-returns t c = record { reads = λ k ds v o. to (o_rule (c.in_ok-name.ensures.reads _ _ _ _ (o_no (sym c.is.ensures ∙ c.if-is.false) o))) (name_items c.in_ok-prefix.prefix c.in_ok-name.name _ c.in_ok-prefix.ensures.ok); shorter = search rules }
+named-returns t c = record { reads = λ k ds v o. o_rule (c.in_ok-prefix.ensures.reads _ _ _ (o_no (sym c.is.ensures ∙ c.if-is.false) o)); shorter = search rules }
 
 pub primary-returns-in_err-t : goal.primary-returns-in_err-t
 primary-returns-in_err-t t c = exit _ _ _ c.from_residual.ensures.1 (c.in_err-t.ensures.reads c.args.room) (λ k ds v o. o_rule (o_this (sym c.is.ensures ∙ c.if-is.true) (o_rule (o_rule o))))

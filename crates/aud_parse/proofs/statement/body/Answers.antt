@@ -27,4 +27,4 @@ returns c =
     let i = joined _ c.in_ok-statements-3.ensures (at_room c.args.room c.opt_ident.ensures) in
     ends c.args.start c.in_ok-statements-3.rest _ _ c.ended.ensures (search rules)
     (λ k ds v o. o_rule (c.in_ok-begin.ensures.reads _ _ _ _ (c.in_ok-statements.ensures.reads _ _ _ (j.reads _ _ _ (i.reads _ _ _ o)))))
-    (λ ds. rw (c.at.ensures, c.at-2.ensures, i.first, j.first) (body_items (token c.in_ok-begin.begin.now) (token c.in_ok-statements-2.end.now) c.in_ok-statements.statements c.in_ok-statements-3.name ds))
+    (λ ds. rw (c.into_inner.ensures, c.at.ensures, c.at-2.ensures, i.first, j.first) (body_items (token c.in_ok-begin.begin.now) (token c.in_ok-statements-2.end.now) c.in_ok-statements.statements.value c.in_ok-statements-3.name ds))

@@ -1,27 +1,27 @@
-use Rattle.std.proofs.Common.{ap, sym, ◌∙◌, ◌∷◌, rules}
-use Rattle.aud_syntax.specs.Plain as m
-use Rattle.aud_syntax.specs.Ties.View.{plain_expression, plain_expressions}
-use Rattle.aud_parse.specs.Actions.{a_statement}
-use Rattle.aud_parse.specs.Ties.Outcome.{o_rule, o_this, o_other, o_last}
-use Rattle.aud_parse.proofs.Passing.{to, exit}
+use Rattle.std.proofs.Common.{rules}
+use Rattle.aud_parse.specs.Ties.Outcome.{o_rule}
+use Rattle.aud_parse.proofs.Connecting.{exit_in}
+use Rattle.aud_parse.proofs.Joined.{joined, not_joined}
+use Rattle.aud_parse.proofs.Rolls.{begun_items}
 use Rattle.aud_parse.proofs.statement.named.Goals as goal
 
-pub returns-in_err-ident : goal.returns-in_err-ident
-returns-in_err-ident c = exit _ _ _ c.from_residual.ensures.1 (c.in_err-ident.ensures.reads c.args.room) (λ k ds v o. o_rule o)
-
-pub returns-in_err-value : goal.returns-in_err-value
-returns-in_err-value c = exit _ _ _ c.from_residual-in_err-value.ensures.1 c.in_err-value.ensures.reads (λ k ds v o. o_rule (c.in_ok-ident.ensures.reads _ _ _ _ (o_rule (o_this (sym c.is.ensures ∙ c.if-is.true) o))))
-
-pub returns-then-is : goal.returns-then-is
-returns-then-is c = record {
-  reads = λ k ds v o.
-      to (o_rule (c.in_ok-ident.ensures.reads _ _ _ _ (o_rule (o_this (sym c.is.ensures ∙ c.if-is.true) (c.in_ok-value.ensures.reads _ _ _ o)))))
-      (ap (λ l. a_statement (m.assign (m.named (m.part c.in_ok-ident.ident (plain_expressions l)) m.no_parts) (plain_expression c.in_ok-value.value)) ∷ ds) (sym c.new-args.ensures.items));
-  shorter = search rules;
-}
-
 pub returns-in_err-args : goal.returns-in_err-args
-returns-in_err-args c = exit _ _ _ c.from_residual-in_err-args.ensures.1 c.in_err-args.ensures.reads (λ k ds v o. o_rule (c.in_ok-ident.ensures.reads _ _ _ _ (o_rule (o_other (sym c.is.ensures ∙ c.if-is.false) (o_last o)))))
+returns-in_err-args c = exit_in _ _ _ c.from_residual.ensures.1 c.in_err-args.ensures.reads (λ k ds v o. o_rule o)
+
+pub returns-in_err-others : goal.returns-in_err-others
+returns-in_err-others c = exit_in _ _ _ c.from_residual-in_err-others.ensures.1 c.in_err-others.ensures.reads (λ k ds v o. o_rule (c.in_ok-args.ensures.reads _ _ _ o))
+
+pub returns-in_err-name : goal.returns-in_err-name
+returns-in_err-name c = exit_in _ _ _ c.from_residual-in_err-name.ensures.1 (not_joined _ _ c.in_err-name.ensures c.statement_rest.ensures) (λ k ds v o. o_rule (c.in_ok-args.ensures.reads _ _ _ (c.in_ok-others.ensures.reads _ _ _ o)))
 
 pub returns : goal.returns
-returns c = record { reads = λ k ds v o. o_rule (c.in_ok-ident.ensures.reads _ _ _ _ (o_rule (o_other (sym c.is.ensures ∙ c.if-is.false) (o_last (c.in_ok-args.ensures.reads _ _ _ o))))); shorter = search rules }
+returns c =
+    let j = joined _ c.in_ok-name.ensures c.statement_rest.ensures in
+    record {
+      reads = λ k ds v o. (
+        _,
+        o_rule (c.in_ok-args.ensures.reads _ _ _ (c.in_ok-others.ensures.reads _ _ _ (j.reads _ _ _ o))),
+        begun_items c.in_ok-statement.statement c.in_ok-name.name c.args.ident c.in_ok-args.args c.in_ok-others.others c.in_ok-name.value ds c.in_ok-statement.ensures j.first,
+      );
+      shorter = search rules;
+    }

@@ -1,0 +1,97 @@
+// Assignments.
+
+ghost use Rattle.std.specs.Prelude.{◌≡◌};
+ghost use Rattle.aud_syntax.specs.Ties.View.{plain_expression, plain_name};
+ghost use Rattle.aud_typed.specs.Ties.View.{plain_statement as plain_typed_statement};
+ghost use Rattle.aud_check.specs.Least.{noted};
+ghost use Rattle.aud_check.specs.Assignments.{target_base, target_faults, assigned_faults, assigned, assign_faults, typed_assign};
+ghost use Rattle.aud_check.specs.Ties.Typing.{plain_typed, Leaves};
+
+use crate::declaration::value_for;
+use crate::expression::{arguments, expression, expression_at};
+use crate::fault::Least;
+use crate::names::{Meaning, Scope};
+use crate::resolution::{Denoted, resolve};
+use crate::rules::{Base, base_asked, not_a_variable, right_type, wrong_kind_of_name};
+use crate::typed::{Typed, base_of};
+use aud_syntax::tree::{Expression, Name};
+use aud_text::place::Pos;
+use aud_typed::program::{Reference, Statement as TypedStatement};
+use std::alloc::{AllocError, Global};
+
+fn target_base(meaning: Option<Meaning>) -> Option<Base>
+    ensures { result ≡ target_base meaning }
+{
+    match meaning {
+        Some(Meaning::Object(object)) => base_asked(object.subtype),
+        Some(Meaning::Literal(_)) => Some(Base::Truth),
+        _ => None,
+    }
+}
+
+// Notes where what is assigned to is no variable (RM 5.2(5)).
+fn check_target(meaning: Option<Meaning>, at: Pos, faults: &mut Least)
+    ensures { faults.new ≡ noted faults.old (target_faults meaning at) }
+{
+    match meaning {
+        None => {}
+        Some(Meaning::Object(object)) => {
+            if object.constant {
+                not_a_variable(at, faults);
+            }
+        }
+        Some(Meaning::Literal(_)) => not_a_variable(at, faults),
+        Some(Meaning::ScalarType(_) | Meaning::Builtin(_) | Meaning::MainProcedure) => {
+            wrong_kind_of_name(at, faults);
+        }
+    }
+}
+
+// Notes the faults of an assignment whose target denotes this.
+#[tactic(auto, using(crate::proofs::Notes::noted_append))]
+fn check_assigned(target: Denoted, at: Pos, value: &Typed, faults: &mut Least)
+    ensures { faults.new
+        ≡ noted faults.old (assigned_faults target at (plain_typed value.now)) }
+{
+    check_target(target.meaning, target.at, faults);
+    right_type(target_base(target.meaning), at, base_of(value), faults);
+}
+
+// An assignment to what has this meaning; a faulty one is left as a null statement.
+fn assigned(meaning: Option<Meaning>, at: Pos, value: Typed) -> TypedStatement
+    ensures { plain_typed_statement result ≡ assigned meaning at (plain_typed value) }
+{
+    let Some(Meaning::Object(object)) = meaning else {
+        return TypedStatement::Null(at);
+    };
+    match object.subtype {
+        None => TypedStatement::Null(at),
+        Some(subtype) => {
+            let variable = object.variable;
+            let reference = Reference { variable, subtype };
+            TypedStatement::Assign(at, reference, value_for(subtype, value))
+        }
+    }
+}
+
+/// Checks an assignment (RM 5.2): notes its faults, and answers what is left of it.
+#[tactic(auto, using(crate::proofs::Notes::noted_append))]
+#[inline(never)]
+pub fn assignment(
+    alloc: Global,
+    target: &Name,
+    value: &Expression,
+    scope: &Scope<'_>,
+    faults: &mut Least,
+) -> Result<TypedStatement, AllocError>
+    ensures { Leaves plain_typed_statement result faults.old faults.new
+        (assign_faults (plain_name target.now) (plain_expression value.now) scope.now)
+        (typed_assign (plain_name target.now) (plain_expression value.now) scope.now) }
+{
+    let last = arguments(alloc, target, scope, faults)?;
+    drop(last);
+    let denoted = resolve(target, scope, faults);
+    let typed = expression(alloc, value, scope, faults)?;
+    check_assigned(denoted, expression_at(value), &typed, faults);
+    Ok(assigned(denoted.meaning, target.first.ident.at, typed))
+}

@@ -1,0 +1,271 @@
+// Attributes (RM 4.1.4, K.2).
+
+ghost use Rattle.std.specs.Prelude.{◌≡◌};
+ghost use Rattle.std.specs.Str.{bytes_eq};
+ghost use Rattle.std.specs.Map.{lookup};
+ghost use Rattle.aud_check.specs.Expressions.{attributes, without_argument, image_of, image_of_type, image_with, image, first_of, last_of, bound, attribute_of, attribute_if, checked_attribute};
+ghost use Rattle.aud_check.specs.Least.{noted};
+ghost use Rattle.aud_check.specs.Ties.Typing.{plain_typed, plain_argument};
+
+use crate::fault::Least;
+use crate::names::Meaning;
+use crate::resolution::Denoted;
+use crate::rules::{Base, base_of_subtype, wrong_kind_of_name, wrong_number_of_arguments};
+use crate::typed::{Typed, stored, wants};
+use aud_syntax::tree::Ident;
+use aud_text::int32::Int32;
+use aud_text::name::Name;
+use aud_text::place::Pos;
+use aud_typed::program::{BooleanExpression, IntegerExpression, Subtype, TextExpression};
+
+const IMAGE: &[u8] = b"IMAGE";
+
+const FIRST: &[u8] = b"FIRST";
+
+const LAST: &[u8] = b"LAST";
+
+const LENGTH: &[u8] = b"LENGTH";
+
+const COUNT: &[u8] = b"COUNT";
+
+const CALLABLE: &[u8] = b"CALLABLE";
+
+const TERMINATED: &[u8] = b"TERMINATED";
+
+/// An attribute of the language.
+#[derive(Clone, Copy, PartialEq, Eq, Debug)]
+pub enum Attribute {
+    Image,
+    First,
+    Last,
+    /// One of what no program has as yet: an array, an entry or a task.
+    Other,
+}
+
+// The attribute of this name.
+fn attribute_named(name: &Name) -> Option<Attribute>
+    ensures { result ≡ lookup (bytes_eq name.now) attributes }
+{
+    if name.as_bytes() == IMAGE {
+        return Some(Attribute::Image);
+    }
+    if name.as_bytes() == FIRST {
+        return Some(Attribute::First);
+    }
+    if name.as_bytes() == LAST {
+        return Some(Attribute::Last);
+    }
+    if name.as_bytes() == LENGTH {
+        return Some(Attribute::Other);
+    }
+    if name.as_bytes() == COUNT {
+        return Some(Attribute::Other);
+    }
+    if name.as_bytes() == CALLABLE {
+        return Some(Attribute::Other);
+    }
+    if name.as_bytes() == TERMINATED {
+        return Some(Attribute::Other);
+    }
+    None
+}
+
+// The value of an attribute that has no argument.
+fn without_argument(
+    designator: Pos,
+    argument: Option<(Pos, Typed)>,
+    value: Typed,
+    faults: &mut Least,
+) -> Typed
+    ensures typed { plain_typed result
+        ≡ (without_argument designator (plain_argument argument) (plain_typed value)).typed }
+    ensures noted { faults.new ≡ noted faults.old
+        (without_argument designator (plain_argument argument) (plain_typed value)).faults }
+{
+    match argument {
+        None => value,
+        Some(argument) => {
+            drop((argument, value));
+            wrong_number_of_arguments(designator, faults);
+            Typed::Unknown
+        }
+    }
+}
+
+fn image_of(value: Typed) -> Typed
+    ensures { plain_typed result ≡ image_of (plain_typed value) }
+{
+    match value {
+        Typed::Number(x) => Typed::Text(TextExpression::Image(x)),
+        Typed::Truth(x) => Typed::Text(TextExpression::ImageTruth(x)),
+        _ => Typed::Unknown,
+    }
+}
+
+fn image_of_type(base: Base, value: Typed) -> Typed
+    ensures { plain_typed result ≡ image_of_type base (plain_typed value) }
+{
+    match (base, value) {
+        (Base::Whole, Typed::Number(x)) => Typed::Text(TextExpression::Image(x)),
+        (Base::Truth, Typed::Truth(x)) => Typed::Text(TextExpression::ImageTruth(x)),
+        _ => Typed::Unknown,
+    }
+}
+
+// Image of a type.
+fn image_with(
+    base: Base,
+    designator: Pos,
+    argument: Option<(Pos, Typed)>,
+    faults: &mut Least,
+) -> Typed
+    ensures typed { plain_typed result
+        ≡ (image_with base designator (plain_argument argument)).typed }
+    ensures noted { faults.new
+        ≡ noted faults.old (image_with base designator (plain_argument argument)).faults }
+{
+    let Some((at, argument)) = argument else {
+        wrong_number_of_arguments(designator, faults);
+        return Typed::Unknown;
+    };
+    wants(base, at, &argument, faults);
+    image_of_type(base, argument)
+}
+
+fn image(
+    meaning: Meaning,
+    prefix: Pos,
+    designator: Pos,
+    argument: Option<(Pos, Typed)>,
+    faults: &mut Least,
+) -> Typed
+    ensures typed { plain_typed result
+        ≡ (image meaning prefix designator (plain_argument argument)).typed }
+    ensures noted { faults.new
+        ≡ noted faults.old (image meaning prefix designator (plain_argument argument)).faults }
+{
+    match meaning {
+        Meaning::ScalarType(subtype) => {
+            image_with(base_of_subtype(subtype), designator, argument, faults)
+        }
+        Meaning::Object(object) => {
+            let value = image_of(stored(object.variable, object.subtype));
+            without_argument(designator, argument, value, faults)
+        }
+        Meaning::Literal(value) => {
+            let text = TextExpression::ImageTruth(BooleanExpression::Truth(value));
+            without_argument(designator, argument, Typed::Text(text), faults)
+        }
+        Meaning::Builtin(_) | Meaning::MainProcedure => {
+            drop(argument);
+            wrong_kind_of_name(prefix, faults);
+            Typed::Unknown
+        }
+    }
+}
+
+fn first_of(meaning: Meaning) -> Option<Int32>
+    ensures { result ≡ first_of meaning }
+{
+    match meaning {
+        Meaning::ScalarType(Subtype::Integer) => Some(Int32::new(i32::MIN)),
+        Meaning::ScalarType(Subtype::Natural) => Some(Int32::new(0)),
+        Meaning::ScalarType(Subtype::Positive) => Some(Int32::new(1)),
+        _ => None,
+    }
+}
+
+fn last_of(meaning: Meaning) -> Option<Int32>
+    ensures { result ≡ last_of meaning }
+{
+    match meaning {
+        Meaning::ScalarType(Subtype::Integer | Subtype::Natural | Subtype::Positive) => {
+            Some(Int32::new(i32::MAX))
+        }
+        _ => None,
+    }
+}
+
+// A bound of a subtype, if it has one.
+fn bound(
+    value: Option<Int32>,
+    prefix: Pos,
+    designator: Pos,
+    argument: Option<(Pos, Typed)>,
+    faults: &mut Least,
+) -> Typed
+    ensures typed { plain_typed result
+        ≡ (bound value prefix designator (plain_argument argument)).typed }
+    ensures noted { faults.new
+        ≡ noted faults.old (bound value prefix designator (plain_argument argument)).faults }
+{
+    match value {
+        None => {
+            drop(argument);
+            wrong_kind_of_name(prefix, faults);
+            Typed::Unknown
+        }
+        Some(value) => {
+            let number = Typed::Number(IntegerExpression::Number(value));
+            without_argument(designator, argument, number, faults)
+        }
+    }
+}
+
+fn attribute_of(
+    attribute: Attribute,
+    meaning: Meaning,
+    prefix: Pos,
+    designator: Pos,
+    argument: Option<(Pos, Typed)>,
+    faults: &mut Least,
+) -> Typed
+    ensures typed { plain_typed result
+        ≡ (attribute_of attribute meaning prefix designator (plain_argument argument)).typed }
+    ensures noted { faults.new ≡ noted faults.old
+        (attribute_of attribute meaning prefix designator (plain_argument argument)).faults }
+{
+    match attribute {
+        Attribute::Image => image(meaning, prefix, designator, argument, faults),
+        Attribute::First => bound(first_of(meaning), prefix, designator, argument, faults),
+        Attribute::Last => bound(last_of(meaning), prefix, designator, argument, faults),
+        Attribute::Other => {
+            drop(argument);
+            wrong_kind_of_name(prefix, faults);
+            Typed::Unknown
+        }
+    }
+}
+
+/// An attribute of what a name denotes, with its argument and the place where that begins, if it has one.
+pub fn attribute_value(
+    prefix: Denoted,
+    designator: &Ident,
+    argument: Option<(Pos, Typed)>,
+    faults: &mut Least,
+) -> Typed
+    ensures typed { plain_typed result
+        ≡ (checked_attribute prefix designator.now (plain_argument argument)).typed }
+    ensures noted { faults.new ≡ noted faults.old
+        (checked_attribute prefix designator.now (plain_argument argument)).faults }
+{
+    let Some(meaning) = prefix.meaning else {
+        drop(argument);
+        return Typed::Unknown;
+    };
+    match attribute_named(&designator.name) {
+        None => {
+            drop(argument);
+            wrong_kind_of_name(designator.at, faults);
+            Typed::Unknown
+        }
+        Some(attribute) => attribute_of(
+            attribute,
+            meaning,
+            prefix.at,
+            designator.at,
+            argument,
+            faults,
+        ),
+    }
+}

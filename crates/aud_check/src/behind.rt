@@ -1,0 +1,25 @@
+// What is checked behind a part that is typed.
+//
+// Where memory is refused, the parts in hand are dropped. A function that knows their type does so
+// branch by branch, at each of its ways out; one of any type does it by one call. So a part is handed
+// to this function while more is checked.
+
+ghost use Rattle.std.specs.Prelude.{◌≡◌, IfOk, Ok};
+
+use std::alloc::{AllocError, Global};
+
+/// A part, and what is checked behind it.
+pub fn both<T: Drop, U>(first: T, next: Result<U, AllocError>) -> Result<(T, U), AllocError>
+    ensures first { IfOk result (λ parts. parts.0 ≡ first) }
+    ensures next { IfOk result (λ parts. next ≡ Ok parts.1) }
+{
+    let second = next?;
+    Ok((first, second))
+}
+
+/// A part in a box.
+pub fn boxed<T: Drop>(alloc: Global, part: T) -> Result<Box<T>, AllocError>
+    ensures { IfOk result (λ b. b.value ≡ part) }
+{
+    Ok(Box::new(alloc, part)?)
+}

@@ -1,0 +1,109 @@
+-- Words that differ in the ends of their lines alone, and how lists of words are put together.
+use Rattle.std.proofs.Common.{◌≡◌, ℕ, List, [], ◌∷◌, ◌++◌, map, refl, sym, ap, ◌∙◌, append_assoc}
+use Rattle.std.specs.Prelude.{codes}
+use Rattle.aud_lex.specs.Why.Spaced.{Word, word, last_word}
+use Rattle.aud_syntax.specs.declared.tree.Ident.{Ident}
+use Rattle.aud_syntax.specs.Plain as m
+use Rattle.aud_syntax.specs.Why.Bare.{nowhere}
+use Rattle.aud_syntax.specs.Why.Printed as w
+
+-- the bytes of words
+abbrev pub texts : List Word → List (List ℕ)
+texts ws = map (λ (x : Word). x.bytes) ws
+
+-- words that differ in the ends of their lines alone: a line ends behind `then`, `else` and `loop` where statements follow, and there alone
+abbrev pub Same : List Word → List Word → Type 0
+Same us ws = texts us ≡ texts ws
+
+texts_append : (us vs : List Word) → texts (us ++ vs) ≡ texts us ++ texts vs
+texts_append [] vs = refl
+texts_append (u ∷ us) vs = ap (λ z. u.bytes ∷ z) (texts_append us vs)
+
+pub same_both : (us us' vs vs' : List Word) → Same us us' → Same vs vs' → Same (us ++ vs) (us' ++ vs')
+same_both us us' vs vs' e h = texts_append us vs ∙ ap (λ z. z ++ texts vs) e ∙ ap (λ z. texts us' ++ z) h ∙ sym (texts_append us' vs')
+
+same_on : (us vs vs' : List Word) → Same vs vs' → Same (us ++ vs) (us ++ vs')
+same_on us vs vs' h = same_both us us vs vs' refl h
+
+-- words behind a phrase of several, and behind one word
+on : (a b ws c : List Word) → b ++ ws ≡ c → (a ++ b) ++ ws ≡ a ++ c
+on a b ws c e = append_assoc a b ws ∙ ap (λ z. a ++ z) e
+
+pub one_on : (x : Word) (b c : List Word) → b ≡ c → x ∷ b ≡ x ∷ c
+one_on x b c e = ap (λ z. x ∷ z) e
+
+-- two phrases, of which the second is a list
+pub two : (a b us ws : List Word) → us ≡ b → (a ++ b) ++ ws ≡ a ++ (us ++ ws)
+two a b us ws e = append_assoc a b ws ∙ ap (λ z. a ++ (z ++ ws)) (sym e)
+
+pub three : (a b c us ws : List Word) → us ≡ c → (a ++ b ++ c) ++ ws ≡ a ++ (b ++ (us ++ ws))
+three a b c us ws e = append_assoc (a ++ b) c ws ∙ append_assoc a b (c ++ ws) ∙ ap (λ z. a ++ (b ++ (z ++ ws))) (sym e)
+
+-- three phrases, of which the last two are one item
+pub last_two : (a b c ws : List Word) → (a ++ b ++ c) ++ ws ≡ a ++ ((b ++ c) ++ ws)
+last_two a b c ws = append_assoc (a ++ b) c ws ∙ append_assoc a b (c ++ ws) ∙ ap (λ z. a ++ z) (sym (append_assoc b c ws))
+
+-- three phrases, of which the second is a list
+pub list_between : (a b c us ws : List Word) → us ≡ b → (a ++ b ++ c) ++ ws ≡ a ++ (us ++ (c ++ ws))
+list_between a b c us ws e = append_assoc (a ++ b) c ws ∙ append_assoc a b (c ++ ws) ∙ ap (λ z. a ++ (z ++ (c ++ ws))) (sym e)
+
+-- two phrases, of which the first is a list
+pub list_first : (a b us ws : List Word) → us ≡ a → (a ++ b) ++ ws ≡ us ++ (b ++ ws)
+list_first a b us ws e = append_assoc a b ws ∙ ap (λ z. z ++ (b ++ ws)) (sym e)
+
+-- the words of statements with others in them, where no line ends behind `then`, `else` and `loop`
+
+abbrev pub arm : List ℕ → List Word → List Word → List Word
+arm spelling e ss = word spelling ∷ (e ++ (word (codes "then") ∷ ss))
+
+pub arm_same : (spelling : List ℕ) (e ss ts : List Word) → Same ss ts → Same (arm spelling e ss) (w.arm_words spelling e ts)
+arm_same spelling e ss ts h = ap (λ z. spelling ∷ z) (same_on e (word (codes "then") ∷ ss) (last_word (codes "then") ∷ ts) (ap (λ z. codes "then" ∷ z) h))
+
+-- in front of others
+abbrev pub in_if : List Word → List Word → List Word → List Word → List Word → List Word
+in_if e ss vs os ws = arm (codes "if") e (ss ++ (vs ++ (os ++ (word (codes "end") ∷ word (codes "if") ∷ last_word (codes ";") ∷ ws))))
+
+pub if_words : (e ss vs os ws : List Word) → in_if e ss vs os [] ++ ws ≡ in_if e ss vs os ws
+if_words e ss vs os ws = one_on _ _ _ (on e _ _ _ (one_on _ _ _ (on ss _ _ _ (on vs _ _ _ (on os _ _ _ refl)))))
+
+pub if_same : (e : m.Expression) (x : m.Statements) (arms : m.Arms) (otherwise : m.MoreStatements) (ss vs os : List Word) → Same ss (w.statements_words x) → Same vs (w.arms_words arms) → Same os (w.otherwise_words otherwise (w.more_statements_words otherwise)) →
+    Same (in_if (w.expression_words e) ss vs os []) (w.statement_words (m.if_then nowhere e x arms otherwise))
+if_same e x arms otherwise ss vs os h i j =
+    let end : List Word = word (codes "end") ∷ word (codes "if") ∷ last_word (codes ";") ∷ [] in
+    let others : List Word = w.otherwise_words otherwise (w.more_statements_words otherwise) in
+    let apart : arm (codes "if") (w.expression_words e) ss ++ (vs ++ (os ++ end)) ≡ in_if (w.expression_words e) ss vs os [] = one_on _ _ _ (on (w.expression_words e) _ _ _ refl) in
+    ap texts (sym apart)
+    ∙ same_both (arm (codes "if") (w.expression_words e) ss) (w.arm_words (codes "if") (w.expression_words e) (w.statements_words x)) (vs ++ (os ++ end)) (w.arms_words arms ++ (others ++ end))
+    (arm_same (codes "if") (w.expression_words e) ss (w.statements_words x) h)
+    (same_both vs (w.arms_words arms) (os ++ end) (others ++ end) i (same_both os others end end j refl))
+
+abbrev pub in_loop : List Word → List Word → List Word → List Word → List Word
+in_loop before ss last ws = before ++ (word (codes "loop") ∷ (ss ++ (word (codes "end") ∷ word (codes "loop") ∷ (last ++ (last_word (codes ";") ∷ ws)))))
+
+pub loop_words : (before ss last ws : List Word) → in_loop before ss last [] ++ ws ≡ in_loop before ss last ws
+loop_words before ss last ws = on before _ _ _ (one_on _ _ _ (on ss _ _ _ (one_on _ _ _ (one_on _ _ _ (on last _ _ _ refl)))))
+
+pub loop_same : (before ss ts last : List Word) → Same ss ts →
+    Same (in_loop before ss last []) (before ++ (last_word (codes "loop") ∷ (ts ++ (word (codes "end") ∷ word (codes "loop") ∷ (last ++ (last_word (codes ";") ∷ []))))))
+loop_same before ss ts last h =
+    let end : List Word = word (codes "end") ∷ word (codes "loop") ∷ (last ++ (last_word (codes ";") ∷ [])) in
+    same_on before (word (codes "loop") ∷ (ss ++ end)) (last_word (codes "loop") ∷ (ts ++ end)) (ap (λ z. codes "loop" ∷ z) (same_both ss ts end end h refl))
+
+abbrev pub in_body : List Word → List Word → List Word → List Word
+in_body us last ws = last_word (codes "begin") ∷ (us ++ (word (codes "end") ∷ (last ++ (last_word (codes ";") ∷ ws))))
+
+pub body_words : (us last ws : List Word) → in_body us last [] ++ ws ≡ in_body us last ws
+body_words us last ws = one_on _ _ _ (on us _ _ _ (one_on _ _ _ (on last _ _ _ refl)))
+
+pub body_same : (us ts last : List Word) → Same us ts →
+    Same (in_body us last []) (last_word (codes "begin") ∷ (ts ++ (word (codes "end") ∷ (last ++ (last_word (codes ";") ∷ [])))))
+body_same us ts last h =
+    let end : List Word = word (codes "end") ∷ (last ++ (last_word (codes ";") ∷ [])) in
+    ap (λ z. codes "begin" ∷ z) (same_both us ts end end h refl)
+
+-- a program behind its context clauses, whose body has these words
+abbrev pub procedure_words : Ident → m.Declarations → List Word → List Word
+procedure_words i ds us = word (codes "procedure") ∷ w.ident_word i ∷ last_word (codes "is") ∷ (w.declarations_words ds ++ us)
+
+pub unit_same : (cs : List m.Context) (i : Ident) (ds : m.Declarations) (us ws : List Word) → Same us ws → Same (w.contexts_words cs ++ procedure_words i ds us) (w.contexts_words cs ++ procedure_words i ds ws)
+unit_same cs i ds us ws h = same_on (w.contexts_words cs) (procedure_words i ds us) (procedure_words i ds ws) (ap (λ z. codes "procedure" ∷ i.name ∷ codes "is" ∷ z) (same_on (w.declarations_words ds) us ws h))

@@ -1,0 +1,129 @@
+use Rattle.aud_parse.specs.Grammar as g
+use Rattle.aud_parse.specs.Grammar.{Symbol, N, T}
+use Rattle.aud_lex.specs.declared.token.Kind.TheVariants as kind
+use Rattle.std.proofs.Common.{List, [], ◌∷◌, sym, ◌∙◌, refl, rules, arith}
+use Rattle.aud_parse.specs.Ties.Outcome.{o_rule, o_this, o_other, o_last, o_yes, o_no, o_more}
+use Rattle.aud_parse.specs.Actions.{token}
+use Rattle.aud_parse.proofs.Passing.{to, exit, hand_on, level_on, no_level, word_passes, turns_push, turns_end}
+use Rattle.aud_parse.proofs.Joined.{exit_all}
+use Rattle.aud_parse.proofs.Connecting.{completes, completes_in, exit_in, exit_among}
+use Rattle.aud_parse.proofs.Rolls.{arm_items, in_order_items}
+use Rattle.aud_parse.proofs.statement.+statement.Goals as goal
+
+-- what a branch is read by, behind its first word
+abbrev guarded_symbols : List Symbol
+guarded_symbols = N g.Expression ∷ T kind.Then ∷ N g.Statements ∷ []
+
+pub loop_statement-returns-in_err-scheme : goal.loop_statement-returns-in_err-scheme
+loop_statement-returns-in_err-scheme t c = exit_in _ _ _ c.from_residual.ensures.1 c.in_err-scheme.ensures.reads (λ k ds v o. o_rule o)
+
+pub loop_statement-returns-in_err-begin : goal.loop_statement-returns-in_err-begin
+loop_statement-returns-in_err-begin t c = exit_in _ _ _ c.from_residual-in_err-begin.ensures.1 (c.in_err-begin.ensures.reads c.args.room) (λ k ds v o. o_rule (c.in_ok-scheme.ensures.reads _ _ _ o))
+
+pub loop_statement-returns-in_err-inner : goal.loop_statement-returns-in_err-inner
+loop_statement-returns-in_err-inner t c = exit_in _ _ _ c.from_residual-in_err-inner.ensures.1 c.in_err-inner.ensures.reads (λ k ds v o. o_rule (c.in_ok-scheme.ensures.reads _ _ _ (c.in_ok-begin.ensures.reads _ _ _ _ o)))
+
+pub loop_statement-returns : goal.loop_statement-returns
+loop_statement-returns t c = completes_in _ _ c.args.start c.in_ok-inner.rest _ (c.end_loop.ensures c.args.room) (search rules) (λ k ds v o. o_rule (c.in_ok-scheme.ensures.reads _ _ _ (c.in_ok-begin.ensures.reads _ _ _ _ (c.in_ok-inner.ensures.reads _ _ _ o)))) (λ ds. refl)
+
+pub name_statement-returns-in_err-ident : goal.name_statement-returns-in_err-ident
+name_statement-returns-in_err-ident t c = exit _ _ _ c.from_residual.ensures.1 (c.in_err-ident.ensures.reads c.args.room) (λ k ds v o. o_rule o)
+
+pub name_statement-returns-in-Some : goal.name_statement-returns-in-Some
+name_statement-returns-in-Some t c = completes _ c.args.start c.in-Some.behind _ c.loop_statement.ensures (omega (arith, c.in-Some.ensures.shorter, c.in_ok-ident.ensures.shorter)) (λ k ds v o. o_rule (c.in_ok-ident.ensures.reads _ _ _ _ (o_rule (o_this c.in-Some.ensures.reads.0 (o_rule (word_passes c.in-Some.ensures.reads _ _ _ o))))))
+
+pub name_statement-returns : goal.name_statement-returns
+name_statement-returns t c = completes _ c.args.start c.in_ok-ident.rest _ c.named.ensures (search rules) (λ k ds v o. o_rule (c.in_ok-ident.ensures.reads _ _ _ _ (o_rule (o_other c.in_default.ensures.reads (o_last o)))))
+
+pub guarded-returns-in_err-condition : goal.guarded-returns-in_err-condition
+guarded-returns-in_err-condition t c = exit_among _ _ _ c.from_residual.ensures.1 c.in_err-condition.ensures.reads (λ k ds v o. o)
+
+pub guarded-returns-in_err-rest : goal.guarded-returns-in_err-rest
+guarded-returns-in_err-rest t c = exit_among _ _ _ c.from_residual-in_err-rest.ensures.1 (c.in_err-rest.ensures.reads c.args.room) (λ k ds v o. c.in_ok-condition.ensures.reads _ _ _ o)
+
+pub guarded-returns-in_err-inner : goal.guarded-returns-in_err-inner
+guarded-returns-in_err-inner t c = exit_among _ _ _ c.from_residual-in_err-inner.ensures.1 c.in_err-inner.ensures.reads (λ k ds v o. c.in_ok-condition.ensures.reads _ _ _ (c.in_ok-rest.ensures.reads _ _ _ _ o))
+
+pub guarded-returns : goal.guarded-returns
+guarded-returns t c = record { reads = λ k ds v o. c.in_ok-condition.ensures.reads _ _ _ (c.in_ok-rest.ensures.reads _ _ _ _ (c.in_ok-inner.ensures.reads _ _ _ o)); shorter = search rules }
+
+pub elsif-returns-in_err-t : goal.elsif-returns-in_err-t
+elsif-returns-in_err-t t c = exit _ _ _ c.from_residual.ensures.1 (c.in_err-t.ensures.reads c.args.room) (λ k ds v o. o_rule o)
+
+pub elsif-returns-in_err-parts : goal.elsif-returns-in_err-parts
+elsif-returns-in_err-parts t c = exit_all guarded_symbols _ _ _ _ c.from_residual-in_err-parts.ensures.1 c.in_err-parts.ensures.reads (λ k ds v o. o_rule (c.in_ok-t.ensures.reads _ _ _ _ o))
+
+pub elsif-returns : goal.elsif-returns
+elsif-returns t c = record { reads = λ k ds v o. to (o_rule (c.in_ok-t.ensures.reads _ _ _ _ (c.in_ok-parts.ensures.reads _ _ _ o))) (arm_items c.in_ok-arm.arm c.at.result (token c.in_ok-t.t.now) c.in_ok-parts.parts.0 c.in_ok-parts.parts.1 ds c.in_ok-arm.ensures c.at.ensures); shorter = search rules }
+
+pub elsifs-turns-preserved : goal.elsifs-turns-preserved
+elsifs-turns-preserved t c = record { turns = turns_push c.in_ok-next.next.value c.turns.invariant.turns (sym c.is.ensures ∙ c.turns-test.true) c.in_ok-next.ensures.reads c.in_ok-all.ensures; shorter = search rules }
+
+pub elsifs-returns-in_err-next : goal.elsifs-returns-in_err-next
+elsifs-returns-in_err-next t c = exit _ _ _ c.from_residual.ensures.1 c.in_err-next.ensures.reads (λ k ds v o. c.turns.invariant.turns.by _ _ _ (o_more (sym c.is.ensures ∙ c.turns-test.true) o))
+
+pub elsifs-returns : goal.elsifs-returns
+elsifs-returns t c = record { reads = turns_end c.turns.invariant.turns (sym c.is.ensures ∙ c.turns-test.false); shorter = search rules }
+
+pub opt_else-returns-in_err-inner : goal.opt_else-returns-in_err-inner
+opt_else-returns-in_err-inner t c = exit _ _ _ c.from_residual.ensures.1 c.in_err-inner.ensures.reads (λ k ds v o. o_yes c.in-Some.ensures.reads.0 (o_rule (word_passes c.in-Some.ensures.reads _ _ _ o)))
+
+pub opt_else-returns-in-Some : goal.opt_else-returns-in-Some
+opt_else-returns-in-Some t c = record { reads = λ k ds v o. o_yes c.in-Some.ensures.reads.0 (o_rule (word_passes c.in-Some.ensures.reads _ _ _ (c.in_ok-inner.ensures.reads _ _ _ o))); shorter = search rules }
+
+pub opt_else-returns : goal.opt_else-returns
+opt_else-returns t c = record { reads = λ k ds v o. o_no c.in_default.ensures.reads o; shorter = search rules }
+
+pub if_statement-returns-in_err-begin : goal.if_statement-returns-in_err-begin
+if_statement-returns-in_err-begin t c = exit _ _ _ c.from_residual.ensures.1 (c.in_err-begin.ensures.reads c.args.room) (λ k ds v o. o_rule o)
+
+pub if_statement-returns-in_err-first : goal.if_statement-returns-in_err-first
+if_statement-returns-in_err-first t c = exit_all guarded_symbols _ _ _ _ c.from_residual-in_err-first.ensures.1 c.in_err-first.ensures.reads (λ k ds v o. o_rule (c.in_ok-begin.ensures.reads _ _ _ _ o))
+
+pub if_statement-returns-in_err-others : goal.if_statement-returns-in_err-others
+if_statement-returns-in_err-others t c = exit _ _ _ c.from_residual-in_err-others.ensures.1 c.in_err-others.ensures.reads (λ k ds v o. o_rule (c.in_ok-begin.ensures.reads _ _ _ _ (c.in_ok-first.ensures.reads _ _ _ o)))
+
+pub if_statement-returns-in_err-otherwise : goal.if_statement-returns-in_err-otherwise
+if_statement-returns-in_err-otherwise t c = exit _ _ _ c.from_residual-in_err-otherwise.ensures.1 c.in_err-otherwise.ensures.reads (λ k ds v o. o_rule (c.in_ok-begin.ensures.reads _ _ _ _ (c.in_ok-first.ensures.reads _ _ _ (c.in_ok-others.ensures.reads _ _ _ o))))
+
+pub if_statement-returns : goal.if_statement-returns
+if_statement-returns t c = completes _ c.args.start c.in_ok-otherwise.rest _ (c.end_if.ensures c.args.room) (search rules) (λ k ds v o. o_rule (c.in_ok-begin.ensures.reads _ _ _ _ (c.in_ok-first.ensures.reads _ _ _ (c.in_ok-others.ensures.reads _ _ _ (c.in_ok-otherwise.ensures.reads _ _ _ o)))))
+
+pub statement-returns-then-is : goal.statement-returns-then-is
+statement-returns-then-is t c = record { reads = hand_on _ c.args.start _ (c.null.ensures.reads c.args.room) (λ k ds v o. o_rule (o_this (sym c.is.ensures ∙ c.if-is.true) o)); shorter = search rules }
+
+pub statement-returns-then-is-2 : goal.statement-returns-then-is-2
+statement-returns-then-is-2 t c = record { reads = hand_on _ c.args.start _ c.name_statement.ensures.reads (λ k ds v o. o_rule (o_other (sym c.is.ensures ∙ c.if-is.false) (o_this (sym c.is-2.ensures ∙ c.if-is-2.true) o))); shorter = search rules }
+
+pub statement-returns-then-is-3 : goal.statement-returns-then-is-3
+statement-returns-then-is-3 t c = record { reads = hand_on _ c.args.start _ c.if_statement.ensures.reads (λ k ds v o. o_rule (o_other (sym c.is.ensures ∙ c.if-is.false) (o_other (sym c.is-2.ensures ∙ c.if-is-2.false) (o_this (sym c.is-3.ensures ∙ c.if-is-3.true) o)))); shorter = search rules }
+
+pub statement-returns-then-is_one_of : goal.statement-returns-then-is_one_of
+statement-returns-then-is_one_of t c = completes _ c.args.start c.args.start _ c.loop_statement.ensures (omega arith) (λ k ds v o. o_rule (o_other (sym c.is.ensures ∙ c.if-is.false) (o_other (sym c.is-2.ensures ∙ c.if-is-2.false) (o_other (sym c.is-3.ensures ∙ c.if-is-3.false) (o_this (sym c.is_one_of.ensures ∙ c.if-is_one_of.true) o)))))
+
+pub statement-returns : goal.statement-returns
+statement-returns t c = record { reads = hand_on _ c.args.start _ c.exit.ensures.reads (λ k ds v o. o_rule (o_other (sym c.is.ensures ∙ c.if-is.false) (o_other (sym c.is-2.ensures ∙ c.if-is-2.false) (o_other (sym c.is-3.ensures ∙ c.if-is-3.false) (o_other (sym c.is_one_of.ensures ∙ c.if-is_one_of.false) (o_last o)))))); shorter = search rules }
+
+pub more_statements-turns-preserved : goal.more_statements-turns-preserved
+more_statements-turns-preserved t c = record { turns = turns_push c.in_ok-next.next.value c.turns.invariant.turns (sym c.is_one_of.ensures ∙ c.turns-test.true) c.in_ok-next.ensures.reads c.in_ok-all.ensures; shorter = search rules }
+
+pub more_statements-returns-in_err-next : goal.more_statements-returns-in_err-next
+more_statements-returns-in_err-next t c = exit _ _ _ c.from_residual.ensures.1 c.in_err-next.ensures.reads (λ k ds v o. c.turns.invariant.turns.by _ _ _ (o_more (sym c.is_one_of.ensures ∙ c.turns-test.true) o))
+
+pub more_statements-returns : goal.more_statements-returns
+more_statements-returns t c = record { reads = turns_end c.turns.invariant.turns (sym c.is_one_of.ensures ∙ c.turns-test.false); shorter = search rules }
+
+pub statement_list-returns-in_err-first : goal.statement_list-returns-in_err-first
+statement_list-returns-in_err-first t c = exit _ _ _ c.from_residual.ensures.1 c.in_err-first.ensures.reads (λ k ds v o. o_rule o)
+
+pub statement_list-returns-in_err-others : goal.statement_list-returns-in_err-others
+statement_list-returns-in_err-others t c = exit _ _ _ c.from_residual-in_err-others.ensures.1 c.in_err-others.ensures.reads (λ k ds v o. o_rule (c.in_ok-first.ensures.reads _ _ _ o))
+
+pub statement_list-returns : goal.statement_list-returns
+statement_list-returns t c = record { reads = λ k ds v o. to (o_rule (c.in_ok-first.ensures.reads _ _ _ (c.in_ok-others.ensures.reads _ _ _ o))) (in_order_items c.in_ok-statements.statements c.in_ok-first.first c.in_ok-others.others ds c.in_ok-statements.ensures); shorter = search rules }
+
+pub statements-returns-in_err-inside : goal.statements-returns-in_err-inside
+statements-returns-in_err-inside t c = no_level _ g.Statements g.StatementList _ c.args.start _ _ _ refl c.from_residual.ensures.1 c.in_err-inside.ensures c.is_one_of.ensures
+
+pub statements-returns : goal.statements-returns
+statements-returns t c = record { reads = level_on _ c.args.start _ _ c.in_ok-inside.ensures c.statement_list.ensures.reads (λ k ds v o. o_rule o); shorter = search rules }

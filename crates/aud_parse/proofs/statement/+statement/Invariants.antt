@@ -1,0 +1,50 @@
+use Rattle.std.proofs.Common.{◌+◌, ◌*◌, ◌≤◌, length}
+use Rattle.aud_parse.specs.Grammar as g
+use Rattle.aud_parse.specs.Ties.Items.{arm_item, statement_item}
+use Rattle.aud_parse.proofs.Passing.{Turns}
+use Rattle.aud_parse.proofs.statement.+statement.Given as goal
+
+abbrev pub decreases-statements : goal.decreases-statements
+decreases-statements l = 16 * l.room + 0
+
+abbrev pub decreases-guarded : goal.decreases-guarded
+decreases-guarded l = 16 * l.room + 1
+
+abbrev pub decreases-opt_else : goal.decreases-opt_else
+decreases-opt_else l = 16 * l.room + 1
+
+abbrev pub decreases-loop_statement : goal.decreases-loop_statement
+decreases-loop_statement l = 16 * l.room + 1
+
+abbrev pub decreases-name_statement : goal.decreases-name_statement
+decreases-name_statement l = 16 * l.room + 2
+
+abbrev pub decreases-elsif : goal.decreases-elsif
+decreases-elsif l = 16 * l.room + 2
+
+abbrev pub decreases-elsifs : goal.decreases-elsifs
+decreases-elsifs l = 16 * l.room + 3
+
+abbrev pub decreases-if_statement : goal.decreases-if_statement
+decreases-if_statement l = 16 * l.room + 4
+
+abbrev pub decreases-statement : goal.decreases-statement
+decreases-statement l = 16 * l.room + 5
+
+abbrev pub decreases-more_statements : goal.decreases-more_statements
+decreases-more_statements l = 16 * l.room + 6
+
+abbrev pub decreases-statement_list : goal.decreases-statement_list
+decreases-statement_list l = 16 * l.room + 7
+
+abbrev pub invariant-elsifs-turns : goal.invariant-elsifs-turns
+invariant-elsifs-turns l = record { turns : Turns arm_item g.Elsif l.room l.start.tokens.now l.all.items l.rest.tokens.now; shorter : length l.rest.tokens.now ≤ length l.start.tokens.now }
+
+abbrev pub decreases-elsifs-turns : goal.decreases-elsifs-turns
+decreases-elsifs-turns l = length l.rest.tokens.now
+
+abbrev pub invariant-more_statements-turns : goal.invariant-more_statements-turns
+invariant-more_statements-turns l = record { turns : Turns statement_item g.Statement l.room l.start.tokens.now l.all.items l.rest.tokens.now; shorter : length l.rest.tokens.now ≤ length l.start.tokens.now }
+
+abbrev pub decreases-more_statements-turns : goal.decreases-more_statements-turns
+decreases-more_statements-turns l = length l.rest.tokens.now

@@ -1,0 +1,171 @@
+// Statements of the parts that were read.
+//
+// None of these functions is inlined: what they have by value does not stand in the stack frames of
+// statements that lie in one another.
+
+ghost use Rattle.std.specs.Prelude.{◌≡◌, ◌++◌, ◌∷◌, [], IfOk, Some};
+ghost use Rattle.aud_syntax.specs.Plain as m;
+ghost use Rattle.aud_syntax.specs.Ties.View.{plain_name, plain_expression, plain_statement, plain_statements, plain_others, plain_iteration, arm_list};
+ghost use Rattle.aud_parse.specs.Ties.Parts.{assigned_or_called, else_statements, iteration_of, begins_at};
+
+use aud_syntax::tree::{
+    Arm, Expression, Ident, IfStatement, Iteration, LoopStatement, Name, Statement, Statements,
+};
+use aud_text::place::Pos;
+use std::alloc::{AllocError, Global};
+
+/// A condition, and the statements that are for it.
+pub type Guarded = (Box<Expression>, Box<Statements>);
+
+/// The condition of a loop, if it has one, and where it begins.
+pub type Scheme = Option<(Pos, Box<Expression>)>;
+
+/// A list with one tree more.
+#[inline(never)]
+pub fn add<T: Drop>(all: Vec<T>, next: Box<T>) -> Result<Vec<T>, AllocError>
+    ensures { IfOk result (λ v. v.items ≡ all.items ++ next.value ∷ []) }
+{
+    let mut all = all;
+    all.push(Box::into_inner(next))?;
+    Ok(all)
+}
+
+/// A condition and its statements, as a branch of an if statement.
+#[inline(never)]
+pub fn arm_of(alloc: Global, at: Pos, parts: Guarded) -> Result<Box<Arm>, AllocError>
+    ensures { IfOk result (λ b. b.value ≡
+        record { at = at; condition = parts.0.value; statements = parts.1.value }) }
+{
+    let (condition, statements) = parts;
+    let arm = Arm {
+        at,
+        condition: Box::into_inner(condition),
+        statements: Box::into_inner(statements),
+    };
+    Ok(Box::new(alloc, arm)?)
+}
+
+/// A statement, and those behind it.
+#[inline(never)]
+pub fn in_order(
+    alloc: Global,
+    first: Box<Statement>,
+    others: Vec<Statement>,
+) -> Result<Box<Statements>, AllocError>
+    ensures { IfOk result (λ b. b.value ≡ record { first = first.value; others = others }) }
+{
+    let first = Box::into_inner(first);
+    Ok(Box::new(alloc, Statements { first, others })?)
+}
+
+/// An assignment to the name, or a call of it where there is no value (RM 5.2, 6.4).
+#[inline(never)]
+pub fn assign_or_call(
+    alloc: Global,
+    name: Name,
+    value: Option<Expression>,
+) -> Result<Box<Statement>, AllocError>
+    ensures { IfOk result (λ b. plain_statement b.value ≡
+        assigned_or_called (plain_name name) value) }
+{
+    let Some(value) = value else {
+        return Ok(Box::new(alloc, Statement::Call(name))?);
+    };
+    Ok(Box::new(alloc, Statement::Assign(name, value))?)
+}
+
+/// The statements of an else part, of which there are none where it is missing.
+fn else_part(
+    alloc: Global,
+    otherwise: Option<Box<Statements>>,
+) -> Result<Vec<Statement>, AllocError>
+    ensures { IfOk result (λ v. v.items ≡ else_statements otherwise) }
+{
+    let Some(inner) = otherwise else {
+        return Ok(Vec::new(alloc));
+    };
+    let Statements { first, mut others } = Box::into_inner(inner);
+    others.insert(0, first)?;
+    Ok(others)
+}
+
+/// An if statement (RM 5.3).
+#[inline(never)]
+pub fn made_if(
+    alloc: Global,
+    at: Pos,
+    first: Guarded,
+    others: Vec<Arm>,
+    otherwise: Option<Box<Statements>>,
+) -> Result<Box<Statement>, AllocError>
+    ensures { IfOk result (λ b. plain_statement b.value ≡
+        m.if_then at (plain_expression first.0.value) (plain_statements first.1.value)
+        (arm_list others.items) (plain_others (else_statements otherwise))) }
+{
+    let otherwise = else_part(alloc, otherwise)?;
+    let arm = arm_of(alloc, at, first)?;
+    let first = Box::into_inner(arm);
+    let statement = Box::new(
+        alloc,
+        IfStatement {
+            first,
+            others,
+            otherwise,
+        },
+    )?;
+    let boxed = Box::new(alloc, Statement::If(statement))?;
+    Ok(boxed)
+}
+
+// Where a loop begins: at its iteration scheme, or at `loop`.
+fn begins_at(scheme: &Scheme, begin: Pos) -> Pos
+    ensures { result ≡ begins_at scheme.now begin }
+{
+    match scheme {
+        None => begin,
+        Some(found) => found.0,
+    }
+}
+
+// How often a loop is gone through.
+fn iteration_of(scheme: Scheme) -> Iteration
+    ensures { plain_iteration result ≡ iteration_of scheme }
+{
+    match scheme {
+        None => Iteration::Forever,
+        Some((_, condition)) => Iteration::While(Box::into_inner(condition)),
+    }
+}
+
+/// A loop statement (RM 5.5).
+#[inline(never)]
+pub fn made_loop(
+    alloc: Global,
+    label: Option<Ident>,
+    scheme: Scheme,
+    begin: Pos,
+    inner: Box<Statements>,
+    end: (Option<Ident>, Pos),
+) -> Result<Box<Statement>, AllocError>
+    ensures { IfOk result (λ b. plain_statement b.value ≡
+        m.loop label (begins_at scheme begin) (iteration_of scheme)
+        (plain_statements inner.value) end.0 end.1) }
+{
+    let at = begins_at(&scheme, begin);
+    let iteration = iteration_of(scheme);
+    let statements = Box::into_inner(inner);
+    let (name, semicolon) = end;
+    let statement = Box::new(
+        alloc,
+        LoopStatement {
+            label,
+            at,
+            iteration,
+            statements,
+            name,
+            semicolon,
+        },
+    )?;
+    let boxed = Box::new(alloc, Statement::Loop(statement))?;
+    Ok(boxed)
+}

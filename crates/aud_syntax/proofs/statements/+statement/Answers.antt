@@ -1,0 +1,61 @@
+use Rattle.std.proofs.Common.{◌++◌, ◌∷◌, [], ◌∙◌, sym, refl, arith}
+use Rattle.std.specs.Prelude.{codes}
+use Rattle.aud_lex.specs.Why.Spaced.{word, last_word}
+use Rattle.aud_syntax.specs.declared.tree.IfStatement.{out-IfStatement}
+use Rattle.aud_syntax.specs.Ties.View.{plain_expression, plain_statement, plain_others, plain_statements, arm_list, plain_iteration}
+use Rattle.aud_syntax.specs.Why.Printed.{expression_words, label_words, iteration_words, end_words, arm_words, arms_words, otherwise_words, statement_words, more_statements_words, statements_words}
+use Rattle.aud_syntax.proofs.Written.{all_written, next_written, if_written, loop_written, else_written}
+use Rattle.aud_syntax.proofs.statements.+statement.Goals as goal
+
+pub push_arm-returns : goal.push_arm-returns
+push_arm-returns t c =
+    let condition = expression_words (plain_expression c.args.arm.now.condition) in
+    let statements = statements_words (plain_statements c.args.arm.now.statements) in
+    all_written c.push_statements.result c.args.out.now.items c.push_word.new.out.items c.push_statements.new.out.items (word c.args.spelling.now ∷ []) (condition ++ (last_word (codes "then") ∷ statements)) c.in_ok-push_word.ensures
+    (all_written c.push_statements.result c.push_word.new.out.items c.push_expression.new.out.items c.push_statements.new.out.items condition (last_word (codes "then") ∷ statements) c.in_ok-push_expression.ensures
+    (all_written c.push_statements.result c.push_expression.new.out.items c.push_last_word.new.out.items c.push_statements.new.out.items (last_word (codes "then") ∷ []) statements c.in_ok-push_last_word.ensures c.push_statements.ensures))
+
+pub push_arms-loop-next-preserved : goal.push_arms-loop-next-preserved
+push_arms-loop-next-preserved t c =
+    next_written (λ xs. arms_words (arm_list xs)) (λ x. arm_words (codes "elsif") (expression_words (plain_expression x.condition)) (statements_words (plain_statements x.statements))) (λ x xs. refl) c.args.arms.now c.loop-next.next-index c.next-item.result (omega arith) c.next-item.is c.loop-next.out.items c.push_arm.new.out.items _ c.loop-next.invariant c.in_ok-push_arm.ensures
+
+pub push_if-returns : goal.push_if-returns
+push_if-returns t c =
+    let x = out-IfStatement c.args.statement.now in
+    let first = arm_words (codes "if") (expression_words (plain_expression x.first.condition)) (statements_words (plain_statements x.first.statements)) in
+    let arms = arms_words (arm_list x.others.items) in
+    let otherwise = otherwise_words (plain_others x.otherwise.items) (more_statements_words (plain_others x.otherwise.items)) in
+    let end = word (codes "end") ∷ word (codes "if") ∷ [] in
+    let last = last_word (codes ";") ∷ [] in
+    if_written c.push_last_word.result c.args.out.now.items c.push_last_word.new.out.items c.args.statement.now
+    (all_written c.push_last_word.result c.args.out.now.items c.push_arm.new.out.items c.push_last_word.new.out.items first (arms ++ (otherwise ++ (end ++ last))) c.in_ok-push_arm.ensures
+    (all_written c.push_last_word.result c.push_arm.new.out.items c.push_arms.new.out.items c.push_last_word.new.out.items arms (otherwise ++ (end ++ last)) (rw c.deref.ensures.value at c.in_ok-push_arms.ensures)
+    (all_written c.push_last_word.result c.push_arms.new.out.items c.push_otherwise.new.out.items c.push_last_word.new.out.items otherwise (end ++ last) (rw c.deref-2.ensures.value at c.in_ok-push_otherwise.ensures)
+    (all_written c.push_last_word.result c.push_otherwise.new.out.items c.push_two_words.new.out.items c.push_last_word.new.out.items end last c.in_ok-push_two_words.ensures c.push_last_word.ensures))))
+
+pub push_loop-returns : goal.push_loop-returns
+push_loop-returns t c =
+    let x = c.args.statement.now in
+    let statements = statements_words (plain_statements x.statements) in
+    let last = last_word (codes ";") ∷ [] in
+    all_written c.push_last_word-2.result c.args.out.now.items c.push_label.new.out.items c.push_last_word-2.new.out.items (label_words x.label) (iteration_words (plain_iteration x.iteration) ++ (last_word (codes "loop") ∷ (statements ++ (word (codes "end") ∷ word (codes "loop") ∷ (end_words x.name ++ last))))) c.in_ok-push_label.ensures
+    (all_written c.push_last_word-2.result c.push_label.new.out.items c.push_iteration.new.out.items c.push_last_word-2.new.out.items (iteration_words (plain_iteration x.iteration)) (last_word (codes "loop") ∷ (statements ++ (word (codes "end") ∷ word (codes "loop") ∷ (end_words x.name ++ last)))) c.in_ok-push_iteration.ensures
+    (all_written c.push_last_word-2.result c.push_iteration.new.out.items c.push_last_word.new.out.items c.push_last_word-2.new.out.items (last_word (codes "loop") ∷ []) (statements ++ (word (codes "end") ∷ word (codes "loop") ∷ (end_words x.name ++ last))) c.in_ok-push_last_word.ensures
+    (all_written c.push_last_word-2.result c.push_last_word.new.out.items c.push_statements.new.out.items c.push_last_word-2.new.out.items statements (word (codes "end") ∷ word (codes "loop") ∷ (end_words x.name ++ last)) c.in_ok-push_statements.ensures
+    (all_written c.push_last_word-2.result c.push_statements.new.out.items c.push_two_words.new.out.items c.push_last_word-2.new.out.items (word (codes "end") ∷ word (codes "loop") ∷ []) (end_words x.name ++ last) c.in_ok-push_two_words.ensures
+    (all_written c.push_last_word-2.result c.push_two_words.new.out.items c.push_end_name.new.out.items c.push_last_word-2.new.out.items (end_words x.name) last c.in_ok-push_end_name.ensures c.push_last_word-2.ensures)))))
+
+pub push_more_statements-loop-next-preserved : goal.push_more_statements-loop-next-preserved
+push_more_statements-loop-next-preserved t c =
+    next_written (λ xs. more_statements_words (plain_others xs)) (λ x. statement_words (plain_statement x)) (λ x xs. refl) c.args.others.now c.loop-next.next-index c.next-item.result (omega arith) c.next-item.is c.loop-next.out.items c.push_statement.new.out.items _ c.loop-next.invariant c.in_ok-push_statement.ensures
+
+pub push_otherwise-returns : goal.push_otherwise-returns
+push_otherwise-returns t c =
+    else_written c.push_more_statements.result c.args.out.now.items c.push_last_word.new.out.items c.push_more_statements.new.out.items c.args.statements.now (sym c.is_empty.ensures ∙ c.if-is_empty.false) c.in_ok-push_last_word.ensures c.push_more_statements.ensures
+
+pub push_statement-returns-in-Loop : goal.push_statement-returns-in-Loop
+push_statement-returns-in-Loop t c = rw c.in-Loop.is (loop_written c.push_loop.result c.args.out.now.items c.push_loop.new.out.items c.in-Loop.statement (rw c.deref-in-Loop.ensures at c.push_loop.ensures))
+
+pub push_statements-returns : goal.push_statements-returns
+push_statements-returns t c =
+    all_written c.push_more_statements.result c.args.out.now.items c.push_statement.new.out.items c.push_more_statements.new.out.items (statement_words (plain_statement c.args.statements.now.first)) (more_statements_words (plain_others c.args.statements.now.others.items)) c.in_ok-push_statement.ensures (rw c.deref.ensures.value at c.push_more_statements.ensures)

@@ -1,0 +1,11 @@
+use Rattle.std.proofs.Common.{◌≡◌, ◌++◌, drop}
+use Rattle.aud_lex.specs.Why.Spaced.{spaced}
+use Rattle.aud_syntax.specs.Ties.View.{plain_others, arm_list}
+use Rattle.aud_syntax.specs.Why.Printed.{more_statements_words, arms_words}
+use Rattle.aud_syntax.proofs.statements.+statement.Given as goal
+
+abbrev pub invariant-push_more_statements-loop-next : goal.invariant-push_more_statements-loop-next
+invariant-push_more_statements-loop-next l = l.out.items ++ spaced (more_statements_words (plain_others (drop l.next-index l.others))) ≡ l.fn.out.items ++ spaced (more_statements_words (plain_others l.fn.others))
+
+abbrev pub invariant-push_arms-loop-next : goal.invariant-push_arms-loop-next
+invariant-push_arms-loop-next l = l.out.items ++ spaced (arms_words (arm_list (drop l.next-index l.arms))) ≡ l.fn.out.items ++ spaced (arms_words (arm_list l.fn.arms))

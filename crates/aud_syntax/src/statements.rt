@@ -1,0 +1,186 @@
+// The canonical text of statements.
+
+ghost use Rattle.aud_syntax.specs.Ties.Writes.{Writes};
+ghost use Rattle.aud_syntax.specs.Ties.View.{plain_expression, plain_maybe, plain_name, plain_statement, plain_others, plain_statements, plain_if, arm_list, plain_iteration, plain_loop_statement};
+ghost use Rattle.aud_syntax.specs.Why.Printed.{null_words, assignment_words, call_words, label_words, iteration_words, condition_words, exit_words, expression_words, arm_words, arms_words, otherwise_words, statement_words, more_statements_words, statements_words};
+
+use crate::expressions::{push_expression, push_name};
+use crate::tree::{
+    Arm, Expression, Ident, IfStatement, Iteration, LoopStatement, Name, Statement, Statements,
+};
+use crate::words::{push_end_name, push_ident, push_last_word, push_two_words, push_word};
+use std::alloc::AllocError;
+
+#[cycle(statement)]
+pub fn push_statements(out: &mut Vec<u8>, statements: &Statements) -> Result<(), AllocError>
+    ensures { Writes result out.old out.new (statements_words (plain_statements statements.now)) }
+{
+    push_statement(out, &statements.first)?;
+    push_more_statements(out, &statements.others)
+}
+
+#[cycle(statement)]
+fn push_more_statements(out: &mut Vec<u8>, others: &[Statement]) -> Result<(), AllocError>
+    ensures { Writes result out.old out.new (more_statements_words (plain_others others.now)) }
+{
+    for next in others {
+        push_statement(out, next)?;
+    }
+    Ok(())
+}
+
+// RM 5.1
+#[cycle(statement)]
+fn push_statement(out: &mut Vec<u8>, statement: &Statement) -> Result<(), AllocError>
+    ensures { Writes result out.old out.new (statement_words (plain_statement statement.now)) }
+{
+    match statement {
+        Statement::Null(_) => push_null(out),
+        Statement::Assign(target, value) => push_assignment(out, target, value),
+        Statement::Call(name) => push_call(out, name),
+        Statement::If(statement) => push_if(out, statement),
+        Statement::Loop(statement) => push_loop(out, statement),
+        Statement::Exit(_, label, condition) => push_exit(out, label, condition),
+    }
+}
+
+// RM 5.3
+#[cycle(statement)]
+fn push_if(out: &mut Vec<u8>, statement: &IfStatement) -> Result<(), AllocError>
+    ensures { Writes result out.old out.new (statement_words (plain_if statement.now)) }
+{
+    push_arm(out, b"if", &statement.first)?;
+    push_arms(out, &statement.others)?;
+    push_otherwise(out, &statement.otherwise)?;
+    push_two_words(out, b"end", b"if")?;
+    push_last_word(out, b";")
+}
+
+#[cycle(statement)]
+fn push_arms(out: &mut Vec<u8>, arms: &[Arm]) -> Result<(), AllocError>
+    ensures { Writes result out.old out.new (arms_words (arm_list arms.now)) }
+{
+    for next in arms {
+        push_arm(out, b"elsif", next)?;
+    }
+    Ok(())
+}
+
+// `if` or `elsif`, and what stands behind it.
+#[cycle(statement)]
+fn push_arm(out: &mut Vec<u8>, spelling: &[u8], arm: &Arm) -> Result<(), AllocError>
+    ensures { Writes result out.old out.new
+        (arm_words spelling.now (expression_words (plain_expression arm.now.condition))
+        (statements_words (plain_statements arm.now.statements))) }
+{
+    push_word(out, spelling)?;
+    push_expression(out, &arm.condition)?;
+    push_last_word(out, b"then")?;
+    push_statements(out, &arm.statements)
+}
+
+// The else part, if there is one.
+#[cycle(statement)]
+fn push_otherwise(out: &mut Vec<u8>, statements: &[Statement]) -> Result<(), AllocError>
+    ensures { Writes result out.old out.new
+        (otherwise_words (plain_others statements.now)
+        (more_statements_words (plain_others statements.now))) }
+{
+    if statements.is_empty() {
+        return Ok(());
+    }
+    push_last_word(out, b"else")?;
+    push_more_statements(out, statements)
+}
+
+// RM 5.5
+#[cycle(statement)]
+fn push_loop(out: &mut Vec<u8>, statement: &LoopStatement) -> Result<(), AllocError>
+    ensures { Writes result out.old out.new
+        (statement_words (plain_loop_statement statement.now)) }
+{
+    push_label(out, &statement.label)?;
+    push_iteration(out, &statement.iteration)?;
+    push_last_word(out, b"loop")?;
+    push_statements(out, &statement.statements)?;
+    push_two_words(out, b"end", b"loop")?;
+    push_end_name(out, &statement.name)?;
+    push_last_word(out, b";")
+}
+
+fn push_label(out: &mut Vec<u8>, label: &Option<Ident>) -> Result<(), AllocError>
+    ensures { Writes result out.old out.new (label_words label.now) }
+{
+    match label {
+        None => Ok(()),
+        Some(label) => {
+            push_ident(out, label)?;
+            push_word(out, b":")
+        }
+    }
+}
+
+// RM 5.5(3)
+fn push_iteration(out: &mut Vec<u8>, iteration: &Iteration) -> Result<(), AllocError>
+    ensures { Writes result out.old out.new (iteration_words (plain_iteration iteration.now)) }
+{
+    match iteration {
+        Iteration::Forever => Ok(()),
+        Iteration::While(condition) => {
+            push_word(out, b"while")?;
+            push_expression(out, condition)
+        }
+    }
+}
+
+// RM 5.7
+fn push_exit(
+    out: &mut Vec<u8>,
+    label: &Option<Ident>,
+    condition: &Option<Expression>,
+) -> Result<(), AllocError>
+    ensures { Writes result out.old out.new (exit_words label.now (plain_maybe condition.now)) }
+{
+    push_word(out, b"exit")?;
+    push_end_name(out, label)?;
+    push_condition(out, condition)?;
+    push_last_word(out, b";")
+}
+
+fn push_condition(out: &mut Vec<u8>, condition: &Option<Expression>) -> Result<(), AllocError>
+    ensures { Writes result out.old out.new (condition_words (plain_maybe condition.now)) }
+{
+    match condition {
+        None => Ok(()),
+        Some(condition) => {
+            push_word(out, b"when")?;
+            push_expression(out, condition)
+        }
+    }
+}
+
+fn push_null(out: &mut Vec<u8>) -> Result<(), AllocError>
+    ensures { Writes result out.old out.new null_words }
+{
+    push_word(out, b"null")?;
+    push_last_word(out, b";")
+}
+
+// RM 5.2
+fn push_assignment(out: &mut Vec<u8>, target: &Name, value: &Expression) -> Result<(), AllocError>
+    ensures { Writes result out.old out.new
+        (assignment_words (plain_name target.now) (plain_expression value.now)) }
+{
+    push_name(out, target)?;
+    push_word(out, b":=")?;
+    push_expression(out, value)?;
+    push_last_word(out, b";")
+}
+
+// RM 6.4
+fn push_call(out: &mut Vec<u8>, name: &Name) -> Result<(), AllocError>
+    ensures { Writes result out.old out.new (call_words (plain_name name.now)) }
+{
+    push_name(out, name)?;
+    push_last_word(out, b";")
+}
