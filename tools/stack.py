@@ -101,6 +101,9 @@ def shapes():
     yield "one list of assignments", text, count + 3
     text, count = source("procedure M is", name, ":Integer;begin null;end M;", ",")
     yield "one list of names", text, count + 3
+    value = "+\n".join(["+".join("1" * 400)] * 10)
+    text, count = source("procedure M is", name, f":Integer:=\n{value};begin null;end M;", ",")
+    yield "one list of names with a long value", text, count + 3
     text, count = source("procedure M is", lambda i: name(i) + ":Integer;", "begin null;end M;")
     yield "one list of declarations", text, count + 3
     nest = "(" * DEEP + "1" + ")" * DEEP

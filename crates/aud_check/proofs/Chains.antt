@@ -1,8 +1,8 @@
--- Chains in memory that begin, go on, and are copied.
+-- Chains in memory that begin and go on.
 use Rattle.std.specs.Prelude.{Vec, Box, List, [], ◌∷◌, ◌++◌, map}
 use Rattle.std.specs.Global.{Global}
-use Rattle.std.proofs.Common.{◌≡◌, ℕ, ◌<◌, ◌+◌, length, get_or, take, refl, sym, ◌∙◌, ap}
-use Rattle.std.proofs.lemmas.List.{map-append, take_more}
+use Rattle.std.proofs.Common.{◌≡◌, refl, sym, ◌∙◌, ap}
+use Rattle.std.proofs.lemmas.List.{map-append}
 use Rattle.aud_typed.specs.declared.program.Operation.{Operation, out-Operation}
 use Rattle.aud_typed.specs.declared.program.IntegerExpression.{IntegerExpression}
 use Rattle.aud_typed.specs.declared.program.IntegerExpression.TheVariants.{Chain}
@@ -22,17 +22,6 @@ chain_begins first all left next q r =
 pub chain_goes_on : (first : Box IntegerExpression Global) (old all : Vec Operation Global) (next : Operation) → all.items ≡ old.items ++ next ∷ [] → plain_integer (Chain first all) ≡ binary (out-Operation next).operator (plain_integer (Chain first old)) (plain_integer (out-Operation next).right)
 chain_goes_on first old all next p =
     chain_open first all ∙ ap (λ l. chained (plain_integer first.value) (map plain_operation l)) p ∙ ap (chained (plain_integer first.value)) (map-append plain_operation old.items (next ∷ [])) ∙ chained_more (plain_integer first.value) (map plain_operation old.items) (plain_operation next) ∙ ap (λ z. binary (out-Operation next).operator z (plain_integer (out-Operation next).right)) (sym (chain_open first old))
-
--- one more is copied
-pub copied_more : {A B : Type 0} (view : A → B) (old new xs : List A) (i : ℕ) (x copy : A) → new ≡ old ++ copy ∷ [] → view copy ≡ view x → i < length xs → x ≡ get_or xs i x → map view old ≡ map view (take i xs) → map view new ≡ map view (take (i + 1) xs)
-copied_more view old new xs i x copy p q h e a =
-    ap (map view) p ∙ map-append view old (copy ∷ []) ∙ ap (λ z. map view old ++ z ∷ []) q ∙ ap (λ z. z ++ view x ∷ []) a ∙ sym (map-append view (take i xs) (x ∷ [])) ∙ sym (ap (map view) (take_more xs i x h ∙ ap (λ z. take i xs ++ z ∷ []) (sym e)))
-
-pub chain_copied : (first other : Box IntegerExpression Global) (all copy : Vec Operation Global) → plain_integer other.value ≡ plain_integer first.value → map plain_operation copy.items ≡ map plain_operation all.items → plain_integer (Chain other copy) ≡ plain_integer (Chain first all)
-chain_copied first other all copy p q = chain_open other copy ∙ ap (chained (plain_integer other.value)) q ∙ ap (λ z. chained z (map plain_operation all.items)) p ∙ sym (chain_open first all)
-
-pub connection_copied : (k : Connective) (first other : Box BooleanExpression Global) (all copy : Vec BooleanExpression Global) → plain_boolean other.value ≡ plain_boolean first.value → map plain_boolean copy.items ≡ map plain_boolean all.items → plain_boolean (boolean.Chain k other copy) ≡ plain_boolean (boolean.Chain k first all)
-connection_copied k first other all copy p q = connection_open k other copy ∙ ap (all_connected k (plain_boolean other.value)) q ∙ ap (λ z. all_connected k z (map plain_boolean all.items)) p ∙ sym (connection_open k first all)
 
 -- operands of one operator
 connected_more : (k : Connective) (left : TruthExpression) (xs : List TruthExpression) (x : TruthExpression) → all_connected k left (xs ++ x ∷ []) ≡ connected k (all_connected k left xs) x

@@ -71,7 +71,7 @@ program names declared s = record {
 
 -- of A and B, with these statements
 abbrev program_of_two : tree.Statement → tree.Program
-program_of_two s = program (codes "A" ∷ codes "B" ∷ []) (tree.some (tree.sequence (tree.declare (at 2 1) (whole (tree.number (pos 7)))) (tree.declare (at 2 1) (whole (tree.number (pos 7)))))) s
+program_of_two s = program (codes "A" ∷ codes "B" ∷ []) (tree.some (tree.declare (at 2 1) 2 (whole (tree.number (pos 7))))) s
 
 fine_row : checked (main (two ∷ []) (assign (var_at (codes "B") (at 6 1)) (sum (Some (record { sign = sign.Minus; at = at 6 6 })) (term (factor None (name (var_at (codes "A") (at 6 7)))) no_multiplieds) (more_addeds (added Plus (term (factor None (num 2 (at 6 11))) no_multiplieds)) no_addeds))) (called (id (codes "PUT_LINE") (at 7 1)) (only (attribute (var_at (codes "B") (at 7 11)) (id (codes "IMAGE") (at 7 13)) no_expression)) ∷ [])) ≡ Ok (program_of_two (tree.sequence (assign_b (tree.binary Sum (tree.unary Negative (variable 0)) (tree.number (pos 2)))) (tree.put (at 7 1) (tree.join (tree.image (variable 1)) tree.new_line))))
 fine_row = refl

@@ -42,10 +42,10 @@ program_of_four s = tree.program_of_main (record {
   at = at 1 1;
   variables = shown_as (codes "N") tree.as_whole ∷ shown_as (codes "P") tree.as_whole ∷ shown_as (codes "B") tree.as_truth ∷ shown_as (codes "C") tree.as_whole ∷ [];
   declarations =
-      tree.declare (at 2 1) (tree.whole Natural (tree.number (pos 0))) ∷
-      tree.declare (at 3 1) (tree.whole Positive (tree.number (pos 1))) ∷
-      tree.declare (at 4 1) (tree.boolean (tree.truth false)) ∷
-      tree.declare (at 5 1) (tree.whole Integer (tree.number (pos 3))) ∷ [];
+      tree.declare (at 2 1) 1 (tree.whole Natural (tree.number (pos 0))) ∷
+      tree.declare (at 3 1) 2 (tree.whole Positive (tree.number (pos 1))) ∷
+      tree.declare (at 4 1) 3 (tree.boolean (tree.truth false)) ∷
+      tree.declare (at 5 1) 4 (tree.whole Integer (tree.number (pos 3))) ∷ [];
   begin = at 6 1;
   first = s;
   others = [];

@@ -3,7 +3,7 @@ use Rattle.std.specs.Prelude.{IfSome}
 use Rattle.std.specs.Map.{lookup}
 use Rattle.std.specs.List.{All, AllByRecursion}
 use Rattle.std.specs.Str.{bytes_eq}
-use Rattle.std.proofs.Common.{◌≡◌, ℕ, suc, ℤ, ◌+◌, ◌≤◌, Bool, true, false, List, [], ◌∷◌, ◌++◌, length, Option, Some, None, if◌then◌else◌, map, arith, not, refl, sym, ◌∙◌, ap, subst, add-one}
+use Rattle.std.proofs.Common.{◌≡◌, ℕ, suc, ℤ, max, ◌+◌, ◌≤◌, Bool, true, false, List, [], ◌∷◌, ◌++◌, length, Option, Some, None, if◌then◌else◌, map, arith, not, refl, sym, ◌∙◌, ap, subst}
 use Rattle.std.proofs.lemmas.List.{length-map, length_push}
 use Rattle.std.proofs.lemmas.List.Elements.{All-from_recursion, All-nil, All-push}
 use Rattle.std.proofs.lemmas.Map.Entries.{All-lookup}
@@ -389,18 +389,20 @@ module _ (scope : Scope) (n : Place) (sees : Sees scope n) where
 abbrev only : ℕ → Scope
 only k = k ∷ []
 
--- each of them elaborates a variable, from the first of these numbers on up to the second
+-- they elaborate variables, from the first of these numbers on up to the second
 data Elaborates : ℕ → List tree.Statement → ℕ → Type 0 where
   none : {k : ℕ} → Elaborates k [] k
-  one_more : {k m : ℕ} {at : Pos} {x : tree.ValueExpression} {ys : List tree.Statement} → ValueScoped x (only k) → Elaborates (suc k) ys m → Elaborates k (tree.declare at x ∷ ys) m
+  one_more : {k l n m : ℕ} {at : Pos} {x : tree.ValueExpression} {ys : List tree.Statement} → ValueScoped x (only k) → max (suc k) l ≡ n → Elaborates n ys m → Elaborates k (tree.declare at l x ∷ ys) m
 
 elaborates_append : {k l m : ℕ} {xs ys : List tree.Statement} → Elaborates k xs l → Elaborates l ys m → Elaborates k (xs ++ ys) m
 elaborates_append none i = i
-elaborates_append (one_more h rest) i = one_more h (elaborates_append rest i)
+elaborates_append (one_more h e rest) i = one_more h e (elaborates_append rest i)
 
 before_elaborates : (k m : ℕ) (x : tree.Statement) (xs : List tree.Statement) → Elaborates k (x ∷ xs) m → StatementScoped (tree.before x xs) (only k) × (scope_after (tree.before x xs) (only k) ≡ only m)
-before_elaborates k m _ [] (one_more h none) = (h, refl)
-before_elaborates k m _ (y ∷ ys) (one_more h rest) = let more = before_elaborates (suc k) m y ys rest in ((h, more.0), more.1)
+before_elaborates k m _ [] (one_more h e none) = (h, ap only e)
+before_elaborates k m _ (y ∷ ys) (one_more h e rest) =
+    let more = subst (λ n. StatementScoped (tree.before y ys) (only n) × (scope_after (tree.before y ys) (only n) ≡ only m)) (sym e) (before_elaborates _ m y ys rest) in
+    ((h, more.0), more.1)
 
 part_elaborates : (k m : ℕ) (xs : List tree.Statement) → Elaborates k xs m → PartScoped (tree.part_of xs) (only k) × (scope_behind (tree.part_of xs) (only k) ≡ only m)
 part_elaborates k m [] none = (tt, refl)
@@ -432,19 +434,15 @@ new_name : (b : Bool) (f : Fault) → rules.unless (not b) f ≡ [] → b ≡ fa
 new_name true f h = cc
 new_name false f h = refl
 
--- they elaborate the variables of the region, from this number on
-abbrev RegionElaborated : ℕ → List tree.Statement → Region → Type 0
-RegionElaborated k ys r = RegionScoped r × Elaborates k ys r.cells
-
-names_scoped : (is : List Ident) (t : Option Subtype) (is_constant : Bool) (at : Pos) (x : tree.ValueExpression) (r : Region) → d.twice_faults is t is_constant r ≡ [] → RegionScoped r → ((k : ℕ) → r.cells ≤ k → ValueScoped x (only k)) → RegionElaborated r.cells (d.elaboration is at x) (d.declared_names is t is_constant r)
-names_scoped [] t is_constant at x r q h value = (h, none)
-names_scoped (i ∷ is) t is_constant at x r q h value =
+-- each name has a cell more
+names_scoped : (is : List Ident) (t : Option Subtype) (is_constant : Bool) (r : Region) → d.twice_faults is t is_constant r ≡ [] → RegionScoped r → RegionScoped (d.declared_names is t is_constant r) × ((d.declared_names is t is_constant r).cells ≡ r.cells + length is)
+names_scoped [] t is_constant r q h = (h, omega arith)
+names_scoped (i ∷ is) t is_constant r q h =
     let faults = both_none _ _ q in
     let new : names.is_declared i.name r.symbols ≡ false = new_name _ _ faults.0 in
     let grown : d.with_name i t is_constant r ≡ d.with_object i.name t is_constant r = rw new in
-    let rest = names_scoped is t is_constant at x (d.with_object i.name t is_constant r) (rw new at faults.1) (object_scoped i.name t is_constant r h) (λ k more. value k (omega arith)) in
-    let elaborated : Elaborates (suc r.cells) (d.elaboration is at x) (d.declared_names is t is_constant (d.with_object i.name t is_constant r)).cells = rw (← add-one r.cells) rest.1 in
-    subst (λ z. RegionElaborated r.cells (d.elaboration (i ∷ is) at x) (d.declared_names is t is_constant z)) (sym grown) (rest.0, one_more (value r.cells (omega arith)) elaborated)
+    let rest = names_scoped is t is_constant (d.with_object i.name t is_constant r) (rw new at faults.1) (object_scoped i.name t is_constant r h) in
+    subst (λ z. RegionScoped (d.declared_names is t is_constant z) × ((d.declared_names is t is_constant z).cells ≡ r.cells + length (i ∷ is))) (sym grown) (rest.0, omega (arith, rest.1))
 
 -- a place in the main procedure's body: no variable is declared further out
 record InBody (n : Place) : Type 0 where
@@ -462,16 +460,21 @@ body_regions n k h more = regions_scoped (only k) n.regions (h.innermost.symbols
 abbrev DeclaredScoped : Place → d.Declared → Type 0
 DeclaredScoped n x = InBody x.place × Elaborates (names.innermost n).cells x.elaborations (names.innermost x.place).cells
 
-objects_scoped : (is : List Ident) (at : Pos) (mark : Ident) (initial : plain.MaybeExpression) (is_constant : Bool) (n : Place) → (d.checked_object is at mark initial is_constant n).faults ≡ [] → InBody n → DeclaredScoped n (d.checked_object is at mark initial is_constant n)
-objects_scoped is at mark initial is_constant n q h =
-    let t : Option Subtype = d.subtype_meant (names.visible mark.name (names.hiding is n)) in
-    let value = λ (k : ℕ) (more : (names.innermost n).cells ≤ k). initial_scoped (only k) (names.hiding is n) (regions_see (only k) (names.hiding is n) (body_regions n k h more)) initial t in
-    let all = names_scoped is t is_constant at _ (names.innermost n) (both_none _ _ (both_none _ _ q).1).1 h.innermost value in
-    (record { innermost = all.0; others = h.others }, all.1)
+objects_scoped : (first : Ident) (others : List Ident) (mark : Ident) (initial : plain.MaybeExpression) (is_constant : Bool) (n : Place) → (d.checked_object (first ∷ others) first.at mark initial is_constant n).faults ≡ [] → InBody n → DeclaredScoped n (d.checked_object (first ∷ others) first.at mark initial is_constant n)
+objects_scoped first others mark initial is_constant n q h =
+    let is = first ∷ others in
+    let r : Region = names.innermost n in
+    let inner : Place = names.hiding is n in
+    let t : Option Subtype = d.subtype_meant (names.visible mark.name inner) in
+    let value = initial_scoped (only r.cells) inner (regions_see (only r.cells) inner (body_regions n r.cells h (omega arith))) initial t in
+    let all = names_scoped is t is_constant r (both_none _ _ (both_none _ _ q).1).1 h.innermost in
+    let after : Region = d.declared_names is t is_constant r in
+    let last : max (suc r.cells) after.cells ≡ after.cells = omega (arith, all.1) in
+    (record { innermost = all.0; others = h.others }, one_more value last none)
 
 declaration_scoped : (x : plain.Declaration) (n : Place) → (d.checked_declaration x n).faults ≡ [] → InBody n → DeclaredScoped n (d.checked_declaration x n)
-declaration_scoped (plain.object first others mark initial) n q h = objects_scoped (first ∷ others) first.at mark initial false n q h
-declaration_scoped (plain.constant first others mark value) n q h = objects_scoped (first ∷ others) first.at mark (plain.an_expression value) true n q h
+declaration_scoped (plain.object first others mark initial) n q h = objects_scoped first others mark initial false n q h
+declaration_scoped (plain.constant first others mark value) n q h = objects_scoped first others mark (plain.an_expression value) true n q h
 
 declarations_scoped : (x : plain.Declarations) (n : Place) → (d.checked_declarations x n).faults ≡ [] → InBody n → DeclaredScoped n (d.checked_declarations x n)
 declarations_scoped plain.no_declarations n q h = (h, none)

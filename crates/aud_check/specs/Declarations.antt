@@ -1,5 +1,5 @@
 -- Declarations of variables and constants (RM 3.1, 3.3.1).
-use Rattle.std.specs.Prelude.{ℕ, ◌+◌, Bool, true, false, List, [], ◌∷◌, ◌++◌, map, Option, Some, None, pos, if◌then◌else◌}
+use Rattle.std.specs.Prelude.{ℕ, ◌+◌, Bool, true, false, List, [], ◌∷◌, ◌++◌, Option, Some, None, pos, if◌then◌else◌}
 use Rattle.aud_text.specs.declared.place.Pos.{Pos}
 use Rattle.aud_syntax.specs.declared.tree.Ident.{Ident}
 use Rattle.aud_syntax.specs.Plain.{Declaration, object, constant, Declarations, no_declarations, more_declarations, MaybeExpression, no_expression, an_expression}
@@ -13,7 +13,7 @@ use Rattle.aud_check.specs.Names.{Region, Place, visible, is_declared, innermost
 use Rattle.aud_check.specs.Rules.{base_asked, name_not_declared, declared_once, wrong_kind_of_name, right_type}
 use Rattle.aud_check.specs.Expressions.{Typed, number, boolean, checked_expression, expression_at, base_of}
 
--- the faults of declarations, the place after them, and their elaborations, name by name (RM 3.11)
+-- the faults of declarations, the place after them, and their elaborations (RM 3.11)
 pub record Declared : Type 0 where
   pub faults : List Fault
   pub place : Place
@@ -80,19 +80,20 @@ abbrev pub twice_faults : List Ident → Option Subtype → Bool → Region → 
 twice_faults [] s is_constant r = []
 twice_faults (i ∷ is) s is_constant r = declared_once i.name i.at r.symbols ++ twice_faults is s is_constant (with_name i s is_constant r)
 
--- a declaration of several names stands for one of each, in their order (RM 3.3.1(7))
-abbrev pub elaboration : List Ident → Pos → tree.ValueExpression → List tree.Statement
-elaboration names at e = map (λ i. tree.declare at e) names
+-- the names of a declaration, of which the last one has the last cell, each with a value of its own (RM 3.3.1(7))
+abbrev pub elaboration : Pos → Region → tree.ValueExpression → tree.Statement
+elaboration at r e = tree.declare at r.cells e
 
 -- from where it begins: within the declaration its names are hidden from all visibility (RM 8.3(16))
 abbrev pub checked_object : List Ident → Pos → Ident → MaybeExpression → Bool → Place → Declared
 checked_object identifiers at subtype initial is_constant place =
     let inner = hiding identifiers place in
     let s = subtype_meant (visible subtype.name inner) in
+    let after = declared_names identifiers s is_constant (innermost place) in
     record {
       faults = subtype_faults (visible subtype.name inner) subtype.at ++ (initial_faults initial s inner ++ twice_faults identifiers s is_constant (innermost place));
-      place = in_region (declared_names identifiers s is_constant (innermost place)) place;
-      elaborations = elaboration identifiers at (initial_value initial s inner);
+      place = in_region after place;
+      elaborations = elaboration at after (initial_value initial s inner) ∷ [];
     }
 
 abbrev pub checked_declaration : Declaration → Place → Declared

@@ -1,6 +1,6 @@
 // Declarations of variables and constants.
 
-ghost use Rattle.std.specs.Prelude.{◌≡◌, ◌++◌, true, false, OnOk};
+ghost use Rattle.std.specs.Prelude.{◌≡◌, [], ◌∷◌, ◌++◌, true, false, OnOk};
 ghost use Rattle.aud_syntax.specs.Plain.{an_expression};
 ghost use Rattle.aud_syntax.specs.Ties.View.{plain_expression, plain_maybe, plain_declaration, plain_declarations};
 ghost use Rattle.aud_typed.specs.Ties.View.{plain_value, plain_statements as plain_typed_statements};
@@ -12,7 +12,6 @@ ghost use Rattle.aud_check.specs.Ties.Typing.{plain_typed, Leaves};
 ghost use Rattle.aud_check.specs.Ties.DeclarativePart.{Declares};
 ghost use Rattle.aud_check.specs.Ties.Regions.{plain_region, plain_place, names_in};
 
-use crate::copying::copy_value;
 use crate::expression::{expression, expression_at};
 use crate::fault::Least;
 use crate::names::{Meaning, Object, Place, Region, Scope};
@@ -194,23 +193,18 @@ fn declare(
     Ok(())
 }
 
-// The elaboration of the names, each with the same initial value.
+// The elaboration of the names that were declared last, of which the first stands at this place.
 fn elaborate(
-    alloc: Global,
-    names: &Identifiers,
+    at: Pos,
     value: ValueExpression,
+    region: &Region,
     elaborations: &mut Vec<Statement>,
 ) -> Result<(), AllocError>
     ensures { OnOk result (plain_typed_statements elaborations.new.items
         ≡ plain_typed_statements elaborations.old.items
-        ++ elaboration (names_in names.now) names.now.first.at (plain_value value)) }
+        ++ elaboration at (plain_region region.now) (plain_value value) ∷ []) }
 {
-    let at = names.first.at;
-    for _other in &names.others {
-        let copied = copy_value(alloc, &value)?;
-        elaborations.push(Statement::Declare(at, copied))?;
-    }
-    elaborations.push(Statement::Declare(at, value))?;
+    elaborations.push(Statement::Declare(at, region.cells, value))?;
     Ok(())
 }
 
@@ -233,7 +227,7 @@ fn variables(
     let value = initial_value(alloc, initial, subtype, &scope, faults)?;
     let region = &mut part.place.innermost;
     declare(alloc, names, subtype, false, region, faults)?;
-    elaborate(alloc, names, value, &mut part.elaborations)
+    elaborate(names.first.at, value, region, &mut part.elaborations)
 }
 
 // Declares constants (RM 3.3.1(5)).
@@ -255,7 +249,7 @@ fn constants(
     let value = given_value(alloc, value, subtype, &scope, faults)?;
     let region = &mut part.place.innermost;
     declare(alloc, names, subtype, true, region, faults)?;
-    elaborate(alloc, names, value, &mut part.elaborations)
+    elaborate(names.first.at, value, region, &mut part.elaborations)
 }
 
 /// Checks a declaration (RM 3.3.1): notes its faults, and adds to the part what it declares.

@@ -13,7 +13,6 @@ mod attribute;
 mod behind;
 mod call;
 mod condition;
-mod copying;
 mod declaration;
 mod expression;
 pub mod fault;

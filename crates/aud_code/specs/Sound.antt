@@ -85,7 +85,7 @@ module _ (End : Counts → Type 0) where
   NotLost Lost = ⊥
 
 abbrev pub EndingFine : Ending → Counts → Type 0
-EndingFine Declare c = Takes c.integers (λ n. Unit {0})
+EndingFine (Declare up_to) c = Takes c.integers (λ n. Unit {0})
 EndingFine (DeclareObject k) c = c.cells ≡ true
 EndingFine Assign c = Takes c.targets (λ n. Takes c.integers (λ m. Unit {0}))
 EndingFine If c = Takes c.booleans (λ n. Unit {0})

@@ -114,7 +114,7 @@ pub fn need_of_ending(last: Last) -> Counts
     ensures few { AreAtMost result 1 }
 {
     match last {
-        Last::Does(Ending::Declare, _) => Counts {
+        Last::Does(Ending::Declare { .. }, _) => Counts {
             integers: 1,
             ..NOTHING
         },

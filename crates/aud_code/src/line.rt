@@ -6,8 +6,9 @@ use aud_text::place::Pos;
 /// What a statement's step does with its operands.
 #[derive(Clone, Copy, PartialEq, Eq, Debug)]
 pub enum Ending {
-    /// The next variable of the innermost frame has the newest Integer.
-    Declare,
+    /// The next variable of the innermost frame has the newest Integer. While fewer than `up_to` of them are elaborated, the
+    /// step leads to the place where it began, `again` (RM 3.3.1(7)).
+    Declare { up_to: usize, again: usize },
     Null,
     /// The newest target has the newest Integer.
     Assign,

@@ -28,7 +28,7 @@ abbrev pub Asks : Statement → Type 0
 Asks a = (loops : ℕ) (s : Scene) → asked_ended (ending_of a) loops (statement_at a) s (eval false s (instructions_of a) 0 no_operands) ≡ asked_statement a loops s
 
 abbrev pub DeclarationLaw : Type 0
-DeclarationLaw = (at : Pos) (e : ValueExpression) → Asks (declare at e)
+DeclarationLaw = (at : Pos) (up_to : ℕ) (e : ValueExpression) → Asks (declare at up_to e)
 
 abbrev pub NullLaw : Type 0
 NullLaw = (at : Pos) → Asks (null at)

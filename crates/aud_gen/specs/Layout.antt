@@ -3,7 +3,7 @@
 use Rattle.std.specs.Prelude.{true, ℕ, suc, ◌+◌, List, [], ◌∷◌, ◌++◌, length, map, Option, Some, None, slice_get, slice_index_or}
 use Rattle.aud_text.specs.declared.place.Pos.{Pos}
 use Rattle.aud_typed.specs.declared.program.Exception.{Exception}
-use Rattle.aud_typed.specs.Tree.{For, truth, Statement, sequence, if_then, plain_loop, while_loop, for_loop, exit, return, return_value, block, entry_call, accept, select, Part, nothing, some, Handlers, no_handlers, handler, Body, body, Doing, without_do, with_do, Alternatives, no_alternatives, accepting, delaying, terminating, Program}
+use Rattle.aud_typed.specs.Tree.{For, truth, Statement, sequence, declare, if_then, plain_loop, while_loop, for_loop, exit, return, return_value, block, entry_call, accept, select, Part, nothing, some, Handlers, no_handlers, handler, Body, body, Doing, without_do, with_do, Alternatives, no_alternatives, accepting, delaying, terminating, Program}
 use Rattle.aud_meaning.specs.declared.state.Construct.{Construct}
 use Rattle.aud_meaning.specs.declared.state.Construct.TheVariants as construct
 use Rattle.aud_meaning.specs.Evaluation.{decided}
@@ -179,6 +179,7 @@ module _ (behind : Statement → ℕ → ℕ) where
         let middle = place + statement_size_by x (ways_count a) in
         statement_code_by x place middle a ++ statement_code_by y middle next a
     statement_code_by (plain_loop x) place next a = statement_code_by x place place (in_loop next a)
+    statement_code_by (declare pos n e) place next a = line (declare pos n e) (next ∷ place ∷ []) [] None a ∷ []
     statement_code_by (if_then pos c x p) place next a =
         let second = (behind (if_then pos c x p) place) + statement_size_by x (ways_count a) in
         line (if_then pos c x p) (part_place p second next ∷ (behind (if_then pos c x p) place) ∷ []) [] None a ∷ (statement_code_by x (behind (if_then pos c x p) place) next a ++ part_code_by p second next a)

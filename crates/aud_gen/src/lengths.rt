@@ -98,7 +98,7 @@ pub fn statement_length(s: &Statement) -> Result<usize, AllocError>
     ensures { IfOk result (IsLength (plain_statement s.now)) }
 {
     match s {
-        Statement::Declare(_, e) => sum(value_length(e)?, 1),
+        Statement::Declare(_, _, e) => sum(value_length(e)?, 1),
         Statement::Null(_) => Ok(1),
         Statement::Assign(_, _, e) => sum(value_length(e)?, 2),
         Statement::Put(_, t) => sum(text_length(t)?, 1),

@@ -24,9 +24,11 @@ impl Writer {
             statement_lines (plain_statement s.now) place next a) }
     {
         match s {
-            Statement::Declare(at, e) => {
+            Statement::Declare(at, up_to, e) => {
+                let again = self.place();
                 self.write_value(e)?;
-                self.end(Ending::Declare, next, *at, out)
+                let up_to = *up_to;
+                self.end(Ending::Declare { up_to, again }, next, *at, out)
             }
             Statement::Null(at) => self.end(Ending::Null, next, *at, out),
             Statement::Assign(at, target, e) => {

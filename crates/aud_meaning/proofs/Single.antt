@@ -1,5 +1,5 @@
 -- The steps of a program that is its main procedure alone.
-use Rattle.std.proofs.Common.{◌≡◌, ℕ, suc, ℤ, List, [], ◌∷◌, ◌++◌, Some, None, Bool, true, false, refl, ap, ◌∙◌, slice_index_or, slice_set, nat_le, length}
+use Rattle.std.proofs.Common.{◌≡◌, ℕ, suc, ℤ, List, [], ◌∷◌, ◌++◌, Some, None, Bool, true, false, refl, ap, ◌∙◌, slice_index_or, slice_set, nat_le, nat_lt, if◌then◌else◌, length}
 use Rattle.aud_text.specs.declared.place.Pos.{Pos}
 use Rattle.aud_text.specs.declared.raise.Raise.{Raise}
 use Rattle.aud_text.specs.declared.limits.Limits.{Limits}
@@ -35,8 +35,8 @@ module _ {C : Type 0} (plan : Plan) (name : List ℕ) (k : Controls C) (limits :
     abbrev goes : Single C → Single C
     goes p = record p { control = k.takes 0 q.control; steps = suc q.steps }
 
-    pub declares_step : (z : ℤ) → Asks (declares z) → Stepped now ≡ In (record (goes now) { elaborated = suc q.elaborated; frames = slice_set q.frames 0 (slice_index_or q.frames 0 [] ++ z ∷ []) })
-    declares_step z is = ap (after now) is
+    pub declares_step : (up_to : ℕ) (z : ℤ) → Asks (declares up_to z) → Stepped now ≡ In (record now { control = k.takes (if nat_lt (suc q.elaborated) up_to then 1 else 0) q.control; elaborated = suc q.elaborated; frames = slice_set q.frames 0 (slice_index_or q.frames 0 [] ++ z ∷ []); steps = suc q.steps })
+    declares_step up_to z is = ap (after now) is
 
     pub goes_on_step : (n : ℕ) → Asks (goes_on n) → Stepped now ≡ In (record now { control = k.takes n q.control; steps = suc q.steps })
     goes_on_step n is = ap (after now) is

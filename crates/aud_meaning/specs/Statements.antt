@@ -66,7 +66,7 @@ coming_call c (of_object v) s = starting (number_in v s) false
 
 abbrev pub coming_statement : tree.Plan → Statement → Sight → Coming
 coming_statement plan (sequence a b) s = simply kind.Null
-coming_statement plan (declare at e) s = simply kind.Declaration
+coming_statement plan (declare at up_to e) s = simply kind.Declaration
 coming_statement plan (declare_array at t n) s = simply kind.Declaration
 coming_statement plan (declare_tasks at ts) s = simply kind.Declaration
 coming_statement plan (declare_object at n es) s = simply kind.Declaration
@@ -163,7 +163,7 @@ asked_call at c (of_object v) s =
 
 -- a statement, with the loops that it leaves where it is an exit or a return
 abbrev pub asked_statement : Statement → ℕ → Scene → Asked
-asked_statement (declare at e) loops s = or_raises_in_part (value_of e s.sight) at (λ z. asked.declares z)
+asked_statement (declare at up_to e) loops s = or_raises_in_part (value_of e s.sight) at (λ z. asked.declares up_to z)
 asked_statement (declare_array at t n) loops s = asked.declares_array at t n
 asked_statement (declare_tasks at ts) loops s = asked.declares_tasks at ts
 asked_statement (declare_object at n es) loops s = or_raises_in_part (components es (pos s.objects ∷ []) s.sight) at (λ cells. asked.declares_object at n cells)

@@ -17,7 +17,7 @@ comes_by Guards = ending
 comes_by Ends = ending
 
 pub comes_so : (plan : Plan) (last : Last) (s : Sight) (x : Ended) → coming_last plan (plain_last last) s x ≡ comes_by last
-comes_so plan (Does Declare next) s x = refl
+comes_so plan (Does (Declare up_to again) next) s x = refl
 comes_so plan (Does Null next) s x = refl
 comes_so plan (Does Assign next) s x = refl
 comes_so plan (Does Put next) s x = refl

@@ -1,5 +1,5 @@
 -- What a step of a program in memory does is the step of its code.
-use Rattle.std.proofs.Common.{◌≡◌, ℕ, zero, suc, ℤ, List, [], ◌∷◌, ◌++◌, Option, Some, None, Bool, true, false, if◌then◌else◌, length, drop, refl, sym, ap, ◌∙◌, subst, slice_index_or, slice_set}
+use Rattle.std.proofs.Common.{◌≡◌, ℕ, zero, suc, ℤ, List, [], ◌∷◌, ◌++◌, Option, Some, None, Bool, true, false, if◌then◌else◌, length, drop, nat_lt, refl, sym, ap, ◌∙◌, subst, slice_index_or, slice_set}
 use Rattle.std.specs.Prelude.{slice_get}
 use Rattle.aud_text.specs.declared.limits.Limits.{Limits}
 use Rattle.aud_text.specs.declared.raise.Raise.{Raise}
@@ -101,16 +101,23 @@ module _ (plan : Plan) (name : List ℕ) (limits : Limits) (code : Flat) (q : Si
       by (true ∷ bs) evaluated fine = if_true bs evaluated
       by (false ∷ bs) evaluated fine = if_false bs evaluated
 
+  -- part 1 or part 0
+  one_of_two : (b : Bool) (next inside : ℕ) → goes_there (slice_get (next ∷ inside ∷ []) (if b then 1 else 0)) q.control ≡ goes (if b then inside else next) q.control
+  one_of_two true next inside = refl
+  one_of_two false next inside = refl
+
   -- each ending
   ended_by : (last : Last) (at : Pos) (out : ℕ) (o : Operands) → EndsAs code q.control.place (record { last = last; at = at; out = out }) → LeadsTo code q (Reached o) → LastFine (plain_last last) (counts_of o) → q.control.returns ≡ [] → In (ends_by last (length code.lines) o now) ≡ Stepped now
-  ended_by (Does Declare next) at out o is_end evaluated fine alone = by o.integers evaluated fine
+  ended_by (Does (Declare up_to again) next) at out o is_end evaluated fine alone = by o.integers evaluated fine
     where
-      by : (zs : List ℤ) → LeadsTo code q (Reached (record o { integers = zs })) → Takes (length zs) (λ n. Unit {0}) → In (ends_by (Does Declare next) (length code.lines) (record o { integers = zs }) now) ≡ Stepped now
+      by : (zs : List ℤ) → LeadsTo code q (Reached (record o { integers = zs })) → Takes (length zs) (λ n. Unit {0}) → In (ends_by (Does (Declare up_to again) next) (length code.lines) (record o { integers = zs }) now) ≡ Stepped now
       by [] evaluated fine = absurd fine
       by (z ∷ zs) evaluated fine =
-          let l : EndLine = record { last = Does Declare next; at = at; out = out } in
-          let done = declares_step plan name (flat_controls plan code) limits q z (asks_so l is_end (Reached (record o { integers = z ∷ zs })) evaluated) in
-          sym (done ∙ ap (λ (t : Spot). In (record now { control = t; elaborated = suc q.elaborated; frames = slice_set q.frames 0 (slice_index_or q.frames 0 [] ++ z ∷ []); steps = suc q.steps })) (takes_so l is_end (Reached (record o { integers = z ∷ zs })) evaluated 0))
+          let l : EndLine = record { last = Does (Declare up_to again) next; at = at; out = out } in
+          let more = nat_lt (suc q.elaborated) up_to in
+          let done = declares_step plan name (flat_controls plan code) limits q up_to z (asks_so l is_end (Reached (record o { integers = z ∷ zs })) evaluated) in
+          let there = takes_so l is_end (Reached (record o { integers = z ∷ zs })) evaluated (if more then 1 else 0) ∙ one_of_two more next again in
+          sym (done ∙ ap (λ (t : Spot). In (record now { control = t; elaborated = suc q.elaborated; frames = slice_set q.frames 0 (slice_index_or q.frames 0 [] ++ z ∷ []); steps = suc q.steps })) there)
   ended_by (Does Null next) at out o is_end evaluated fine alone = goes_so (record { last = Does Null next; at = at; out = out }) is_end (Reached o) evaluated 0 refl
   ended_by (Does Assign next) at out o is_end evaluated fine alone = by o.targets o.integers evaluated fine
     where
@@ -140,8 +147,8 @@ module _ (plan : Plan) (name : List ℕ) (limits : Limits) (code : Flat) (q : Si
 
   -- an evaluation that raises
   raised_by : (last : Last) (at : Pos) (out : ℕ) (raise : Raise) → EndsAs code q.control.place (record { last = last; at = at; out = out }) → LeadsTo code q (Raised raise) → q.control.returns ≡ [] → In (raises_by last raise at (length code.lines) now) ≡ Stepped now
-  raised_by (Does Declare next) at out raise is_end evaluated alone =
-      sym (raises_in_part_step plan name (flat_controls plan code) limits q raise at (asks_so (record { last = Does Declare next; at = at; out = out }) is_end (Raised raise) evaluated))
+  raised_by (Does (Declare up_to again) next) at out raise is_end evaluated alone =
+      sym (raises_in_part_step plan name (flat_controls plan code) limits q raise at (asks_so (record { last = Does (Declare up_to again) next; at = at; out = out }) is_end (Raised raise) evaluated))
   raised_by (Does e next) at out raise is_end evaluated alone =
       sym (raises_step plan name (flat_controls plan code) limits q raise at (asks_so (record { last = Does e next; at = at; out = out }) is_end (Raised raise) evaluated))
   raised_by Guards at out raise is_end evaluated alone = stays at out (Raised raise) is_end evaluated
@@ -241,7 +248,14 @@ module _ (lines : List FlatLine) (q : Single Spot) (here : IsStart lines q.contr
       by false = stands_there next k
 
   stands_ended : (last : Last) (behind : ℕ) (o : Operands) → LeadsOn lines last → Stands lines (ends_by last behind o q)
-  stands_ended (Does Declare next) behind o leads = stands_newest o.integers (λ z. declared z (moved_to next q)) (λ z. stands_there next leads.0.0)
+  stands_ended (Does (Declare up_to again) next) behind o leads = stands_newest o.integers (λ z. declared z (moved_to (if more then again else next) q)) (λ z. by more)
+    where
+      more : Bool
+      more = nat_lt (suc q.elaborated) up_to
+
+      by : (b : Bool) → Stands lines (moved_to (if b then again else next) q)
+      by true = stands_there again leads.0.1.0
+      by false = stands_there next leads.0.0
   stands_ended (Does Null next) behind o leads = stands_there next leads.0.0
   stands_ended (Does Assign next) behind o leads =
       stands_newest o.targets (λ t. with_newest o.integers q (λ z. stored t z (moved_to next q))) (λ t.

@@ -18,7 +18,7 @@ use Rattle.aud_single.specs.Shown.{InAnyProgram}
 
 -- the kind of a step, by how it ends
 abbrev pub step_kind : Last → StepKind
-step_kind (Does Declare next) = kind.Declaration
+step_kind (Does (Declare up_to again) next) = kind.Declaration
 step_kind (Does Null next) = kind.Null
 step_kind (Does Assign next) = kind.Assign
 step_kind (Does Put next) = kind.Put

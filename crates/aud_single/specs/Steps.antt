@@ -1,5 +1,5 @@
 -- What a step of a program in memory does.
-use Rattle.std.specs.Prelude.{◌≡◌, ◌+◌, ◌≤◌, ℕ, suc, ℤ, List, [], ◌∷◌, ◌++◌, length, Some, None, if◌then◌else◌}
+use Rattle.std.specs.Prelude.{◌≡◌, ◌+◌, ◌≤◌, ℕ, suc, ℤ, List, [], ◌∷◌, ◌++◌, length, nat_lt, Some, None, if◌then◌else◌}
 use Rattle.aud_text.specs.declared.limits.Limits.{Limits}
 use Rattle.aud_text.specs.declared.raise.Raise.{Raise}
 use Rattle.aud_text.specs.declared.place.Pos.{Pos}
@@ -69,7 +69,7 @@ decided there next o p = with_newest o.booleans p (λ b. moved_to (if b then the
 
 -- what a statement does, before the place where the next step begins
 abbrev pub does : Ending → ℕ → Operands → Single Spot → Single Spot
-does Declare next o p = with_newest o.integers p (λ z. declared z (moved_to next p))
+does (Declare up_to again) next o p = with_newest o.integers p (λ z. declared z (moved_to (if nat_lt (suc p.elaborated) up_to then again else next) p))
 does Null next o p = moved_to next p
 does Assign next o p = with_newest o.targets p (λ t. with_newest o.integers p (λ z. stored t z (moved_to next p)))
 does Put next o p = written o.text (moved_to next p)

@@ -50,7 +50,7 @@ fn step_kind(last: Last) -> StepKind
     ensures { result ≡ step_kind last }
 {
     match last {
-        Last::Does(Ending::Declare, _) => StepKind::Declaration,
+        Last::Does(Ending::Declare { .. }, _) => StepKind::Declaration,
         Last::Does(Ending::Null, _) => StepKind::Null,
         Last::Does(Ending::Assign, _) => StepKind::Assign,
         Last::Does(Ending::Put, _) => StepKind::Put,

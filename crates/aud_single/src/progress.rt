@@ -1,6 +1,6 @@
 // How far a program is that is its main procedure alone.
 
-ghost use Rattle.std.specs.Prelude.{◌≡◌, ◌<◌, ◌≤◌, ◌+◌, [], length, OnOk, IfOk};
+ghost use Rattle.std.specs.Prelude.{◌≡◌, ◌<◌, ◌≤◌, ◌+◌, suc, [], length, nat_lt, if◌then◌else◌, OnOk, IfOk};
 ghost use Rattle.aud_meaning.specs.Run.{main_raised, supplied, advanced};
 ghost use Rattle.aud_meaning.specs.Ties.Single.{all_of};
 ghost use Rattle.aud_code.specs.Flat.{start_at};
@@ -262,14 +262,23 @@ impl Progress {
         self.steps += 1;
     }
 
-    /// One more variable of the body, and one step to a place (RM 3.3.1).
-    pub(crate) fn declare(&mut self, value: Int32, place: usize) -> Result<(), AllocError>
+    /// One more variable of the body, and one step: to the place `again` while fewer than `up_to` are elaborated, and then to the
+    /// place `next` (RM 3.3.1).
+    pub(crate) fn declare(
+        &mut self,
+        value: Int32,
+        up_to: usize,
+        again: usize,
+        next: usize,
+    ) -> Result<(), AllocError>
         requires { self.old.steps < STEPS }
-        ensures { OnOk result (self.new ≡ declared value (moved_to place self.old)) }
+        ensures { OnOk result (self.new ≡ declared value
+            (moved_to (if nat_lt (suc self.old.elaborated) up_to then again else next) self.old)) }
     {
         self.frames.declare(0, value)?;
-        self.go(place);
-        self.elaborated += 1;
+        let elaborated = self.elaborated + 1;
+        self.go(if elaborated < up_to { again } else { next });
+        self.elaborated = elaborated;
         Ok(())
     }
 

@@ -61,7 +61,9 @@ impl Progress {
         ensures steps { OnOk result (self.new.steps ≡ self.old.steps + 1) }
     {
         match last {
-            Last::Does(Ending::Declare, next) => self.declare(operands.pop(), next)?,
+            Last::Does(Ending::Declare { up_to, again }, next) => {
+                self.declare(operands.pop(), up_to, again, next)?;
+            }
             Last::Does(Ending::Null, next) => self.go(next),
             Last::Does(Ending::Assign, next) => {
                 let value = operands.pop();

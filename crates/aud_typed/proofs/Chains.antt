@@ -13,7 +13,7 @@ use Rattle.aud_typed.specs.declared.program.BooleanExpression.TheBlock.{hidden-t
 use Rattle.aud_typed.specs.declared.program.TextExpression.{TextExpression, Row_of-TextExpression, end_of-TextExpression, more_of-TextExpression, items-the_row-TextExpression, items_hidden-the_row-TextExpression-0}
 use Rattle.aud_typed.specs.declared.program.TextExpression.TheVariants.{Join}
 use Rattle.aud_typed.specs.declared.program.TextExpression.TheBlock.{hidden-the_row-TextExpression-0}
-use Rattle.aud_typed.specs.Ties.View.{plain_integer, plain_operations, connected, all_connected, plain_boolean, plain_booleans, plain_text, plain_texts}
+use Rattle.aud_typed.specs.Ties.View.{plain_integer, plain_operations, all_connected, plain_boolean, plain_booleans, plain_text, plain_texts}
 use Rattle.aud_typed.specs.Tree as tree
 
 -- an operation in memory as plain data

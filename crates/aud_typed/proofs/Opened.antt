@@ -1,18 +1,17 @@
 -- Statements that hold others, by their parts.
-use Rattle.std.proofs.Common.{◌≡◌, List, [], ◌∷◌, refl, ap, sym, ◌∙◌}
+use Rattle.std.proofs.Common.{◌≡◌, ◌∷◌, refl, ap, sym, ◌∙◌}
 use Rattle.std.specs.Prelude.{Vec, Box, map}
 use Rattle.std.specs.Global.{Global}
 use mathlib.Core.Former.{list_count, this}
 use Rattle.aud_text.specs.declared.place.Pos.{Pos}
 use Rattle.aud_typed.specs.declared.program.BooleanExpression.{BooleanExpression}
-use Rattle.aud_typed.specs.declared.program.Arm.{Arm}
 use Rattle.aud_typed.specs.declared.program.IfStatement.{IfStatement, IfStatement', out-IfStatement, Row_of-Arm, end_of-Arm, more_of-Arm, items-the_row-Arm, items_shown-the_row-Arm-1}
 use Rattle.aud_typed.specs.declared.program.Statements.{Statements}
 use Rattle.aud_typed.specs.declared.program.Statement.{Statement, Row_of-Statement, end_of-Statement, more_of-Statement, items-the_row-Statement, items_hidden-the_row-Statement-0, items_shown-the_row-Statement-0}
-use Rattle.aud_typed.specs.declared.program.Statement.TheVariants.{If, While, Loop}
+use Rattle.aud_typed.specs.declared.program.Statement.TheVariants.{While, Loop}
 use Rattle.aud_typed.specs.declared.program.Statement.TheBlock.{hidden-the_row-Statement-0, shown-the_row-Statement-0}
 use Rattle.aud_typed.specs.declared.program.Statement.TheBlock.{shown-the_row-Arm-1}
-use Rattle.aud_typed.specs.Ties.View.{plain_boolean, plain_statement, plain_row, plain_arms, plain_statements, statements_in, part_of_arms, plain_if, if_in}
+use Rattle.aud_typed.specs.Ties.View.{plain_boolean, plain_statement, plain_row, plain_arms, statements_in, part_of_arms, plain_if, if_in}
 use Rattle.aud_typed.specs.Tree as tree
 use Rattle.aud_typed.specs.Tree.{before, part_of, Part, some}
 

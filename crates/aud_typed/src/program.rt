@@ -145,12 +145,13 @@ pub enum TextExpression {
     NewLine,
 }
 
-/// A statement, or the elaboration of one name of an object declaration, with the place of its first token.
+/// A statement, or the elaboration of an object declaration, with the place of its first token.
 #[derive(Drop, Debug)]
 #[cycle(statement)]
 pub enum Statement {
-    /// The next variable of the innermost frame, and its initial value.
-    Declare(Pos, ValueExpression),
+    /// The next variables of the innermost frame, until this number of them is elaborated, each with an initial value of its own
+    /// (RM 3.3.1(7)).
+    Declare(Pos, usize, ValueExpression),
     Null(Pos),
     Assign(Pos, Reference, ValueExpression),
     Put(Pos, TextExpression),
@@ -212,7 +213,7 @@ pub struct Program {
     pub at: Pos,
     /// Its variables and constants, in the order of their declarations.
     pub variables: Vec<Named>,
-    /// Its declarations, name by name, in their order.
+    /// Its declarations, in their order.
     pub declarations: Vec<Statement>,
     /// Where the `begin` of its body stands.
     pub begin: Pos,

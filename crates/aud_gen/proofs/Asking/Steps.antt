@@ -54,7 +54,7 @@ module _ (loops : ℕ) (at : Pos) (s : Scene) where
           (λ ts. refl)
 
 pub asked_law : AskedLaw
-asked_law (declare at e) loops s = declaration_law at e loops s
+asked_law (declare at up_to e) loops s = declaration_law at up_to e loops s
 asked_law (declare_object at n es) loops s = asks_object loops at s n es
 asked_law (null at) loops s = null_law at loops s
 asked_law (assign at r e) loops s = assignment_law at r e loops s

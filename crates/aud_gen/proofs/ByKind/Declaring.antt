@@ -9,6 +9,6 @@ use Rattle.aud_gen.proofs.Asking.Evals.{Ends, eval_value}
 use Rattle.aud_gen.proofs.Asking.Statements.{at_end, asks_in_part}
 
 pub declaration_law : DeclarationLaw
-declaration_law at e loops s =
-    asks_in_part loops at s Declare (value_of e s.sight) (λ z. asked.declares z) (λ z. Ends false s [] (record no_operands { integers = z ∷ [] })) _ (λ raise. refl)
+declaration_law at up_to e loops s =
+    asks_in_part loops at s (Declare up_to) (value_of e s.sight) (λ z. asked.declares up_to z) (λ z. Ends false s [] (record no_operands { integers = z ∷ [] })) _ (λ raise. refl)
     (at_end false s (value_code e) no_operands ∙ eval_value false s e [] no_operands) (λ z. refl)

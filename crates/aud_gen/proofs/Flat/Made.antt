@@ -141,7 +141,7 @@ fine_call c (of_object v) = fine_called _ c.arguments c.form no_counts tt
 
 -- each statement's step finds its operands
 pub fine_statement : (a : Statement) → AreFine (EndingFine (ending_of a)) (instructions_of a) 0 no_counts
-fine_statement (declare at e) = whole_code _ (value_code e) no_counts (fine_value _ e [] no_counts tt)
+fine_statement (declare at up_to e) = whole_code _ (value_code e) no_counts (fine_value _ e [] no_counts tt)
 fine_statement (declare_object at n es) = fine_components _ es (record no_counts { cells = true }) refl
 fine_statement (assign at r e) = fine_reference _ r (value_code e) no_counts (whole_code _ (value_code e) _ (fine_value _ e [] (record no_counts { targets = 1 }) tt))
 fine_statement (put at t) = whole_code _ (text_code t) no_counts (fine_text _ t [] no_counts tt)

@@ -1,7 +1,7 @@
 -- Each place in the layout's lines is at most the number of lines, and the place in the text at a statement's line is the statement's.
 use Rattle.std.proofs.Common.{◌≡◌, ℕ, zero, suc, ◌+◌, ◌≤◌, List, [], ◌∷◌, ◌++◌, length, map, get_or, Option, Some, None, refl, ap, arith}
 use Rattle.aud_text.specs.declared.place.Pos.{Pos}
-use Rattle.aud_typed.specs.Tree.{Statement, sequence, if_then, plain_loop, while_loop, for_loop, exit, return, return_value, block, entry_call, accept, select, Part, nothing, some, Handlers, no_handlers, handler, Body, body, Doing, without_do, with_do, Alternatives, no_alternatives, accepting, delaying, terminating}
+use Rattle.aud_typed.specs.Tree.{Statement, sequence, declare, if_then, plain_loop, while_loop, for_loop, exit, return, return_value, block, entry_call, accept, select, Part, nothing, some, Handlers, no_handlers, handler, Body, body, Doing, without_do, with_do, Alternatives, no_alternatives, accepting, delaying, terminating}
 use Rattle.aud_meaning.specs.declared.state.Construct.{Construct}
 use Rattle.aud_meaning.specs.declared.state.Construct.TheVariants as construct
 use Rattle.std.proofs.Common.{slice_index_or}
@@ -142,6 +142,7 @@ module _ (T : ℕ) where
         let middle = at + statement_size x (ways_count a) in
         both (statement_in x at middle a (omega (arith, h)) (omega (arith, h)) i) (statement_in y middle next a (omega (arith, h)) k i)
     statement_in (plain_loop x) at next a h k i = statement_in x at at (in_loop next a) h (omega (arith, h)) (loop_in next a k i)
+    statement_in (declare pos n e) at next a h k i = one_and (plain_line (declare pos n e) (next ∷ at ∷ []) [] a i (k, (omega (arith, h), tt)) tt) no_lines
     statement_in (if_then pos c x p) at next a h k i =
         let second = suc at + statement_size x (ways_count a) in
         one_and (plain_line (if_then pos c x p) (part_place p second next ∷ suc at ∷ []) [] a i (part_place_in p second next (omega (arith, h)) k, (omega (arith, h), tt)) tt)

@@ -1,6 +1,6 @@
 -- The code of a program is its layout with the places of instructions: each place of the layout moves to where its step begins.
 use Rattle.std.proofs.Common.{◌≡◌, ℕ, suc, ◌+◌, List, [], ◌∷◌, ◌++◌, map, refl, sym, ap, ◌∙◌, append-nil}
-use Rattle.aud_typed.specs.Tree.{Statement, sequence, if_then, plain_loop, while_loop, for_loop, exit, return, return_value, block, entry_call, accept, select, Part, nothing, some, Handlers, no_handlers, handler, Body, body, Doing, without_do, with_do, Alternatives, no_alternatives, accepting, delaying, terminating}
+use Rattle.aud_typed.specs.Tree.{Statement, sequence, declare, if_then, plain_loop, while_loop, for_loop, exit, return, return_value, block, entry_call, accept, select, Part, nothing, some, Handlers, no_handlers, handler, Body, body, Doing, without_do, with_do, Alternatives, no_alternatives, accepting, delaying, terminating}
 use Rattle.aud_meaning.specs.declared.state.Construct.{Construct}
 use Rattle.aud_meaning.specs.declared.state.Construct.TheVariants as construct
 use Rattle.aud_meaning.specs.Items.{no_body}
@@ -26,6 +26,7 @@ module _ (lines : List Line) where
         let it = statement_and lines x at _ a _ at' _ h ea (count_moved F a b eb) in
         both_moved F (statement_moved x at _ a at' _ b it.front ea it.behind eb) (statement_moved y _ next a _ next' b it.back it.behind en eb)
     statement_moved (plain_loop x) at next a at' next' b h ea en eb = statement_moved x at at (in_loop next a) at' at' (in_loop next' b) h ea ea (loop_moved F next next' a b en eb)
+    statement_moved (declare pos n e) at next a at' next' b h ea en eb = more_moved F (line_same lines (declare pos n e) _ [] _ [] a b (two_places lines next at next' at' en ea) refl eb) (none_moved F)
     statement_moved (if_then pos c x p) at next a at' next' b h ea en eb =
         let own = behind_line lines _ _ at at' h ea in
         let it = statement_and lines x (suc at) next a _ _ _ own.rest own.behind (count_moved F a b eb) in

@@ -1,6 +1,6 @@
 -- What orders do: wherever a task stands, its place in code and what it has left to do stay together.
 use Rattle.std.proofs.Common.{◌≡◌, ℕ, zero, suc, ◌+◌, List, [], ◌∷◌, ◌++◌, refl, sym, ap, subst, slice_get}
-use Rattle.aud_typed.specs.Tree.{Statement, sequence, if_then, plain_loop, while_loop, for_loop, block, entry_call, select, Body, body, Alternatives, no_alternatives, accepting, delaying, terminating}
+use Rattle.aud_typed.specs.Tree.{Statement, sequence, declare, if_then, plain_loop, while_loop, for_loop, block, entry_call, select, Body, body, Alternatives, no_alternatives, accepting, delaying, terminating}
 use Rattle.aud_meaning.specs.declared.state.Construct.TheVariants as construct
 use Rattle.aud_meaning.specs.Configuration.{Item, Do, InLoop, InFor}
 use Rattle.aud_meaning.specs.Items.{before, body_before, takes_by, follows, one_part, accepts_offer, part_in, offer_at, place}
@@ -75,6 +75,9 @@ module _ (code : Code) where
     pub takes_do : (s : Statement) (around : Around) (place next : ℕ) (rest : List Item) → IsStep s → HasAt code.lines place (statement_code s place next around) → Stands code around next returns rest → (n : ℕ) → Taken s place rest n
     takes_do (sequence x y) around place next rest is has st n = absurd is
     takes_do (plain_loop x) around place next rest is has st n = absurd is
+    takes_do (declare pos m e) around place next rest is has st zero = by_line place _ zero _ (line_is code place _ _ has) (resumes code returns rest around next st)
+    takes_do (declare pos m e) around place next rest is has st (suc zero) = by_line place _ 1 _ (line_is code place _ _ has) (record { around = around; stands = (next, has, st); settled = tt })
+    takes_do (declare pos m e) around place next rest is has st (suc (suc n)) = by_line place _ (suc (suc n)) _ (line_is code place _ _ has) (record { around = around; stands = (next, has, st); settled = tt })
     takes_do (if_then pos c x p) around place next rest is has st zero =
         by_line place _ zero _ (line_is code place _ _ has) (part_stands code returns p around _ next rest (has_back code.lines (suc place) _ _ _ (length-statement x (suc place) next around) (has_tail code.lines place _ _ has)) st)
     takes_do (if_then pos c x p) around place next rest is has st (suc zero) =

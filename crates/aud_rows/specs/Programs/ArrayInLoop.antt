@@ -19,7 +19,7 @@ program = record {
     regions = ((record { name = (codes "A"); shown = as_wholes 3 } ∷ record { name = (codes "S"); shown = as_whole } ∷ []) ∷ (record { name = (codes "N"); shown = as_whole } ∷ record { name = (codes "T"); shown = as_whole } ∷ []) ∷ (record { name = (codes "I"); shown = as_whole } ∷ record { name = (codes ""); shown = hidden 1 } ∷ []) ∷ []);
     exceptions = ([]);
   };
-  bodies = ((body (some (sequence (declare_array (at 1 16) subtype.Integer 3) (declare (at 1 47) (whole subtype.Integer (number (pos 0)))))) (at 1 146) (sequence (for_loop (record { at = (at 1 152); next_at = (at 1 152); region = 2; backward = false }) (number (pos 1)) (number (pos 3)) (sequence (assign (at 1 184) (component (array 0 0 (pos 1) 3) (variable (v 1 0)) subtype.Integer) (whole subtype.Integer (binary Product (variable (v 1 0)) (variable (v 1 0))))) (procedure_call (at 1 200) (record { unit = 1; arguments = (by_value (whole subtype.Integer (element (array 0 0 (pos 1) 3) (variable (v 1 0)))) ∷ by_copy true subtype.Integer (scalar (v 0 3) subtype.Integer) ∷ []); into = None })))) (put (at 1 226) (join (image (variable (v 0 3))) new_line))) no_handlers (at 1 246)) ∷ (body nothing (at 1 119) (assign (at 1 125) (scalar (v 1 1) subtype.Integer) (whole subtype.Integer (binary Sum (variable (v 1 1)) (variable (v 1 0))))) no_handlers (at 1 137)) ∷ []);
+  bodies = ((body (some (sequence (declare_array (at 1 16) subtype.Integer 3) (declare (at 1 47) 2 (whole subtype.Integer (number (pos 0)))))) (at 1 146) (sequence (for_loop (record { at = (at 1 152); next_at = (at 1 152); region = 2; backward = false }) (number (pos 1)) (number (pos 3)) (sequence (assign (at 1 184) (component (array 0 0 (pos 1) 3) (variable (v 1 0)) subtype.Integer) (whole subtype.Integer (binary Product (variable (v 1 0)) (variable (v 1 0))))) (procedure_call (at 1 200) (record { unit = 1; arguments = (by_value (whole subtype.Integer (element (array 0 0 (pos 1) 3) (variable (v 1 0)))) ∷ by_copy true subtype.Integer (scalar (v 0 3) subtype.Integer) ∷ []); into = None })))) (put (at 1 226) (join (image (variable (v 0 3))) new_line))) no_handlers (at 1 246)) ∷ (body nothing (at 1 119) (assign (at 1 125) (scalar (v 1 1) subtype.Integer) (whole subtype.Integer (binary Sum (variable (v 1 1)) (variable (v 1 0))))) no_handlers (at 1 137)) ∷ []);
   barriers = ([]);
 }
 

@@ -20,7 +20,7 @@ program = record {
     regions = ((record { name = (codes "V"); shown = as_whole } ∷ record { name = (codes "S"); shown = hidden 1 } ∷ []) ∷ (record { name = (codes ""); shown = hidden 1 } ∷ []) ∷ (record { name = (codes "X"); shown = as_whole } ∷ []) ∷ []);
     exceptions = ([]);
   };
-  bodies = ((body (some (sequence (declare (at 1 16) (whole subtype.Integer (number (pos 5)))) (sequence (declare_tasks (at 1 34) (tasks 0 (codes "S") (pos 0) false 1)) (activate (at 1 222))))) (at 1 222) (entry_call (at 1 228) (record { callee = (of_task (single (v 0 1))); entry = 0; arguments = (by_copy false subtype.Integer (scalar (v 0 0) subtype.Integer) ∷ []); form = plainly }) nothing nothing) (handler false ((Predefined Program_Error) ∷ []) (put (at 1 269) (join (join (literal (codes "call")) (image (variable (v 0 0)))) new_line)) no_handlers) (at 1 298)) ∷ (body (some (activated (at 1 93))) (at 1 93) (accept (at 1 99) 0 (with_do 2 (body nothing (at 1 99) (sequence (assign (at 1 129) (scalar (v 2 0) subtype.Integer) (whole subtype.Integer (number (pos 9)))) (raising (at 1 137) (Predefined Program_Error))) no_handlers (at 1 158)))) (handler false ((Predefined Program_Error) ∷ []) (put (at 1 197) (join (literal (codes "acc")) new_line)) no_handlers) (at 1 215)) ∷ []);
+  bodies = ((body (some (sequence (declare (at 1 16) 1 (whole subtype.Integer (number (pos 5)))) (sequence (declare_tasks (at 1 34) (tasks 0 (codes "S") (pos 0) false 1)) (activate (at 1 222))))) (at 1 222) (entry_call (at 1 228) (record { callee = (of_task (single (v 0 1))); entry = 0; arguments = (by_copy false subtype.Integer (scalar (v 0 0) subtype.Integer) ∷ []); form = plainly }) nothing nothing) (handler false ((Predefined Program_Error) ∷ []) (put (at 1 269) (join (join (literal (codes "call")) (image (variable (v 0 0)))) new_line)) no_handlers) (at 1 298)) ∷ (body (some (activated (at 1 93))) (at 1 93) (accept (at 1 99) 0 (with_do 2 (body nothing (at 1 99) (sequence (assign (at 1 129) (scalar (v 2 0) subtype.Integer) (whole subtype.Integer (number (pos 9)))) (raising (at 1 137) (Predefined Program_Error))) no_handlers (at 1 158)))) (handler false ((Predefined Program_Error) ∷ []) (put (at 1 197) (join (literal (codes "acc")) new_line)) no_handlers) (at 1 215)) ∷ []);
   barriers = (truth true ∷ []);
 }
 

@@ -21,7 +21,7 @@ program = record {
     regions = ((record { name = (codes "A"); shown = hidden 1 } ∷ record { name = (codes "B"); shown = hidden 1 } ∷ []) ∷ (record { name = (codes ""); shown = hidden 1 } ∷ record { name = (codes "Z"); shown = as_whole } ∷ record { name = (codes "X"); shown = as_whole } ∷ []) ∷ (record { name = (codes ""); shown = hidden 1 } ∷ []) ∷ []);
     exceptions = ([]);
   };
-  bodies = ((body (some (sequence (declare_tasks (at 1 16) (tasks 0 (codes "A") (pos 0) false 1)) (sequence (declare_tasks (at 1 24) (tasks 1 (codes "B") (pos 0) false 1)) (activate (at 1 150))))) (at 1 150) (put (at 1 156) (join (literal (codes "no")) new_line)) (handler false ((Predefined Tasking) ∷ []) (put (at 1 205) (join (literal (codes "te")) new_line)) no_handlers) (at 1 222)) ∷ (body (some (sequence (declare (at 1 47) (whole subtype.Integer (number (pos 0)))) (sequence (declare (at 1 65) (whole subtype.Integer (binary Quotient (number (pos 1)) (variable (v 1 1))))) (activated (at 1 87))))) (at 1 87) (null (at 1 93)) no_handlers (at 1 99)) ∷ (body (some (activated (at 1 121))) (at 1 121) (put (at 1 127) (join (literal (codes "b")) new_line)) no_handlers (at 1 143)) ∷ []);
+  bodies = ((body (some (sequence (declare_tasks (at 1 16) (tasks 0 (codes "A") (pos 0) false 1)) (sequence (declare_tasks (at 1 24) (tasks 1 (codes "B") (pos 0) false 1)) (activate (at 1 150))))) (at 1 150) (put (at 1 156) (join (literal (codes "no")) new_line)) (handler false ((Predefined Tasking) ∷ []) (put (at 1 205) (join (literal (codes "te")) new_line)) no_handlers) (at 1 222)) ∷ (body (some (sequence (declare (at 1 47) 2 (whole subtype.Integer (number (pos 0)))) (sequence (declare (at 1 65) 3 (whole subtype.Integer (binary Quotient (number (pos 1)) (variable (v 1 1))))) (activated (at 1 87))))) (at 1 87) (null (at 1 93)) no_handlers (at 1 99)) ∷ (body (some (activated (at 1 121))) (at 1 121) (put (at 1 127) (join (literal (codes "b")) new_line)) no_handlers (at 1 143)) ∷ []);
   barriers = ([]);
 }
 

@@ -20,7 +20,7 @@ program = record {
     regions = (([]) ∷ (record { name = (codes "T"); shown = hidden 1 } ∷ record { name = (codes "X"); shown = as_whole } ∷ []) ∷ (record { name = (codes ""); shown = hidden 1 } ∷ []) ∷ []);
     exceptions = ([]);
   };
-  bodies = ((body nothing (at 1 16) (block (at 1 22) 1 (body (some (sequence (declare_tasks (at 1 30) (tasks 0 (codes "T") (pos 0) false 1)) (sequence (declare (at 1 77) (whole subtype.Integer (binary Sum (number (pos 2147483647)) (number (pos 1))))) (activate (at 1 110))))) (at 1 110) (null (at 1 116)) no_handlers (at 1 122))) (handler false ((Predefined Constraint) ∷ []) (put (at 1 162) (literal (codes "c"))) no_handlers) (at 1 173)) ∷ (body (some (activated (at 1 53))) (at 1 53) (put (at 1 59) (literal (codes "t"))) no_handlers (at 1 70)) ∷ []);
+  bodies = ((body nothing (at 1 16) (block (at 1 22) 1 (body (some (sequence (declare_tasks (at 1 30) (tasks 0 (codes "T") (pos 0) false 1)) (sequence (declare (at 1 77) 2 (whole subtype.Integer (binary Sum (number (pos 2147483647)) (number (pos 1))))) (activate (at 1 110))))) (at 1 110) (null (at 1 116)) no_handlers (at 1 122))) (handler false ((Predefined Constraint) ∷ []) (put (at 1 162) (literal (codes "c"))) no_handlers) (at 1 173)) ∷ (body (some (activated (at 1 53))) (at 1 53) (put (at 1 59) (literal (codes "t"))) no_handlers (at 1 70)) ∷ []);
   barriers = ([]);
 }
 

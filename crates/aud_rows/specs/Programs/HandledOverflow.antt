@@ -20,7 +20,7 @@ program = record {
     regions = ((record { name = (codes "X"); shown = as_whole } ∷ []) ∷ []);
     exceptions = ([]);
   };
-  bodies = ((body (some (declare (at 1 16) (whole subtype.Integer (number (pos 2147483647))))) (at 1 45) (assign (at 1 51) (scalar (v 0 0) subtype.Integer) (whole subtype.Integer (binary Sum (variable (v 0 0)) (number (pos 1))))) (handler false ((Predefined Constraint) ∷ []) (put (at 1 98) (join (literal (codes "over")) (image (variable (v 0 0))))) no_handlers) (at 1 122)) ∷ []);
+  bodies = ((body (some (declare (at 1 16) 1 (whole subtype.Integer (number (pos 2147483647))))) (at 1 45) (assign (at 1 51) (scalar (v 0 0) subtype.Integer) (whole subtype.Integer (binary Sum (variable (v 0 0)) (number (pos 1))))) (handler false ((Predefined Constraint) ∷ []) (put (at 1 98) (join (literal (codes "over")) (image (variable (v 0 0))))) no_handlers) (at 1 122)) ∷ []);
   barriers = ([]);
 }
 

@@ -19,7 +19,7 @@ program = record {
     regions = ((record { name = (codes "V"); shown = as_whole } ∷ []) ∷ (record { name = (codes "X"); shown = as_whole } ∷ []) ∷ []);
     exceptions = ([]);
   };
-  bodies = ((body (some (declare (at 1 16) (whole subtype.Integer (number (pos 1))))) (at 1 112) (procedure_call (at 1 118) (record { unit = 1; arguments = (by_copy false subtype.Integer (scalar (v 0 0) subtype.Integer) ∷ []); into = None })) (handler true ([]) (put (at 1 150) (join (image (variable (v 0 0))) new_line)) no_handlers) (at 1 170)) ∷ (body nothing (at 1 67) (sequence (assign (at 1 73) (scalar (v 1 0) subtype.Integer) (whole subtype.Integer (number (pos 5)))) (raising (at 1 81) (Predefined Constraint))) no_handlers (at 1 105)) ∷ []);
+  bodies = ((body (some (declare (at 1 16) 1 (whole subtype.Integer (number (pos 1))))) (at 1 112) (procedure_call (at 1 118) (record { unit = 1; arguments = (by_copy false subtype.Integer (scalar (v 0 0) subtype.Integer) ∷ []); into = None })) (handler true ([]) (put (at 1 150) (join (image (variable (v 0 0))) new_line)) no_handlers) (at 1 170)) ∷ (body nothing (at 1 67) (sequence (assign (at 1 73) (scalar (v 1 0) subtype.Integer) (whole subtype.Integer (number (pos 5)))) (raising (at 1 81) (Predefined Constraint))) no_handlers (at 1 105)) ∷ []);
   barriers = ([]);
 }
 

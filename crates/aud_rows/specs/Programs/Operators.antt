@@ -19,7 +19,7 @@ program = record {
     regions = ((record { name = (codes "W"); shown = as_whole } ∷ record { name = (codes "X"); shown = as_whole } ∷ record { name = (codes "Y"); shown = as_whole } ∷ record { name = (codes "Z"); shown = as_whole } ∷ []) ∷ []);
     exceptions = ([]);
   };
-  bodies = ((body (some (sequence (declare (at 1 16) (whole subtype.Integer (number (pos 7)))) (sequence (declare (at 1 16) (whole subtype.Integer (number (pos 7)))) (sequence (declare (at 1 16) (whole subtype.Integer (number (pos 7)))) (declare (at 1 16) (whole subtype.Integer (number (pos 7)))))))) (at 1 43) (sequence (assign (at 1 49) (scalar (v 0 0) subtype.Integer) (whole subtype.Integer (binary Modulus (unary Negative (variable (v 0 0))) (number (pos 3))))) (sequence (assign (at 1 66) (scalar (v 0 1) subtype.Integer) (whole subtype.Integer (unary Negative (binary Modulus (variable (v 0 1)) (number (pos 3)))))) (sequence (assign (at 1 81) (scalar (v 0 2) subtype.Integer) (whole subtype.Integer (unary Negative (binary Quotient (variable (v 0 2)) (number (pos 2)))))) (sequence (assign (at 1 94) (scalar (v 0 3) subtype.Integer) (whole subtype.Integer (binary Remainder (unary Negative (variable (v 0 3))) (number (pos 2))))) (put (at 1 111) (join (join (join (join (image (variable (v 0 0))) (image (variable (v 0 1)))) (image (variable (v 0 2)))) (image (variable (v 0 3)))) new_line)))))) no_handlers (at 1 161)) ∷ []);
+  bodies = ((body (some (declare (at 1 16) 4 (whole subtype.Integer (number (pos 7))))) (at 1 43) (sequence (assign (at 1 49) (scalar (v 0 0) subtype.Integer) (whole subtype.Integer (binary Modulus (unary Negative (variable (v 0 0))) (number (pos 3))))) (sequence (assign (at 1 66) (scalar (v 0 1) subtype.Integer) (whole subtype.Integer (unary Negative (binary Modulus (variable (v 0 1)) (number (pos 3)))))) (sequence (assign (at 1 81) (scalar (v 0 2) subtype.Integer) (whole subtype.Integer (unary Negative (binary Quotient (variable (v 0 2)) (number (pos 2)))))) (sequence (assign (at 1 94) (scalar (v 0 3) subtype.Integer) (whole subtype.Integer (binary Remainder (unary Negative (variable (v 0 3))) (number (pos 2))))) (put (at 1 111) (join (join (join (join (image (variable (v 0 0))) (image (variable (v 0 1)))) (image (variable (v 0 2)))) (image (variable (v 0 3)))) new_line)))))) no_handlers (at 1 161)) ∷ []);
   barriers = ([]);
 }
 

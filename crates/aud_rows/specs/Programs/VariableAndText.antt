@@ -17,7 +17,7 @@ program = record {
     regions = ((record { name = (codes "X"); shown = as_whole } ∷ []) ∷ []);
     exceptions = ([]);
   };
-  bodies = ((body (some (declare (at 1 16) (whole subtype.Integer (number (pos 40))))) (at 1 35) (sequence (assign (at 1 41) (scalar (v 0 0) subtype.Integer) (whole subtype.Integer (binary Sum (variable (v 0 0)) (number (pos 2))))) (put (at 1 53) (join (join (literal (codes "x")) (image (variable (v 0 0)))) new_line))) no_handlers (at 1 79)) ∷ []);
+  bodies = ((body (some (declare (at 1 16) 1 (whole subtype.Integer (number (pos 40))))) (at 1 35) (sequence (assign (at 1 41) (scalar (v 0 0) subtype.Integer) (whole subtype.Integer (binary Sum (variable (v 0 0)) (number (pos 2))))) (put (at 1 53) (join (join (literal (codes "x")) (image (variable (v 0 0)))) new_line))) no_handlers (at 1 79)) ∷ []);
   barriers = ([]);
 }
 

@@ -17,7 +17,7 @@ const DOUBLING: &[u8] =
 // Instructions; of an ending where an exception goes, the column of the step, and what ends.
 const LINES: &[u8] = b"Push(Int32 { value: 7 })\n\
     Check(Integer)\n\
-    14 16 Does(Declare, 3)\n\
+    14 16 Does(Declare { up_to: 1, again: 0 }, 3)\n\
     Find(Variable { level: 0, index: 0 }, Integer)\n\
     Load(Variable { level: 0, index: 0 })\n\
     Push(Int32 { value: 2 })\n\

@@ -1,5 +1,5 @@
 -- The plain program of a program in memory. It has as yet neither arrays, blocks, for loops and handlers nor anything of tasks.
-use Rattle.std.specs.Prelude.{List, [], ◌∷◌, map, Option, Some, None}
+use Rattle.std.specs.Prelude.{List, [], ◌∷◌, map}
 use Rattle.aud_typed.specs.declared.program.IntegerExpression.{IntegerExpression, Number, Variable, Unary', Chain', Row_of-Operation, end_of-Operation, more_of-Operation}
 use Rattle.aud_typed.specs.declared.program.Connective.{Connective}
 use Rattle.aud_typed.specs.declared.program.Connective.TheVariants.{Logical, AndThen, OrElse}
@@ -76,7 +76,7 @@ abbrev mutual
 
 abbrev mutual
   pub plain_statement : Statement → tree.Statement
-  plain_statement (Declare at e) = tree.declare at (plain_value e)
+  plain_statement (Declare at up_to e) = tree.declare at up_to (plain_value e)
   plain_statement (Null at) = tree.null at
   plain_statement (Assign at r e) = tree.assign at (plain_reference r) (plain_value e)
   plain_statement (Put at t) = tree.put at (plain_text t)

@@ -1,6 +1,6 @@
 -- Each variable that is read or assigned has been elaborated (RM 3.3.1, 8.3): the items that a typed program names are there. As yet it
 -- is said of programs that are their main procedure alone, with the statements below, and of no others.
-use Rattle.std.specs.Prelude.{◌≡◌, ℕ, suc, ◌<◌, List, [], ◌∷◌, length, slice_index}
+use Rattle.std.specs.Prelude.{◌≡◌, ℕ, suc, max, ◌<◌, List, [], ◌∷◌, length, slice_index}
 use Rattle.aud_typed.specs.declared.program.Variable.{Variable}
 use Rattle.aud_typed.specs.Tree.{IntegerExpression, number, variable, element, unary, binary, count, BooleanExpression, truth, stored, negation, relation, comparison, logical, and_then, or_else, ValueExpression, whole, boolean, Reference, scalar, component, TextExpression, literal, image, image_truth, join, new_line, Statement, sequence, declare, null, assign, put, if_then, plain_loop, while_loop, exit, Part, nothing, some, Body, body, Named, Program}
 
@@ -46,21 +46,22 @@ TextScoped (image_truth e) scope = BooleanScoped e scope
 TextScoped (join x y) scope = TextScoped x scope × TextScoped y scope
 TextScoped new_line scope = Unit {0}
 
--- one variable more in the innermost frame
-abbrev pub elaborated : Scope → Scope
-elaborated [] = []
-elaborated (n ∷ []) = suc n ∷ []
-elaborated (n ∷ ns) = n ∷ elaborated ns
+-- one variable more in the innermost frame, and then as many as this number
+abbrev pub elaborated : ℕ → Scope → Scope
+elaborated up_to [] = []
+elaborated up_to (n ∷ []) = max (suc n) up_to ∷ []
+elaborated up_to (n ∷ ns) = n ∷ elaborated up_to ns
 
 abbrev pub scope_after : Statement → Scope → Scope
 scope_after (sequence a b) scope = scope_after b (scope_after a scope)
-scope_after (declare at e) scope = elaborated scope
+scope_after (declare at up_to e) scope = elaborated up_to scope
 scope_after _ scope = scope
 
 abbrev mutual
   pub StatementScoped : Statement → Scope → Type 0
   StatementScoped (sequence a b) scope = StatementScoped a scope × StatementScoped b (scope_after a scope)
-  StatementScoped (declare at e) scope = ValueScoped e scope
+  -- in what is elaborated before it; each variable more only adds to that
+  StatementScoped (declare at up_to e) scope = ValueScoped e scope
   StatementScoped (null at) scope = Unit {0}
   StatementScoped (assign at r e) scope = ReferenceScoped r scope × ValueScoped e scope
   StatementScoped (put at t) scope = TextScoped t scope
