@@ -1,5 +1,5 @@
 -- Arms of an if statement that are still to be checked.
-use Rattle.std.specs.Prelude.{List, [], ◌∷◌, ◌++◌, Option, Vec, Result, Ok, Err, IfOk}
+use Rattle.std.specs.Prelude.{List, [], ◌∷◌, ◌++◌, Option, Box, Vec, Result, Ok, Err, IfOk}
 use Rattle.std.specs.Global.{Global}
 use Rattle.std.specs.declared.alloc.AllocError.{AllocError}
 use Rattle.std.proofs.Common.{◌≡◌, refl, sym, ◌∙◌, ap, append_assoc}
@@ -19,7 +19,7 @@ use Rattle.aud_check.specs.Labels.{Labels}
 use Rattle.aud_check.specs.Conditions.{condition_faults}
 use Rattle.aud_check.specs.Statements.{statement_faults, arms_faults, statements_faults, others_faults, typed_statement, typed_arms, typed_others}
 use Rattle.aud_check.specs.Ties.Arms.{TypedArm, plain_arm, typed_arm, arm_then}
-use Rattle.aud_check.specs.Ties.Typing.{Leaves}
+use Rattle.aud_check.specs.Ties.Typing.{in_box, Leaves}
 use Rattle.aud_check.proofs.Notes.{noted_append}
 
 abbrev followed : TypedArm → tree.Part → tree.Part
@@ -62,6 +62,6 @@ pub if_parts : (first : memory.Arm) (others : Vec memory.Arm Global) (otherwise 
 if_parts first others otherwise = rw out-roll-IfStatement refl
 
 -- a statement that is made at last
-pub left_if : (r : Result statement.Statement AllocError) (old new : Option Fault) (faults : List Fault) (x y : tree.Statement) → new ≡ noted old faults → x ≡ y → IfOk r (λ s. plain_typed_statement s ≡ x) → Leaves plain_typed_statement r old new faults y
+pub left_if : (r : Result (Box statement.Statement Global) AllocError) (old new : Option Fault) (faults : List Fault) (x y : tree.Statement) → new ≡ noted old faults → x ≡ y → IfOk r (λ s. plain_typed_statement s.value ≡ x) → Leaves (in_box plain_typed_statement) r old new faults y
 left_if (Ok s) old new faults x y h e k = (h, k ∙ e)
 left_if (Err e) old new faults x y h i k = tt

@@ -1,12 +1,13 @@
 -- Faults that are noted one after the other.
-use Rattle.std.specs.Prelude.{List, [], ◌∷◌, ◌++◌, Option, Result, Ok, Err, IfOk}
+use Rattle.std.specs.Prelude.{List, [], ◌∷◌, ◌++◌, Option, Box, Result, Ok, Err, IfOk}
+use Rattle.std.specs.Global.{Global}
 use Rattle.std.specs.declared.alloc.AllocError.{AllocError}
 use Rattle.std.proofs.Common.{◌≡◌, refl, sym, ◌∙◌, ap}
 use Rattle.aud_check.specs.declared.fault.Fault.{Fault}
 use Rattle.aud_check.specs.declared.typed.Typed as memory
 use Rattle.aud_check.specs.Least.{note, noted}
 use Rattle.aud_check.specs.Expressions.{Typed, Checked, with}
-use Rattle.aud_check.specs.Ties.Typing.{plain_typed, Leaves, Shows}
+use Rattle.aud_check.specs.Ties.Typing.{plain_typed, in_box, Leaves, Shows}
 
 pub noted_append : (o : Option Fault) (fs gs : List Fault) → noted o (fs ++ gs) ≡ noted (noted o fs) gs
 noted_append o [] gs = refl
@@ -19,10 +20,18 @@ pub leaves : {X Y : Type 0} (plain : X → Y) (r : Result X AllocError) (old new
 leaves plain (Ok x) old new fs y p h = (p, h)
 leaves plain (Err e) old new fs y p h = tt
 
+-- what is left of a part goes in a box
+pub boxes : {X Y : Type 0} (plain : X → Y) (r : Result (Box X Global) AllocError) (x : X) (y : Y) → IfOk r (λ b. b.value ≡ x) → plain x ≡ y → IfOk r (λ b. plain b.value ≡ y)
+boxes plain (Ok b) x y p q = ap plain p ∙ q
+boxes plain (Err e) x y p q = tt
+
+pub leaves_box : {X Y : Type 0} (plain : X → Y) (r : Result (Box X Global) AllocError) (old new : Option Fault) (fs : List Fault) (x : X) (y : Y) → new ≡ noted old fs → IfOk r (λ b. b.value ≡ x) → plain x ≡ y → Leaves (in_box plain) r old new fs y
+leaves_box plain r old new fs x y p q e = leaves (in_box plain) r old new fs y p (boxes plain r x y q e)
+
 -- a part is checked, and then the rest with the part's type
-pub shows_with : (old mid new : Option Fault) (c : Checked) (f : Typed → Checked) (t : memory.Typed) (r : Result memory.Typed AllocError) → Shows (Ok t) old mid c → Shows r mid new (f (plain_typed t)) → Shows r old new (with c f)
+pub shows_with : (old mid new : Option Fault) (c : Checked) (f : Typed → Checked) (t : Box memory.Typed Global) (r : Result (Box memory.Typed Global) AllocError) → Shows (Ok t) old mid c → Shows r mid new (f (plain_typed t.value)) → Shows r old new (with c f)
 shows_with old mid new c f t (Ok x) h k =
-    (k.0 ∙ ap (λ o. noted o (f (plain_typed t)).faults) h.0 ∙ ap (λ y. noted (noted old c.faults) (f y).faults) h.1 ∙ sym (noted_append old c.faults (f c.typed).faults), k.1 ∙ ap (λ y. (f y).typed) h.1)
+    (k.0 ∙ ap (λ o. noted o (f (plain_typed t.value)).faults) h.0 ∙ ap (λ y. noted (noted old c.faults) (f y).faults) h.1 ∙ sym (noted_append old c.faults (f c.typed).faults), k.1 ∙ ap (λ y. (f y).typed) h.1)
 shows_with old mid new c f t (Err e) h k = tt
 
 -- what is still to be checked, from some faults on, amounts to what was asked
@@ -34,8 +43,8 @@ pub ahead_all : (old : Option Fault) (all : Checked) → Ahead old all old all
 ahead_all old all = record { faults = refl; typed = refl }
 
 -- a part of it is checked
-pub ahead_with : (old mid new : Option Fault) (all c : Checked) (f : Typed → Checked) (t : memory.Typed) → Ahead mid (with c f) old all → Shows (Ok t) mid new c → Ahead new (f (plain_typed t)) old all
+pub ahead_with : (old mid new : Option Fault) (all c : Checked) (f : Typed → Checked) (t : Box memory.Typed Global) → Ahead mid (with c f) old all → Shows (Ok t) mid new c → Ahead new (f (plain_typed t.value)) old all
 ahead_with old mid new all c f t a h = record {
-  faults = ap (λ o. noted o (f (plain_typed t)).faults) h.0 ∙ ap (λ y. noted (noted mid c.faults) (f y).faults) h.1 ∙ sym (noted_append mid c.faults (f c.typed).faults) ∙ a.faults;
+  faults = ap (λ o. noted o (f (plain_typed t.value)).faults) h.0 ∙ ap (λ y. noted (noted mid c.faults) (f y).faults) h.1 ∙ sym (noted_append mid c.faults (f c.typed).faults) ∙ a.faults;
   typed = ap (λ y. (f y).typed) h.1 ∙ a.typed;
 }

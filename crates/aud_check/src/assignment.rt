@@ -5,15 +5,16 @@ ghost use Rattle.aud_syntax.specs.Ties.View.{plain_expression, plain_name};
 ghost use Rattle.aud_typed.specs.Ties.View.{plain_statement as plain_typed_statement};
 ghost use Rattle.aud_check.specs.Least.{noted};
 ghost use Rattle.aud_check.specs.Assignments.{target_base, target_faults, assigned_faults, assigned, assign_faults, typed_assign};
-ghost use Rattle.aud_check.specs.Ties.Typing.{plain_typed, Leaves};
+ghost use Rattle.aud_check.specs.Ties.Typing.{plain_typed, in_box, Leaves};
 
+use crate::behind::boxed;
 use crate::declaration::value_for;
 use crate::expression::{arguments, expression, expression_at};
 use crate::fault::Least;
 use crate::names::{Meaning, Scope};
 use crate::resolution::{Denoted, resolve};
 use crate::rules::{Base, base_asked, not_a_variable, right_type, wrong_kind_of_name};
-use crate::typed::{Typed, base_of};
+use crate::typed::{Operand, base_of};
 use aud_syntax::tree::{Expression, Name};
 use aud_text::place::Pos;
 use aud_typed::program::{Reference, Statement as TypedStatement};
@@ -49,17 +50,18 @@ fn check_target(meaning: Option<Meaning>, at: Pos, faults: &mut Least)
 
 // Notes the faults of an assignment whose target denotes this.
 #[tactic(auto, using(crate::proofs::Notes::noted_append))]
-fn check_assigned(target: Denoted, at: Pos, value: &Typed, faults: &mut Least)
-    ensures { faults.new
-        ≡ noted faults.old (assigned_faults target at (plain_typed value.now)) }
+fn check_assigned(target: Denoted, value: &Operand, faults: &mut Least)
+    ensures { faults.new ≡ noted faults.old
+        (assigned_faults target value.now.at (plain_typed value.now.typed.value)) }
 {
     check_target(target.meaning, target.at, faults);
-    right_type(target_base(target.meaning), at, base_of(value), faults);
+    let base = base_of(&value.typed);
+    right_type(target_base(target.meaning), value.at, base, faults);
 }
 
 // An assignment to what has this meaning; a faulty one is left as a null statement.
-fn assigned(meaning: Option<Meaning>, at: Pos, value: Typed) -> TypedStatement
-    ensures { plain_typed_statement result ≡ assigned meaning at (plain_typed value) }
+fn assigned(meaning: Option<Meaning>, at: Pos, value: Operand) -> TypedStatement
+    ensures { plain_typed_statement result ≡ assigned meaning at (plain_typed value.typed.value) }
 {
     let Some(Meaning::Object(object)) = meaning else {
         return TypedStatement::Null(at);
@@ -69,7 +71,7 @@ fn assigned(meaning: Option<Meaning>, at: Pos, value: Typed) -> TypedStatement
         Some(subtype) => {
             let variable = object.variable;
             let reference = Reference { variable, subtype };
-            TypedStatement::Assign(at, reference, value_for(subtype, value))
+            TypedStatement::Assign(at, reference, value_for(subtype, value.opened()))
         }
     }
 }
@@ -83,8 +85,8 @@ pub fn assignment(
     value: &Expression,
     scope: &Scope<'_>,
     faults: &mut Least,
-) -> Result<TypedStatement, AllocError>
-    ensures { Leaves plain_typed_statement result faults.old faults.new
+) -> Result<Box<TypedStatement>, AllocError>
+    ensures { Leaves (in_box plain_typed_statement) result faults.old faults.new
         (assign_faults (plain_name target.now) (plain_expression value.now) scope.now)
         (typed_assign (plain_name target.now) (plain_expression value.now) scope.now) }
 {
@@ -92,6 +94,11 @@ pub fn assignment(
     drop(last);
     let denoted = resolve(target, scope, faults);
     let typed = expression(alloc, value, scope, faults)?;
-    check_assigned(denoted, expression_at(value), &typed, faults);
-    Ok(assigned(denoted.meaning, target.first.ident.at, typed))
+    let at = expression_at(value);
+    let value = Operand { at, typed };
+    check_assigned(denoted, &value, faults);
+    boxed(
+        alloc,
+        assigned(denoted.meaning, target.first.ident.at, value),
+    )
 }

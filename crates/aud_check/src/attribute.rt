@@ -11,7 +11,7 @@ use crate::fault::Least;
 use crate::names::Meaning;
 use crate::resolution::Denoted;
 use crate::rules::{Base, base_of_subtype, wrong_kind_of_name, wrong_number_of_arguments};
-use crate::typed::{Typed, stored, wants};
+use crate::typed::{Operand, Typed, stored, wants};
 use aud_syntax::tree::Ident;
 use aud_text::int32::Int32;
 use aud_text::name::Name;
@@ -73,7 +73,7 @@ fn attribute_named(name: &Name) -> Option<Attribute>
 // The value of an attribute that has no argument.
 fn without_argument(
     designator: Pos,
-    argument: Option<(Pos, Typed)>,
+    argument: Option<Operand>,
     value: Typed,
     faults: &mut Least,
 ) -> Typed
@@ -113,30 +113,25 @@ fn image_of_type(base: Base, value: Typed) -> Typed
 }
 
 // Image of a type.
-fn image_with(
-    base: Base,
-    designator: Pos,
-    argument: Option<(Pos, Typed)>,
-    faults: &mut Least,
-) -> Typed
+fn image_with(base: Base, designator: Pos, argument: Option<Operand>, faults: &mut Least) -> Typed
     ensures typed { plain_typed result
         ≡ (image_with base designator (plain_argument argument)).typed }
     ensures noted { faults.new
         ≡ noted faults.old (image_with base designator (plain_argument argument)).faults }
 {
-    let Some((at, argument)) = argument else {
+    let Some(argument) = argument else {
         wrong_number_of_arguments(designator, faults);
         return Typed::Unknown;
     };
-    wants(base, at, &argument, faults);
-    image_of_type(base, argument)
+    wants(base, argument.at, &argument.typed, faults);
+    image_of_type(base, argument.opened())
 }
 
 fn image(
     meaning: Meaning,
     prefix: Pos,
     designator: Pos,
-    argument: Option<(Pos, Typed)>,
+    argument: Option<Operand>,
     faults: &mut Least,
 ) -> Typed
     ensures typed { plain_typed result
@@ -191,7 +186,7 @@ fn bound(
     value: Option<Int32>,
     prefix: Pos,
     designator: Pos,
-    argument: Option<(Pos, Typed)>,
+    argument: Option<Operand>,
     faults: &mut Least,
 ) -> Typed
     ensures typed { plain_typed result
@@ -217,7 +212,7 @@ fn attribute_of(
     meaning: Meaning,
     prefix: Pos,
     designator: Pos,
-    argument: Option<(Pos, Typed)>,
+    argument: Option<Operand>,
     faults: &mut Least,
 ) -> Typed
     ensures typed { plain_typed result
@@ -237,11 +232,11 @@ fn attribute_of(
     }
 }
 
-/// An attribute of what a name denotes, with its argument and the place where that begins, if it has one.
+/// An attribute of what a name denotes, with its argument, if it has one.
 pub fn attribute_value(
     prefix: Denoted,
     designator: &Ident,
-    argument: Option<(Pos, Typed)>,
+    argument: Option<Operand>,
     faults: &mut Least,
 ) -> Typed
     ensures typed { plain_typed result

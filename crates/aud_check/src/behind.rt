@@ -4,7 +4,7 @@
 // branch by branch, at each of its ways out; one of any type does it by one call. So a part is handed
 // to this function while more is checked.
 
-ghost use Rattle.std.specs.Prelude.{◌≡◌, IfOk, Ok};
+ghost use Rattle.std.specs.Prelude.{◌≡◌, ◌++◌, ◌∷◌, [], IfOk, OnOk, Ok};
 
 use std::alloc::{AllocError, Global};
 
@@ -22,4 +22,14 @@ pub fn boxed<T: Drop>(alloc: Global, part: T) -> Result<Box<T>, AllocError>
     ensures { IfOk result (λ b. b.value ≡ part) }
 {
     Ok(Box::new(alloc, part)?)
+}
+
+/// Adds what is in a box to a list. It is not inlined, so that this does not stand in the stack frames of
+/// statements that lie in one another.
+#[inline(never)]
+pub fn push<T: Drop>(all: &mut Vec<T>, next: Box<T>) -> Result<(), AllocError>
+    ensures { OnOk result (all.new.items ≡ all.old.items ++ next.value ∷ []) }
+{
+    all.push(Box::into_inner(next))?;
+    Ok(())
 }

@@ -5,8 +5,9 @@ ghost use Rattle.aud_syntax.specs.Ties.View.{plain_name, plain_expressions};
 ghost use Rattle.aud_typed.specs.Ties.View.{plain_statement as plain_typed_statement};
 ghost use Rattle.aud_check.specs.Least.{noted};
 ghost use Rattle.aud_check.specs.Calls.{one_text, no_argument, put_faults, callee_faults, put_out, called, call_faults, typed_call};
-ghost use Rattle.aud_check.specs.Ties.Typing.{plain_typed, Leaves};
+ghost use Rattle.aud_check.specs.Ties.Typing.{plain_typed, in_box, Leaves};
 
+use crate::behind::boxed;
 use crate::expression::{arguments, expression_at};
 use crate::fault::Least;
 use crate::names::{Builtin, Meaning, Scope};
@@ -99,13 +100,15 @@ pub fn call(
     name: &Name,
     scope: &Scope<'_>,
     faults: &mut Least,
-) -> Result<TypedStatement, AllocError>
-    ensures { Leaves plain_typed_statement result faults.old faults.new
+) -> Result<Box<TypedStatement>, AllocError>
+    ensures { Leaves (in_box plain_typed_statement) result faults.old faults.new
         (call_faults (plain_name name.now) scope.now)
         (typed_call (plain_name name.now) scope.now) }
 {
     let last = arguments(alloc, name, scope, faults)?;
+    let last = Box::into_inner(last);
     let denoted = resolve(name, scope, faults);
     check_callee(denoted, last_args(name), &last, faults);
-    called(alloc, denoted.meaning, name.first.ident.at, last)
+    let statement = called(alloc, denoted.meaning, name.first.ident.at, last)?;
+    boxed(alloc, statement)
 }

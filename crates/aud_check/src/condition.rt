@@ -4,8 +4,9 @@ ghost use Rattle.std.specs.Prelude.{◌≡◌};
 ghost use Rattle.aud_syntax.specs.Ties.View.{plain_expression, plain_maybe};
 ghost use Rattle.aud_typed.specs.Ties.View.{plain_boolean};
 ghost use Rattle.aud_check.specs.Conditions.{condition_faults, truth_of, condition, maybe_condition_faults, maybe_condition};
-ghost use Rattle.aud_check.specs.Ties.Typing.{plain_typed, Leaves};
+ghost use Rattle.aud_check.specs.Ties.Typing.{plain_typed, in_box, Leaves};
 
+use crate::behind::boxed;
 use crate::expression::{expression, expression_at};
 use crate::fault::Least;
 use crate::names::Scope;
@@ -32,14 +33,14 @@ pub fn condition(
     e: &Expression,
     scope: &Scope<'_>,
     faults: &mut Least,
-) -> Result<BooleanExpression, AllocError>
-    ensures { Leaves plain_boolean result faults.old faults.new
+) -> Result<Box<BooleanExpression>, AllocError>
+    ensures { Leaves (in_box plain_boolean) result faults.old faults.new
         (condition_faults (plain_expression e.now) scope.now)
         (condition (plain_expression e.now) scope.now) }
 {
     let typed = expression(alloc, e, scope, faults)?;
     wants(Base::Truth, expression_at(e), &typed, faults);
-    Ok(truth_of(typed))
+    boxed(alloc, truth_of(Box::into_inner(typed)))
 }
 
 /// Checks the condition of an exit (RM 5.7(5)), which is True where there is none.
@@ -48,13 +49,13 @@ pub fn maybe_condition(
     maybe: &Option<Expression>,
     scope: &Scope<'_>,
     faults: &mut Least,
-) -> Result<BooleanExpression, AllocError>
-    ensures { Leaves plain_boolean result faults.old faults.new
+) -> Result<Box<BooleanExpression>, AllocError>
+    ensures { Leaves (in_box plain_boolean) result faults.old faults.new
         (maybe_condition_faults (plain_maybe maybe.now) scope.now)
         (maybe_condition (plain_maybe maybe.now) scope.now) }
 {
     match maybe {
-        None => Ok(BooleanExpression::Truth(true)),
+        None => boxed(alloc, BooleanExpression::Truth(true)),
         Some(e) => condition(alloc, e, scope, faults),
     }
 }

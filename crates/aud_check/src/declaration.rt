@@ -118,7 +118,7 @@ fn given_value(
         base_of(&typed),
         faults,
     );
-    Ok(value_for(known(subtype), typed))
+    Ok(value_for(known(subtype), Box::into_inner(typed)))
 }
 
 fn initial_value(

@@ -1,23 +1,23 @@
 // Expressions.
 
-ghost use Rattle.std.specs.Prelude.{◌≡◌, ◌++◌};
+ghost use Rattle.std.specs.Prelude.{◌≡◌, IfOk};
+ghost use Rattle.aud_typed.specs.Tree as tree;
 ghost use Rattle.aud_syntax.specs.Ties.View.{plain_expression, plain_chain, plain_relation, plain_comparison, plain_simple, plain_added, plain_term, plain_multiplied, plain_factor, plain_primary, plain_name, plain_part};
 ghost use Rattle.aud_check.specs.Resolution.{resolved};
-ghost use Rattle.aud_check.specs.Expressions.{expression_at, relation_at, simple_at, term_at, factor_at, primary_at, multiplying, checked_number, name_faults, value_read, checked_name, checked_attribute, checked_expression, checked_relation, checked_simple, checked_added, checked_term, checked_multiplied, checked_factor, checked_primary, checked_arguments, checked_part, further};
+ghost use Rattle.aud_check.specs.Expressions.{expression_at, relation_at, simple_at, term_at, factor_at, primary_at, multiplying, adding_operator, checked_number, name_faults, value_read, string, after, checked_name, checked_attribute, checked_expression, checked_relation, checked_simple, checked_added, checked_term, checked_multiplied, checked_factor, checked_primary, checked_arguments, checked_part, further};
 ghost use Rattle.aud_check.specs.Least.{noted};
-ghost use Rattle.aud_check.specs.Ties.Typing.{plain_typed, plain_argument, Shows};
+ghost use Rattle.aud_check.specs.Ties.Typing.{plain_typed, plain_argument, operation, Shows};
 
 use crate::attribute::attribute_value;
+use crate::behind::boxed;
 use crate::fault::Least;
 use crate::names::{Meaning, Scope};
 use crate::resolution::resolve;
 use crate::rules::{number_too_large, wrong_kind_of_name};
-use crate::typed::{
-    Typed, adding_operator, arithmetic, connecting, highest, relating, signed, stored,
-};
+use crate::typed::{Operand, Operator, Typed, highest, operation, signed, stored};
 use aud_syntax::tree::{
-    Added, Chain, Comparison, Connective, Expression, Factor, Ident, Multiplied, Multiplying, Name,
-    NamePart, Number, Primary, Relation, Simple, Term,
+    Added, Adding, Chain, Comparison, Connective, Expression, Factor, Ident, Literal, Multiplied,
+    Multiplying, Name, NamePart, Number, Primary, Relation, Simple, Term,
 };
 use aud_text::place::Pos;
 use aud_typed::program::{Binary, BooleanExpression, IntegerExpression, TextExpression};
@@ -91,16 +91,41 @@ fn multiplying(operator: Multiplying) -> Binary
     }
 }
 
-fn checked_number(number: Number, faults: &mut Least) -> Result<Typed, AllocError>
+// The operator of RM 4.5.3.
+fn adding(operator: Adding) -> Operator
+    ensures { operation result ≡ adding_operator operator }
+{
+    match operator {
+        Adding::Plus => Operator::Arithmetic(Binary::Sum),
+        Adding::Minus => Operator::Arithmetic(Binary::Difference),
+        Adding::Join => Operator::Join,
+    }
+}
+
+#[inline(never)]
+fn checked_number(
+    alloc: Global,
+    number: Number,
+    faults: &mut Least,
+) -> Result<Box<Typed>, AllocError>
     ensures { Shows result faults.old faults.new (checked_number number.value number.at) }
 {
     match number.value {
-        Some(value) => Ok(Typed::Number(IntegerExpression::Number(value))),
+        Some(value) => boxed(alloc, Typed::Number(IntegerExpression::Number(value))),
         None => {
             number_too_large(number.at, faults);
-            Ok(Typed::Unknown)
+            boxed(alloc, Typed::Unknown)
         }
     }
+}
+
+// What a literal in quotes stands for.
+#[inline(never)]
+fn literal_value(alloc: Global, literal: &Literal) -> Result<Box<Typed>, AllocError>
+    ensures { IfOk result (λ b. plain_typed b.value ≡ string (tree.literal literal.now.text)) }
+{
+    let text = literal.text.try_clone(alloc)?;
+    boxed(alloc, Typed::Text(TextExpression::Literal(text)))
 }
 
 // Notes where what is read has no value (RM 4.1, 4.4).
@@ -127,37 +152,41 @@ fn value_read(meaning: Option<Meaning>) -> Typed
 
 // A name as a primary.
 #[tactic(auto, using(crate::proofs::Notes::noted_append))]
-fn name_value(name: &Name, scope: &Scope<'_>, faults: &mut Least) -> Typed
-    ensures typed { plain_typed result
-        ≡ (checked_name (resolved (plain_name name.now) scope.now).denoted).typed }
-    ensures noted { faults.new ≡ noted faults.old
-        ((resolved (plain_name name.now) scope.now).faults
-        ++ (checked_name (resolved (plain_name name.now) scope.now).denoted).faults) }
+#[inline(never)]
+fn name_value(
+    alloc: Global,
+    name: &Name,
+    scope: &Scope<'_>,
+    faults: &mut Least,
+) -> Result<Box<Typed>, AllocError>
+    ensures { let read = resolved (plain_name name.now) scope.now in
+        Shows result faults.old faults.new (after read.faults (checked_name read.denoted)) }
 {
     let denoted = resolve(name, scope, faults);
     check_name(denoted.meaning, denoted.at, faults);
-    value_read(denoted.meaning)
+    boxed(alloc, value_read(denoted.meaning))
 }
 
 // An attribute of what a name denotes.
 #[tactic(auto, using(crate::proofs::Notes::noted_append))]
+#[inline(never)]
 fn name_attribute(
+    alloc: Global,
     prefix: &Name,
     designator: &Ident,
-    argument: Option<(Pos, Typed)>,
+    argument: Option<Operand>,
     scope: &Scope<'_>,
     faults: &mut Least,
-) -> Typed
-    ensures typed { plain_typed result
-        ≡ (checked_attribute (resolved (plain_name prefix.now) scope.now).denoted designator.now
-        (plain_argument argument)).typed }
-    ensures noted { faults.new ≡ noted faults.old
-        ((resolved (plain_name prefix.now) scope.now).faults
-        ++ (checked_attribute (resolved (plain_name prefix.now) scope.now).denoted designator.now
-        (plain_argument argument)).faults) }
+) -> Result<Box<Typed>, AllocError>
+    ensures { let read = resolved (plain_name prefix.now) scope.now in
+        Shows result faults.old faults.new (after read.faults
+        (checked_attribute read.denoted designator.now (plain_argument argument))) }
 {
     let denoted = resolve(prefix, scope, faults);
-    attribute_value(denoted, designator, argument, faults)
+    boxed(
+        alloc,
+        attribute_value(denoted, designator, argument, faults),
+    )
 }
 
 // The arguments of a part of a name: the last of them, and where there is none what was the last before.
@@ -165,12 +194,12 @@ fn name_attribute(
 fn part_arguments(
     alloc: Global,
     part: &NamePart,
-    before: Typed,
+    before: Box<Typed>,
     scope: &Scope<'_>,
     faults: &mut Least,
-) -> Result<Typed, AllocError>
+) -> Result<Box<Typed>, AllocError>
     ensures { Shows result faults.old faults.new
-        (checked_part (plain_part part.now) scope.now (plain_typed before)) }
+        (checked_part (plain_part part.now) scope.now (plain_typed before.value)) }
 {
     let mut last = before;
     for argument in &part.args {
@@ -187,11 +216,12 @@ pub fn arguments(
     name: &Name,
     scope: &Scope<'_>,
     faults: &mut Least,
-) -> Result<Typed, AllocError>
+) -> Result<Box<Typed>, AllocError>
     ensures { Shows result faults.old faults.new
         (checked_arguments (plain_name name.now) scope.now) }
 {
-    let mut last = part_arguments(alloc, &name.first, Typed::Unknown, scope, faults)?;
+    let nothing = boxed(alloc, Typed::Unknown)?;
+    let mut last = part_arguments(alloc, &name.first, nothing, scope, faults)?;
     for part in &name.others {
         last = part_arguments(alloc, part, last, scope, faults)?;
     }
@@ -204,30 +234,28 @@ fn primary(
     primary: &Primary,
     scope: &Scope<'_>,
     faults: &mut Least,
-) -> Result<Typed, AllocError>
+) -> Result<Box<Typed>, AllocError>
     ensures { Shows result faults.old faults.new
         (checked_primary (plain_primary primary.now) scope.now) }
 {
     match primary {
-        Primary::Integer(number) => checked_number(*number, faults),
-        Primary::Text(literal) => {
-            let text = literal.text.try_clone(alloc)?;
-            Ok(Typed::Text(TextExpression::Literal(text)))
-        }
+        Primary::Integer(number) => checked_number(alloc, *number, faults),
+        Primary::Text(literal) => literal_value(alloc, literal),
         Primary::Name(name) => {
             let last = arguments(alloc, name, scope, faults)?;
             drop(last);
-            Ok(name_value(name, scope, faults))
+            name_value(alloc, name, scope, faults)
         }
         Primary::Attribute(prefix, designator, argument) => {
             let last = arguments(alloc, prefix, scope, faults)?;
             drop(last);
             match argument {
-                None => Ok(name_attribute(prefix, designator, None, scope, faults)),
+                None => name_attribute(alloc, prefix, designator, None, scope, faults),
                 Some(e) => {
                     let typed = expression(alloc, e, scope, faults)?;
-                    let argument = Some((expression_at(e), typed));
-                    Ok(name_attribute(prefix, designator, argument, scope, faults))
+                    let at = expression_at(e);
+                    let argument = Some(Operand { at, typed });
+                    name_attribute(alloc, prefix, designator, argument, scope, faults)
                 }
             }
         }
@@ -241,20 +269,17 @@ fn factor(
     factor: &Factor,
     scope: &Scope<'_>,
     faults: &mut Least,
-) -> Result<Typed, AllocError>
+) -> Result<Box<Typed>, AllocError>
     ensures { Shows result faults.old faults.new
         (checked_factor (plain_factor factor.now) scope.now) }
 {
-    let operand = primary(alloc, &factor.primary, scope, faults)?;
+    let typed = primary(alloc, &factor.primary, scope, faults)?;
     match &factor.operator {
-        None => Ok(operand),
-        Some(operator) => highest(
-            alloc,
-            operator.highest,
-            primary_at(&factor.primary),
-            operand,
-            faults,
-        ),
+        None => Ok(typed),
+        Some(operator) => {
+            let at = primary_at(&factor.primary);
+            highest(alloc, operator.highest, Operand { at, typed }, faults)
+        }
     }
 }
 
@@ -263,24 +288,17 @@ fn multiplied(
     alloc: Global,
     multiplied: &Multiplied,
     scope: &Scope<'_>,
-    at: Pos,
-    left: Typed,
+    left: Operand,
     faults: &mut Least,
-) -> Result<Typed, AllocError>
+) -> Result<Box<Typed>, AllocError>
     ensures { Shows result faults.old faults.new
-        (checked_multiplied (plain_multiplied multiplied.now) scope.now at (plain_typed left)) }
+        (checked_multiplied (plain_multiplied multiplied.now) scope.now
+        left.at (plain_typed left.typed.value)) }
 {
-    let right = factor(alloc, &multiplied.factor, scope, faults)?;
-    let operator = multiplying(multiplied.operator);
-    arithmetic(
-        alloc,
-        operator,
-        at,
-        left,
-        factor_at(&multiplied.factor),
-        right,
-        faults,
-    )
+    let typed = factor(alloc, &multiplied.factor, scope, faults)?;
+    let at = factor_at(&multiplied.factor);
+    let operator = Operator::Arithmetic(multiplying(multiplied.operator));
+    operation(alloc, operator, left, Operand { at, typed }, faults)
 }
 
 #[cycle(expression)]
@@ -289,15 +307,16 @@ fn term(
     term: &Term,
     scope: &Scope<'_>,
     faults: &mut Least,
-) -> Result<Typed, AllocError>
+) -> Result<Box<Typed>, AllocError>
     ensures { Shows result faults.old faults.new (checked_term (plain_term term.now) scope.now) }
 {
     let at = term_at(term);
-    let mut left = factor(alloc, &term.first, scope, faults)?;
+    let mut typed = factor(alloc, &term.first, scope, faults)?;
     for next in &term.rest {
-        left = multiplied(alloc, next, scope, at, left, faults)?;
+        let left = Operand { at, typed };
+        typed = multiplied(alloc, next, scope, left, faults)?;
     }
-    Ok(left)
+    Ok(typed)
 }
 
 #[cycle(expression)]
@@ -305,23 +324,17 @@ fn added(
     alloc: Global,
     added: &Added,
     scope: &Scope<'_>,
-    at: Pos,
-    left: Typed,
+    left: Operand,
     faults: &mut Least,
-) -> Result<Typed, AllocError>
+) -> Result<Box<Typed>, AllocError>
     ensures { Shows result faults.old faults.new
-        (checked_added (plain_added added.now) scope.now at (plain_typed left)) }
+        (checked_added (plain_added added.now) scope.now
+        left.at (plain_typed left.typed.value)) }
 {
-    let right = term(alloc, &added.term, scope, faults)?;
-    adding_operator(
-        alloc,
-        added.operator,
-        at,
-        left,
-        term_at(&added.term),
-        right,
-        faults,
-    )
+    let typed = term(alloc, &added.term, scope, faults)?;
+    let at = term_at(&added.term);
+    let operator = adding(added.operator);
+    operation(alloc, operator, left, Operand { at, typed }, faults)
 }
 
 #[cycle(expression)]
@@ -330,16 +343,18 @@ fn simple(
     e: &Simple,
     scope: &Scope<'_>,
     faults: &mut Least,
-) -> Result<Typed, AllocError>
+) -> Result<Box<Typed>, AllocError>
     ensures { Shows result faults.old faults.new (checked_simple (plain_simple e.now) scope.now) }
 {
+    let typed = term(alloc, &e.first, scope, faults)?;
+    let at = term_at(&e.first);
+    let mut typed = signed(alloc, e.sign, Operand { at, typed }, faults)?;
     let at = simple_at(e);
-    let first = term(alloc, &e.first, scope, faults)?;
-    let mut left = signed(alloc, e.sign, term_at(&e.first), first, faults)?;
     for next in &e.rest {
-        left = added(alloc, next, scope, at, left, faults)?;
+        let left = Operand { at, typed };
+        typed = added(alloc, next, scope, left, faults)?;
     }
-    Ok(left)
+    Ok(typed)
 }
 
 #[cycle(expression)]
@@ -348,7 +363,7 @@ fn relation(
     relation: &Relation,
     scope: &Scope<'_>,
     faults: &mut Least,
-) -> Result<Typed, AllocError>
+) -> Result<Box<Typed>, AllocError>
     ensures { Shows result faults.old faults.new
         (checked_relation (plain_relation relation.now) scope.now) }
 {
@@ -364,21 +379,18 @@ fn comparison(
     comparison: &Comparison,
     scope: &Scope<'_>,
     faults: &mut Least,
-) -> Result<Typed, AllocError>
+) -> Result<Box<Typed>, AllocError>
     ensures { Shows result faults.old faults.new
         (checked_relation (plain_comparison comparison.now) scope.now) }
 {
-    let left = simple(alloc, &comparison.left, scope, faults)?;
-    let right = simple(alloc, &comparison.right, scope, faults)?;
-    relating(
-        alloc,
-        comparison.operator,
-        simple_at(&comparison.left),
-        left,
-        simple_at(&comparison.right),
-        right,
-        faults,
-    )
+    let typed = simple(alloc, &comparison.left, scope, faults)?;
+    let at = simple_at(&comparison.left);
+    let left = Operand { at, typed };
+    let typed = simple(alloc, &comparison.right, scope, faults)?;
+    let at = simple_at(&comparison.right);
+    let right = Operand { at, typed };
+    let operator = Operator::Relation(comparison.operator);
+    operation(alloc, operator, left, right, faults)
 }
 
 // A relation behind an operator, and what stands before it.
@@ -388,24 +400,18 @@ fn further(
     connective: Connective,
     next: &Relation,
     scope: &Scope<'_>,
-    at: Pos,
-    left: Typed,
+    left: Operand,
     faults: &mut Least,
-) -> Result<Typed, AllocError>
-    ensures { Shows result faults.old faults.new (further connective at (plain_typed left)
+) -> Result<Box<Typed>, AllocError>
+    ensures { Shows result faults.old faults.new
+        (further connective left.at (plain_typed left.typed.value)
         (relation_at (plain_relation next.now))
         (checked_relation (plain_relation next.now) scope.now)) }
 {
-    let right = relation(alloc, next, scope, faults)?;
-    connecting(
-        alloc,
-        connective,
-        at,
-        left,
-        relation_at(next),
-        right,
-        faults,
-    )
+    let typed = relation(alloc, next, scope, faults)?;
+    let at = relation_at(next);
+    let operator = Operator::Connective(connective);
+    operation(alloc, operator, left, Operand { at, typed }, faults)
 }
 
 #[cycle(expression)]
@@ -414,25 +420,19 @@ fn chain(
     chain: &Chain,
     scope: &Scope<'_>,
     faults: &mut Least,
-) -> Result<Typed, AllocError>
+) -> Result<Box<Typed>, AllocError>
     ensures { Shows result faults.old faults.new
         (checked_expression (plain_chain chain.now) scope.now) }
 {
     let at = relation_at(&chain.first);
-    let first = relation(alloc, &chain.first, scope, faults)?;
-    let mut left = further(
-        alloc,
-        chain.connective,
-        &chain.second,
-        scope,
-        at,
-        first,
-        faults,
-    )?;
+    let typed = relation(alloc, &chain.first, scope, faults)?;
+    let first = Operand { at, typed };
+    let mut typed = further(alloc, chain.connective, &chain.second, scope, first, faults)?;
     for next in &chain.others {
-        left = further(alloc, chain.connective, next, scope, at, left, faults)?;
+        let left = Operand { at, typed };
+        typed = further(alloc, chain.connective, next, scope, left, faults)?;
     }
-    Ok(left)
+    Ok(typed)
 }
 
 /// Checks an expression (RM 4.4): notes its faults, and answers with its type what is left of it.
@@ -442,7 +442,7 @@ pub fn expression(
     e: &Expression,
     scope: &Scope<'_>,
     faults: &mut Least,
-) -> Result<Typed, AllocError>
+) -> Result<Box<Typed>, AllocError>
     ensures { Shows result faults.old faults.new
         (checked_expression (plain_expression e.now) scope.now) }
 {

@@ -2,17 +2,17 @@
 
 ghost use Rattle.std.specs.Prelude.{◌≡◌, ◌++◌, is_some, option_map, IfOk};
 ghost use Rattle.aud_syntax.specs.Ties.View.{plain_expression, plain_maybe, plain_statement, plain_others, plain_statements, plain_if_statement, arm_list, plain_iteration, plain_loop_statement};
-ghost use Rattle.aud_typed.specs.Tree.{exit, part_of};
+ghost use Rattle.aud_typed.specs.Tree.{null, exit, part_of};
 ghost use Rattle.aud_typed.specs.Ties.View.{plain_boolean, plain_statement as plain_typed_statement, statements_in, part_of_arms};
 ghost use Rattle.aud_check.specs.Rules.{exit_in_loop};
 ghost use Rattle.aud_check.specs.Conditions.{condition_faults, maybe_condition_faults, maybe_condition};
 ghost use Rattle.aud_check.specs.Statements.{iteration_faults, loop_condition, looped, loop_number, statement_faults, typed_statement, statements_faults, typed_statements, others_faults, typed_others};
 ghost use Rattle.aud_check.specs.Ties.Arms.{plain_arm, typed_arm, arm_then, LeavesArms};
 ghost use Rattle.aud_check.specs.Ties.Labels.{plain_labels};
-ghost use Rattle.aud_check.specs.Ties.Typing.{plain_sequence, plain_items, Leaves};
+ghost use Rattle.aud_check.specs.Ties.Typing.{plain_sequence, plain_items, in_box, Leaves};
 
 use crate::assignment::assignment;
-use crate::behind::{both, boxed};
+use crate::behind::{both, boxed, push};
 use crate::call::call;
 use crate::condition::{condition, maybe_condition};
 use crate::fault::Least;
@@ -35,8 +35,8 @@ fn iteration(
     iteration: &Iteration,
     scope: &Scope<'_>,
     faults: &mut Least,
-) -> Result<Option<BooleanExpression>, AllocError>
-    ensures { Leaves (option_map plain_boolean) result faults.old faults.new
+) -> Result<Option<Box<BooleanExpression>>, AllocError>
+    ensures { Leaves (option_map (in_box plain_boolean)) result faults.old faults.new
         (iteration_faults (plain_iteration iteration.now) scope.now)
         (loop_condition (plain_iteration iteration.now) scope.now) }
 {
@@ -51,17 +51,17 @@ fn iteration(
 fn looped(
     alloc: Global,
     at: Pos,
-    condition: Option<BooleanExpression>,
-    body: TypedStatements,
-) -> Result<TypedStatement, AllocError>
-    ensures { IfOk result (λ typed. plain_typed_statement typed
-        ≡ looped at (option_map plain_boolean condition) (statements_in body)) }
+    condition: Option<Box<BooleanExpression>>,
+    body: Box<TypedStatements>,
+) -> Result<Box<TypedStatement>, AllocError>
+    ensures { IfOk result (λ typed. plain_typed_statement typed.value
+        ≡ looped at (option_map (in_box plain_boolean) condition) (statements_in body.value)) }
 {
     match condition {
-        None => Ok(TypedStatement::Loop(Box::new(alloc, body)?)),
+        None => boxed(alloc, TypedStatement::Loop(body)),
         Some(condition) => {
-            let (condition, body) = both(condition, boxed(alloc, body))?;
-            Ok(TypedStatement::While(at, condition, body))
+            let condition = Box::into_inner(condition);
+            boxed(alloc, TypedStatement::While(at, condition, body))
         }
     }
 }
@@ -76,28 +76,32 @@ fn exit(
     condition: &Option<Expression>,
     scope: &Scope<'_>,
     faults: &mut Least,
-) -> Result<TypedStatement, AllocError>
-    ensures { Leaves plain_typed_statement result faults.old faults.new
+) -> Result<Box<TypedStatement>, AllocError>
+    ensures { Leaves (in_box plain_typed_statement) result faults.old faults.new
         (exit_in_loop (is_some found) at
         ++ maybe_condition_faults (plain_maybe condition.now) scope.now)
         (exit at (loop_number found) (maybe_condition (plain_maybe condition.now) scope.now)) }
 {
     exit_in_loop(found.is_some(), at, faults);
     let condition = maybe_condition(alloc, condition, scope, faults)?;
-    Ok(TypedStatement::Exit(at, found.unwrap_or(0), condition))
+    let depth = found.unwrap_or(0);
+    let condition = Box::into_inner(condition);
+    boxed(alloc, TypedStatement::Exit(at, depth, condition))
 }
 
 // An if statement of its first arm and the others, and the statements behind `else`.
 #[inline(never)]
 fn if_of(
     alloc: Global,
-    arms: (TypedArm, Vec<TypedArm>),
+    arms: (Box<TypedArm>, Vec<TypedArm>),
     otherwise: Vec<TypedStatement>,
-) -> Result<TypedStatement, AllocError>
-    ensures { IfOk result (λ typed. plain_typed_statement typed ≡ arm_then (plain_arm arms.0)
+) -> Result<Box<TypedStatement>, AllocError>
+    ensures { IfOk result (λ typed. plain_typed_statement typed.value
+        ≡ arm_then (plain_arm arms.0.value)
         (part_of_arms arms.1.items (part_of (plain_items otherwise)))) }
 {
     let (first, others) = arms;
+    let first = Box::into_inner(first);
     let statement = boxed(
         alloc,
         TypedIf {
@@ -106,7 +110,55 @@ fn if_of(
             otherwise,
         },
     )?;
-    Ok(TypedStatement::If(statement))
+    boxed(alloc, TypedStatement::If(statement))
+}
+
+// An arm of its parts.
+#[inline(never)]
+fn arm_of(
+    alloc: Global,
+    at: Pos,
+    condition: Box<BooleanExpression>,
+    statements: Box<TypedStatements>,
+) -> Result<Box<TypedArm>, AllocError>
+    ensures { IfOk result (λ arm. plain_arm arm.value
+        ≡ record {
+          at = at;
+          condition = plain_boolean condition.value;
+          statements = statements_in statements.value;
+        }) }
+{
+    let condition = Box::into_inner(condition);
+    let statements = Box::into_inner(statements);
+    boxed(
+        alloc,
+        TypedArm {
+            at,
+            condition,
+            statements,
+        },
+    )
+}
+
+// A statement, and those behind it.
+#[inline(never)]
+fn in_order(
+    alloc: Global,
+    first: Box<TypedStatement>,
+    others: Vec<TypedStatement>,
+) -> Result<Box<TypedStatements>, AllocError>
+    ensures { IfOk result (λ typed. plain_sequence typed.value
+        ≡ record { first = plain_typed_statement first.value; others = plain_items others }) }
+{
+    let first = Box::into_inner(first);
+    boxed(alloc, TypedStatements { first, others })
+}
+
+#[inline(never)]
+fn null_at(alloc: Global, at: Pos) -> Result<Box<TypedStatement>, AllocError>
+    ensures { IfOk result (λ typed. plain_typed_statement typed.value ≡ null at) }
+{
+    boxed(alloc, TypedStatement::Null(at))
 }
 
 // A statement (RM 5.1) in loops with these labels, the innermost one's first.
@@ -117,13 +169,13 @@ fn statement<'a>(
     labels: &[&'a Option<Ident>],
     scope: &Scope<'_>,
     faults: &mut Least,
-) -> Result<TypedStatement, AllocError>
-    ensures { Leaves plain_typed_statement result faults.old faults.new
+) -> Result<Box<TypedStatement>, AllocError>
+    ensures { Leaves (in_box plain_typed_statement) result faults.old faults.new
         (statement_faults (plain_statement statement.now) (plain_labels labels.now) scope.now)
         (typed_statement (plain_statement statement.now) (plain_labels labels.now) scope.now) }
 {
     match statement {
-        Statement::Null(at) => Ok(TypedStatement::Null(*at)),
+        Statement::Null(at) => null_at(alloc, *at),
         Statement::Assign(target, value) => assignment(alloc, target, value, scope, faults),
         Statement::Call(name) => call(alloc, name, scope, faults),
         Statement::If(statement) => if_statement(alloc, statement, labels, scope, faults),
@@ -145,8 +197,8 @@ fn if_statement<'a>(
     labels: &[&'a Option<Ident>],
     scope: &Scope<'_>,
     faults: &mut Least,
-) -> Result<TypedStatement, AllocError>
-    ensures { Leaves plain_typed_statement result faults.old faults.new
+) -> Result<Box<TypedStatement>, AllocError>
+    ensures { Leaves (in_box plain_typed_statement) result faults.old faults.new
         (statement_faults (plain_if_statement statement.now) (plain_labels labels.now) scope.now)
         (typed_statement (plain_if_statement statement.now) (plain_labels labels.now) scope.now) }
 {
@@ -172,7 +224,7 @@ fn arms<'a>(
     let mut typed = Vec::with_capacity(alloc, arms.len())?;
     for next in arms {
         let other = arm(alloc, next, labels, scope, faults)?;
-        typed.push(other)?;
+        push(&mut typed, other)?;
     }
     Ok(typed)
 }
@@ -186,8 +238,8 @@ fn arm<'a>(
     labels: &[&'a Option<Ident>],
     scope: &Scope<'_>,
     faults: &mut Least,
-) -> Result<TypedArm, AllocError>
-    ensures { Leaves plain_arm result faults.old faults.new
+) -> Result<Box<TypedArm>, AllocError>
+    ensures { Leaves (in_box plain_arm) result faults.old faults.new
         (condition_faults (plain_expression arm.now.condition) scope.now ++ statements_faults
         (plain_statements arm.now.statements) (plain_labels labels.now) scope.now)
         (typed_arm arm.now (plain_labels labels.now) scope.now) }
@@ -195,11 +247,7 @@ fn arm<'a>(
     let condition = condition(alloc, &arm.condition, scope, faults)?;
     let statements = statements(alloc, &arm.statements, labels, scope, faults);
     let (condition, statements) = both(condition, statements)?;
-    Ok(TypedArm {
-        at: arm.at,
-        condition,
-        statements,
-    })
+    arm_of(alloc, arm.at, condition, statements)
 }
 
 // A loop (RM 5.5), whose statements see its label.
@@ -212,8 +260,8 @@ fn loop_statement<'a>(
     labels: &[&'a Option<Ident>],
     scope: &Scope<'_>,
     faults: &mut Least,
-) -> Result<TypedStatement, AllocError>
-    ensures { Leaves plain_typed_statement result faults.old faults.new
+) -> Result<Box<TypedStatement>, AllocError>
+    ensures { Leaves (in_box plain_typed_statement) result faults.old faults.new
         (statement_faults (plain_loop_statement statement.now) (plain_labels labels.now) scope.now)
         (typed_statement (plain_loop_statement statement.now) (plain_labels labels.now) scope.now) }
 {
@@ -236,15 +284,15 @@ pub fn statements<'a>(
     labels: &[&'a Option<Ident>],
     scope: &Scope<'_>,
     faults: &mut Least,
-) -> Result<TypedStatements, AllocError>
-    ensures { Leaves plain_sequence result faults.old faults.new
+) -> Result<Box<TypedStatements>, AllocError>
+    ensures { Leaves (in_box plain_sequence) result faults.old faults.new
         (statements_faults (plain_statements statements.now) (plain_labels labels.now) scope.now)
         (typed_statements (plain_statements statements.now) (plain_labels labels.now) scope.now) }
 {
     let first = statement(alloc, &statements.first, labels, scope, faults)?;
     let others = more_statements(alloc, &statements.others, labels, scope, faults);
     let (first, others) = both(first, others)?;
-    Ok(TypedStatements { first, others })
+    in_order(alloc, first, others)
 }
 
 #[cycle(statement)]
@@ -262,7 +310,7 @@ fn more_statements<'a>(
     let mut typed = Vec::with_capacity(alloc, others.len())?;
     for next in others {
         let other = statement(alloc, next, labels, scope, faults)?;
-        typed.push(other)?;
+        push(&mut typed, other)?;
     }
     Ok(typed)
 }

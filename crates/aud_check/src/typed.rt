@@ -1,16 +1,17 @@
 // Expressions with their types, and the rules on operands.
 
-ghost use Rattle.std.specs.Prelude.{◌≡◌, [], ◌∷◌, IfOk};
+ghost use Rattle.std.specs.Prelude.{◌≡◌, [], ◌∷◌, ◌++◌, IfOk};
 ghost use Rattle.aud_typed.specs.Tree.{binary, join};
 ghost use Rattle.aud_typed.specs.declared.program.Operation.{out-Operation};
 ghost use Rattle.aud_typed.specs.Ties.View.{plain_integer, plain_boolean, plain_text, connected};
 ghost use Rattle.aud_check.specs.Least.{noted};
-ghost use Rattle.aud_check.specs.Expressions.{base_of, wants, combined, joined, one, integer_only, negated, relation_of, compared, related_to, compared_with, operand_faults, relating, both, connecting, stored, arithmetic, joining, adding_operator, signed, highest};
-ghost use Rattle.aud_check.specs.Ties.Typing.{plain_typed, typed_connective, Shows};
+ghost use Rattle.aud_check.specs.Expressions.{base_of, wants, combined, joined, one, integer_only, negated, relation_of, compared, related_to, compared_with, operand_faults, both, stored, signed, highest};
+ghost use Rattle.aud_check.specs.Ties.Typing.{plain_typed, typed_connective, operation, Shows};
 
+use crate::behind::boxed;
 use crate::fault::Least;
 use crate::rules::{Base, right_type};
-use aud_syntax::tree::{Adding, Connective, Highest, Relational, Sign, Signed};
+use aud_syntax::tree::{Connective, Highest, Relational, Sign, Signed};
 use aud_text::place::Pos;
 use aud_typed::program::{
     Binary, BooleanExpression, Connective as TypedConnective, IntegerExpression, Logical,
@@ -25,6 +26,46 @@ pub enum Typed {
     Truth(BooleanExpression),
     Text(TextExpression),
     Unknown,
+}
+
+/// An expression that is checked, and where it begins.
+#[derive(Debug)]
+pub struct Operand {
+    pub at: Pos,
+    pub typed: Box<Typed>,
+}
+
+// One call wherever it is dropped.
+impl Drop for Operand {
+    fn drop(self) {
+        let Operand { at: _, typed: _ } = self;
+    }
+}
+
+impl Operand {
+    /// The expression.
+    pub fn into_typed(self) -> Box<Typed>
+        ensures { result ≡ self.typed }
+    {
+        let Operand { at: _, typed } = self;
+        typed
+    }
+
+    /// The expression, out of its box.
+    pub fn opened(self) -> Typed
+        ensures { result ≡ self.typed.value }
+    {
+        Box::into_inner(self.into_typed())
+    }
+}
+
+/// An operator on two operands (RM 4.5).
+#[derive(Clone, Copy, PartialEq, Eq, Debug)]
+pub enum Operator {
+    Arithmetic(Binary),
+    Join,
+    Relation(Relational),
+    Connective(Connective),
 }
 
 /// The type of an expression, where it is known.
@@ -92,14 +133,19 @@ fn with_operation(
     }
 }
 
-fn combined(alloc: Global, operator: Binary, left: Typed, right: Typed) -> Result<Typed, AllocError>
+fn combined(
+    alloc: Global,
+    operator: Binary,
+    left: Operand,
+    right: Operand,
+) -> Result<Typed, AllocError>
     ensures { IfOk result (λ typed. plain_typed typed
-        ≡ combined operator (plain_typed left) (plain_typed right)) }
+        ≡ combined operator (plain_typed left.typed.value) (plain_typed right.typed.value)) }
 {
-    let Typed::Number(left) = left else {
+    let Typed::Number(left) = left.opened() else {
         return Ok(Typed::Unknown);
     };
-    match right {
+    match right.opened() {
         Typed::Number(right) => {
             let value = with_operation(alloc, left, Operation { operator, right })?;
             Ok(Typed::Number(value))
@@ -128,14 +174,14 @@ pub fn with_text(
     }
 }
 
-fn joined(alloc: Global, left: Typed, right: Typed) -> Result<Typed, AllocError>
+fn joined(alloc: Global, left: Operand, right: Operand) -> Result<Typed, AllocError>
     ensures { IfOk result (λ typed. plain_typed typed
-        ≡ joined (plain_typed left) (plain_typed right)) }
+        ≡ joined (plain_typed left.typed.value) (plain_typed right.typed.value)) }
 {
-    let Typed::Text(left) = left else {
+    let Typed::Text(left) = left.opened() else {
         return Ok(Typed::Unknown);
     };
-    match right {
+    match right.opened() {
         Typed::Text(right) => {
             let text = with_text(alloc, left, right)?;
             Ok(Typed::Text(text))
@@ -177,110 +223,50 @@ fn negated(alloc: Global, operand: Typed) -> Result<Typed, AllocError>
     }
 }
 
-/// An operator on two Integers (RM 4.5.3, 4.5.5), whose operands begin at these places.
-#[tactic(auto, using(crate::proofs::Notes::noted_append))]
-pub fn arithmetic(
-    alloc: Global,
-    operator: Binary,
-    left_at: Pos,
-    left: Typed,
-    right_at: Pos,
-    right: Typed,
-    faults: &mut Least,
-) -> Result<Typed, AllocError>
-    ensures { Shows result faults.old faults.new
-        (arithmetic operator left_at (plain_typed left) right_at (plain_typed right)) }
-{
-    wants(Base::Whole, left_at, &left, faults);
-    wants(Base::Whole, right_at, &right, faults);
-    combined(alloc, operator, left, right)
-}
-
-#[tactic(auto, using(crate::proofs::Notes::noted_append))]
-fn joining(
-    alloc: Global,
-    left_at: Pos,
-    left: Typed,
-    right_at: Pos,
-    right: Typed,
-    faults: &mut Least,
-) -> Result<Typed, AllocError>
-    ensures { Shows result faults.old faults.new
-        (joining left_at (plain_typed left) right_at (plain_typed right)) }
-{
-    wants(Base::Text, left_at, &left, faults);
-    wants(Base::Text, right_at, &right, faults);
-    joined(alloc, left, right)
-}
-
-/// A binary adding operator (RM 4.5.3), whose operands begin at these places.
-pub fn adding_operator(
-    alloc: Global,
-    operator: Adding,
-    left_at: Pos,
-    left: Typed,
-    right_at: Pos,
-    right: Typed,
-    faults: &mut Least,
-) -> Result<Typed, AllocError>
-    ensures { Shows result faults.old faults.new
-        (adding_operator operator left_at (plain_typed left) right_at (plain_typed right)) }
-{
-    match operator {
-        Adding::Plus => arithmetic(alloc, Binary::Sum, left_at, left, right_at, right, faults),
-        Adding::Minus => arithmetic(
-            alloc,
-            Binary::Difference,
-            left_at,
-            left,
-            right_at,
-            right,
-            faults,
-        ),
-        Adding::Join => joining(alloc, left_at, left, right_at, right, faults),
-    }
-}
-
-/// The sign before a first term that begins at a place (RM 4.5.4).
+/// The sign before a first term (RM 4.5.4).
+#[inline(never)]
 pub fn signed(
     alloc: Global,
     sign: Option<Signed>,
-    at: Pos,
-    operand: Typed,
+    operand: Operand,
     faults: &mut Least,
-) -> Result<Typed, AllocError>
-    ensures { Shows result faults.old faults.new (signed sign at (plain_typed operand)) }
+) -> Result<Box<Typed>, AllocError>
+    ensures { Shows result faults.old faults.new
+        (signed sign operand.at (plain_typed operand.typed.value)) }
 {
     let Some(signed) = sign else {
-        return Ok(operand);
+        return Ok(operand.into_typed());
     };
-    wants(Base::Whole, at, &operand, faults);
-    match signed.sign {
-        Sign::Plus => Ok(integer_only(operand)),
-        Sign::Minus => one(alloc, Unary::Negative, operand),
-    }
+    wants(Base::Whole, operand.at, &operand.typed, faults);
+    let typed = match signed.sign {
+        Sign::Plus => integer_only(operand.opened()),
+        Sign::Minus => one(alloc, Unary::Negative, operand.opened())?,
+    };
+    boxed(alloc, typed)
 }
 
-/// An operator before a primary that begins at a place (RM 4.5.6).
+/// An operator before a primary (RM 4.5.6).
+#[inline(never)]
 pub fn highest(
     alloc: Global,
     operator: Highest,
-    at: Pos,
-    operand: Typed,
+    operand: Operand,
     faults: &mut Least,
-) -> Result<Typed, AllocError>
-    ensures { Shows result faults.old faults.new (highest operator at (plain_typed operand)) }
+) -> Result<Box<Typed>, AllocError>
+    ensures { Shows result faults.old faults.new
+        (highest operator operand.at (plain_typed operand.typed.value)) }
 {
-    match operator {
+    let typed = match operator {
         Highest::Magnitude => {
-            wants(Base::Whole, at, &operand, faults);
-            one(alloc, Unary::Magnitude, operand)
+            wants(Base::Whole, operand.at, &operand.typed, faults);
+            one(alloc, Unary::Magnitude, operand.opened())?
         }
         Highest::Not => {
-            wants(Base::Truth, at, &operand, faults);
-            negated(alloc, operand)
+            wants(Base::Truth, operand.at, &operand.typed, faults);
+            negated(alloc, operand.opened())?
         }
-    }
+    };
+    boxed(alloc, typed)
 }
 
 fn relation_of(operator: Relational) -> Relation
@@ -299,14 +285,14 @@ fn relation_of(operator: Relational) -> Relation
 fn compared(
     alloc: Global,
     operator: Relational,
-    left: Typed,
-    right: Typed,
+    left: Operand,
+    right: Operand,
 ) -> Result<Typed, AllocError>
     ensures { IfOk result (λ typed. plain_typed typed
-        ≡ compared operator (plain_typed left) (plain_typed right)) }
+        ≡ compared operator (plain_typed left.typed.value) (plain_typed right.typed.value)) }
 {
     let relation = relation_of(operator);
-    match left {
+    match left.opened() {
         Typed::Number(left) => Ok(related_to(relation, left, right)),
         Typed::Truth(left) => compared_with(alloc, relation, left, right),
         _ => Ok(Typed::Unknown),
@@ -314,10 +300,11 @@ fn compared(
 }
 
 // An Integer that is compared.
-fn related_to(relation: Relation, left: IntegerExpression, right: Typed) -> Typed
-    ensures { plain_typed result ≡ related_to relation (plain_integer left) (plain_typed right) }
+fn related_to(relation: Relation, left: IntegerExpression, right: Operand) -> Typed
+    ensures { plain_typed result
+        ≡ related_to relation (plain_integer left) (plain_typed right.typed.value) }
 {
-    match right {
+    match right.opened() {
         Typed::Number(right) => Typed::Truth(BooleanExpression::Relation(relation, left, right)),
         _ => Typed::Unknown,
     }
@@ -328,12 +315,12 @@ fn compared_with(
     alloc: Global,
     relation: Relation,
     left: BooleanExpression,
-    right: Typed,
+    right: Operand,
 ) -> Result<Typed, AllocError>
     ensures { IfOk result (λ typed. plain_typed typed
-        ≡ compared_with relation (plain_boolean left) (plain_typed right)) }
+        ≡ compared_with relation (plain_boolean left) (plain_typed right.typed.value)) }
 {
-    match right {
+    match right.opened() {
         Typed::Truth(right) => {
             let left = Box::new(alloc, left)?;
             let right = Box::new(alloc, right)?;
@@ -341,39 +328,6 @@ fn compared_with(
         }
         _ => Ok(Typed::Unknown),
     }
-}
-
-// Notes where the right operand has not the type of the left one, or that is a text.
-fn check_operands(
-    left_at: Pos,
-    left: Option<Base>,
-    right_at: Pos,
-    right: Option<Base>,
-    faults: &mut Least,
-)
-    ensures { faults.new ≡ noted faults.old (operand_faults left_at left right_at right) }
-{
-    match left {
-        Some(Base::Text) => right_type(Some(Base::Whole), left_at, left, faults),
-        _ => right_type(left, right_at, right, faults),
-    }
-}
-
-/// A relational operator (RM 4.5.2), whose operands begin at these places.
-pub fn relating(
-    alloc: Global,
-    operator: Relational,
-    left_at: Pos,
-    left: Typed,
-    right_at: Pos,
-    right: Typed,
-    faults: &mut Least,
-) -> Result<Typed, AllocError>
-    ensures { Shows result faults.old faults.new
-        (relating operator left_at (plain_typed left) right_at (plain_typed right)) }
-{
-    check_operands(left_at, base_of(&left), right_at, base_of(&right), faults);
-    compared(alloc, operator, left, right)
 }
 
 fn typed_connective(connective: Connective) -> TypedConnective
@@ -428,16 +382,16 @@ fn with_operand(
 fn both(
     alloc: Global,
     connective: Connective,
-    left: Typed,
-    right: Typed,
+    left: Operand,
+    right: Operand,
 ) -> Result<Typed, AllocError>
     ensures { IfOk result (λ typed. plain_typed typed
-        ≡ both connective (plain_typed left) (plain_typed right)) }
+        ≡ both connective (plain_typed left.typed.value) (plain_typed right.typed.value)) }
 {
-    let Typed::Truth(left) = left else {
+    let Typed::Truth(left) = left.opened() else {
         return Ok(Typed::Unknown);
     };
-    match right {
+    match right.opened() {
         Typed::Truth(right) => {
             let value = with_operand(alloc, typed_connective(connective), left, right)?;
             Ok(Typed::Truth(value))
@@ -446,21 +400,77 @@ fn both(
     }
 }
 
-/// An operator on two Booleans (RM 4.5.1), whose operands begin at these places.
+// Notes where an operand of two has not the type that both must have.
 #[tactic(auto, using(crate::proofs::Notes::noted_append))]
-pub fn connecting(
-    alloc: Global,
-    connective: Connective,
-    left_at: Pos,
-    left: Typed,
-    right_at: Pos,
-    right: Typed,
-    faults: &mut Least,
-) -> Result<Typed, AllocError>
-    ensures { Shows result faults.old faults.new
-        (connecting connective left_at (plain_typed left) right_at (plain_typed right)) }
+fn both_want(base: Base, left: &Operand, right: &Operand, faults: &mut Least)
+    ensures { faults.new ≡ noted faults.old
+        (wants base left.now.at (plain_typed left.now.typed.value)
+        ++ wants base right.now.at (plain_typed right.now.typed.value)) }
 {
-    wants(Base::Truth, left_at, &left, faults);
-    wants(Base::Truth, right_at, &right, faults);
-    both(alloc, connective, left, right)
+    wants(base, left.at, &left.typed, faults);
+    wants(base, right.at, &right.typed, faults);
+}
+
+// Notes where the right operand has not the type of the left one, or that is a text.
+fn check_related(left: &Operand, right: &Operand, faults: &mut Least)
+    ensures { faults.new ≡ noted faults.old
+        (operand_faults left.now.at (base_of (plain_typed left.now.typed.value))
+        right.now.at (base_of (plain_typed right.now.typed.value))) }
+{
+    let base = base_of(&left.typed);
+    match base {
+        Some(Base::Text) => right_type(Some(Base::Whole), left.at, base, faults),
+        _ => right_type(base, right.at, base_of(&right.typed), faults),
+    }
+}
+
+// Notes where the operands have not the types that the operator asks for.
+fn check_operands(operator: Operator, left: &Operand, right: &Operand, faults: &mut Least)
+    ensures { faults.new ≡ noted faults.old
+        (operation operator left.now.at (plain_typed left.now.typed.value)
+        right.now.at (plain_typed right.now.typed.value)).faults }
+{
+    match operator {
+        Operator::Arithmetic(_) => both_want(Base::Whole, left, right, faults),
+        Operator::Join => both_want(Base::Text, left, right, faults),
+        Operator::Relation(_) => check_related(left, right, faults),
+        Operator::Connective(_) => both_want(Base::Truth, left, right, faults),
+    }
+}
+
+// What is left of an operator and its operands.
+fn put_together(
+    alloc: Global,
+    operator: Operator,
+    left: Operand,
+    right: Operand,
+) -> Result<Typed, AllocError>
+    ensures { IfOk result (λ typed. plain_typed typed
+        ≡ (operation operator left.at (plain_typed left.typed.value)
+        right.at (plain_typed right.typed.value)).typed) }
+{
+    match operator {
+        Operator::Arithmetic(operator) => combined(alloc, operator, left, right),
+        Operator::Join => joined(alloc, left, right),
+        Operator::Relation(operator) => compared(alloc, operator, left, right),
+        Operator::Connective(connective) => both(alloc, connective, left, right),
+    }
+}
+
+/// An operator between its operands.
+#[inline(never)]
+pub fn operation(
+    alloc: Global,
+    operator: Operator,
+    left: Operand,
+    right: Operand,
+    faults: &mut Least,
+) -> Result<Box<Typed>, AllocError>
+    ensures { Shows result faults.old faults.new
+        (operation operator left.at (plain_typed left.typed.value)
+        right.at (plain_typed right.typed.value)) }
+{
+    check_operands(operator, &left, &right, faults);
+    let typed = put_together(alloc, operator, left, right)?;
+    boxed(alloc, typed)
 }

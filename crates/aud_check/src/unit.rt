@@ -81,7 +81,7 @@ pub fn typed(alloc: Global, unit: &Unit, faults: &mut Least) -> Result<Program, 
         variables,
         declarations: elaborations,
         begin: unit.body.begin,
-        statements,
+        statements: Box::into_inner(statements),
         end: unit.body.end,
     })
 }

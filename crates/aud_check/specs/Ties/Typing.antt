@@ -1,5 +1,5 @@
 -- What is shown by a check of an expression or of statements in memory.
-use Rattle.std.specs.Prelude.{◌≡◌, List, Option, option_map, Vec, Result, Ok, Err}
+use Rattle.std.specs.Prelude.{◌≡◌, List, Option, option_map, Box, Vec, Result, Ok, Err}
 use Rattle.std.specs.Global.{Global}
 use Rattle.std.specs.declared.alloc.AllocError.{AllocError}
 use Rattle.aud_syntax.specs.declared.tree.Connective as source
@@ -15,8 +15,11 @@ use Rattle.aud_text.specs.declared.place.Pos.{Pos}
 use Rattle.aud_check.specs.declared.fault.Fault.{Fault}
 use Rattle.aud_check.specs.declared.typed.Typed as memory
 use Rattle.aud_check.specs.declared.typed.Typed.TheVariants.{Number, Truth, Text, Unknown}
+use Rattle.aud_check.specs.declared.typed.Operand.{Operand}
+use Rattle.aud_check.specs.declared.typed.Operator.{Operator}
+use Rattle.aud_check.specs.declared.typed.Operator.TheVariants.{Arithmetic, Join, Relation, Connective}
 use Rattle.aud_check.specs.Least.{noted}
-use Rattle.aud_check.specs.Expressions.{Typed, number, boolean, string, unknown, Checked}
+use Rattle.aud_check.specs.Expressions.{Typed, number, boolean, string, unknown, Checked, arithmetic, joining, relating, connecting}
 use Rattle.aud_check.specs.Statements.{TypedStatements}
 
 -- the operator of a chain in memory
@@ -34,8 +37,15 @@ plain_typed (Text t) = string (plain_text t)
 plain_typed Unknown = unknown
 
 -- the argument of an attribute, and where it begins
-abbrev pub plain_argument : Option (Pos × memory.Typed) → Option (Pos × Typed)
-plain_argument argument = option_map (λ p. (p.0, plain_typed p.1)) argument
+abbrev pub plain_argument : Option Operand → Option (Pos × Typed)
+plain_argument argument = option_map (λ p. (p.at, plain_typed p.typed.value)) argument
+
+-- an operator between its operands
+abbrev pub operation : Operator → Pos → Typed → Pos → Typed → Checked
+operation (Arithmetic o) = arithmetic o
+operation Join = joining
+operation (Relation o) = relating o
+operation (Connective c) = connecting c
 
 abbrev pub plain_sequence : sequence.Statements → TypedStatements
 plain_sequence ss = record { first = plain_statement ss.first; others = plain_statements ss.others.items }
@@ -43,10 +53,14 @@ plain_sequence ss = record { first = plain_statement ss.first; others = plain_st
 abbrev pub plain_items : Vec memory_statement.Statement Global → List tree.Statement
 plain_items ss = plain_statements ss.items
 
+-- what is in a box, as it is seen
+abbrev pub in_box : {X Y : Type 0} → (X → Y) → Box X Global → Y
+in_box plain b = plain b.value
+
 -- the faults are noted, and this is what is left; nothing is said where memory is refused
 abbrev pub Leaves : {X Y : Type 0} → (X → Y) → Result X AllocError → Option Fault → Option Fault → List Fault → Y → Type 0
 Leaves plain (Ok x) old new faults left = (new ≡ noted old faults) × (plain x ≡ left)
 Leaves plain (Err e) old new faults left = Unit {0}
 
-abbrev pub Shows : Result memory.Typed AllocError → Option Fault → Option Fault → Checked → Type 0
-Shows result old new c = Leaves plain_typed result old new c.faults c.typed
+abbrev pub Shows : Result (Box memory.Typed Global) AllocError → Option Fault → Option Fault → Checked → Type 0
+Shows result old new c = Leaves (in_box plain_typed) result old new c.faults c.typed

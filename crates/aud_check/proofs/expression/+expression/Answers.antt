@@ -1,5 +1,5 @@
 use Rattle.std.proofs.Common.{◌+◌, drop, arith, subst, sym}
-use Rattle.std.specs.Prelude.{Some, None, Ok}
+use Rattle.std.specs.Prelude.{Some, None}
 use Rattle.aud_check.specs.Resolution.{Resolved, resolved}
 use Rattle.aud_syntax.specs.declared.tree.Comparison.{out-Comparison}
 use Rattle.aud_syntax.specs.declared.tree.Added.{out-Added}
@@ -16,65 +16,65 @@ pub expression-returns-in-Connected : goal.expression-returns-in-Connected
 expression-returns-in-Connected t c = rw c.in-Connected.is (subst (λ z. Shows c.chain.result c.args.faults.now c.chain.new.faults (checked_expression z c.args.scope.now)) (sym (chain_open c.in-Connected.relations)) (rw c.deref.ensures at c.chain.ensures))
 
 pub chain-loop-next-init : goal.chain-loop-next-init
-chain-loop-next-init t c = chain_ahead c.args.chain.now c.args.scope.now c.args.faults.now c.relation.new.faults c.further.new.faults c.in_ok-first.first c.in_ok-left.left c.relation_at-at.result c.deref-next-items.result.now c.relation_at-at.ensures c.deref-next-items.ensures.value c.in_ok-first.ensures c.in_ok-left.ensures
+chain-loop-next-init t c = chain_ahead c.args.chain.now c.args.scope.now c.args.faults.now c.relation.new.faults c.further.new.faults c.in_ok-typed.typed c.in_ok-typed-2.typed c.relation_at-at.result c.deref-next-items.result.now c.relation_at-at.ensures c.deref-next-items.ensures.value c.in_ok-typed.ensures c.in_ok-typed-2.ensures
 
 pub chain-loop-next-preserved : goal.chain-loop-next-preserved
-chain-loop-next-preserved t c = further_ahead c.args.scope.now c.args.faults.now c.loop-next.faults c.further-in-loop-next.new.faults (checked_expression (plain_chain c.args.chain.now) c.args.scope.now) c.args.chain.now.connective c.next-item.result (drop c.loop-next.next-index c.deref-next-items.result.now) (drop (c.loop-next.next-index + 1) c.deref-next-items.result.now) c.relation_at-at.result (plain_typed c.loop-next.left) c.in_ok-left-2.left (dropped c.deref-next-items.result.now c.loop-next.next-index c.next-item.result (omega arith) c.next-item.is) c.loop-next.invariant c.in_ok-left-2.ensures
+chain-loop-next-preserved t c = further_ahead c.args.scope.now c.args.faults.now c.loop-next.faults c.further-in-loop-next.new.faults (checked_expression (plain_chain c.args.chain.now) c.args.scope.now) c.args.chain.now.connective c.next-item.result (drop c.loop-next.next-index c.deref-next-items.result.now) (drop (c.loop-next.next-index + 1) c.deref-next-items.result.now) c.relation_at-at.result (plain_typed c.loop-next.typed.value) c.in_ok-typed-3.typed (dropped c.deref-next-items.result.now c.loop-next.next-index c.next-item.result (omega arith) c.next-item.is) c.loop-next.invariant c.in_ok-typed-3.ensures
 
 pub further-returns : goal.further-returns
-further-returns t c = shows_with c.args.faults.now c.relation.new.faults c.connecting.new.faults (checked_relation (plain_relation c.args.next.now) c.args.scope.now) (λ right. connecting c.args.connective c.args.at (plain_typed c.args.left) (relation_at (plain_relation c.args.next.now)) right) c.in_ok-right.right c.connecting.result c.in_ok-right.ensures (rw c.relation_at.ensures at c.connecting.ensures)
+further-returns t c = shows_with c.args.faults.now c.relation.new.faults c.operation.new.faults (checked_relation (plain_relation c.args.next.now) c.args.scope.now) (λ right. connecting c.args.connective c.args.left.at (plain_typed c.args.left.typed.value) (relation_at (plain_relation c.args.next.now)) right) c.in_ok-typed.typed c.operation.result c.in_ok-typed.ensures (rw c.relation_at-at.ensures at c.operation.ensures)
 
 pub comparison-returns : goal.comparison-returns
 comparison-returns t c =
     let x = out-Comparison c.args.comparison.now in
     let last : Typed → Typed → Checked = λ left right. relating x.operator (simple_at (plain_simple x.left)) left (simple_at (plain_simple x.right)) right in
-    rw (comparison_open c.args.comparison.now) (shows_with c.args.faults.now c.simple.new.faults c.relating.new.faults (checked_simple (plain_simple x.left) c.args.scope.now) (λ left. with (checked_simple (plain_simple x.right) c.args.scope.now) (last left)) c.in_ok-left.left c.relating.result c.in_ok-left.ensures
-    (shows_with c.simple.new.faults c.simple-2.new.faults c.relating.new.faults (checked_simple (plain_simple x.right) c.args.scope.now) (last (plain_typed c.in_ok-left.left)) c.in_ok-right.right c.relating.result c.in_ok-right.ensures (rw (c.simple_at.ensures, c.simple_at-2.ensures) at c.relating.ensures)))
+    rw (comparison_open c.args.comparison.now) (shows_with c.args.faults.now c.simple.new.faults c.operation.new.faults (checked_simple (plain_simple x.left) c.args.scope.now) (λ left. with (checked_simple (plain_simple x.right) c.args.scope.now) (last left)) c.in_ok-typed.typed c.operation.result c.in_ok-typed.ensures
+    (shows_with c.simple.new.faults c.simple-2.new.faults c.operation.new.faults (checked_simple (plain_simple x.right) c.args.scope.now) (last (plain_typed c.in_ok-typed.typed.value)) c.in_ok-typed-2.typed c.operation.result c.in_ok-typed-2.ensures (rw (c.simple_at-at.ensures, c.simple_at-at-2.ensures) at c.operation.ensures)))
 
 pub added-returns : goal.added-returns
-added-returns t c = rw added_open (shows_with c.args.faults.now c.term.new.faults c.adding_operator.new.faults (checked_term (plain_term (out-Added c.args.added.now).term) c.args.scope.now) (λ right. adding_operator (out-Added c.args.added.now).operator c.args.at (plain_typed c.args.left) (term_at (plain_term (out-Added c.args.added.now).term)) right) c.in_ok-right.right c.adding_operator.result c.in_ok-right.ensures (rw c.term_at.ensures at c.adding_operator.ensures))
+added-returns t c = rw added_open (shows_with c.args.faults.now c.term.new.faults c.operation.new.faults (checked_term (plain_term (out-Added c.args.added.now).term) c.args.scope.now) (λ right. adding_operator (out-Added c.args.added.now).operator c.args.left.at (plain_typed c.args.left.typed.value) (term_at (plain_term (out-Added c.args.added.now).term)) right) c.in_ok-typed.typed c.operation.result c.in_ok-typed.ensures (rw (c.term_at-at.ensures, c.adding-operator.ensures) at c.operation.ensures))
 
 pub multiplied-returns : goal.multiplied-returns
-multiplied-returns t c = shows_with c.args.faults.now c.factor.new.faults c.arithmetic.new.faults (checked_factor (plain_factor c.args.multiplied.now.factor) c.args.scope.now) (λ right. arithmetic (multiplying c.args.multiplied.now.operator) c.args.at (plain_typed c.args.left) (factor_at (plain_factor c.args.multiplied.now.factor)) right) c.in_ok-right.right c.arithmetic.result c.in_ok-right.ensures (rw (c.factor_at.ensures, c.multiplying-operator.ensures) at c.arithmetic.ensures)
+multiplied-returns t c = shows_with c.args.faults.now c.factor.new.faults c.operation.new.faults (checked_factor (plain_factor c.args.multiplied.now.factor) c.args.scope.now) (λ right. arithmetic (multiplying c.args.multiplied.now.operator) c.args.left.at (plain_typed c.args.left.typed.value) (factor_at (plain_factor c.args.multiplied.now.factor)) right) c.in_ok-typed.typed c.operation.result c.in_ok-typed.ensures (rw (c.factor_at-at.ensures, c.multiplying.ensures) at c.operation.ensures)
 
 pub factor-returns-in-Some : goal.factor-returns-in-Some
-factor-returns-in-Some t c = rw c.in-Some.is (shows_with c.args.faults.now c.primary.new.faults c.highest.new.faults (checked_primary (plain_primary c.args.factor.now.primary) c.args.scope.now) (λ x. highest c.in-Some.operator.highest (primary_at (plain_primary c.args.factor.now.primary)) x) c.in_ok-operand.operand c.highest.result c.in_ok-operand.ensures (rw c.primary_at.ensures at c.highest.ensures))
+factor-returns-in-Some t c = rw c.in-Some.is (shows_with c.args.faults.now c.primary.new.faults c.highest.new.faults (checked_primary (plain_primary c.args.factor.now.primary) c.args.scope.now) (λ x. highest c.in-Some.operator.highest (primary_at (plain_primary c.args.factor.now.primary)) x) c.in_ok-typed.typed c.highest.result c.in_ok-typed.ensures (rw c.primary_at-at.ensures at c.highest.ensures))
 
 pub simple-loop-next-init : goal.simple-loop-next-init
-simple-loop-next-init t c = simple_ahead c.args.e.now c.args.scope.now c.args.faults.now c.term.new.faults c.signed.new.faults c.in_ok-first.first c.in_ok-left.left c.simple_at-at.result c.deref-next-items.result.now c.simple_at-at.ensures c.deref-next-items.ensures.value c.in_ok-first.ensures (rw c.term_at.ensures at c.in_ok-left.ensures)
+simple-loop-next-init t c = simple_ahead c.args.e.now c.args.scope.now c.args.faults.now c.term.new.faults c.signed.new.faults c.in_ok-typed.typed c.in_ok-typed-2.typed c.simple_at-at.result c.deref-next-items.result.now c.simple_at-at.ensures c.deref-next-items.ensures.value c.in_ok-typed.ensures (rw c.term_at-at.ensures at c.in_ok-typed-2.ensures)
 
 pub simple-loop-next-preserved : goal.simple-loop-next-preserved
-simple-loop-next-preserved t c = added_ahead c.args.scope.now c.args.faults.now c.loop-next.faults c.added.new.faults (checked_simple (plain_simple c.args.e.now) c.args.scope.now) c.next-item.result (drop c.loop-next.next-index c.deref-next-items.result.now) (drop (c.loop-next.next-index + 1) c.deref-next-items.result.now) c.simple_at-at.result (plain_typed c.loop-next.left) c.in_ok-left-2.left (dropped c.deref-next-items.result.now c.loop-next.next-index c.next-item.result (omega arith) c.next-item.is) c.loop-next.invariant c.in_ok-left-2.ensures
+simple-loop-next-preserved t c = added_ahead c.args.scope.now c.args.faults.now c.loop-next.faults c.added.new.faults (checked_simple (plain_simple c.args.e.now) c.args.scope.now) c.next-item.result (drop c.loop-next.next-index c.deref-next-items.result.now) (drop (c.loop-next.next-index + 1) c.deref-next-items.result.now) c.simple_at-at.result (plain_typed c.loop-next.typed.value) c.in_ok-typed-3.typed (dropped c.deref-next-items.result.now c.loop-next.next-index c.next-item.result (omega arith) c.next-item.is) c.loop-next.invariant c.in_ok-typed-3.ensures
 
 pub term-loop-next-init : goal.term-loop-next-init
-term-loop-next-init t c = term_ahead c.args.term.now c.args.scope.now c.args.faults.now c.factor.new.faults c.in_ok-left.left c.term_at-at.result c.deref-next-items.result.now c.term_at-at.ensures c.deref-next-items.ensures.value c.in_ok-left.ensures
+term-loop-next-init t c = term_ahead c.args.term.now c.args.scope.now c.args.faults.now c.factor.new.faults c.in_ok-typed.typed c.term_at-at.result c.deref-next-items.result.now c.term_at-at.ensures c.deref-next-items.ensures.value c.in_ok-typed.ensures
 
 pub term-loop-next-preserved : goal.term-loop-next-preserved
-term-loop-next-preserved t c = multiplied_ahead c.args.scope.now c.args.faults.now c.loop-next.faults c.multiplied.new.faults (checked_term (plain_term c.args.term.now) c.args.scope.now) c.next-item.result (drop c.loop-next.next-index c.deref-next-items.result.now) (drop (c.loop-next.next-index + 1) c.deref-next-items.result.now) c.term_at-at.result (plain_typed c.loop-next.left) c.in_ok-left-2.left (dropped c.deref-next-items.result.now c.loop-next.next-index c.next-item.result (omega arith) c.next-item.is) c.loop-next.invariant c.in_ok-left-2.ensures
+term-loop-next-preserved t c = multiplied_ahead c.args.scope.now c.args.faults.now c.loop-next.faults c.multiplied.new.faults (checked_term (plain_term c.args.term.now) c.args.scope.now) c.next-item.result (drop c.loop-next.next-index c.deref-next-items.result.now) (drop (c.loop-next.next-index + 1) c.deref-next-items.result.now) c.term_at-at.result (plain_typed c.loop-next.typed.value) c.in_ok-typed-2.typed (dropped c.deref-next-items.result.now c.loop-next.next-index c.next-item.result (omega arith) c.next-item.is) c.loop-next.invariant c.in_ok-typed-2.ensures
 
 pub part_arguments-loop-argument-preserved : goal.part_arguments-loop-argument-preserved
-part_arguments-loop-argument-preserved t c = argument_ahead c.args.scope.now c.args.faults.now c.loop-argument.faults c.expression.new.faults (checked_part (plain_part c.args.part.now) c.args.scope.now (plain_typed c.args.before)) c.argument-item.result (drop c.loop-argument.argument-index c.deref-argument-items.result.now) (drop (c.loop-argument.argument-index + 1) c.deref-argument-items.result.now) (plain_typed c.loop-argument.last) c.in_ok-last.last (dropped c.deref-argument-items.result.now c.loop-argument.argument-index c.argument-item.result (omega arith) c.argument-item.is) c.loop-argument.invariant c.in_ok-last.ensures
+part_arguments-loop-argument-preserved t c = argument_ahead c.args.scope.now c.args.faults.now c.loop-argument.faults c.expression.new.faults (checked_part (plain_part c.args.part.now) c.args.scope.now (plain_typed c.args.before.value)) c.argument-item.result (drop c.loop-argument.argument-index c.deref-argument-items.result.now) (drop (c.loop-argument.argument-index + 1) c.deref-argument-items.result.now) (plain_typed c.loop-argument.last.value) c.in_ok-last.last (dropped c.deref-argument-items.result.now c.loop-argument.argument-index c.argument-item.result (omega arith) c.argument-item.is) c.loop-argument.invariant c.in_ok-last.ensures
 
 pub arguments-loop-part-init : goal.arguments-loop-part-init
-arguments-loop-part-init t c = arguments_ahead c.args.name.now c.args.scope.now c.args.faults.now c.part_arguments.new.faults c.in_ok-last.last c.deref-part-items.result.now c.deref-part-items.ensures.value c.in_ok-last.ensures
+arguments-loop-part-init t c = arguments_ahead c.args.name.now c.args.scope.now c.args.faults.now c.part_arguments.new.faults c.in_ok-last.last c.deref-part-items.result.now c.deref-part-items.ensures.value (rw c.in_ok-nothing.ensures at c.in_ok-last.ensures)
 
 pub arguments-loop-part-preserved : goal.arguments-loop-part-preserved
-arguments-loop-part-preserved t c = part_ahead c.args.scope.now c.args.faults.now c.loop-part.faults c.part_arguments-in-loop-part.new.faults (checked_arguments (plain_name c.args.name.now) c.args.scope.now) c.part-item.result (drop c.loop-part.part-index c.deref-part-items.result.now) (drop (c.loop-part.part-index + 1) c.deref-part-items.result.now) (plain_typed c.loop-part.last) c.in_ok-last-2.last (dropped c.deref-part-items.result.now c.loop-part.part-index c.part-item.result (omega arith) c.part-item.is) c.loop-part.invariant c.in_ok-last-2.ensures
+arguments-loop-part-preserved t c = part_ahead c.args.scope.now c.args.faults.now c.loop-part.faults c.part_arguments-in-loop-part.new.faults (checked_arguments (plain_name c.args.name.now) c.args.scope.now) c.part-item.result (drop c.loop-part.part-index c.deref-part-items.result.now) (drop (c.loop-part.part-index + 1) c.deref-part-items.result.now) (plain_typed c.loop-part.last.value) c.in_ok-last-2.last (dropped c.deref-part-items.result.now c.loop-part.part-index c.part-item.result (omega arith) c.part-item.is) c.loop-part.invariant c.in_ok-last-2.ensures
 
 pub primary-returns-in_ok-last-in-Name : goal.primary-returns-in_ok-last-in-Name
 primary-returns-in_ok-last-in-Name t c =
     let read : Resolved = resolved (plain_name c.in-Name.name.value) c.args.scope.now in
-    rw c.in-Name.is (shows_with c.args.faults.now c.arguments.new.faults c.name_value.new.faults (checked_arguments (plain_name c.in-Name.name.value) c.args.scope.now) (λ last. after read.faults (checked_name read.denoted)) c.in_ok-last-in-Name.last (Ok c.name_value.result) (rw c.deref.ensures at c.in_ok-last-in-Name.ensures) (rw c.deref-in-Name.ensures at c.name_value.ensures.noted, rw c.deref-in-Name.ensures at c.name_value.ensures.typed))
+    rw c.in-Name.is (shows_with c.args.faults.now c.arguments.new.faults c.name_value.new.faults (checked_arguments (plain_name c.in-Name.name.value) c.args.scope.now) (λ last. after read.faults (checked_name read.denoted)) c.in_ok-last-in-Name.last c.name_value.result (rw c.deref.ensures at c.in_ok-last-in-Name.ensures) (rw c.deref-in-Name.ensures at c.name_value.ensures))
 
 pub primary-returns-in-None : goal.primary-returns-in-None
 primary-returns-in-None t c =
     let prefix : Resolved = resolved (plain_name c.in-Attribute.prefix.value) c.args.scope.now in
-    rw (c.in-Attribute.is, c.in-None.is) (shows_with c.args.faults.now c.arguments-in-Attribute.new.faults c.name_attribute.new.faults (checked_arguments (plain_name c.in-Attribute.prefix.value) c.args.scope.now) (λ last. after prefix.faults (checked_attribute prefix.denoted c.in-Attribute.designator None)) c.in_ok-last-in-Attribute.last (Ok c.name_attribute.result) (rw c.deref-in-Attribute.ensures at c.in_ok-last-in-Attribute.ensures) (rw c.deref-in-None.ensures at c.name_attribute.ensures.noted, rw c.deref-in-None.ensures at c.name_attribute.ensures.typed))
+    rw (c.in-Attribute.is, c.in-None.is) (shows_with c.args.faults.now c.arguments-in-Attribute.new.faults c.name_attribute.new.faults (checked_arguments (plain_name c.in-Attribute.prefix.value) c.args.scope.now) (λ last. after prefix.faults (checked_attribute prefix.denoted c.in-Attribute.designator None)) c.in_ok-last-in-Attribute.last c.name_attribute.result (rw c.deref-in-Attribute.ensures at c.in_ok-last-in-Attribute.ensures) (rw c.deref-in-None.ensures at c.name_attribute.ensures))
 
 pub primary-returns-in_ok-typed-in-Some : goal.primary-returns-in_ok-typed-in-Some
 primary-returns-in_ok-typed-in-Some t c =
     let prefix : Resolved = resolved (plain_name c.in-Attribute.prefix.value) c.args.scope.now in
     let argument = plain_expression c.in-Some.e.value in
     let rest : Typed → Checked = λ x. after prefix.faults (checked_attribute prefix.denoted c.in-Attribute.designator (Some (expression_at argument, x))) in
-    rw (c.in-Attribute.is, c.in-Some.is) (shows_with c.args.faults.now c.arguments-in-Attribute.new.faults c.name_attribute-in-Some.new.faults (checked_arguments (plain_name c.in-Attribute.prefix.value) c.args.scope.now) (λ last. with (checked_expression argument c.args.scope.now) rest) c.in_ok-last-in-Attribute.last (Ok c.name_attribute-in-Some.result) (rw c.deref-in-Attribute.ensures at c.in_ok-last-in-Attribute.ensures)
-    (shows_with c.arguments-in-Attribute.new.faults c.expression.new.faults c.name_attribute-in-Some.new.faults (checked_expression argument c.args.scope.now) rest c.in_ok-typed-in-Some.typed (Ok c.name_attribute-in-Some.result) (rw c.deref-in-Some.ensures at c.in_ok-typed-in-Some.ensures) (rw (c.expression_at.ensures, c.deref-in-Some-2.ensures, c.deref-in-Some-3.ensures) at c.name_attribute-in-Some.ensures.noted, rw (c.expression_at.ensures, c.deref-in-Some-2.ensures, c.deref-in-Some-3.ensures) at c.name_attribute-in-Some.ensures.typed)))
+    rw (c.in-Attribute.is, c.in-Some.is) (shows_with c.args.faults.now c.arguments-in-Attribute.new.faults c.name_attribute-in-Some.new.faults (checked_arguments (plain_name c.in-Attribute.prefix.value) c.args.scope.now) (λ last. with (checked_expression argument c.args.scope.now) rest) c.in_ok-last-in-Attribute.last c.name_attribute-in-Some.result (rw c.deref-in-Attribute.ensures at c.in_ok-last-in-Attribute.ensures)
+    (shows_with c.arguments-in-Attribute.new.faults c.expression.new.faults c.name_attribute-in-Some.new.faults (checked_expression argument c.args.scope.now) rest c.in_ok-typed-in-Some.typed c.name_attribute-in-Some.result (rw c.deref-in-Some.ensures at c.in_ok-typed-in-Some.ensures) (rw (c.expression_at-at.ensures, c.deref-in-Some-2.ensures, c.deref-in-Some-3.ensures) at c.name_attribute-in-Some.ensures)))

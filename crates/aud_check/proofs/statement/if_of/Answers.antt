@@ -1,8 +1,15 @@
 use Rattle.std.proofs.Common.{ap, ◌∙◌}
-use Rattle.aud_typed.specs.Ties.View.{if_in}
+use Rattle.aud_typed.specs.Tree as tree
+use Rattle.aud_typed.specs.declared.program.Statement.TheVariants.{If}
+use Rattle.aud_typed.specs.Ties.View.{plain_statement, part_of_arms, if_in}
 use Rattle.aud_typed.proofs.Opened.{if_open}
+use Rattle.aud_check.specs.Ties.Arms.{plain_arm, arm_then}
+use Rattle.aud_check.specs.Ties.Typing.{plain_items}
 use Rattle.aud_check.proofs.ArmsAhead.{if_parts}
+use Rattle.aud_check.proofs.Notes.{boxes}
 use Rattle.aud_check.proofs.statement.if_of.Goals as goal
 
 pub returns : goal.returns
-returns c = if_open c.in_ok-statement.statement.value ∙ ap if_in c.in_ok-statement.ensures ∙ if_parts c.args.arms.0 c.args.arms.1 c.args.otherwise
+returns c =
+    let others = part_of_arms c.args.arms.1.items (tree.part_of (plain_items c.args.otherwise)) in
+    boxes plain_statement c.boxed-2.result (If c.in_ok-statement.statement) _ c.boxed-2.ensures (if_open c.in_ok-statement.statement.value ∙ ap if_in c.in_ok-statement.ensures ∙ if_parts c.into_inner-first.result c.args.arms.1 c.args.otherwise ∙ ap (λ z. arm_then (plain_arm z) others) c.into_inner-first.ensures)
