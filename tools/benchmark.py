@@ -1,163 +1,369 @@
-"""Times `aud --solo` on straight-line programs beside other interpreters on the same statements.
+"""Times `aud --solo` beside python3 and lua5.4, side by side in one run.
 
-Each loads a text of assignments again and again and runs it once a load. The others time their loads
-and their runs themselves. Of aud the processor time of whole sessions is taken, of LOADs alone and of
-LOADs and RUNs, and the runs are the difference. Each number is the least of several processes'.
-benchmark.sh calls it.
+Loops: the same three in each, theirs within a function with local variables. Of aud the processor time of
+whole sessions is taken, of a LOAD alone and of a LOAD with RUNs up to the program's end; the difference is
+the loop. The others time their loops themselves.
+LOADs: the largest source text of several shapes, how the time grows from a quarter of it, and the memory.
+Each figure is the median of several processes, which take turns. benchmark.sh calls it.
 """
 import os
 import shutil
 import subprocess
 import sys
 import tempfile
+from collections.abc import Callable
+from dataclasses import dataclass
 from statistics import median
 
+TIMES = 9  # processes for each figure
 SOURCE = 32_768  # bytes of the largest source text
-JOURNAL = 1_048_576  # bytes of all requests of a session
-PER_LINE = 100  # assignments on a line of 700 bytes; a line may have 1,024
-TIMES = 7  # processes of another interpreter that are timed for each number
-SESSIONS = 101  # sessions of aud that are timed for each number
+LINE = 1_000  # bytes that are put on a line, which may have 1,024
+LOADS = 20  # LOADs in a session that times them
 
-HEAD, TAIL = "procedure B is X:Integer:=0;begin\n", "end B;\n"
 
-# what the others do with the text of the assignments, a number of times; they print two times in seconds
-PYTHON = """
+@dataclass
+class Other:
+    """Another interpreter: how it is called with a program, and the programs that time a loop and a load."""
+
+    words: list
+    loop: Callable
+    load: str
+
+
+@dataclass
+class Loop:
+    """The same loop in three languages, how often it goes around, and the steps that aud takes for it."""
+
+    name: str
+    count: int
+    steps: int
+    ada: str
+    python: str
+    lua: str
+
+
+LOOPS = [
+    Loop(
+        "counting, two assignments",
+        300_000,
+        900_005,
+        """procedure B is
+X, Y : Integer := 0;
+begin
+while X < 300000 loop
+X := X + 1;
+Y := X - Y;
+end loop;
+end B;
+""",
+        """
+def loop():
+    x, y = 0, 0
+    while x < 300000:
+        x = x + 1
+        y = x - y
+""",
+        """
+local function loop()
+  local x, y = 0, 0
+  while x < 300000 do
+    x = x + 1
+    y = x - y
+  end
+end
+""",
+    ),
+    Loop(
+        "nested, mod and if",
+        200_000,
+        800_806,
+        """procedure B is
+I, J, S : Integer := 0;
+begin
+while I < 200 loop
+I := I + 1;
+J := 0;
+while J < 1000 loop
+J := J + 1;
+if (I + J) mod 3 = 0 then
+S := S + J mod 7;
+else
+S := S - 1;
+end if;
+end loop;
+end loop;
+end B;
+""",
+        """
+def loop():
+    i, j, s = 0, 0, 0
+    while i < 200:
+        i = i + 1
+        j = 0
+        while j < 1000:
+            j = j + 1
+            if (i + j) % 3 == 0:
+                s = s + j % 7
+            else:
+                s = s - 1
+""",
+        """
+local function loop()
+  local i, j, s = 0, 0, 0
+  while i < 200 do
+    i = i + 1
+    j = 0
+    while j < 1000 do
+      j = j + 1
+      if (i + j) % 3 == 0 then
+        s = s + j % 7
+      else
+        s = s - 1
+      end
+    end
+  end
+end
+""",
+    ),
+    Loop(
+        "short circuits",
+        190_000,
+        950_006,
+        """procedure B is
+I : Integer := 0;
+P, Q : Boolean := False;
+begin
+while I < 190000 loop
+I := I + 1;
+P := I > 5 and then I mod 2 = 0;
+Q := P or else not Q;
+exit when I < 0 and then Q;
+end loop;
+end B;
+""",
+        """
+def loop():
+    i = 0
+    p, q = False, False
+    while i < 190000:
+        i = i + 1
+        p = i > 5 and i % 2 == 0
+        q = p or not q
+        if i < 0 and q:
+            break
+""",
+        """
+local function loop()
+  local i = 0
+  local p, q = false, false
+  while i < 190000 do
+    i = i + 1
+    p = i > 5 and i % 2 == 0
+    q = p or not q
+    if i < 0 and q then break end
+  end
+end
+""",
+    ),
+]
+
+PYTHON_LOOP = """
+from time import process_time
+begin = process_time()
+loop()
+print(process_time() - begin)
+"""
+LUA_LOOP = """
+local begin = os.clock()
+loop()
+print(os.clock() - begin)
+"""
+PYTHON_LOAD = """
 import sys
 from time import process_time
-text, loads, runs = open(sys.argv[1]).read(), 0.0, 0.0
+text = open(sys.argv[1]).read()
+begin = process_time()
 for _ in range(int(sys.argv[2])):
-    begin = process_time()
-    code = compile(text, "b", "exec")
-    loaded = process_time()
-    exec(code, {"X": 0})
-    loads, runs = loads + loaded - begin, runs + process_time() - loaded
-print(loads, runs)
+    compile(text, "b", "exec")
+print((process_time() - begin) / int(sys.argv[2]))
 """
-LUA = """
+LUA_LOAD = """
 local file = io.open(arg[1])
-local text, loads, runs = file:read("a"), 0, 0
-for _ = 1, tonumber(arg[2]) do
-  local begin = os.clock()
-  local code = load(text)
-  local loaded = os.clock()
-  X = 0
-  code()
-  loads, runs = loads + loaded - begin, runs + os.clock() - loaded
-end
-print(loads, runs)
+local text, count = file:read("a"), tonumber(arg[2])
+local begin = os.clock()
+for _ = 1, count do load(text) end
+print((os.clock() - begin) / count)
 """
 
 
-class Figures:
-    def __init__(self, name, load, run, steps, peak):
-        self.name = name
-        self.load = load
-        self.speed = steps / run
-        self.peak = peak
-
-    def line(self):
-        return (
-            f"{self.name:8} load {self.load * 1e3:7.2f} ms   {self.speed:11,.0f} steps a second"
-            f"   peak {self.peak / 1e6:5.1f} MB"
-        )
-
-    def beside(self, other):
-        return (
-            f"{self.name} to {other.name}: load time {self.load / other.load:.2f},"
-            f" steps a second {self.speed / other.speed:.2f}, peak memory {self.peak / other.peak:.2f}"
-        )
-
-
-def assignments():
-    """As many assignments as the largest source text has room for."""
-    count = 0
-    while True:
-        more = count + 1
-        if len(HEAD) + len(TAIL) + 7 * more + -(-more // PER_LINE) > SOURCE:
-            return count
-        count = more
-
-
-def in_lines(statement, count):
-    lines = []
-    for first in range(0, count, PER_LINE):
-        lines.append(statement * min(PER_LINE, count - first) + "\n")
-    return "".join(lines)
-
-
-def measure(words, stdin=os.devnull):
-    """A process's processor time in seconds, its peak memory in bytes, and what it wrote."""
-    with tempfile.TemporaryFile() as out, open(stdin, "rb") as given:
-        process = subprocess.Popen(words, stdin=given, stdout=out)
+def measure(words, given=b""):
+    """A process's processor time in seconds, and what it wrote."""
+    with tempfile.TemporaryFile() as out, tempfile.TemporaryFile() as stdin:
+        stdin.write(given)
+        stdin.seek(0)
+        process = subprocess.Popen(words, stdin=stdin, stdout=out)
         _, status, used = os.wait4(process.pid, 0)
         process.returncode = os.waitstatus_to_exitcode(status)
         if process.returncode != 0:
             sys.exit(f"benchmark: {words[0]} ended with status {process.returncode}")
         out.seek(0)
-        return used.ru_utime + used.ru_stime, used.ru_maxrss * 1024, out.read()
+        return used.ru_utime + used.ru_stime, out.read()
 
 
-def sessions(program, folder, texts):
-    """The processor times of each session, and its peak memory; its answers say `told` so often."""
-    seconds, peaks = {name: [] for name in texts}, dict.fromkeys(texts, 0)
-    for name, (text, _, _) in texts.items():
-        with open(f"{folder}/{name}.txt", "w") as file:
-            file.write(text)
-    for _ in range(SESSIONS):
-        for name, (_, told, times) in texts.items():
-            second, peak, wrote = measure([program, "--solo"], f"{folder}/{name}.txt")
-            if wrote.count(told) != times:
-                sys.exit("benchmark: aud did not load and run each program to its end")
-            seconds[name].append(second)
-            peaks[name] = max(peak, peaks[name])
-    return seconds, peaks
+def peak(program, given):
+    """The most memory in bytes that a session had while it was watched. (What the system tells of a process that has
+    ended is at least what this one had when it began it.)"""
+    most = 0
+    with tempfile.TemporaryFile() as stdin:
+        stdin.write(given)
+        stdin.seek(0)
+        process = subprocess.Popen([program, "--solo"], stdin=stdin, stdout=subprocess.DEVNULL)
+        while process.poll() is None:
+            try:
+                with open(f"/proc/{process.pid}/status") as file:
+                    told = [line for line in file if line.startswith("VmHWM:")]
+                    name = os.readlink(f"/proc/{process.pid}/exe")
+            except OSError:
+                break
+            if told and os.path.samefile(name, program):
+                most = max(most, int(told[0].split()[1]) * 1024)
+        process.wait()
+    return most
 
 
-def of_aud(program, count, folder):
-    source = HEAD + in_lines("X:=X+1;", count) + TAIL
-    load = f"LOAD {source.count(chr(10))}\n{source}"
-    run = "RUN 100000\n"
-    loads = JOURNAL // (len(load) + len(run))
-    # one declaration, the assignments, and the two steps in which the program ends
-    steps = count + 3
-    seconds, peaks = sessions(program, folder, {
-        "start": ("QUIT\n", b"+ 0\n", 1),
-        "load": (load * loads, b"loaded B\n", loads),
-        "run": ((load + run) * loads, f"ran {steps} ended\n".encode(), loads),
-    })
-    loading = min(seconds["load"]) - min(seconds["start"])
-    running = median(ran - loaded for loaded, ran in zip(seconds["load"], seconds["run"]))
-    if running <= 0:
-        sys.exit("benchmark: the runs are too short beside the loads to be told from them; try again on a quiet machine")
-    return loads, Figures("aud", loading / loads, running / loads, steps, peaks["run"])
+def load_of(source):
+    return f"LOAD {source.count(chr(10))}\n{source}"
 
 
-def of_other(name, words, statement, count, loads, folder):
-    path = f"{folder}/{name}.txt"
-    with open(path, "w") as file:
-        file.write(in_lines(statement, count))
-    measured = [measure([*words, path, str(loads)]) for _ in range(TIMES)]
-    times = [[float(it) for it in wrote.split()] for _, _, wrote in measured]
-    load, run = (min(column) / loads for column in zip(*times))
-    return Figures(name, load, run, count, max(it[1] for it in measured))
+def of_aud(program, loop, a_run):
+    """Seconds of a loop in aud, this number of steps a RUN."""
+    session = load_of(loop.ada)
+    runs = -(-loop.steps // a_run)
+    alone, _ = measure([program, "--solo"], session.encode())
+    whole, wrote = measure([program, "--solo"], (session + f"RUN {a_run}\n" * runs).encode())
+    last = wrote.splitlines()[-1].decode()
+    if last != f"ran {loop.steps - a_run * (runs - 1)} ended":
+        sys.exit(f"benchmark: aud ended the loop '{loop.name}' by '{last}'")
+    return whole - alone
+
+
+def of_other(other, loop):
+    return float(measure([*other.words, other.loop(loop)])[1])
+
+
+def fast(number):
+    return f"{number / 1e6:6.2f} million"
+
+
+def loops(program, others):
+    print("Loops, times around a second:")
+    for loop in LOOPS:
+        times = {"aud": [], "aud, 1,000 steps a RUN": [], **{name: [] for name in others}}
+        for _ in range(TIMES):
+            times["aud"].append(of_aud(program, loop, 100_000))
+            times["aud, 1,000 steps a RUN"].append(of_aud(program, loop, 1_000))
+            for name, other in others.items():
+                times[name].append(of_other(other, loop))
+        speed = {name: loop.count / median(seconds) for name, seconds in times.items()}
+        print(f"  {loop.name}, {loop.count:,} times, {loop.steps:,} steps")
+        for name, each in speed.items():
+            beside = "" if name == "aud" else f"   aud is {speed['aud'] / each:.2f} of it"
+            print(f"    {name:23}{fast(each)}{beside}")
+
+
+def filled(head, unit, tail, size, joint=""):
+    """As many units as fit into a source text of a size, in lines of no more than LINE bytes."""
+    text, line, count = head + "\n", "", 0
+    while True:
+        more = (joint if count else "") + unit(count)
+        if len(text) + len(line) + len(more) + len(tail) + 2 > size:
+            return text + line + "\n" + tail + "\n"
+        if len(line) + len(more) > LINE:
+            text, line = text + line + "\n", ""
+        line, count = line + more, count + 1
+
+
+def name_of(number):
+    letters = ""
+    for _ in range(3):
+        number, letter = divmod(number, 26)
+        letters = chr(ord("A") + letter) + letters
+    return "V" + letters
+
+
+def nested(size):
+    """Statements as deep as they may be, one such nest behind the other."""
+    nest = "if True then\n" * 198 + "null;\n" + "end if;\n" * 198
+    return filled("procedure B is begin", lambda i: "\n" + nest, "null; end B;", max(size, 2 * len(nest)))
+
+
+def shapes():
+    """Names of shapes, and the source text of each at a size."""
+    one = "procedure B is X:Integer:=0;begin"
+    yield "a list of assignments", lambda size: filled(one, lambda i: "X:=X+1;", "end B;", size)
+    yield "one chain", lambda size: filled(one + " X:=", lambda i: "X", ";end B;", size, "+")
+    yield "names that are declared", lambda size: filled("procedure B is", lambda i: name_of(i) + ":Integer;", "begin null;end B;", size)
+    yield "names in one declaration", lambda size: filled("procedure B is", name_of, ":Integer;begin null;end B;", size, ",")
+    yield "names in one declaration, a long value", lambda size: filled(
+        filled("procedure B is A:Integer:=0;", name_of, "", size // 2, ",").rstrip() + ":Integer:=",
+        lambda i: "A", ";begin null;end B;", size, "+")
+    yield "names that are used", lambda size: filled(
+        filled("procedure B is", lambda i: name_of(i) + ":Integer;", "begin", size // 2).rstrip(),
+        lambda i: f"{name_of(i % 900)}:=1;", "end B;", size)
+    yield "faults", lambda size: filled("procedure B is begin", lambda i: "Z:=Y;", "end B;", size)
+    yield "loops and ifs in one another", nested
+
+
+def loading(program, source):
+    """Seconds of one LOAD."""
+    start, _ = measure([program, "--solo"], b"QUIT\n")
+    seconds, _ = measure([program, "--solo"], (load_of(source) * LOADS).encode())
+    return (seconds - start) / LOADS
+
+
+def loads(program):
+    print(f"LOAD of a source text of {SOURCE:,} bytes, and how many times the time is of one a quarter as long:")
+    for name, text in shapes():
+        large, small = text(SOURCE), text(SOURCE // 4)
+        times = [(loading(program, large), loading(program, small)) for _ in range(TIMES)]
+        whole = median(it[0] for it in times)
+        quarter = median(it[1] for it in times)
+        memory = max(peak(program, (load_of(large) * LOADS).encode()) for _ in range(TIMES))
+        print(f"  {name:30}{whole * 1e3:8.2f} ms   {whole / quarter:5.1f} times   at most {memory / 1e6:6.1f} MB")
+
+
+def loads_beside(program, others):
+    print("LOAD of assignments:")
+    count = (SOURCE - 60) // 7 - 40
+    source = filled("procedure B is X:Integer:=0;begin", lambda i: "X:=X+1;", "end B;", SOURCE)
+    with tempfile.TemporaryDirectory() as folder:
+        path = f"{folder}/assignments.txt"
+        with open(path, "w") as file:
+            file.write("X=X+1;" * 100 + "\n")
+            file.write(("X=X+1;" * 100 + "\n") * (count // 100 - 1))
+        times = {"aud": [], **{name: [] for name in others}}
+        for _ in range(TIMES):
+            times["aud"].append(loading(program, source))
+            for name, other in others.items():
+                times[name].append(float(measure([*other.words, other.load, path, str(LOADS)])[1]))
+    aud = median(times["aud"])
+    for name, seconds in times.items():
+        beside = "" if name == "aud" else f"   aud takes {aud / median(seconds):.2f} of it"
+        print(f"    {name:23}{median(seconds) * 1e3:8.2f} ms{beside}")
 
 
 def main(program):
-    count = assignments()
     with tempfile.TemporaryDirectory() as folder:
-        loads, aud = of_aud(program, count, folder)
-        others = [of_other("python3", [sys.executable, "-c", PYTHON], "X=X+1;", count, loads, folder)]
+        others = {"python3": Other([sys.executable, "-c"], lambda loop: loop.python + PYTHON_LOOP, PYTHON_LOAD)}
         lua = shutil.which("lua5.4")
         if lua:
-            script = f"{folder}/loader.lua"
+            script = f"{folder}/run.lua"
             with open(script, "w") as file:
-                file.write(LUA)
-            others.append(of_other("lua5.4", [lua, script], "X=X+1;", count, loads, folder))
-    print(f"{count} assignments in a source text of at most {SOURCE:,} bytes, loaded {loads} times")
-    for it in [aud, *others]:
-        print(it.line())
-    for it in others:
-        print(aud.beside(it))
+                file.write("local text = table.remove(arg, 1)\nload(text)()\n")
+            others["lua5.4"] = Other([lua, script], lambda loop: loop.lua + LUA_LOOP, LUA_LOAD)
+        loops(program, others)
+        loads_beside(program, others)
+        loads(program)
 
 
 main(sys.argv[1])

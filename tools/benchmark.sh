@@ -1,5 +1,5 @@
 #!/bin/sh
-# How fast `aud --solo` loads and runs straight-line programs, beside python3, and lua5.4 where it is there.
+# How fast `aud --solo` runs loops and loads source texts, beside python3, and lua5.4 where it is there.
 # It times the program that `rt run` built last in crates/aud, or the one that is named.
 set -eu
 top=$(cd "$(dirname "$0")/.." && pwd)

@@ -8,4 +8,4 @@ if [ ! -x "$program" ]; then
     echo "stack: no program at $program; build it by: cd crates/aud && rt run -- --solo < stdin" >&2
     exit 2
 fi
-exec python3 "$top/tools/stack.py" "$program" "${2:-2048}"
+exec python3 "$top/tools/stack.py" "$program" "${2:-1024}"
