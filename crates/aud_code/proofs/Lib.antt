@@ -4,3 +4,4 @@ pub mod Needing
 pub mod Passing
 pub mod Verifying
 pub mod Plainly
+pub mod Standing

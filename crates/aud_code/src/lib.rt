@@ -2,6 +2,8 @@
 #![tactic(auto)]
 
 mod counts;
+pub mod fused;
+mod fusing;
 pub mod instruction;
 pub mod line;
 mod needs;

@@ -1,3 +1,5 @@
 pub mod Operands
 pub mod Flow
 pub mod Ticks
+pub mod Found
+pub mod Fused

@@ -3,9 +3,11 @@
 
 pub mod evaluate;
 pub mod flow;
+pub mod fused;
 mod integers;
 pub mod operands;
 mod operators;
+pub mod stack;
 pub mod target;
 mod texts;
 mod truths;

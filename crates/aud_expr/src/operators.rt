@@ -1,12 +1,13 @@
 // Operators of Integers and of truth values, and the ranges of subtypes.
 
-ghost use Rattle.std.specs.Prelude.{◌≡◌};
+ghost use Rattle.std.specs.Prelude.{◌≡◌, ℤ, int_lt, IsTrue};
 ghost use Rattle.aud_meaning.specs.Evaluation.{unary_of, binary_of, cell_of, truth_of, related, logical_of, in_range};
 
 use aud_text::int32::Int32;
 use aud_text::raise::Raise;
 use aud_typed::program::{Binary, Logical, Relation, Subtype, Unary};
 
+#[inline(always)]
 pub fn unary_of(operator: Unary, x: Int32) -> Result<Int32, Raise>
     ensures { result ≡ unary_of operator x }
 {
@@ -16,6 +17,7 @@ pub fn unary_of(operator: Unary, x: Int32) -> Result<Int32, Raise>
     }
 }
 
+#[inline(always)]
 pub fn binary_of(operator: Binary, x: Int32, y: Int32) -> Result<Int32, Raise>
     ensures { result ≡ binary_of operator x y }
 {
@@ -30,6 +32,7 @@ pub fn binary_of(operator: Binary, x: Int32, y: Int32) -> Result<Int32, Raise>
 }
 
 /// What a cell holds for a truth value.
+#[inline(always)]
 pub fn cell_of(value: bool) -> Int32
     ensures { result ≡ cell_of value }
 {
@@ -37,26 +40,59 @@ pub fn cell_of(value: bool) -> Int32
 }
 
 /// The truth value that a cell holds.
+#[inline(always)]
 pub fn truth_of(value: Int32) -> bool
     ensures { result ≡ truth_of value }
 {
     value.get() != 0
 }
 
+/// By how the first value stands to the second one, and not by a way of its own for each relation: machines relate in every loop.
+#[inline(always)]
 pub fn related(relation: Relation, x: Int32, y: Int32) -> bool
     ensures { result ≡ related relation x y }
 {
     let (x, y) = (x.get(), y.get());
-    match relation {
-        Relation::Equal => x == y,
-        Relation::Unequal => x != y,
-        Relation::Less => x < y,
-        Relation::AtMost => x <= y,
-        Relation::Greater => x > y,
-        Relation::AtLeast => x >= y,
+    if x < y {
+        holds_if_less(relation)
+    } else if x == y {
+        holds_if_equal(relation)
+    } else {
+        holds_if_greater(relation)
     }
 }
 
+#[inline(always)]
+fn holds_if_less(relation: Relation) -> bool
+    ensures { (x y : ℤ) → IsTrue (int_lt x y) → result ≡ related relation x y }
+{
+    matches!(
+        relation,
+        Relation::Unequal | Relation::Less | Relation::AtMost
+    )
+}
+
+#[inline(always)]
+fn holds_if_equal(relation: Relation) -> bool
+    ensures { (x : ℤ) → result ≡ related relation x x }
+{
+    matches!(
+        relation,
+        Relation::Equal | Relation::AtMost | Relation::AtLeast
+    )
+}
+
+#[inline(always)]
+fn holds_if_greater(relation: Relation) -> bool
+    ensures { (x y : ℤ) → IsTrue (int_lt y x) → result ≡ related relation x y }
+{
+    matches!(
+        relation,
+        Relation::Unequal | Relation::Greater | Relation::AtLeast
+    )
+}
+
+#[inline(always)]
 pub fn logical_of(operator: Logical, x: bool, y: bool) -> bool
     ensures { result ≡ logical_of operator x y }
 {
@@ -68,6 +104,7 @@ pub fn logical_of(operator: Logical, x: bool, y: bool) -> bool
 }
 
 /// The value, or Constraint_Error where it is below the subtype's range (RM 4.6(51)).
+#[inline(always)]
 pub fn in_range(subtype: Subtype, value: Int32) -> Result<Int32, Raise>
     ensures { result ≡ in_range subtype value }
 {

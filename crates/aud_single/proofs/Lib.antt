@@ -4,3 +4,5 @@ pub mod Comes
 pub mod Moving
 pub mod Next
 pub mod Running
+pub mod FastSteps
+pub mod FastRuns

@@ -1,15 +1,17 @@
 -- The steps of a run, one after the other, and their ticks.
-use Rattle.std.proofs.Common.{◌≡◌, ℕ, zero, suc, ◌+◌, ◌-◌, ◌<◌, ◌≤◌, List, [], ◌∷◌, Some, None, refl, sym, ap, ◌∙◌, arith}
-use Rattle.std.specs.Prelude.{replicate}
+use Rattle.std.proofs.Common.{◌≡◌, ℕ, zero, suc, ◌+◌, ◌-◌, ◌*◌, ◌^◌, ◌≤◌, List, length, Some, None, refl, sym, ap, ◌∙◌, arith}
+use Rattle.std.specs.Prelude.{min}
 use Rattle.aud_text.specs.declared.limits.Limits.{Limits}
 use Rattle.aud_typed.specs.Tree.{Plan}
 use Rattle.aud_meaning.specs.Configuration.{All}
-use Rattle.aud_meaning.specs.Run.{Move, own_move, moves_at, step_with, run_by, run_with}
+use Rattle.aud_meaning.specs.Run.{Move, own_move, step_with, run_by, run_with}
 use Rattle.aud_meaning.specs.Ties.Single.{Stage, Single, runs, completed, terminated, all_of}
 use Rattle.aud_code.specs.Places.{Spot}
 use Rattle.aud_code.specs.Flat.{Flat, flat_controls}
-use Rattle.aud_single.specs.Steps.{StepsTo}
-use Rattle.aud_single.specs.Moving.{Enables}
+use Rattle.aud_single.specs.declared.run.Ran.{Ran}
+use Rattle.aud_single.specs.Steps.{StepsTo, Stands}
+use Rattle.aud_single.specs.Moving.{Enables, IsIn}
+use Rattle.aud_single.specs.Running.{RunsOn, RunsTo}
 use Rattle.aud_single.specs.Ticks.{ticks_in, step_ticks, moved_ticks, run_ticks}
 
 module _ (plan : Plan) (name : List ℕ) (limits : Limits) (code : Flat) where
@@ -26,33 +28,94 @@ module _ (plan : Plan) (name : List ℕ) (limits : Limits) (code : Flat) where
   same_by p (completed raised) = refl
   same_by p (terminated raised) = refl
 
-  module _ (n k : ℕ) (old new : Single Spot) (within : k < n) (m : ℕ) (enabled : Enables code old m) (one : m ≤ 1) (some : m ≡ 0 → ⊥) (stepped : StepsTo code old new) where
-    one_less : n - k ≡ suc (n - (k + 1))
-    one_less = omega arith
+  -- One step of a program that can move.
+  module _ (j : ℕ) (old new : Single Spot) (enabled : Enables code old 1) (stepped : StepsTo code old new) where
+    turn : Runs (suc j) (In old) ≡ Runs j (In new)
+    turn =
+        ap (λ (ms : List Move). run_by plan (flat_controls plan code) limits (Runs j) ms (In old)) (enabled plan name)
+        ∙ ap (Runs j) (sym (stepped plan name limits))
 
-    own : moves_at plan (flat_controls plan code) (In old) ≡ own_move 0 ∷ []
-    own =
-        let e : m ≡ 1 = omega (arith, one, some) in
-        enabled plan name ∙ ap (λ j. replicate j (own_move 0)) e
-
-    pub turns : Runs (n - k) (In old) ≡ Runs (n - (k + 1)) (In new)
-    turns =
-        ap (λ j. Runs j (In old)) one_less
-        ∙ ap (λ (ms : List Move). run_by plan (flat_controls plan code) limits (Runs (n - (k + 1))) ms (In old)) own
-        ∙ ap (Runs (n - (k + 1))) (sym (stepped plan name limits))
-
-    pub ticks_turn : run_ticks plan code limits (n - k) (In old) ≡ step_ticks code old + run_ticks plan code limits (n - (k + 1)) (In new)
-    ticks_turn =
-        ap (λ j. run_ticks plan code limits j (In old)) one_less
-        ∙ ap (λ (ms : List Move). moved_ticks plan code limits (run_ticks plan code limits (n - (k + 1))) ms (In old)) own
-        ∙ ap (λ t. t + run_ticks plan code limits (n - (k + 1)) (step_with plan (flat_controls plan code) limits (In old) (own_move 0))) (same_by old old.stage)
-        ∙ ap (λ c. step_ticks code old + run_ticks plan code limits (n - (k + 1)) c) (sym (stepped plan name limits))
+    ticks_one : run_ticks plan code limits (suc j) (In old) ≡ step_ticks code old + run_ticks plan code limits j (In new)
+    ticks_one =
+        ap (λ (ms : List Move). moved_ticks plan code limits (run_ticks plan code limits j) ms (In old)) (enabled plan name)
+        ∙ ap (λ t. t + run_ticks plan code limits j (step_with plan (flat_controls plan code) limits (In old) (own_move 0))) (same_by old old.stage)
+        ∙ ap (λ c. step_ticks code old + run_ticks plan code limits j c) (sym (stepped plan name limits))
 
   -- no move is enabled any more
-  pub ends : (j : ℕ) (p : Single Spot) → Enables code p 0 → Runs j (In p) ≡ In p
+  ends : (j : ℕ) (p : Single Spot) → Enables code p 0 → Runs j (In p) ≡ In p
   ends zero p none = refl
   ends (suc j) p none = ap (λ (ms : List Move). run_by plan (flat_controls plan code) limits (Runs j) ms (In p)) (none plan name)
 
-  pub no_ticks : (j : ℕ) (p : Single Spot) → Enables code p 0 → run_ticks plan code limits j (In p) ≡ 0
+  no_ticks : (j : ℕ) (p : Single Spot) → Enables code p 0 → run_ticks plan code limits j (In p) ≡ 0
   no_ticks zero p none = refl
   no_ticks (suc j) p none = ap (λ (ms : List Move). moved_ticks plan code limits (run_ticks plan code limits j) ms (In p)) (none plan name)
+
+-- Steps one after the other.
+
+pub no_steps : (code : Flat) (p : Single Spot) → RunsOn code 0 0 p p
+no_steps code p = record {
+  run = λ plan name limits n. let none : 0 + n ≡ n = omega arith in ap (λ k. run_with plan (flat_controls plan code) limits k (all_of plan name p)) none;
+  counted = λ plan name limits n. let none : 0 + n ≡ n = omega arith in let same = ap (λ k. run_ticks plan code limits k (all_of plan name p)) none in omega (arith, same);
+}
+
+pub one_step : (code : Flat) (old new : Single Spot) → Enables code old 1 → StepsTo code old new → RunsOn code 1 (step_ticks code old) old new
+one_step code old new enabled stepped = record {
+  run = λ plan name limits n.
+      let one : 1 + n ≡ suc n = omega arith in
+      ap (λ k. run_with plan (flat_controls plan code) limits k (all_of plan name old)) one ∙ turn plan name limits code n old new enabled stepped;
+  counted = λ plan name limits n.
+      let one : 1 + n ≡ suc n = omega arith in
+      ap (λ k. run_ticks plan code limits k (all_of plan name old)) one ∙ ticks_one plan name limits code n old new enabled stepped;
+}
+
+pub then_on : (code : Flat) (k t j u : ℕ) (old there new : Single Spot) → RunsOn code k t old there → RunsOn code j u there new → RunsOn code (k + j) (t + u) old new
+then_on code k t j u old there new first second = record {
+  run = λ plan name limits n.
+      let both : k + j + n ≡ k + (j + n) = omega arith in
+      ap (λ m. run_with plan (flat_controls plan code) limits m (all_of plan name old)) both
+      ∙ first.run plan name limits (j + n)
+      ∙ second.run plan name limits n;
+  counted = λ plan name limits n.
+      let both : k + j + n ≡ k + (j + n) = omega arith in
+      let all = ap (λ m. run_ticks plan code limits m (all_of plan name old)) both in
+      omega (arith, all, first.counted plan name limits (j + n), second.counted plan name limits n);
+}
+
+-- A run under way, of at most n steps.
+pub record RunsSoFar (code : Flat) (n : ℕ) (old new : Single Spot) (steps ticks : ℕ) : Type 0 where
+  pub total : ℕ
+  pub leads : RunsOn code steps total old new
+  pub counted : ticks ≡ min total (2 ^ 64 - 1)
+  pub within : steps ≤ n
+  pub stands : Stands code.lines new
+  pub steps_taken : steps + old.steps ≡ new.steps
+  pub few : ticks ≤ steps * length code.lines
+
+-- Nothing is left to do, in that many steps.
+pub record IsOver (code : Flat) (left : ℕ) (p : Single Spot) : Type 0 where
+  pub run : (plan : Plan) (name : List ℕ) (limits : Limits) → run_with plan (flat_controls plan code) limits left (all_of plan name p) ≡ all_of plan name p
+  pub ticks : (plan : Plan) (name : List ℕ) (limits : Limits) → run_ticks plan code limits left (all_of plan name p) ≡ 0
+
+pub none_left : (code : Flat) (left : ℕ) (p : Single Spot) → left ≡ 0 → IsOver code left p
+none_left code left p none = rw none (record { run = λ plan name limits. refl; ticks = λ plan name limits. refl })
+
+pub none_enabled : (code : Flat) (left : ℕ) (p : Single Spot) → Enables code p 0 → IsOver code left p
+none_enabled code left p none = record { run = λ plan name limits. ends plan name limits code left p none; ticks = λ plan name limits. no_ticks plan name limits code left p none }
+
+module _ (code : Flat) (n : ℕ) (old new : Single Spot) (ran : Ran) (so_far : RunsSoFar code n old new ran.steps ran.ticks) (state : IsIn code new ran.state) (over : IsOver code (n - ran.steps) new) where
+  all_steps : ran.steps + (n - ran.steps) ≡ n
+  all_steps = omega (arith, so_far.within)
+
+  pub runs_to : RunsTo code n old new ran
+  runs_to = record {
+    run = λ plan name limits.
+        sym (ap (λ k. run_with plan (flat_controls plan code) limits k (all_of plan name old)) (sym all_steps)
+        ∙ so_far.leads.run plan name limits (n - ran.steps)
+        ∙ over.run plan name limits);
+    steps = so_far.steps_taken;
+    state = state;
+    ticks = λ plan name limits.
+        let all = ap (λ k. run_ticks plan code limits k (all_of plan name old)) (sym all_steps) in
+        omega (arith, all, so_far.leads.counted plan name limits (n - ran.steps), over.ticks plan name limits, so_far.counted);
+    few = so_far.few;
+  }

@@ -4,3 +4,4 @@ pub mod Ticks
 pub mod Moving
 pub mod Next
 pub mod Running
+pub mod Fast

@@ -2,6 +2,7 @@
 #![tactic(auto)]
 
 mod coming;
+mod fast;
 mod moves;
 pub mod progress;
 pub mod run;

@@ -1,13 +1,15 @@
 // How far a program is that is its main procedure alone.
 
-ghost use Rattle.std.specs.Prelude.{◌≡◌, ◌<◌, ◌≤◌, ◌+◌, suc, [], length, nat_lt, if◌then◌else◌, OnOk, IfOk};
+ghost use Rattle.std.specs.Prelude.{◌≡◌, ◌<◌, ◌≤◌, ◌+◌, suc, [], length, nat_lt, None, false, if◌then◌else◌, OnOk, IfOk};
 ghost use Rattle.aud_meaning.specs.Run.{main_raised, supplied, advanced};
-ghost use Rattle.aud_meaning.specs.Ties.Single.{all_of};
+ghost use Rattle.aud_meaning.specs.Ties.Single.{runs, all_of};
 ghost use Rattle.aud_code.specs.Flat.{start_at};
 ghost use Rattle.aud_code.specs.Sound.{IsStart};
 ghost use Rattle.aud_single.specs.Steps.{Stands, moved_to, declared, stored, written};
 ghost use Rattle.aud_single.specs.Shown.{plain_stage, InAnyProgram, Becomes, IsOpening};
+ghost use Rattle.aud_single.specs.Fast.{RunsFast};
 
+use crate::fast::{FastRun, fast_run_with};
 use aud_code::sound_code::SoundCode;
 use aud_expr::target::Target;
 use aud_store::frames::Frames;
@@ -292,6 +294,38 @@ impl Progress {
             self.frames.assign(frame, target.index(), value);
         }
         self.go(place);
+    }
+
+    /// The next steps, at most n, for as long as each is done by fused instructions. It tells where they led, how many they were,
+    /// and how many instructions they executed.
+    pub(crate) fn run_fast(&mut self, code: &SoundCode, n: u32) -> FastRun
+        requires stands { Stands code.now.lines self.old }
+        requires budget { self.old.steps + n ≤ STEPS }
+        ensures runs { RunsFast code.now n self.old self.new result }
+    {
+        match self.stage {
+            Stage::Runs(None) if !self.cut => self.run_free(code, n),
+            _ => FastRun {
+                place: self.place,
+                steps: 0,
+                ticks: 0,
+            },
+        }
+    }
+
+    // The same, where nothing keeps it from going on. The variables are taken out meanwhile.
+    fn run_free(&mut self, code: &SoundCode, n: u32) -> FastRun
+        requires runs { self.old.stage ≡ runs None }
+        requires uncut { self.old.cut ≡ false }
+        requires stands { Stands code.now.lines self.old }
+        requires budget { self.old.steps + n ≤ STEPS }
+        ensures runs { RunsFast code.now n self.old self.new result }
+    {
+        let (run, cells) = fast_run_with(code, self.place, self.frames.take(0), n);
+        self.frames.put(0, cells);
+        self.place = run.place;
+        self.steps += run.steps;
+        run
     }
 
     /// A text at the end of the output, and one step to a place.

@@ -4,6 +4,7 @@ ghost use Rattle.std.specs.Prelude.{◌+◌, ◌≤◌, IfOk};
 ghost use Rattle.aud_single.specs.Steps.{Stands};
 ghost use Rattle.aud_single.specs.Running.{RunsTo};
 
+use crate::fast::FastRun;
 use crate::progress::Progress;
 use aud_code::sound_code::SoundCode;
 use aud_expr::operands::Operands;
@@ -32,8 +33,11 @@ pub fn run(
     ensures stands { IfOk result (λ _. Stands code.now.lines progress.new) }
     ensures few { IfOk result (λ ran. ran.steps ≤ n) }
 {
-    let mut ticks: u64 = 0;
-    let mut steps = 0;
+    let FastRun {
+        mut steps,
+        mut ticks,
+        ..
+    } = progress.run_fast(code, n);
     while steps < n {
         if progress.moves(code) == 0 {
             let state = progress.state(code);
@@ -44,8 +48,9 @@ pub fn run(
             });
         }
         let executed = progress.step(code, operands)?;
-        ticks = ticks.saturating_add(executed);
-        steps += 1;
+        let fast = progress.run_fast(code, n - steps - 1);
+        steps += 1 + fast.steps;
+        ticks = ticks.saturating_add(executed).saturating_add(fast.ticks);
     }
     let state = progress.state(code);
     Ok(Ran {

@@ -6,6 +6,7 @@ ghost use Rattle.aud_store.specs.Ties.Frames.{with_frame};
 use aud_text::int32::Int32;
 use std::alloc::{AllocError, Global};
 use std::marker::Model;
+use std::mem;
 
 /// All frames that were ever made, by their numbers, which count from 0. A frame has the variables of one execution of
 /// a body, in the order of their declarations.
@@ -51,6 +52,24 @@ impl Frames {
         ensures { slice_get self.now number ≡ Some result.now }
     {
         &self.frames[number]
+    }
+
+    /// The variables of a frame, which has none until others are put there.
+    pub fn take(&mut self, number: usize) -> Vec<Int32>
+        requires { number < length self.old }
+        ensures taken { slice_get self.old number ≡ Some result.items }
+        ensures left { self.new ≡ with_frame number (λ vs. []) self.old }
+    {
+        let none = Vec::new(*self.frames.allocator());
+        mem::replace(&mut self.frames[number], none)
+    }
+
+    /// Other variables of a frame.
+    pub fn put(&mut self, number: usize, variables: Vec<Int32>)
+        requires { number < length self.old }
+        ensures { self.new ≡ with_frame number (λ vs. variables.items) self.old }
+    {
+        self.frames[number] = variables;
     }
 
     /// A variable, or 0 where the frame has none of this number.

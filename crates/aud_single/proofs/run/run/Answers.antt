@@ -1,45 +1,34 @@
-use Rattle.std.proofs.Common.{◌≡◌, ◌-◌, ap, ◌∙◌, sym, arith}
-use Rattle.aud_meaning.specs.Run.{run_with}
-use Rattle.aud_meaning.specs.Ties.Single.{all_of}
-use Rattle.aud_code.specs.Flat.{flat_controls}
-use Rattle.aud_single.specs.Ticks.{run_ticks}
-use Rattle.aud_single.proofs.Running.{turns, ticks_turn, ends, no_ticks}
+use Rattle.std.proofs.Common.{◌≡◌, ◌+◌, arith}
+use Rattle.aud_single.proofs.Running.{one_step, then_on, none_left, none_enabled, runs_to}
 use Rattle.aud_single.proofs.run.run.Goals as goal
 
 pub returns-then-moves-eq0-clause-runs : goal.returns-then-moves-eq0-clause-runs
 returns-then-moves-eq0-clause-runs c =
-    let none = rw c.if-moves-eq0.true at c.moves.ensures.enabled in
-    let left = c.args.n - c.loop-steps.steps in
-    record {
-      run = λ plan name limits. sym (c.loop-steps.invariant.run plan name limits ∙ ends plan name limits c.args.code.now left c.loop-steps.progress none);
-      steps = c.loop-steps.invariant.counted;
-      state = c.state-state.ensures;
-      ticks = λ plan name limits. omega (arith, c.loop-steps.invariant.ticked plan name limits, no_ticks plan name limits c.args.code.now left c.loop-steps.progress none, c.loop-steps.invariant.narrow);
-      few = c.loop-steps.invariant.few;
-    }
+    runs_to c.args.code.now c.args.n c.args.progress.now c.loop-steps.progress _ c.loop-steps.invariant c.state-state.ensures
+    (none_enabled c.args.code.now _ c.loop-steps.progress (rw c.if-moves-eq0.true at c.moves.ensures.enabled))
 
 pub loop-steps-preserved : goal.loop-steps-preserved
 loop-steps-preserved c =
     let code = c.args.code.now in
-    let old = c.loop-steps.progress in
-    let new = c.step.new.self in
+    let so_far = c.loop-steps.invariant in
+    let fast = c.run_fast-fast.ensures.runs in
+    let taken = c.in_ok-executed.ensures in
+    let only : c.moves.result ≡ 1 = omega (arith, c.moves.ensures.one, c.if-moves-eq0.false) in
+    let enabled = rw only at c.moves.ensures.enabled in
+    let step = one_step code c.loop-steps.progress c.step.new.self enabled taken.next in
+    let both = then_on code 1 _ c.run_fast-fast.result.steps c.run_fast-fast.result.ticks c.loop-steps.progress c.step.new.self c.run_fast-fast.new.self step fast.leads in
+    let all = then_on code c.loop-steps.steps so_far.total (1 + c.run_fast-fast.result.steps) _ c.args.progress.now c.loop-steps.progress c.run_fast-fast.new.self so_far.leads both in
     record {
-      within = omega arith;
-      stands = c.in_ok-executed.ensures.stands;
-      run = λ plan name limits. c.loop-steps.invariant.run plan name limits ∙ turns plan name limits code c.args.n c.loop-steps.steps old new c.loop-steps-test.true c.moves.result c.moves.ensures.enabled c.moves.ensures.one c.if-moves-eq0.false c.in_ok-executed.ensures.next;
-      counted = omega (arith, c.loop-steps.invariant.counted, c.in_ok-executed.ensures.steps);
-      ticked = λ plan name limits. omega (arith, c.saturating_add-ticks.ensures, c.loop-steps.invariant.ticked plan name limits, c.in_ok-executed.ensures.ticks, ticks_turn plan name limits code c.args.n c.loop-steps.steps old new c.loop-steps-test.true c.moves.result c.moves.ensures.enabled c.moves.ensures.one c.if-moves-eq0.false c.in_ok-executed.ensures.next);
-      narrow = omega (arith, c.saturating_add-ticks.ensures);
-      few = omega (arith, c.saturating_add-ticks.ensures, c.loop-steps.invariant.few, c.in_ok-executed.ensures.few);
+      total = so_far.total + (_ + c.run_fast-fast.result.ticks);
+      leads = all;
+      counted = omega (arith, so_far.counted, taken.ticks, c.saturating_add.ensures, c.saturating_add-ticks.ensures);
+      within = omega (arith, fast.within, c.loop-steps-test.true);
+      stands = fast.stands;
+      steps_taken = omega (arith, fast.steps, taken.steps, so_far.steps_taken);
+      few = omega (arith, so_far.few, taken.few, fast.few, c.saturating_add.ensures, c.saturating_add-ticks.ensures);
     }
 
 pub returns-clause-runs : goal.returns-clause-runs
 returns-clause-runs c =
-    let none_left : c.args.n - c.loop-steps.steps ≡ 0 = omega (arith, c.loop-steps-test.false) in
-    record {
-      run = λ plan name limits. sym (c.loop-steps.invariant.run plan name limits ∙ ap (λ k. run_with plan (flat_controls plan c.args.code.now) limits k (all_of plan name c.loop-steps.progress)) none_left);
-      steps = c.loop-steps.invariant.counted;
-      state = c.state-state-2.ensures;
-      ticks = λ plan name limits. omega (arith, c.loop-steps.invariant.ticked plan name limits, c.loop-steps.invariant.narrow, ap (λ k. run_ticks plan c.args.code.now limits k (all_of plan name c.loop-steps.progress)) none_left);
-      few = c.loop-steps.invariant.few;
-    }
+    runs_to c.args.code.now c.args.n c.args.progress.now c.loop-steps.progress _ c.loop-steps.invariant c.state-state-2.ensures
+    (none_left c.args.code.now _ c.loop-steps.progress (omega (arith, c.loop-steps-test.false)))
