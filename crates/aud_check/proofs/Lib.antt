@@ -9,6 +9,7 @@ pub mod Judged
 pub mod First
 pub mod ArmsAhead
 pub mod Exits
+pub mod Hiding
 pub mod Scoping
 pub mod Called
 pub mod Showing

@@ -222,9 +222,10 @@ fn variables(
         (checked_object (names_in names.now) names.now.first.at mark.now
         (plain_maybe initial.now) false (plain_place part.old.place))) }
 {
-    let scope = Scope::within(&part.place, names);
+    let scope = Scope::within(alloc, &part.place, names)?;
     let subtype = subtype_mark(mark, &scope, faults);
     let value = initial_value(alloc, initial, subtype, &scope, faults)?;
+    drop(scope);
     let region = &mut part.place.innermost;
     declare(alloc, names, subtype, false, region, faults)?;
     elaborate(names.first.at, value, region, &mut part.elaborations)
@@ -244,9 +245,10 @@ fn constants(
         (checked_object (names_in names.now) names.now.first.at mark.now
         (an_expression (plain_expression value.now)) true (plain_place part.old.place))) }
 {
-    let scope = Scope::within(&part.place, names);
+    let scope = Scope::within(alloc, &part.place, names)?;
     let subtype = subtype_mark(mark, &scope, faults);
     let value = given_value(alloc, value, subtype, &scope, faults)?;
+    drop(scope);
     let region = &mut part.place.innermost;
     declare(alloc, names, subtype, true, region, faults)?;
     elaborate(names.first.at, value, region, &mut part.elaborations)

@@ -16,6 +16,7 @@ mod condition;
 mod declaration;
 mod expression;
 pub mod fault;
+mod hidden;
 mod labels;
 pub mod laws;
 mod names;

@@ -1,11 +1,11 @@
 // Names, and what they stand for.
 
 ghost use Rattle.std.specs.Prelude.{◌≡◌, IfOk, is_some};
-ghost use Rattle.std.specs.Option.{option_copied};
 ghost use Rattle.aud_check.specs.Names.{Place as Plain, empty_region, named_in, predefined, declared, hiding, is_hidden, visible, main_place};
 ghost use Rattle.aud_check.specs.Ties.Regions.{plain_region, plain_regions, plain_place, names_in, hidden_names};
 
-use aud_syntax::tree::{Ident, Identifiers};
+use crate::hidden::Hidden;
+use aud_syntax::tree::Identifiers;
 use aud_text::name::Name;
 use aud_typed::program::{Subtype, Variable};
 use indexmap::IndexMap;
@@ -118,13 +118,13 @@ impl Place {
 #[derive(Drop)]
 pub struct Scope<'a> {
     place: &'a Place,
-    hidden: Option<&'a Identifiers>,
+    hidden: Option<Hidden<'a>>,
 }
 
 impl<'a> Model for Scope<'a> {
     ghost Value = { Plain };
 
-    ghost view = { λ scope. hiding (hidden_names (option_copied scope.hidden)) (plain_place scope.place.now) };
+    ghost view = { λ scope. hiding (hidden_names scope.hidden) (plain_place scope.place.now) };
 }
 
 impl<'a> Scope<'a> {
@@ -139,13 +139,18 @@ impl<'a> Scope<'a> {
     }
 
     /// The place within the declaration of these names.
-    pub fn within(place: &'a Place, names: &'a Identifiers) -> Self
-        ensures { result ≡ hiding (names_in names.now) (plain_place place.now) }
+    pub fn within(
+        alloc: Global,
+        place: &'a Place,
+        names: &'a Identifiers,
+    ) -> Result<Self, AllocError>
+        ensures { IfOk result (λ scope. scope ≡ hiding (names_in names.now) (plain_place place.now)) }
     {
-        Scope {
+        let hidden = Hidden::new(alloc, names)?;
+        Ok(Scope {
             place,
-            hidden: Some(names),
-        }
+            hidden: Some(hidden),
+        })
     }
 
     /// Whether a region around the place declares a name, or the predefined one.
@@ -159,26 +164,20 @@ impl<'a> Scope<'a> {
     pub fn visible(&self, name: &Name) -> Option<Meaning>
         ensures { result ≡ visible name.now self.now }
     {
-        if is_hidden(name, self.hidden) {
+        if is_hidden(name, &self.hidden) {
             return None;
         }
         self.place.declared(name)
     }
 }
 
-fn is_hidden(name: &Name, hidden: Option<&Identifiers>) -> bool
-    ensures { result ≡ is_hidden name.now (hidden_names (option_copied hidden.entry)) }
+fn is_hidden(name: &Name, hidden: &Option<Hidden<'_>>) -> bool
+    ensures { result ≡ is_hidden name.now (hidden_names hidden.now) }
 {
     match hidden {
         None => false,
-        Some(names) => *name == names.first.name || is_named(name, &names.others),
+        Some(names) => names.has(name),
     }
-}
-
-fn is_named(name: &Name, identifiers: &[Ident]) -> bool
-    ensures { result ≡ is_hidden name.now identifiers.now }
-{
-    identifiers.iter().any(|ident| *name == ident.name)
 }
 
 // What regions declare a name to be.

@@ -72,6 +72,7 @@ pub fn typed(alloc: Global, unit: &Unit, faults: &mut Least) -> Result<Program, 
     } = part;
     let scope = Scope::new(&place);
     let statements = statements(alloc, &unit.body.statements, &[], &scope, faults)?;
+    drop(scope);
     right_name_at_end(main, &unit.body.name, faults);
     let variables = variables_of(alloc, place.innermost.symbols)?;
     let name = main.try_clone(alloc)?;

@@ -27,9 +27,9 @@ abbrev pub names_in : Identifiers → List Ident
 names_in x = x.first ∷ x.others.items
 
 -- the names of the declaration that lasts, if there is one
-abbrev pub hidden_names : Option Identifiers → List Ident
+abbrev pub hidden_names : Option (List Ident) → List Ident
 hidden_names None = []
-hidden_names (Some x) = names_in x
+hidden_names (Some names) = names
 
 -- a symbol in memory as the typed program has it
 abbrev pub shown_by : Option Subtype → Shown
