@@ -8,6 +8,7 @@ import os
 import re
 import resource
 import subprocess
+import sys
 import threading
 import time
 from collections import defaultdict
@@ -71,6 +72,8 @@ def table(seen, total, unit):
 
 
 def main():
+    if sys.argv[1:]:
+        sys.exit("usage: price.sh (it takes no words, and runs the gate)")
     unit, said = spent(["rt", "selftest"], "/tmp/price-selftest.log")
     print(f"{said}: {unit:.1f} seconds")
     seen, ended, began = {}, threading.Event(), time.time()

@@ -3,6 +3,7 @@
 pub mod checks;
 pub mod constructs;
 pub mod control;
+pub mod fused;
 pub mod lexis;
 pub mod limits;
 pub mod lines;

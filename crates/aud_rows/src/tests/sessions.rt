@@ -2,8 +2,8 @@
 
 use crate::case::{Case, LongCase, spelled};
 use crate::tables::{
-    checks, constructs, control, lexis, limits, lines, logic, rows, runs, subtypes, syntax, types,
-    values,
+    checks, constructs, control, fused, lexis, limits, lines, logic, rows, runs, subtypes, syntax,
+    types, values,
 };
 use aud_server::solo::{SoloFault, solo};
 use std::alloc::Global;
@@ -116,11 +116,12 @@ fn keeps_values_in_their_ranges(rt: HostRuntime) -> Result<(), SoloFault> {
 
 #[test]
 fn decides_and_repeats(rt: HostRuntime) -> Result<(), SoloFault> {
-    let tables: [&[Case]; 4] = [
+    let tables: [&[Case]; 5] = [
         &control::IFS,
         &control::LOOPS,
         &control::PROGRAMS,
         &control::OUTPUTS,
+        &fused::LOOPS,
     ];
     meets(&rt, rt.alloc(), &tables)
 }
