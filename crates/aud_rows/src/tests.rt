@@ -4,6 +4,7 @@
 mod answers;
 mod benches;
 mod checks;
+mod fusing;
 mod lines;
 mod machines;
 mod requests;
