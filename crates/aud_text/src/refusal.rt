@@ -34,57 +34,43 @@ impl Refusal {
     pub fn number(self) -> u8
         ensures { result ≡ number self }
     {
-        match self {
-            Refusal::UnknownCommand => 10,
-            Refusal::BadArgument => 11,
-            Refusal::LineTooLong => 12,
-            Refusal::JournalFull => 13,
-            Refusal::NoProgram => 14,
-            Refusal::StepBudget => 17,
-            Refusal::NotAscii => 19,
-            Refusal::Lexical => 20,
-            Refusal::Syntax => 21,
-            Refusal::SourceTooLong => 22,
-            Refusal::TooDeep => 23,
-            Refusal::NameNotDeclared => 30,
-            Refusal::DeclaredTwice => 31,
-            Refusal::WrongKindOfName => 32,
-            Refusal::WrongType => 33,
-            Refusal::WrongNumberOfArguments => 34,
-            Refusal::NotAVariable => 35,
-            Refusal::WrongNameAtEnd => 36,
-            Refusal::ExitWithoutLoop => 40,
-            Refusal::NumberTooLarge => 45,
-            Refusal::OutOfMemory => 90,
-        }
+        self.told().0
     }
 
     /// The words that say why.
     pub fn words(self) -> &'static [u8]
         ensures { result.now ≡ words self }
     {
+        self.told().1
+    }
+
+    // The number and the words.
+    fn told(self) -> (u8, &'static [u8])
+        ensures number { result.0 ≡ number self }
+        ensures words { result.1.now ≡ words self }
+    {
         match self {
-            Refusal::UnknownCommand => b"unknown command",
-            Refusal::BadArgument => b"bad argument",
-            Refusal::LineTooLong => b"line too long",
-            Refusal::JournalFull => b"journal full",
-            Refusal::NoProgram => b"no program",
-            Refusal::StepBudget => b"step budget",
-            Refusal::NotAscii => b"not ASCII",
-            Refusal::Lexical => b"lexical",
-            Refusal::Syntax => b"syntax",
-            Refusal::SourceTooLong => b"source too long",
-            Refusal::TooDeep => b"too deep",
-            Refusal::NameNotDeclared => b"name not declared",
-            Refusal::DeclaredTwice => b"declared twice",
-            Refusal::WrongKindOfName => b"wrong kind of name",
-            Refusal::WrongType => b"wrong type",
-            Refusal::WrongNumberOfArguments => b"wrong number of arguments",
-            Refusal::NotAVariable => b"not a variable",
-            Refusal::WrongNameAtEnd => b"wrong name at end",
-            Refusal::ExitWithoutLoop => b"exit without loop",
-            Refusal::NumberTooLarge => b"number too large",
-            Refusal::OutOfMemory => b"out of memory",
+            Refusal::UnknownCommand => (10, b"unknown command"),
+            Refusal::BadArgument => (11, b"bad argument"),
+            Refusal::LineTooLong => (12, b"line too long"),
+            Refusal::JournalFull => (13, b"journal full"),
+            Refusal::NoProgram => (14, b"no program"),
+            Refusal::StepBudget => (17, b"step budget"),
+            Refusal::NotAscii => (19, b"not ASCII"),
+            Refusal::Lexical => (20, b"lexical"),
+            Refusal::Syntax => (21, b"syntax"),
+            Refusal::SourceTooLong => (22, b"source too long"),
+            Refusal::TooDeep => (23, b"too deep"),
+            Refusal::NameNotDeclared => (30, b"name not declared"),
+            Refusal::DeclaredTwice => (31, b"declared twice"),
+            Refusal::WrongKindOfName => (32, b"wrong kind of name"),
+            Refusal::WrongType => (33, b"wrong type"),
+            Refusal::WrongNumberOfArguments => (34, b"wrong number of arguments"),
+            Refusal::NotAVariable => (35, b"not a variable"),
+            Refusal::WrongNameAtEnd => (36, b"wrong name at end"),
+            Refusal::ExitWithoutLoop => (40, b"exit without loop"),
+            Refusal::NumberTooLarge => (45, b"number too large"),
+            Refusal::OutOfMemory => (90, b"out of memory"),
         }
     }
 }
