@@ -1,6 +1,6 @@
 -- The words of a tree do not depend on its places.
-use Rattle.std.proofs.Common.{◌≡◌, List, [], ◌∷◌, map, refl, sym, ap, ◌∙◌}
-use Rattle.std.specs.Prelude.{Option, Some, None}
+use Rattle.std.proofs.Common.{◌≡◌, ℕ, List, [], ◌∷◌, map, refl, sym, ap, ◌∙◌}
+use Rattle.std.specs.Prelude.{Option, Some, None, codes}
 use Rattle.aud_lex.specs.Why.Spaced.{Word, spaced}
 use Rattle.aud_syntax.specs.declared.tree.Ident.{Ident}
 use Rattle.aud_syntax.specs.declared.tree.Signed.{Signed}
@@ -63,12 +63,12 @@ mutual
   primary_same (m.integer x) = refl
   primary_same (m.text x) = refl
   primary_same (m.name x) = name_same x
-  primary_same (m.attribute x y e) = cc (name_same x, maybe_same e)
+  primary_same (m.attribute x y e) = cc (name_same x, argument_same e)
   primary_same (m.group at e) = cc (expression_same e)
 
-  maybe_same : (e : m.MaybeExpression) → w.argument_words (bare_maybe e) ≡ w.argument_words e
-  maybe_same m.no_expression = refl
-  maybe_same (m.an_expression e) = cc (expression_same e)
+  argument_same : (e : m.MaybeExpression) → w.argument_words (bare_maybe e) ≡ w.argument_words e
+  argument_same m.no_expression = refl
+  argument_same (m.an_expression e) = cc (expression_same e)
 
   name_same : (x : m.Name) → w.name_words (bare_name x) ≡ w.name_words x
   name_same (m.named x xs) = cc (part_same x, parts_same xs)
@@ -88,16 +88,16 @@ mutual
   more_args_same m.no_args = refl
   more_args_same (m.more_args e xs) = cc (expression_same e, more_args_same xs)
 
-initial_same : (e : m.MaybeExpression) → w.initial_words (bare_maybe e) ≡ w.initial_words e
-initial_same m.no_expression = refl
-initial_same (m.an_expression e) = cc (expression_same e)
+maybe_same : (spelling : List ℕ) (e : m.MaybeExpression) → w.maybe_words spelling (bare_maybe e) ≡ w.maybe_words spelling e
+maybe_same spelling m.no_expression = refl
+maybe_same spelling (m.an_expression e) = cc (expression_same e)
 
 more_idents_same : (xs : List Ident) → w.more_ident_words (map bare_ident xs) ≡ w.more_ident_words xs
 more_idents_same [] = refl
 more_idents_same (x ∷ xs) = cc (more_idents_same xs)
 
 declaration_same : (x : m.Declaration) → w.declaration_words (bare_declaration x) ≡ w.declaration_words x
-declaration_same (m.object x xs subtype value) = cc (more_idents_same xs, initial_same value)
+declaration_same (m.object x xs subtype value) = cc (more_idents_same xs, maybe_same (codes ":=") value)
 declaration_same (m.constant x xs subtype value) = cc (more_idents_same xs, expression_same value)
 
 declarations_same : (xs : m.Declarations) → w.declarations_words (bare_declarations xs) ≡ w.declarations_words xs
@@ -112,10 +112,6 @@ iteration_same : (i : m.Iteration) → w.iteration_words (bare_iteration i) ≡ 
 iteration_same m.forever = refl
 iteration_same (m.while e) = cc (expression_same e)
 
-condition_same : (e : m.MaybeExpression) → w.condition_words (bare_maybe e) ≡ w.condition_words e
-condition_same m.no_expression = refl
-condition_same (m.an_expression e) = cc (expression_same e)
-
 otherwise_same : (xs : m.MoreStatements) (ws : List Word) → w.otherwise_words (bare_more_statements xs) ws ≡ w.otherwise_words xs ws
 otherwise_same m.no_statements ws = refl
 otherwise_same (m.more_statements x xs) ws = refl
@@ -127,7 +123,7 @@ mutual
   statement_same (m.call x) = cc (name_same x)
   statement_same (m.if_then at e statements arms otherwise) = cc (expression_same e, statements_same statements, arms_same arms, otherwise_same otherwise (w.more_statements_words (bare_more_statements otherwise)), more_statements_same otherwise)
   statement_same (m.loop label at i statements last semicolon) = cc (label_same label, iteration_same i, statements_same statements, end_same last)
-  statement_same (m.exit at label e) = cc (end_same label, condition_same e)
+  statement_same (m.exit at label e) = cc (end_same label, maybe_same (codes "when") e)
 
   more_statements_same : (xs : m.MoreStatements) → w.more_statements_words (bare_more_statements xs) ≡ w.more_statements_words xs
   more_statements_same m.no_statements = refl

@@ -50,9 +50,9 @@ pub next_written : {A : Type 0} (words : List A → List Word) (one : A → List
 next_written words one opens xs i x h e old new all a k =
     one_written old new all (one x) (words (drop (i + 1) xs)) (ap (λ z. old ++ spaced z) (sym (ap words (dropped xs i x h e) ∙ opens x (drop (i + 1) xs))) ∙ a) k
 
--- some words are written before a loop writes the others
-pub loop_begins : (old new : List ℕ) (a b items all : List Word) → items ≡ b → all ≡ a ++ b → new ≡ old ++ spaced a → new ++ spaced items ≡ old ++ spaced all
-loop_begins old new a b items all e h k = ap (λ z. new ++ spaced z) e ∙ one_written old new (old ++ spaced all) a b (ap (λ z. old ++ spaced z) (sym h)) k
+-- some words are written before a loop over a list writes the others
+pub loop_begins : {A : Type 0} (words : List A → List Word) (xs ys : List A) → ys ≡ xs → (old new : List ℕ) (before all : List Word) → all ≡ before ++ words xs → new ≡ old ++ spaced before → new ++ spaced (words ys) ≡ old ++ spaced all
+loop_begins words xs ys e old new before all h k = ap (λ z. new ++ spaced (words z)) e ∙ one_written old new (old ++ spaced all) before (words xs) (ap (λ z. old ++ spaced z) (sym h)) k
 
 -- arguments, the first behind this word and each other one behind a comma
 abbrev pub listed : List ℕ → m.Args → List Word
@@ -74,12 +74,12 @@ some_arguments : (xs : List Expression) → (length xs == 0) ≡ false → liste
 some_arguments [] e = cc
 some_arguments (x ∷ xs) e = refl
 
--- the last argument is written, and the parenthesis that closes
-pub arguments_end : {X E : Type 0} (r : Result X E) (old out new before : List ℕ) (xs ys : List Expression) → ys ≡ [] → out ++ spaced (listed before (plain_expressions ys)) ≡ old ++ spaced (listed (codes "(") (plain_expressions xs)) →
-    (length xs == 0) ≡ false → OnOk r (new ≡ out ++ spaced (word (codes ")") ∷ [])) → OnOk r (new ≡ old ++ spaced (args_words (plain_expressions xs)))
-arguments_end r old out new before xs ys e h n k =
-    let all : out ≡ old ++ spaced (listed (codes "(") (plain_expressions xs)) = sym (append-nil out) ∙ sym (ap (λ z. out ++ spaced (listed before (plain_expressions z))) e) ∙ h in
-    subst (λ z. OnOk r (new ≡ old ++ spaced z)) (some_arguments xs n) (all_written r old out new (listed (codes "(") (plain_expressions xs)) (word (codes ")") ∷ []) all k)
+-- the last argument behind an identifier is written, and the parenthesis that closes
+pub arguments_end : {X E : Type 0} (r : Result X E) (old out new before : List ℕ) (i : Ident) (xs ys : List Expression) → ys ≡ [] → out ++ spaced (listed before (plain_expressions ys)) ≡ old ++ spaced (ident_word i ∷ listed (codes "(") (plain_expressions xs)) →
+    (length xs == 0) ≡ false → OnOk r (new ≡ out ++ spaced (word (codes ")") ∷ [])) → OnOk r (new ≡ old ++ spaced (ident_word i ∷ args_words (plain_expressions xs)))
+arguments_end r old out new before i xs ys e h n k =
+    let all : out ≡ old ++ spaced (ident_word i ∷ listed (codes "(") (plain_expressions xs)) = sym (append-nil out) ∙ sym (ap (λ z. out ++ spaced (listed before (plain_expressions z))) e) ∙ h in
+    subst (λ z. OnOk r (new ≡ old ++ spaced (ident_word i ∷ z))) (some_arguments xs n) (all_written r old out new (ident_word i ∷ listed (codes "(") (plain_expressions xs)) (word (codes ")") ∷ []) all k)
 
 -- relations with operators between them, as an expression
 pub chain_written : {X E : Type 0} (r : Result X E) (old new : List ℕ) (x : Box Chain Global) → OnOk r (new ≡ old ++ spaced (expression_words (plain_chain x.value))) → OnOk r (new ≡ old ++ spaced (expression_words (plain_expression (Connected x))))

@@ -3,8 +3,8 @@
 ghost use Rattle.std.specs.Prelude.{◌∷◌, []};
 ghost use Rattle.aud_lex.specs.Why.Spaced.{word};
 ghost use Rattle.aud_syntax.specs.Ties.Writes.{Writes};
-ghost use Rattle.aud_syntax.specs.Ties.View.{plain_expression, plain_chain, plain_relation, plain_comparison, plain_name, plain_part, plain_expressions, plain_simple, plain_added, plain_term, plain_multiplied, plain_factor, plain_primary};
-ghost use Rattle.aud_syntax.specs.Why.Printed.{sign_words, adding_spelling, multiplying_spelling, operator_words, relational_spelling, connective_words, expression_words, relation_words, connected_words, name_words, part_words, args_words, simple_words, added_words, term_words, multiplied_words, factor_words, primary_words, in_parentheses};
+ghost use Rattle.aud_syntax.specs.Ties.View.{plain_expression, plain_chain, plain_relation, plain_comparison, plain_name, plain_part, plain_maybe, plain_simple, plain_added, plain_term, plain_multiplied, plain_factor, plain_primary};
+ghost use Rattle.aud_syntax.specs.Why.Printed.{sign_words, adding_spelling, multiplying_spelling, operator_words, relational_spelling, connective_words, expression_words, relation_words, connected_words, maybe_words, name_words, part_words, simple_words, added_words, term_words, multiplied_words, factor_words, primary_words, in_parentheses};
 
 use crate::tree::{
     Added, Adding, Chain, Comparison, Connective, Expression, Factor, Highest, Multiplied,
@@ -32,6 +32,23 @@ pub fn push_expression(out: &mut Vec<u8>, expression: &Expression) -> Result<(),
     match expression {
         Expression::Alone(relation) => push_relation(out, relation),
         Expression::Connected(chain) => push_chain(out, chain),
+    }
+}
+
+// A word and the expression behind it, if there is one.
+pub fn push_maybe(
+    out: &mut Vec<u8>,
+    spelling: &[u8],
+    expression: &Option<Expression>,
+) -> Result<(), AllocError>
+    ensures { Writes result out.old out.new (maybe_words spelling.now (plain_maybe expression.now)) }
+{
+    match expression {
+        None => Ok(()),
+        Some(expression) => {
+            push_word(out, spelling)?;
+            push_expression(out, expression)
+        }
     }
 }
 
@@ -162,27 +179,20 @@ pub fn push_name(out: &mut Vec<u8>, name: &Name) -> Result<(), AllocError>
     Ok(())
 }
 
+// An identifier, and the arguments behind it, if there are any (RM 6.4).
 #[cycle(print)]
 fn push_part(out: &mut Vec<u8>, part: &NamePart) -> Result<(), AllocError>
     ensures { Writes result out.old out.new (part_words (plain_part part.now)) }
 {
     push_ident(out, &part.ident)?;
-    push_args(out, &part.args)
-}
-
-// The arguments of a part, if it has any (RM 6.4).
-#[cycle(print)]
-fn push_args(out: &mut Vec<u8>, args: &[Expression]) -> Result<(), AllocError>
-    ensures { Writes result out.old out.new (args_words (plain_expressions args.now)) }
-{
+    if part.args.is_empty() {
+        return Ok(());
+    }
     let mut before: &[u8] = b"(";
-    for next in args {
+    for next in &part.args {
         push_word(out, before)?;
         push_expression(out, next)?;
         before = b",";
-    }
-    if args.is_empty() {
-        return Ok(());
     }
     push_word(out, b")")
 }

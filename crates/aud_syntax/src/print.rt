@@ -4,9 +4,9 @@
 ghost use Rattle.std.specs.Prelude.{◌≡◌, IfOk, map};
 ghost use Rattle.aud_syntax.specs.Ties.Writes.{Writes};
 ghost use Rattle.aud_syntax.specs.Ties.View.{plain_expression, plain_maybe, plain_declaration, plain_declarations, plain_context, plain_body, plain_unit};
-ghost use Rattle.aud_syntax.specs.Why.Printed.{initial_words, object_words, constant_words, declaration_words, declarations_words, body_words, clause_words, context_words, contexts_words, unit_words, printed};
+ghost use Rattle.aud_syntax.specs.Why.Printed.{object_words, constant_words, declaration_words, declarations_words, body_words, clause_words, context_words, contexts_words, unit_words, printed};
 
-use crate::expressions::push_expression;
+use crate::expressions::{push_expression, push_maybe};
 use crate::statements::push_statements;
 use crate::tree::{Body, Context, Declaration, Expression, Ident, Identifiers, Unit};
 use crate::words::{
@@ -118,7 +118,7 @@ fn push_object(
     push_idents(out, names)?;
     push_word(out, b":")?;
     push_ident(out, subtype)?;
-    push_initial(out, value)?;
+    push_maybe(out, b":=", value)?;
     push_last_word(out, b";")
 }
 
@@ -139,16 +139,4 @@ fn push_constant(
     push_word(out, b":=")?;
     push_expression(out, value)?;
     push_last_word(out, b";")
-}
-
-fn push_initial(out: &mut Vec<u8>, value: &Option<Expression>) -> Result<(), AllocError>
-    ensures { Writes result out.old out.new (initial_words (plain_maybe value.now)) }
-{
-    match value {
-        None => Ok(()),
-        Some(value) => {
-            push_word(out, b":=")?;
-            push_expression(out, value)
-        }
-    }
 }

@@ -2,9 +2,9 @@
 
 ghost use Rattle.aud_syntax.specs.Ties.Writes.{Writes};
 ghost use Rattle.aud_syntax.specs.Ties.View.{plain_expression, plain_maybe, plain_name, plain_statement, plain_others, plain_statements, plain_if, arm_list, plain_iteration, plain_loop_statement};
-ghost use Rattle.aud_syntax.specs.Why.Printed.{null_words, assignment_words, call_words, label_words, iteration_words, condition_words, exit_words, expression_words, arm_words, arms_words, otherwise_words, statement_words, more_statements_words, statements_words};
+ghost use Rattle.aud_syntax.specs.Why.Printed.{null_words, assignment_words, call_words, label_words, iteration_words, exit_words, expression_words, arm_words, arms_words, otherwise_words, statement_words, more_statements_words, statements_words};
 
-use crate::expressions::{push_expression, push_name};
+use crate::expressions::{push_expression, push_maybe, push_name};
 use crate::tree::{
     Arm, Expression, Ident, IfStatement, Iteration, LoopStatement, Name, Statement, Statements,
 };
@@ -143,20 +143,8 @@ fn push_exit(
 {
     push_word(out, b"exit")?;
     push_end_name(out, label)?;
-    push_condition(out, condition)?;
+    push_maybe(out, b"when", condition)?;
     push_last_word(out, b";")
-}
-
-fn push_condition(out: &mut Vec<u8>, condition: &Option<Expression>) -> Result<(), AllocError>
-    ensures { Writes result out.old out.new (condition_words (plain_maybe condition.now)) }
-{
-    match condition {
-        None => Ok(()),
-        Some(condition) => {
-            push_word(out, b"when")?;
-            push_expression(out, condition)
-        }
-    }
 }
 
 fn push_null(out: &mut Vec<u8>) -> Result<(), AllocError>

@@ -164,6 +164,11 @@ abbrev mutual
 abbrev pub connected_words : Connective → Relation → List Word
 connected_words c x = connective_words c ++ relation_words x
 
+-- a word and the expression behind it, if there is one
+abbrev pub maybe_words : List ℕ → MaybeExpression → List Word
+maybe_words spelling no_expression = []
+maybe_words spelling (an_expression e) = word spelling ∷ expression_words e
+
 -- RM 3.3.1
 abbrev pub more_ident_words : List Ident → List Word
 more_ident_words [] = []
@@ -173,8 +178,7 @@ abbrev pub idents_words : Ident → List Ident → List Word
 idents_words x xs = ident_word x ∷ more_ident_words xs
 
 abbrev pub initial_words : MaybeExpression → List Word
-initial_words no_expression = []
-initial_words (an_expression e) = word (codes ":=") ∷ expression_words e
+initial_words e = maybe_words (codes ":=") e
 
 abbrev pub object_words : Ident → List Ident → Ident → MaybeExpression → List Word
 object_words x xs subtype value = idents_words x xs ++ (word (codes ":") ∷ ident_word subtype ∷ (initial_words value ++ (last_word (codes ";") ∷ [])))
@@ -219,8 +223,7 @@ iteration_words (while e) = word (codes "while") ∷ expression_words e
 
 -- RM 5.7
 abbrev pub condition_words : MaybeExpression → List Word
-condition_words no_expression = []
-condition_words (an_expression e) = word (codes "when") ∷ expression_words e
+condition_words e = maybe_words (codes "when") e
 
 abbrev pub exit_words : Option Ident → MaybeExpression → List Word
 exit_words label e = word (codes "exit") ∷ (end_words label ++ (condition_words e ++ (last_word (codes ";") ∷ [])))

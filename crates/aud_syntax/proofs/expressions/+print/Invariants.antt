@@ -1,7 +1,7 @@
-use Rattle.std.proofs.Common.{◌≡◌, ◌++◌, drop}
+use Rattle.std.proofs.Common.{◌≡◌, ◌++◌, ◌∷◌, drop}
 use Rattle.aud_lex.specs.Why.Spaced.{spaced}
 use Rattle.aud_syntax.specs.Ties.View.{relation_list, plain_chain, plain_simple, plain_term, plain_expressions, part_list, plain_name}
-use Rattle.aud_syntax.specs.Why.Printed.{expression_words, relations_words, simple_words, addeds_words, term_words, multiplieds_words, name_words, parts_words}
+use Rattle.aud_syntax.specs.Why.Printed.{ident_word, expression_words, relations_words, simple_words, addeds_words, term_words, multiplieds_words, name_words, parts_words}
 use Rattle.aud_syntax.proofs.Opened.{added_list, multiplied_list}
 use Rattle.std.specs.Prelude.{codes}
 use Rattle.aud_syntax.proofs.Written.{listed}
@@ -16,8 +16,8 @@ invariant-push_simple-loop-next l = l.out.items ++ spaced (addeds_words (added_l
 abbrev pub invariant-push_term-loop-next : goal.invariant-push_term-loop-next
 invariant-push_term-loop-next l = l.out.items ++ spaced (multiplieds_words (multiplied_list (drop l.next-index l.next-items))) ≡ l.fn.out.items ++ spaced (term_words (plain_term l.fn.term))
 
-abbrev pub invariant-push_args-loop-next : goal.invariant-push_args-loop-next
-invariant-push_args-loop-next l = l.out.items ++ spaced (listed l.before (plain_expressions (drop l.next-index l.args))) ≡ l.fn.out.items ++ spaced (listed (codes "(") (plain_expressions l.fn.args))
+abbrev pub invariant-push_part-loop-next : goal.invariant-push_part-loop-next
+invariant-push_part-loop-next l = l.out.items ++ spaced (listed l.before (plain_expressions (drop l.next-index l.next-items))) ≡ l.fn.out.items ++ spaced (ident_word l.fn.part.ident ∷ listed (codes "(") (plain_expressions l.fn.part.args.items))
 
 abbrev pub invariant-push_name-loop-next : goal.invariant-push_name-loop-next
 invariant-push_name-loop-next l = l.out.items ++ spaced (parts_words (part_list (drop l.next-index l.next-items))) ≡ l.fn.out.items ++ spaced (name_words (plain_name l.fn.name))

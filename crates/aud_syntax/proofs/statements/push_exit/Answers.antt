@@ -13,4 +13,4 @@ returns c =
     let last = last_word (codes ";") ∷ [] in
     all_written c.push_last_word.result c.args.out.now.items c.push_word.new.out.items c.push_last_word.new.out.items (word (codes "exit") ∷ []) (label ++ (condition ++ last)) c.in_ok-push_word.ensures
     (all_written c.push_last_word.result c.push_word.new.out.items c.push_end_name.new.out.items c.push_last_word.new.out.items label (condition ++ last) c.in_ok-push_end_name.ensures
-    (all_written c.push_last_word.result c.push_end_name.new.out.items c.push_condition.new.out.items c.push_last_word.new.out.items condition last c.in_ok-push_condition.ensures c.push_last_word.ensures))
+    (all_written c.push_last_word.result c.push_end_name.new.out.items c.push_maybe.new.out.items c.push_last_word.new.out.items condition last c.in_ok-push_maybe.ensures c.push_last_word.ensures))
