@@ -26,6 +26,12 @@ dead_refuses x a = true≢false (sym a ∙ ap accepts (run_dead x))
 pub longer : (A B : List ℕ → Type 0) (front x : List ℕ) → A front → (Repeated A then B) x → (Repeated A then B) (front ++ x)
 longer A B front x a h = (front ++ h.0, h.1, ap (λ z. front ++ z) h.2 ∙ sym (append_assoc front h.0 h.1), again front h.0 a h.3, h.4)
 
+-- a fact of the two states of a rule, shown byte by byte
+by_bytes : (P : Bool → List ℕ → Type 0) → P true [] → P false [] → ((u : Bool) (b : ℕ) (x : List ℕ) → P false x → P true x → P u (b ∷ x)) → (u : Bool) (x : List ℕ) → P u x
+by_bytes P t f goes true [] = t
+by_bytes P t f goes false [] = f
+by_bytes P t f goes u (b ∷ x) = goes u b x (by_bytes P t f goes false x) (by_bytes P t f goes true x)
+
 -- Numbers
 
 abbrev More : List ℕ → Type 0
@@ -53,9 +59,7 @@ decimal true b x _ e f g a = absurd (dead_refuses x a)
 decimal false b x _ e f g a = absurd (dead_refuses x a)
 
 decimals : (u : Bool) (x : List ℕ) → Decimals u x
-decimals true [] a = cc
-decimals false [] a = (never, refl)
-decimals u (b ∷ x) a = decimal u b x (bytes.class b) refl (decimals false x) (decimals true x) a
+decimals = by_bytes Decimals (λ a. cc) (λ a. (never, refl)) (λ u b x. decimal u b x (bytes.class b) refl)
 
 -- the numeral behind the point
 behind_point : (x : List ℕ) → accepts (run AfterPoint x) ≡ true → Numeral x × (run AfterPoint x ≡ InDecimals)
@@ -92,9 +96,7 @@ number true b x _ e f g a = absurd (dead_refuses x a)
 number false b x _ e f g a = absurd (dead_refuses x a)
 
 numbers : (u : Bool) (x : List ℕ) → Numbers u x
-numbers true [] a = cc
-numbers false [] a = inl (never, refl)
-numbers u (b ∷ x) a = number u b x (bytes.class b) refl (numbers false x) (numbers true x) a
+numbers = by_bytes Numbers (λ a. cc) (λ a. inl (never, refl)) (λ u b x. number u b x (bytes.class b) refl)
 
 -- the kind of a text is that of the state that it leads to
 abbrev In : State → List ℕ → Type 0
@@ -136,9 +138,7 @@ in_text true b x _ e p f g a = absurd (dead_refuses x a)
 in_text false b x _ e p f g a = let k = f a in (longer StringElement (The "\"") (b ∷ []) x (inr (b, p, refl)) k.0, k.1)
 
 strings : (u : Bool) (x : List ℕ) → Strings u x
-strings true [] a = (([], 34 ∷ [], refl, never, refl), refl)
-strings false [] a = cc
-strings u (b ∷ x) a = in_text u b x (bytes.class b) refl (plains_agree b) (strings false x) (strings true x) a
+strings = by_bytes Strings (λ a. (([], 34 ∷ [], refl, never, refl), refl)) (λ a. cc) (λ u b x. in_text u b x (bytes.class b) refl (plains_agree b))
 
 string_element : (b : ℕ) (x : List ℕ) → bytes.class b ≡ class.Quote → accepts (run InString x) ≡ true → In (run InString x) (b ∷ x)
 string_element b x e a =
@@ -166,9 +166,7 @@ word true b x _ e f g a = absurd (dead_refuses x a)
 word false b x _ e f g a = absurd (dead_refuses x a)
 
 words : (u : Bool) (x : List ℕ) → Words u x
-words true [] a = cc
-words false [] a = (never, refl)
-words u (b ∷ x) a = word u b x (bytes.class b) refl (words false x) (words true x) a
+words = by_bytes Words (λ a. cc) (λ a. (never, refl)) (λ u b x. word u b x (bytes.class b) refl)
 
 abbrev wordy : State → Bool
 wordy InWord = true
