@@ -3,49 +3,32 @@ use Rattle.std.specs.Prelude.{ℕ, List, codes}
 use Rattle.aud_text.specs.declared.refusal.Refusal.{Refusal}
 use Rattle.aud_text.specs.declared.refusal.Refusal.TheVariants.{UnknownCommand, BadArgument, LineTooLong, JournalFull, NoProgram, StepBudget, NotAscii, Lexical, Syntax, SourceTooLong, TooDeep, NameNotDeclared, DeclaredTwice, WrongKindOfName, WrongType, WrongNumberOfArguments, NotAVariable, WrongNameAtEnd, ExitWithoutLoop, NumberTooLarge, OutOfMemory}
 
+abbrev pub told : Refusal → ℕ × List ℕ
+told UnknownCommand = (10, codes "unknown command")
+told BadArgument = (11, codes "bad argument")
+told LineTooLong = (12, codes "line too long")
+told JournalFull = (13, codes "journal full")
+told NoProgram = (14, codes "no program")
+told StepBudget = (17, codes "step budget")
+told NotAscii = (19, codes "not ASCII")
+told Lexical = (20, codes "lexical")
+told Syntax = (21, codes "syntax")
+told SourceTooLong = (22, codes "source too long")
+told TooDeep = (23, codes "too deep")
+told NameNotDeclared = (30, codes "name not declared")
+told DeclaredTwice = (31, codes "declared twice")
+told WrongKindOfName = (32, codes "wrong kind of name")
+told WrongType = (33, codes "wrong type")
+told WrongNumberOfArguments = (34, codes "wrong number of arguments")
+told NotAVariable = (35, codes "not a variable")
+told WrongNameAtEnd = (36, codes "wrong name at end")
+told ExitWithoutLoop = (40, codes "exit without loop")
+told NumberTooLarge = (45, codes "number too large")
+told OutOfMemory = (90, codes "out of memory")
+
 -- the number after the letter E; of two faults at one place the one with the lesser number is reported
 abbrev pub number : Refusal → ℕ
-number UnknownCommand = 10
-number BadArgument = 11
-number LineTooLong = 12
-number JournalFull = 13
-number NoProgram = 14
-number StepBudget = 17
-number NotAscii = 19
-number Lexical = 20
-number Syntax = 21
-number SourceTooLong = 22
-number TooDeep = 23
-number NameNotDeclared = 30
-number DeclaredTwice = 31
-number WrongKindOfName = 32
-number WrongType = 33
-number WrongNumberOfArguments = 34
-number NotAVariable = 35
-number WrongNameAtEnd = 36
-number ExitWithoutLoop = 40
-number NumberTooLarge = 45
-number OutOfMemory = 90
+number why = (told why).0
 
 abbrev pub words : Refusal → List ℕ
-words UnknownCommand = codes "unknown command"
-words BadArgument = codes "bad argument"
-words LineTooLong = codes "line too long"
-words JournalFull = codes "journal full"
-words NoProgram = codes "no program"
-words StepBudget = codes "step budget"
-words NotAscii = codes "not ASCII"
-words Lexical = codes "lexical"
-words Syntax = codes "syntax"
-words SourceTooLong = codes "source too long"
-words TooDeep = codes "too deep"
-words NameNotDeclared = codes "name not declared"
-words DeclaredTwice = codes "declared twice"
-words WrongKindOfName = codes "wrong kind of name"
-words WrongType = codes "wrong type"
-words WrongNumberOfArguments = codes "wrong number of arguments"
-words NotAVariable = codes "not a variable"
-words WrongNameAtEnd = codes "wrong name at end"
-words ExitWithoutLoop = codes "exit without loop"
-words NumberTooLarge = codes "number too large"
-words OutOfMemory = codes "out of memory"
+words why = (told why).1
