@@ -3,21 +3,11 @@ use Rattle.std.proofs.Common.{◌≡◌, ℕ, List, [], ◌∷◌, map, refl, sy
 use Rattle.std.specs.Prelude.{Option, Some, None, codes}
 use Rattle.aud_lex.specs.Why.Spaced.{Word, spaced}
 use Rattle.aud_syntax.specs.declared.tree.Ident.{Ident}
-use Rattle.aud_syntax.specs.declared.tree.Signed.{Signed}
-use Rattle.aud_syntax.specs.declared.tree.Operator.{Operator}
 use Rattle.aud_syntax.specs.declared.tree.Connective.{Connective}
 use Rattle.aud_syntax.specs.Plain as m
-use Rattle.aud_syntax.specs.Why.Bare.{bare_ident, bare_sign, bare_highest, bare_end, bare_expression, bare_relations, bare_relation, bare_name, bare_parts, bare_part, bare_args, bare_simple, bare_addeds, bare_added, bare_term, bare_multiplieds, bare_multiplied, bare_factor, bare_primary, bare_maybe, bare_declaration, bare_declarations, bare_iteration, bare_statement, bare_more_statements, bare_statements, bare_arms, bare_body, bare_context, bare}
+use Rattle.aud_syntax.specs.Why.Bare.{bare_ident, bare_end, bare_expression, bare_relations, bare_relation, bare_name, bare_parts, bare_part, bare_args, bare_simple, bare_addeds, bare_term, bare_multiplieds, bare_factor, bare_primary, bare_maybe, bare_declaration, bare_declarations, bare_iteration, bare_statement, bare_more_statements, bare_statements, bare_arms, bare_body, bare_context, bare}
 use Rattle.aud_syntax.specs.Why.Printed as w
 use Rattle.aud_syntax.specs.Why.Laws.{WithoutPlaces}
-
-sign_same : (s : Option Signed) → w.sign_words (bare_sign s) ≡ w.sign_words s
-sign_same None = refl
-sign_same (Some x) = refl
-
-operator_same : (s : Option Operator) → w.operator_words (bare_highest s) ≡ w.operator_words s
-operator_same None = refl
-operator_same (Some x) = refl
 
 end_same : (s : Option Ident) → w.end_words (bare_end s) ≡ w.end_words s
 end_same None = refl
@@ -37,27 +27,23 @@ mutual
   relation_same (m.related operator x y) = cc (simple_same x, simple_same y)
 
   simple_same : (e : m.Simple) → w.simple_words (bare_simple e) ≡ w.simple_words e
-  simple_same (m.simple s t rest) = cc (sign_same s, term_same t, addeds_same rest)
+  simple_same (m.simple None t rest) = cc (term_same t, addeds_same rest)
+  simple_same (m.simple (Some x) t rest) = cc (term_same t, addeds_same rest)
 
   addeds_same : (xs : m.Addeds) → w.addeds_words (bare_addeds xs) ≡ w.addeds_words xs
   addeds_same m.no_addeds = refl
-  addeds_same (m.more_addeds x xs) = cc (added_same x, addeds_same xs)
-
-  added_same : (x : m.Added) → w.added_words (bare_added x) ≡ w.added_words x
-  added_same (m.added operator t) = cc (term_same t)
+  addeds_same (m.more_addeds (m.added operator t) xs) = cc (term_same t, addeds_same xs)
 
   term_same : (t : m.Term) → w.term_words (bare_term t) ≡ w.term_words t
   term_same (m.term x rest) = cc (factor_same x, multiplieds_same rest)
 
   multiplieds_same : (xs : m.Multiplieds) → w.multiplieds_words (bare_multiplieds xs) ≡ w.multiplieds_words xs
   multiplieds_same m.no_multiplieds = refl
-  multiplieds_same (m.more_multiplieds x xs) = cc (multiplied_same x, multiplieds_same xs)
-
-  multiplied_same : (x : m.Multiplied) → w.multiplied_words (bare_multiplied x) ≡ w.multiplied_words x
-  multiplied_same (m.multiplied operator x) = cc (factor_same x)
+  multiplieds_same (m.more_multiplieds (m.multiplied operator x) xs) = cc (factor_same x, multiplieds_same xs)
 
   factor_same : (x : m.Factor) → w.factor_words (bare_factor x) ≡ w.factor_words x
-  factor_same (m.factor operator x) = cc (operator_same operator, primary_same x)
+  factor_same (m.factor None x) = primary_same x
+  factor_same (m.factor (Some operator) x) = cc (primary_same x)
 
   primary_same : (x : m.Primary) → w.primary_words (bare_primary x) ≡ w.primary_words x
   primary_same (m.integer x) = refl

@@ -6,8 +6,8 @@ use Rattle.aud_syntax.specs.declared.tree.Comparison.{out-Comparison}
 use Rattle.aud_syntax.specs.declared.tree.Name.{out-Name}
 use Rattle.aud_syntax.specs.declared.tree.Simple.{out-Simple}
 use Rattle.aud_syntax.specs.declared.tree.Term.{out-Term}
-use Rattle.aud_syntax.specs.Ties.View.{plain_expression, relation_list, plain_chain, plain_relation, plain_simple, plain_added, plain_term, plain_multiplied, plain_factor, plain_part, plain_name, part_list, plain_expressions}
-use Rattle.aud_syntax.specs.Why.Printed.{ident_word, expression_words, relations_words, connected_words, relation_words, relational_spelling, sign_words, simple_words, addeds_words, added_words, term_words, multiplieds_words, multiplied_words, factor_words, name_words, parts_words, part_words}
+use Rattle.aud_syntax.specs.Ties.View.{plain_expression, relation_list, plain_chain, plain_relation, plain_simple, plain_added, plain_term, plain_multiplied, plain_part, part_list, plain_expressions}
+use Rattle.aud_syntax.specs.Why.Printed.{ident_word, expression_words, relations_words, connected_words, relation_words, relational_spelling, sign_words, simple_words, addeds_words, added_words, term_words, multiplieds_words, multiplied_words, name_words, parts_words, part_words}
 use Rattle.aud_syntax.proofs.Opened.{added_list, multiplied_list, comparison_open, simple_open, term_open, name_open}
 use Rattle.aud_syntax.proofs.Written.{both_written, all_written, next_written, loop_begins, listed, dropped, argument_written, arguments_end, chain_written, attribute_written, attribute_alone}
 use Rattle.aud_syntax.proofs.expressions.+print.Goals as goal
