@@ -1,11 +1,13 @@
 -- Texts that are written one after another.
 use Rattle.std.proofs.Common.{◌≡◌, ℕ, ◌+◌, ◌<◌, List, [], ◌∷◌, ◌++◌, length, take, drop, get_or, Option, Some, None, refl, sym, ◌∙◌, ap, append_assoc, append-nil, subst, inr, arith}
 use Rattle.std.proofs.lemmas.List.{take_more, take_all, take-append-drop}
-use Rattle.std.specs.Io.KnownBytes.{Appends, Keeps}
+use Rattle.std.specs.Prelude.{Result, Ok, Err, IfSome, OnOk}
+use Rattle.std.specs.Io.KnownBytes.{Appends, Consumes, Keeps}
+use Rattle.aud_server.specs.declared.solo.SoloFault.{SoloFault}
 use Rattle.aud_bench.specs.declared.request.Answer.{Answer}
 use Rattle.aud_text.specs.declared.refusal.Refusal.TheVariants as refusal
 use Rattle.aud_bench.specs.declared.request.Answer.TheVariants as answer
-use Rattle.aud_server.specs.Solo.{AppendsFront, WritesSome, WritesFront, WritesCut, WritesPart}
+use Rattle.aud_server.specs.Solo.{answers_to, Answers, Serves, WritesAll, AppendsFront, WritesSome, WritesFront, WritesCut, WritesPart}
 use Rattle.aud_server.specs.Text.{answer_text, text_from, text}
 
 pub appends_none : (a : Option (List ℕ)) → Appends a a []
@@ -123,3 +125,20 @@ pub written_same : (old middle new : Option (List ℕ)) (bytes rest : List ℕ) 
     Keeps middle new → (some : List ℕ) × Appends old new some × (bytes ≡ some ++ rest)
 written_same old middle new bytes rest (some, h, e) k =
     (some, subst (Appends old new) (append-nil some) (appends_more old middle new some [] h (keeps_appends middle new k)), e)
+
+-- where the end was met, what was read is all that was left to read
+pub all_known : {A : Type 0} (r : Result A SoloFault) (left before after : Option (List ℕ)) (input : List ℕ) → IfSome left (λ xs. input ≡ xs) →
+    OnOk r (WritesAll before after (answers_to input)) → OnOk r (IfSome left (λ xs. WritesAll before after (answers_to xs)))
+all_known (Ok x) None before after input e h = tt
+all_known (Ok x) (Some xs) before after input e h = subst (λ z. WritesAll before after (answers_to z)) e h
+all_known (Err x) left before after input e h = tt
+
+-- the answers to what was read serve the reader
+pub served : {A : Type 0} (r : Result A SoloFault) (left remaining before after : Option (List ℕ)) (input : List ℕ) → Consumes left remaining input →
+    OnOk r (IfSome left (λ xs. WritesAll before after (answers_to xs))) → Answers r before after (answers_to input) WritesCut WritesPart → Serves r left remaining before after
+served r left remaining before after input taken all h = record {
+  all = all;
+  read = λ q. absurd (h.read q);
+  memory = λ q. (input, taken, h.memory q);
+  write = λ q. (input, taken, h.write q);
+}

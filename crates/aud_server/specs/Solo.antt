@@ -52,11 +52,18 @@ AreAnswers all answers = (answers ≡ all) ⊎ IsCutShort all answers
 abbrev pub WritesPart : Option (List ℕ) → Option (List ℕ) → List Answer → Type 0
 WritesPart old new all = (answers : List Answer) × AreAnswers all answers × WritesFront old new answers
 
+-- The call writes these answers. Where memory is refused, or a write failed, `Cut` and `Part` say what is written of them.
+pub record Answers {A : Type 0} (result : Result A SoloFault) (before after : Option (List ℕ)) (answers : List Answer) (Cut Part : Option (List ℕ) → Option (List ℕ) → List Answer → Type 0) : Type 0 where
+  pub all : OnOk result (WritesAll before after answers)
+  pub read : IsErrOf result fault.Read → ⊥
+  pub memory : IsErrOf result fault.Memory → Cut before after answers
+  pub write : IsErrOf result fault.Write → Part before after answers
+
 -- The call serves the requests of a reader, and writes to a writer. Where it answers Ok, all answers to what was left to read are written,
--- and where a read failed all those to what was read. Where memory is refused, or a write failed, `Cut` and `Part` say what is written of
--- the answers to what was read.
-pub record Serves {A : Type 0} (result : Result A SoloFault) (left remaining before after : Option (List ℕ)) (Cut Part : Option (List ℕ) → Option (List ℕ) → List Answer → Type 0) : Type 0 where
+-- and where a read failed all those to what was read. Where memory is refused, a front of the answers to what was read is written, and
+-- then that memory is out; where a write failed, a front of what was to be written.
+pub record Serves {A : Type 0} (result : Result A SoloFault) (left remaining before after : Option (List ℕ)) : Type 0 where
   pub all : OnOk result (IfSome left (λ input. WritesAll before after (answers_to input)))
   pub read : IsErrOf result fault.Read → HasRead left remaining (λ input. WritesAll before after (answers_to input))
-  pub memory : IsErrOf result fault.Memory → HasRead left remaining (λ input. Cut before after (answers_to input))
-  pub write : IsErrOf result fault.Write → HasRead left remaining (λ input. Part before after (answers_to input))
+  pub memory : IsErrOf result fault.Memory → HasRead left remaining (λ input. WritesCut before after (answers_to input))
+  pub write : IsErrOf result fault.Write → HasRead left remaining (λ input. WritesPart before after (answers_to input))

@@ -38,10 +38,7 @@ fn before_spaces(line: &[u8]) -> &[u8]
     ensures { reverse result.now ≡ without_spaces (reverse line.now) }
 {
     let mut rest = line;
-    while let Some((byte, front)) = rest.split_last() {
-        if *byte != b' ' {
-            break;
-        }
+    while let [front @ .., b' '] = rest {
         rest = front;
     }
     rest
@@ -65,10 +62,7 @@ fn behind_spaces(line: &[u8]) -> &[u8]
     ensures front { 0 < length result.now → slice_index result.now 0 ≢ 32 }
 {
     let mut rest = line;
-    while let Some((byte, behind)) = rest.split_first() {
-        if *byte != b' ' {
-            break;
-        }
+    while let [b' ', behind @ ..] = rest {
         rest = behind;
     }
     rest

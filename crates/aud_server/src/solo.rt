@@ -5,7 +5,7 @@ ghost use Rattle.std.specs.Io.KnownBytes.{Appends};
 ghost use Rattle.aud_text.specs.declared.refusal.Refusal.TheVariants as refusal;
 ghost use Rattle.aud_bench.specs.declared.request.Answer.TheVariants as answer;
 ghost use Rattle.aud_server.specs.declared.solo.SoloFault.TheVariants as fault;
-ghost use Rattle.aud_server.specs.Solo.{answers_to, Serves, WritesAll, WritesSome, WritesCut, WritesPart, WritesFront, AppendsFront};
+ghost use Rattle.aud_server.specs.Solo.{answers_to, Answers, Serves, WritesSome, WritesCut, WritesPart, WritesFront, AppendsFront};
 ghost use Rattle.aud_server.specs.Text.{answer_text};
 
 use crate::answers::answer_text;
@@ -51,42 +51,37 @@ pub fn solo<R: Read, W: Write>(
     writer: &mut W,
 ) -> Result<(), SoloFault>
     ensures { Serves result (R.remaining reader.old) (R.remaining reader.new)
-        (W.contents writer.old) (W.contents writer.new) WritesCut WritesPart }
+        (W.contents writer.old) (W.contents writer.new) }
 {
-    let answered = answer_reader(alloc, reader, writer);
+    let mut input = Vec::new(alloc);
+    match reader.read_to_end(&mut input) {
+        Ok(_) => answer_input(alloc, &input, writer),
+        Err(error) if error.kind() == ErrorKind::OutOfMemory => {
+            write(writer, out_of_memory())?;
+            Err(SoloFault::Memory)
+        }
+        Err(_) => {
+            answer_input(alloc, &input, writer)?;
+            Err(SoloFault::Read)
+        }
+    }
+}
+
+// The answers to what was read, or a front of them and then that memory is out.
+fn answer_input<W: Write>(alloc: Global, bytes: &[u8], writer: &mut W) -> Result<(), SoloFault>
+    ensures { Answers result (W.contents writer.old) (W.contents writer.new)
+        (answers_to bytes.now) WritesCut WritesPart }
+{
+    let answered = answer_bytes(alloc, bytes, writer);
     if matches!(answered, Err(SoloFault::Memory)) {
         write(writer, out_of_memory())?;
     }
     answered
 }
 
-fn answer_reader<R: Read, W: Write>(
-    alloc: Global,
-    reader: &mut R,
-    writer: &mut W,
-) -> Result<(), SoloFault>
-    ensures { Serves result (R.remaining reader.old) (R.remaining reader.new)
-        (W.contents writer.old) (W.contents writer.new) WritesSome WritesFront }
-{
-    let mut input = Vec::new(alloc);
-    match reader.read_to_end(&mut input) {
-        Ok(_) => answer_bytes(alloc, &input, writer),
-        Err(error) if error.kind() == ErrorKind::OutOfMemory => Err(SoloFault::Memory),
-        Err(_) => {
-            answer_bytes(alloc, &input, writer)?;
-            Err(SoloFault::Read)
-        }
-    }
-}
-
 fn answer_bytes<W: Write>(alloc: Global, bytes: &[u8], writer: &mut W) -> Result<(), SoloFault>
-    ensures all { OnOk result
-        (WritesAll (W.contents writer.old) (W.contents writer.new) (answers_to bytes.now)) }
-    ensures read { IsErrOf result fault.Read → ⊥ }
-    ensures memory { IsErrOf result fault.Memory →
-        WritesSome (W.contents writer.old) (W.contents writer.new) (answers_to bytes.now) }
-    ensures write { IsErrOf result fault.Write →
-        WritesFront (W.contents writer.old) (W.contents writer.new) (answers_to bytes.now) }
+    ensures { Answers result (W.contents writer.old) (W.contents writer.new)
+        (answers_to bytes.now) WritesSome WritesFront }
 {
     let requests = read_requests(alloc, bytes)?;
     let mut answers = Vec::new(alloc);
@@ -101,13 +96,8 @@ fn write_answers<W: Write>(
     answers: &[Answer],
     writer: &mut W,
 ) -> Result<(), SoloFault>
-    ensures all { OnOk result
-        (WritesAll (W.contents writer.old) (W.contents writer.new) answers.now) }
-    ensures read { IsErrOf result fault.Read → ⊥ }
-    ensures memory { IsErrOf result fault.Memory →
-        WritesSome (W.contents writer.old) (W.contents writer.new) answers.now }
-    ensures write { IsErrOf result fault.Write →
-        WritesFront (W.contents writer.old) (W.contents writer.new) answers.now }
+    ensures { Answers result (W.contents writer.old) (W.contents writer.new)
+        answers.now WritesSome WritesFront }
 {
     for answer in answers {
         let said = answer_text(alloc, answer)?;

@@ -6,8 +6,13 @@ use Rattle.aud_server.specs.Solo.{answers_to, WritesFront, WritesSome}
 use Rattle.aud_server.proofs.SoloLaws.{none_yet, front_front, some_some}
 use Rattle.aud_server.proofs.solo.answer_bytes.Goals as goal
 
-pub returns-in_err-requests-clause-memory : goal.returns-in_err-requests-clause-memory
-returns-in_err-requests-clause-memory g c e = none_yet (g.W.Write.contents c.args.writer.now) (answers_to c.args.bytes.now)
+pub returns-in_err-requests : goal.returns-in_err-requests
+returns-in_err-requests g c = record {
+  all = search rules;
+  read = search rules;
+  memory = λ e. none_yet (g.W.Write.contents c.args.writer.now) (answers_to c.args.bytes.now);
+  write = search rules;
+}
 
 pub returns-in_err-write_answers : goal.returns-in_err-write_answers
 returns-in_err-write_answers g c =

@@ -16,25 +16,28 @@ loop-answer-preserved g c =
     subst (λ (t : List ℕ). Appends (contents c.args.writer.now) (contents c.write.new.writer) t) whole
     (appends_more (contents c.args.writer.now) (contents c.loop-answer.writer) (contents c.write.new.writer) before c.deref.result.now c.loop-answer.invariant c.in_ok-write.ensures.all)
 
-pub returns-clause-all : goal.returns-clause-all
-returns-clause-all g c =
+pub returns : goal.returns
+returns g c =
     let contents = g.W.Write.contents in
     let answers = c.args.answers.now in
-    subst (λ (t : List ℕ). Appends (contents c.args.writer.now) (contents c.loop-answer.writer) t)
+    let whole = subst (λ (t : List ℕ). Appends (contents c.args.writer.now) (contents c.loop-answer.writer) t)
     (text_all answers c.loop-answer.answer-index (omega arith))
-    c.loop-answer.invariant
+    c.loop-answer.invariant in
+    record { all = whole; read = search rules; memory = search rules; write = search rules }
 
-pub returns-in_err-said-clause-memory : goal.returns-in_err-said-clause-memory
-returns-in_err-said-clause-memory g c e =
+pub returns-in_err-said : goal.returns-in_err-said
+returns-in_err-said g c =
     let contents = g.W.Write.contents in
-    first_some (contents c.args.writer.now) (contents c.loop-answer.writer) c.args.answers.now c.loop-answer.answer-index c.loop-answer.invariant
+    let some = first_some (contents c.args.writer.now) (contents c.loop-answer.writer) c.args.answers.now c.loop-answer.answer-index c.loop-answer.invariant in
+    record { all = search rules; read = search rules; memory = λ e. some; write = search rules }
 
-pub returns-in_err-write-clause-write : goal.returns-in_err-write-clause-write
-returns-in_err-write-clause-write g c e =
+pub returns-in_err-write : goal.returns-in_err-write
+returns-in_err-write g c =
     let contents = g.W.Write.contents in
     let answers = c.args.answers.now in
     let i = c.loop-answer.answer-index in
     let item = c.answer-item.result in
     let said : c.deref.result.now ≡ answer_text (get_or answers i item) = c.deref.ensures.value ∙ (c.in_ok-said.ensures ∙ ap answer_text c.answer-item.is) in
-    next_front (contents c.args.writer.now) (contents c.loop-answer.writer) (contents c.write.new.writer) answers i item c.deref.result.now (omega arith)
-    c.loop-answer.invariant said (c.write.ensures.write (search rules))
+    let part = next_front (contents c.args.writer.now) (contents c.loop-answer.writer) (contents c.write.new.writer) answers i item c.deref.result.now (omega arith)
+    c.loop-answer.invariant said (c.write.ensures.write (search rules)) in
+    record { all = search rules; read = search rules; memory = search rules; write = λ e. part }
