@@ -34,10 +34,8 @@ returns-in_err-said g c =
 pub returns-in_err-write : goal.returns-in_err-write
 returns-in_err-write g c =
     let contents = g.W.Write.contents in
-    let answers = c.args.answers.now in
-    let i = c.loop-answer.answer-index in
-    let item = c.answer-item.result in
-    let said : c.deref.result.now ≡ answer_text (get_or answers i item) = c.deref.ensures.value ∙ (c.in_ok-said.ensures ∙ ap answer_text c.answer-item.is) in
-    let part = next_front (contents c.args.writer.now) (contents c.loop-answer.writer) (contents c.write.new.writer) answers i item c.deref.result.now (omega arith)
+    let said : c.deref.result.now ≡ answer_text (get_or c.args.answers.now c.loop-answer.answer-index c.answer-item.result) =
+    c.deref.ensures.value ∙ (c.in_ok-said.ensures ∙ ap answer_text c.answer-item.is) in
+    let part = next_front (contents c.args.writer.now) (contents c.loop-answer.writer) (contents c.write.new.writer) c.args.answers.now c.loop-answer.answer-index c.answer-item.result c.deref.result.now (omega arith)
     c.loop-answer.invariant said (c.write.ensures.write (search rules)) in
     record { all = search rules; read = search rules; memory = search rules; write = λ e. part }
