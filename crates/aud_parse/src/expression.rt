@@ -3,6 +3,8 @@
 // Trees are handed on in boxes, and what is not called at each level of parentheses is not inlined, so
 // that little stands in the stack frames of each level.
 
+#![tactic(auto, using(crate::proofs::Passing::turns_over))]
+
 ghost use Rattle.std.specs.Prelude.{◌≡◌, ◌∷◌, []};
 ghost use Rattle.aud_parse.specs.Grammar as g;
 ghost use Rattle.aud_parse.specs.Grammar.{Phrase, N, Opt, Rep};
@@ -106,7 +108,6 @@ fn part(alloc: Global, start: Rest, room: u32) -> Read<NamePart>
 /// The further parts of a name, each behind a point (RM 4.1.3).
 #[cycle(expression)]
 #[inline(never)]
-#[tactic(auto, using(crate::proofs::Passing::turns_over))]
 pub fn selected(alloc: Global, start: Rest, room: u32) -> Read<Vec<NamePart>>
     ensures { MayRead (vec_item part_item) (Rep g.Selected) room start.entry result }
 {
@@ -212,7 +213,6 @@ fn multiplying(start: Rest) -> Option<(Multiplying, Rest)>
 /// The further factors, each behind its operator.
 #[cycle(expression)]
 #[inline(never)]
-#[tactic(auto, using(crate::proofs::Passing::turns_over))]
 fn multiplieds(alloc: Global, start: Rest, room: u32) -> Read<Vec<Multiplied>>
     ensures { MayRead (vec_item multiplied_item) (Rep g.Multiplied) room start.entry result }
 {
@@ -252,7 +252,6 @@ fn adding(start: Rest) -> Option<(Adding, Rest)>
 /// The further terms, each behind its operator.
 #[cycle(expression)]
 #[inline(never)]
-#[tactic(auto, using(crate::proofs::Passing::turns_over))]
 fn addeds(alloc: Global, start: Rest, room: u32) -> Read<Vec<Added>>
     ensures { MayRead (vec_item added_item) (Rep g.Added) room start.entry result }
 {

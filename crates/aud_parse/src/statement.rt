@@ -3,6 +3,8 @@
 // Statements lie in one another, so what is called at each level has boxes in its stack frame, and no
 // trees. What is made of them is made by functions that are not inlined (`crate::build`).
 
+#![tactic(auto, using(crate::proofs::Passing::turns_over))]
+
 ghost use Rattle.std.specs.Prelude.{◌≡◌, ◌∷◌, [], ℕ};
 ghost use Rattle.aud_lex.specs.declared.token.Kind.TheVariants as kind;
 ghost use Rattle.aud_parse.specs.Grammar as g;
@@ -188,7 +190,6 @@ fn elsif(alloc: Global, start: Rest, room: u32) -> Read<Box<Arm>>
 
 /// The further conditions of an if statement.
 #[cycle(statement)]
-#[tactic(auto, using(crate::proofs::Passing::turns_over))]
 fn elsifs(alloc: Global, start: Rest, room: u32) -> Read<Vec<Arm>>
     ensures { MayRead (vec_item arm_item) (Rep g.Elsif) room start.entry result }
 {
@@ -272,7 +273,6 @@ fn statement(alloc: Global, start: Rest, room: u32) -> Read<Box<Statement>>
 
 /// The further statements.
 #[cycle(statement)]
-#[tactic(auto, using(crate::proofs::Passing::turns_over))]
 fn more_statements(alloc: Global, start: Rest, room: u32) -> Read<Vec<Statement>>
     ensures { MayRead (vec_item statement_item) (Rep g.Statement) room start.entry result }
 {

@@ -17,4 +17,4 @@ pub returns-in_err-rest-4 : goal.returns-in_err-rest-4
 returns-in_err-rest-4 c = exit_flat _ _ _ c.from_residual-in_err-rest-4.ensures.1 (λ room. c.in_err-rest-4.ensures.reads room) (λ room k ds v o. o_rule ((c.in_ok-rest.ensures Ada refl).reads _ _ _ _ (c.in_ok-rest-2.ensures.reads _ _ _ _ ((c.in_ok-rest-3.ensures TextIo refl).reads _ _ _ _ o))))
 
 pub returns : goal.returns
-returns c = record { reads = λ room k ds v o. o_rule ((c.in_ok-rest.ensures Ada refl).reads _ _ _ _ (c.in_ok-rest-2.ensures.reads _ _ _ _ ((c.in_ok-rest-3.ensures TextIo refl).reads _ _ _ _ (c.in_ok-rest-4.ensures.reads _ _ _ _ o)))); shorter = omega (arith, (c.in_ok-rest.ensures Ada refl).shorter, (c.in_ok-rest-3.ensures TextIo refl).shorter) }
+returns c = record { reads = λ room k ds v o. o_rule ((c.in_ok-rest.ensures Ada refl).reads _ _ _ _ (c.in_ok-rest-2.ensures.reads _ _ _ _ ((c.in_ok-rest-3.ensures TextIo refl).reads _ _ _ _ (c.in_ok-rest-4.ensures.reads _ _ _ _ o)))); shorter = omega (arith, (c.in_ok-rest.ensures Ada refl).shorter, c.in_ok-rest-2.ensures.shorter, (c.in_ok-rest-3.ensures TextIo refl).shorter, c.in_ok-rest-4.ensures.shorter) }

@@ -14,4 +14,4 @@ pub returns-in_err-value : goal.returns-in_err-value
 returns-in_err-value c = exit _ _ _ c.from_residual-in_err-value.ensures.1 (c.in_err-value.ensures g.Initial initial).reads (λ k ds v o. o_rule (c.in_ok-subtype.ensures.reads _ _ _ _ o))
 
 pub returns : goal.returns
-returns c = ends c.args.start c.in_ok-value.rest _ _ c.ended.ensures (omega (arith, (c.in_ok-value.ensures g.Initial initial).shorter)) (λ k ds v o. o_rule (c.in_ok-subtype.ensures.reads _ _ _ _ ((c.in_ok-value.ensures g.Initial initial).reads _ _ _ o))) (variable_items c.in_ok-subtype.subtype c.in_ok-value.value)
+returns c = ends c.args.start c.in_ok-value.rest _ _ c.ended.ensures (omega (arith, c.in_ok-subtype.ensures.shorter, (c.in_ok-value.ensures g.Initial initial).shorter)) (λ k ds v o. o_rule (c.in_ok-subtype.ensures.reads _ _ _ _ ((c.in_ok-value.ensures g.Initial initial).reads _ _ _ o))) (variable_items c.in_ok-subtype.subtype c.in_ok-value.value)
