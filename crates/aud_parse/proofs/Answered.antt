@@ -17,7 +17,7 @@ use Rattle.aud_parse.proofs.Reading.{enough_budget}
 use Rattle.aud_parse.proofs.Total.{out}
 use Rattle.aud_parse.proofs.Sound.{sound}
 use Rattle.aud_parse.proofs.Gets.{Gets, reach_of, more_room}
-use Rattle.aud_parse.proofs.Ways.{whole, begun, derived_front}
+use Rattle.aud_parse.proofs.Ways.{whole, begun, begun_take, derives_begun}
 use Rattle.aud_parse.proofs.Ends.{Only, Stands, whole_clean, ends}
 use Rattle.aud_parse.proofs.OneAnswer.{one_answer}
 
@@ -95,7 +95,7 @@ deep_place ts i e =
     let h : LevelFaultAt ts i = (first_deep ts i).0 e in
     let front = take (i + 1) ts in (
       h.1,
-      λ us ds d. h.3 (subst (λ z. Within LEVELS z) (take-append_seam front us) (derived_front d (length front))),
+      λ us ds d. h.3 (subst (λ z. Within LEVELS z) (take-append_seam front us) (begun_take (derives_begun d) (length front))),
     )
 
 pub one_parser : OneParser

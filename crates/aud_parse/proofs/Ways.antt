@@ -132,21 +132,36 @@ pub last_way : {X : Type 0} {b : Bool} {p q : Phrase} (k : List Symbol) (r : ℕ
 last_way k r us here d go = go d
 last_way k r us (later m) d go = elim m [ ]
 
--- a front of what is derived is begun
-pub derived_front : {s : List Symbol} {r : ℕ} {ds : List Item} {ts : List Element} → Derives s r ds ts → (n : ℕ) → Begun s r (take n ts)
-derived_front d_end zero = b_stop
-derived_front d_end (suc n) = b_stop
-derived_front (d_word h d) zero = b_stop
-derived_front (d_word h d) (suc n) = b_word h (derived_front d n)
-derived_front (d_token h d) zero = b_stop
-derived_front (d_token h d) (suc n) = b_token h (derived_front d n)
-derived_front (d_spelled h d) zero = b_stop
-derived_front (d_spelled h d) (suc n) = b_spelled h (derived_front d n)
-derived_front (d_rule d) n = b_rule (derived_front d n)
-derived_front (d_level d) n = b_level (derived_front d n)
-derived_front (d_down d) n = b_down (derived_front d n)
-derived_front (d_one m d) n = b_one m (derived_front d n)
-derived_front (d_yes d) n = b_yes (derived_front d n)
-derived_front (d_no d) n = b_no (derived_front d n)
-derived_front (d_more d) n = b_more (derived_front d n)
-derived_front (d_stop d) n = b_last (derived_front d n)
+-- a front of what is begun is begun
+pub begun_take : {s : List Symbol} {r : ℕ} {ts : List Element} → Begun s r ts → (n : ℕ) → Begun s r (take n ts)
+begun_take b_stop zero = b_stop
+begun_take b_stop (suc n) = b_stop
+begun_take (b_word h d) zero = b_stop
+begun_take (b_word h d) (suc n) = b_word h (begun_take d n)
+begun_take (b_token h d) zero = b_stop
+begun_take (b_token h d) (suc n) = b_token h (begun_take d n)
+begun_take (b_spelled h d) zero = b_stop
+begun_take (b_spelled h d) (suc n) = b_spelled h (begun_take d n)
+begun_take (b_rule d) n = b_rule (begun_take d n)
+begun_take (b_level d) n = b_level (begun_take d n)
+begun_take (b_down d) n = b_down (begun_take d n)
+begun_take (b_one m d) n = b_one m (begun_take d n)
+begun_take (b_yes d) n = b_yes (begun_take d n)
+begun_take (b_no d) n = b_no (begun_take d n)
+begun_take (b_more d) n = b_more (begun_take d n)
+begun_take (b_last d) n = b_last (begun_take d n)
+
+-- and so is what is derived
+pub derives_begun : {s : List Symbol} {r : ℕ} {ds : List Item} {ts : List Element} → Derives s r ds ts → Begun s r ts
+derives_begun d_end = b_stop
+derives_begun (d_word h d) = b_word h (derives_begun d)
+derives_begun (d_token h d) = b_token h (derives_begun d)
+derives_begun (d_spelled h d) = b_spelled h (derives_begun d)
+derives_begun (d_rule d) = b_rule (derives_begun d)
+derives_begun (d_level d) = b_level (derives_begun d)
+derives_begun (d_down d) = b_down (derives_begun d)
+derives_begun (d_one m d) = b_one m (derives_begun d)
+derives_begun (d_yes d) = b_yes (derives_begun d)
+derives_begun (d_no d) = b_no (derives_begun d)
+derives_begun (d_more d) = b_more (derives_begun d)
+derives_begun (d_stop d) = b_last (derives_begun d)
