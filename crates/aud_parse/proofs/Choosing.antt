@@ -1,6 +1,6 @@
 -- The phrases of one word each among which a table of words chooses.
-use Rattle.std.proofs.Common.{◌≡◌, ℕ, zero, suc, ◌+◌, ◌<◌, ◌≤◌, List, [], ◌∷◌, ◌++◌, length, drop, slice_index_or, Bool, true, false, refl, sym, ap, subst, ◌∙◌, add-one, arith}
-use Rattle.std.proofs.lemmas.List.{drop_all}
+use Rattle.std.proofs.Common.{◌≡◌, ℕ, ◌+◌, ◌<◌, ◌≤◌, List, [], ◌∷◌, ◌++◌, length, drop, slice_index_or, Bool, true, false, refl, sym, ap, subst, ◌∙◌}
+use Rattle.std.proofs.lemmas.List.{drop_all, drop_more}
 use Rattle.std.specs.Prelude.{Option, Some, None}
 use Rattle.aud_lex.specs.Element.{Element}
 use Rattle.aud_lex.specs.declared.token.Kind.{Kind}
@@ -22,11 +22,15 @@ pub record Keeps (s : Kind → Symbol) (keep : Element → List Item → List It
 
 -- the phrases are words, and make the trees that stand beside these
 
-abbrev parts_of : (Element → List Item → List Item) → List Phrase → Element → List Item → List (List Symbol × List Kind × List Item)
+-- a phrase's symbols, the kinds with which it begins, and the items that it makes
+abbrev Made : Type 0
+Made = List Symbol × List Kind × List Item
+
+abbrev parts_of : (Element → List Item → List Item) → List Phrase → Element → List Item → List Made
 parts_of keep [] t ds = []
 parts_of keep (p ∷ ps) t ds = (rule p, firsts p, made p (keep t ds)) ∷ parts_of keep ps t ds
 
-abbrev parts_in : {X : Type 0} → (Kind → Symbol) → (Element → X → Item) → List (Kind × X) → Element → List Item → List (List Symbol × List Kind × List Item)
+abbrev parts_in : {X : Type 0} → (Kind → Symbol) → (Element → X → Item) → List (Kind × X) → Element → List Item → List Made
 parts_in s f [] t ds = []
 parts_in s f (e ∷ table) t ds = (s e.0 ∷ [], e.0 ∷ [], f t e.1 ∷ ds) ∷ parts_in s f table t ds
 
@@ -45,17 +49,17 @@ pub not_chosen : {X : Type 0} {table : List (Kind × X)} {ts : List Element} →
 not_chosen {ts = ts} c_none = nothing_next ts
 not_chosen {ts = ts} (c_other {e} {table} n c) = in_none e.0 (kinds table) ts n (not_chosen c)
 
-same_heads : {A B C : Type 0} {x y : A × B × C} {xs ys : List (A × B × C)} → x ∷ xs ≡ y ∷ ys → (x.0 ≡ y.0) × (x.1 ≡ y.1) × (x.2 ≡ y.2) × (xs ≡ ys)
-same_heads {A} {B} {C} {x} {y} e =
-    let q : x ≡ y = cc in
-    (ap (λ (z : A × B × C). z.0) q, ap (λ (z : A × B × C). z.1) q, ap (λ (z : A × B × C). z.2) q, cc)
+pub heads : {A : Type 0} {x y : A} {xs ys : List A} → x ∷ xs ≡ y ∷ ys → (x ≡ y) × (xs ≡ ys)
+heads e = (cc, cc)
 
 first_fits : {X : Type 0} {s : Kind → Symbol} {keep : Element → List Item → List Item} {f : Element → X → Item} {p : Phrase} {ps : List Phrase} {e : Kind × X} {table : List (Kind × X)} → Fits s keep f (p ∷ ps) (e ∷ table) →
     (t : Element) (ds : List Item) → (rule p ≡ s e.0 ∷ []) × (firsts p ≡ e.0 ∷ []) × (made p (keep t ds) ≡ f t e.1 ∷ ds)
-first_fits h t ds = let q = same_heads (h.by t ds) in (q.0, q.1, q.2)
+first_fits h t ds =
+    let q = (heads (h.by t ds)).0 in
+    (ap (λ (z : Made). z.0) q, ap (λ (z : Made). z.1) q, ap (λ (z : Made). z.2) q)
 
 others_fit : {X : Type 0} {s : Kind → Symbol} {keep : Element → List Item → List Item} {f : Element → X → Item} {p : Phrase} {ps : List Phrase} {e : Kind × X} {table : List (Kind × X)} → Fits s keep f (p ∷ ps) (e ∷ table) → Fits s keep f ps table
-others_fit h = record { by = λ t ds. (same_heads (h.by t ds)).3 }
+others_fit h = record { by = λ t ds. (heads (h.by t ds)).1 }
 
 begun_by : {X : Type 0} {s : Kind → Symbol} {keep : Element → List Item → List Item} {f : Element → X → Item} {p : Phrase} {ps : List Phrase} {e : Kind × X} {table : List (Kind × X)} {b : Bool} → Fits s keep f (p ∷ ps) (e ∷ table) →
     (t : Element) (ts : List Element) → next_in (e.0 ∷ []) ts ≡ b → next_in (firsts p) ts ≡ b
@@ -75,7 +79,7 @@ choice way f {ps = []} {t = t} h (c_other n c) is r = let q = h.by t [] in cc
 choice way f {ps = p ∷ []} h (c_this n) is r = λ k ds v o. o_last (one way h n is r k ds v o)
 choice way f {ps = p ∷ q ∷ ps} {ts = ts} {t = t} h (c_this n) is r = λ k ds v o. o_this (begun_by h t ts n) (one way h n is r k ds v o)
 choice way f {ps = p ∷ []} {table = e ∷ []} h (c_other n c) is r = elim c [ ]
-choice way f {ps = p ∷ []} {table = e ∷ e' ∷ table} {t = t} h (c_other n c) is r = let q = (same_heads (h.by t [])).3 in cc
+choice way f {ps = p ∷ []} {table = e ∷ e' ∷ table} {t = t} h (c_other n c) is r = let q = (heads (h.by t [])).1 in cc
 choice way f {ps = p ∷ q ∷ ps} {ts = ts} {t = t} h (c_other n c) is r = λ k ds v o. o_other (begun_by h t ts n) (choice way f (others_fit h) c is r k ds v o)
 
 pub words : Keeps T (λ t ds. ds)
@@ -89,19 +93,14 @@ tokens = record { passes = token_passes }
 abbrev pub Remains : {X : Type 0} → List (Kind × X) → List (Kind × X) → List Element → Type 0
 Remains {X} rest table ts = (x : Option X) → Chosen rest ts x → Chosen table ts x
 
-split_at : {A : Type 0} (xs : List A) (i : ℕ) (d : A) → i < length xs → drop i xs ≡ slice_index_or xs i d ∷ drop (suc i) xs
-split_at [] i d h = absurd (omega arith)
-split_at (x ∷ xs) zero d h = refl
-split_at (x ∷ xs) (suc i) d h = split_at xs i d (omega arith)
-
-next_entry : {A : Type 0} (xs : List A) (i : ℕ) (x : A) → i < length xs → x ≡ slice_index_or xs i x → drop i xs ≡ x ∷ drop (suc i) xs
-next_entry xs i x h is = split_at xs i x h ∙ ap (λ z. z ∷ drop (suc i) xs) (sym is)
+next_entry : {A : Type 0} (xs : List A) (i : ℕ) (x : A) → i < length xs → x ≡ slice_index_or xs i x → drop i xs ≡ x ∷ drop (i + 1) xs
+next_entry xs i x h is = drop_more xs i x h ∙ ap (λ z. z ∷ drop (i + 1) xs) (sym is)
 
 pub remains_this : {X : Type 0} {table : List (Kind × X)} {e : Kind × X} {ts : List Element} (i : ℕ) → i < length table → e ≡ slice_index_or table i e → Remains (drop i table) table ts → next_in (e.0 ∷ []) ts ≡ true → Chosen table ts (Some e.1)
 remains_this {table = table} {e} {ts} i h is r n = r _ (subst (λ l. Chosen l ts (Some e.1)) (sym (next_entry table i e h is)) (c_this n))
 
 pub remains_other : {X : Type 0} {table : List (Kind × X)} {e : Kind × X} {ts : List Element} (i : ℕ) → i < length table → e ≡ slice_index_or table i e → Remains (drop i table) table ts → next_in (e.0 ∷ []) ts ≡ false → Remains (drop (i + 1) table) table ts
-remains_other {table = table} {e} {ts} i h is r n = rw add-one (λ x c. r x (subst (λ l. Chosen l ts x) (sym (next_entry table i e h is)) (c_other n c)))
+remains_other {table = table} {e} {ts} i h is r n = λ x c. r x (subst (λ l. Chosen l ts x) (sym (next_entry table i e h is)) (c_other n c))
 
 pub remains_none : {X : Type 0} {table : List (Kind × X)} {ts : List Element} (i : ℕ) → length table ≤ i → Remains (drop i table) table ts → Chosen table ts None
 remains_none {table = table} {ts} i h r = r None (subst (λ l. Chosen l ts None) (sym (drop_all i table h)) c_none)

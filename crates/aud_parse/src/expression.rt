@@ -175,13 +175,10 @@ fn opt_operator(start: Rest) -> (Option<Operator>, Rest)
 {
     let operators = [(Kind::Abs, Highest::Magnitude), (Kind::Not, Highest::Not)];
     match chosen(start, &operators) {
-        Some((highest, t, rest)) => (
-            Some(Operator {
-                highest,
-                at: t.at(),
-            }),
-            rest,
-        ),
+        Some((highest, t, rest)) => {
+            let at = t.at();
+            (Some(Operator { highest, at }), rest)
+        }
         None => (None, start),
     }
 }
