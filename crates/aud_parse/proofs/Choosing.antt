@@ -6,7 +6,6 @@ use Rattle.aud_lex.specs.Element.{Element}
 use Rattle.aud_lex.specs.declared.token.Kind.{Kind}
 use Rattle.aud_parse.specs.Grammar.{Phrase, Symbol, T, P, N, A, rule}
 use Rattle.aud_parse.specs.First.{next_in, firsts}
-use Rattle.aud_parse.specs.Parsed.{Verdict}
 use Rattle.aud_parse.specs.Actions.{Item, token, made}
 use Rattle.aud_parse.specs.Ties.Outcome.{Out, o_rule, o_this, o_other, o_last}
 use Rattle.aud_parse.specs.Ties.Reads.{Passes, Chosen, c_none, c_this, c_other}

@@ -1,5 +1,5 @@
 -- Phrases that are a word and an expression.
-use Rattle.std.proofs.Common.{ℕ, List, [], ◌∷◌, ◌++◌, refl, sym, subst}
+use Rattle.std.proofs.Common.{ℕ, List, ◌∷◌, ◌++◌, refl, sym, subst}
 use Rattle.aud_lex.specs.Element.{Element}
 use Rattle.aud_lex.specs.declared.token.Kind.{Kind}
 use Rattle.aud_lex.specs.declared.token.Kind.TheVariants as kind

@@ -4,7 +4,7 @@ use Rattle.aud_lex.specs.declared.token.Kind.TheVariants as kind
 use Rattle.std.proofs.Common.{List, [], ◌∷◌, sym, ◌∙◌, refl, rules, arith}
 use Rattle.aud_parse.specs.Ties.Outcome.{o_rule, o_this, o_other, o_last, o_yes, o_no, o_more}
 use Rattle.aud_parse.specs.Actions.{token}
-use Rattle.aud_parse.proofs.Passing.{to, exit, hand_on, level_on, no_level, word_passes, turns_push, turns_end}
+use Rattle.aud_parse.proofs.Passing.{to, exit, hand_on, level_on, no_level, word_passes, turns_push}
 use Rattle.aud_parse.proofs.Joined.{exit_all}
 use Rattle.aud_parse.proofs.Connecting.{completes, completes_in, exit_in, exit_among}
 use Rattle.aud_parse.proofs.Rolls.{arm_items, in_order_items}
