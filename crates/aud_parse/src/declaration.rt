@@ -3,7 +3,7 @@
 ghost use Rattle.aud_parse.specs.Grammar as g;
 ghost use Rattle.aud_parse.specs.Grammar.{N, Opt, Rep};
 ghost use Rattle.aud_parse.specs.Actions.{an_ident};
-ghost use Rattle.aud_parse.specs.Ties.Items.{vec_item, opt_item, expression_item, boxed_item, names_item, variable_item, constant_item, declaration_item};
+ghost use Rattle.aud_parse.specs.Ties.Items.{vec_item, names_item, variable_item, constant_item, declaration_item};
 ghost use Rattle.aud_parse.specs.Ties.Reads.{Reads, MayRead, ReadsFlat, MayReadFlat};
 
 use crate::behind::{both, ended};
