@@ -40,6 +40,10 @@ def read_rules():
     return rules
 
 
+def snake(phrase):
+    return re.sub(r"(?<!^)(?=[A-Z])", "_", phrase).lower()
+
+
 def close(table, step):
     """Repeats `step`, which may add to the sets of `table`, until nothing is added."""
     size = -1
@@ -110,18 +114,31 @@ def main():
             ranks[phrase] = most + 1
         return ranks[phrase]
 
+    def written(kinds):
+        return "".join(f"{n} ∷ " for n in sorted(kinds)) + "[]"
+
+    # a name for each list of kinds, after the first phrase behind which they may come
+    behind = {}
+    for phrase in rules:
+        behind.setdefault(written(follow[phrase]), "behind_" + snake(phrase))
+
     lines = [
         "-- What the laws need to know of each phrase. Written by tools/grammar_tables.py, and checked in Reading and Ends.",
         "use Rattle.std.specs.Prelude.{ℕ, List, [], ◌∷◌}",
         "use Rattle.aud_parse.specs.Grammar.{Phrase, " + ", ".join(rules) + "}",
         "",
+        "-- the kinds that may come behind some phrases, as numbers; 999 is the end of the tokens",
+        *(f"abbrev {name} : List ℕ\n{name} = {kinds}\n" for kinds, name in behind.items()),
+        "abbrev known : Phrase → ℕ × List ℕ",
+        *(f"known {phrase} = ({rank(phrase)}, {behind[written(follow[phrase])]})" for phrase in rules),
+        "",
         "-- how many rules may be entered before a token of the phrase is passed, its own among them",
         "abbrev pub rank : Phrase → ℕ",
-        *(f"rank {phrase} = {rank(phrase)}" for phrase in rules),
+        "rank p = (known p).0",
         "",
-        "-- the kinds that may come behind the phrase, as numbers; 999 is the end of the tokens",
+        "-- the kinds that may come behind the phrase",
         "abbrev pub follow : Phrase → List ℕ",
-        *(f"follow {phrase} = " + "".join(f"{n} ∷ " for n in sorted(follow[phrase])) + "[]" for phrase in rules),
+        "follow p = (known p).1",
     ]
     (CRATES / "aud_parse/proofs/Tables.antt").write_text("\n".join(lines) + "\n")
     print(f"{len(rules)} parts, highest rank {max(ranks.values())}")

@@ -7,8 +7,7 @@ use Rattle.aud_lex.specs.declared.token.Kind.TheVariants as kind
 use Rattle.aud_lex.specs.Element.{Element}
 use Rattle.aud_lex.specs.Kinds.{kind_number}
 use Rattle.aud_parse.specs.Grammar as g
-use Rattle.aud_parse.specs.declared.word.Word.TheVariants as word
-use Rattle.aud_parse.specs.Grammar.{Word, Phrase, Symbol, T, P, W, N, L, Down, A, Opt, Rep, rule}
+use Rattle.aud_parse.specs.Grammar.{Word, Ada, TextIo, Duration, Phrase, Symbol, T, P, W, N, L, Down, A, Opt, Rep, rule}
 use Rattle.aud_parse.specs.First.{spelling, among, is_word, next_in, firsts, first_of, first_of_all, first_within}
 use Rattle.aud_parse.specs.Parsed.{Verdict, Good, Wrong, Deep}
 use Rattle.aud_parse.specs.Actions.{Item, token, none, listed, made}
@@ -208,9 +207,9 @@ abbrev the_word : Word → Element
 the_word w = record { kind = kind.Identifier; text = spelling w; at = record { line = 1; col = 1 } }
 
 same_word : (w : Word) → is_word w (the_word w) ≡ true
-same_word word.Ada = refl
-same_word word.TextIo = refl
-same_word word.Duration = refl
+same_word Ada = refl
+same_word TextIo = refl
+same_word Duration = refl
 
 can_spelled : (w : Word) (k : List Symbol) → Gets k [] → Gets (W w ∷ k) []
 can_spelled w k h = gets_less (W w ∷ k) _ (gets_spelled w (the_word w) k [] (same_word w) h)

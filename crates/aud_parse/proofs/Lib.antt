@@ -9,7 +9,9 @@ pub mod Total
 pub mod Spelled
 pub mod Passing
 pub mod Joined
+pub mod Choosing
 pub mod Connecting
+pub mod Valued
 pub mod Rolls
 pub mod Verdicts
 pub mod Literals

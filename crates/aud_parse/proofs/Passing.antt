@@ -1,6 +1,7 @@
 -- How symbols are passed: words, tokens, levels, loops, and the exit of a function at a fault.
 use Rattle.std.proofs.Common.{◌≡◌, ℕ, suc, ◌+◌, ◌≤◌, List, [], ◌∷◌, ◌++◌, length, ap, Bool, true, false, refl, sym, arith, subst, ◌∙◌}
-use Rattle.std.specs.Prelude.{◌==◌, if◌then◌else◌, Result, Ok, Err, IsErrAnd}
+use Rattle.std.specs.Prelude.{◌==◌, if◌then◌else◌, Vec, Result, Ok, Err, IsErrAnd}
+use Rattle.std.specs.Global.{Global}
 use Rattle.std.proofs.lemmas.Bool.{eqb-true}
 use Rattle.aud_text.specs.Name.{capitals}
 use Rattle.std.proofs.lemmas.Result.{err_from_is_err_and}
@@ -8,15 +9,15 @@ use Rattle.aud_lex.specs.Element.{Element}
 use Rattle.aud_lex.specs.Kinds.{kind_number}
 use Rattle.aud_lex.specs.declared.token.Kind.{Kind}
 use Rattle.aud_parse.specs.Grammar.{Word, Phrase, Symbol, T, P, W, N, L, Down, Rep, rule}
-use Rattle.aud_parse.specs.First.{next_in, next_word, same_text, firsts}
+use Rattle.aud_parse.specs.First.{next_in, is_spelled, next_spelled, same_text, spelling, firsts}
 use Rattle.aud_parse.specs.Parsed.{Verdict, Wrong, Deep}
 use Rattle.aud_parse.specs.Actions.{Item, token, none, listed, made}
 use Rattle.aud_parse.specs.Ties.Outcome.{Out, o_level, o_down, o_rule, o_deep, o_shut, o_word, o_token, o_spelled, o_more, o_stop}
-use Rattle.aud_parse.specs.Ties.Items.{list_item}
+use Rattle.aud_parse.specs.Ties.Items.{list_item, vec_item}
 use Rattle.aud_parse.specs.declared.cursor.Rest.{Rest}
 use Rattle.aud_parse.specs.declared.cursor.Fault.{Fault}
 use Rattle.aud_parse.specs.declared.cursor.Fault.TheVariants as fault
-use Rattle.aud_parse.specs.Ties.Reads.{Passes, FailsAt, Comes, Reading, FlatReading}
+use Rattle.aud_parse.specs.Ties.Reads.{Passes, FailsAt, Comes, NoMore, Reading, MayRead, FlatReading}
 use Rattle.aud_parse.proofs.Choices.{or_left, or_right}
 
 pub next_there : (ks : List Kind) (ts : List Element) → next_in ks ts ≡ true → 1 ≤ length ts
@@ -33,12 +34,14 @@ token_passes h k ds v o = rw h.1 (o_token (rw h.1 at h.0) o)
 
 -- an identifier that the grammar names, where it comes next
 
-pub next_word_there : (w : Word) (ts : List Element) → next_word w ts ≡ true → 1 ≤ length ts
-next_word_there w [] e = cc
-next_word_there w (t ∷ ts) e = omega arith
+pub next_spelled_there : (wanted : List ℕ) (ts : List Element) → next_spelled wanted ts ≡ true → 1 ≤ length ts
+next_spelled_there wanted [] e = cc
+next_spelled_there wanted (t ∷ ts) e = omega arith
 
-pub spelled_passes : (w : Word) (ts ts' : List Element) (t : Element) (r : ℕ) → next_word w ts ≡ true → ts ≡ t ∷ ts' → Passes (W w) r ts (λ ds. ds) r ts'
-spelled_passes w ts ts' t r e is k ds v o = rw is (o_spelled (rw is at e) o)
+pub spelled_passes : {w : Word} {wanted : List ℕ} {ts ts' : List Element} {t : Element} (r : ℕ) → spelling w ≡ wanted → next_spelled wanted ts ≡ true → ts ≡ t ∷ ts' → Passes (W w) r ts (λ ds. ds) r ts'
+spelled_passes {w} {wanted} {t = t} r s e is k ds v o =
+    let h : is_spelled wanted t ≡ true = rw is at e in
+    rw is (o_spelled (subst (λ l. is_spelled l t ≡ true) (sym s) h) o)
 
 pub more_text : (xs ys : List ℕ) → (length xs == 0) ≡ false → (length ys == 0) ≡ true → false ≡ same_text (capitals xs) ys
 more_text [] ys h i = cc
@@ -102,8 +105,18 @@ turns_push {p = p} x t e s is = record {
       rw (is, front_push) (t.by k _ v (o_more e (s (Rep p ∷ k) ds v o)));
 }
 
+-- the same of a tree that is pushed as this item
+pub turns_pushed : {X : Type 0} {f : X → Item} {p : Phrase} {r : ℕ} {ts ts' ts'' : List Element} {xs ys : List X} {item : Item} → (x : X) × (ys ≡ xs ++ x ∷ []) × (f x ≡ item) →
+    Turns f p r ts xs ts' → next_in (firsts p) ts' ≡ true → Passes (N p) r ts' (λ ds. item ∷ ds) r ts'' → Turns f p r ts ys ts''
+turns_pushed w t e s = turns_push w.0 t e (λ k ds v o. rw w.2 (s k ds v o)) w.1
+
 pub turns_end : {X : Type 0} {f : X → Item} {p : Phrase} {r : ℕ} {ts ts' : List Element} {xs : List X} → Turns f p r ts xs ts' → next_in (firsts p) ts' ≡ false → Passes (Rep p) r ts (λ ds. list_item f xs ∷ ds) r ts'
 turns_end {f = f} {p} {r} {ts} {xs = xs} t e k ds v o = subst (λ z. Out (Rep p ∷ k) r ts z v) (sym (items_front f xs ds)) (t.by k _ v (o_stop e o))
+
+-- what a loop returns
+pub turns_over : {X : Type 0} {f : X → Item} {p : Phrase} {r : ℕ} {start rest : Rest} {all : Vec X Global} → Turns f p r start.tokens.now all.items rest.tokens.now → next_in (firsts p) rest.tokens.now ≡ false → NoMore rest start →
+    MayRead (vec_item f) (Rep p) r start (Ok (all, rest))
+turns_over t e m = record { reads = turns_end t e; shorter = m }
 
 -- how a function fails with a fault, and so do those that have passed something before it
 pub fails_through : {s0 s : Symbol} {r r' : ℕ} {ts ts' : List Element} {K : List Symbol → List Symbol} {f : List Item → List Item} (e : Fault) →

@@ -2,198 +2,186 @@
 use Rattle.std.specs.Prelude.{ℕ, List, [], ◌∷◌}
 use Rattle.aud_parse.specs.Grammar.{Phrase, Unit, Clause, WithClause, UseClause, Library, Declarations, DeclarationList, Declaration, Identifiers, MoreIdentifiers, ObjectRest, Variable, Constant, Initial, Body, Statements, StatementList, Statement, NullStatement, NameStatement, NameRest, Labelled, NamedStatement, StatementRest, Assignment, Call, If, Elsif, ElsePart, Loop, While, Exit, When, Expression, Logic, AndLogic, AndRest, AndThen, AndOnly, MoreAndThen, MoreAnd, OrLogic, OrRest, OrElse, OrOnly, MoreOrElse, MoreOr, XorLogic, MoreXor, Relation, Compared, RelationalOperator, Equal, Unequal, Less, AtMost, Greater, AtLeast, Simple, Sign, Positive, Negative, Added, AddingOperator, Plus, Minus, Join, Term, Multiplied, MultiplyingOperator, Times, Divide, Modulo, Remainder, Factor, Operator, Magnitude, Not, Primary, Integer, String, Named, Attribute, Group, Parens, InParens, Name, NamePart, Selected, Args, InArgs, MoreArgs, Identifier, Number, Literal}
 
+-- the kinds that may come behind some phrases, as numbers; 999 is the end of the tokens
+abbrev behind_unit : List ℕ
+behind_unit = 999 ∷ []
+
+abbrev behind_clause : List ℕ
+behind_clause = 48 ∷ 69 ∷ 72 ∷ []
+
+abbrev behind_declarations : List ℕ
+behind_declarations = 10 ∷ []
+
+abbrev behind_declaration : List ℕ
+behind_declaration = 10 ∷ 100 ∷ []
+
+abbrev behind_identifiers : List ℕ
+behind_identifiers = 84 ∷ []
+
+abbrev behind_more_identifiers : List ℕ
+behind_more_identifiers = 80 ∷ 84 ∷ []
+
+abbrev behind_initial : List ℕ
+behind_initial = 85 ∷ []
+
+abbrev behind_statements : List ℕ
+behind_statements = 19 ∷ 20 ∷ 21 ∷ []
+
+abbrev behind_statement : List ℕ
+behind_statement = 19 ∷ 20 ∷ 21 ∷ 24 ∷ 29 ∷ 34 ∷ 38 ∷ 71 ∷ 100 ∷ []
+
+abbrev behind_else_part : List ℕ
+behind_else_part = 21 ∷ []
+
+abbrev behind_while : List ℕ
+behind_while = 34 ∷ []
+
+abbrev behind_expression : List ℕ
+behind_expression = 34 ∷ 66 ∷ 77 ∷ 80 ∷ 85 ∷ 999 ∷ []
+
+abbrev behind_more_and_then : List ℕ
+behind_more_and_then = 7 ∷ 34 ∷ 66 ∷ 77 ∷ 80 ∷ 85 ∷ 999 ∷ []
+
+abbrev behind_more_or_else : List ℕ
+behind_more_or_else = 34 ∷ 40 ∷ 66 ∷ 77 ∷ 80 ∷ 85 ∷ 999 ∷ []
+
+abbrev behind_more_xor : List ℕ
+behind_more_xor = 34 ∷ 66 ∷ 73 ∷ 77 ∷ 80 ∷ 85 ∷ 999 ∷ []
+
+abbrev behind_relation : List ℕ
+behind_relation = 7 ∷ 34 ∷ 40 ∷ 66 ∷ 73 ∷ 77 ∷ 80 ∷ 85 ∷ 999 ∷ []
+
+abbrev behind_relational_operator : List ℕ
+behind_relational_operator = 1 ∷ 37 ∷ 76 ∷ 79 ∷ 81 ∷ 100 ∷ 101 ∷ 103 ∷ []
+
+abbrev behind_simple : List ℕ
+behind_simple = 7 ∷ 34 ∷ 40 ∷ 66 ∷ 73 ∷ 77 ∷ 80 ∷ 85 ∷ 86 ∷ 87 ∷ 88 ∷ 93 ∷ 94 ∷ 95 ∷ 999 ∷ []
+
+abbrev behind_sign : List ℕ
+behind_sign = 1 ∷ 37 ∷ 76 ∷ 100 ∷ 101 ∷ 103 ∷ []
+
+abbrev behind_added : List ℕ
+behind_added = 7 ∷ 34 ∷ 40 ∷ 66 ∷ 73 ∷ 74 ∷ 77 ∷ 79 ∷ 80 ∷ 81 ∷ 85 ∷ 86 ∷ 87 ∷ 88 ∷ 93 ∷ 94 ∷ 95 ∷ 999 ∷ []
+
+abbrev behind_multiplied : List ℕ
+behind_multiplied = 7 ∷ 34 ∷ 35 ∷ 40 ∷ 53 ∷ 66 ∷ 73 ∷ 74 ∷ 77 ∷ 78 ∷ 79 ∷ 80 ∷ 81 ∷ 83 ∷ 85 ∷ 86 ∷ 87 ∷ 88 ∷ 93 ∷ 94 ∷ 95 ∷ 999 ∷ []
+
+abbrev behind_operator : List ℕ
+behind_operator = 76 ∷ 100 ∷ 101 ∷ 103 ∷ []
+
+abbrev behind_name : List ℕ
+behind_name = 7 ∷ 34 ∷ 35 ∷ 40 ∷ 53 ∷ 66 ∷ 73 ∷ 74 ∷ 75 ∷ 77 ∷ 78 ∷ 79 ∷ 80 ∷ 81 ∷ 83 ∷ 85 ∷ 86 ∷ 87 ∷ 88 ∷ 93 ∷ 94 ∷ 95 ∷ 999 ∷ []
+
+abbrev behind_name_part : List ℕ
+behind_name_part = 7 ∷ 34 ∷ 35 ∷ 40 ∷ 53 ∷ 66 ∷ 73 ∷ 74 ∷ 75 ∷ 77 ∷ 78 ∷ 79 ∷ 80 ∷ 81 ∷ 82 ∷ 83 ∷ 85 ∷ 86 ∷ 87 ∷ 88 ∷ 92 ∷ 93 ∷ 94 ∷ 95 ∷ 999 ∷ []
+
+abbrev behind_more_args : List ℕ
+behind_more_args = 77 ∷ 80 ∷ []
+
+abbrev behind_identifier : List ℕ
+behind_identifier = 7 ∷ 32 ∷ 34 ∷ 35 ∷ 40 ∷ 53 ∷ 66 ∷ 70 ∷ 73 ∷ 74 ∷ 75 ∷ 76 ∷ 77 ∷ 78 ∷ 79 ∷ 80 ∷ 81 ∷ 82 ∷ 83 ∷ 84 ∷ 85 ∷ 86 ∷ 87 ∷ 88 ∷ 92 ∷ 93 ∷ 94 ∷ 95 ∷ 999 ∷ []
+
+abbrev known : Phrase → ℕ × List ℕ
+known Unit = (5, behind_unit)
+known Clause = (3, behind_clause)
+known WithClause = (1, behind_clause)
+known UseClause = (1, behind_clause)
+known Library = (1, behind_clause)
+known Declarations = (6, behind_declarations)
+known DeclarationList = (4, behind_declarations)
+known Declaration = (3, behind_declaration)
+known Identifiers = (2, behind_identifiers)
+known MoreIdentifiers = (1, behind_more_identifiers)
+known ObjectRest = (4, behind_declaration)
+known Variable = (2, behind_declaration)
+known Constant = (1, behind_declaration)
+known Initial = (1, behind_initial)
+known Body = (1, behind_unit)
+known Statements = (8, behind_statements)
+known StatementList = (6, behind_statements)
+known Statement = (5, behind_statement)
+known NullStatement = (1, behind_statement)
+known NameStatement = (2, behind_statement)
+known NameRest = (7, behind_statement)
+known Labelled = (1, behind_statement)
+known NamedStatement = (5, behind_statement)
+known StatementRest = (3, behind_statement)
+known Assignment = (1, behind_statement)
+known Call = (1, behind_statement)
+known If = (1, behind_statement)
+known Elsif = (1, behind_statements)
+known ElsePart = (1, behind_else_part)
+known Loop = (3, behind_statement)
+known While = (1, behind_while)
+known Exit = (1, behind_statement)
+known When = (1, behind_initial)
+known Expression = (11, behind_expression)
+known Logic = (4, behind_expression)
+known AndLogic = (1, behind_expression)
+known AndRest = (13, behind_expression)
+known AndThen = (1, behind_expression)
+known AndOnly = (11, behind_expression)
+known MoreAndThen = (1, behind_more_and_then)
+known MoreAnd = (1, behind_more_and_then)
+known OrLogic = (1, behind_expression)
+known OrRest = (13, behind_expression)
+known OrElse = (1, behind_expression)
+known OrOnly = (11, behind_expression)
+known MoreOrElse = (1, behind_more_or_else)
+known MoreOr = (1, behind_more_or_else)
+known XorLogic = (2, behind_expression)
+known MoreXor = (1, behind_more_xor)
+known Relation = (10, behind_relation)
+known Compared = (4, behind_relation)
+known RelationalOperator = (3, behind_relational_operator)
+known Equal = (1, behind_relational_operator)
+known Unequal = (1, behind_relational_operator)
+known Less = (1, behind_relational_operator)
+known AtMost = (1, behind_relational_operator)
+known Greater = (1, behind_relational_operator)
+known AtLeast = (1, behind_relational_operator)
+known Simple = (9, behind_simple)
+known Sign = (3, behind_sign)
+known Positive = (1, behind_sign)
+known Negative = (1, behind_sign)
+known Added = (4, behind_added)
+known AddingOperator = (3, behind_sign)
+known Plus = (1, behind_sign)
+known Minus = (1, behind_sign)
+known Join = (1, behind_sign)
+known Term = (8, behind_added)
+known Multiplied = (4, behind_multiplied)
+known MultiplyingOperator = (3, behind_sign)
+known Times = (1, behind_sign)
+known Divide = (1, behind_sign)
+known Modulo = (1, behind_sign)
+known Remainder = (1, behind_sign)
+known Factor = (7, behind_multiplied)
+known Operator = (3, behind_operator)
+known Magnitude = (1, behind_operator)
+known Not = (1, behind_operator)
+known Primary = (6, behind_multiplied)
+known Integer = (2, behind_multiplied)
+known String = (2, behind_multiplied)
+known Named = (4, behind_multiplied)
+known Attribute = (1, behind_multiplied)
+known Group = (4, behind_multiplied)
+known Parens = (3, behind_multiplied)
+known InParens = (1, behind_multiplied)
+known Name = (3, behind_name)
+known NamePart = (2, behind_name_part)
+known Selected = (1, behind_name_part)
+known Args = (3, behind_name_part)
+known InArgs = (1, behind_name_part)
+known MoreArgs = (1, behind_more_args)
+known Identifier = (1, behind_identifier)
+known Number = (1, behind_multiplied)
+known Literal = (1, behind_multiplied)
+
 -- how many rules may be entered before a token of the phrase is passed, its own among them
 abbrev pub rank : Phrase → ℕ
-rank Unit = 5
-rank Clause = 3
-rank WithClause = 1
-rank UseClause = 1
-rank Library = 1
-rank Declarations = 6
-rank DeclarationList = 4
-rank Declaration = 3
-rank Identifiers = 2
-rank MoreIdentifiers = 1
-rank ObjectRest = 4
-rank Variable = 2
-rank Constant = 1
-rank Initial = 1
-rank Body = 1
-rank Statements = 8
-rank StatementList = 6
-rank Statement = 5
-rank NullStatement = 1
-rank NameStatement = 2
-rank NameRest = 7
-rank Labelled = 1
-rank NamedStatement = 5
-rank StatementRest = 3
-rank Assignment = 1
-rank Call = 1
-rank If = 1
-rank Elsif = 1
-rank ElsePart = 1
-rank Loop = 3
-rank While = 1
-rank Exit = 1
-rank When = 1
-rank Expression = 11
-rank Logic = 4
-rank AndLogic = 1
-rank AndRest = 13
-rank AndThen = 1
-rank AndOnly = 11
-rank MoreAndThen = 1
-rank MoreAnd = 1
-rank OrLogic = 1
-rank OrRest = 13
-rank OrElse = 1
-rank OrOnly = 11
-rank MoreOrElse = 1
-rank MoreOr = 1
-rank XorLogic = 2
-rank MoreXor = 1
-rank Relation = 10
-rank Compared = 4
-rank RelationalOperator = 3
-rank Equal = 1
-rank Unequal = 1
-rank Less = 1
-rank AtMost = 1
-rank Greater = 1
-rank AtLeast = 1
-rank Simple = 9
-rank Sign = 3
-rank Positive = 1
-rank Negative = 1
-rank Added = 4
-rank AddingOperator = 3
-rank Plus = 1
-rank Minus = 1
-rank Join = 1
-rank Term = 8
-rank Multiplied = 4
-rank MultiplyingOperator = 3
-rank Times = 1
-rank Divide = 1
-rank Modulo = 1
-rank Remainder = 1
-rank Factor = 7
-rank Operator = 3
-rank Magnitude = 1
-rank Not = 1
-rank Primary = 6
-rank Integer = 2
-rank String = 2
-rank Named = 4
-rank Attribute = 1
-rank Group = 4
-rank Parens = 3
-rank InParens = 1
-rank Name = 3
-rank NamePart = 2
-rank Selected = 1
-rank Args = 3
-rank InArgs = 1
-rank MoreArgs = 1
-rank Identifier = 1
-rank Number = 1
-rank Literal = 1
+rank p = (known p).0
 
--- the kinds that may come behind the phrase, as numbers; 999 is the end of the tokens
+-- the kinds that may come behind the phrase
 abbrev pub follow : Phrase → List ℕ
-follow Unit = 999 ∷ []
-follow Clause = 48 ∷ 69 ∷ 72 ∷ []
-follow WithClause = 48 ∷ 69 ∷ 72 ∷ []
-follow UseClause = 48 ∷ 69 ∷ 72 ∷ []
-follow Library = 48 ∷ 69 ∷ 72 ∷ []
-follow Declarations = 10 ∷ []
-follow DeclarationList = 10 ∷ []
-follow Declaration = 10 ∷ 100 ∷ []
-follow Identifiers = 84 ∷ []
-follow MoreIdentifiers = 80 ∷ 84 ∷ []
-follow ObjectRest = 10 ∷ 100 ∷ []
-follow Variable = 10 ∷ 100 ∷ []
-follow Constant = 10 ∷ 100 ∷ []
-follow Initial = 85 ∷ []
-follow Body = 999 ∷ []
-follow Statements = 19 ∷ 20 ∷ 21 ∷ []
-follow StatementList = 19 ∷ 20 ∷ 21 ∷ []
-follow Statement = 19 ∷ 20 ∷ 21 ∷ 24 ∷ 29 ∷ 34 ∷ 38 ∷ 71 ∷ 100 ∷ []
-follow NullStatement = 19 ∷ 20 ∷ 21 ∷ 24 ∷ 29 ∷ 34 ∷ 38 ∷ 71 ∷ 100 ∷ []
-follow NameStatement = 19 ∷ 20 ∷ 21 ∷ 24 ∷ 29 ∷ 34 ∷ 38 ∷ 71 ∷ 100 ∷ []
-follow NameRest = 19 ∷ 20 ∷ 21 ∷ 24 ∷ 29 ∷ 34 ∷ 38 ∷ 71 ∷ 100 ∷ []
-follow Labelled = 19 ∷ 20 ∷ 21 ∷ 24 ∷ 29 ∷ 34 ∷ 38 ∷ 71 ∷ 100 ∷ []
-follow NamedStatement = 19 ∷ 20 ∷ 21 ∷ 24 ∷ 29 ∷ 34 ∷ 38 ∷ 71 ∷ 100 ∷ []
-follow StatementRest = 19 ∷ 20 ∷ 21 ∷ 24 ∷ 29 ∷ 34 ∷ 38 ∷ 71 ∷ 100 ∷ []
-follow Assignment = 19 ∷ 20 ∷ 21 ∷ 24 ∷ 29 ∷ 34 ∷ 38 ∷ 71 ∷ 100 ∷ []
-follow Call = 19 ∷ 20 ∷ 21 ∷ 24 ∷ 29 ∷ 34 ∷ 38 ∷ 71 ∷ 100 ∷ []
-follow If = 19 ∷ 20 ∷ 21 ∷ 24 ∷ 29 ∷ 34 ∷ 38 ∷ 71 ∷ 100 ∷ []
-follow Elsif = 19 ∷ 20 ∷ 21 ∷ []
-follow ElsePart = 21 ∷ []
-follow Loop = 19 ∷ 20 ∷ 21 ∷ 24 ∷ 29 ∷ 34 ∷ 38 ∷ 71 ∷ 100 ∷ []
-follow While = 34 ∷ []
-follow Exit = 19 ∷ 20 ∷ 21 ∷ 24 ∷ 29 ∷ 34 ∷ 38 ∷ 71 ∷ 100 ∷ []
-follow When = 85 ∷ []
-follow Expression = 34 ∷ 66 ∷ 77 ∷ 80 ∷ 85 ∷ 999 ∷ []
-follow Logic = 34 ∷ 66 ∷ 77 ∷ 80 ∷ 85 ∷ 999 ∷ []
-follow AndLogic = 34 ∷ 66 ∷ 77 ∷ 80 ∷ 85 ∷ 999 ∷ []
-follow AndRest = 34 ∷ 66 ∷ 77 ∷ 80 ∷ 85 ∷ 999 ∷ []
-follow AndThen = 34 ∷ 66 ∷ 77 ∷ 80 ∷ 85 ∷ 999 ∷ []
-follow AndOnly = 34 ∷ 66 ∷ 77 ∷ 80 ∷ 85 ∷ 999 ∷ []
-follow MoreAndThen = 7 ∷ 34 ∷ 66 ∷ 77 ∷ 80 ∷ 85 ∷ 999 ∷ []
-follow MoreAnd = 7 ∷ 34 ∷ 66 ∷ 77 ∷ 80 ∷ 85 ∷ 999 ∷ []
-follow OrLogic = 34 ∷ 66 ∷ 77 ∷ 80 ∷ 85 ∷ 999 ∷ []
-follow OrRest = 34 ∷ 66 ∷ 77 ∷ 80 ∷ 85 ∷ 999 ∷ []
-follow OrElse = 34 ∷ 66 ∷ 77 ∷ 80 ∷ 85 ∷ 999 ∷ []
-follow OrOnly = 34 ∷ 66 ∷ 77 ∷ 80 ∷ 85 ∷ 999 ∷ []
-follow MoreOrElse = 34 ∷ 40 ∷ 66 ∷ 77 ∷ 80 ∷ 85 ∷ 999 ∷ []
-follow MoreOr = 34 ∷ 40 ∷ 66 ∷ 77 ∷ 80 ∷ 85 ∷ 999 ∷ []
-follow XorLogic = 34 ∷ 66 ∷ 77 ∷ 80 ∷ 85 ∷ 999 ∷ []
-follow MoreXor = 34 ∷ 66 ∷ 73 ∷ 77 ∷ 80 ∷ 85 ∷ 999 ∷ []
-follow Relation = 7 ∷ 34 ∷ 40 ∷ 66 ∷ 73 ∷ 77 ∷ 80 ∷ 85 ∷ 999 ∷ []
-follow Compared = 7 ∷ 34 ∷ 40 ∷ 66 ∷ 73 ∷ 77 ∷ 80 ∷ 85 ∷ 999 ∷ []
-follow RelationalOperator = 1 ∷ 37 ∷ 76 ∷ 79 ∷ 81 ∷ 100 ∷ 101 ∷ 103 ∷ []
-follow Equal = 1 ∷ 37 ∷ 76 ∷ 79 ∷ 81 ∷ 100 ∷ 101 ∷ 103 ∷ []
-follow Unequal = 1 ∷ 37 ∷ 76 ∷ 79 ∷ 81 ∷ 100 ∷ 101 ∷ 103 ∷ []
-follow Less = 1 ∷ 37 ∷ 76 ∷ 79 ∷ 81 ∷ 100 ∷ 101 ∷ 103 ∷ []
-follow AtMost = 1 ∷ 37 ∷ 76 ∷ 79 ∷ 81 ∷ 100 ∷ 101 ∷ 103 ∷ []
-follow Greater = 1 ∷ 37 ∷ 76 ∷ 79 ∷ 81 ∷ 100 ∷ 101 ∷ 103 ∷ []
-follow AtLeast = 1 ∷ 37 ∷ 76 ∷ 79 ∷ 81 ∷ 100 ∷ 101 ∷ 103 ∷ []
-follow Simple = 7 ∷ 34 ∷ 40 ∷ 66 ∷ 73 ∷ 77 ∷ 80 ∷ 85 ∷ 86 ∷ 87 ∷ 88 ∷ 93 ∷ 94 ∷ 95 ∷ 999 ∷ []
-follow Sign = 1 ∷ 37 ∷ 76 ∷ 100 ∷ 101 ∷ 103 ∷ []
-follow Positive = 1 ∷ 37 ∷ 76 ∷ 100 ∷ 101 ∷ 103 ∷ []
-follow Negative = 1 ∷ 37 ∷ 76 ∷ 100 ∷ 101 ∷ 103 ∷ []
-follow Added = 7 ∷ 34 ∷ 40 ∷ 66 ∷ 73 ∷ 74 ∷ 77 ∷ 79 ∷ 80 ∷ 81 ∷ 85 ∷ 86 ∷ 87 ∷ 88 ∷ 93 ∷ 94 ∷ 95 ∷ 999 ∷ []
-follow AddingOperator = 1 ∷ 37 ∷ 76 ∷ 100 ∷ 101 ∷ 103 ∷ []
-follow Plus = 1 ∷ 37 ∷ 76 ∷ 100 ∷ 101 ∷ 103 ∷ []
-follow Minus = 1 ∷ 37 ∷ 76 ∷ 100 ∷ 101 ∷ 103 ∷ []
-follow Join = 1 ∷ 37 ∷ 76 ∷ 100 ∷ 101 ∷ 103 ∷ []
-follow Term = 7 ∷ 34 ∷ 40 ∷ 66 ∷ 73 ∷ 74 ∷ 77 ∷ 79 ∷ 80 ∷ 81 ∷ 85 ∷ 86 ∷ 87 ∷ 88 ∷ 93 ∷ 94 ∷ 95 ∷ 999 ∷ []
-follow Multiplied = 7 ∷ 34 ∷ 35 ∷ 40 ∷ 53 ∷ 66 ∷ 73 ∷ 74 ∷ 77 ∷ 78 ∷ 79 ∷ 80 ∷ 81 ∷ 83 ∷ 85 ∷ 86 ∷ 87 ∷ 88 ∷ 93 ∷ 94 ∷ 95 ∷ 999 ∷ []
-follow MultiplyingOperator = 1 ∷ 37 ∷ 76 ∷ 100 ∷ 101 ∷ 103 ∷ []
-follow Times = 1 ∷ 37 ∷ 76 ∷ 100 ∷ 101 ∷ 103 ∷ []
-follow Divide = 1 ∷ 37 ∷ 76 ∷ 100 ∷ 101 ∷ 103 ∷ []
-follow Modulo = 1 ∷ 37 ∷ 76 ∷ 100 ∷ 101 ∷ 103 ∷ []
-follow Remainder = 1 ∷ 37 ∷ 76 ∷ 100 ∷ 101 ∷ 103 ∷ []
-follow Factor = 7 ∷ 34 ∷ 35 ∷ 40 ∷ 53 ∷ 66 ∷ 73 ∷ 74 ∷ 77 ∷ 78 ∷ 79 ∷ 80 ∷ 81 ∷ 83 ∷ 85 ∷ 86 ∷ 87 ∷ 88 ∷ 93 ∷ 94 ∷ 95 ∷ 999 ∷ []
-follow Operator = 76 ∷ 100 ∷ 101 ∷ 103 ∷ []
-follow Magnitude = 76 ∷ 100 ∷ 101 ∷ 103 ∷ []
-follow Not = 76 ∷ 100 ∷ 101 ∷ 103 ∷ []
-follow Primary = 7 ∷ 34 ∷ 35 ∷ 40 ∷ 53 ∷ 66 ∷ 73 ∷ 74 ∷ 77 ∷ 78 ∷ 79 ∷ 80 ∷ 81 ∷ 83 ∷ 85 ∷ 86 ∷ 87 ∷ 88 ∷ 93 ∷ 94 ∷ 95 ∷ 999 ∷ []
-follow Integer = 7 ∷ 34 ∷ 35 ∷ 40 ∷ 53 ∷ 66 ∷ 73 ∷ 74 ∷ 77 ∷ 78 ∷ 79 ∷ 80 ∷ 81 ∷ 83 ∷ 85 ∷ 86 ∷ 87 ∷ 88 ∷ 93 ∷ 94 ∷ 95 ∷ 999 ∷ []
-follow String = 7 ∷ 34 ∷ 35 ∷ 40 ∷ 53 ∷ 66 ∷ 73 ∷ 74 ∷ 77 ∷ 78 ∷ 79 ∷ 80 ∷ 81 ∷ 83 ∷ 85 ∷ 86 ∷ 87 ∷ 88 ∷ 93 ∷ 94 ∷ 95 ∷ 999 ∷ []
-follow Named = 7 ∷ 34 ∷ 35 ∷ 40 ∷ 53 ∷ 66 ∷ 73 ∷ 74 ∷ 77 ∷ 78 ∷ 79 ∷ 80 ∷ 81 ∷ 83 ∷ 85 ∷ 86 ∷ 87 ∷ 88 ∷ 93 ∷ 94 ∷ 95 ∷ 999 ∷ []
-follow Attribute = 7 ∷ 34 ∷ 35 ∷ 40 ∷ 53 ∷ 66 ∷ 73 ∷ 74 ∷ 77 ∷ 78 ∷ 79 ∷ 80 ∷ 81 ∷ 83 ∷ 85 ∷ 86 ∷ 87 ∷ 88 ∷ 93 ∷ 94 ∷ 95 ∷ 999 ∷ []
-follow Group = 7 ∷ 34 ∷ 35 ∷ 40 ∷ 53 ∷ 66 ∷ 73 ∷ 74 ∷ 77 ∷ 78 ∷ 79 ∷ 80 ∷ 81 ∷ 83 ∷ 85 ∷ 86 ∷ 87 ∷ 88 ∷ 93 ∷ 94 ∷ 95 ∷ 999 ∷ []
-follow Parens = 7 ∷ 34 ∷ 35 ∷ 40 ∷ 53 ∷ 66 ∷ 73 ∷ 74 ∷ 77 ∷ 78 ∷ 79 ∷ 80 ∷ 81 ∷ 83 ∷ 85 ∷ 86 ∷ 87 ∷ 88 ∷ 93 ∷ 94 ∷ 95 ∷ 999 ∷ []
-follow InParens = 7 ∷ 34 ∷ 35 ∷ 40 ∷ 53 ∷ 66 ∷ 73 ∷ 74 ∷ 77 ∷ 78 ∷ 79 ∷ 80 ∷ 81 ∷ 83 ∷ 85 ∷ 86 ∷ 87 ∷ 88 ∷ 93 ∷ 94 ∷ 95 ∷ 999 ∷ []
-follow Name = 7 ∷ 34 ∷ 35 ∷ 40 ∷ 53 ∷ 66 ∷ 73 ∷ 74 ∷ 75 ∷ 77 ∷ 78 ∷ 79 ∷ 80 ∷ 81 ∷ 83 ∷ 85 ∷ 86 ∷ 87 ∷ 88 ∷ 93 ∷ 94 ∷ 95 ∷ 999 ∷ []
-follow NamePart = 7 ∷ 34 ∷ 35 ∷ 40 ∷ 53 ∷ 66 ∷ 73 ∷ 74 ∷ 75 ∷ 77 ∷ 78 ∷ 79 ∷ 80 ∷ 81 ∷ 82 ∷ 83 ∷ 85 ∷ 86 ∷ 87 ∷ 88 ∷ 92 ∷ 93 ∷ 94 ∷ 95 ∷ 999 ∷ []
-follow Selected = 7 ∷ 34 ∷ 35 ∷ 40 ∷ 53 ∷ 66 ∷ 73 ∷ 74 ∷ 75 ∷ 77 ∷ 78 ∷ 79 ∷ 80 ∷ 81 ∷ 82 ∷ 83 ∷ 85 ∷ 86 ∷ 87 ∷ 88 ∷ 92 ∷ 93 ∷ 94 ∷ 95 ∷ 999 ∷ []
-follow Args = 7 ∷ 34 ∷ 35 ∷ 40 ∷ 53 ∷ 66 ∷ 73 ∷ 74 ∷ 75 ∷ 77 ∷ 78 ∷ 79 ∷ 80 ∷ 81 ∷ 82 ∷ 83 ∷ 85 ∷ 86 ∷ 87 ∷ 88 ∷ 92 ∷ 93 ∷ 94 ∷ 95 ∷ 999 ∷ []
-follow InArgs = 7 ∷ 34 ∷ 35 ∷ 40 ∷ 53 ∷ 66 ∷ 73 ∷ 74 ∷ 75 ∷ 77 ∷ 78 ∷ 79 ∷ 80 ∷ 81 ∷ 82 ∷ 83 ∷ 85 ∷ 86 ∷ 87 ∷ 88 ∷ 92 ∷ 93 ∷ 94 ∷ 95 ∷ 999 ∷ []
-follow MoreArgs = 77 ∷ 80 ∷ []
-follow Identifier = 7 ∷ 32 ∷ 34 ∷ 35 ∷ 40 ∷ 53 ∷ 66 ∷ 70 ∷ 73 ∷ 74 ∷ 75 ∷ 76 ∷ 77 ∷ 78 ∷ 79 ∷ 80 ∷ 81 ∷ 82 ∷ 83 ∷ 84 ∷ 85 ∷ 86 ∷ 87 ∷ 88 ∷ 92 ∷ 93 ∷ 94 ∷ 95 ∷ 999 ∷ []
-follow Number = 7 ∷ 34 ∷ 35 ∷ 40 ∷ 53 ∷ 66 ∷ 73 ∷ 74 ∷ 77 ∷ 78 ∷ 79 ∷ 80 ∷ 81 ∷ 83 ∷ 85 ∷ 86 ∷ 87 ∷ 88 ∷ 93 ∷ 94 ∷ 95 ∷ 999 ∷ []
-follow Literal = 7 ∷ 34 ∷ 35 ∷ 40 ∷ 53 ∷ 66 ∷ 73 ∷ 74 ∷ 77 ∷ 78 ∷ 79 ∷ 80 ∷ 81 ∷ 83 ∷ 85 ∷ 86 ∷ 87 ∷ 88 ∷ 93 ∷ 94 ∷ 95 ∷ 999 ∷ []
+follow p = (known p).1

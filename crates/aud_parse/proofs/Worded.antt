@@ -34,6 +34,7 @@ use Rattle.aud_parse.specs.Actions.{Item, token, none, cons, made, listed, top, 
 use Rattle.aud_parse.specs.Why.Spells.{Spells}
 use Rattle.aud_parse.specs.Why.Derives.{Member, here, later, Derives, d_end, d_word, d_token, d_spelled, d_rule, d_level, d_down, d_one, d_yes, d_no, d_more, d_stop}
 use Rattle.aud_parse.proofs.Canonical.{written_as, written}
+use Rattle.aud_parse.proofs.Choosing.{heads}
 use Rattle.aud_parse.proofs.Choices.{and_in}
 use Rattle.aud_parse.proofs.Places.{is_code}
 use Rattle.aud_parse.proofs.SameWords.{texts, Same, same_both, one_on, two, three, last_two, list_between, list_first, arm, arm_same, in_if, if_words, if_same, in_loop, loop_words, loop_same, in_body, body_words, body_same, procedure_words, unit_same}
@@ -299,6 +300,11 @@ relations_row (row_more (says_more_relation operator y) r) = ap (λ z. w.connect
 no_member : {p : Phrase} → Member p [] → ⊥
 no_member h = elim h [ ]
 
+-- what one of several phrases of a sort says
+of_sort : {o : Sort} {p : Phrase} {ps : List Phrase} {x : Item} {us : List Word} → Member p ps → map sort ps ≡ map (λ q. o) ps → Says (sort p) x us → Says o x us
+of_sort {x = x} {us} here e s = subst (λ o. Says o x us) (heads e).0 s
+of_sort (later m) e s = of_sort m (heads e).1 s
+
 -- the words of a phrase are those of its symbols
 told_rule : (p : Phrase) {k : List Symbol} {ds : List Item} {ws : List Word} → Told (rule p ++ k) ds ws → Told (N p ∷ k) (made p ds) ws
 told_rule g.Unit (t_row {x = x} {us = us} row (t_token u (t_part (says_ident i) (t_word y (t_some (says_declarations d) (t_part {ws = ws} (says_body b vs h) r)))))) =
@@ -308,9 +314,7 @@ told_rule g.Unit (t_row {x = x} {us = us} row (t_token u (t_part (says_ident i) 
 told_rule g.Unit (t_row {x = x} {us = us} row (t_token u (t_part (says_ident i) (t_word y (t_none (t_part {ws = ws} (says_body b vs h) r)))))) =
     so (t_part (says_unit (m.unit (a.the_contexts x) u.at i m.no_declarations b) (w.contexts_words (a.the_contexts x) ++ procedure_words i m.no_declarations vs) (unit_same (a.the_contexts x) i m.no_declarations vs (w.body_words b) h)) r)
     (list_first (w.contexts_words (a.the_contexts x)) (procedure_words i m.no_declarations vs) us ws (contexts_row row))
-told_rule g.Clause (t_one here s r) = t_part s r
-told_rule g.Clause (t_one (later here) s r) = t_part s r
-told_rule g.Clause (t_one (later (later h)) s r) = absurd (no_member h)
+told_rule g.Clause (t_one m s r) = t_part (of_sort m refl s) r
 told_rule g.WithClause (t_token t (t_part says_library r)) = t_part (says_context (m.with_text_io t.at)) r
 told_rule g.UseClause (t_token t (t_part says_library r)) = t_part (says_context (m.use_text_io t.at)) r
 told_rule g.Library (t_spelled (t_word p (t_spelled (t_word s r)))) = t_part says_library r
@@ -321,9 +325,7 @@ told_rule g.Declaration (t_part (says_idents x xs) (t_word c (t_part {ws = ws} (
     so (t_part (says_declaration (m.object x xs i e)) r) (append_assoc (w.idents_words x xs) (word (codes ":") ∷ variable_words i e) ws)
 told_rule g.Declaration (t_part (says_idents x xs) (t_word c (t_part {ws = ws} (says_constant i e) r))) =
     so (t_part (says_declaration (m.constant x xs i e)) r) (append_assoc (w.idents_words x xs) (word (codes ":") ∷ constant_words i e) ws)
-told_rule g.ObjectRest (t_one here s r) = t_part s r
-told_rule g.ObjectRest (t_one (later here) s r) = t_part s r
-told_rule g.ObjectRest (t_one (later (later h)) s r) = absurd (no_member h)
+told_rule g.ObjectRest (t_one m s r) = t_part (of_sort m refl s) r
 told_rule g.Variable (t_part (says_ident i) (t_some (says_initial e) (t_word {ws = ws} s r))) =
     so (t_part (says_variable i (m.an_expression e)) r) (ap (λ z. w.ident_word i ∷ word (codes ":=") ∷ z) (append_assoc (expression_words e) (last_word (codes ";") ∷ []) ws))
 told_rule g.Variable (t_part (says_ident i) (t_none (t_word s r))) = t_part (says_variable i m.no_expression) r
@@ -353,9 +355,7 @@ told_rule g.NameStatement (t_part (says_ident i) (t_part (says_calls xs ps) r)) 
     t_part (says_statement (m.call (m.named (m.part i xs) ps)) (w.ident_word i ∷ behind_words_of xs ps (last_word (codes ";") ∷ [])) refl) r
 told_rule g.NameStatement (t_part (says_ident i) (t_part (says_labelled at j x last semicolon us h) r)) =
     t_part (says_statement (m.loop (Some i) at j x last semicolon) (w.ident_word i ∷ word (codes ":") ∷ us) (ap (λ z. i.name ∷ codes ":" ∷ z) h)) r
-told_rule g.NameRest (t_one here s r) = t_part s r
-told_rule g.NameRest (t_one (later here) s r) = t_part s r
-told_rule g.NameRest (t_one (later (later h)) s r) = absurd (no_member h)
+told_rule g.NameRest (t_one m s r) = t_part (of_sort m refl s) r
 told_rule g.Labelled (t_word c (t_part (says_loop at i x last semicolon us h) r)) = t_part (says_labelled at i x last semicolon us h) r
 told_rule g.NamedStatement (t_some (says_args xs) (t_row {x = x} {us = us} row (t_part {ws = ws} (says_assigned e) r))) =
     so (t_part (says_assigns xs (a.the_parts x) e) r) (list_between (w.args_words xs) (w.parts_words (a.the_parts x)) (assigned_words e) us ws (parts_row row))
@@ -365,9 +365,7 @@ told_rule g.NamedStatement (t_none (t_row {x = x} {us = us} row (t_part {ws = ws
     so (t_part (says_assigns m.no_args (a.the_parts x) e) r) (list_between [] (w.parts_words (a.the_parts x)) (assigned_words e) us ws (parts_row row))
 told_rule g.NamedStatement (t_none (t_row {x = x} {us = us} row (t_part {ws = ws} says_called r))) =
     so (t_part (says_calls m.no_args (a.the_parts x)) r) (list_between [] (w.parts_words (a.the_parts x)) (last_word (codes ";") ∷ []) us ws (parts_row row))
-told_rule g.StatementRest (t_one here s r) = t_part s r
-told_rule g.StatementRest (t_one (later here) s r) = t_part s r
-told_rule g.StatementRest (t_one (later (later h)) s r) = absurd (no_member h)
+told_rule g.StatementRest (t_one m s r) = t_part (of_sort m refl s) r
 told_rule g.Assignment (t_word b (t_part (says_expression e) (t_word {ws = ws} s r))) =
     so (t_part (says_assigned e) r) (ap (λ z. word (codes ":=") ∷ z) (append_assoc (expression_words e) (last_word (codes ";") ∷ []) ws))
 told_rule g.Call (t_word s r) = t_part says_called r
@@ -397,15 +395,10 @@ told_rule g.When (t_word c (t_part (says_expression e) r)) = t_part (says_when e
 told_rule g.Expression (t_part (says_relation x) (t_some {ws = ws} (says_logic o y ys) r)) =
     so (t_part (says_expression (m.connected o x y ys)) r) (last_two (w.relation_words x) (w.connected_words o y) (w.relations_words o ys) ws)
 told_rule g.Expression (t_part (says_relation x) (t_none r)) = t_part (says_expression (m.alone x)) r
-told_rule g.Logic (t_one here s r) = t_part s r
-told_rule g.Logic (t_one (later here) s r) = t_part s r
-told_rule g.Logic (t_one (later (later here)) s r) = t_part s r
-told_rule g.Logic (t_one (later (later (later h))) s r) = absurd (no_member h)
+told_rule g.Logic (t_one m s r) = t_part (of_sort m refl s) r
 told_rule g.AndLogic (t_word b (t_part (says_and_then x xs) r)) = t_part (says_logic connective.AndThen x xs) r
 told_rule g.AndLogic (t_word b (t_part (says_and x xs) r)) = t_part (says_logic connective.And x xs) r
-told_rule g.AndRest (t_one here s r) = t_part s r
-told_rule g.AndRest (t_one (later here) s r) = t_part s r
-told_rule g.AndRest (t_one (later (later h)) s r) = absurd (no_member h)
+told_rule g.AndRest (t_one m s r) = t_part (of_sort m refl s) r
 told_rule g.AndThen (t_word b (t_part (says_relation y) (t_row {x = x} {us = us} {ws = ws} row r))) =
     so (t_part (says_and_then y (a.the_relations x)) r) (ap (λ z. word (codes "then") ∷ z) (two (w.relation_words y) (w.relations_words connective.AndThen (a.the_relations x)) us ws (relations_row row)))
 told_rule g.AndOnly (t_part (says_relation y) (t_row {x = x} {us = us} {ws = ws} row r)) =
@@ -414,9 +407,7 @@ told_rule g.MoreAndThen (t_word b (t_word c (t_part (says_relation x) r))) = t_p
 told_rule g.MoreAnd (t_word b (t_part (says_relation x) r)) = t_part (says_more_relation connective.And x) r
 told_rule g.OrLogic (t_word b (t_part (says_or_else x xs) r)) = t_part (says_logic connective.OrElse x xs) r
 told_rule g.OrLogic (t_word b (t_part (says_or x xs) r)) = t_part (says_logic connective.Or x xs) r
-told_rule g.OrRest (t_one here s r) = t_part s r
-told_rule g.OrRest (t_one (later here) s r) = t_part s r
-told_rule g.OrRest (t_one (later (later h)) s r) = absurd (no_member h)
+told_rule g.OrRest (t_one m s r) = t_part (of_sort m refl s) r
 told_rule g.OrElse (t_word b (t_part (says_relation y) (t_row {x = x} {us = us} {ws = ws} row r))) =
     so (t_part (says_or_else y (a.the_relations x)) r) (ap (λ z. word (codes "else") ∷ z) (two (w.relation_words y) (w.relations_words connective.OrElse (a.the_relations x)) us ws (relations_row row)))
 told_rule g.OrOnly (t_part (says_relation y) (t_row {x = x} {us = us} {ws = ws} row r)) =
@@ -430,13 +421,7 @@ told_rule g.Relation (t_part (says_simple x) (t_some {ws = ws} (says_compared o 
     so (t_part (says_relation (m.related o x y)) r) (append_assoc (w.simple_words x) (word (w.relational_spelling o) ∷ w.simple_words y) ws)
 told_rule g.Relation (t_part (says_simple x) (t_none r)) = t_part (says_relation (m.unrelated x)) r
 told_rule g.Compared (t_part (says_relational o) (t_part (says_simple x) r)) = t_part (says_compared o x) r
-told_rule g.RelationalOperator (t_one here s r) = t_part s r
-told_rule g.RelationalOperator (t_one (later here) s r) = t_part s r
-told_rule g.RelationalOperator (t_one (later (later here)) s r) = t_part s r
-told_rule g.RelationalOperator (t_one (later (later (later here))) s r) = t_part s r
-told_rule g.RelationalOperator (t_one (later (later (later (later here)))) s r) = t_part s r
-told_rule g.RelationalOperator (t_one (later (later (later (later (later here))))) s r) = t_part s r
-told_rule g.RelationalOperator (t_one (later (later (later (later (later (later h)))))) s r) = absurd (no_member h)
+told_rule g.RelationalOperator (t_one m s r) = t_part (of_sort m refl s) r
 told_rule g.Equal (t_word x r) = t_part (says_relational relational.Equal) r
 told_rule g.Unequal (t_word x r) = t_part (says_relational relational.Unequal) r
 told_rule g.Less (t_word x r) = t_part (says_relational relational.Less) r
@@ -447,43 +432,28 @@ told_rule g.Simple (t_some (says_sign s) (t_part (says_term t) (t_row {x = x} {u
     so (t_part (says_simple (m.simple (Some s) t (a.the_addeds x))) r) (three (w.sign_words (Some s)) (w.term_words t) (w.addeds_words (a.the_addeds x)) us ws (addeds_row row))
 told_rule g.Simple (t_none (t_part (says_term t) (t_row {x = x} {us = us} {ws = ws} row r))) =
     so (t_part (says_simple (m.simple None t (a.the_addeds x))) r) (two (w.term_words t) (w.addeds_words (a.the_addeds x)) us ws (addeds_row row))
-told_rule g.Sign (t_one here s r) = t_part s r
-told_rule g.Sign (t_one (later here) s r) = t_part s r
-told_rule g.Sign (t_one (later (later h)) s r) = absurd (no_member h)
+told_rule g.Sign (t_one m s r) = t_part (of_sort m refl s) r
 told_rule g.Positive (t_token t r) = t_part (says_sign (record { sign = sign.Plus; at = t.at })) r
 told_rule g.Negative (t_token t r) = t_part (says_sign (record { sign = sign.Minus; at = t.at })) r
 told_rule g.Added (t_part (says_adding o) (t_part (says_term t) r)) = t_part (says_added (m.added o t)) r
-told_rule g.AddingOperator (t_one here s r) = t_part s r
-told_rule g.AddingOperator (t_one (later here) s r) = t_part s r
-told_rule g.AddingOperator (t_one (later (later here)) s r) = t_part s r
-told_rule g.AddingOperator (t_one (later (later (later h))) s r) = absurd (no_member h)
+told_rule g.AddingOperator (t_one m s r) = t_part (of_sort m refl s) r
 told_rule g.Plus (t_word x r) = t_part (says_adding adding.Plus) r
 told_rule g.Minus (t_word x r) = t_part (says_adding adding.Minus) r
 told_rule g.Join (t_word x r) = t_part (says_adding adding.Join) r
 told_rule g.Term (t_part (says_factor f) (t_row {x = x} {us = us} {ws = ws} row r)) =
     so (t_part (says_term (m.term f (a.the_multiplieds x))) r) (two (w.factor_words f) (w.multiplieds_words (a.the_multiplieds x)) us ws (multiplieds_row row))
 told_rule g.Multiplied (t_part (says_multiplying o) (t_part (says_factor f) r)) = t_part (says_multiplied (m.multiplied o f)) r
-told_rule g.MultiplyingOperator (t_one here s r) = t_part s r
-told_rule g.MultiplyingOperator (t_one (later here) s r) = t_part s r
-told_rule g.MultiplyingOperator (t_one (later (later here)) s r) = t_part s r
-told_rule g.MultiplyingOperator (t_one (later (later (later here))) s r) = t_part s r
-told_rule g.MultiplyingOperator (t_one (later (later (later (later h)))) s r) = absurd (no_member h)
+told_rule g.MultiplyingOperator (t_one m s r) = t_part (of_sort m refl s) r
 told_rule g.Times (t_word x r) = t_part (says_multiplying multiplying.Times) r
 told_rule g.Divide (t_word x r) = t_part (says_multiplying multiplying.Divide) r
 told_rule g.Modulo (t_word x r) = t_part (says_multiplying multiplying.Modulo) r
 told_rule g.Remainder (t_word x r) = t_part (says_multiplying multiplying.Remainder) r
 told_rule g.Factor (t_some (says_operator o) (t_part (says_primary p) r)) = t_part (says_factor (m.factor (Some o) p)) r
 told_rule g.Factor (t_none (t_part (says_primary p) r)) = t_part (says_factor (m.factor None p)) r
-told_rule g.Operator (t_one here s r) = t_part s r
-told_rule g.Operator (t_one (later here) s r) = t_part s r
-told_rule g.Operator (t_one (later (later h)) s r) = absurd (no_member h)
+told_rule g.Operator (t_one m s r) = t_part (of_sort m refl s) r
 told_rule g.Magnitude (t_token t r) = t_part (says_operator (record { highest = highest.Magnitude; at = t.at })) r
 told_rule g.Not (t_token t r) = t_part (says_operator (record { highest = highest.Not; at = t.at })) r
-told_rule g.Primary (t_one here s r) = t_part s r
-told_rule g.Primary (t_one (later here) s r) = t_part s r
-told_rule g.Primary (t_one (later (later here)) s r) = t_part s r
-told_rule g.Primary (t_one (later (later (later here))) s r) = t_part s r
-told_rule g.Primary (t_one (later (later (later (later h)))) s r) = absurd (no_member h)
+told_rule g.Primary (t_one m s r) = t_part (of_sort m refl s) r
 told_rule g.Integer (t_part (says_number n) r) = t_part (says_primary (m.integer n)) r
 told_rule g.String (t_part (says_literal l) r) = t_part (says_primary (m.text l)) r
 told_rule g.Named (t_part (says_name x) (t_some {ws = ws} (says_attribute j e) r)) = so (t_part (says_primary (m.attribute x j e)) r) (append_assoc (w.name_words x) (attribute_words j e) ws)
@@ -508,14 +478,9 @@ told_rule g.Identifier (t_token t r) = t_part (says_ident (a.ident_of (token t))
 told_rule g.Number (t_token t r) = t_part (says_number (a.number_of (token t))) r
 told_rule g.Literal (t_token t r) = t_part (says_literal (a.literal_of (token t))) r
 
-told_level : {p : Phrase} {k : List Symbol} {ds : List Item} {ws : List Word} → Told (N p ∷ k) ds ws → Told (L p ∷ k) ds ws
-told_level (t_part s r) = t_level s r
-
-told_one : {p : Phrase} {ps : List Phrase} {k : List Symbol} {ds : List Item} {ws : List Word} → Member p ps → Told (N p ∷ k) ds ws → Told (A ps ∷ k) ds ws
-told_one h (t_part s r) = t_one h s r
-
-told_some : {p : Phrase} {k : List Symbol} {ds : List Item} {ws : List Word} → Told (N p ∷ k) ds ws → Told (Opt p ∷ k) ds ws
-told_some (t_part s r) = t_some s r
+-- a phrase, as what stands for it elsewhere
+told_as : {p : Phrase} {s k : List Symbol} {ds : List Item} {ws : List Word} → ((x : Item) (es : List Item) (us vs : List Word) → Says (sort p) x us → Told k es vs → Told s (x ∷ es) (us ++ vs)) → Told (N p ∷ k) ds ws → Told s ds ws
+told_as f (t_part {x = x} {ds} {us} {ws} h r) = f x ds us ws h r
 
 told_more : {p : Phrase} {k : List Symbol} {ds : List Item} {ws : List Word} → Told (N p ∷ Rep p ∷ k) ds ws → Told (Rep p ∷ k) (listed ds) ws
 told_more (t_part {us = us} s (t_row {us = vs} {ws = ws} row r)) = so (t_row (row_more s row) r) (append_assoc us vs ws)
@@ -537,10 +502,10 @@ told (d_word {c} {k} {r} {ds} {t} {ts} h d) = so (t_word t.text (told d)) (ap (�
 told (d_token {c} {k} {r} {ds} {t} {ts} h d) = so (t_token t (told d)) (ap (λ n. written_as n t.text ∷ map written ts) (sym (is_code c (kind_number t.kind) h)))
 told (d_spelled {w = n} {k} {r} {ds} {t} {ts} h d) = so (t_spelled (told d)) (ap (λ z. z ∷ map written ts) (sym (spelled_written n t h)))
 told (d_rule {p} d) = told_rule p (told d)
-told (d_level d) = told_level (told d)
+told (d_level d) = told_as (λ x es us vs. t_level) (told d)
 told (d_down d) = t_down (told d)
-told (d_one h d) = told_one h (told d)
-told (d_yes d) = told_some (told d)
+told (d_one h d) = told_as (λ x es us vs. t_one h) (told d)
+told (d_yes d) = told_as (λ x es us vs. t_some) (told d)
 told (d_no d) = t_none (told d)
 told (d_more d) = told_more (told d)
 told (d_stop d) = t_row row_end (told d)

@@ -5,8 +5,7 @@ use Rattle.aud_lex.specs.declared.token.Kind.{Kind}
 use Rattle.aud_lex.specs.declared.token.Kind.TheVariants as kind
 use Rattle.aud_lex.specs.Element.{Element}
 use Rattle.aud_lex.specs.Kinds.{kind_number}
-use Rattle.aud_parse.specs.declared.word.Word.TheVariants as word
-use Rattle.aud_parse.specs.Grammar.{Word, Phrase, Symbol, T, P, W, N, L, Down, A, Opt, Rep, rule}
+use Rattle.aud_parse.specs.Grammar.{Word, Ada, TextIo, Duration, Phrase, Symbol, T, P, W, N, L, Down, A, Opt, Rep, rule}
 
 -- the kind with this number is one of these
 abbrev pub among : List Kind → ℕ → Bool
@@ -20,9 +19,9 @@ next_in ks (t ∷ ts) = among ks (kind_number t.kind)
 
 -- how the identifiers are spelled that the grammar names, in capitals, as names are compared (RM 2.3(5))
 abbrev pub spelling : Word → List ℕ
-spelling word.Ada = codes "ADA"
-spelling word.TextIo = codes "TEXT_IO"
-spelling word.Duration = codes "DURATION"
+spelling Ada = codes "ADA"
+spelling TextIo = codes "TEXT_IO"
+spelling Duration = codes "DURATION"
 
 -- two texts are the same
 abbrev pub same_text : List ℕ → List ℕ → Bool
@@ -32,12 +31,18 @@ same_text (x ∷ xs) [] = false
 same_text (x ∷ xs) (y ∷ ys) = if x == y then same_text xs ys else false
 
 -- a token is this identifier (RM 2.3(5))
+abbrev pub is_spelled : List ℕ → Element → Bool
+is_spelled wanted t = if among (kind.Identifier ∷ []) (kind_number t.kind) then same_text (capitals t.text) wanted else false
+
 abbrev pub is_word : Word → Element → Bool
-is_word w t = if among (kind.Identifier ∷ []) (kind_number t.kind) then same_text (capitals t.text) (spelling w) else false
+is_word w t = is_spelled (spelling w) t
+
+abbrev pub next_spelled : List ℕ → List Element → Bool
+next_spelled wanted [] = false
+next_spelled wanted (t ∷ ts) = is_spelled wanted t
 
 abbrev pub next_word : Word → List Element → Bool
-next_word w [] = false
-next_word w (t ∷ ts) = is_word w t
+next_word w ts = next_spelled (spelling w) ts
 
 -- the kinds with which symbols can begin, given those of the phrases
 abbrev pub first_of_all : (Phrase → List Kind) → List Phrase → List Kind

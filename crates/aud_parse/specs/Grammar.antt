@@ -2,8 +2,6 @@
 use Rattle.std.specs.Prelude.{List, [], ◌∷◌}
 use Rattle.aud_lex.specs.declared.token.Kind.{Kind}
 use Rattle.aud_lex.specs.declared.token.Kind.TheVariants as kind
-pub use Rattle.aud_parse.specs.declared.word.Word.{Word}
-use Rattle.aud_parse.specs.declared.word.Word.TheVariants as word
 
 -- the names of the grammar's phrases
 pub data Phrase : Type 0 where
@@ -21,6 +19,10 @@ pub data Phrase : Type 0 where
   Primary Integer String Named Attribute Group Parens InParens : Phrase
   Name NamePart Args InArgs : Phrase
   Identifier Number Literal : Phrase
+
+-- the identifiers that the grammar names (RM A.10.1, 9.6)
+pub data Word : Type 0 where
+  Ada TextIo Duration : Word
 
 -- a symbol of a rule
 pub data Symbol : Type 0 where
@@ -47,7 +49,7 @@ rule Unit = Rep Clause ∷ P kind.Procedure ∷ N Identifier ∷ T kind.Is ∷ O
 rule Clause = A (WithClause ∷ UseClause ∷ []) ∷ []
 rule WithClause = P kind.With ∷ N Library ∷ []
 rule UseClause = P kind.Use ∷ N Library ∷ []
-rule Library = W word.Ada ∷ T kind.Point ∷ W word.TextIo ∷ T kind.Semicolon ∷ []
+rule Library = W Ada ∷ T kind.Point ∷ W TextIo ∷ T kind.Semicolon ∷ []
 -- declarations lie one level deeper (RM 3.11)
 rule Declarations = L DeclarationList ∷ Down ∷ []
 rule DeclarationList = N Declaration ∷ Rep Declaration ∷ []

@@ -7,7 +7,6 @@ ghost use Rattle.aud_parse.specs.Ties.Items.{vec_item, context_item};
 ghost use Rattle.aud_parse.specs.Ties.Reads.{ReadsFlat, MayReadFlat};
 
 use crate::cursor::{Read, Rest, is, is_one_of, spelled, token, word};
-use crate::word::Word;
 use aud_lex::token::Kind;
 use aud_syntax::tree::Context;
 use std::alloc::Global;
@@ -18,9 +17,9 @@ const CLAUSES: [Kind; 2] = [Kind::With, Kind::Use];
 fn library(start: Rest) -> Read<()>
     ensures { ReadsFlat (λ _. none) (N g.Library) start.entry result }
 {
-    let rest = spelled(start, Word::Ada)?;
+    let rest = spelled(start, b"ADA")?;
     let rest = word(rest, Kind::Point)?;
-    let rest = spelled(rest, Word::TextIo)?;
+    let rest = spelled(rest, b"TEXT_IO")?;
     let rest = word(rest, Kind::Semicolon)?;
     Ok(((), rest))
 }

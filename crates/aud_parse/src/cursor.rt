@@ -2,11 +2,11 @@
 
 ghost use Rattle.std.specs.Prelude.{◌≡◌, ◌∷◌, [], length, ◌≤◌};
 ghost use Rattle.aud_text.specs.Name.{capitals};
-ghost use Rattle.aud_parse.specs.First.{next_in, next_word, same_text};
+ghost use Rattle.aud_parse.specs.Grammar.{Word};
+ghost use Rattle.aud_parse.specs.First.{next_in, next_spelled, same_text, spelling};
 ghost use Rattle.aud_parse.specs.declared.cursor.Fault.TheVariants as fault;
-ghost use Rattle.aud_parse.specs.Ties.Reads.{ReadsWord, ReadsToken, ReadsSpelled, Accepts, Deepens};
+ghost use Rattle.aud_parse.specs.Ties.Reads.{ReadsWord, ReadsToken, ReadsSpelled, Accepts, Chooses, Deepens};
 
-use crate::word::Word;
 use aud_lex::token::{Kind, Token};
 use std::alloc::{AllocError, AllocFailed};
 
@@ -76,6 +76,22 @@ pub fn accept(start: Rest, kind: Kind) -> Option<(&Token, Rest)>
     Some(split(start))
 }
 
+/// The first of the table's kinds that the next token is of, by what stands beside it, the token, and
+/// the others.
+pub fn chosen<'a, T: Copy>(
+    start: Rest<'a>,
+    table: &[(Kind, T)],
+) -> Option<(T, &'a Token<'a>, Rest<'a>)>
+    ensures { Chooses table.now start.entry result }
+{
+    for entry in table {
+        if let Some((token, rest)) = accept(start, entry.0) {
+            return Some((entry.1, token, rest));
+        }
+    }
+    None
+}
+
 /// Passes a word or a delimiter.
 pub fn word(start: Rest, kind: Kind) -> Result<Rest, Fault>
     ensures { ReadsWord kind start.entry result }
@@ -110,22 +126,20 @@ fn same(text: &[u8], wanted: &[u8]) -> bool
 }
 
 /// Whether the next token is this identifier, whatever the case of its letters (RM 2.3(5)).
-fn is_spelled(start: Rest, word: Word) -> bool
-    ensures { result ≡ next_word word start.entry.tokens.now }
+fn is_spelled(start: Rest, wanted: &[u8]) -> bool
+    ensures { result ≡ next_spelled wanted.now start.entry.tokens.now }
 {
     match start.tokens.first() {
         None => false,
-        Some(t) => {
-            t.kind().number() == Kind::Identifier.number() && same(t.text(), word.spelling())
-        }
+        Some(t) => t.kind().number() == Kind::Identifier.number() && same(t.text(), wanted),
     }
 }
 
-/// Passes an identifier that the grammar names.
-pub fn spelled(start: Rest, word: Word) -> Result<Rest, Fault>
-    ensures { ReadsSpelled word start.entry result }
+/// Passes an identifier that the grammar names, by its spelling in capitals.
+pub fn spelled<'a>(start: Rest<'a>, wanted: &[u8]) -> Result<Rest<'a>, Fault<'a>>
+    ensures { (word : Word) → spelling word ≡ wanted.now → ReadsSpelled word start.entry result }
 {
-    if !is_spelled(start, word) {
+    if !is_spelled(start, wanted) {
         return Err(Fault::Wrong(start));
     }
     let (_, rest) = split(start);

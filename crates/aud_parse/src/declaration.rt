@@ -3,12 +3,12 @@
 ghost use Rattle.aud_parse.specs.Grammar as g;
 ghost use Rattle.aud_parse.specs.Grammar.{N, Opt, Rep};
 ghost use Rattle.aud_parse.specs.Actions.{an_ident};
-ghost use Rattle.aud_parse.specs.Ties.Items.{vec_item, opt_item, expression_item, boxed_item, names_item, variable_item, constant_item, declaration_item};
+ghost use Rattle.aud_parse.specs.Ties.Items.{vec_item, names_item, variable_item, constant_item, declaration_item};
 ghost use Rattle.aud_parse.specs.Ties.Reads.{Reads, MayRead, ReadsFlat, MayReadFlat};
 
 use crate::behind::{both, ended};
 use crate::cursor::{Read, Rest, accept, deeper, is, word};
-use crate::expression::expression;
+use crate::expression::{opt_value, value};
 use crate::leaf::ident;
 use aud_lex::token::Kind;
 use aud_syntax::tree::{Declaration, Expression, Ident, Identifiers};
@@ -37,31 +37,12 @@ fn identifiers(alloc: Global, start: Rest) -> Read<Identifiers>
     Ok((Identifiers { first, others }, rest))
 }
 
-/// A value behind `:=`.
-fn initial(alloc: Global, start: Rest, room: u32) -> Read<Box<Expression>>
-    ensures { Reads (boxed_item expression_item) (N g.Initial) room start.entry result }
-{
-    let rest = word(start, Kind::Becomes)?;
-    expression(alloc, rest, room)
-}
-
-/// The value with which variables begin, if there is one.
-fn opt_initial(alloc: Global, start: Rest, room: u32) -> Read<Option<Expression>>
-    ensures { MayRead (opt_item expression_item) (Opt g.Initial) room start.entry result }
-{
-    if is(start, Kind::Becomes) {
-        let (value, rest) = initial(alloc, start, room)?;
-        return Ok((Some(Box::into_inner(value)), rest));
-    }
-    Ok((None, start))
-}
-
 /// The subtype of variables, and the value with which they begin, if there is one.
 fn variable(alloc: Global, start: Rest, room: u32) -> Read<(Ident, Option<Expression>)>
     ensures { Reads variable_item (N g.Variable) room start.entry result }
 {
     let (subtype, rest) = ident(alloc, start)?;
-    let (value, rest) = opt_initial(alloc, rest, room)?;
+    let (value, rest) = opt_value(alloc, rest, room, Kind::Becomes)?;
     ended((subtype, value), rest, Kind::Semicolon)
 }
 
@@ -71,7 +52,7 @@ fn constant(alloc: Global, start: Rest, room: u32) -> Read<(Ident, Expression)>
 {
     let rest = word(start, Kind::Constant)?;
     let (subtype, rest) = ident(alloc, rest)?;
-    let (value, rest) = initial(alloc, rest, room)?;
+    let ((subtype, value), rest) = both(subtype, value(alloc, rest, room, Kind::Becomes))?;
     ended((subtype, Box::into_inner(value)), rest, Kind::Semicolon)
 }
 

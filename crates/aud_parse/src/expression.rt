@@ -3,20 +3,23 @@
 // Trees are handed on in boxes, and what is not called at each level of parentheses is not inlined, so
 // that little stands in the stack frames of each level.
 
+#![tactic(auto, using(crate::proofs::Passing::turns_over))]
+
 ghost use Rattle.std.specs.Prelude.{◌≡◌, ◌∷◌, []};
 ghost use Rattle.aud_parse.specs.Grammar as g;
-ghost use Rattle.aud_parse.specs.Grammar.{N, Opt, Rep};
+ghost use Rattle.aud_parse.specs.Grammar.{Phrase, N, Opt, Rep};
 ghost use Rattle.aud_parse.specs.First.{firsts};
 ghost use Rattle.aud_parse.specs.Actions.{a_sign, an_adding, a_multiplying, an_operator, a_relational};
 ghost use Rattle.aud_parse.specs.Ties.Items.{vec_item, opt_item, parens_item, part_item, name_item, args_item, attribute_item, primary_item, factor_item, multiplied_item, term_item, added_item, simple_item, relation_item, expression_item, boxed_item};
 ghost use Rattle.aud_parse.specs.Ties.Reads.{Reads, MayRead, Takes, TakesAny};
+ghost use Rattle.aud_parse.specs.Ties.Parts.{IsValue};
 ghost use Rattle.aud_parse.specs.Ties.Connects.{further, Connects, Reconnects};
 
 use crate::assemble::{
     alone, connected, product, push_added, push_multiplied, push_relation, related, sum, unrelated,
 };
 use crate::behind::{both, ended};
-use crate::cursor::{Fault, Read, Rest, accept, deeper, is, token, word};
+use crate::cursor::{Fault, Read, Rest, accept, chosen, deeper, is, token, word};
 use crate::leaf::{ident, literal};
 use crate::value::number_value;
 use aud_lex::token::Kind;
@@ -170,27 +173,14 @@ fn primary(alloc: Global, start: Rest, room: u32) -> Read<Primary>
 fn opt_operator(start: Rest) -> (Option<Operator>, Rest)
     ensures { TakesAny (opt_item an_operator) (Opt g.Operator) start.entry result }
 {
-    if let Some((t, rest)) = accept(start, Kind::Abs) {
-        let highest = Highest::Magnitude;
-        return (
-            Some(Operator {
-                highest,
-                at: t.at(),
-            }),
-            rest,
-        );
+    let operators = [(Kind::Abs, Highest::Magnitude), (Kind::Not, Highest::Not)];
+    match chosen(start, &operators) {
+        Some((highest, t, rest)) => {
+            let at = t.at();
+            (Some(Operator { highest, at }), rest)
+        }
+        None => (None, start),
     }
-    if let Some((t, rest)) = accept(start, Kind::Not) {
-        let highest = Highest::Not;
-        return (
-            Some(Operator {
-                highest,
-                at: t.at(),
-            }),
-            rest,
-        );
-    }
-    (None, start)
 }
 
 /// A factor (RM 4.4(6)).
@@ -207,19 +197,14 @@ fn factor(alloc: Global, start: Rest, room: u32) -> Read<Box<Factor>>
 fn multiplying(start: Rest) -> Option<(Multiplying, Rest)>
     ensures { Takes a_multiplying g.MultiplyingOperator start.entry result }
 {
-    if let Some((_, rest)) = accept(start, Kind::Star) {
-        return Some((Multiplying::Times, rest));
-    }
-    if let Some((_, rest)) = accept(start, Kind::Slash) {
-        return Some((Multiplying::Divide, rest));
-    }
-    if let Some((_, rest)) = accept(start, Kind::Mod) {
-        return Some((Multiplying::Modulo, rest));
-    }
-    if let Some((_, rest)) = accept(start, Kind::Rem) {
-        return Some((Multiplying::Remainder, rest));
-    }
-    None
+    let operators = [
+        (Kind::Star, Multiplying::Times),
+        (Kind::Slash, Multiplying::Divide),
+        (Kind::Mod, Multiplying::Modulo),
+        (Kind::Rem, Multiplying::Remainder),
+    ];
+    let (operator, _, rest) = chosen(start, &operators)?;
+    Some((operator, rest))
 }
 
 /// The further factors, each behind its operator.
@@ -252,16 +237,13 @@ fn term(alloc: Global, start: Rest, room: u32) -> Read<Box<Term>>
 fn adding(start: Rest) -> Option<(Adding, Rest)>
     ensures { Takes an_adding g.AddingOperator start.entry result }
 {
-    if let Some((_, rest)) = accept(start, Kind::Plus) {
-        return Some((Adding::Plus, rest));
-    }
-    if let Some((_, rest)) = accept(start, Kind::Minus) {
-        return Some((Adding::Minus, rest));
-    }
-    if let Some((_, rest)) = accept(start, Kind::Ampersand) {
-        return Some((Adding::Join, rest));
-    }
-    None
+    let operators = [
+        (Kind::Plus, Adding::Plus),
+        (Kind::Minus, Adding::Minus),
+        (Kind::Ampersand, Adding::Join),
+    ];
+    let (operator, _, rest) = chosen(start, &operators)?;
+    Some((operator, rest))
 }
 
 /// The further terms, each behind its operator.
@@ -284,15 +266,13 @@ fn addeds(alloc: Global, start: Rest, room: u32) -> Read<Vec<Added>>
 fn opt_sign(start: Rest) -> (Option<Signed>, Rest)
     ensures { TakesAny (opt_item a_sign) (Opt g.Sign) start.entry result }
 {
-    if let Some((t, rest)) = accept(start, Kind::Plus) {
-        let sign = Sign::Plus;
-        return (Some(Signed { sign, at: t.at() }), rest);
+    match chosen(
+        start,
+        &[(Kind::Plus, Sign::Plus), (Kind::Minus, Sign::Minus)],
+    ) {
+        Some((sign, t, rest)) => (Some(Signed { sign, at: t.at() }), rest),
+        None => (None, start),
     }
-    if let Some((t, rest)) = accept(start, Kind::Minus) {
-        let sign = Sign::Minus;
-        return (Some(Signed { sign, at: t.at() }), rest);
-    }
-    (None, start)
 }
 
 /// A simple expression (RM 4.4(4)).
@@ -310,25 +290,16 @@ fn simple(alloc: Global, start: Rest, room: u32) -> Read<Box<Simple>>
 fn relational(start: Rest) -> Option<(Relational, Rest)>
     ensures { Takes a_relational g.RelationalOperator start.entry result }
 {
-    if let Some((_, rest)) = accept(start, Kind::Equal) {
-        return Some((Relational::Equal, rest));
-    }
-    if let Some((_, rest)) = accept(start, Kind::NotEqual) {
-        return Some((Relational::Unequal, rest));
-    }
-    if let Some((_, rest)) = accept(start, Kind::Less) {
-        return Some((Relational::Less, rest));
-    }
-    if let Some((_, rest)) = accept(start, Kind::LessOrEqual) {
-        return Some((Relational::AtMost, rest));
-    }
-    if let Some((_, rest)) = accept(start, Kind::Greater) {
-        return Some((Relational::Greater, rest));
-    }
-    if let Some((_, rest)) = accept(start, Kind::GreaterOrEqual) {
-        return Some((Relational::AtLeast, rest));
-    }
-    None
+    let operators = [
+        (Kind::Equal, Relational::Equal),
+        (Kind::NotEqual, Relational::Unequal),
+        (Kind::Less, Relational::Less),
+        (Kind::LessOrEqual, Relational::AtMost),
+        (Kind::Greater, Relational::Greater),
+        (Kind::GreaterOrEqual, Relational::AtLeast),
+    ];
+    let (operator, _, rest) = chosen(start, &operators)?;
+    Some((operator, rest))
 }
 
 /// A relation (RM 4.4(3)).
@@ -419,4 +390,25 @@ pub fn expression(alloc: Global, start: Rest, room: u32) -> Read<Box<Expression>
         return Ok((connected(alloc, operator, first, second, others)?, rest));
     }
     Ok((alone(alloc, first)?, rest))
+}
+
+/// A value behind a word or a delimiter.
+pub fn value(alloc: Global, start: Rest, room: u32, kind: Kind) -> Read<Box<Expression>>
+    ensures { (p : Phrase) → IsValue kind p →
+        Reads (boxed_item expression_item) (N p) room start.entry result }
+{
+    let rest = word(start, kind)?;
+    expression(alloc, rest, room)
+}
+
+/// The same, if the word or the delimiter comes next.
+pub fn opt_value(alloc: Global, start: Rest, room: u32, kind: Kind) -> Read<Option<Expression>>
+    ensures { (p : Phrase) → IsValue kind p →
+        MayRead (opt_item expression_item) (Opt p) room start.entry result }
+{
+    if is(start, kind) {
+        let (value, rest) = value(alloc, start, room, kind)?;
+        return Ok((Some(Box::into_inner(value)), rest));
+    }
+    Ok((None, start))
 }

@@ -13,6 +13,5 @@ mod leaf;
 mod parser;
 mod statement;
 mod value;
-mod word;
 
 pub use crate::parser::{SyntaxFault, parse};

@@ -3,6 +3,8 @@
 // Statements lie in one another, so what is called at each level has boxes in its stack frame, and no
 // trees. What is made of them is made by functions that are not inlined (`crate::build`).
 
+#![tactic(auto, using(crate::proofs::Passing::turns_over))]
+
 ghost use Rattle.std.specs.Prelude.{◌≡◌, ◌∷◌, [], ℕ};
 ghost use Rattle.aud_lex.specs.declared.token.Kind.TheVariants as kind;
 ghost use Rattle.aud_parse.specs.Grammar as g;
@@ -15,7 +17,7 @@ ghost use Rattle.aud_parse.specs.Ties.Reads.{Reads, MayRead, ReadsFlat, MayReadF
 use crate::behind::{both, ended};
 use crate::build::{Guarded, Scheme, add, arm_of, assign_or_call, in_order, made_if, made_loop};
 use crate::cursor::{Read, Rest, accept, deeper, is, is_one_of, token, word};
-use crate::expression::{expression, opt_args, selected};
+use crate::expression::{expression, opt_args, opt_value, selected};
 use crate::leaf::ident;
 use aud_lex::token::{Kind, Token};
 use aud_syntax::tree::{Arm, Body, Expression, Ident, Name, NamePart, Statement, Statements};
@@ -78,17 +80,6 @@ fn named(alloc: Global, ident: Ident, start: Rest, room: u32) -> Read<Box<Statem
     Ok((statement, rest))
 }
 
-/// The condition of an exit, if there is one (RM 5.7).
-fn opt_when(alloc: Global, start: Rest, room: u32) -> Read<Option<Expression>>
-    ensures { MayRead (opt_item expression_item) (Opt g.When) room start.entry result }
-{
-    if let Some((_, behind)) = accept(start, Kind::When) {
-        let (condition, rest) = expression(alloc, behind, room)?;
-        return Ok((Some(Box::into_inner(condition)), rest));
-    }
-    Ok((None, start))
-}
-
 /// An exit statement (RM 5.7).
 #[inline(never)]
 fn exit(alloc: Global, start: Rest, room: u32) -> Read<Box<Statement>>
@@ -96,7 +87,7 @@ fn exit(alloc: Global, start: Rest, room: u32) -> Read<Box<Statement>>
 {
     let (t, rest) = token(start, Kind::Exit)?;
     let (label, rest) = opt_ident(alloc, rest)?;
-    let (condition, rest) = opt_when(alloc, rest, room)?;
+    let (condition, rest) = opt_value(alloc, rest, room, Kind::When)?;
     let statement = Box::new(alloc, Statement::Exit(t.at(), label, condition))?;
     ended(statement, rest, Kind::Semicolon)
 }

@@ -1,7 +1,8 @@
 -- Statements of the parts that were read.
-use Rattle.std.specs.Prelude.{List, [], ◌∷◌, Option, Some, None, Box}
+use Rattle.std.specs.Prelude.{◌≡◌, List, [], ◌∷◌, Option, Some, None, Box}
 use Rattle.std.specs.Global.{Global}
 use Rattle.aud_text.specs.declared.place.Pos.{Pos}
+use Rattle.aud_lex.specs.declared.token.Kind.{Kind}
 use Rattle.aud_syntax.specs.declared.tree.Ident.{Ident}
 use Rattle.aud_syntax.specs.declared.tree.Expression.{Expression}
 use Rattle.aud_syntax.specs.declared.tree.Statement.{Statement}
@@ -9,6 +10,8 @@ use Rattle.aud_syntax.specs.declared.tree.Statements.{Statements}
 use Rattle.aud_syntax.specs.Plain as m
 use Rattle.aud_syntax.specs.Ties.View.{plain_expression}
 use Rattle.aud_parse.specs.Grammar as g
+use Rattle.aud_parse.specs.Grammar.{Phrase, T, N, rule}
+use Rattle.aud_parse.specs.First.{firsts}
 use Rattle.aud_parse.specs.Actions.{Item, an_ident, made}
 
 -- an assignment of a value to a name, or a call where there is none
@@ -35,3 +38,9 @@ begins_at (Some x) begin = x.0
 abbrev pub behind_label : Option Ident → List Item → List Item
 behind_label None st = st
 behind_label (Some i) st = made g.NameStatement (an_ident i ∷ st)
+
+-- a phrase that is this word and an expression, whose tree it has
+pub record IsValue (c : Kind) (p : Phrase) : Type 0 where
+  pub symbols : rule p ≡ T c ∷ N g.Expression ∷ []
+  pub begins : firsts p ≡ c ∷ []
+  pub same : (st : List Item) → made p st ≡ st

@@ -119,6 +119,21 @@ pub record Accepts (c : Kind) (start : Rest) (result : Option (Bor Element × Re
   pub reads : NextIs c start result
   pub shorter : IfSome result (λ p. Fewer p.1 start)
 
+-- what stands beside the first kind that the next token is of, if it is of one of them
+pub data Chosen {X : Type 0} : List (Kind × X) → List Element → Option X → Type 0 where
+  c_none : {ts : List Element} → Chosen [] ts None
+  c_this : {e : Kind × X} {table : List (Kind × X)} {ts : List Element} → next_in (e.0 ∷ []) ts ≡ true → Chosen (e ∷ table) ts (Some e.1)
+  c_other : {e : Kind × X} {table : List (Kind × X)} {ts : List Element} {x : Option X} → next_in (e.0 ∷ []) ts ≡ false → Chosen table ts x → Chosen (e ∷ table) ts x
+
+abbrev pub Choosing : {X : Type 0} → List (Kind × X) → Rest → Option (X × Bor Element × Rest) → Type 0
+Choosing table start None = Chosen table start.tokens.now None
+Choosing table start (Some p) = Chosen table start.tokens.now (Some p.0) × (start.tokens.now ≡ p.1.now ∷ p.2.tokens.now)
+
+-- the same with the token, and the tokens after it
+pub record Chooses {X : Type 0} (table : List (Kind × X)) (start : Rest) (result : Option (X × Bor Element × Rest)) : Type 0 where
+  pub reads : Choosing table start result
+  pub shorter : IfSome result (λ p. Fewer p.2 start)
+
 -- the next token begins the phrase, of which a tree is read, or it does not
 abbrev pub Taken : {X : Type 0} → (X → Item) → Phrase → Rest → Option (X × Rest) → Type 0
 Taken f p start None = next_in (firsts p) start.tokens.now ≡ false

@@ -55,6 +55,9 @@ col n = at 2 n
 
 -- no program goes on with the token of this number, counted from 0 in the text itself
 
+abbrev pub ProgramStops : List ℕ → ℕ → Type 0
+ProgramStops source n = IsRead source (Err (wrong_at n))
+
 abbrev pub DeclarationsStop : List ℕ → ℕ → Type 0
 DeclarationsStop source n = IsRead (with_declarations source) (Err (wrong_at (3 + n)))
 
@@ -329,32 +332,32 @@ TreesOfTexts = Programs × Clauses × Declarations × Sequences × ControlFlow �
 -- programs that go wrong; the number of tokens stands for their end
 abbrev pub WrongPrograms : Type 0
 WrongPrograms =
-    IsRead (codes "") (Err (wrong_at 0))
-    × IsRead (codes "-- nothing\n") (Err (wrong_at 0))
-    × IsRead (codes "begin null; end;") (Err (wrong_at 0))
-    × IsRead (codes "procedure") (Err (wrong_at 1))
-    × IsRead (codes "procedure null is begin null; end;") (Err (wrong_at 1))
-    × IsRead (codes "procedure P") (Err (wrong_at 2))
-    × IsRead (codes "procedure P (X : Integer) is begin null; end;") (Err (wrong_at 2))
-    × IsRead (codes "procedure P is") (Err (wrong_at 3))
-    × IsRead (codes "procedure P is begin") (Err (wrong_at 4))
-    × IsRead (codes "procedure P is begin null;") (Err (wrong_at 6))
-    × IsRead (codes "procedure P is begin null; end") (Err (wrong_at 7))
-    × IsRead (codes "procedure P is begin null; end P") (Err (wrong_at 8))
-    × IsRead (codes "procedure P is begin null; end P.Q;") (Err (wrong_at 8))
-    × IsRead (codes "procedure P is begin null; end; null;") (Err (wrong_at 8))
+    ProgramStops (codes "") 0
+    × ProgramStops (codes "-- nothing\n") 0
+    × ProgramStops (codes "begin null; end;") 0
+    × ProgramStops (codes "procedure") 1
+    × ProgramStops (codes "procedure null is begin null; end;") 1
+    × ProgramStops (codes "procedure P") 2
+    × ProgramStops (codes "procedure P (X : Integer) is begin null; end;") 2
+    × ProgramStops (codes "procedure P is") 3
+    × ProgramStops (codes "procedure P is begin") 4
+    × ProgramStops (codes "procedure P is begin null;") 6
+    × ProgramStops (codes "procedure P is begin null; end") 7
+    × ProgramStops (codes "procedure P is begin null; end P") 8
+    × ProgramStops (codes "procedure P is begin null; end P.Q;") 8
+    × ProgramStops (codes "procedure P is begin null; end; null;") 8
 
 abbrev pub WrongClauses : Type 0
 WrongClauses =
-    IsRead (codes "with") (Err (wrong_at 1))
-    × IsRead (codes "with X;") (Err (wrong_at 1))
-    × IsRead (codes "with Ada;") (Err (wrong_at 2))
-    × IsRead (codes "with Ada.Calendar;") (Err (wrong_at 3))
-    × IsRead (codes "with Ada.Text_IO, Ada.Text_IO;") (Err (wrong_at 4))
-    × IsRead (codes "with Ada.Text_IO.Editing;") (Err (wrong_at 4))
-    × IsRead (codes "with use Ada.Text_IO;") (Err (wrong_at 1))
-    × IsRead (codes "use Ada.Text_IO;") (Err (wrong_at 5))
-    × IsRead (codes "procedure P is begin null; end; use Ada.Text_IO;") (Err (wrong_at 8))
+    ProgramStops (codes "with") 1
+    × ProgramStops (codes "with X;") 1
+    × ProgramStops (codes "with Ada;") 2
+    × ProgramStops (codes "with Ada.Calendar;") 3
+    × ProgramStops (codes "with Ada.Text_IO, Ada.Text_IO;") 4
+    × ProgramStops (codes "with Ada.Text_IO.Editing;") 4
+    × ProgramStops (codes "with use Ada.Text_IO;") 1
+    × ProgramStops (codes "use Ada.Text_IO;") 5
+    × ProgramStops (codes "procedure P is begin null; end; use Ada.Text_IO;") 8
 
 abbrev pub WrongDeclarations : Type 0
 WrongDeclarations =

@@ -1,7 +1,9 @@
-use Rattle.std.proofs.Common.{rules}
+use Rattle.std.proofs.Common.{arith}
+use Rattle.aud_parse.specs.Grammar as g
 use Rattle.aud_parse.specs.Ties.Outcome.{o_rule}
 use Rattle.aud_parse.proofs.Passing.{exit}
 use Rattle.aud_parse.proofs.Joined.{ends}
+use Rattle.aud_parse.proofs.Valued.{initial}
 use Rattle.aud_parse.proofs.Rolls.{variable_items}
 use Rattle.aud_parse.proofs.declaration.variable.Goals as goal
 
@@ -9,7 +11,7 @@ pub returns-in_err-subtype : goal.returns-in_err-subtype
 returns-in_err-subtype c = exit _ _ _ c.from_residual.ensures.1 (c.in_err-subtype.ensures.reads c.args.room) (λ k ds v o. o_rule o)
 
 pub returns-in_err-value : goal.returns-in_err-value
-returns-in_err-value c = exit _ _ _ c.from_residual-in_err-value.ensures.1 c.in_err-value.ensures.reads (λ k ds v o. o_rule (c.in_ok-subtype.ensures.reads _ _ _ _ o))
+returns-in_err-value c = exit _ _ _ c.from_residual-in_err-value.ensures.1 (c.in_err-value.ensures g.Initial initial).reads (λ k ds v o. o_rule (c.in_ok-subtype.ensures.reads _ _ _ _ o))
 
 pub returns : goal.returns
-returns c = ends c.args.start c.in_ok-value.rest _ _ c.ended.ensures (search rules) (λ k ds v o. o_rule (c.in_ok-subtype.ensures.reads _ _ _ _ (c.in_ok-value.ensures.reads _ _ _ o))) (variable_items c.in_ok-subtype.subtype c.in_ok-value.value)
+returns c = ends c.args.start c.in_ok-value.rest _ _ c.ended.ensures (omega (arith, c.in_ok-subtype.ensures.shorter, (c.in_ok-value.ensures g.Initial initial).shorter)) (λ k ds v o. o_rule (c.in_ok-subtype.ensures.reads _ _ _ _ ((c.in_ok-value.ensures g.Initial initial).reads _ _ _ o))) (variable_items c.in_ok-subtype.subtype c.in_ok-value.value)

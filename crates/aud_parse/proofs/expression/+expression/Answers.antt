@@ -1,7 +1,7 @@
 use Rattle.aud_parse.specs.Grammar as g
 use Rattle.std.proofs.Common.{sym, ◌∙◌, refl, rules, ap, ◌∷◌}
 use Rattle.aud_parse.specs.Ties.Outcome.{o_rule, o_this, o_other, o_last, o_yes, o_no, o_more}
-use Rattle.aud_parse.proofs.Passing.{to, exit, hand_on, level_in, level_out, turns_push, turns_end, no_level, word_passes, level_on, heads_none, heads_push, heads_on, headed, headed_items}
+use Rattle.aud_parse.proofs.Passing.{to, exit, hand_on, level_in, level_out, turns_push, turns_pushed, turns_end, no_level, word_passes, level_on, heads_none, heads_push, heads_on, headed, headed_items}
 use Rattle.aud_parse.proofs.Joined.{joined, not_joined, joined_twice, not_joined_twice}
 use Rattle.aud_parse.proofs.Rolls.{factor_items, args_items, part_items, parts_items, named_items}
 use Rattle.aud_parse.proofs.Connecting.{next_so}
@@ -93,9 +93,6 @@ selected-returns-in_err-part t c = exit _ _ _ c.from_residual.ensures.1 c.in_err
 
 pub selected-turns-preserved : goal.selected-turns-preserved
 selected-turns-preserved t c = record { turns = turns_push _ c.turns.invariant.turns c.in-Some.ensures.reads.0 (λ k ds v o. o_rule (word_passes c.in-Some.ensures.reads _ _ _ (c.in_ok-part.ensures.reads _ _ _ o))) c.in_ok-push.ensures.items; shorter = search rules }
-
-pub selected-returns : goal.selected-returns
-selected-returns t c = record { reads = turns_end c.turns.invariant.turns c.in_default.ensures.reads; shorter = search rules }
 
 pub name-returns-in_err-first : goal.name-returns-in_err-first
 name-returns-in_err-first t c = exit _ _ _ c.from_residual.ensures.1 c.in_err-first.ensures.reads (λ k ds v o. o_rule o)
@@ -206,23 +203,13 @@ pub multiplieds-returns-in_err-factor : goal.multiplieds-returns-in_err-factor
 multiplieds-returns-in_err-factor t c = exit _ _ _ c.from_residual.ensures.1 c.in_err-factor.ensures.reads (λ k ds v o. c.turns.invariant.turns.by _ _ _ (o_more c.in-Some.ensures.reads.0 (o_rule (c.in-Some.ensures.reads.1 _ _ _ _ o))))
 
 pub multiplieds-turns-preserved : goal.multiplieds-turns-preserved
-multiplieds-turns-preserved t c =
-    let w = c.in_ok-push_multiplied.ensures in
-    record { turns = turns_push w.0 c.turns.invariant.turns c.in-Some.ensures.reads.0 (λ k ds v o. rw w.2 (o_rule (c.in-Some.ensures.reads.1 _ _ _ _ (c.in_ok-factor.ensures.reads _ _ _ o)))) w.1; shorter = search rules }
-
-pub multiplieds-returns : goal.multiplieds-returns
-multiplieds-returns t c = record { reads = turns_end c.turns.invariant.turns c.in_default.ensures.reads; shorter = search rules }
+multiplieds-turns-preserved t c = record { turns = turns_pushed c.in_ok-push_multiplied.ensures c.turns.invariant.turns c.in-Some.ensures.reads.0 (λ k ds v o. o_rule (c.in-Some.ensures.reads.1 _ _ _ _ (c.in_ok-factor.ensures.reads _ _ _ o))); shorter = search rules }
 
 pub addeds-returns-in_err-term : goal.addeds-returns-in_err-term
 addeds-returns-in_err-term t c = exit _ _ _ c.from_residual.ensures.1 c.in_err-term.ensures.reads (λ k ds v o. c.turns.invariant.turns.by _ _ _ (o_more c.in-Some.ensures.reads.0 (o_rule (c.in-Some.ensures.reads.1 _ _ _ _ o))))
 
 pub addeds-turns-preserved : goal.addeds-turns-preserved
-addeds-turns-preserved t c =
-    let w = c.in_ok-push_added.ensures in
-    record { turns = turns_push w.0 c.turns.invariant.turns c.in-Some.ensures.reads.0 (λ k ds v o. rw w.2 (o_rule (c.in-Some.ensures.reads.1 _ _ _ _ (c.in_ok-term.ensures.reads _ _ _ o)))) w.1; shorter = search rules }
-
-pub addeds-returns : goal.addeds-returns
-addeds-returns t c = record { reads = turns_end c.turns.invariant.turns c.in_default.ensures.reads; shorter = search rules }
+addeds-turns-preserved t c = record { turns = turns_pushed c.in_ok-push_added.ensures c.turns.invariant.turns c.in-Some.ensures.reads.0 (λ k ds v o. o_rule (c.in-Some.ensures.reads.1 _ _ _ _ (c.in_ok-term.ensures.reads _ _ _ o))); shorter = search rules }
 
 pub relations-returns-in_err-behind : goal.relations-returns-in_err-behind
 relations-returns-in_err-behind t c = exit _ _ _ c.from_residual.ensures.1 (c.in_err-behind.ensures.reads c.args.room) (λ k ds v o. c.turns.invariant.turns.by _ _ _ (o_more (next_so c.turns.rest.tokens.now c.first_word.ensures c.is.ensures c.turns-test.true) o))
@@ -232,9 +219,7 @@ relations-returns-in_err-relation t c = exit _ _ _ c.from_residual-in_err-relati
     (λ k ds v o. c.turns.invariant.turns.by _ _ _ (o_more (next_so c.turns.rest.tokens.now c.first_word.ensures c.is.ensures c.turns-test.true) (c.in_ok-behind.ensures.reads _ _ _ _ o)))
 
 pub relations-turns-preserved : goal.relations-turns-preserved
-relations-turns-preserved t c =
-    let w = c.in_ok-push_relation.ensures in
-    record { turns = turns_push w.0 c.turns.invariant.turns (next_so c.turns.rest.tokens.now c.first_word.ensures c.is.ensures c.turns-test.true) (λ k ds v o. rw w.2 (c.in_ok-behind.ensures.reads _ _ _ _ (c.in_ok-relation.ensures.reads _ _ _ o))) w.1; shorter = search rules }
+relations-turns-preserved t c = record { turns = turns_pushed c.in_ok-push_relation.ensures c.turns.invariant.turns (next_so c.turns.rest.tokens.now c.first_word.ensures c.is.ensures c.turns-test.true) (λ k ds v o. c.in_ok-behind.ensures.reads _ _ _ _ (c.in_ok-relation.ensures.reads _ _ _ o)); shorter = search rules }
 
 pub relations-returns : goal.relations-returns
 relations-returns t c = record { reads = turns_end c.turns.invariant.turns (next_so c.turns.rest.tokens.now c.first_word.ensures c.is.ensures c.turns-test.false); shorter = search rules }

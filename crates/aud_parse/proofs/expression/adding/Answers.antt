@@ -1,17 +1,11 @@
-use Rattle.std.proofs.Common.{[], ◌∷◌, rules}
-use Rattle.aud_lex.specs.declared.token.Kind.TheVariants as kind
-use Rattle.aud_parse.specs.Ties.Outcome.{o_rule, o_this, o_other, o_last}
-use Rattle.aud_parse.proofs.Passing.{word_passes, in_this, in_others, in_none}
+use Rattle.std.proofs.Common.{refl}
+use Rattle.aud_parse.specs.Actions.{an_adding}
+use Rattle.aud_parse.specs.Ties.Outcome.{o_rule}
+use Rattle.aud_parse.proofs.Choosing.{words, choice, chosen_next, not_chosen}
 use Rattle.aud_parse.proofs.expression.adding.Goals as goal
 
-pub returns-in-Some : goal.returns-in-Some
-returns-in-Some c = record { reads = (in_this kind.Plus (kind.Minus ∷ kind.Ampersand ∷ []) c.args.start.tokens.now c.in-Some.ensures.reads.0, λ r k ds v o. o_rule (o_this c.in-Some.ensures.reads.0 (o_rule (word_passes c.in-Some.ensures.reads _ _ _ o)))); shorter = search rules }
-
-pub returns-in-Some-accept : goal.returns-in-Some-accept
-returns-in-Some-accept c = record { reads = (in_others kind.Plus (kind.Minus ∷ kind.Ampersand ∷ []) c.args.start.tokens.now (in_this kind.Minus (kind.Ampersand ∷ []) c.args.start.tokens.now c.in-Some-accept.ensures.reads.0), λ r k ds v o. o_rule (o_other c.in_default.ensures.reads (o_this c.in-Some-accept.ensures.reads.0 (o_rule (word_passes c.in-Some-accept.ensures.reads _ _ _ o))))); shorter = search rules }
-
-pub returns-in-Some-accept-2 : goal.returns-in-Some-accept-2
-returns-in-Some-accept-2 c = record { reads = (in_others kind.Plus (kind.Minus ∷ kind.Ampersand ∷ []) c.args.start.tokens.now (in_others kind.Minus (kind.Ampersand ∷ []) c.args.start.tokens.now c.in-Some-accept-2.ensures.reads.0), λ r k ds v o. o_rule (o_other c.in_default.ensures.reads (o_other c.in_default-accept.ensures.reads (o_last (o_rule (word_passes c.in-Some-accept-2.ensures.reads _ _ _ o)))))); shorter = search rules }
+pub returns-in_err-operator : goal.returns-in_err-operator
+returns-in_err-operator c = rw c.from_residual.ensures (record { reads = not_chosen c.in_err-operator.ensures.reads; shorter = tt })
 
 pub returns : goal.returns
-returns c = record { reads = in_none kind.Plus (kind.Minus ∷ kind.Ampersand ∷ []) c.args.start.tokens.now c.in_default.ensures.reads (in_none kind.Minus (kind.Ampersand ∷ []) c.args.start.tokens.now c.in_default-accept.ensures.reads c.in_default-accept-2.ensures.reads); shorter = search rules }
+returns c = let h = c.in_ok-operator.ensures in record { reads = (chosen_next h.reads.0, λ r k ds v o. o_rule (choice words (λ t x. an_adding x) (record { by = λ t ds. refl }) h.reads.0 h.reads.1 r k ds v o)); shorter = h.shorter }

@@ -1,14 +1,11 @@
-use Rattle.std.proofs.Common.{[], ◌∷◌, rules}
-use Rattle.aud_lex.specs.declared.token.Kind.TheVariants as kind
-use Rattle.aud_parse.specs.Ties.Outcome.{o_rule, o_this, o_other, o_last, o_yes, o_no}
-use Rattle.aud_parse.proofs.Passing.{token_passes, in_this, in_others, in_none}
+use Rattle.std.proofs.Common.{refl, arith, rules}
+use Rattle.aud_parse.specs.Actions.{a_sign}
+use Rattle.aud_parse.specs.Ties.Outcome.{o_rule, o_yes, o_no}
+use Rattle.aud_parse.proofs.Choosing.{tokens, choice, chosen_next, not_chosen}
 use Rattle.aud_parse.proofs.expression.opt_sign.Goals as goal
 
 pub returns-in-Some : goal.returns-in-Some
-returns-in-Some c = record { reads = λ room k ds v o. rw c.at.ensures (o_yes (in_this kind.Plus (kind.Minus ∷ []) c.args.start.tokens.now c.in-Some.ensures.reads.0) (o_rule (o_this c.in-Some.ensures.reads.0 (o_rule (token_passes c.in-Some.ensures.reads _ _ _ o))))); shorter = search rules }
+returns-in-Some c = let h = c.in-Some.ensures in record { reads = λ room k ds v o. rw c.at.ensures (o_yes (chosen_next h.reads.0) (o_rule (choice tokens (λ t x. a_sign (record { sign = x; at = t.at })) (record { by = λ t ds. refl }) h.reads.0 h.reads.1 room k ds v o))); shorter = omega (arith, h.shorter) }
 
-pub returns-in-Some-accept : goal.returns-in-Some-accept
-returns-in-Some-accept c = record { reads = λ room k ds v o. rw c.at-in-Some-accept.ensures (o_yes (in_others kind.Plus (kind.Minus ∷ []) c.args.start.tokens.now c.in-Some-accept.ensures.reads.0) (o_rule (o_other c.in_default.ensures.reads (o_last (o_rule (token_passes c.in-Some-accept.ensures.reads _ _ _ o)))))); shorter = search rules }
-
-pub returns : goal.returns
-returns c = record { reads = λ room k ds v o. o_no (in_none kind.Plus (kind.Minus ∷ []) c.args.start.tokens.now c.in_default.ensures.reads c.in_default-accept.ensures.reads) o; shorter = search rules }
+pub returns-in-None : goal.returns-in-None
+returns-in-None c = record { reads = λ room k ds v o. o_no (not_chosen c.in-None.ensures.reads) o; shorter = search rules }

@@ -4,7 +4,7 @@ use Rattle.aud_lex.specs.declared.token.Kind.TheVariants as kind
 use Rattle.std.proofs.Common.{List, [], ◌∷◌, sym, ◌∙◌, refl, rules, arith}
 use Rattle.aud_parse.specs.Ties.Outcome.{o_rule, o_this, o_other, o_last, o_yes, o_no, o_more}
 use Rattle.aud_parse.specs.Actions.{token}
-use Rattle.aud_parse.proofs.Passing.{to, exit, hand_on, level_on, no_level, word_passes, turns_push, turns_end}
+use Rattle.aud_parse.proofs.Passing.{to, exit, hand_on, level_on, no_level, word_passes, turns_push}
 use Rattle.aud_parse.proofs.Joined.{exit_all}
 use Rattle.aud_parse.proofs.Connecting.{completes, completes_in, exit_in, exit_among}
 use Rattle.aud_parse.proofs.Rolls.{arm_items, in_order_items}
@@ -62,9 +62,6 @@ elsifs-turns-preserved t c = record { turns = turns_push c.in_ok-next.next.value
 pub elsifs-returns-in_err-next : goal.elsifs-returns-in_err-next
 elsifs-returns-in_err-next t c = exit _ _ _ c.from_residual.ensures.1 c.in_err-next.ensures.reads (λ k ds v o. c.turns.invariant.turns.by _ _ _ (o_more (sym c.is.ensures ∙ c.turns-test.true) o))
 
-pub elsifs-returns : goal.elsifs-returns
-elsifs-returns t c = record { reads = turns_end c.turns.invariant.turns (sym c.is.ensures ∙ c.turns-test.false); shorter = search rules }
-
 pub opt_else-returns-in_err-inner : goal.opt_else-returns-in_err-inner
 opt_else-returns-in_err-inner t c = exit _ _ _ c.from_residual.ensures.1 c.in_err-inner.ensures.reads (λ k ds v o. o_yes c.in-Some.ensures.reads.0 (o_rule (word_passes c.in-Some.ensures.reads _ _ _ o)))
 
@@ -109,9 +106,6 @@ more_statements-turns-preserved t c = record { turns = turns_push c.in_ok-next.n
 
 pub more_statements-returns-in_err-next : goal.more_statements-returns-in_err-next
 more_statements-returns-in_err-next t c = exit _ _ _ c.from_residual.ensures.1 c.in_err-next.ensures.reads (λ k ds v o. c.turns.invariant.turns.by _ _ _ (o_more (sym c.is_one_of.ensures ∙ c.turns-test.true) o))
-
-pub more_statements-returns : goal.more_statements-returns
-more_statements-returns t c = record { reads = turns_end c.turns.invariant.turns (sym c.is_one_of.ensures ∙ c.turns-test.false); shorter = search rules }
 
 pub statement_list-returns-in_err-first : goal.statement_list-returns-in_err-first
 statement_list-returns-in_err-first t c = exit _ _ _ c.from_residual.ensures.1 c.in_err-first.ensures.reads (λ k ds v o. o_rule o)
