@@ -4,4 +4,5 @@ pub mod Gives
 pub mod Hidden
 pub mod Labels
 pub mod Regions
+pub mod Table
 pub mod Typing

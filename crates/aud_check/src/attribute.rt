@@ -11,26 +11,13 @@ use crate::fault::Least;
 use crate::names::Meaning;
 use crate::resolution::Denoted;
 use crate::rules::{Base, base_of_subtype, wrong_kind_of_name, wrong_number_of_arguments};
+use crate::table::listed;
 use crate::typed::{Operand, Typed, stored, wants};
 use aud_syntax::tree::Ident;
 use aud_text::int32::Int32;
 use aud_text::name::Name;
 use aud_text::place::Pos;
 use aud_typed::program::{BooleanExpression, IntegerExpression, Subtype, TextExpression};
-
-const IMAGE: &[u8] = b"IMAGE";
-
-const FIRST: &[u8] = b"FIRST";
-
-const LAST: &[u8] = b"LAST";
-
-const LENGTH: &[u8] = b"LENGTH";
-
-const COUNT: &[u8] = b"COUNT";
-
-const CALLABLE: &[u8] = b"CALLABLE";
-
-const TERMINATED: &[u8] = b"TERMINATED";
 
 /// An attribute of the language.
 #[derive(Clone, Copy, PartialEq, Eq, Debug)]
@@ -42,32 +29,21 @@ pub enum Attribute {
     Other,
 }
 
+const ATTRIBUTES: [(&[u8], Attribute); 7] = [
+    (b"IMAGE", Attribute::Image),
+    (b"FIRST", Attribute::First),
+    (b"LAST", Attribute::Last),
+    (b"LENGTH", Attribute::Other),
+    (b"COUNT", Attribute::Other),
+    (b"CALLABLE", Attribute::Other),
+    (b"TERMINATED", Attribute::Other),
+];
+
 // The attribute of this name.
 fn attribute_named(name: &Name) -> Option<Attribute>
     ensures { result ≡ lookup (bytes_eq name.now) attributes }
 {
-    if name.as_bytes() == IMAGE {
-        return Some(Attribute::Image);
-    }
-    if name.as_bytes() == FIRST {
-        return Some(Attribute::First);
-    }
-    if name.as_bytes() == LAST {
-        return Some(Attribute::Last);
-    }
-    if name.as_bytes() == LENGTH {
-        return Some(Attribute::Other);
-    }
-    if name.as_bytes() == COUNT {
-        return Some(Attribute::Other);
-    }
-    if name.as_bytes() == CALLABLE {
-        return Some(Attribute::Other);
-    }
-    if name.as_bytes() == TERMINATED {
-        return Some(Attribute::Other);
-    }
-    None
+    listed(&ATTRIBUTES, name)
 }
 
 // The value of an attribute that has no argument.

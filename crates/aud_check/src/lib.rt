@@ -23,6 +23,7 @@ mod names;
 mod resolution;
 mod rules;
 mod statement;
+mod table;
 mod typed;
 mod unit;
 

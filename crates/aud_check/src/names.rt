@@ -5,30 +5,13 @@ ghost use Rattle.aud_check.specs.Names.{Place as Plain, empty_region, named_in, 
 ghost use Rattle.aud_check.specs.Ties.Regions.{plain_region, plain_regions, plain_place, names_in, hidden_names};
 
 use crate::hidden::Hidden;
+use crate::table::listed;
 use aud_syntax::tree::Identifiers;
 use aud_text::name::Name;
 use aud_typed::program::{Subtype, Variable};
 use indexmap::IndexMap;
 use std::alloc::{AllocError, Global};
 use std::marker::Model;
-
-const INTEGER: &[u8] = b"INTEGER";
-
-const NATURAL: &[u8] = b"NATURAL";
-
-const POSITIVE: &[u8] = b"POSITIVE";
-
-const BOOLEAN: &[u8] = b"BOOLEAN";
-
-const FALSE: &[u8] = b"FALSE";
-
-const TRUE: &[u8] = b"TRUE";
-
-const PUT: &[u8] = b"PUT";
-
-const PUT_LINE: &[u8] = b"PUT_LINE";
-
-const NEW_LINE: &[u8] = b"NEW_LINE";
 
 /// What a visible name stands for (RM 8.3).
 #[derive(Clone, Copy, PartialEq, Eq, Debug)]
@@ -193,36 +176,21 @@ fn declared(regions: &[Region], name: &Name) -> Option<Meaning>
     }
 }
 
+const PREDEFINED: [(&[u8], Meaning); 9] = [
+    (b"INTEGER", Meaning::ScalarType(Subtype::Integer)),
+    (b"NATURAL", Meaning::ScalarType(Subtype::Natural)),
+    (b"POSITIVE", Meaning::ScalarType(Subtype::Positive)),
+    (b"BOOLEAN", Meaning::ScalarType(Subtype::Boolean)),
+    (b"FALSE", Meaning::Literal(false)),
+    (b"TRUE", Meaning::Literal(true)),
+    (b"PUT", Meaning::Builtin(Builtin::Put)),
+    (b"PUT_LINE", Meaning::Builtin(Builtin::PutLine)),
+    (b"NEW_LINE", Meaning::Builtin(Builtin::NewLine)),
+];
+
 /// What the outermost region declares a name to be.
 pub fn predefined(name: &Name) -> Option<Meaning>
     ensures { result ≡ named_in name.now predefined }
 {
-    if name.as_bytes() == INTEGER {
-        return Some(Meaning::ScalarType(Subtype::Integer));
-    }
-    if name.as_bytes() == NATURAL {
-        return Some(Meaning::ScalarType(Subtype::Natural));
-    }
-    if name.as_bytes() == POSITIVE {
-        return Some(Meaning::ScalarType(Subtype::Positive));
-    }
-    if name.as_bytes() == BOOLEAN {
-        return Some(Meaning::ScalarType(Subtype::Boolean));
-    }
-    if name.as_bytes() == FALSE {
-        return Some(Meaning::Literal(false));
-    }
-    if name.as_bytes() == TRUE {
-        return Some(Meaning::Literal(true));
-    }
-    if name.as_bytes() == PUT {
-        return Some(Meaning::Builtin(Builtin::Put));
-    }
-    if name.as_bytes() == PUT_LINE {
-        return Some(Meaning::Builtin(Builtin::PutLine));
-    }
-    if name.as_bytes() == NEW_LINE {
-        return Some(Meaning::Builtin(Builtin::NewLine));
-    }
-    None
+    listed(&PREDEFINED, name)
 }
