@@ -6,3 +6,4 @@ pub mod Labels
 pub mod Regions
 pub mod Table
 pub mod Typing
+pub mod Within

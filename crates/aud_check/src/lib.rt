@@ -26,6 +26,7 @@ mod statement;
 mod table;
 mod typed;
 mod unit;
+mod within;
 
 use crate::fault::{CheckFault, Least};
 use aud_syntax::tree::Unit;

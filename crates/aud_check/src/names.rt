@@ -4,13 +4,14 @@ ghost use Rattle.std.specs.Prelude.{◌≡◌, IfOk, is_some};
 ghost use Rattle.aud_check.specs.Names.{Place as Plain, empty_region, named_in, predefined, declared, hiding, is_hidden, visible, main_place};
 ghost use Rattle.aud_check.specs.Ties.Regions.{plain_region, plain_regions, plain_place, names_in, hidden_names};
 
+use crate::behind::Made;
 use crate::hidden::Hidden;
 use crate::table::listed;
 use aud_syntax::tree::Identifiers;
 use aud_text::name::Name;
 use aud_typed::program::{Subtype, Variable};
 use indexmap::IndexMap;
-use std::alloc::{AllocError, Global};
+use std::alloc::Global;
 use std::marker::Model;
 
 /// What a visible name stands for (RM 8.3).
@@ -44,9 +45,11 @@ pub enum Builtin {
 /// The names that a region declares, in the order of their declarations, and what they stand for.
 pub type Symbols = IndexMap<Name, Meaning>;
 
-/// A region of declarations (RM 8.1): its names, and the cells that its frame has so far.
+/// A region of declarations (RM 8.1): its names, the cells that its frame has so far, and what allocates
+/// them.
 #[derive(Drop)]
 pub struct Region {
+    pub alloc: Global,
     pub symbols: Symbols,
     pub cells: usize,
 }
@@ -64,6 +67,7 @@ impl Region {
         ensures { plain_region result ≡ empty_region }
     {
         Region {
+            alloc,
             symbols: Symbols::new(alloc),
             cells: 0,
         }
@@ -72,7 +76,7 @@ impl Region {
 
 impl Place {
     /// The place of a main procedure's declarations (RM 10.1.1).
-    pub fn in_main(alloc: Global, main: &Name) -> Result<Self, AllocError>
+    pub fn in_main(alloc: Global, main: &Name) -> Made<Self>
         ensures { IfOk result (λ place. plain_place place ≡ main_place main.now) }
     {
         let mut library = Region::new(alloc);
@@ -122,18 +126,19 @@ impl<'a> Scope<'a> {
     }
 
     /// The place within the declaration of these names.
-    pub fn within(
-        alloc: Global,
-        place: &'a Place,
-        names: &'a Identifiers,
-    ) -> Result<Self, AllocError>
+    pub fn within(place: &'a Place, names: &'a Identifiers) -> Made<Self>
         ensures { IfOk result (λ scope. scope ≡ hiding (names_in names.now) (plain_place place.now)) }
     {
-        let hidden = Hidden::new(alloc, names)?;
+        let hidden = Hidden::new(place.innermost.alloc, names)?;
         Ok(Scope {
             place,
             hidden: Some(hidden),
         })
+    }
+
+    /// What is made for the place is allocated by this.
+    pub fn alloc(&self) -> Global {
+        self.place.innermost.alloc
     }
 
     /// Whether a region around the place declares a name, or the predefined one.
