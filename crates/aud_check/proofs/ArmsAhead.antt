@@ -65,3 +65,26 @@ if_parts first others otherwise = rw out-roll-IfStatement refl
 pub left_if : (r : Result (Box statement.Statement Global) AllocError) (old new : Option Fault) (faults : List Fault) (x y : tree.Statement) → new ≡ noted old faults → x ≡ y → IfOk r (λ s. plain_typed_statement s.value ≡ x) → Leaves (in_box plain_typed_statement) r old new faults y
 left_if (Ok s) old new faults x y h e k = (h, k ∙ e)
 left_if (Err e) old new faults x y h i k = tt
+
+-- some arms are typed, and the rest is still to be checked
+pub record ArmsLeft (items : List memory.Arm) (now : Option Fault) (rest : List source.Arm) (old : Option Fault) (all : List source.Arm) (labels : Labels) (place : Place) : Type 0 where
+  pub typed : (otherwise : tree.Part) → part_of_arms items (typed_arms (arm_list rest) labels place otherwise) ≡ typed_arms (arm_list all) labels place otherwise
+  pub noted : noted now (arms_faults (arm_list rest) labels place) ≡ noted old (arms_faults (arm_list all) labels place)
+
+pub no_arm_typed : (items : List memory.Arm) (old : Option Fault) (all : List source.Arm) (labels : Labels) (place : Place) → items ≡ [] → ArmsLeft items old all old all labels place
+no_arm_typed items old all labels place e = record {
+  typed = λ otherwise. ap (λ l. part_of_arms l (typed_arms (arm_list all) labels place otherwise)) e;
+  noted = refl;
+}
+
+pub one_arm_typed : (now next : List memory.Arm) (one : memory.Arm) (old mid new : Option Fault) (x : source.Arm) (xs ys all : List source.Arm) (labels : Labels) (place : Place) → xs ≡ x ∷ ys → ArmsLeft now mid xs old all labels place → next ≡ now ++ one ∷ [] → new ≡ noted mid (condition_faults (plain_expression x.condition) place ++ statements_faults (plain_statements x.statements) labels place) → plain_arm one ≡ typed_arm x labels place → ArmsLeft next new ys old all labels place
+one_arm_typed now next one old mid new x xs ys all labels place e a p h q = record {
+  typed = λ otherwise. arm_typed now next one x xs ys labels place otherwise (typed_arms (arm_list all) labels place otherwise) p e q (a.typed otherwise);
+  noted = arms_ahead mid new (noted old (arms_faults (arm_list all) labels place)) x xs ys labels place e h a.noted;
+}
+
+pub all_arms_typed : (items : List memory.Arm) (now old : Option Fault) (rest all : List source.Arm) (labels : Labels) (place : Place) → rest ≡ [] → ArmsLeft items now rest old all labels place → (now ≡ noted old (arms_faults (arm_list all) labels place)) × ((otherwise : tree.Part) → part_of_arms items otherwise ≡ typed_arms (arm_list all) labels place otherwise)
+all_arms_typed items now old rest all labels place e a = (
+  sym (ap (λ l. noted now (arms_faults (arm_list l) labels place)) e) ∙ a.noted,
+  λ otherwise. sym (ap (λ l. part_of_arms items (typed_arms (arm_list l) labels place otherwise)) e) ∙ a.typed otherwise,
+)

@@ -4,4 +4,6 @@ pub mod Gives
 pub mod Hidden
 pub mod Labels
 pub mod Regions
+pub mod Table
 pub mod Typing
+pub mod Within

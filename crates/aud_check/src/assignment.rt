@@ -7,7 +7,7 @@ ghost use Rattle.aud_check.specs.Least.{noted};
 ghost use Rattle.aud_check.specs.Assignments.{target_base, target_faults, assigned_faults, assigned, assign_faults, typed_assign};
 ghost use Rattle.aud_check.specs.Ties.Typing.{plain_typed, in_box, Leaves};
 
-use crate::behind::boxed;
+use crate::behind::{Left, boxed};
 use crate::declaration::value_for;
 use crate::expression::{arguments, expression, expression_at};
 use crate::fault::Least;
@@ -18,7 +18,6 @@ use crate::typed::{Operand, base_of};
 use aud_syntax::tree::{Expression, Name};
 use aud_text::place::Pos;
 use aud_typed::program::{Reference, Statement as TypedStatement};
-use std::alloc::{AllocError, Global};
 
 fn target_base(meaning: Option<Meaning>) -> Option<Base>
     ensures { result ≡ target_base meaning }
@@ -77,28 +76,24 @@ fn assigned(meaning: Option<Meaning>, at: Pos, value: Operand) -> TypedStatement
 }
 
 /// Checks an assignment (RM 5.2): notes its faults, and answers what is left of it.
-#[tactic(auto, using(crate::proofs::Notes::noted_append))]
 #[inline(never)]
 pub fn assignment(
-    alloc: Global,
     target: &Name,
     value: &Expression,
     scope: &Scope<'_>,
     faults: &mut Least,
-) -> Result<Box<TypedStatement>, AllocError>
+) -> Left<TypedStatement>
     ensures { Leaves (in_box plain_typed_statement) result faults.old faults.new
         (assign_faults (plain_name target.now) (plain_expression value.now) scope.now)
         (typed_assign (plain_name target.now) (plain_expression value.now) scope.now) }
 {
-    let last = arguments(alloc, target, scope, faults)?;
+    let last = arguments(target, scope, faults)?;
     drop(last);
     let denoted = resolve(target, scope, faults);
-    let typed = expression(alloc, value, scope, faults)?;
+    let typed = expression(value, scope, faults)?;
     let at = expression_at(value);
     let value = Operand { at, typed };
     check_assigned(denoted, &value, faults);
-    boxed(
-        alloc,
-        assigned(denoted.meaning, target.first.ident.at, value),
-    )
+    let statement = assigned(denoted.meaning, target.first.ident.at, value);
+    boxed(scope.alloc(), statement)
 }

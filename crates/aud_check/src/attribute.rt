@@ -3,7 +3,8 @@
 ghost use Rattle.std.specs.Prelude.{◌≡◌};
 ghost use Rattle.std.specs.Str.{bytes_eq};
 ghost use Rattle.std.specs.Map.{lookup};
-ghost use Rattle.aud_check.specs.Expressions.{attributes, without_argument, image_of, image_of_type, image_with, image, first_of, last_of, bound, attribute_of, attribute_if, checked_attribute};
+ghost use Rattle.aud_check.specs.Rules.{wrong_kind_of_name};
+ghost use Rattle.aud_check.specs.Expressions.{unknown, attributes, without_argument, image_of, image_of_type, image_with, image, first_of, last_of, bound, attribute_of, attribute_if, checked_attribute};
 ghost use Rattle.aud_check.specs.Least.{noted};
 ghost use Rattle.aud_check.specs.Ties.Typing.{plain_typed, plain_argument};
 
@@ -11,26 +12,13 @@ use crate::fault::Least;
 use crate::names::Meaning;
 use crate::resolution::Denoted;
 use crate::rules::{Base, base_of_subtype, wrong_kind_of_name, wrong_number_of_arguments};
+use crate::table::listed;
 use crate::typed::{Operand, Typed, stored, wants};
 use aud_syntax::tree::Ident;
 use aud_text::int32::Int32;
 use aud_text::name::Name;
 use aud_text::place::Pos;
 use aud_typed::program::{BooleanExpression, IntegerExpression, Subtype, TextExpression};
-
-const IMAGE: &[u8] = b"IMAGE";
-
-const FIRST: &[u8] = b"FIRST";
-
-const LAST: &[u8] = b"LAST";
-
-const LENGTH: &[u8] = b"LENGTH";
-
-const COUNT: &[u8] = b"COUNT";
-
-const CALLABLE: &[u8] = b"CALLABLE";
-
-const TERMINATED: &[u8] = b"TERMINATED";
 
 /// An attribute of the language.
 #[derive(Clone, Copy, PartialEq, Eq, Debug)]
@@ -42,32 +30,28 @@ pub enum Attribute {
     Other,
 }
 
+/// Where an attribute's prefix and its designator stand.
+#[derive(Clone, Copy)]
+struct Places {
+    prefix: Pos,
+    designator: Pos,
+}
+
+const ATTRIBUTES: [(&[u8], Attribute); 7] = [
+    (b"IMAGE", Attribute::Image),
+    (b"FIRST", Attribute::First),
+    (b"LAST", Attribute::Last),
+    (b"LENGTH", Attribute::Other),
+    (b"COUNT", Attribute::Other),
+    (b"CALLABLE", Attribute::Other),
+    (b"TERMINATED", Attribute::Other),
+];
+
 // The attribute of this name.
 fn attribute_named(name: &Name) -> Option<Attribute>
     ensures { result ≡ lookup (bytes_eq name.now) attributes }
 {
-    if name.as_bytes() == IMAGE {
-        return Some(Attribute::Image);
-    }
-    if name.as_bytes() == FIRST {
-        return Some(Attribute::First);
-    }
-    if name.as_bytes() == LAST {
-        return Some(Attribute::Last);
-    }
-    if name.as_bytes() == LENGTH {
-        return Some(Attribute::Other);
-    }
-    if name.as_bytes() == COUNT {
-        return Some(Attribute::Other);
-    }
-    if name.as_bytes() == CALLABLE {
-        return Some(Attribute::Other);
-    }
-    if name.as_bytes() == TERMINATED {
-        return Some(Attribute::Other);
-    }
-    None
+    listed(&ATTRIBUTES, name)
 }
 
 // The value of an attribute that has no argument.
@@ -127,18 +111,23 @@ fn image_with(base: Base, designator: Pos, argument: Option<Operand>, faults: &m
     image_of_type(base, argument.opened())
 }
 
-fn image(
-    meaning: Meaning,
-    prefix: Pos,
-    designator: Pos,
-    argument: Option<Operand>,
-    faults: &mut Least,
-) -> Typed
-    ensures typed { plain_typed result
-        ≡ (image meaning prefix designator (plain_argument argument)).typed }
-    ensures noted { faults.new
-        ≡ noted faults.old (image meaning prefix designator (plain_argument argument)).faults }
+// What an attribute is that its prefix has not, or that is none: nothing.
+fn wrong_kind(at: Pos, argument: Option<Operand>, faults: &mut Least) -> Typed
+    ensures typed { plain_typed result ≡ unknown }
+    ensures noted { faults.new ≡ noted faults.old (wrong_kind_of_name at) }
 {
+    drop(argument);
+    wrong_kind_of_name(at, faults);
+    Typed::Unknown
+}
+
+fn image(meaning: Meaning, at: Places, argument: Option<Operand>, faults: &mut Least) -> Typed
+    ensures typed { plain_typed result
+        ≡ (image meaning at.prefix at.designator (plain_argument argument)).typed }
+    ensures noted { faults.new ≡ noted faults.old
+        (image meaning at.prefix at.designator (plain_argument argument)).faults }
+{
+    let designator = at.designator;
     match meaning {
         Meaning::ScalarType(subtype) => {
             image_with(base_of_subtype(subtype), designator, argument, faults)
@@ -151,11 +140,7 @@ fn image(
             let text = TextExpression::ImageTruth(BooleanExpression::Truth(value));
             without_argument(designator, argument, Typed::Text(text), faults)
         }
-        Meaning::Builtin(_) | Meaning::MainProcedure => {
-            drop(argument);
-            wrong_kind_of_name(prefix, faults);
-            Typed::Unknown
-        }
+        Meaning::Builtin(_) | Meaning::MainProcedure => wrong_kind(at.prefix, argument, faults),
     }
 }
 
@@ -182,27 +167,17 @@ fn last_of(meaning: Meaning) -> Option<Int32>
 }
 
 // A bound of a subtype, if it has one.
-fn bound(
-    value: Option<Int32>,
-    prefix: Pos,
-    designator: Pos,
-    argument: Option<Operand>,
-    faults: &mut Least,
-) -> Typed
+fn bound(value: Option<Int32>, at: Places, argument: Option<Operand>, faults: &mut Least) -> Typed
     ensures typed { plain_typed result
-        ≡ (bound value prefix designator (plain_argument argument)).typed }
-    ensures noted { faults.new
-        ≡ noted faults.old (bound value prefix designator (plain_argument argument)).faults }
+        ≡ (bound value at.prefix at.designator (plain_argument argument)).typed }
+    ensures noted { faults.new ≡ noted faults.old
+        (bound value at.prefix at.designator (plain_argument argument)).faults }
 {
     match value {
-        None => {
-            drop(argument);
-            wrong_kind_of_name(prefix, faults);
-            Typed::Unknown
-        }
+        None => wrong_kind(at.prefix, argument, faults),
         Some(value) => {
             let number = Typed::Number(IntegerExpression::Number(value));
-            without_argument(designator, argument, number, faults)
+            without_argument(at.designator, argument, number, faults)
         }
     }
 }
@@ -210,25 +185,20 @@ fn bound(
 fn attribute_of(
     attribute: Attribute,
     meaning: Meaning,
-    prefix: Pos,
-    designator: Pos,
+    at: Places,
     argument: Option<Operand>,
     faults: &mut Least,
 ) -> Typed
-    ensures typed { plain_typed result
-        ≡ (attribute_of attribute meaning prefix designator (plain_argument argument)).typed }
-    ensures noted { faults.new ≡ noted faults.old
-        (attribute_of attribute meaning prefix designator (plain_argument argument)).faults }
+    ensures typed { plain_typed result ≡ (attribute_of attribute meaning
+        at.prefix at.designator (plain_argument argument)).typed }
+    ensures noted { faults.new ≡ noted faults.old (attribute_of attribute meaning
+        at.prefix at.designator (plain_argument argument)).faults }
 {
     match attribute {
-        Attribute::Image => image(meaning, prefix, designator, argument, faults),
-        Attribute::First => bound(first_of(meaning), prefix, designator, argument, faults),
-        Attribute::Last => bound(last_of(meaning), prefix, designator, argument, faults),
-        Attribute::Other => {
-            drop(argument);
-            wrong_kind_of_name(prefix, faults);
-            Typed::Unknown
-        }
+        Attribute::Image => image(meaning, at, argument, faults),
+        Attribute::First => bound(first_of(meaning), at, argument, faults),
+        Attribute::Last => bound(last_of(meaning), at, argument, faults),
+        Attribute::Other => wrong_kind(at.prefix, argument, faults),
     }
 }
 
@@ -249,18 +219,13 @@ pub fn attribute_value(
         return Typed::Unknown;
     };
     match attribute_named(&designator.name) {
-        None => {
-            drop(argument);
-            wrong_kind_of_name(designator.at, faults);
-            Typed::Unknown
+        None => wrong_kind(designator.at, argument, faults),
+        Some(attribute) => {
+            let at = Places {
+                prefix: prefix.at,
+                designator: designator.at,
+            };
+            attribute_of(attribute, meaning, at, argument, faults)
         }
-        Some(attribute) => attribute_of(
-            attribute,
-            meaning,
-            prefix.at,
-            designator.at,
-            argument,
-            faults,
-        ),
     }
 }

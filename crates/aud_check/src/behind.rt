@@ -8,8 +8,14 @@ ghost use Rattle.std.specs.Prelude.{◌≡◌, ◌++◌, ◌∷◌, [], IfOk, On
 
 use std::alloc::{AllocError, Global};
 
+/// What is made, where memory is not refused.
+pub type Made<T> = Result<T, AllocError>;
+
+/// What is left of a part that is checked, where memory is not refused.
+pub type Left<T> = Result<Box<T>, AllocError>;
+
 /// A part, and what is checked behind it.
-pub fn both<T: Drop, U>(first: T, next: Result<U, AllocError>) -> Result<(T, U), AllocError>
+pub fn both<T: Drop, U>(first: T, next: Made<U>) -> Made<(T, U)>
     ensures first { IfOk result (λ parts. parts.0 ≡ first) }
     ensures next { IfOk result (λ parts. next ≡ Ok parts.1) }
 {
@@ -18,7 +24,7 @@ pub fn both<T: Drop, U>(first: T, next: Result<U, AllocError>) -> Result<(T, U),
 }
 
 /// A part in a box.
-pub fn boxed<T: Drop>(alloc: Global, part: T) -> Result<Box<T>, AllocError>
+pub fn boxed<T: Drop>(alloc: Global, part: T) -> Left<T>
     ensures { IfOk result (λ b. b.value ≡ part) }
 {
     Ok(Box::new(alloc, part)?)
@@ -27,7 +33,7 @@ pub fn boxed<T: Drop>(alloc: Global, part: T) -> Result<Box<T>, AllocError>
 /// Adds what is in a box to a list. It is not inlined, so that this does not stand in the stack frames of
 /// statements that lie in one another.
 #[inline(never)]
-pub fn push<T: Drop>(all: &mut Vec<T>, next: Box<T>) -> Result<(), AllocError>
+pub fn push<T: Drop>(all: &mut Vec<T>, next: Box<T>) -> Made<()>
     ensures { OnOk result (all.new.items ≡ all.old.items ++ next.value ∷ []) }
 {
     all.push(Box::into_inner(next))?;

@@ -7,7 +7,7 @@ ghost use Rattle.aud_check.specs.Least.{noted};
 ghost use Rattle.aud_check.specs.Calls.{one_text, no_argument, put_faults, callee_faults, put_out, called, call_faults, typed_call};
 ghost use Rattle.aud_check.specs.Ties.Typing.{plain_typed, in_box, Leaves};
 
-use crate::behind::boxed;
+use crate::behind::{Left, Made, boxed};
 use crate::expression::{arguments, expression_at};
 use crate::fault::Least;
 use crate::names::{Builtin, Meaning, Scope};
@@ -17,7 +17,7 @@ use crate::typed::{Typed, wants, with_text};
 use aud_syntax::tree::{Expression, Name};
 use aud_text::place::Pos;
 use aud_typed::program::{Statement as TypedStatement, TextExpression};
-use std::alloc::{AllocError, Global};
+use std::alloc::Global;
 
 // Notes where there is not one argument, a text.
 fn one_text(args: &[Expression], at: Pos, last: &Typed, faults: &mut Least)
@@ -57,12 +57,7 @@ fn check_callee(denoted: Denoted, args: &[Expression], last: &Typed, faults: &mu
 }
 
 // What a procedure that puts out is left as; a faulty call is left as a null statement.
-fn put_out(
-    alloc: Global,
-    builtin: Builtin,
-    at: Pos,
-    last: Typed,
-) -> Result<TypedStatement, AllocError>
+fn put_out(alloc: Global, builtin: Builtin, at: Pos, last: Typed) -> Made<TypedStatement>
     ensures { IfOk result (λ typed. plain_typed_statement typed
         ≡ put_out builtin at (plain_typed last)) }
 {
@@ -77,12 +72,7 @@ fn put_out(
     }
 }
 
-fn called(
-    alloc: Global,
-    meaning: Option<Meaning>,
-    at: Pos,
-    last: Typed,
-) -> Result<TypedStatement, AllocError>
+fn called(alloc: Global, meaning: Option<Meaning>, at: Pos, last: Typed) -> Made<TypedStatement>
     ensures { IfOk result (λ typed. plain_typed_statement typed
         ≡ called meaning at (plain_typed last)) }
 {
@@ -93,22 +83,16 @@ fn called(
 }
 
 /// Checks a call (RM 6.4): notes its faults, and answers what is left of it.
-#[tactic(auto, using(crate::proofs::Notes::noted_append))]
 #[inline(never)]
-pub fn call(
-    alloc: Global,
-    name: &Name,
-    scope: &Scope<'_>,
-    faults: &mut Least,
-) -> Result<Box<TypedStatement>, AllocError>
+pub fn call(name: &Name, scope: &Scope<'_>, faults: &mut Least) -> Left<TypedStatement>
     ensures { Leaves (in_box plain_typed_statement) result faults.old faults.new
         (call_faults (plain_name name.now) scope.now)
         (typed_call (plain_name name.now) scope.now) }
 {
-    let last = arguments(alloc, name, scope, faults)?;
-    let last = Box::into_inner(last);
+    let last = Box::into_inner(arguments(name, scope, faults)?);
     let denoted = resolve(name, scope, faults);
     check_callee(denoted, last_args(name), &last, faults);
+    let alloc = scope.alloc();
     let statement = called(alloc, denoted.meaning, name.first.ident.at, last)?;
     boxed(alloc, statement)
 }

@@ -6,7 +6,7 @@ ghost use Rattle.aud_typed.specs.Ties.View.{plain_boolean};
 ghost use Rattle.aud_check.specs.Conditions.{condition_faults, truth_of, condition, maybe_condition_faults, maybe_condition};
 ghost use Rattle.aud_check.specs.Ties.Typing.{plain_typed, in_box, Leaves};
 
-use crate::behind::boxed;
+use crate::behind::{Left, boxed};
 use crate::expression::{expression, expression_at};
 use crate::fault::Least;
 use crate::names::Scope;
@@ -14,7 +14,6 @@ use crate::rules::Base;
 use crate::typed::{Typed, wants};
 use aud_syntax::tree::Expression;
 use aud_typed::program::BooleanExpression;
-use std::alloc::{AllocError, Global};
 
 fn truth_of(typed: Typed) -> BooleanExpression
     ensures { plain_boolean result ≡ truth_of (plain_typed typed) }
@@ -28,34 +27,28 @@ fn truth_of(typed: Typed) -> BooleanExpression
 /// Checks a condition (RM 4.5.7(4)): notes its faults, and answers what is left of it.
 #[tactic(auto, using(crate::proofs::Notes::noted_append))]
 #[inline(never)]
-pub fn condition(
-    alloc: Global,
-    e: &Expression,
-    scope: &Scope<'_>,
-    faults: &mut Least,
-) -> Result<Box<BooleanExpression>, AllocError>
+pub fn condition(e: &Expression, scope: &Scope<'_>, faults: &mut Least) -> Left<BooleanExpression>
     ensures { Leaves (in_box plain_boolean) result faults.old faults.new
         (condition_faults (plain_expression e.now) scope.now)
         (condition (plain_expression e.now) scope.now) }
 {
-    let typed = expression(alloc, e, scope, faults)?;
+    let typed = expression(e, scope, faults)?;
     wants(Base::Truth, expression_at(e), &typed, faults);
-    boxed(alloc, truth_of(Box::into_inner(typed)))
+    boxed(scope.alloc(), truth_of(Box::into_inner(typed)))
 }
 
 /// Checks the condition of an exit (RM 5.7(5)), which is True where there is none.
 pub fn maybe_condition(
-    alloc: Global,
     maybe: &Option<Expression>,
     scope: &Scope<'_>,
     faults: &mut Least,
-) -> Result<Box<BooleanExpression>, AllocError>
+) -> Left<BooleanExpression>
     ensures { Leaves (in_box plain_boolean) result faults.old faults.new
         (maybe_condition_faults (plain_maybe maybe.now) scope.now)
         (maybe_condition (plain_maybe maybe.now) scope.now) }
 {
     match maybe {
-        None => boxed(alloc, BooleanExpression::Truth(true)),
-        Some(e) => condition(alloc, e, scope, faults),
+        None => boxed(scope.alloc(), BooleanExpression::Truth(true)),
+        Some(e) => condition(e, scope, faults),
     }
 }

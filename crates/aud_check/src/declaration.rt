@@ -1,17 +1,18 @@
 // Declarations of variables and constants.
 
-ghost use Rattle.std.specs.Prelude.{◌≡◌, [], ◌∷◌, ◌++◌, true, false, OnOk};
+ghost use Rattle.std.specs.Prelude.{◌≡◌, [], ◌∷◌, ◌++◌, OnOk};
 ghost use Rattle.aud_syntax.specs.Plain.{an_expression};
-ghost use Rattle.aud_syntax.specs.Ties.View.{plain_expression, plain_maybe, plain_declaration, plain_declarations};
+ghost use Rattle.aud_syntax.specs.Ties.View.{plain_expression, plain_declaration, plain_declarations};
 ghost use Rattle.aud_typed.specs.Ties.View.{plain_value, plain_statements as plain_typed_statements};
 ghost use Rattle.aud_check.specs.Least.{noted};
 ghost use Rattle.aud_check.specs.Names.{visible};
 ghost use Rattle.aud_check.specs.Rules.{declared_once};
 ghost use Rattle.aud_check.specs.Declarations.{subtype_faults, subtype_meant, initial_faults, initial_value, default_value, value_for, known, new_meaning, with_name, declared_names, twice_faults, elaboration, checked_object, checked_declaration, checked_declarations};
 ghost use Rattle.aud_check.specs.Ties.Typing.{plain_typed, Leaves};
-ghost use Rattle.aud_check.specs.Ties.DeclarativePart.{Declares};
+ghost use Rattle.aud_check.specs.Ties.DeclarativePart.{Declares, plain_initial};
 ghost use Rattle.aud_check.specs.Ties.Regions.{plain_region, plain_place, names_in};
 
+use crate::behind::Made;
 use crate::expression::{expression, expression_at};
 use crate::fault::Least;
 use crate::names::{Meaning, Object, Place, Region, Scope};
@@ -23,13 +24,20 @@ use aud_text::place::Pos;
 use aud_typed::program::{
     BooleanExpression, IntegerExpression, Statement, Subtype, ValueExpression, Variable,
 };
-use std::alloc::{AllocError, Global};
+use std::alloc::AllocError;
 
 /// The place after a declarative part, and its elaborations (RM 3.11).
 #[derive(Drop)]
 pub struct DeclarativePart {
     pub place: Place,
     pub elaborations: Vec<Statement>,
+}
+
+// What a declaration declares: of which subtype, where that is known, and whether constants (RM 3.3.1(5)).
+#[derive(Clone, Copy)]
+struct Kind {
+    subtype: Option<Subtype>,
+    constant: bool,
 }
 
 // Notes where a subtype mark is not that of a subtype (RM 3.2.2).
@@ -101,17 +109,16 @@ fn known(subtype: Option<Subtype>) -> Subtype
 // The value that a declaration gives.
 #[tactic(auto, using(crate::proofs::Notes::noted_append))]
 fn given_value(
-    alloc: Global,
     value: &Expression,
     subtype: Option<Subtype>,
     scope: &Scope<'_>,
     faults: &mut Least,
-) -> Result<ValueExpression, AllocError>
+) -> Made<ValueExpression>
     ensures { Leaves plain_value result faults.old faults.new
         (initial_faults (an_expression (plain_expression value.now)) subtype scope.now)
         (initial_value (an_expression (plain_expression value.now)) subtype scope.now) }
 {
-    let typed = expression(alloc, value, scope, faults)?;
+    let typed = expression(value, scope, faults)?;
     right_type(
         base_asked(subtype),
         expression_at(value),
@@ -122,50 +129,42 @@ fn given_value(
 }
 
 fn initial_value(
-    alloc: Global,
-    initial: &Option<Expression>,
+    initial: Option<&Expression>,
     subtype: Option<Subtype>,
     scope: &Scope<'_>,
     faults: &mut Least,
-) -> Result<ValueExpression, AllocError>
+) -> Made<ValueExpression>
     ensures { Leaves plain_value result faults.old faults.new
-        (initial_faults (plain_maybe initial.now) subtype scope.now)
-        (initial_value (plain_maybe initial.now) subtype scope.now) }
+        (initial_faults (plain_initial initial.entry) subtype scope.now)
+        (initial_value (plain_initial initial.entry) subtype scope.now) }
 {
     match initial {
         None => Ok(default_value(known(subtype))),
-        Some(value) => given_value(alloc, value, subtype, scope, faults),
+        Some(value) => given_value(value, subtype, scope, faults),
     }
 }
 
-fn new_meaning(subtype: Option<Subtype>, constant: bool, index: usize) -> Meaning
-    ensures { result ≡ new_meaning subtype constant index }
+fn new_meaning(kind: Kind, index: usize) -> Meaning
+    ensures { result ≡ new_meaning kind.subtype kind.constant index }
 {
     Meaning::Object(Object {
         variable: Variable { level: 0, index },
-        subtype,
-        constant,
+        subtype: kind.subtype,
+        constant: kind.constant,
     })
 }
 
 // Declares one name more, a variable or constant with a cell of its own.
-fn declare_name(
-    alloc: Global,
-    ident: &Ident,
-    subtype: Option<Subtype>,
-    constant: bool,
-    region: &mut Region,
-    faults: &mut Least,
-) -> Result<(), AllocError>
+fn declare_name(ident: &Ident, kind: Kind, region: &mut Region, faults: &mut Least) -> Made<()>
     ensures region { OnOk result (plain_region region.new
-        ≡ with_name ident.now subtype constant (plain_region region.old)) }
+        ≡ with_name ident.now kind.subtype kind.constant (plain_region region.old)) }
     ensures noted { OnOk result (faults.new ≡ noted faults.old
         (declared_once ident.now.name ident.now.at region.old.symbols.entries)) }
 {
     if declared_once(ident, &region.symbols, faults) {
         let cells = region.cells.checked_add(1).ok_or(AllocError)?;
-        let name = ident.name.try_clone(alloc)?;
-        let meaning = new_meaning(subtype, constant, region.cells);
+        let name = ident.name.try_clone(region.alloc)?;
+        let meaning = new_meaning(kind, region.cells);
         region.symbols.insert(name, meaning)?;
         region.cells = cells;
     }
@@ -173,22 +172,15 @@ fn declare_name(
 }
 
 // Declares the names one after the other.
-fn declare(
-    alloc: Global,
-    names: &Identifiers,
-    subtype: Option<Subtype>,
-    constant: bool,
-    region: &mut Region,
-    faults: &mut Least,
-) -> Result<(), AllocError>
-    ensures region { OnOk result (plain_region region.new
-        ≡ declared_names (names_in names.now) subtype constant (plain_region region.old)) }
-    ensures noted { OnOk result (faults.new ≡ noted faults.old
-        (twice_faults (names_in names.now) subtype constant (plain_region region.old))) }
+fn declare(names: &Identifiers, kind: Kind, region: &mut Region, faults: &mut Least) -> Made<()>
+    ensures region { OnOk result (plain_region region.new ≡ declared_names
+        (names_in names.now) kind.subtype kind.constant (plain_region region.old)) }
+    ensures noted { OnOk result (faults.new ≡ noted faults.old (twice_faults
+        (names_in names.now) kind.subtype kind.constant (plain_region region.old))) }
 {
-    declare_name(alloc, &names.first, subtype, constant, region, faults)?;
+    declare_name(&names.first, kind, region, faults)?;
     for other in &names.others {
-        declare_name(alloc, other, subtype, constant, region, faults)?;
+        declare_name(other, kind, region, faults)?;
     }
     Ok(())
 }
@@ -199,7 +191,7 @@ fn elaborate(
     value: ValueExpression,
     region: &Region,
     elaborations: &mut Vec<Statement>,
-) -> Result<(), AllocError>
+) -> Made<()>
     ensures { OnOk result (plain_typed_statements elaborations.new.items
         ≡ plain_typed_statements elaborations.old.items
         ++ elaboration at (plain_region region.now) (plain_value value) ∷ []) }
@@ -208,84 +200,59 @@ fn elaborate(
     Ok(())
 }
 
-// Declares variables (RM 3.3.1).
+// Declares variables or constants (RM 3.3.1).
 #[tactic(auto, using(crate::proofs::Notes::noted_append))]
-fn variables(
-    alloc: Global,
+fn objects(
     names: &Identifiers,
     mark: &Ident,
-    initial: &Option<Expression>,
+    initial: Option<&Expression>,
+    constant: bool,
     part: &mut DeclarativePart,
     faults: &mut Least,
-) -> Result<(), AllocError>
+) -> Made<()>
     ensures { OnOk result (Declares faults.old faults.new part.old part.new
         (checked_object (names_in names.now) names.now.first.at mark.now
-        (plain_maybe initial.now) false (plain_place part.old.place))) }
+        (plain_initial initial.entry) constant (plain_place part.old.place))) }
 {
-    let scope = Scope::within(alloc, &part.place, names)?;
+    let scope = Scope::within(&part.place, names)?;
     let subtype = subtype_mark(mark, &scope, faults);
-    let value = initial_value(alloc, initial, subtype, &scope, faults)?;
+    let value = initial_value(initial, subtype, &scope, faults)?;
     drop(scope);
     let region = &mut part.place.innermost;
-    declare(alloc, names, subtype, false, region, faults)?;
-    elaborate(names.first.at, value, region, &mut part.elaborations)
-}
-
-// Declares constants (RM 3.3.1(5)).
-#[tactic(auto, using(crate::proofs::Notes::noted_append))]
-fn constants(
-    alloc: Global,
-    names: &Identifiers,
-    mark: &Ident,
-    value: &Expression,
-    part: &mut DeclarativePart,
-    faults: &mut Least,
-) -> Result<(), AllocError>
-    ensures { OnOk result (Declares faults.old faults.new part.old part.new
-        (checked_object (names_in names.now) names.now.first.at mark.now
-        (an_expression (plain_expression value.now)) true (plain_place part.old.place))) }
-{
-    let scope = Scope::within(alloc, &part.place, names)?;
-    let subtype = subtype_mark(mark, &scope, faults);
-    let value = given_value(alloc, value, subtype, &scope, faults)?;
-    drop(scope);
-    let region = &mut part.place.innermost;
-    declare(alloc, names, subtype, true, region, faults)?;
+    declare(names, Kind { subtype, constant }, region, faults)?;
     elaborate(names.first.at, value, region, &mut part.elaborations)
 }
 
 /// Checks a declaration (RM 3.3.1): notes its faults, and adds to the part what it declares.
 pub fn declaration(
-    alloc: Global,
     declaration: &Declaration,
     part: &mut DeclarativePart,
     faults: &mut Least,
-) -> Result<(), AllocError>
+) -> Made<()>
     ensures { OnOk result (Declares faults.old faults.new part.old part.new
         (checked_declaration (plain_declaration declaration.now) (plain_place part.old.place))) }
 {
     match declaration {
         Declaration::Object(names, mark, initial) => {
-            variables(alloc, names, mark, initial, part, faults)
+            objects(names, mark, initial.as_ref(), false, part, faults)
         }
         Declaration::Constant(names, mark, value) => {
-            constants(alloc, names, mark, value, part, faults)
+            objects(names, mark, Some(value), true, part, faults)
         }
     }
 }
 
 /// Checks a declarative part (RM 3.11).
 pub fn declarations(
-    alloc: Global,
     declarations: &[Declaration],
     part: &mut DeclarativePart,
     faults: &mut Least,
-) -> Result<(), AllocError>
+) -> Made<()>
     ensures { OnOk result (Declares faults.old faults.new part.old part.new
         (checked_declarations (plain_declarations declarations.now) (plain_place part.old.place))) }
 {
     for next in declarations {
-        declaration(alloc, next, part, faults)?;
+        declaration(next, part, faults)?;
     }
     Ok(())
 }

@@ -6,10 +6,11 @@ ghost use Rattle.aud_check.specs.Names.{is_hidden};
 ghost use Rattle.aud_check.specs.Ties.Hidden.{IsSetOf};
 ghost use Rattle.aud_check.specs.Ties.Regions.{names_in};
 
+use crate::behind::Made;
 use aud_syntax::tree::{Ident, Identifiers};
 use aud_text::name::Name;
 use indexmap::IndexSet;
-use std::alloc::{AllocError, Global};
+use std::alloc::Global;
 use std::marker::Model;
 
 /// The names of a declaration, which are hidden from all visibility until it ends (RM 8.3(16, 17)).
@@ -30,7 +31,7 @@ impl<'a> Model for Hidden<'a> {
 
 impl<'a> Hidden<'a> {
     /// The names of a declaration.
-    pub fn new(alloc: Global, names: &'a Identifiers) -> Result<Self, AllocError>
+    pub fn new(alloc: Global, names: &'a Identifiers) -> Made<Self>
         ensures { IfOk result (λ hidden. hidden ≡ names_in names.now) }
     {
         let others = set_of(alloc, &names.others)?;
@@ -46,7 +47,7 @@ impl<'a> Hidden<'a> {
 }
 
 // The set of the identifiers' names.
-fn set_of<'a>(alloc: Global, identifiers: &'a [Ident]) -> Result<IndexSet<&'a Name>, AllocError>
+fn set_of<'a>(alloc: Global, identifiers: &'a [Ident]) -> Made<IndexSet<&'a Name>>
     ensures { IfOk result (λ names. IsSetOf identifiers.now names.keys) }
 {
     let mut names = IndexSet::with_capacity(alloc, identifiers.len())?;

@@ -5,9 +5,10 @@ ghost use Rattle.aud_check.specs.Labels.{is_left};
 ghost use Rattle.aud_check.specs.Statements.{loop_at};
 ghost use Rattle.aud_check.specs.Ties.Labels.{plain_labels};
 
+use crate::behind::Made;
 use aud_syntax::tree::Ident;
 use aud_text::place::Pos;
-use std::alloc::{AllocError, Global};
+use std::alloc::Global;
 
 /// Whether an exit leaves a loop with this label, where it stands in that loop (RM 5.7(4)).
 fn is_left(name: &Option<Ident>, label: &Option<Ident>) -> bool
@@ -32,7 +33,7 @@ pub fn with_label<'a>(
     alloc: Global,
     label: &'a Option<Ident>,
     labels: &[&'a Option<Ident>],
-) -> Result<Vec<&'a Option<Ident>>, AllocError>
+) -> Made<Vec<&'a Option<Ident>>>
     ensures { IfOk result (λ inner. plain_labels inner.items
         ≡ label.now ∷ plain_labels labels.now) }
 {

@@ -23,8 +23,10 @@ mod names;
 mod resolution;
 mod rules;
 mod statement;
+mod table;
 mod typed;
 mod unit;
+mod within;
 
 use crate::fault::{CheckFault, Least};
 use aud_syntax::tree::Unit;

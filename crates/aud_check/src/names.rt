@@ -4,31 +4,15 @@ ghost use Rattle.std.specs.Prelude.{◌≡◌, IfOk, is_some};
 ghost use Rattle.aud_check.specs.Names.{Place as Plain, empty_region, named_in, predefined, declared, hiding, is_hidden, visible, main_place};
 ghost use Rattle.aud_check.specs.Ties.Regions.{plain_region, plain_regions, plain_place, names_in, hidden_names};
 
+use crate::behind::Made;
 use crate::hidden::Hidden;
+use crate::table::listed;
 use aud_syntax::tree::Identifiers;
 use aud_text::name::Name;
 use aud_typed::program::{Subtype, Variable};
 use indexmap::IndexMap;
-use std::alloc::{AllocError, Global};
+use std::alloc::Global;
 use std::marker::Model;
-
-const INTEGER: &[u8] = b"INTEGER";
-
-const NATURAL: &[u8] = b"NATURAL";
-
-const POSITIVE: &[u8] = b"POSITIVE";
-
-const BOOLEAN: &[u8] = b"BOOLEAN";
-
-const FALSE: &[u8] = b"FALSE";
-
-const TRUE: &[u8] = b"TRUE";
-
-const PUT: &[u8] = b"PUT";
-
-const PUT_LINE: &[u8] = b"PUT_LINE";
-
-const NEW_LINE: &[u8] = b"NEW_LINE";
 
 /// What a visible name stands for (RM 8.3).
 #[derive(Clone, Copy, PartialEq, Eq, Debug)]
@@ -61,9 +45,11 @@ pub enum Builtin {
 /// The names that a region declares, in the order of their declarations, and what they stand for.
 pub type Symbols = IndexMap<Name, Meaning>;
 
-/// A region of declarations (RM 8.1): its names, and the cells that its frame has so far.
+/// A region of declarations (RM 8.1): its names, the cells that its frame has so far, and what allocates
+/// them.
 #[derive(Drop)]
 pub struct Region {
+    pub alloc: Global,
     pub symbols: Symbols,
     pub cells: usize,
 }
@@ -81,6 +67,7 @@ impl Region {
         ensures { plain_region result ≡ empty_region }
     {
         Region {
+            alloc,
             symbols: Symbols::new(alloc),
             cells: 0,
         }
@@ -89,7 +76,7 @@ impl Region {
 
 impl Place {
     /// The place of a main procedure's declarations (RM 10.1.1).
-    pub fn in_main(alloc: Global, main: &Name) -> Result<Self, AllocError>
+    pub fn in_main(alloc: Global, main: &Name) -> Made<Self>
         ensures { IfOk result (λ place. plain_place place ≡ main_place main.now) }
     {
         let mut library = Region::new(alloc);
@@ -139,18 +126,19 @@ impl<'a> Scope<'a> {
     }
 
     /// The place within the declaration of these names.
-    pub fn within(
-        alloc: Global,
-        place: &'a Place,
-        names: &'a Identifiers,
-    ) -> Result<Self, AllocError>
+    pub fn within(place: &'a Place, names: &'a Identifiers) -> Made<Self>
         ensures { IfOk result (λ scope. scope ≡ hiding (names_in names.now) (plain_place place.now)) }
     {
-        let hidden = Hidden::new(alloc, names)?;
+        let hidden = Hidden::new(place.innermost.alloc, names)?;
         Ok(Scope {
             place,
             hidden: Some(hidden),
         })
+    }
+
+    /// What is made for the place is allocated by this.
+    pub fn alloc(&self) -> Global {
+        self.place.innermost.alloc
     }
 
     /// Whether a region around the place declares a name, or the predefined one.
@@ -193,36 +181,21 @@ fn declared(regions: &[Region], name: &Name) -> Option<Meaning>
     }
 }
 
+const PREDEFINED: [(&[u8], Meaning); 9] = [
+    (b"INTEGER", Meaning::ScalarType(Subtype::Integer)),
+    (b"NATURAL", Meaning::ScalarType(Subtype::Natural)),
+    (b"POSITIVE", Meaning::ScalarType(Subtype::Positive)),
+    (b"BOOLEAN", Meaning::ScalarType(Subtype::Boolean)),
+    (b"FALSE", Meaning::Literal(false)),
+    (b"TRUE", Meaning::Literal(true)),
+    (b"PUT", Meaning::Builtin(Builtin::Put)),
+    (b"PUT_LINE", Meaning::Builtin(Builtin::PutLine)),
+    (b"NEW_LINE", Meaning::Builtin(Builtin::NewLine)),
+];
+
 /// What the outermost region declares a name to be.
 pub fn predefined(name: &Name) -> Option<Meaning>
     ensures { result ≡ named_in name.now predefined }
 {
-    if name.as_bytes() == INTEGER {
-        return Some(Meaning::ScalarType(Subtype::Integer));
-    }
-    if name.as_bytes() == NATURAL {
-        return Some(Meaning::ScalarType(Subtype::Natural));
-    }
-    if name.as_bytes() == POSITIVE {
-        return Some(Meaning::ScalarType(Subtype::Positive));
-    }
-    if name.as_bytes() == BOOLEAN {
-        return Some(Meaning::ScalarType(Subtype::Boolean));
-    }
-    if name.as_bytes() == FALSE {
-        return Some(Meaning::Literal(false));
-    }
-    if name.as_bytes() == TRUE {
-        return Some(Meaning::Literal(true));
-    }
-    if name.as_bytes() == PUT {
-        return Some(Meaning::Builtin(Builtin::Put));
-    }
-    if name.as_bytes() == PUT_LINE {
-        return Some(Meaning::Builtin(Builtin::PutLine));
-    }
-    if name.as_bytes() == NEW_LINE {
-        return Some(Meaning::Builtin(Builtin::NewLine));
-    }
-    None
+    listed(&PREDEFINED, name)
 }

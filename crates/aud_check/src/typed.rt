@@ -5,10 +5,10 @@ ghost use Rattle.aud_typed.specs.Tree.{binary, join};
 ghost use Rattle.aud_typed.specs.declared.program.Operation.{out-Operation};
 ghost use Rattle.aud_typed.specs.Ties.View.{plain_integer, plain_boolean, plain_text, connected};
 ghost use Rattle.aud_check.specs.Least.{noted};
-ghost use Rattle.aud_check.specs.Expressions.{base_of, wants, combined, joined, one, integer_only, negated, relation_of, compared, related_to, compared_with, operand_faults, both, stored, signed, highest};
+ghost use Rattle.aud_check.specs.Expressions.{base_of, wants, combined, joined, one, integer_only, negated, relation_of, compared, related_to, operand_faults, both, stored, signed, highest};
 ghost use Rattle.aud_check.specs.Ties.Typing.{plain_typed, typed_connective, operation, Shows};
 
-use crate::behind::boxed;
+use crate::behind::{Left, Made, boxed};
 use crate::fault::Least;
 use crate::rules::{Base, right_type};
 use aud_syntax::tree::{Connective, Highest, Relational, Sign, Signed};
@@ -17,7 +17,7 @@ use aud_typed::program::{
     Binary, BooleanExpression, Connective as TypedConnective, IntegerExpression, Logical,
     Operation, Relation, Subtype, TextExpression, Unary, Variable,
 };
-use std::alloc::{AllocError, Global};
+use std::alloc::Global;
 
 /// An expression with its type. Nothing is known of the type of a faulty one.
 #[derive(Drop, Debug)]
@@ -101,7 +101,7 @@ pub fn wants(base: Base, at: Pos, typed: &Typed, faults: &mut Least)
 }
 
 // The parts of a chain that begins: what stands first, and one that follows.
-fn begun<T: Drop, N: Drop>(alloc: Global, first: T, next: N) -> Result<(Box<T>, Vec<N>), AllocError>
+fn begun<T: Drop, N: Drop>(alloc: Global, first: T, next: N) -> Made<(Box<T>, Vec<N>)>
     ensures first { IfOk result (λ parts. parts.0.value ≡ first) }
     ensures next { IfOk result (λ parts. parts.1.items ≡ next ∷ []) }
 {
@@ -111,19 +111,28 @@ fn begun<T: Drop, N: Drop>(alloc: Global, first: T, next: N) -> Result<(Box<T>, 
     Ok((first, rest))
 }
 
+// A chain that goes on.
+fn longer<N: Drop>(rest: Vec<N>, next: N) -> Made<Vec<N>>
+    ensures { IfOk result (λ all. all.items ≡ rest.items ++ next ∷ []) }
+{
+    let mut all = rest;
+    all.push(next)?;
+    Ok(all)
+}
+
 // The operation goes on the operand's chain, or begins one.
 fn with_operation(
     alloc: Global,
     left: IntegerExpression,
     next: Operation,
-) -> Result<IntegerExpression, AllocError>
+) -> Made<IntegerExpression>
     ensures { let operation = out-Operation next in
         IfOk result (λ value. plain_integer value
         ≡ binary operation.operator (plain_integer left) (plain_integer operation.right)) }
 {
     match left {
-        IntegerExpression::Chain(first, mut rest) => {
-            rest.push(next)?;
+        IntegerExpression::Chain(first, rest) => {
+            let rest = longer(rest, next)?;
             Ok(IntegerExpression::Chain(first, rest))
         }
         first => {
@@ -133,12 +142,7 @@ fn with_operation(
     }
 }
 
-fn combined(
-    alloc: Global,
-    operator: Binary,
-    left: Operand,
-    right: Operand,
-) -> Result<Typed, AllocError>
+fn combined(alloc: Global, operator: Binary, left: Operand, right: Operand) -> Made<Typed>
     ensures { IfOk result (λ typed. plain_typed typed
         ≡ combined operator (plain_typed left.typed.value) (plain_typed right.typed.value)) }
 {
@@ -155,18 +159,11 @@ fn combined(
 }
 
 /// A text, and another one that follows it.
-pub fn with_text(
-    alloc: Global,
-    left: TextExpression,
-    next: TextExpression,
-) -> Result<TextExpression, AllocError>
+pub fn with_text(alloc: Global, left: TextExpression, next: TextExpression) -> Made<TextExpression>
     ensures { IfOk result (λ text. plain_text text ≡ join (plain_text left) (plain_text next)) }
 {
     match left {
-        TextExpression::Join(first, mut rest) => {
-            rest.push(next)?;
-            Ok(TextExpression::Join(first, rest))
-        }
+        TextExpression::Join(first, rest) => Ok(TextExpression::Join(first, longer(rest, next)?)),
         first => {
             let (first, rest) = begun(alloc, first, next)?;
             Ok(TextExpression::Join(first, rest))
@@ -174,7 +171,7 @@ pub fn with_text(
     }
 }
 
-fn joined(alloc: Global, left: Operand, right: Operand) -> Result<Typed, AllocError>
+fn joined(alloc: Global, left: Operand, right: Operand) -> Made<Typed>
     ensures { IfOk result (λ typed. plain_typed typed
         ≡ joined (plain_typed left.typed.value) (plain_typed right.typed.value)) }
 {
@@ -190,7 +187,7 @@ fn joined(alloc: Global, left: Operand, right: Operand) -> Result<Typed, AllocEr
     }
 }
 
-fn one(alloc: Global, operator: Unary, operand: Typed) -> Result<Typed, AllocError>
+fn one(alloc: Global, operator: Unary, operand: Typed) -> Made<Typed>
     ensures { IfOk result (λ typed. plain_typed typed ≡ one operator (plain_typed operand)) }
 {
     match operand {
@@ -211,7 +208,7 @@ fn integer_only(typed: Typed) -> Typed
     }
 }
 
-fn negated(alloc: Global, operand: Typed) -> Result<Typed, AllocError>
+fn negated(alloc: Global, operand: Typed) -> Made<Typed>
     ensures { IfOk result (λ typed. plain_typed typed ≡ negated (plain_typed operand)) }
 {
     match operand {
@@ -230,7 +227,7 @@ pub fn signed(
     sign: Option<Signed>,
     operand: Operand,
     faults: &mut Least,
-) -> Result<Box<Typed>, AllocError>
+) -> Left<Typed>
     ensures { Shows result faults.old faults.new
         (signed sign operand.at (plain_typed operand.typed.value)) }
 {
@@ -247,16 +244,11 @@ pub fn signed(
 
 /// An operator before a primary (RM 4.5.6).
 #[inline(never)]
-pub fn highest(
-    alloc: Global,
-    operator: Highest,
-    operand: Operand,
-    faults: &mut Least,
-) -> Result<Box<Typed>, AllocError>
+pub fn highest(alloc: Global, prefix: Highest, operand: Operand, faults: &mut Least) -> Left<Typed>
     ensures { Shows result faults.old faults.new
-        (highest operator operand.at (plain_typed operand.typed.value)) }
+        (highest prefix operand.at (plain_typed operand.typed.value)) }
 {
-    let typed = match operator {
+    let typed = match prefix {
         Highest::Magnitude => {
             wants(Base::Whole, operand.at, &operand.typed, faults);
             one(alloc, Unary::Magnitude, operand.opened())?
@@ -282,19 +274,21 @@ fn relation_of(operator: Relational) -> Relation
     }
 }
 
-fn compared(
-    alloc: Global,
-    operator: Relational,
-    left: Operand,
-    right: Operand,
-) -> Result<Typed, AllocError>
+fn compared(alloc: Global, operator: Relational, left: Operand, right: Operand) -> Made<Typed>
     ensures { IfOk result (λ typed. plain_typed typed
         ≡ compared operator (plain_typed left.typed.value) (plain_typed right.typed.value)) }
 {
     let relation = relation_of(operator);
     match left.opened() {
         Typed::Number(left) => Ok(related_to(relation, left, right)),
-        Typed::Truth(left) => compared_with(alloc, relation, left, right),
+        Typed::Truth(left) => match right.opened() {
+            Typed::Truth(right) => {
+                let left = Box::new(alloc, left)?;
+                let right = Box::new(alloc, right)?;
+                Ok(Typed::Truth(BooleanExpression::Comparison(relation, left, right)))
+            }
+            _ => Ok(Typed::Unknown),
+        },
         _ => Ok(Typed::Unknown),
     }
 }
@@ -310,26 +304,6 @@ fn related_to(relation: Relation, left: IntegerExpression, right: Operand) -> Ty
     }
 }
 
-// A Boolean that is compared.
-fn compared_with(
-    alloc: Global,
-    relation: Relation,
-    left: BooleanExpression,
-    right: Operand,
-) -> Result<Typed, AllocError>
-    ensures { IfOk result (λ typed. plain_typed typed
-        ≡ compared_with relation (plain_boolean left) (plain_typed right.typed.value)) }
-{
-    match right.opened() {
-        Typed::Truth(right) => {
-            let left = Box::new(alloc, left)?;
-            let right = Box::new(alloc, right)?;
-            Ok(Typed::Truth(BooleanExpression::Comparison(relation, left, right)))
-        }
-        _ => Ok(Typed::Unknown),
-    }
-}
-
 fn typed_connective(connective: Connective) -> TypedConnective
     ensures { result ≡ typed_connective connective }
 {
@@ -342,58 +316,44 @@ fn typed_connective(connective: Connective) -> TypedConnective
     }
 }
 
-// A chain of two operands.
-fn chain(
-    alloc: Global,
-    connective: TypedConnective,
-    first: BooleanExpression,
-    next: BooleanExpression,
-) -> Result<BooleanExpression, AllocError>
-    ensures { IfOk result (λ value. plain_boolean value
-        ≡ connected connective (plain_boolean first) (plain_boolean next)) }
-{
-    let (first, rest) = begun(alloc, first, next)?;
-    Ok(BooleanExpression::Chain(connective, first, rest))
-}
-
 // The operand goes on the chain of the same operator before it, or begins one.
 fn with_operand(
     alloc: Global,
     connective: TypedConnective,
     left: BooleanExpression,
     next: BooleanExpression,
-) -> Result<BooleanExpression, AllocError>
+) -> Made<BooleanExpression>
     ensures { IfOk result (λ value. plain_boolean value
         ≡ connected connective (plain_boolean left) (plain_boolean next)) }
 {
     match left {
-        BooleanExpression::Chain(own, first, mut rest) => {
-            if own != connective {
-                let left = BooleanExpression::Chain(own, first, rest);
-                return chain(alloc, connective, left, next);
+        BooleanExpression::Chain(own, first, rest) => {
+            if own == connective {
+                let rest = longer(rest, next)?;
+                return Ok(BooleanExpression::Chain(own, first, rest));
             }
-            rest.push(next)?;
-            Ok(BooleanExpression::Chain(own, first, rest))
+            let left = BooleanExpression::Chain(own, first, rest);
+            let (first, rest) = begun(alloc, left, next)?;
+            Ok(BooleanExpression::Chain(connective, first, rest))
         }
-        first => chain(alloc, connective, first, next),
+        left => {
+            let (first, rest) = begun(alloc, left, next)?;
+            Ok(BooleanExpression::Chain(connective, first, rest))
+        }
     }
 }
 
-fn both(
-    alloc: Global,
-    connective: Connective,
-    left: Operand,
-    right: Operand,
-) -> Result<Typed, AllocError>
+fn both(alloc: Global, connective: Connective, left: Operand, right: Operand) -> Made<Typed>
     ensures { IfOk result (λ typed. plain_typed typed
         ≡ both connective (plain_typed left.typed.value) (plain_typed right.typed.value)) }
 {
+    let connective = typed_connective(connective);
     let Typed::Truth(left) = left.opened() else {
         return Ok(Typed::Unknown);
     };
     match right.opened() {
         Typed::Truth(right) => {
-            let value = with_operand(alloc, typed_connective(connective), left, right)?;
+            let value = with_operand(alloc, connective, left, right)?;
             Ok(Typed::Truth(value))
         }
         _ => Ok(Typed::Unknown),
@@ -439,12 +399,7 @@ fn check_operands(operator: Operator, left: &Operand, right: &Operand, faults: &
 }
 
 // What is left of an operator and its operands.
-fn put_together(
-    alloc: Global,
-    operator: Operator,
-    left: Operand,
-    right: Operand,
-) -> Result<Typed, AllocError>
+fn put_together(alloc: Global, operator: Operator, left: Operand, right: Operand) -> Made<Typed>
     ensures { IfOk result (λ typed. plain_typed typed
         ≡ (operation operator left.at (plain_typed left.typed.value)
         right.at (plain_typed right.typed.value)).typed) }
@@ -465,7 +420,7 @@ pub fn operation(
     left: Operand,
     right: Operand,
     faults: &mut Least,
-) -> Result<Box<Typed>, AllocError>
+) -> Left<Typed>
     ensures { Shows result faults.old faults.new
         (operation operator left.at (plain_typed left.typed.value)
         right.at (plain_typed right.typed.value)) }

@@ -7,14 +7,16 @@ ghost use Rattle.aud_check.specs.Checked.{named, faults as program_faults, typed
 ghost use Rattle.aud_check.specs.Ties.Regions.{shown_in, named_of};
 ghost use Rattle.aud_check.specs.Ties.Typing.{Leaves};
 
+use crate::behind::Made;
 use crate::declaration::{DeclarativePart, declarations};
 use crate::fault::Least;
 use crate::names::{Meaning, Object, Place, Scope, Symbols};
 use crate::rules::right_name_at_end;
 use crate::statement::statements;
+use crate::within::Within;
 use aud_syntax::tree::Unit;
 use aud_typed::program::{Named, Program, Shown, Subtype};
-use std::alloc::{AllocError, Global};
+use std::alloc::Global;
 
 // How a variable or constant is shown.
 fn shown(meaning: Meaning) -> Shown
@@ -31,7 +33,7 @@ fn shown(meaning: Meaning) -> Shown
     }
 }
 
-fn shown_symbols(alloc: Global, symbols: Symbols) -> Result<Vec<Named>, AllocError>
+fn shown_symbols(alloc: Global, symbols: Symbols) -> Made<Vec<Named>>
     ensures { IfOk result (λ variables. variables.items ≡ map named_of symbols.entries) }
 {
     symbols
@@ -44,7 +46,7 @@ fn shown_symbols(alloc: Global, symbols: Symbols) -> Result<Vec<Named>, AllocErr
 }
 
 // The symbols' names, and how they are shown.
-fn variables_of(alloc: Global, symbols: Symbols) -> Result<Vec<Named>, AllocError>
+fn variables_of(alloc: Global, symbols: Symbols) -> Made<Vec<Named>>
     ensures { IfOk result (λ variables. map plain_named variables.items
         ≡ map named symbols.entries) }
 {
@@ -53,7 +55,7 @@ fn variables_of(alloc: Global, symbols: Symbols) -> Result<Vec<Named>, AllocErro
 
 /// Checks a program (RM 10.1.1): notes its faults, and answers what is left of it.
 #[tactic(auto, using(crate::proofs::Notes::noted_append))]
-pub fn typed(alloc: Global, unit: &Unit, faults: &mut Least) -> Result<Program, AllocError>
+pub fn typed(alloc: Global, unit: &Unit, faults: &mut Least) -> Made<Program>
     ensures { Leaves plain_program result faults.old faults.new
         (program_faults (plain_unit unit.now))
         (typed_program (plain_unit unit.now)) }
@@ -65,13 +67,18 @@ pub fn typed(alloc: Global, unit: &Unit, faults: &mut Least) -> Result<Program, 
         place,
         elaborations,
     };
-    declarations(alloc, &unit.declarations, &mut part, faults)?;
+    declarations(&unit.declarations, &mut part, faults)?;
     let DeclarativePart {
         place,
         elaborations,
     } = part;
     let scope = Scope::new(&place);
-    let statements = statements(alloc, &unit.body.statements, &[], &scope, faults)?;
+    let labels = Vec::new(alloc);
+    let within = Within {
+        scope: &scope,
+        labels: &labels,
+    };
+    let statements = statements(&unit.body.statements, within, faults)?;
     drop(scope);
     right_name_at_end(main, &unit.body.name, faults);
     let variables = variables_of(alloc, place.innermost.symbols)?;

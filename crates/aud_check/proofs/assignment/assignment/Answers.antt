@@ -24,5 +24,5 @@ returns c =
     let last = assigned_faults target.denoted (expression_at (plain_expression c.args.value.now)) value.typed in
     let rest = c.check_assigned.ensures ∙ ap (λ (d : Denoted). noted c.expression.new.faults (assigned_faults d c.expression_at-at.result (plain_typed c.in_ok-typed.typed.value))) c.resolve-denoted.ensures.denoted ∙ ap (λ (x : Pos). noted c.expression.new.faults (assigned_faults target.denoted x (plain_typed c.in_ok-typed.typed.value))) c.expression_at-at.ensures ∙ ap (λ (x : Typed). noted c.expression.new.faults (assigned_faults target.denoted (expression_at (plain_expression c.args.value.now)) x)) c.in_ok-typed.ensures.1 in
     let noted_all = noted_then c.args.faults.now c.arguments.new.faults c.check_assigned.new.faults arguments.faults _ c.in_ok-last.ensures.0 (noted_then c.arguments.new.faults c.resolve-denoted.new.faults c.check_assigned.new.faults target.faults _ c.resolve-denoted.ensures.noted (noted_then c.resolve-denoted.new.faults c.expression.new.faults c.check_assigned.new.faults value.faults last c.in_ok-typed.ensures.0 rest)) in
-    let same = c.assigned.ensures ∙ ap (λ (d : Denoted). assigned d.meaning at (plain_typed c.in_ok-typed.typed.value)) c.resolve-denoted.ensures.denoted ∙ ap (λ (x : Typed). assigned target.denoted.meaning at x) c.in_ok-typed.ensures.1 ∙ ap (λ (x : Pos). assigned target.denoted.meaning x value.typed) (sym (name_begins c.args.target.now)) in
-    leaves_box plain_statement c.boxed.result c.args.faults.now c.check_assigned.new.faults _ c.assigned.result _ noted_all c.boxed.ensures same
+    let same = c.assigned-statement.ensures ∙ ap (λ (d : Denoted). assigned d.meaning at (plain_typed c.in_ok-typed.typed.value)) c.resolve-denoted.ensures.denoted ∙ ap (λ (x : Typed). assigned target.denoted.meaning at x) c.in_ok-typed.ensures.1 ∙ ap (λ (x : Pos). assigned target.denoted.meaning x value.typed) (sym (name_begins c.args.target.now)) in
+    leaves_box plain_statement c.boxed.result c.args.faults.now c.check_assigned.new.faults _ c.assigned-statement.result _ noted_all c.boxed.ensures same

@@ -23,7 +23,7 @@ returns c =
     let at : Pos = (out-Name c.args.name.now).first.ident.at in
     let before = c.resolve-denoted.new.faults in
     let last = callee_faults callee.denoted.meaning (last_args n) callee.denoted.at arguments.typed in
-    let rest = (rw c.into_inner-last.ensures at c.check_callee.ensures) ∙ ap (λ (d : Denoted). noted before (callee_faults d.meaning (plain_expressions c.last_args.result.now) d.at (plain_typed c.in_ok-last.last.value))) c.resolve-denoted.ensures.denoted ∙ ap (λ (xs : Args). noted before (callee_faults callee.denoted.meaning xs callee.denoted.at (plain_typed c.in_ok-last.last.value))) c.last_args.ensures ∙ ap (λ (x : Typed). noted before (callee_faults callee.denoted.meaning (last_args n) callee.denoted.at x)) c.in_ok-last.ensures.1 in
-    let noted_all = noted_then c.args.faults.now c.arguments.new.faults c.check_callee.new.faults arguments.faults _ c.in_ok-last.ensures.0 (noted_then c.arguments.new.faults before c.check_callee.new.faults callee.faults last c.resolve-denoted.ensures.noted rest) in
-    let same : called c.resolve-denoted.result.meaning at (plain_typed c.in_ok-last.last.value) ≡ called callee.denoted.meaning (name_ident n).at arguments.typed = ap (λ (d : Denoted). called d.meaning at (plain_typed c.in_ok-last.last.value)) c.resolve-denoted.ensures.denoted ∙ ap (λ (x : Typed). called callee.denoted.meaning at x) c.in_ok-last.ensures.1 ∙ ap (λ (x : Pos). called callee.denoted.meaning x arguments.typed) (sym (name_begins c.args.name.now)) in
+    let rest = (rw c.into_inner-last.ensures at c.check_callee.ensures) ∙ ap (λ (d : Denoted). noted before (callee_faults d.meaning (plain_expressions c.last_args.result.now) d.at (plain_typed c.in_ok-arguments.field-0.value))) c.resolve-denoted.ensures.denoted ∙ ap (λ (xs : Args). noted before (callee_faults callee.denoted.meaning xs callee.denoted.at (plain_typed c.in_ok-arguments.field-0.value))) c.last_args.ensures ∙ ap (λ (x : Typed). noted before (callee_faults callee.denoted.meaning (last_args n) callee.denoted.at x)) c.in_ok-arguments.ensures.1 in
+    let noted_all = noted_then c.args.faults.now c.arguments.new.faults c.check_callee.new.faults arguments.faults _ c.in_ok-arguments.ensures.0 (noted_then c.arguments.new.faults before c.check_callee.new.faults callee.faults last c.resolve-denoted.ensures.noted rest) in
+    let same : called c.resolve-denoted.result.meaning at (plain_typed c.in_ok-arguments.field-0.value) ≡ called callee.denoted.meaning (name_ident n).at arguments.typed = ap (λ (d : Denoted). called d.meaning at (plain_typed c.in_ok-arguments.field-0.value)) c.resolve-denoted.ensures.denoted ∙ ap (λ (x : Typed). called callee.denoted.meaning at x) c.in_ok-arguments.ensures.1 ∙ ap (λ (x : Pos). called callee.denoted.meaning x arguments.typed) (sym (name_begins c.args.name.now)) in
     leaves_box plain_statement c.boxed.result c.args.faults.now c.check_callee.new.faults (arguments.faults ++ (callee.faults ++ last)) c.in_ok-statement.statement (called callee.denoted.meaning (name_ident n).at arguments.typed) noted_all c.boxed.ensures ((rw c.into_inner-last.ensures at c.in_ok-statement.ensures) ∙ same)
