@@ -25,6 +25,30 @@ pub const NOTHING: Counts = Counts {
     targets: 0,
 };
 
+// One target.
+const TARGET: Counts = Counts {
+    targets: 1,
+    ..NOTHING
+};
+
+fn integers(count: usize) -> Counts
+    ensures { result ≡ record { integers = count; booleans = 0; targets = 0 } }
+{
+    Counts {
+        integers: count,
+        ..NOTHING
+    }
+}
+
+fn booleans(count: usize) -> Counts
+    ensures { result ≡ record { integers = 0; booleans = count; targets = 0 } }
+{
+    Counts {
+        booleans: count,
+        ..NOTHING
+    }
+}
+
 impl Counts {
     /// Whether a step that needs them needs nothing.
     pub fn is_nothing(self) -> bool
@@ -33,35 +57,21 @@ impl Counts {
         self.integers == 0 && self.booleans == 0 && self.targets == 0
     }
 
-    // What is needed before Integers are taken and others are left, where these are needed behind it.
-    fn before_integers(self, taken: usize, left: usize) -> Counts
-        requires { self.integers + taken < usize.MAX }
-        ensures { result ≡ record self { integers = self.integers - left + taken } }
+    // What is needed before some are taken and others are left, where this is needed behind it.
+    fn before(self, taken: Counts, left: Counts) -> Counts
+        requires integers { self.integers + taken.integers < usize.MAX }
+        requires booleans { self.booleans + taken.booleans < usize.MAX }
+        requires targets { self.targets + taken.targets < usize.MAX }
+        ensures { result ≡ record {
+          integers = self.integers - left.integers + taken.integers;
+          booleans = self.booleans - left.booleans + taken.booleans;
+          targets = self.targets - left.targets + taken.targets;
+        } }
     {
         Counts {
-            integers: self.integers.saturating_sub(left) + taken,
-            ..self
-        }
-    }
-
-    // The same with truth values.
-    fn before_booleans(self, taken: usize, left: usize) -> Counts
-        requires { self.booleans + taken < usize.MAX }
-        ensures { result ≡ record self { booleans = self.booleans - left + taken } }
-    {
-        Counts {
-            booleans: self.booleans.saturating_sub(left) + taken,
-            ..self
-        }
-    }
-
-    // The same with one target that is left.
-    fn before_target(self) -> Counts
-        ensures { result ≡ record self { targets = self.targets - 1 } }
-    {
-        Counts {
-            targets: self.targets.saturating_sub(1),
-            ..self
+            integers: self.integers.saturating_sub(left.integers) + taken.integers,
+            booleans: self.booleans.saturating_sub(left.booleans) + taken.booleans,
+            targets: self.targets.saturating_sub(left.targets) + taken.targets,
         }
     }
 
@@ -89,22 +99,22 @@ pub fn need_before(instruction: &Instruction, next: Counts, over: Counts) -> Cou
     ensures few { (n : ℕ) → AreAtMost next n → AreAtMost over n → AreAtMost result (n + 2) }
 {
     match instruction {
-        Instruction::Push(_) | Instruction::Load(_) => next.before_integers(0, 1),
-        Instruction::OnOne(_) | Instruction::Check(_) => next.before_integers(1, 1),
-        Instruction::OnTwo(_) => next.before_integers(2, 1),
-        Instruction::Cell => next.before_integers(0, 1).before_booleans(1, 0),
-        Instruction::PushTruth(_) => next.before_booleans(0, 1),
-        Instruction::Truth => next.before_integers(1, 0).before_booleans(0, 1),
-        Instruction::Negate => next.before_booleans(1, 1),
-        Instruction::Relate(_) => next.before_integers(2, 0).before_booleans(0, 1),
-        Instruction::Compare(_) | Instruction::Combine(_) => next.before_booleans(2, 1),
+        Instruction::Push(_) | Instruction::Load(_) => next.before(NOTHING, integers(1)),
+        Instruction::OnOne(_) | Instruction::Check(_) => next.before(integers(1), integers(1)),
+        Instruction::OnTwo(_) => next.before(integers(2), integers(1)),
+        Instruction::Cell => next.before(booleans(1), integers(1)),
+        Instruction::PushTruth(_) => next.before(NOTHING, booleans(1)),
+        Instruction::Truth => next.before(integers(1), booleans(1)),
+        Instruction::Negate => next.before(booleans(1), booleans(1)),
+        Instruction::Relate(_) => next.before(integers(2), booleans(1)),
+        Instruction::Compare(_) | Instruction::Combine(_) => next.before(booleans(2), booleans(1)),
         Instruction::PassIfFalse(_) | Instruction::PassIfTrue(_) => next
-            .before_booleans(1, 0)
-            .or(over.before_booleans(1, 1)),
-        Instruction::Find(_, _) => next.before_target(),
+            .before(booleans(1), NOTHING)
+            .or(over.before(booleans(1), booleans(1))),
+        Instruction::Find(_, _) => next.before(NOTHING, TARGET),
         Instruction::AppendText(_) | Instruction::AppendNewLine => next,
-        Instruction::AppendImage => next.before_integers(1, 0),
-        Instruction::AppendTruth => next.before_booleans(1, 0),
+        Instruction::AppendImage => next.before(integers(1), NOTHING),
+        Instruction::AppendTruth => next.before(booleans(1), NOTHING),
     }
 }
 
@@ -114,19 +124,12 @@ pub fn need_of_ending(last: Last) -> Counts
     ensures few { AreAtMost result 1 }
 {
     match last {
-        Last::Does(Ending::Declare { .. }, _) => Counts {
-            integers: 1,
-            ..NOTHING
-        },
+        Last::Does(Ending::Declare { .. }, _) => integers(1),
         Last::Does(Ending::Assign, _) => Counts {
-            integers: 1,
             targets: 1,
-            ..NOTHING
+            ..integers(1)
         },
-        Last::Does(Ending::If(_) | Ending::While(_) | Ending::Exit(_), _) => Counts {
-            booleans: 1,
-            ..NOTHING
-        },
+        Last::Does(Ending::If(_) | Ending::While(_) | Ending::Exit(_), _) => booleans(1),
         Last::Does(Ending::Null | Ending::Put, _) | Last::Guards | Last::Ends => NOTHING,
     }
 }

@@ -2,6 +2,7 @@
 #![tactic(auto)]
 
 pub mod evaluate;
+mod few;
 pub mod flow;
 pub mod fused;
 mod integers;

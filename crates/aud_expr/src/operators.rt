@@ -1,6 +1,6 @@
 // Operators of Integers and of truth values, and the ranges of subtypes.
 
-ghost use Rattle.std.specs.Prelude.{◌≡◌, ℤ, int_lt, IsTrue};
+ghost use Rattle.std.specs.Prelude.{◌≡◌};
 ghost use Rattle.aud_meaning.specs.Evaluation.{unary_of, binary_of, cell_of, truth_of, related, logical_of, in_range};
 
 use aud_text::int32::Int32;
@@ -54,42 +54,21 @@ pub fn related(relation: Relation, x: Int32, y: Int32) -> bool
 {
     let (x, y) = (x.get(), y.get());
     if x < y {
-        holds_if_less(relation)
+        matches!(
+            relation,
+            Relation::Unequal | Relation::Less | Relation::AtMost
+        )
     } else if x == y {
-        holds_if_equal(relation)
+        matches!(
+            relation,
+            Relation::Equal | Relation::AtMost | Relation::AtLeast
+        )
     } else {
-        holds_if_greater(relation)
+        matches!(
+            relation,
+            Relation::Unequal | Relation::Greater | Relation::AtLeast
+        )
     }
-}
-
-#[inline(always)]
-fn holds_if_less(relation: Relation) -> bool
-    ensures { (x y : ℤ) → IsTrue (int_lt x y) → result ≡ related relation x y }
-{
-    matches!(
-        relation,
-        Relation::Unequal | Relation::Less | Relation::AtMost
-    )
-}
-
-#[inline(always)]
-fn holds_if_equal(relation: Relation) -> bool
-    ensures { (x : ℤ) → result ≡ related relation x x }
-{
-    matches!(
-        relation,
-        Relation::Equal | Relation::AtMost | Relation::AtLeast
-    )
-}
-
-#[inline(always)]
-fn holds_if_greater(relation: Relation) -> bool
-    ensures { (x y : ℤ) → IsTrue (int_lt y x) → result ≡ related relation x y }
-{
-    matches!(
-        relation,
-        Relation::Unequal | Relation::Greater | Relation::AtLeast
-    )
 }
 
 #[inline(always)]
