@@ -250,7 +250,12 @@ fn factor(factor: &Factor, scope: &Scope<'_>, faults: &mut Least) -> Left<Typed>
         None => Ok(typed),
         Some(operator) => {
             let at = primary_at(&factor.primary);
-            highest(scope.alloc(), operator.highest, Operand { at, typed }, faults)
+            highest(
+                scope.alloc(),
+                operator.highest,
+                Operand { at, typed },
+                faults,
+            )
         }
     }
 }

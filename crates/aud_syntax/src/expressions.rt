@@ -41,7 +41,8 @@ pub fn push_maybe(
     spelling: &[u8],
     expression: &Option<Expression>,
 ) -> Result<(), AllocError>
-    ensures { Writes result out.old out.new (maybe_words spelling.now (plain_maybe expression.now)) }
+    ensures { Writes result out.old out.new
+        (maybe_words spelling.now (plain_maybe expression.now)) }
 {
     match expression {
         None => Ok(()),

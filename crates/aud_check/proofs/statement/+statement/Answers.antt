@@ -1,4 +1,4 @@
-use Rattle.std.proofs.Common.{◌≡◌, [], ◌+◌, ◌++◌, ◌∷◌, drop, refl, sym, ap, subst, ◌∙◌, arith, append-nil}
+use Rattle.std.proofs.Common.{◌≡◌, ◌+◌, ◌++◌, drop, sym, ap, subst, ◌∙◌, arith}
 use Rattle.std.proofs.lemmas.List.{drop_all}
 use Rattle.std.specs.Prelude.{Box, Vec, Ok, is_some}
 use Rattle.std.specs.Global.{Global}
@@ -8,11 +8,10 @@ use Rattle.aud_typed.specs.Tree as tree
 use Rattle.aud_syntax.specs.Ties.View.{plain_maybe, plain_statement, plain_others, arm_list, plain_if_statement, plain_loop_statement}
 use Rattle.aud_syntax.proofs.Opened.{if_open, loop_open}
 use Rattle.aud_syntax.proofs.Written.{dropped}
-use Rattle.aud_typed.specs.Ties.View.{plain_statement as plain_typed_statement, plain_statements as plain_typed_statements, part_of_arms}
-use Rattle.aud_check.specs.Least.{noted}
+use Rattle.aud_typed.specs.Ties.View.{plain_statement as plain_typed_statement, part_of_arms}
 use Rattle.aud_check.specs.Rules.{exit_in_loop}
 use Rattle.aud_check.specs.Conditions.{maybe_condition_faults, maybe_condition}
-use Rattle.aud_check.specs.Statements.{loop_number, statement_faults, typed_statement, arms_faults, typed_arms, others_faults, typed_others}
+use Rattle.aud_check.specs.Statements.{loop_number, statement_faults, typed_statement, others_faults, typed_others}
 use Rattle.aud_check.specs.Ties.Arms.{plain_arm, arm_then, LeavesArms}
 use Rattle.aud_check.specs.Ties.Within.{labels_of}
 use Rattle.aud_check.specs.Ties.Typing.{plain_items, in_box, Leaves}
