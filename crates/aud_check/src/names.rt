@@ -127,7 +127,8 @@ impl<'a> Scope<'a> {
 
     /// The place within the declaration of these names.
     pub fn within(place: &'a Place, names: &'a Identifiers) -> Made<Self>
-        ensures { IfOk result (λ scope. scope ≡ hiding (names_in names.now) (plain_place place.now)) }
+        ensures { IfOk result (λ scope.
+            scope ≡ hiding (names_in names.now) (plain_place place.now)) }
     {
         let hidden = Hidden::new(place.innermost.alloc, names)?;
         Ok(Scope {
