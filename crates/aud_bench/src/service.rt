@@ -172,7 +172,7 @@ fn run(
             cost: units,
         });
     }
-    let raised = named_if(alloc, machine.raised())?;
+    let raised = named_if(alloc, &machine.program().exceptions, machine.raised())?;
     Ok(Served {
         answer: Some(Answer::Ran(Report {
             steps: done,
@@ -215,23 +215,28 @@ fn ended_by(state: State, raised: Option<Raised>) -> Option<Raised>
     }
 }
 
-fn named_if(alloc: Global, raised: Option<Exception>) -> Result<Option<Raised>, AllocError>
-    ensures { IfOk result (λ x. (p : Programs) →
-        x ≡ named_if (plain_program p).plan.exceptions raised) }
+fn named_if(
+    alloc: Global,
+    names: &[Name],
+    raised: Option<Exception>,
+) -> Result<Option<Raised>, AllocError>
+    ensures { IfOk result (λ x. x ≡ named_if names.now raised) }
 {
     match raised {
         None => Ok(None),
-        Some(exception) => Ok(Some(named(alloc, exception)?)),
+        Some(exception) => Ok(Some(named(alloc, names, exception)?)),
     }
 }
 
-// An exception with its name; no program declares one yet.
-fn named(alloc: Global, exception: Exception) -> Result<Raised, AllocError>
-    ensures { IfOk result (λ x. (p : Programs) →
-        x ≡ named (plain_program p).plan.exceptions exception) }
+// An exception with its name: of those that the program declares, the one of its number.
+fn named(alloc: Global, names: &[Name], exception: Exception) -> Result<Raised, AllocError>
+    ensures { IfOk result (λ x. x ≡ named names.now exception) }
 {
     match exception {
         Exception::Predefined(raise) => Ok(Raised::Predefined(raise)),
-        Exception::Declared(_) => Ok(Raised::Declared(Name::from_source(alloc, b"")?)),
+        Exception::Declared(number) => Ok(Raised::Declared(match names.get(number) {
+            Some(name) => name.try_clone(alloc)?,
+            None => Name::from_source(alloc, b"")?,
+        })),
     }
 }

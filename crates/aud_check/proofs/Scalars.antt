@@ -10,7 +10,7 @@ use Rattle.aud_typed.specs.declared.program.Variable.{Variable}
 use Rattle.aud_typed.specs.declared.program.Subtype.TheVariants.{Integer, Natural, Positive, Boolean}
 use Rattle.aud_typed.specs.Tree as tree
 use Rattle.aud_check.specs.declared.fault.Fault.{Fault}
-use Rattle.aud_check.specs.Checked.{faults, checked}
+use Rattle.aud_check.specs.Checked.{unhandled, faults, checked}
 
 abbrev fault : Pos → Refusal → Fault
 fault place refusal = record { at = place; refusal = refusal }
@@ -40,16 +40,13 @@ abbrev program_of_four : tree.Statement → tree.Program
 program_of_four s = tree.program_of_main (record {
   name = codes "M";
   at = at 1 1;
-  variables = shown_as (codes "N") tree.as_whole ∷ shown_as (codes "P") tree.as_whole ∷ shown_as (codes "B") tree.as_truth ∷ shown_as (codes "C") tree.as_whole ∷ [];
-  declarations =
+  main = unhandled (
       tree.declare (at 2 1) 1 (tree.whole Natural (tree.number (pos 0))) ∷
       tree.declare (at 3 1) 2 (tree.whole Positive (tree.number (pos 1))) ∷
       tree.declare (at 4 1) 3 (tree.boolean (tree.truth false)) ∷
-      tree.declare (at 5 1) 4 (tree.whole Integer (tree.number (pos 3))) ∷ [];
-  begin = at 6 1;
-  first = s;
-  others = [];
-  end = at 9 1;
+      tree.declare (at 5 1) 4 (tree.whole Integer (tree.number (pos 3))) ∷ []) (at 6 1) s (at 9 1);
+  regions = (shown_as (codes "N") tree.as_whole ∷ shown_as (codes "P") tree.as_whole ∷ shown_as (codes "B") tree.as_truth ∷ shown_as (codes "C") tree.as_whole ∷ []) ∷ [];
+  exceptions = [];
 })
 
 -- each subtype, and what a variable without an initial value starts with

@@ -3,7 +3,7 @@ use Rattle.std.specs.Prelude.{IfSome}
 use Rattle.std.specs.Map.{lookup}
 use Rattle.std.specs.List.{All, AllByRecursion}
 use Rattle.std.specs.Str.{bytes_eq}
-use Rattle.std.proofs.Common.{◌≡◌, ℕ, suc, ℤ, max, ◌+◌, ◌≤◌, Bool, true, false, List, [], ◌∷◌, ◌++◌, length, Option, Some, None, if◌then◌else◌, map, arith, not, refl, sym, ◌∙◌, ap, subst}
+use Rattle.std.proofs.Common.{◌≡◌, ℕ, suc, ℤ, max, ◌+◌, ◌-◌, ◌≤◌, Bool, true, false, List, [], ◌∷◌, ◌++◌, length, Option, Some, None, if◌then◌else◌, map, arith, not, refl, sym, ◌∙◌, ap, subst}
 use Rattle.std.proofs.lemmas.List.{length-map, length_push}
 use Rattle.std.proofs.lemmas.List.Elements.{All-from_recursion, All-nil, All-push}
 use Rattle.std.proofs.lemmas.Map.Entries.{All-lookup}
@@ -27,7 +27,8 @@ use Rattle.aud_typed.specs.declared.program.Unary.{Unary}
 use Rattle.aud_typed.specs.declared.program.Unary.TheVariants as unary
 use Rattle.aud_typed.specs.declared.program.Binary.{Binary}
 use Rattle.aud_typed.specs.Tree as tree
-use Rattle.aud_typed.specs.Why.Scoped.{Scope, IsElaborated, IntegerScoped, BooleanScoped, ValueScoped, TextScoped, scope_after, StatementScoped, scope_behind, PartScoped, IsScoped}
+use Rattle.aud_typed.specs.Tree.{Plan}
+use Rattle.aud_typed.specs.Why.Scoped.{Scope, IsElaborated, IntegerScoped, BooleanScoped, ValueScoped, TextScoped, in_innermost, declared_up_to, scope_after, shown_cells, cells_of, all_of_table, StatementScoped, scope_behind, PartScoped, IsScoped}
 use Rattle.aud_check.specs.declared.fault.Fault.{Fault}
 use Rattle.aud_check.specs.declared.names.Meaning.{Meaning}
 use Rattle.aud_check.specs.declared.names.Meaning.TheVariants.{ScalarType, Literal, Object, Builtin, MainProcedure}
@@ -77,8 +78,8 @@ abbrev Sees : Scope → Place → Type 0
 Sees scope n = (name : List ℕ) → VisibleScoped scope (names.visible name n)
 
 -- a statement, which elaborates nothing
-abbrev IsStatement : Scope → tree.Statement → Type 0
-IsStatement scope x = StatementScoped x scope × (scope_after x scope ≡ scope)
+abbrev IsStatement : Plan → Scope → tree.Statement → Type 0
+IsStatement plan scope x = StatementScoped plan x scope × (scope_after x scope ≡ scope)
 
 either : {X : Type 0} (P : X → Type 0) (b : Bool) (x y : X) → P x → P y → P (if b then x else y)
 either P true x y h i = h
@@ -238,14 +239,14 @@ module _ (scope : Scope) where
   stored_elaborated v Positive h = h
   stored_elaborated v Boolean h = h
 
-module _ (scope : Scope) where
+module _ (plan : Plan) (scope : Scope) where
   -- statements one after the other
 
-  before_scoped : (x : tree.Statement) (xs : List tree.Statement) → IsStatement scope x → AllByRecursion (IsStatement scope) xs → StatementScoped (tree.before x xs) scope
+  before_scoped : (x : tree.Statement) (xs : List tree.Statement) → IsStatement plan scope x → AllByRecursion (IsStatement plan scope) xs → StatementScoped plan (tree.before x xs) scope
   before_scoped x [] h i = h.0
   before_scoped x (y ∷ ys) h i = (h.0, rw h.1 (before_scoped y ys i.0 i.1))
 
-  others_part_scoped : (xs : List tree.Statement) → AllByRecursion (IsStatement scope) xs → PartScoped (tree.part_of xs) scope
+  others_part_scoped : (xs : List tree.Statement) → AllByRecursion (IsStatement plan scope) xs → PartScoped plan (tree.part_of xs) scope
   others_part_scoped [] h = tt
   others_part_scoped (x ∷ xs) h = before_scoped x xs h.0 h.1
 
@@ -255,7 +256,7 @@ module _ (scope : Scope) where
   truth_scoped (boolean x) h = h
   truth_scoped _ h = tt
 
-  looped_scoped : (at : Pos) (x : Option tree.BooleanExpression) (body : tree.Statement) → IfSome x (λ b. BooleanScoped b scope) → StatementScoped body scope → IsStatement scope (s.looped at x body)
+  looped_scoped : (at : Pos) (x : Option tree.BooleanExpression) (body : tree.Statement) → IfSome x (λ b. BooleanScoped b scope) → StatementScoped plan body scope → IsStatement plan scope (s.looped at x body)
   looped_scoped at None body h i = (i, refl)
   looped_scoped at (Some x) body h i = ((h, i), refl)
 
@@ -325,28 +326,35 @@ module _ (scope : Scope) (n : Place) (sees : Sees scope n) where
   arguments_scoped : (x : plain.Name) → TypedScoped scope (e.checked_arguments x n).typed
   arguments_scoped (plain.named p ps) = parts_scoped ps _ (part_scoped p unknown tt)
 
+  -- the initial value of a declaration
+
+  initial_scoped : (x : plain.MaybeExpression) (t : Option Subtype) → ValueScoped (d.initial_value x t n) scope
+  initial_scoped plain.no_expression t = default_scoped scope (d.known t)
+  initial_scoped (plain.an_expression x) t = value_scoped scope (d.known t) (e.checked_expression x n).typed (expression_scoped x)
+
+module _ (plan : Plan) (scope : Scope) (n : Place) (sees : Sees scope n) where
   -- statements
 
-  assigned_to_scoped : (v : Variable) (t : Option Subtype) (at : Pos) (x : Typed) → TypedScoped scope (e.stored v t) → TypedScoped scope x → IsStatement scope (assignments.assigned_to v t at x)
+  assigned_to_scoped : (v : Variable) (t : Option Subtype) (at : Pos) (x : Typed) → TypedScoped scope (e.stored v t) → TypedScoped scope x → IsStatement plan scope (assignments.assigned_to v t at x)
   assigned_to_scoped v None at x h i = (tt, refl)
   assigned_to_scoped v (Some t) at x h i = ((stored_elaborated scope v t h, value_scoped scope t x i), refl)
 
-  assigned_scoped : (m : Option Meaning) (at : Pos) (t : Typed) → VisibleScoped scope m → TypedScoped scope t → IsStatement scope (assignments.assigned m at t)
+  assigned_scoped : (m : Option Meaning) (at : Pos) (t : Typed) → VisibleScoped scope m → TypedScoped scope t → IsStatement plan scope (assignments.assigned m at t)
   assigned_scoped (Some (Object o)) at t h i = assigned_to_scoped o.variable o.subtype at t h i
   assigned_scoped _ at _ h i = (tt, refl)
 
-  put_scoped : (b : names_in_memory.Builtin) (at : Pos) (t : Typed) → TypedScoped scope t → IsStatement scope (calls.put_out b at t)
+  put_scoped : (b : names_in_memory.Builtin) (at : Pos) (t : Typed) → TypedScoped scope t → IsStatement plan scope (calls.put_out b at t)
   put_scoped Put at (string x) h = (h, refl)
   put_scoped PutLine at (string x) h = ((h, tt), refl)
   put_scoped NewLine at t h = (tt, refl)
   put_scoped _ at _ h = (tt, refl)
 
-  called_scoped : (m : Option Meaning) (at : Pos) (t : Typed) → TypedScoped scope t → IsStatement scope (calls.called m at t)
+  called_scoped : (m : Option Meaning) (at : Pos) (t : Typed) → TypedScoped scope t → IsStatement plan scope (calls.called m at t)
   called_scoped (Some (Builtin b)) at t h = put_scoped b at t h
   called_scoped _ at t h = (tt, refl)
 
   condition_scoped : (x : plain.Expression) → BooleanScoped (q.condition x n) scope
-  condition_scoped x = truth_scoped scope (e.checked_expression x n).typed (expression_scoped x)
+  condition_scoped x = truth_scoped plan scope (e.checked_expression x n).typed (expression_scoped scope n sees x)
 
   maybe_condition_scoped : (x : plain.MaybeExpression) → BooleanScoped (q.maybe_condition x n) scope
   maybe_condition_scoped plain.no_expression = tt
@@ -357,37 +365,31 @@ module _ (scope : Scope) (n : Place) (sees : Sees scope n) where
   loop_condition_scoped (plain.while x) = condition_scoped x
 
   mutual
-    statement_scoped : (x : plain.Statement) (labels : Labels) → IsStatement scope (s.typed_statement x labels n)
+    statement_scoped : (x : plain.Statement) (labels : Labels) → IsStatement plan scope (s.typed_statement x labels n)
     statement_scoped (plain.null at) labels = (tt, refl)
-    statement_scoped (plain.assign x value) labels = assigned_scoped (resolution.resolved x n).denoted.meaning (resolution.name_ident x).at _ (resolved_scoped x) (expression_scoped value)
-    statement_scoped (plain.call x) labels = called_scoped (resolution.resolved x n).denoted.meaning (resolution.name_ident x).at _ (arguments_scoped x)
+    statement_scoped (plain.assign x value) labels = assigned_scoped (resolution.resolved x n).denoted.meaning (resolution.name_ident x).at _ (resolved_scoped scope n sees x) (expression_scoped scope n sees value)
+    statement_scoped (plain.call x) labels = called_scoped (resolution.resolved x n).denoted.meaning (resolution.name_ident x).at _ (arguments_scoped scope n sees x)
     statement_scoped (plain.if_then at x ss arms otherwise) labels =
-        ((condition_scoped x, sequence_scoped ss labels, arms_scoped arms labels _ (others_part_scoped scope _ (others_scoped otherwise labels))), refl)
-    statement_scoped (plain.loop label at i ss last semicolon) labels = looped_scoped scope (s.loop_at label at) (s.loop_condition i n) _ (loop_condition_scoped i) (sequence_scoped ss (label ∷ labels))
+        ((condition_scoped x, sequence_scoped ss labels, arms_scoped arms labels _ (others_part_scoped plan scope _ (others_scoped otherwise labels))), refl)
+    statement_scoped (plain.loop label at i ss last semicolon) labels = looped_scoped plan scope (s.loop_at label at) (s.loop_condition i n) _ (loop_condition_scoped i) (sequence_scoped ss (label ∷ labels))
     statement_scoped (plain.exit at name x) labels = (maybe_condition_scoped x, refl)
 
-    arms_scoped : (x : plain.Arms) (labels : Labels) (otherwise : tree.Part) → PartScoped otherwise scope → PartScoped (s.typed_arms x labels n otherwise) scope
+    arms_scoped : (x : plain.Arms) (labels : Labels) (otherwise : tree.Part) → PartScoped plan otherwise scope → PartScoped plan (s.typed_arms x labels n otherwise) scope
     arms_scoped plain.no_arms labels otherwise h = h
     arms_scoped (plain.more_arms at x ss arms) labels otherwise h = (condition_scoped x, sequence_scoped ss labels, arms_scoped arms labels otherwise h)
 
-    sequence_scoped : (x : plain.Statements) (labels : Labels) → StatementScoped (s.sequence_of (s.typed_statements x labels n)) scope
-    sequence_scoped (plain.in_order x xs) labels = before_scoped scope _ _ (statement_scoped x labels) (others_scoped xs labels)
+    sequence_scoped : (x : plain.Statements) (labels : Labels) → StatementScoped plan (s.sequence_of (s.typed_statements x labels n)) scope
+    sequence_scoped (plain.in_order x xs) labels = before_scoped plan scope _ _ (statement_scoped x labels) (others_scoped xs labels)
 
-    others_scoped : (x : plain.MoreStatements) (labels : Labels) → AllByRecursion (IsStatement scope) (s.typed_others x labels n)
+    others_scoped : (x : plain.MoreStatements) (labels : Labels) → AllByRecursion (IsStatement plan scope) (s.typed_others x labels n)
     others_scoped plain.no_statements labels = tt
     others_scoped (plain.more_statements x xs) labels = (statement_scoped x labels, others_scoped xs labels)
-
-  -- the initial value of a declaration
-
-  initial_scoped : (x : plain.MaybeExpression) (t : Option Subtype) → ValueScoped (d.initial_value x t n) scope
-  initial_scoped plain.no_expression t = default_scoped scope (d.known t)
-  initial_scoped (plain.an_expression x) t = value_scoped scope (d.known t) (e.checked_expression x n).typed (expression_scoped x)
 
 -- declarations
 
 -- where k variables of the body have been elaborated, and none further out
 abbrev only : ℕ → Scope
-only k = k ∷ []
+only k = record { names = k; cells = k } ∷ []
 
 -- they elaborate variables, from the first of these numbers on up to the second
 data Elaborates : ℕ → List tree.Statement → ℕ → Type 0 where
@@ -398,15 +400,20 @@ elaborates_append : {k l m : ℕ} {xs ys : List tree.Statement} → Elaborates k
 elaborates_append none i = i
 elaborates_append (one_more h e rest) i = one_more h e (elaborates_append rest i)
 
-before_elaborates : (k m : ℕ) (x : tree.Statement) (xs : List tree.Statement) → Elaborates k (x ∷ xs) m → StatementScoped (tree.before x xs) (only k) × (scope_after (tree.before x xs) (only k) ≡ only m)
-before_elaborates k m _ [] (one_more h e none) = (h, ap only e)
-before_elaborates k m _ (y ∷ ys) (one_more h e rest) =
-    let more = subst (λ n. StatementScoped (tree.before y ys) (only n) × (scope_after (tree.before y ys) (only n) ≡ only m)) (sym e) (before_elaborates _ m y ys rest) in
+grown : (k l n : ℕ) → max (suc k) l ≡ n → in_innermost (declared_up_to l) (only k) ≡ only n
+grown k l n e =
+    let cells : k + (n - k) ≡ n = omega (arith, e) in
+    ap (λ m. record { names = m; cells = k + (m - k) } ∷ []) e ∙ ap (λ m. record { names = n; cells = m } ∷ []) cells
+
+before_elaborates : (plan : Plan) (k m : ℕ) (x : tree.Statement) (xs : List tree.Statement) → Elaborates k (x ∷ xs) m → StatementScoped plan (tree.before x xs) (only k) × (scope_after (tree.before x xs) (only k) ≡ only m)
+before_elaborates plan k m _ [] (one_more {l = l} h e none) = (h, grown k l m e)
+before_elaborates plan k m _ (y ∷ ys) (one_more {l = l} {n = n} h e rest) =
+    let more = subst (λ z. StatementScoped plan (tree.before y ys) z × (scope_after (tree.before y ys) z ≡ only m)) (sym (grown k l n e)) (before_elaborates plan n m y ys rest) in
     ((h, more.0), more.1)
 
-part_elaborates : (k m : ℕ) (xs : List tree.Statement) → Elaborates k xs m → PartScoped (tree.part_of xs) (only k) × (scope_behind (tree.part_of xs) (only k) ≡ only m)
-part_elaborates k m [] none = (tt, refl)
-part_elaborates k m (x ∷ xs) h = before_elaborates k m x xs h
+part_elaborates : (plan : Plan) (k m : ℕ) (xs : List tree.Statement) → Elaborates k xs m → PartScoped plan (tree.part_of xs) (only k) × (scope_behind (tree.part_of xs) (only k) ≡ only m)
+part_elaborates plan k m [] none = (tt, refl)
+part_elaborates plan k m (x ∷ xs) h = before_elaborates plan k m x xs h
 
 -- a symbol for each cell, and where all cells are elaborated, so is each variable of the region
 record RegionScoped (r : Region) : Type 0 where
@@ -492,17 +499,41 @@ in_main name = record {
   others = λ scope. let all = All-from_recursion (λ x. MeaningScoped scope x.1) in (all ((name, MainProcedure) ∷ []) (tt, tt), (all names.predefined (tt, (tt, (tt, (tt, (tt, (tt, (tt, (tt, (tt, tt))))))))), tt));
 }
 
+-- each has a cell
+subtype_cell : (t : Option Subtype) → shown_cells (c.shown_of t) ≡ 1
+subtype_cell None = refl
+subtype_cell (Some Integer) = refl
+subtype_cell (Some Natural) = refl
+subtype_cell (Some Positive) = refl
+subtype_cell (Some Boolean) = refl
+
+shown_cell : (m : Meaning) → shown_cells (c.shown m) ≡ 1
+shown_cell (Object o) = subtype_cell o.subtype
+shown_cell (ScalarType t) = refl
+shown_cell (Literal b) = refl
+shown_cell (Builtin b) = refl
+shown_cell MainProcedure = refl
+
+cells_counted : (xs : List Symbol) → cells_of (map c.named xs) ≡ length xs
+cells_counted [] = refl
+cells_counted (x ∷ xs) = omega (arith, shown_cell x.1, cells_counted xs)
+
+-- of the region's table
+all_elaborated : (r : Region) → length r.symbols ≡ r.cells → all_of_table (map c.named r.symbols) ∷ [] ≡ only r.cells
+all_elaborated r h =
+    let names : length (map c.named r.symbols) ≡ r.cells = length-map r.symbols c.named ∙ h in
+    let cells : cells_of (map c.named r.symbols) ≡ r.cells = cells_counted r.symbols ∙ h in
+    ap (λ n. record { names = n; cells = cells_of (map c.named r.symbols) } ∷ []) names ∙ ap (λ n. record { names = r.cells; cells = n } ∷ []) cells
+
 body_scoped : (at : Pos) (main : Ident) (x : d.Declared) (b : plain.Body) → DeclaredScoped (names.main_place main.name) x → IsScoped (c.unit_program at main x b)
 body_scoped at main x (plain.body begin ss end last) h =
+    let plan = (c.unit_program at main x (plain.body begin ss end last)).plan in
     let r : Region = names.innermost x.place in
-    let variables : length (map c.named r.symbols) ≡ r.cells = length-map r.symbols c.named ∙ h.0.innermost.counted in
-    let declarations = part_elaborates 0 r.cells x.elaborations h.1 in
+    let table = sym (all_elaborated r h.0.innermost.counted) in
+    let declarations = part_elaborates plan 0 r.cells x.elaborations h.1 in
     let sees = regions_see (only r.cells) x.place (body_regions x.place r.cells h.0 (omega arith)) in
-    record {
-      declarations = declarations.0;
-      variables = declarations.1 ∙ ap only (sym variables);
-      statements = rw variables (sequence_scoped (only r.cells) x.place sees ss []);
-    }
+    let statements = sequence_scoped plan (only r.cells) x.place sees ss [] in
+    (declarations.0, declarations.1 ∙ table, subst (StatementScoped plan (s.sequence_of (s.typed_statements ss [] x.place))) table statements, tt)
 
 pub typed_scoped : (u : plain.Unit) → c.faults u ≡ [] → IsScoped (c.typed u)
 typed_scoped (plain.unit context at name declarations (plain.body begin xs end last)) q =

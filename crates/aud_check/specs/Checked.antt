@@ -13,7 +13,7 @@ use Rattle.aud_check.specs.declared.names.Meaning.TheVariants.{Object}
 use Rattle.aud_check.specs.Names.{Symbol, innermost, main_place}
 use Rattle.aud_check.specs.Rules.{right_name_at_end}
 use Rattle.aud_check.specs.Declarations.{Declared, checked_declarations}
-use Rattle.aud_check.specs.Statements.{statements_faults, typed_statements}
+use Rattle.aud_check.specs.Statements.{statements_faults, typed_statements, sequence_of}
 
 -- how a variable or constant is shown
 abbrev pub shown_of : Option Subtype → tree.Shown
@@ -31,16 +31,18 @@ named s = record { name = s.0; shown = shown s.1 }
 abbrev pub unit_faults : Ident → Declared → Body → List Fault
 unit_faults main d (body begin statements end last) = d.faults ++ (statements_faults statements [] d.place ++ right_name_at_end main.name last)
 
+-- a body without handlers
+abbrev pub unhandled : List tree.Statement → Pos → tree.Statement → Pos → tree.Body
+unhandled declarations begin statements end = tree.body (tree.part_of declarations) begin statements tree.no_handlers end
+
+-- it has one frame, that of its variables
 abbrev pub unit_program : Pos → Ident → Declared → Body → tree.Program
 unit_program at main d (body begin statements end last) = tree.program_of_main (record {
   name = main.name;
   at = at;
-  variables = map named (innermost d.place).symbols;
-  declarations = d.elaborations;
-  begin = begin;
-  first = (typed_statements statements [] d.place).first;
-  others = (typed_statements statements [] d.place).others;
-  end = end;
+  main = unhandled d.elaborations begin (sequence_of (typed_statements statements [] d.place)) end;
+  regions = map named (innermost d.place).symbols ∷ [];
+  exceptions = [];
 })
 
 -- every fault of a program; the name after the end must be its own, and context clauses have no effect (RM 10.1.2, 8.4)

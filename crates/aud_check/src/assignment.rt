@@ -69,7 +69,7 @@ fn assigned(meaning: Option<Meaning>, at: Pos, value: Operand) -> TypedStatement
         None => TypedStatement::Null(at),
         Some(subtype) => {
             let variable = object.variable;
-            let reference = Reference { variable, subtype };
+            let reference = Reference::Scalar(variable, subtype);
             TypedStatement::Assign(at, reference, value_for(subtype, value.opened()))
         }
     }

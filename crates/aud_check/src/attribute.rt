@@ -89,10 +89,16 @@ fn image_of(value: Typed) -> Typed
 fn image_of_type(base: Base, value: Typed) -> Typed
     ensures { plain_typed result ≡ image_of_type base (plain_typed value) }
 {
-    match (base, value) {
-        (Base::Whole, Typed::Number(x)) => Typed::Text(TextExpression::Image(x)),
-        (Base::Truth, Typed::Truth(x)) => Typed::Text(TextExpression::ImageTruth(x)),
-        _ => Typed::Unknown,
+    match base {
+        Base::Whole => match value {
+            Typed::Number(x) => Typed::Text(TextExpression::Image(x)),
+            _ => Typed::Unknown,
+        },
+        Base::Truth => match value {
+            Typed::Truth(x) => Typed::Text(TextExpression::ImageTruth(x)),
+            _ => Typed::Unknown,
+        },
+        Base::Text => Typed::Unknown,
     }
 }
 

@@ -15,7 +15,7 @@ use Rattle.aud_code.specs.Flat.{Last, FlatLine, instructs, end, instructions_fro
 use Rattle.aud_code.specs.Sound.{Counts, LastFine, AreFine}
 use Rattle.aud_code.specs.View.{plain_instruction, plain_end, plain_line}
 use Rattle.aud_code.specs.Verified.{Lands, Needs, AreAtMost, passed_of, StepFine, NeedsFrom, EndsAt}
-use Rattle.aud_code.proofs.Counting.{line_first}
+use Rattle.aud_code.proofs.Counting.{item_first}
 
 -- behind all lines each number stands for the same ending
 same_last : (ls : List FlatLine) (m n : ℕ) → (end_from ls m).last ≡ (end_from ls n).last
@@ -86,7 +86,7 @@ FineOf place c ls = AreFine (LastFine (end_from ls place).last) (instructions_fr
 
 module _ (xs : List Line) (place : ℕ) where
   first_is : (x : Line) → slice_get xs place ≡ Some x → drop place (map plain_line xs) ≡ plain_line x ∷ drop (place + 1) (map plain_line xs)
-  first_is x is = line_first (map plain_line xs) place (plain_line x) (slice_get-map plain_line xs place ∙ ap (λ o. option_map plain_line o) is)
+  first_is x is = item_first (map plain_line xs) place (plain_line x) (slice_get-map plain_line xs place ∙ ap (λ o. option_map plain_line o) is)
 
   pub need_of_end : (l : EndLine) → slice_get xs place ≡ Some (line.End l) → (need : InMemory) → Needs (LastFine (plain_end l).last) need → Needs (StepFine (map plain_line xs) place) need
   need_of_end l is need h = same_needs (StepFine (map plain_line xs) place) (LastFine (plain_end l).last) need (λ c. (λ f. subst (FineOf place c) (first_is (line.End l) is) f, λ f. subst (FineOf place c) (sym (first_is (line.End l) is)) f)) h

@@ -3,8 +3,8 @@
 ghost use Rattle.std.specs.Prelude.{◌≡◌, ◌↔◌, ◌+◌, ◌-◌, ◌^◌, ◌≤◌, ◌<◌, ℕ, List, ◌∷◌, IsTrue};
 ghost use Rattle.aud_code.specs.Instruction.{Instruction as Plain};
 ghost use Rattle.aud_code.specs.Flat.{Last as PlainLast};
-ghost use Rattle.aud_code.specs.Sound.{Counts as Wanted, no_counts, AreFine, LastFine};
-ghost use Rattle.aud_code.specs.View.{plain_instruction, plain_last};
+ghost use Rattle.aud_code.specs.Sound.{Counts as Wanted, no_counts, AreFine, EndingFine, LastFine};
+ghost use Rattle.aud_code.specs.View.{plain_instruction, plain_ending, plain_last};
 ghost use Rattle.aud_code.specs.Verified.{IsEnough, Needs, AreAtMost, passed_of};
 
 use crate::instruction::Instruction;
@@ -100,7 +100,9 @@ pub fn need_before(instruction: &Instruction, next: Counts, over: Counts) -> Cou
 {
     match instruction {
         Instruction::Push(_) | Instruction::Load(_) => next.before(NOTHING, integers(1)),
-        Instruction::OnOne(_) | Instruction::Check(_) => next.before(integers(1), integers(1)),
+        Instruction::LoadElement(_) | Instruction::OnOne(_) | Instruction::Check(_) => {
+            next.before(integers(1), integers(1))
+        }
         Instruction::OnTwo(_) => next.before(integers(2), integers(1)),
         Instruction::Cell => next.before(booleans(1), integers(1)),
         Instruction::PushTruth(_) => next.before(NOTHING, booleans(1)),
@@ -112,6 +114,7 @@ pub fn need_before(instruction: &Instruction, next: Counts, over: Counts) -> Cou
             .before(booleans(1), NOTHING)
             .or(over.before(booleans(1), booleans(1))),
         Instruction::Find(_, _) => next.before(NOTHING, TARGET),
+        Instruction::FindElement(_, _) => next.before(integers(1), TARGET),
         Instruction::AppendText(_) | Instruction::AppendNewLine => next,
         Instruction::AppendImage => next.before(integers(1), NOTHING),
         Instruction::AppendTruth => next.before(booleans(1), NOTHING),
@@ -119,17 +122,36 @@ pub fn need_before(instruction: &Instruction, next: Counts, over: Counts) -> Cou
 }
 
 /// What the ending of a step needs.
-pub fn need_of_ending(last: Last) -> Counts
-    ensures exact { Needs (LastFine (plain_last last)) result }
-    ensures few { AreAtMost result 1 }
+pub fn need_of_last(last: &Last) -> Counts
+    ensures exact { Needs (LastFine (plain_last last.now)) result }
+    ensures few { AreAtMost result 2 }
 {
     match last {
-        Last::Does(Ending::Declare { .. }, _) => integers(1),
-        Last::Does(Ending::Assign, _) => Counts {
+        Last::Does(ending, _) => need_of_ending(*ending),
+        Last::Continues { .. } | Last::Guards(_) | Last::Ends(_, _) | Last::Leaves { .. } => {
+            NOTHING
+        }
+    }
+}
+
+// What the ending of a statement's step needs.
+fn need_of_ending(ending: Ending) -> Counts
+    ensures exact { Needs (EndingFine (plain_ending ending)) result }
+    ensures few { AreAtMost result 2 }
+{
+    match ending {
+        Ending::Declare { .. } => integers(1),
+        Ending::Assign => Counts {
             targets: 1,
             ..integers(1)
         },
-        Last::Does(Ending::If(_) | Ending::While(_) | Ending::Exit(_), _) => booleans(1),
-        Last::Does(Ending::Null | Ending::Put, _) | Last::Guards | Last::Ends => NOTHING,
+        Ending::If(_) | Ending::While(_) | Ending::Exit(_) => booleans(1),
+        Ending::Loop { .. } => integers(2),
+        Ending::DeclareArray(_, _)
+        | Ending::Null
+        | Ending::Put
+        | Ending::Raise(_)
+        | Ending::RaiseAgain
+        | Ending::Block { .. } => NOTHING,
     }
 }

@@ -2,7 +2,7 @@
 
 use aud_text::int32::Int32;
 use aud_text::text::Text;
-use aud_typed::program::{Binary, Logical, Relation, Subtype, Unary, Variable};
+use aud_typed::program::{ArrayAt, Binary, Logical, Relation, Subtype, Unary, Variable};
 
 /// An instruction. They work on the operands of a step: Integers, truth values and targets, of which the newest is taken
 /// first, and a text that grows at its end.
@@ -12,6 +12,9 @@ pub enum Instruction {
     Push(Int32),
     /// What the variable's cell holds, as one more Integer.
     Load(Variable),
+    /// Takes the newest Integer, an index; what the element's cell holds, as one more Integer. Constraint_Error is raised
+    /// where the array has no element of that index (RM 4.1.1(7)).
+    LoadElement(ArrayAt),
     /// An operator in place of the newest Integer.
     OnOne(Unary),
     /// An operator in place of the two newest Integers; the newest is its right operand.
@@ -38,6 +41,9 @@ pub enum Instruction {
     PassIfTrue(usize),
     /// The variable's cell, with its subtype, as one more target.
     Find(Variable, Subtype),
+    /// Takes the newest Integer, an index; the element's cell, with its subtype, as one more target. Constraint_Error is raised
+    /// where the array has no element of that index (RM 4.1.1(7)).
+    FindElement(ArrayAt, Subtype),
     AppendText(Text),
     /// Takes the newest Integer, and puts its image at the text's end.
     AppendImage,

@@ -1,7 +1,26 @@
 // Code: a list of lines. Each step of a task is some instructions and the ending behind them. A place counts lines from 0.
 
 use crate::instruction::Instruction;
+use aud_meaning::state::Construct;
 use aud_text::place::Pos;
+use aud_typed::program::{Exception, Subtype};
+
+/// A way out of loops or a body: the place, and how many loops' frames are left at once.
+#[derive(Clone, Copy, PartialEq, Eq, Debug)]
+pub struct Way {
+    pub to: usize,
+    pub loops: usize,
+}
+
+/// A `for` loop (RM 5.5): where it begins and where its `for` stands, the number of its parameter's table, and whether it goes
+/// from the last value to the first.
+#[derive(Clone, Copy, PartialEq, Eq, Debug)]
+pub struct ForLoop {
+    pub at: Pos,
+    pub next_at: Pos,
+    pub region: usize,
+    pub backward: bool,
+}
 
 /// What a statement's step does with its operands.
 #[derive(Clone, Copy, PartialEq, Eq, Debug)]
@@ -9,6 +28,8 @@ pub enum Ending {
     /// The next variable of the innermost frame has the newest Integer. While fewer than `up_to` of them are elaborated, the
     /// step leads to the place where it began, `again` (RM 3.3.1(7)).
     Declare { up_to: usize, again: usize },
+    /// The next variable of the innermost frame is an array of this many elements (RM 3.6).
+    DeclareArray(Subtype, usize),
     Null,
     /// The newest target has the newest Integer.
     Assign,
@@ -18,23 +39,51 @@ pub enum Ending {
     If(usize),
     /// The same, into a `while` loop (RM 5.5).
     While(usize),
-    /// Where the newest truth value is true, the step leads out of a loop, to this place (RM 5.7).
-    Exit(usize),
+    /// A `for` loop from the second newest Integer to the newest: unless its range is empty, its parameter has a frame, and the
+    /// step leads inside (RM 5.5(9)).
+    Loop { control: ForLoop, inside: usize },
+    /// Where the newest truth value is true, the step leads out of loops (RM 5.7).
+    Exit(Way),
+    /// RM 11.3.
+    Raise(Exception),
+    /// Raises the exception again that is being handled (RM 11.3(5)).
+    RaiseAgain,
+    /// A block's frame, of the variables of this table; the step leads inside (RM 5.6).
+    Block { region: usize, inside: usize },
+}
+
+/// The place of the statements that handle these exceptions, or all others where the flag holds (RM 11.2).
+#[derive(Drop, Debug)]
+pub struct Guard {
+    pub others: bool,
+    pub choices: Vec<Exception>,
+    pub to: usize,
 }
 
 /// How a step ends.
-#[derive(Clone, Copy, PartialEq, Eq, Debug)]
+#[derive(Drop, Debug)]
 pub enum Last {
     /// A statement's step, and the place where the next one begins, unless it leads elsewhere.
     Does(Ending, usize),
-    /// Behind the statements of a body, where its handlers are found; it has none yet.
-    Guards,
-    /// The end of a body.
-    Ends,
+    /// The parameter of a `for` loop has its next value, and the step leads inside, or the loop is left, and it leads behind it.
+    Continues {
+        control: ForLoop,
+        behind: usize,
+        inside: usize,
+    },
+    /// Behind guarded statements, where the handlers of their exceptions are found.
+    Guards(Vec<Guard>),
+    /// The end of a construct; what comes behind it, where it is no body.
+    Ends(Construct, usize),
+    /// Leaves a block, and this many loops around it, on the way out of them to a place.
+    Leaves {
+        loops: usize,
+        to: usize,
+    },
 }
 
 /// The ending of a step: where the step stands in the text, and the place where an exception goes that is pending here.
-#[derive(Clone, Copy, PartialEq, Eq, Debug)]
+#[derive(Drop, Debug)]
 pub struct EndLine {
     pub last: Last,
     pub at: Pos,

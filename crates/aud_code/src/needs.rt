@@ -4,7 +4,7 @@ ghost use Rattle.std.specs.Prelude.{◌≡◌, ◌+◌, ◌-◌, ◌*◌, ◌≤
 ghost use Rattle.aud_code.specs.View.{plain_instruction, plain_line};
 ghost use Rattle.aud_code.specs.Verified.{passed_of, Lands, Needs, AreAtMost, StepFine, NeedsFrom, EndsAt};
 
-use crate::counts::{Counts, NOTHING, need_before, need_of_ending};
+use crate::counts::{Counts, NOTHING, need_before, need_of_last};
 use crate::instruction::Instruction;
 use crate::line::Line;
 use std::alloc::{AllocError, Global};
@@ -40,7 +40,7 @@ fn need_at(lines: &[Line], needs: &[Counts], place: usize, end: usize) -> Counts
             let over = landing(instruction, place + 1, end);
             need_before(instruction, needs[place + 1], needs[over])
         }
-        Line::End(line) => need_of_ending(line.last),
+        Line::End(line) => need_of_last(&line.last),
     }
 }
 

@@ -1,25 +1,23 @@
 // One instruction after the other, up to the ending of the step.
 
-ghost use Rattle.std.specs.Prelude.{◌≡◌, ◌+◌, ◌<◌, ◌≤◌, length, IfOk, slice_index};
-ghost use Rattle.aud_meaning.specs.Evaluation.{cell};
+ghost use Rattle.std.specs.Prelude.{◌≡◌, ◌+◌, ◌<◌, ◌≤◌, length, IfOk};
 ghost use Rattle.aud_code.specs.Sound.{counts_of, IsStart};
 ghost use Rattle.aud_code.specs.View.{plain_instruction};
 ghost use Rattle.aud_expr.specs.Flow.{InSight, FindsOperands, Acts, ended, evaluated_at, ReachesEnd, FitsEnd};
 ghost use Rattle.aud_expr.specs.Ticks.{ticks_at};
 
+use crate::elements::{find_element, load_element};
 use crate::flow::Flow;
 use crate::integers::{check, on_one, on_two};
 use crate::operands::Operands;
-use crate::target::Target;
 use crate::texts::{append_image, append_truth};
 use crate::truths::{cell, combine, compare, negate, pass_if, relate, truth};
+use crate::variables::{target_of, value_of};
 use aud_code::instruction::Instruction;
 use aud_code::line::Line;
 use aud_code::sound_code::SoundCode;
 use aud_store::frames::Frames;
-use aud_text::int32::Int32;
 use aud_text::raise::Raise;
-use aud_typed::program::Variable;
 use std::alloc::AllocError;
 
 /// How an evaluation ended, and how many instructions it executed.
@@ -55,6 +53,7 @@ pub fn eval_step(
     match instruction {
         Instruction::Push(value) => operands.push(*value)?,
         Instruction::Load(variable) => operands.push(value_of(*variable, display, frames))?,
+        Instruction::LoadElement(array) => return load_element(*array, display, frames, operands),
         Instruction::OnOne(operator) => return on_one(*operator, operands),
         Instruction::OnTwo(operator) => return on_two(*operator, operands),
         Instruction::Check(subtype) => return check(*subtype, operands),
@@ -68,8 +67,10 @@ pub fn eval_step(
         Instruction::PassIfFalse(count) => return pass_if(false, *count, operands),
         Instruction::PassIfTrue(count) => return pass_if(true, *count, operands),
         Instruction::Find(variable, subtype) => {
-            let frame = frame_of(display, variable.level);
-            operands.push_target(Target::new(frame, variable.index, *subtype))?
+            operands.push_target(target_of(*variable, *subtype, display))?
+        }
+        Instruction::FindElement(array, subtype) => {
+            return find_element(*array, *subtype, display, frames, operands);
         }
         Instruction::AppendText(text) => operands.append(text.as_bytes())?,
         Instruction::AppendImage => append_image(operands)?,
@@ -77,25 +78,6 @@ pub fn eval_step(
         Instruction::AppendNewLine => operands.append(b"\n")?,
     }
     Ok(Flow::Passes(0))
-}
-
-// The number of the frame at a level, or 0 where none is seen there.
-fn frame_of(display: &[usize], level: usize) -> usize
-    ensures { result ≡ slice_index display.now level }
-{
-    display.get(level).copied().unwrap_or(0)
-}
-
-// What a variable's cell holds, or 0 where there is none.
-fn value_of(variable: Variable, display: &[usize], frames: &Frames) -> Int32
-    ensures { InSight display.now frames.now (λ s. result ≡ cell variable s.sight) }
-{
-    let frame = frame_of(display, variable.level);
-    if frame < frames.len() {
-        frames.load(frame, variable.index)
-    } else {
-        Int32::new(0)
-    }
 }
 
 /// From the first place of a step to its ending, or to an exception. Code may end without an ending; then its end is

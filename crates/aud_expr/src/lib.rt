@@ -1,6 +1,7 @@
 // The evaluation of a step's expressions, by its instructions.
 #![tactic(auto)]
 
+mod elements;
 pub mod evaluate;
 mod few;
 pub mod flow;
@@ -12,3 +13,4 @@ pub mod stack;
 pub mod target;
 mod texts;
 mod truths;
+mod variables;

@@ -103,6 +103,15 @@ impl Operands {
         }
     }
 
+    /// Takes the two newest truth values, of which the first is the older one.
+    pub fn pop_truths(&mut self) -> (bool, bool)
+        requires { 1 < length self.old.booleans }
+        ensures { self.old ≡ with_truth result.1 (with_truth result.0 self.new) }
+    {
+        let newest = self.pop_truth();
+        (self.pop_truth(), newest)
+    }
+
     /// One more target. No object is being declared, as yet.
     pub fn push_target(&mut self, target: Target) -> Result<(), AllocError>
         ensures pushed { OnOk result (self.new ≡ with_target target self.old) }

@@ -49,8 +49,7 @@ pub fn compare(relation: Relation, operands: &mut Operands) -> Result<(), AllocE
     requires { FindsOperands (Compare relation) (counts_of operands.old) }
     ensures { OnOk result (Does (Compare relation) (Passes 0) operands.old operands.new) }
 {
-    let y = operands.pop_truth();
-    let x = operands.pop_truth();
+    let (x, y) = operands.pop_truths();
     operands.push_truth(related(relation, cell_of(x), cell_of(y)))
 }
 
@@ -58,8 +57,7 @@ pub fn combine(operator: Logical, operands: &mut Operands) -> Result<(), AllocEr
     requires { FindsOperands (Combine operator) (counts_of operands.old) }
     ensures { OnOk result (Does (Combine operator) (Passes 0) operands.old operands.new) }
 {
-    let y = operands.pop_truth();
-    let x = operands.pop_truth();
+    let (x, y) = operands.pop_truths();
     operands.push_truth(logical_of(operator, x, y))
 }
 

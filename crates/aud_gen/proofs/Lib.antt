@@ -2,6 +2,7 @@ pub mod Loops
 pub mod Writing
 pub mod Lists
 pub mod Lines
+pub mod Constructs
 pub mod Asking
 pub mod ByKind
 pub mod Standing

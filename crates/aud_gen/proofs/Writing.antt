@@ -18,7 +18,7 @@ use Rattle.aud_typed.proofs.Chains.{plain_operation, chain_open, connection_open
 use Rattle.aud_code.specs.Instruction.{Instruction, OnTwo, Combine}
 use Rattle.aud_code.specs.Flat.{FlatLine, instructs}
 use Rattle.aud_gen.specs.Instructions.{integer_code, condition_code, text_code}
-use Rattle.aud_gen.specs.Writes.{CodeSoFar, right_code}
+use Rattle.aud_gen.specs.Writes.{right_code}
 use Rattle.aud_gen.proofs.Loops.{dropped}
 
 -- what a loop over a chain, or over joined texts, makes whole
@@ -72,20 +72,20 @@ pub join_length : (x y : tree.TextExpression) → length (text_code (tree.join x
 join_length x y = length-append (text_code x) (text_code y)
 
 -- these instructions are written behind what was there
-abbrev pub Adds : CodeSoFar → CodeSoFar → List Instruction → Type 0
-Adds old new is = new ≡ record old { lines = old.lines ++ map instructs is }
+abbrev pub Adds : (old new : List FlatLine) → List Instruction → Type 0
+Adds old new is = new ≡ old ++ map instructs is
 
 -- lines are written behind others
-pub written_more : (old now new : CodeSoFar) (a b : List FlatLine) → now ≡ record old { lines = old.lines ++ a } → new ≡ record now { lines = now.lines ++ b } → new ≡ record old { lines = old.lines ++ (a ++ b) }
-written_more old now new a b h k = k ∙ ap (λ (c : CodeSoFar). record c { lines = c.lines ++ b }) h ∙ ap (λ ls. record old { lines = ls }) (append_assoc old.lines a b)
+pub written_more : (old now new a b : List FlatLine) → now ≡ old ++ a → new ≡ now ++ b → new ≡ old ++ (a ++ b)
+written_more old now new a b h k = k ∙ ap (λ ls. ls ++ b) h ∙ append_assoc old a b
 
-pub instructions_written : (old now new : CodeSoFar) (a b : List Instruction) → Adds old now a → Adds now new b → Adds old new (a ++ b)
-instructions_written old now new a b h k = written_more old now new (map instructs a) (map instructs b) h k ∙ ap (λ ls. record old { lines = old.lines ++ ls }) (sym (map-append instructs a b))
+pub instructions_written : (old now new : List FlatLine) (a b : List Instruction) → Adds old now a → Adds now new b → Adds old new (a ++ b)
+instructions_written old now new a b h k = written_more old now new (map instructs a) (map instructs b) h k ∙ ap (λ ls. old ++ ls) (sym (map-append instructs a b))
 
-pub operation_written : (old now mid new : CodeSoFar) (d : tree.IntegerExpression) (o : tree.Operation) → Adds old now (integer_code d) → Adds now mid (integer_code o.right) → Adds mid new (OnTwo o.operator ∷ []) → Adds old new (integer_code (tree.binary o.operator d o.right))
+pub operation_written : (old now mid new : List FlatLine) (d : tree.IntegerExpression) (o : tree.Operation) → Adds old now (integer_code d) → Adds now mid (integer_code o.right) → Adds mid new (OnTwo o.operator ∷ []) → Adds old new (integer_code (tree.binary o.operator d o.right))
 operation_written old now mid new d o h k n =
     instructions_written old now new (integer_code d) (integer_code o.right ++ OnTwo o.operator ∷ []) h (instructions_written now mid new (integer_code o.right) (OnTwo o.operator ∷ []) k n)
 
-pub connection_written : (old now new : CodeSoFar) (c : Connective) (x y : tree.BooleanExpression) → Adds old now (condition_code x) → Adds now new (right_code c y) → Adds old new (condition_code (connected c x y))
+pub connection_written : (old now new : List FlatLine) (c : Connective) (x y : tree.BooleanExpression) → Adds old now (condition_code x) → Adds now new (right_code c y) → Adds old new (condition_code (connected c x y))
 connection_written old now new c x y h k =
-    instructions_written old now new (condition_code x) (right_code c y) h k ∙ ap (λ is. record old { lines = old.lines ++ map instructs is }) (sym (connection_code c x y))
+    instructions_written old now new (condition_code x) (right_code c y) h k ∙ ap (λ is. old ++ map instructs is) (sym (connection_code c x y))

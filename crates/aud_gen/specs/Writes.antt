@@ -1,30 +1,27 @@
--- What is written of the statements and bodies of a program in memory. Its body is left at its end alone.
-use Rattle.std.specs.Prelude.{◌≡◌, ℕ, suc, ◌+◌, List, [], ◌∷◌, ◌++◌, length, None, Bool, true, false, if◌then◌else◌, Result, OnOk}
+-- What is written of the statements and bodies of a program in memory.
+use Rattle.std.specs.Prelude.{◌≡◌, ℕ, suc, ◌+◌, List, [], ◌∷◌, ◌++◌, length, map, None, Bool, true, false, if◌then◌else◌, Result, OnOk}
 use Rattle.std.specs.declared.alloc.AllocError.{AllocError}
 use Rattle.aud_text.specs.declared.place.Pos.{Pos}
 use Rattle.aud_typed.specs.Tree as tree
-use Rattle.aud_typed.specs.Tree.{part_of, nothing, some, no_handlers, body, if_then, while_loop}
+use Rattle.aud_typed.specs.Tree.{For, nothing, some, body, if_then, while_loop, for_loop}
 use Rattle.aud_typed.specs.declared.program.Connective.{Connective}
 use Rattle.aud_typed.specs.declared.program.Connective.TheVariants.{Logical, AndThen, OrElse}
 use Rattle.aud_typed.specs.declared.program.Arm.{Arm}
-use Rattle.aud_typed.specs.declared.program.Statement.{Statement}
-use Rattle.aud_typed.specs.declared.program.Statements.{Statements}
-use Rattle.aud_typed.specs.Ties.View.{plain_boolean, plain_statements, statements_in}
-use Rattle.aud_meaning.specs.declared.state.Construct.TheVariants as construct
-use Rattle.aud_meaning.specs.Items.{nowhere, no_body}
+use Rattle.aud_typed.specs.declared.program.ForStatement.{ForStatement, out-ForStatement}
+use Rattle.aud_typed.specs.Ties.View.{plain_integer, plain_boolean, statements_in}
+use Rattle.aud_meaning.specs.declared.state.Construct.{Construct}
+use Rattle.aud_meaning.specs.Items.{no_body}
 use Rattle.aud_code.specs.Places.{Way}
 use Rattle.aud_code.specs.Instruction.{Instruction, Combine, PassIfFalse, PassIfTrue}
 use Rattle.aud_code.specs.Flat.{FlatLine, Flat}
+use Rattle.aud_code.specs.View.{plain_way}
+use Rattle.aud_gen.specs.declared.ways.Ways.{Ways}
 use Rattle.aud_gen.specs.Instructions.{condition_code}
-use Rattle.aud_gen.specs.Layout.{Around, ways_count, in_call, line, end_line, guard_line_by, statement_size_by, statement_code_by, part_code_by, unit_code_by}
+use Rattle.aud_gen.specs.Layout.{Around, ways_count, around_out, in_call, continues, line, end_line, stubs, guard_line_by, statement_size_by, part_size_by, statement_code_by, part_code_by, handlers_code_by, unit_code_by}
 use Rattle.aud_gen.specs.Assembly.{step_lines}
 use Rattle.aud_gen.specs.Written.{flat_step, written, written_bodies}
 
 -- Lengths.
-
--- however many ways lead out
-abbrev pub IsLength : tree.Statement → ℕ → Type 0
-IsLength s n = (ways : ℕ) → n ≡ statement_size_by flat_step s ways
 
 -- the condition of an arm, its step, its statements
 abbrev pub arm_length : Arm → ℕ → ℕ
@@ -32,26 +29,24 @@ arm_length arm ways = suc (statement_size_by flat_step (statements_in arm.statem
 
 -- Lines.
 
--- the lines that were written, and where the exits of the loops under way lead, the innermost first
-pub record CodeSoFar : Type 0 where
-  pub lines : List FlatLine
-  pub exits : List Way
-
--- of a loop that is left with no frame
+-- to a place, with no frame of a loop that is left
 abbrev pub way_to : ℕ → Way
 way_to place = record { to = place; loops = 0 }
 
+-- what surrounds statements out of which these ways lead, and of which exceptions go to out
+abbrev pub around : ℕ → Ways → Around
+around out w = record { out = out; exits = map plain_way w.exits.items; back = plain_way w.back }
+
+abbrev pub all_ways : Around → List Way
+all_ways a = a.exits ++ a.back ∷ []
+
 -- these lines are written behind those that are there; nothing is said where memory is refused
-abbrev pub Writes : {X : Type 0} → Result X AllocError → CodeSoFar → CodeSoFar → List FlatLine → Type 0
-Writes result old new lines = OnOk result (new ≡ record old { lines = old.lines ++ lines })
+abbrev pub Writes : {X : Type 0} → Result X AllocError → (old new : List FlatLine) → List FlatLine → Type 0
+Writes result old new lines = OnOk result (new ≡ old ++ lines)
 
--- what surrounds statements, of which exceptions go to out
-abbrev pub around : CodeSoFar → (out : ℕ) (back : Way) → Around
-around code out back = record { out = out; exits = code.exits; back = back }
-
--- lines by the place of the first and what surrounds them; none of them leads back from a call, so the way back is any
-abbrev pub WritesInside : {X : Type 0} → Result X AllocError → CodeSoFar → CodeSoFar → (out : ℕ) → (ℕ → Around → List FlatLine) → Type 0
-WritesInside result old new out lines = (back : Way) → Writes result old new (lines (length old.lines) (around old out back))
+-- lines by the place of the first and what surrounds them
+abbrev pub WritesInside : {X : Type 0} → Result X AllocError → (old new : List FlatLine) → Around → (ℕ → Around → List FlatLine) → Type 0
+WritesInside result old new a lines = Writes result old new (lines (length old) a)
 
 -- the right side of an operator, and the operator
 abbrev pub right_code : Connective → tree.BooleanExpression → List Instruction
@@ -90,20 +85,36 @@ while_lines at c place next out =
     let step = while_loop at c (tree.null at) in
     step_lines (λ n. n) (line step (next ∷ flat_step step place ∷ []) [] None (in_call out))
 
--- what stands behind the statements of a body without handlers
-abbrev pub end_lines : Pos → ℕ → List FlatLine
-end_lines pos last = written (guard_line_by flat_step no_handlers pos last last 1 ∷ end_line construct.Unit pos 0 last ∷ [])
+-- the two steps of a `for`, the second one at the place again, behind which its statements stand
+abbrev pub for_lines : ForStatement → (again next out : ℕ) → List FlatLine
+for_lines s again next out =
+    let o = out-ForStatement s in
+    let f : For = record { at = o.at; next_at = o.next_at; region = o.region; backward = o.backward } in
+    written (line (for_loop f (plain_integer o.first) (plain_integer o.last) (tree.null o.at)) (next ∷ suc again ∷ []) [] None (in_call out) ∷ record { what = continues f; at = f.next_at; out = out; ways = next ∷ suc again ∷ []; bodies = []; exit = None } ∷ [])
 
--- a body's `begin` is no step
-abbrev pub body_of : List Statement → Statements → Pos → tree.Body
-body_of ds ss pos = body (part_of (plain_statements ds)) nowhere (statements_in ss) no_handlers pos
+-- lines by which a block is left on these ways, the first of them at a place
+abbrev pub stub_lines : List Way → Pos → ℕ → List FlatLine
+stub_lines ws end place = written (stubs ws end place)
 
-abbrev pub body_lines : List Statement → Statements → Pos → ℕ → List FlatLine
-body_lines ds ss pos place = written (unit_code_by flat_step (body_of ds ss pos) place)
+-- the line at the place guard, which guards statements by the handlers that stand behind it
+abbrev pub guard_lines : tree.Handlers → Pos → (guard last ways : ℕ) → List FlatLine
+guard_lines h end guard last ways = written (guard_line_by flat_step h end (suc guard) last ways ∷ [])
+
+abbrev pub handlers_lines : tree.Handlers → (place last : ℕ) → Around → List FlatLine
+handlers_lines h place last a = written (handlers_code_by flat_step h place last a)
+
+-- a body with its end at the place last
+abbrev pub body_lines : Construct → tree.Body → (last place next out : ℕ) → Around → List FlatLine
+body_lines c (body d begin s h end) last place next out a =
+    let first = place + part_size_by flat_step d (ways_count a) in
+    let guard = first + statement_size_by flat_step s (ways_count a) in
+    part_lines d place first (around_out last a)
+    ++ (statement_lines s first last (around_out guard a)
+    ++ (guard_lines h end guard last (ways_count a) ++ (handlers_lines h (suc guard) last (around_out last a) ++ written (end_line c end next out ∷ []))))
 
 -- of a body that no program has
 abbrev pub idle_lines : ℕ → List FlatLine
 idle_lines place = written (unit_code_by flat_step no_body place)
 
-abbrev pub body_code : List Statement → Statements → Pos → Flat
-body_code ds ss pos = written_bodies (body_of ds ss pos ∷ []) []
+abbrev pub main_code : tree.Body → Flat
+main_code b = written_bodies (b ∷ []) []

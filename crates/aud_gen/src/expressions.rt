@@ -1,16 +1,16 @@
 // The instructions of expressions.
 
 ghost use Rattle.std.specs.Prelude.{map};
-ghost use Rattle.aud_typed.specs.Ties.View.{plain_integer, plain_boolean, plain_value, plain_text};
+ghost use Rattle.aud_typed.specs.Ties.View.{plain_integer, plain_boolean, plain_value, plain_reference, plain_text};
 ghost use Rattle.aud_code.specs.Flat.{instructs};
-ghost use Rattle.aud_gen.specs.Instructions.{integer_code, condition_code, value_code, text_code};
+ghost use Rattle.aud_gen.specs.Instructions.{integer_code, condition_code, value_code, reference_code, text_code};
 ghost use Rattle.aud_gen.specs.Writes.{right_code, Writes};
 
 use crate::lengths::boolean_length;
 use crate::writer::{Writer, Written};
 use aud_code::instruction::Instruction;
 use aud_typed::program::{
-    BooleanExpression, Connective, IntegerExpression, TextExpression, ValueExpression,
+    BooleanExpression, Connective, IntegerExpression, Reference, TextExpression, ValueExpression,
 };
 
 impl Writer {
@@ -22,6 +22,10 @@ impl Writer {
         match e {
             IntegerExpression::Number(value) => self.instruct(Instruction::Push(*value)),
             IntegerExpression::Variable(v) => self.instruct(Instruction::Load(*v)),
+            IntegerExpression::Element(array, index) => {
+                self.write_integer(index)?;
+                self.instruct(Instruction::LoadElement(*array))
+            }
             IntegerExpression::Unary(operator, x) => {
                 self.write_integer(x)?;
                 self.instruct(Instruction::OnOne(*operator))
@@ -47,6 +51,11 @@ impl Writer {
             BooleanExpression::Truth(value) => self.instruct(Instruction::PushTruth(*value)),
             BooleanExpression::Variable(v) => {
                 self.instruct(Instruction::Load(*v))?;
+                self.instruct(Instruction::Truth)
+            }
+            BooleanExpression::Element(array, index) => {
+                self.write_integer(index)?;
+                self.instruct(Instruction::LoadElement(*array))?;
                 self.instruct(Instruction::Truth)
             }
             BooleanExpression::Not(x) => {
@@ -107,6 +116,20 @@ impl Writer {
             ValueExpression::Truth(x) => {
                 self.write_boolean(x)?;
                 self.instruct(Instruction::Cell)
+            }
+        }
+    }
+
+    /// What is assigned.
+    pub fn write_reference(&mut self, r: &Reference) -> Written
+        ensures { Writes result self.old self.new
+            (map instructs (reference_code (plain_reference r.now))) }
+    {
+        match r {
+            Reference::Scalar(v, subtype) => self.instruct(Instruction::Find(*v, *subtype)),
+            Reference::Element(array, index, subtype) => {
+                self.write_integer(index)?;
+                self.instruct(Instruction::FindElement(*array, *subtype))
             }
         }
     }

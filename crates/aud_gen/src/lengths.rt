@@ -1,16 +1,16 @@
 // How many lines each part of a program becomes.
 
-ghost use Rattle.std.specs.Prelude.{◌≡◌, ℕ, ◌+◌, suc, length, IfOk};
+ghost use Rattle.std.specs.Prelude.{◌≡◌, ◌+◌, length, IfOk};
 ghost use Rattle.aud_typed.specs.Tree.{part_of};
-ghost use Rattle.aud_typed.specs.Ties.View.{plain_integer, plain_boolean, plain_value, plain_text, plain_statement, plain_statements, statements_in, if_in};
-ghost use Rattle.aud_gen.specs.Instructions.{integer_code, condition_code, value_code, text_code};
-ghost use Rattle.aud_gen.specs.Layout.{part_size_by};
+ghost use Rattle.aud_typed.specs.Ties.View.{plain_integer, plain_boolean, plain_value, plain_reference, plain_text, plain_statement, plain_statements, statements_in, if_in, for_in, handlers_in, body_in, block_in};
+ghost use Rattle.aud_gen.specs.Instructions.{integer_code, condition_code, value_code, reference_code, text_code};
+ghost use Rattle.aud_gen.specs.Layout.{statement_size_by, part_size_by, handlers_size_by, body_size_by, end_place_by};
 ghost use Rattle.aud_gen.specs.Written.{flat_step};
-ghost use Rattle.aud_gen.specs.Writes.{IsLength, arm_length};
+ghost use Rattle.aud_gen.specs.Writes.{arm_length};
 
 use aud_typed::program::{
-    Arm, BooleanExpression, IfStatement, IntegerExpression, Statement, Statements, TextExpression,
-    ValueExpression,
+    Arm, BlockStatement, Body, BooleanExpression, ForStatement, Handler, IfStatement,
+    IntegerExpression, Reference, Statement, Statements, TextExpression, ValueExpression,
 };
 use std::alloc::AllocError;
 
@@ -28,6 +28,7 @@ pub fn integer_length(e: &IntegerExpression) -> Result<usize, AllocError>
     match e {
         IntegerExpression::Number(_) => Ok(1),
         IntegerExpression::Variable(_) => Ok(1),
+        IntegerExpression::Element(_, index) => sum(integer_length(index)?, 1),
         IntegerExpression::Unary(_, x) => sum(integer_length(x)?, 1),
         IntegerExpression::Chain(first, rest) => {
             let mut total = integer_length(first)?;
@@ -46,6 +47,7 @@ pub fn boolean_length(e: &BooleanExpression) -> Result<usize, AllocError>
     match e {
         BooleanExpression::Truth(_) => Ok(1),
         BooleanExpression::Variable(_) => Ok(2),
+        BooleanExpression::Element(_, index) => sum(integer_length(index)?, 2),
         BooleanExpression::Not(x) => sum(boolean_length(x)?, 1),
         BooleanExpression::Relation(_, x, y) => {
             sum(sum(integer_length(x)?, integer_length(y)?)?, 1)
@@ -92,66 +94,142 @@ pub fn text_length(t: &TextExpression) -> Result<usize, AllocError>
     }
 }
 
-/// Of a statement, with all that is in it.
+/// Of what is assigned.
+pub fn reference_length(r: &Reference) -> Result<usize, AllocError>
+    ensures { IfOk result (λ n. n ≡ length (reference_code (plain_reference r.now))) }
+{
+    match r {
+        Reference::Scalar(..) => Ok(1),
+        Reference::Element(_, index, _) => sum(integer_length(index)?, 1),
+    }
+}
+
+/// Of a statement, with all that is in it, out of which this number of ways leads: of the loops around it, and out of the body.
 #[cycle(lengths)]
-pub fn statement_length(s: &Statement) -> Result<usize, AllocError>
-    ensures { IfOk result (IsLength (plain_statement s.now)) }
+pub fn statement_length(s: &Statement, ways: usize) -> Result<usize, AllocError>
+    ensures { IfOk result (λ n. n ≡ statement_size_by flat_step (plain_statement s.now) ways) }
 {
     match s {
         Statement::Declare(_, _, e) => sum(value_length(e)?, 1),
+        Statement::DeclareArray(..) => Ok(1),
         Statement::Null(_) => Ok(1),
-        Statement::Assign(_, _, e) => sum(value_length(e)?, 2),
+        Statement::Assign(_, target, e) => {
+            sum(sum(reference_length(target)?, value_length(e)?)?, 1)
+        }
         Statement::Put(_, t) => sum(text_length(t)?, 1),
-        Statement::If(branches) => if_length(branches),
+        Statement::If(branches) => if_length(branches, ways),
         Statement::While(_, condition, body) => {
             sum(
                 boolean_length(condition)?,
-                sum(statements_length(body)?, 1)?,
+                sum(statements_length(body, sum(ways, 1)?)?, 1)?,
             )
         }
-        Statement::Loop(body) => statements_length(body),
+        Statement::Loop(body) => statements_length(body, sum(ways, 1)?),
+        Statement::For(s) => for_length(s, ways),
         Statement::Exit(_, _, condition) => sum(boolean_length(condition)?, 1),
+        Statement::Raise(..) => Ok(1),
+        Statement::RaiseAgain(_) => Ok(1),
+        Statement::Block(block) => block_length(block, ways),
     }
 }
 
 #[cycle(lengths)]
-fn if_length(s: &IfStatement) -> Result<usize, AllocError>
-    ensures { IfOk result (IsLength (if_in s.now)) }
+fn if_length(s: &IfStatement, ways: usize) -> Result<usize, AllocError>
+    ensures { IfOk result (λ n. n ≡ statement_size_by flat_step (if_in s.now) ways) }
 {
-    let mut total = sum(arm_length(&s.first)?, list_length(&s.otherwise)?)?;
+    let mut total = sum(
+        arm_length(&s.first, ways)?,
+        list_length(&s.otherwise, ways)?,
+    )?;
     for arm in &s.others {
-        total = sum(total, arm_length(arm)?)?;
+        total = sum(total, arm_length(arm, ways)?)?;
     }
     Ok(total)
 }
 
 #[cycle(lengths)]
-fn arm_length(arm: &Arm) -> Result<usize, AllocError>
-    ensures { IfOk result (λ n. (ways : ℕ) → n ≡ arm_length arm.now ways) }
+fn arm_length(arm: &Arm, ways: usize) -> Result<usize, AllocError>
+    ensures { IfOk result (λ n. n ≡ arm_length arm.now ways) }
 {
     sum(
         boolean_length(&arm.condition)?,
-        sum(statements_length(&arm.statements)?, 1)?,
+        sum(statements_length(&arm.statements, ways)?, 1)?,
     )
+}
+
+// The bounds and the step of the loop, the step `next`, and its statements.
+#[cycle(lengths)]
+fn for_length(s: &ForStatement, ways: usize) -> Result<usize, AllocError>
+    ensures { IfOk result (λ n. n ≡ statement_size_by flat_step (for_in s.now) ways) }
+{
+    let bounds = sum(integer_length(&s.first)?, integer_length(&s.last)?)?;
+    let inside = statements_length(&s.statements, sum(ways, 1)?)?;
+    sum(sum(bounds, 2)?, inside)
+}
+
+// The step of the block, its body, and a line for each way out of it.
+#[cycle(lengths)]
+fn block_length(block: &BlockStatement, ways: usize) -> Result<usize, AllocError>
+    ensures { IfOk result (λ n. n ≡ statement_size_by flat_step (block_in block.now) ways) }
+{
+    sum(sum(body_length(&block.body, ways)?, ways)?, 1)
+}
+
+/// Of a body: its declarations, its statements, the line that guards them, its handlers, and its end.
+#[cycle(lengths)]
+pub fn body_length(body: &Body, ways: usize) -> Result<usize, AllocError>
+    ensures { IfOk result (λ n. n ≡ body_size_by flat_step (body_in body.now) ways) }
+{
+    sum(place_of_end(body, 0, ways)?, 1)
+}
+
+/// The place of a body's end, where the body begins at a place.
+#[cycle(lengths)]
+pub fn place_of_end(body: &Body, place: usize, ways: usize) -> Result<usize, AllocError>
+    ensures { IfOk result (λ n. n ≡ end_place_by flat_step (body_in body.now) place ways) }
+{
+    let declarations = list_length(&body.declarations, ways)?;
+    let statements = statements_length(&body.statements, ways)?;
+    let handlers = handlers_length(&body.handlers, ways)?;
+    sum(
+        sum(place, declarations)?,
+        sum(statements, sum(handlers, 1)?)?,
+    )
+}
+
+/// Of handlers.
+#[cycle(lengths)]
+pub fn handlers_length(handlers: &[Handler], ways: usize) -> Result<usize, AllocError>
+    ensures { IfOk result (λ n.
+        n ≡ handlers_size_by flat_step (handlers_in handlers.now) ways) }
+{
+    let mut total = 0;
+    for handler in handlers {
+        total = sum(total, statements_length(&handler.statements, ways)?)?;
+    }
+    Ok(total)
 }
 
 /// Of statements.
 #[cycle(lengths)]
-pub fn statements_length(ss: &Statements) -> Result<usize, AllocError>
-    ensures { IfOk result (IsLength (statements_in ss.now)) }
+pub fn statements_length(ss: &Statements, ways: usize) -> Result<usize, AllocError>
+    ensures { IfOk result (λ n. n ≡ statement_size_by flat_step (statements_in ss.now) ways) }
 {
-    sum(statement_length(&ss.first)?, list_length(&ss.others)?)
+    sum(
+        statement_length(&ss.first, ways)?,
+        list_length(&ss.others, ways)?,
+    )
 }
 
 /// Of statements, of which there may be none.
 #[cycle(lengths)]
-pub fn list_length(ss: &[Statement]) -> Result<usize, AllocError>
-    ensures { IfOk result (λ n. (ways : ℕ) →
+pub fn list_length(ss: &[Statement], ways: usize) -> Result<usize, AllocError>
+    ensures { IfOk result (λ n.
         n ≡ part_size_by flat_step (part_of (plain_statements ss.now)) ways) }
 {
     let mut total = 0;
     for s in ss {
-        total = sum(total, statement_length(s)?)?;
+        total = sum(total, statement_length(s, ways)?)?;
     }
     Ok(total)
 }

@@ -3,24 +3,36 @@
 ghost use Rattle.std.specs.Prelude.{◌≡◌, List, length};
 ghost use Rattle.aud_typed.specs.declared.program.Arm.{Arm as Arms};
 ghost use Rattle.aud_typed.specs.Tree.{part_of};
-ghost use Rattle.aud_typed.specs.Ties.View.{plain_boolean, plain_statement, plain_statements, statements_in, part_of_arms, if_in};
+ghost use Rattle.aud_typed.specs.Ties.View.{plain_boolean, plain_statement, plain_statements, statements_in, part_of_arms, if_in, for_in, handlers_in, body_in, block_in};
 ghost use Rattle.aud_gen.specs.Layout.{in_loop};
-ghost use Rattle.aud_gen.specs.Writes.{statement_lines, part_lines, has_statements, listed_lines, arm_lines, while_lines, Writes, WritesInside};
+ghost use Rattle.aud_gen.specs.Writes.{around, statement_lines, part_lines, has_statements, listed_lines, arm_lines, while_lines, for_lines, handlers_lines, body_lines, Writes, WritesInside};
 
-use crate::lengths::{boolean_length, statement_length, statements_length, sum};
+use crate::lengths::{
+    boolean_length, integer_length, list_length, place_of_end, statement_length, statements_length,
+    sum,
+};
+use crate::ways::Ways;
 use crate::writer::{Writer, Written};
-use aud_code::instruction::Instruction;
-use aud_code::line::Ending;
+use aud_code::line::{Ending, ForLoop, Last};
+use aud_meaning::state::Construct;
 use aud_text::place::Pos;
-use aud_typed::program::{Arm, BooleanExpression, IfStatement, Statement, Statements};
+use aud_typed::program::{
+    Arm, BlockStatement, Body, BooleanExpression, ForStatement, Handler, IfStatement, Statement,
+    Statements,
+};
 
-// Exceptions of what is written go to the place `out`; behind it comes the step at the place `next`. No statement leads back
-// from a call, as yet, so the way back is any.
+// These ways lead out of what is written. Exceptions of it go to the place `out`; behind it comes the step at the place `next`.
 impl Writer {
     /// A statement.
     #[cycle(statements)]
-    pub fn write_statement(&mut self, s: &Statement, out: usize, next: usize) -> Written
-        ensures { WritesInside result self.old self.new out (λ place a.
+    pub fn write_statement(
+        &mut self,
+        s: &Statement,
+        ways: &Ways,
+        out: usize,
+        next: usize,
+    ) -> Written
+        ensures { WritesInside result self.old self.new (around out ways.now) (λ place a.
             statement_lines (plain_statement s.now) place next a) }
     {
         match s {
@@ -28,109 +40,136 @@ impl Writer {
                 let again = self.place();
                 self.write_value(e)?;
                 let up_to = *up_to;
-                self.end(Ending::Declare { up_to, again }, next, *at, out)
+                self.end_statement(Ending::Declare { up_to, again }, next, *at, out)
             }
-            Statement::Null(at) => self.end(Ending::Null, next, *at, out),
+            Statement::DeclareArray(at, subtype, length) => {
+                self.end_statement(Ending::DeclareArray(*subtype, *length), next, *at, out)
+            }
+            Statement::Null(at) => self.end_statement(Ending::Null, next, *at, out),
             Statement::Assign(at, target, e) => {
-                self.instruct(Instruction::Find(target.variable, target.subtype))?;
+                self.write_reference(target)?;
                 self.write_value(e)?;
-                self.end(Ending::Assign, next, *at, out)
+                self.end_statement(Ending::Assign, next, *at, out)
             }
             Statement::Put(at, t) => {
                 self.write_text(t)?;
-                self.end(Ending::Put, next, *at, out)
+                self.end_statement(Ending::Put, next, *at, out)
             }
-            Statement::If(branches) => self.write_if(branches, out, next),
+            Statement::If(branches) => self.write_if(branches, ways, out, next),
             Statement::While(at, condition, body) => {
                 let place = self.place();
                 self.write_while(condition, *at, out, next)?;
-                self.write_loop(body, out, next, place)
+                self.write_loop(body, ways, out, next, place)
             }
-            Statement::Loop(body) => self.write_loop(body, out, next, self.place()),
+            Statement::Loop(body) => self.write_loop(body, ways, out, next, self.place()),
+            Statement::For(s) => self.write_for(s, ways, out, next),
             Statement::Exit(at, further, condition) => {
-                let to = self.exit(*further, next);
+                let way = ways.exit(*further, next);
                 self.write_boolean(condition)?;
-                self.end(Ending::Exit(to), next, *at, out)
+                self.end_statement(Ending::Exit(way), next, *at, out)
             }
+            Statement::Raise(at, exception) => {
+                self.end_statement(Ending::Raise(*exception), next, *at, out)
+            }
+            Statement::RaiseAgain(at) => self.end_statement(Ending::RaiseAgain, next, *at, out),
+            Statement::Block(block) => self.write_block(block, ways, out, next),
         }
     }
 
     /// Statements.
     #[cycle(statements)]
-    pub fn write_statements(&mut self, ss: &Statements, out: usize, next: usize) -> Written
-        ensures { WritesInside result self.old self.new out (λ place a.
+    pub fn write_statements(
+        &mut self,
+        ss: &Statements,
+        ways: &Ways,
+        out: usize,
+        next: usize,
+    ) -> Written
+        ensures { WritesInside result self.old self.new (around out ways.now) (λ place a.
             statement_lines (statements_in ss.now) place next a) }
     {
-        self.write_in_list(&ss.first, ss.others.is_empty(), out, next)?;
-        self.write_list(&ss.others, out, next)
+        self.write_in_list(&ss.first, ss.others.is_empty(), ways, out, next)?;
+        self.write_list(&ss.others, ways, out, next)
     }
 
     /// Statements, of which there may be none.
     #[cycle(statements)]
-    pub fn write_list(&mut self, ss: &[Statement], out: usize, next: usize) -> Written
-        ensures { WritesInside result self.old self.new out (λ place a.
+    pub fn write_list(&mut self, ss: &[Statement], ways: &Ways, out: usize, next: usize) -> Written
+        ensures { WritesInside result self.old self.new (around out ways.now) (λ place a.
             part_lines (part_of (plain_statements ss.now)) place next a) }
     {
         let mut left = ss.len();
         for s in ss {
             left -= 1;
-            self.write_in_list(s, left == 0, out, next)?;
+            self.write_in_list(s, left == 0, ways, out, next)?;
         }
         Ok(())
     }
 
     // A statement, behind which comes what stands behind it, or the step at the place `next` where it is the last one.
     #[cycle(statements)]
-    fn write_in_list(&mut self, s: &Statement, is_last: bool, out: usize, next: usize) -> Written
-        ensures { WritesInside result self.old self.new out (λ place a.
+    fn write_in_list(
+        &mut self,
+        s: &Statement,
+        is_last: bool,
+        ways: &Ways,
+        out: usize,
+        next: usize,
+    ) -> Written
+        ensures { WritesInside result self.old self.new (around out ways.now) (λ place a.
             listed_lines (plain_statement s.now) is_last place next a) }
     {
         let then = if is_last {
             next
         } else {
-            sum(self.place(), statement_length(s)?)?
+            sum(self.place(), statement_length(s, ways.count()?)?)?
         };
-        self.write_statement(s, out, then)
+        self.write_statement(s, ways, out, then)
     }
 
     #[cycle(statements)]
-    fn write_if(&mut self, s: &IfStatement, out: usize, next: usize) -> Written
-        ensures { WritesInside result self.old self.new out (λ place a.
+    fn write_if(&mut self, s: &IfStatement, ways: &Ways, out: usize, next: usize) -> Written
+        ensures { WritesInside result self.old self.new (around out ways.now) (λ place a.
             statement_lines (if_in s.now) place next a) }
     {
         let mut left = s.others.len();
-        self.write_arm(&s.first, goes_on(left, &s.otherwise), out, next)?;
+        self.write_arm(&s.first, goes_on(left, &s.otherwise), ways, out, next)?;
         for arm in &s.others {
             left -= 1;
-            self.write_arm(arm, goes_on(left, &s.otherwise), out, next)?;
+            self.write_arm(arm, goes_on(left, &s.otherwise), ways, out, next)?;
         }
-        self.write_list(&s.otherwise, out, next)
+        self.write_list(&s.otherwise, ways, out, next)
     }
 
     // The step of an arm, which leads behind the arm where there is more, and its statements.
     #[cycle(statements)]
-    fn write_arm(&mut self, arm: &Arm, more: bool, out: usize, next: usize) -> Written
-        ensures { WritesInside result self.old self.new out (λ place a.
+    fn write_arm(&mut self, arm: &Arm, more: bool, ways: &Ways, out: usize, next: usize) -> Written
+        ensures { WritesInside result self.old self.new (around out ways.now) (λ place a.
             arm_lines arm.now more place next a) }
     {
         let inside = sum(self.place(), sum(boolean_length(&arm.condition)?, 1)?)?;
-        let behind = sum(inside, statements_length(&arm.statements)?)?;
+        let behind = sum(inside, statements_length(&arm.statements, ways.count()?)?)?;
         let otherwise = if more { behind } else { next };
         self.write_boolean(&arm.condition)?;
-        self.end(Ending::If(inside), otherwise, arm.at, out)?;
-        self.write_statements(&arm.statements, out, next)
+        self.end_statement(Ending::If(inside), otherwise, arm.at, out)?;
+        self.write_statements(&arm.statements, ways, out, next)
     }
 
     // The statements of a loop, behind which comes the step at the place `again`; exits lead to the place `next`.
     #[cycle(statements)]
-    fn write_loop(&mut self, body: &Statements, out: usize, next: usize, again: usize) -> Written
-        ensures { WritesInside result self.old self.new out (λ place a.
+    fn write_loop(
+        &mut self,
+        body: &Statements,
+        ways: &Ways,
+        out: usize,
+        next: usize,
+        again: usize,
+    ) -> Written
+        ensures { WritesInside result self.old self.new (around out ways.now) (λ place a.
             statement_lines (statements_in body.now) place again (in_loop next a)) }
     {
-        self.enter_loop(next)?;
-        self.write_statements(body, out, again)?;
-        self.leave_loop();
-        Ok(())
+        let inner = ways.in_loop(self.alloc(), next)?;
+        self.write_statements(body, &inner, out, again)
     }
 
     // The step of a `while`, behind which its statements stand.
@@ -142,11 +181,104 @@ impl Writer {
         next: usize,
     ) -> Written
         ensures { Writes result self.old self.new
-            (while_lines at (plain_boolean condition.now) (length self.old.lines) next out) }
+            (while_lines at (plain_boolean condition.now) (length self.old) next out) }
     {
         let inside = sum(self.place(), sum(boolean_length(condition)?, 1)?)?;
         self.write_boolean(condition)?;
-        self.end(Ending::While(inside), next, at, out)
+        self.end_statement(Ending::While(inside), next, at, out)
+    }
+
+    // The step of a `for` and the step `next`, to which its statements lead back.
+    #[cycle(statements)]
+    fn write_for(&mut self, s: &ForStatement, ways: &Ways, out: usize, next: usize) -> Written
+        ensures { WritesInside result self.old self.new (around out ways.now) (λ place a.
+            statement_lines (for_in s.now) place next a) }
+    {
+        let bounds = sum(integer_length(&s.first)?, integer_length(&s.last)?)?;
+        let again = sum(sum(self.place(), bounds)?, 1)?;
+        let inner = ways.in_for(self.alloc(), next)?;
+        self.write_control(s, again, out, next)?;
+        self.write_statements(&s.statements, &inner, out, again)
+    }
+
+    // Both steps; the second one stands at the place `again`.
+    fn write_control(&mut self, s: &ForStatement, again: usize, out: usize, next: usize) -> Written
+        ensures { Writes result self.old self.new (for_lines s.now again next out) }
+    {
+        let control = ForLoop {
+            at: s.at,
+            next_at: s.next_at,
+            region: s.region,
+            backward: s.backward,
+        };
+        let inside = sum(again, 1)?;
+        self.write_integer(&s.first)?;
+        self.write_integer(&s.last)?;
+        self.end_statement(Ending::Loop { control, inside }, next, s.at, out)?;
+        let last = Last::Continues {
+            control,
+            behind: next,
+            inside,
+        };
+        self.end(last, s.next_at, out)
+    }
+
+    // The step of a block, its body, and the lines by which it is left on other ways.
+    #[cycle(statements)]
+    fn write_block(
+        &mut self,
+        block: &BlockStatement,
+        ways: &Ways,
+        out: usize,
+        next: usize,
+    ) -> Written
+        ensures { WritesInside result self.old self.new (around out ways.now) (λ place a.
+            statement_lines (block_in block.now) place next a) }
+    {
+        let region = block.region;
+        let inside = sum(self.place(), 1)?;
+        let last = place_of_end(&block.body, inside, ways.count()?)?;
+        let inner = ways.in_block(self.alloc(), last)?;
+        self.end_statement(Ending::Block { region, inside }, next, block.at, out)?;
+        self.write_body(&block.body, Construct::Block, &inner, last, next, out)?;
+        self.write_stubs(ways, block.body.end)
+    }
+
+    /// A body with its end at the place `last`: its declarations, its statements, the line that guards them, its handlers,
+    /// and its end.
+    #[cycle(statements)]
+    pub fn write_body(
+        &mut self,
+        body: &Body,
+        construct: Construct,
+        ways: &Ways,
+        last: usize,
+        next: usize,
+        out: usize,
+    ) -> Written
+        ensures { WritesInside result self.old self.new (around last ways.now) (λ place a.
+            body_lines construct (body_in body.now) last place next out a) }
+    {
+        let count = ways.count()?;
+        let begin = sum(self.place(), list_length(&body.declarations, count)?)?;
+        let guard = sum(begin, statements_length(&body.statements, count)?)?;
+        self.write_list(&body.declarations, ways, last, begin)?;
+        self.write_statements(&body.statements, ways, guard, last)?;
+        self.write_guards(&body.handlers, body.end, last, count)?;
+        self.write_handlers(&body.handlers, ways, last)?;
+        self.end(Last::Ends(construct, next), body.end, out)
+    }
+
+    // The statements of handlers, behind which comes the end at the place `last`.
+    #[cycle(statements)]
+    fn write_handlers(&mut self, handlers: &[Handler], ways: &Ways, last: usize) -> Written
+        ensures { WritesInside result self.old self.new (around last ways.now) (λ place a.
+            handlers_lines (handlers_in handlers.now) place last a) }
+    {
+        for handler in handlers {
+            self.write_statements(&handler.statements, ways, last, last)?;
+        }
+        Ok(())
     }
 }
 

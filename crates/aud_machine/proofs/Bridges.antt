@@ -5,7 +5,9 @@ use Rattle.std.proofs.lemmas.Option.{slice_get_past}
 use Rattle.std.proofs.lemmas.List.{length-replicate}
 use Rattle.aud_text.specs.declared.limits.Limits.{Limits}
 use Rattle.aud_typed.specs.declared.program.Program.{Program}
+use Rattle.aud_typed.specs.declared.program.Body.{out-Body}
 use Rattle.aud_typed.specs.Ties.View.{plain_program}
+use Rattle.aud_typed.proofs.Opened.{body_open}
 use Rattle.aud_typed.specs.Tree as tree
 use Rattle.aud_meaning.specs.declared.state.State.{State}
 use Rattle.aud_meaning.specs.declared.state.NextStep.{NextStep}
@@ -34,7 +36,7 @@ module _ (p : Program) (lines : Flat) (is : lines ≡ flat_program (plain_progra
   program = plain_program p
 
   abbrev In : Single Spot → All Spot
-  In q = all_of program.plan p.name q
+  In q = all_of p.name q
 
   abbrev Showing : Single Spot → Configuration → Type 0
   Showing q c = code.Shows program (In q) c
@@ -45,9 +47,9 @@ module _ (p : Program) (lines : Flat) (is : lines ≡ flat_program (plain_progra
       ∙ ap (λ x. state_at program.plan (flat_controls program.plan x) (In q)) is
       ∙ state_law program (In q) c h
 
-  pub coming_shown : (q : Single Spot) (task : ℕ) (next : Option NextStep) (c : Configuration) → ((plan : tree.Plan) → (name : List ℕ) → (unit_of plan 0).end ≡ p.end → next ≡ coming_step_at plan (flat_controls plan lines) task (all_of plan name q)) → Showing q c → next ≡ coming_step_in program task c
+  pub coming_shown : (q : Single Spot) (task : ℕ) (next : Option NextStep) (c : Configuration) → ((plan : tree.Plan) → (name : List ℕ) → (unit_of plan 0).end ≡ (out-Body p.body).end → next ≡ coming_step_at plan (flat_controls plan lines) task (all_of name q)) → Showing q c → next ≡ coming_step_in program task c
   coming_shown q task next c told h =
-      told program.plan p.name refl
+      told program.plan p.name (ap tree.end_of (body_open p.body))
       ∙ ap (λ x. coming_step_at program.plan (flat_controls program.plan x) task (In q)) is
       ∙ ap (coming_step program.plan (flat program).barrier task) (seen_law program (In q) c h)
       ∙ ap (λ b. coming_step program.plan b task (seen program.plan (controls program) c)) (agreement_law program).barrier
@@ -58,9 +60,9 @@ module _ (p : Program) (lines : Flat) (is : lines ≡ flat_program (plain_progra
       ∙ ap (λ x. moves_at program.plan (flat_controls program.plan x) (In q)) (sym is)
       ∙ told program.plan p.name
 
-  pub opening_shown : (q : Single Spot) → ((plan : tree.Plan) → (name : List ℕ) → all_of plan name q ≡ opening_with plan name ((flat_controls plan lines).begins 0)) → Showing q (opening program)
+  pub opening_shown : (q : Single Spot) → ((plan : tree.Plan) → (name : List ℕ) → (unit_of plan 0).region ≡ 0 → (unit_of plan 0).at ≡ p.at → all_of name q ≡ opening_with plan name ((flat_controls plan lines).begins 0)) → Showing q (opening program)
   opening_shown q told =
-      let there = told program.plan p.name ∙ ap (λ x. opening_with program.plan p.name ((flat_controls program.plan x).begins 0)) is in
+      let there = told program.plan p.name refl refl ∙ ap (λ x. opening_with program.plan p.name ((flat_controls program.plan x).begins 0)) is in
       subst (λ m. code.Shows program m (opening program)) (sym there) (opening_law program)
 
   -- Runs.

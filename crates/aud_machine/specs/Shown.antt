@@ -5,10 +5,10 @@ use Rattle.aud_typed.specs.declared.program.Program.{Program}
 use Rattle.aud_typed.specs.Ties.View.{plain_program}
 use Rattle.aud_typed.specs.Tree as tree
 use Rattle.aud_meaning.specs.Configuration.{Own, All}
-use Rattle.aud_meaning.specs.Ties.Single.{own_in}
+use Rattle.aud_meaning.specs.Ties.Single.{Stack, own_in}
 use Rattle.aud_code.specs.Places.{Spot}
 use Rattle.aud_code.specs.Flat.{Flat}
-use Rattle.aud_single.specs.declared.progress.Stage.{Stage}
+use Rattle.aud_single.specs.declared.stage.Stage.{Stage}
 use Rattle.aud_single.specs.Shown.{plain_stage}
 use Rattle.aud_single.specs.Ticks.{ticks_in, run_ticks}
 
@@ -23,9 +23,9 @@ pub record Shown : Type 0 where
 abbrev pub program_in : Shown → tree.Program
 program_in m = plain_program m.program
 
--- each task's own part, where the main procedure is the only task: at this stage, with n of its variables elaborated
-abbrev pub owns_in : Shown → Stage → ℕ → List Own
-owns_in m stage n = own_in (program_in m).plan m.program.name (plain_stage stage) n ∷ []
+-- each task's own part, where the main procedure is the only task: at this stage, with these open frames
+abbrev pub owns_in : Shown → Stage → Stack → List Own
+owns_in m stage stack = own_in m.program.name (plain_stage stage) stack ∷ []
 
 -- the ticks of its next step
 abbrev pub ticks_of_step : Shown → ℕ

@@ -50,13 +50,13 @@ impl Model for Machine {
     ghost use Rattle.aud_single.specs.Steps.{Stands};
     ghost use Rattle.aud_machine.specs.Shown.{Shown};
     ghost use Rattle.std.specs.Coded.{codes};
-    ghost use Rattle.aud_typed.specs.contracts.program.Statement as statement;
+    ghost use Rattle.aud_typed.specs.contracts.program.Body as body;
 
     ghost Value = { Shown };
 
-    ghost coded = { Prim.hlevel (codes, statement.the_row.coded) };
+    ghost coded = { Prim.hlevel (codes, body.the_row.coded) };
 
-    ghost view = { λ m. record { program = m.program; code = m.code; limits = m.limits; all = all_of (plain_program m.program).plan m.program.name m.progress; spent = m.spent } };
+    ghost view = { λ m. record { program = m.program; code = m.code; limits = m.limits; all = all_of m.program.name m.progress; spent = m.spent } };
 
     ghost invariant = { λ m. (m.code ≡ flat_program (plain_program m.program)) × (m.spent ≡ false → Stands m.code.lines m.progress) };
 }
@@ -73,7 +73,7 @@ impl Machine {
         ensures limits { IfOk result (λ m. m.limits ≡ limits) }
     {
         let code = generate(alloc, &program)?;
-        let progress = Progress::new(&code, alloc)?;
+        let progress = Progress::new(&code, program.at, alloc)?;
         Ok(Machine {
             program,
             code,
@@ -132,7 +132,8 @@ impl Machine {
     pub fn coming(&self, task: usize) -> Option<NextStep>
         ensures { IfShows self.now (λ c. result ≡ coming_step_in (program_in self.now) task c) }
     {
-        self.progress.coming(&self.code, self.program.end, task)
+        self.progress
+            .coming(&self.code, self.program.body.end, task)
     }
 
     /// How many choices wait.
@@ -164,16 +165,15 @@ impl Machine {
 
     /// The frames, how far the main procedure is, the time and the steps.
     pub fn parts(&self) -> Parts<'_>
-        ensures frames { IfShows self.now (λ c. result.frames.now ≡ c.shared.frames) }
+        ensures frames { IfShows self.now (λ c. result.store.now.frames ≡ c.shared.frames) }
         ensures main { IfShows self.now (λ c.
-            owns_in self.now result.main result.elaborated ≡ map (λ t. t.own) c.tasks) }
+            owns_in self.now result.main result.store.now.stack ≡ map (λ t. t.own) c.tasks) }
         ensures clock { IfShows self.now (λ c. result.clock ≡ c.clock) }
         ensures steps { IfShows self.now (λ c. result.steps ≡ c.steps) }
     {
         Parts {
-            frames: self.progress.frames(),
+            store: self.progress.store(),
             main: self.progress.stage(),
-            elaborated: self.progress.elaborated(),
             clock: self.progress.clock(),
             steps: self.progress.steps(),
         }
@@ -223,7 +223,7 @@ impl Machine {
             return Err(AllocError);
         }
         self.spent = true;
-        self.progress = Progress::new(&self.code, alloc)?;
+        self.progress = Progress::new(&self.code, self.program.at, alloc)?;
         self.spent = false;
         Ok(())
     }

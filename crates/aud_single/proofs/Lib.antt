@@ -1,6 +1,7 @@
 pub mod Output
+pub mod Asked
 pub mod Steps
-pub mod Comes
+pub mod Standing
 pub mod Moving
 pub mod Next
 pub mod Running

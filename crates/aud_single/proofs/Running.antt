@@ -16,7 +16,7 @@ use Rattle.aud_single.specs.Ticks.{ticks_in, step_ticks, moved_ticks, run_ticks}
 
 module _ (plan : Plan) (name : List ℕ) (limits : Limits) (code : Flat) where
   abbrev In : Single Spot → All Spot
-  In p = all_of plan name p
+  In p = all_of name p
 
   abbrev Runs : ℕ → All Spot → All Spot
   Runs n c = run_with plan (flat_controls plan code) limits n c
@@ -54,30 +54,30 @@ module _ (plan : Plan) (name : List ℕ) (limits : Limits) (code : Flat) where
 
 pub no_steps : (code : Flat) (p : Single Spot) → RunsOn code 0 0 p p
 no_steps code p = record {
-  run = λ plan name limits n. let none : 0 + n ≡ n = omega arith in ap (λ k. run_with plan (flat_controls plan code) limits k (all_of plan name p)) none;
-  counted = λ plan name limits n. let none : 0 + n ≡ n = omega arith in let same = ap (λ k. run_ticks plan code limits k (all_of plan name p)) none in omega (arith, same);
+  run = λ plan name limits n. let none : 0 + n ≡ n = omega arith in ap (λ k. run_with plan (flat_controls plan code) limits k (all_of name p)) none;
+  counted = λ plan name limits n. let none : 0 + n ≡ n = omega arith in let same = ap (λ k. run_ticks plan code limits k (all_of name p)) none in omega (arith, same);
 }
 
 pub one_step : (code : Flat) (old new : Single Spot) → Enables code old 1 → StepsTo code old new → RunsOn code 1 (step_ticks code old) old new
 one_step code old new enabled stepped = record {
   run = λ plan name limits n.
       let one : 1 + n ≡ suc n = omega arith in
-      ap (λ k. run_with plan (flat_controls plan code) limits k (all_of plan name old)) one ∙ turn plan name limits code n old new enabled stepped;
+      ap (λ k. run_with plan (flat_controls plan code) limits k (all_of name old)) one ∙ turn plan name limits code n old new enabled stepped;
   counted = λ plan name limits n.
       let one : 1 + n ≡ suc n = omega arith in
-      ap (λ k. run_ticks plan code limits k (all_of plan name old)) one ∙ ticks_one plan name limits code n old new enabled stepped;
+      ap (λ k. run_ticks plan code limits k (all_of name old)) one ∙ ticks_one plan name limits code n old new enabled stepped;
 }
 
 pub then_on : (code : Flat) (k t j u : ℕ) (old there new : Single Spot) → RunsOn code k t old there → RunsOn code j u there new → RunsOn code (k + j) (t + u) old new
 then_on code k t j u old there new first second = record {
   run = λ plan name limits n.
       let both : k + j + n ≡ k + (j + n) = omega arith in
-      ap (λ m. run_with plan (flat_controls plan code) limits m (all_of plan name old)) both
+      ap (λ m. run_with plan (flat_controls plan code) limits m (all_of name old)) both
       ∙ first.run plan name limits (j + n)
       ∙ second.run plan name limits n;
   counted = λ plan name limits n.
       let both : k + j + n ≡ k + (j + n) = omega arith in
-      let all = ap (λ m. run_ticks plan code limits m (all_of plan name old)) both in
+      let all = ap (λ m. run_ticks plan code limits m (all_of name old)) both in
       omega (arith, all, first.counted plan name limits (j + n), second.counted plan name limits n);
 }
 
@@ -93,8 +93,8 @@ pub record RunsSoFar (code : Flat) (n : ℕ) (old new : Single Spot) (steps tick
 
 -- Nothing is left to do, in that many steps.
 pub record IsOver (code : Flat) (left : ℕ) (p : Single Spot) : Type 0 where
-  pub run : (plan : Plan) (name : List ℕ) (limits : Limits) → run_with plan (flat_controls plan code) limits left (all_of plan name p) ≡ all_of plan name p
-  pub ticks : (plan : Plan) (name : List ℕ) (limits : Limits) → run_ticks plan code limits left (all_of plan name p) ≡ 0
+  pub run : (plan : Plan) (name : List ℕ) (limits : Limits) → run_with plan (flat_controls plan code) limits left (all_of name p) ≡ all_of name p
+  pub ticks : (plan : Plan) (name : List ℕ) (limits : Limits) → run_ticks plan code limits left (all_of name p) ≡ 0
 
 pub none_left : (code : Flat) (left : ℕ) (p : Single Spot) → left ≡ 0 → IsOver code left p
 none_left code left p none = rw none (record { run = λ plan name limits. refl; ticks = λ plan name limits. refl })
@@ -109,13 +109,13 @@ module _ (code : Flat) (n : ℕ) (old new : Single Spot) (ran : Ran) (so_far : R
   pub runs_to : RunsTo code n old new ran
   runs_to = record {
     run = λ plan name limits.
-        sym (ap (λ k. run_with plan (flat_controls plan code) limits k (all_of plan name old)) (sym all_steps)
+        sym (ap (λ k. run_with plan (flat_controls plan code) limits k (all_of name old)) (sym all_steps)
         ∙ so_far.leads.run plan name limits (n - ran.steps)
         ∙ over.run plan name limits);
     steps = so_far.steps_taken;
     state = state;
     ticks = λ plan name limits.
-        let all = ap (λ k. run_ticks plan code limits k (all_of plan name old)) (sym all_steps) in
+        let all = ap (λ k. run_ticks plan code limits k (all_of name old)) (sym all_steps) in
         omega (arith, all, so_far.leads.counted plan name limits (n - ran.steps), over.ticks plan name limits, so_far.counted);
     few = so_far.few;
   }

@@ -11,10 +11,10 @@ use Rattle.aud_single.specs.Shown.{InAnyProgram}
 
 -- n moves are enabled, each its own step
 abbrev pub Enables : Flat → Single Spot → ℕ → Type 0
-Enables code p n = InAnyProgram (λ plan name. moves_at plan (flat_controls plan code) (all_of plan name p) ≡ replicate n (own_move 0))
+Enables code p n = InAnyProgram (λ plan name. moves_at plan (flat_controls plan code) (all_of name p) ≡ replicate n (own_move 0))
 
 abbrev pub IsIn : Flat → Single Spot → State → Type 0
-IsIn code p s = InAnyProgram (λ plan name. s ≡ state_at plan (flat_controls plan code) (all_of plan name p))
+IsIn code p s = InAnyProgram (λ plan name. s ≡ state_at plan (flat_controls plan code) (all_of name p))
 
 -- by the kind of the next step, if there is one, and whether the output is full
 abbrev pub moves_of : Option StepKind → Bool → ℕ

@@ -1,51 +1,77 @@
 -- What comes next of a program that is its main procedure alone.
 use Rattle.std.specs.Prelude.{◌≡◌, ℕ, Option, Some, None}
-use Rattle.std.specs.Option.{option_map}
 use Rattle.aud_text.specs.declared.place.Pos.{Pos}
+use Rattle.aud_typed.specs.Tree.{Plan}
 use Rattle.aud_meaning.specs.declared.state.StepKind.{StepKind}
 use Rattle.aud_meaning.specs.declared.state.StepKind.TheVariants as kind
 use Rattle.aud_meaning.specs.declared.state.NextStep.{NextStep}
+use Rattle.aud_meaning.specs.Configuration.{Pending}
+use Rattle.aud_meaning.specs.Evaluation.{Sight}
+use Rattle.aud_meaning.specs.Control.{Coming, simply, ending, selecting, calling, starting}
 use Rattle.aud_meaning.specs.Parts.{unit_of}
+use Rattle.aud_meaning.specs.Run.{end_kind_by}
 use Rattle.aud_meaning.specs.Listings.{coming_step_at}
-use Rattle.aud_meaning.specs.Ties.Single.{Stage, Single, runs, completed, terminated, all_of}
+use Rattle.aud_meaning.specs.Ties.Single.{Stage, Stack, Single, runs, completed, terminated, all_of, out_of_loops}
 use Rattle.aud_code.specs.Places.{Spot}
-use Rattle.aud_code.specs.Flat.{Flat, flat_controls}
-use Rattle.aud_code.specs.declared.line.EndLine.{EndLine}
-use Rattle.aud_code.specs.declared.line.Ending.TheVariants.{Declare, Null, Assign, Put, If, While, Exit}
+use Rattle.aud_code.specs.Flat.{Flat, flat_controls, coming_at, end_at}
+use Rattle.aud_code.specs.declared.line.Ending.{Ending}
+use Rattle.aud_code.specs.declared.line.Ending.TheVariants.{Declare, DeclareArray, Null, Assign, Put, If, While, Loop, Exit, Raise, RaiseAgain, Block}
 use Rattle.aud_code.specs.declared.line.Last.{Last}
-use Rattle.aud_code.specs.declared.line.Last.TheVariants.{Does, Guards, Ends}
+use Rattle.aud_code.specs.declared.line.Last.TheVariants.{Does, Continues, Guards, Ends, Leaves}
 use Rattle.aud_single.specs.Shown.{InAnyProgram}
 
--- the kind of a step, by how it ends
-abbrev pub step_kind : Last → StepKind
-step_kind (Does (Declare up_to again) next) = kind.Declaration
-step_kind (Does Null next) = kind.Null
-step_kind (Does Assign next) = kind.Assign
-step_kind (Does Put next) = kind.Put
-step_kind (Does (If inside) next) = kind.If
-step_kind (Does (While inside) next) = kind.While
-step_kind (Does (Exit out) next) = kind.Exit
-step_kind Guards = kind.Complete
-step_kind Ends = kind.Complete
+-- the kind of a statement's step
+abbrev pub statement_kind : Ending → StepKind
+statement_kind (Declare up_to again) = kind.Declaration
+statement_kind (DeclareArray t n) = kind.Declaration
+statement_kind Null = kind.Null
+statement_kind Assign = kind.Assign
+statement_kind Put = kind.Put
+statement_kind (If inside) = kind.If
+statement_kind (While inside) = kind.While
+statement_kind (Loop f inside) = kind.For
+statement_kind (Exit w) = kind.Exit
+statement_kind (Raise x) = kind.Raise
+statement_kind RaiseAgain = kind.Raise
+statement_kind (Block region inside) = kind.Block
 
--- the kind of the next step, by how the one at its place ends
-abbrev pub next_kind : Last → Stage → Option StepKind
-next_kind last (runs None) = Some (step_kind last)
-next_kind last (runs (Some pending)) = Some kind.Complete
-next_kind last (completed raised) = Some kind.Close
-next_kind last (terminated raised) = None
+-- the kind of a step, by how it ends, with that of the step which leaves the innermost construct
+abbrev pub step_kind : Last → StepKind → StepKind
+step_kind (Does e next) leaving = statement_kind e
+step_kind (Continues f behind inside) leaving = kind.Next
+step_kind (Guards gs) leaving = leaving
+step_kind (Ends c next) leaving = leaving
+step_kind (Leaves n to) leaving = leaving
 
--- with the ending at its place, and where the program's `end` stands
-abbrev pub next_place : EndLine → Pos → Stage → Pos
-next_place l end (runs None) = l.at
-next_place l end (runs (Some pending)) = pending.at
-next_place l end (completed raised) = end
-next_place l end (terminated raised) = end
+-- what comes next is a step of this kind, and has a single move
+abbrev pub IsOfKind : Stack → StepKind → Coming → Type 0
+IsOfKind s k (simply w) = k ≡ w
+IsOfKind s k ending = k ≡ end_kind_by (out_of_loops s).opened
+IsOfKind s k (selecting ones) = ⊥
+IsOfKind s k (calling task entry) = ⊥
+IsOfKind s k (starting object reading) = ⊥
 
-abbrev pub next_in : EndLine → Pos → Stage → Option NextStep
-next_in l end s = option_map (λ k. record { kind = k; at = next_place l end s }) (next_kind l.last s)
+-- with this exception pending, whatever the program's plan and what it sees
+abbrev pub ComesAs : Flat → Single Spot → Option Pending → Option StepKind → Type 0
+ComesAs code p pending None = ⊥
+ComesAs code p pending (Some k) = (plan : Plan) (s : Sight) → IsOfKind p.stack k (coming_at code plan pending s p.control)
+
+abbrev pub IsKindIn : Flat → Single Spot → Stage → Option StepKind → Type 0
+IsKindIn code p (runs pending) next = ComesAs code p pending next
+IsKindIn code p (completed raised) next = next ≡ Some kind.Close
+IsKindIn code p (terminated raised) next = next ≡ None
+
+abbrev pub IsNextKind : Flat → Single Spot → Option StepKind → Type 0
+IsNextKind code p next = IsKindIn code p p.stage next
 
 -- what comes next of the task of a number, where the program's `end` stands at this place
 abbrev pub ComesNext : Flat → Pos → ℕ → Single Spot → Option NextStep → Type 0
 ComesNext code end task p next =
-    InAnyProgram (λ plan name. (unit_of plan 0).end ≡ end → next ≡ coming_step_at plan (flat_controls plan code) task (all_of plan name p))
+    InAnyProgram (λ plan name. (unit_of plan 0).end ≡ end → next ≡ coming_step_at plan (flat_controls plan code) task (all_of name p))
+
+-- the place that is shown for its next step, where the program's `end` stands at this place
+abbrev pub place_in : Flat → Pos → ℕ → Stage → Pos
+place_in code final place (runs None) = (end_at code place).at
+place_in code final place (runs (Some pending)) = pending.at
+place_in code final place (completed raised) = final
+place_in code final place (terminated raised) = final

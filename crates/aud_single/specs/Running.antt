@@ -12,14 +12,14 @@ use Rattle.aud_single.specs.Ticks.{run_ticks}
 
 -- from old, n steps of the code lead to new, and what was done is told
 pub record RunsTo (code : Flat) (n : ℕ) (old new : Single Spot) (ran : Ran) : Type 0 where
-  pub run : InAnyProgram (λ plan name. (limits : Limits) → all_of plan name new ≡ run_with plan (flat_controls plan code) limits n (all_of plan name old))
+  pub run : InAnyProgram (λ plan name. (limits : Limits) → all_of name new ≡ run_with plan (flat_controls plan code) limits n (all_of name old))
   pub steps : ran.steps + old.steps ≡ new.steps
   pub state : IsIn code new ran.state
   -- a counter that stops at its largest number
-  pub ticks : InAnyProgram (λ plan name. (limits : Limits) → ran.ticks ≡ min (run_ticks plan code limits n (all_of plan name old)) (2 ^ 64 - 1))
+  pub ticks : InAnyProgram (λ plan name. (limits : Limits) → ran.ticks ≡ min (run_ticks plan code limits n (all_of name old)) (2 ^ 64 - 1))
   pub few : ran.ticks ≤ ran.steps * length code.lines
 
 -- k steps of the code lead from old to new, so that k + n lead from old to where n lead from new, and likewise their ticks
 pub record RunsOn (code : Flat) (k ticks : ℕ) (old new : Single Spot) : Type 0 where
-  pub run : InAnyProgram (λ plan name. (limits : Limits) (n : ℕ) → run_with plan (flat_controls plan code) limits (k + n) (all_of plan name old) ≡ run_with plan (flat_controls plan code) limits n (all_of plan name new))
-  pub counted : InAnyProgram (λ plan name. (limits : Limits) (n : ℕ) → run_ticks plan code limits (k + n) (all_of plan name old) ≡ ticks + run_ticks plan code limits n (all_of plan name new))
+  pub run : InAnyProgram (λ plan name. (limits : Limits) (n : ℕ) → run_with plan (flat_controls plan code) limits (k + n) (all_of name old) ≡ run_with plan (flat_controls plan code) limits n (all_of name new))
+  pub counted : InAnyProgram (λ plan name. (limits : Limits) (n : ℕ) → run_ticks plan code limits (k + n) (all_of name old) ≡ ticks + run_ticks plan code limits n (all_of name new))

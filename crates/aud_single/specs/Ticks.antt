@@ -14,16 +14,16 @@ use Rattle.aud_code.specs.Flat.{Flat, flat_controls}
 use Rattle.aud_expr.specs.Ticks.{ticks_at}
 
 -- what the instructions of the main procedure see: they ask nothing of tasks
-abbrev pub scene_at : List Frame → ℕ → Scene
-scene_at frames clock = record { sight = record { display = 0 ∷ []; frames = frames; facts = facts_in [] [] }; clock = clock; objects = 0 }
+abbrev pub scene_at : List ℕ → List Frame → ℕ → Scene
+scene_at display frames clock = record { sight = record { display = display; frames = frames; facts = facts_in [] [] }; clock = clock; objects = 0 }
 
 -- a step evaluates, unless an exception is pending or the body has ended
-abbrev pub ticks_pending : Flat → Option Pending → List Frame → ℕ → Spot → ℕ
-ticks_pending code None frames clock t = ticks_at code t.place (scene_at frames clock)
-ticks_pending code (Some pending) frames clock t = 0
+abbrev pub ticks_pending : Flat → Option Pending → List ℕ → List Frame → ℕ → Spot → ℕ
+ticks_pending code None display frames clock t = ticks_at code t.place (scene_at display frames clock)
+ticks_pending code (Some pending) display frames clock t = 0
 
 abbrev pub ticks_by : Flat → Stage → Single Spot → ℕ
-ticks_by code (runs pending) p = ticks_pending code pending p.frames p.clock p.control
+ticks_by code (runs pending) p = ticks_pending code pending p.stack.display p.frames p.clock p.control
 ticks_by code (completed raised) p = 0
 ticks_by code (terminated raised) p = 0
 
@@ -37,7 +37,7 @@ ticks_in code [] c = 0
 ticks_in code (main ∷ ts) c = by main.own.status
   where
     by : Status → ℕ
-    by Running = ticks_pending code main.own.pending c.shared.frames c.clock main.control
+    by Running = ticks_pending code main.own.pending main.own.display c.shared.frames c.clock main.control
     by Created = 0
     by Activating = 0
     by Accepting = 0

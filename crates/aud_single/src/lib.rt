@@ -6,4 +6,6 @@ mod fast;
 mod moves;
 pub mod progress;
 pub mod run;
+pub mod stage;
+mod statements;
 mod step;

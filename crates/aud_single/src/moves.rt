@@ -13,20 +13,14 @@ impl Progress {
         ensures enabled { Enables code.now self.now result }
         ensures one { result ≤ 1 }
     {
-        moves_of(
-            self.next_kind(code.ending(self.place()).last),
-            self.is_cut(),
-        )
+        moves_of(self.next_kind(code), self.is_cut())
     }
 
     /// What can happen next.
     pub fn state(&self, code: &SoundCode) -> State
         ensures { IsIn code.now self.now result }
     {
-        state_of(
-            self.next_kind(code.ending(self.place()).last),
-            self.is_cut(),
-        )
+        state_of(self.next_kind(code), self.is_cut())
     }
 }
 

@@ -1,18 +1,27 @@
 // How far a program is that is its main procedure alone.
 
-ghost use Rattle.std.specs.Prelude.{◌≡◌, ◌<◌, ◌≤◌, ◌+◌, suc, [], length, nat_lt, None, false, if◌then◌else◌, OnOk, IfOk};
+ghost use Rattle.std.specs.Prelude.{◌≡◌, ◌<◌, ◌≤◌, ◌+◌, ◌∷◌, [], List, ℕ, length, replicate, Some, None, false, IsTrue, OnOk, IfOk};
 ghost use Rattle.aud_meaning.specs.Run.{main_raised, supplied, advanced};
-ghost use Rattle.aud_meaning.specs.Ties.Single.{runs, all_of};
+ghost use Rattle.aud_meaning.specs.Effects.{innermost};
+ghost use Rattle.aud_meaning.specs.Ties.Single.{runs, all_of, closed, out_of_loops, AreOpenedAlone};
 ghost use Rattle.aud_code.specs.Flat.{start_at};
 ghost use Rattle.aud_code.specs.Sound.{IsStart};
-ghost use Rattle.aud_single.specs.Steps.{Stands, moved_to, declared, stored, written};
-ghost use Rattle.aud_single.specs.Shown.{plain_stage, InAnyProgram, Becomes, IsOpening};
+ghost use Rattle.aud_expr.specs.Fused.{SeesMain};
+ghost use Rattle.aud_store.specs.Ties.Stored.{declared, entered, plain_purpose, IsInnermost};
+ghost use Rattle.aud_store.specs.Ties.Stored as store;
+ghost use Rattle.aud_single.specs.Steps.{Stands, moved_to, declared_to, stored, stored_in, on_stored};
+ghost use Rattle.aud_single.specs.Steps.{written, left_loops, construct_left, out_of_construct, handled_at};
+ghost use Rattle.aud_single.specs.Shown.{plain_stage, Becomes, IsOpening};
 ghost use Rattle.aud_single.specs.Fast.{RunsFast};
 
 use crate::fast::{FastRun, fast_run_with};
+use crate::stage::Stage;
+use aud_code::line::Way;
 use aud_code::sound_code::SoundCode;
+use aud_exc::raised::Raised;
 use aud_expr::target::Target;
-use aud_store::frames::Frames;
+use aud_store::stack::{Open, Purpose};
+use aud_store::store::Store;
 use aud_text::int32::Int32;
 use aud_text::limits::{CHOICES, CLOCK, OUTPUT, STEPS};
 use aud_text::place::Pos;
@@ -21,61 +30,12 @@ use std::alloc::{AllocError, Global};
 use std::collections::VecDeque;
 use std::marker::Model;
 
-/// An exception that is raised and not yet handled, and the place that is shown for it (RM 11.4).
-#[derive(Clone, Copy, PartialEq, Eq, Debug)]
-pub struct Pending {
-    exception: Exception,
-    at: Pos,
-}
-
-impl Model for Pending {
-    ghost use Rattle.aud_meaning.specs.Configuration.{Pending as Plain};
-
-    ghost Value = { Plain };
-
-    ghost view = { λ p. record { exception = p.exception; at = p.at } };
-
-    ghost inverse = { λ p. record { exception = p.exception; at = p.at } };
-}
-
-impl Pending {
-    pub fn new(exception: Exception, at: Pos) -> Self
-        ensures { result ≡ record { exception = exception; at = at } }
-    {
-        Pending { exception, at }
-    }
-
-    pub fn exception(self) -> Exception
-        ensures { result ≡ self.exception }
-    {
-        self.exception
-    }
-
-    /// The place where it was raised.
-    pub fn at(self) -> Pos
-        ensures { result ≡ self.at }
-    {
-        self.at
-    }
-}
-
-/// How far the main procedure is.
-#[derive(Clone, Copy, PartialEq, Eq, Debug)]
-pub enum Stage {
-    /// It does its declarations and statements, with this exception pending.
-    Runs(Option<Pending>),
-    /// Its body has ended, by this exception.
-    Completed(Option<Exception>),
-    Terminated(Option<Exception>),
-}
-
-/// Where the program stands in its code and how far it is, with how many variables are elaborated; all frames, the output,
-/// the choices that wait, the time on its clock, and the steps taken.
+/// Where the program stands in its code and how far it is; its frames, the output, the choices that wait, the time on its
+/// clock, and the steps taken.
 pub struct Progress {
     place: usize,
     stage: Stage,
-    elaborated: usize,
-    frames: Frames,
+    store: Store,
     output: Vec<u8>,
     cut: bool,
     choices: VecDeque<u32>,
@@ -89,8 +49,7 @@ impl Drop for Progress {
         let Progress {
             place: _,
             stage: _,
-            elaborated: _,
-            frames: _,
+            store: _,
             output: _,
             cut: _,
             choices: _,
@@ -112,8 +71,8 @@ impl Model for Progress {
     ghost view = { λ p. record {
       control = main_at p.place;
       stage = plain_stage p.stage;
-      elaborated = p.elaborated;
-      frames = p.frames;
+      stack = p.store.stack;
+      frames = p.store.frames;
       output = p.output.items;
       cut = p.cut;
       choices = p.choices.items;
@@ -121,24 +80,22 @@ impl Model for Progress {
       steps = p.steps;
     } };
 
-    ghost invariant = { λ p. (1 ≤ length p.frames) × (p.elaborated ≤ p.steps)
-        × (length p.output.items ≤ OUTPUT) × (length p.choices.items ≤ CHOICES)
+    ghost invariant = { λ p. (length p.output.items ≤ OUTPUT) × (length p.choices.items ≤ CHOICES)
         × (p.clock ≤ CLOCK) × (p.steps ≤ STEPS) };
 }
 
 impl Progress {
-    /// The main procedure before its first step (RM 10.2).
-    pub fn new(code: &SoundCode, alloc: Global) -> Result<Self, AllocError>
-        ensures opening { IfOk result (λ p. IsOpening code.now p) }
+    /// The main procedure before its first step, with the place where its text begins (RM 10.2).
+    pub fn new(code: &SoundCode, at: Pos, alloc: Global) -> Result<Self, AllocError>
+        ensures opening { IfOk result (λ p. IsOpening code.now at p) }
         ensures stands { IfOk result (λ p. Stands code.now.lines p) }
     {
-        let mut frames = Frames::new(alloc);
-        frames.enter(alloc)?;
+        let mut store = Store::new(alloc);
+        store.enter(alloc, Purpose::Body, 0, at, &[], 0)?;
         Ok(Progress {
             place: first_place(code),
             stage: Stage::Runs(None),
-            elaborated: 0,
-            frames,
+            store,
             output: Vec::new(alloc),
             cut: false,
             choices: VecDeque::new(alloc),
@@ -162,18 +119,11 @@ impl Progress {
         self.stage
     }
 
-    /// How many of its variables are elaborated.
-    pub fn elaborated(&self) -> usize
-        ensures { result ≡ self.now.elaborated }
+    /// Its frames, all that were ever made and those that are open.
+    pub fn store(&self) -> &Store
+        ensures { result.now ≡ stored_in self.now }
     {
-        self.elaborated
-    }
-
-    /// All frames ever made, by their numbers.
-    pub fn frames(&self) -> &Frames
-        ensures { result.now ≡ self.now.frames }
-    {
-        &self.frames
+        &self.store
     }
 
     pub fn output(&self) -> &[u8]
@@ -216,8 +166,7 @@ impl Progress {
 
     /// The exception that left the main procedure.
     pub fn raised(&self) -> Option<Exception>
-        ensures { InAnyProgram (λ plan name.
-            result ≡ main_raised (all_of plan name self.now).tasks) }
+        ensures { (name : List ℕ) → result ≡ main_raised (all_of name self.now).tasks }
     {
         match self.stage {
             Stage::Runs(_) => None,
@@ -264,8 +213,8 @@ impl Progress {
         self.steps += 1;
     }
 
-    /// One more variable of the body, and one step: to the place `again` while fewer than `up_to` are elaborated, and then to the
-    /// place `next` (RM 3.3.1).
+    /// One more variable of the innermost frame, and one step: to the place `again` while fewer than `up_to` are elaborated, and
+    /// then to the place `next` (RM 3.3.1).
     pub(crate) fn declare(
         &mut self,
         value: Int32,
@@ -274,13 +223,28 @@ impl Progress {
         next: usize,
     ) -> Result<(), AllocError>
         requires { self.old.steps < STEPS }
-        ensures { OnOk result (self.new ≡ declared value
-            (moved_to (if nat_lt (suc self.old.elaborated) up_to then again else next) self.old)) }
+        ensures { OnOk result (self.new ≡ declared_to up_to again next
+            (on_stored (declared (value ∷ [])) self.old)) }
     {
-        self.frames.declare(0, value)?;
-        let elaborated = self.elaborated + 1;
-        self.go(if elaborated < up_to { again } else { next });
-        self.elaborated = elaborated;
+        self.store.declare(value)?;
+        let more = self.store.elaborated() < up_to;
+        self.go(if more { again } else { next });
+        Ok(())
+    }
+
+    /// One more variable of the innermost frame, with so many cells, and one step to a place (RM 3.6).
+    pub(crate) fn declare_all(
+        &mut self,
+        count: usize,
+        value: Int32,
+        place: usize,
+    ) -> Result<(), AllocError>
+        requires { self.old.steps < STEPS }
+        ensures { OnOk result (self.new ≡
+            moved_to place (on_stored (declared (replicate count value)) self.old)) }
+    {
+        self.store.declare_all(count, value)?;
+        self.go(place);
         Ok(())
     }
 
@@ -289,11 +253,117 @@ impl Progress {
         requires { self.old.steps < STEPS }
         ensures { self.new ≡ stored target value (moved_to place self.old) }
     {
-        let frame = target.frame();
-        if frame < self.frames.len() {
-            self.frames.assign(frame, target.index(), value);
-        }
+        self.store.assign(target.frame(), target.index(), value);
         self.go(place);
+    }
+
+    /// A frame is opened, and one step leads inside.
+    pub(crate) fn enter(
+        &mut self,
+        purpose: Purpose,
+        region: usize,
+        at: Pos,
+        cells: &[Int32],
+        elaborated: usize,
+        inside: usize,
+    ) -> Result<(), AllocError>
+        requires { self.old.steps < STEPS }
+        ensures { OnOk result (self.new ≡
+            on_stored (entered (plain_purpose purpose) region at cells.now elaborated)
+            (moved_to inside self.old)) }
+    {
+        let alloc = *self.output.allocator();
+        self.store
+            .enter(alloc, purpose, region, at, cells, elaborated)?;
+        self.go(inside);
+        Ok(())
+    }
+
+    /// Another value of the innermost loop's parameter, and one step to a place.
+    pub(crate) fn set_loop(&mut self, value: Int32, place: usize)
+        requires { self.old.steps < STEPS }
+        ensures { self.new ≡ on_stored
+            (λ s. store.stored (innermost s.stack.opened) 0 value s) (moved_to place self.old) }
+    {
+        self.store.set_loop(value);
+        self.go(place);
+    }
+
+    /// The innermost frame is left, and one step leads to a place.
+    pub(crate) fn leave(&mut self, place: usize)
+        requires { self.old.steps < STEPS }
+        ensures { self.new ≡ record (moved_to place self.old) { stack = closed self.old.stack } }
+    {
+        self.store.leave();
+        self.go(place);
+    }
+
+    /// One step out of loops (RM 5.7).
+    pub(crate) fn exit(&mut self, way: Way)
+        requires { self.old.steps < STEPS }
+        ensures { self.new ≡ left_loops way self.old }
+    {
+        self.store.leave_times(way.loops);
+        self.go(way.to);
+    }
+
+    /// The innermost construct handles an exception, and the step leads to its handler (RM 11.4(7)).
+    pub(crate) fn handle(&mut self, exception: Exception, place: usize)
+        requires { self.old.steps < STEPS }
+        ensures { self.new ≡ handled_at exception place self.old }
+    {
+        self.store.leave_loops();
+        self.store.handle(exception);
+        self.turn(Stage::Runs(None), place);
+    }
+
+    /// The innermost construct is left, by an exception or without one, and so many loops around it; the step leads to a place
+    /// (RM 5.6, 11.4).
+    pub(crate) fn leave_construct(
+        &mut self,
+        exception: Option<Exception>,
+        loops: usize,
+        place: usize,
+    )
+        requires { self.old.steps < STEPS }
+        ensures left { self.new ≡ construct_left exception loops place self.old }
+        ensures alone { AreOpenedAlone self.old.stack.opened }
+        ensures steps { self.new.steps ≡ self.old.steps + 1 }
+    {
+        let stage = match self.store.construct() {
+            Some(construct) => self.leave_open(construct, exception),
+            None => Stage::Runs(None),
+        };
+        self.store.leave_times(loops);
+        self.turn(stage, place);
+    }
+
+    // The frame of the innermost construct is left, but for a body's: a completed task keeps its frames. It gives how far the main
+    // procedure then is.
+    fn leave_open(&mut self, construct: Open, exception: Option<Exception>) -> Stage
+        requires { IsInnermost (Some construct) (out_of_loops self.old.stack).opened }
+        ensures left { record self.new { stage = plain_stage result } ≡
+            out_of_construct exception (out_of_loops self.old.stack).opened self.old }
+        ensures steps { self.new.steps ≡ self.old.steps }
+    {
+        match construct.purpose {
+            Purpose::Body => Stage::Completed(exception),
+            Purpose::Block => {
+                self.store.leave_loops();
+                self.store.leave();
+                let at = construct.at;
+                Stage::Runs(exception.map(|exception| Raised { exception, at }))
+            }
+            Purpose::Loop => Stage::Runs(None),
+        }
+    }
+
+    // Whether the variables of level 0 are those of the first frame.
+    fn sees_main(&self) -> bool
+        ensures display { IsTrue result → SeesMain self.now.stack.display }
+        ensures framed { IsTrue result → 0 < length self.now.frames }
+    {
+        self.store.display().first() == Some(&0) && 0 < self.store.frames().len()
     }
 
     /// The next steps, at most n, for as long as each is done by fused instructions. It tells where they led, how many they were,
@@ -304,7 +374,9 @@ impl Progress {
         ensures runs { RunsFast code.now n self.old self.new result }
     {
         match self.stage {
-            Stage::Runs(None) if !self.cut => self.run_free(code, n),
+            Stage::Runs(None) if !self.cut && self.place < code.len() && self.sees_main() => {
+                self.run_free(code, n)
+            }
             _ => FastRun {
                 place: self.place,
                 steps: 0,
@@ -317,12 +389,14 @@ impl Progress {
     fn run_free(&mut self, code: &SoundCode, n: u32) -> FastRun
         requires runs { self.old.stage ≡ runs None }
         requires uncut { self.old.cut ≡ false }
-        requires stands { Stands code.now.lines self.old }
+        requires begins { IsStart code.now.lines self.old.control.place }
+        requires display { SeesMain self.old.stack.display }
+        requires framed { 0 < length self.old.frames }
         requires budget { self.old.steps + n ≤ STEPS }
         ensures runs { RunsFast code.now n self.old self.new result }
     {
-        let (run, cells) = fast_run_with(code, self.place, self.frames.take(0), n);
-        self.frames.put(0, cells);
+        let (run, cells) = fast_run_with(code, self.place, self.store.take(0), n);
+        self.store.put(0, cells);
         self.place = run.place;
         self.steps += run.steps;
         run

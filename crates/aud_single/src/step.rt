@@ -1,20 +1,25 @@
 // The steps of a program that is its main procedure alone.
 
-ghost use Rattle.std.specs.Prelude.{◌≡◌, ◌<◌, ◌+◌, Some, None, OnOk, IfOk};
-ghost use Rattle.aud_typed.specs.declared.program.Exception.{Exception as Exceptions};
+ghost use Rattle.std.specs.Prelude.{◌≡◌, ◌<◌, ◌+◌, Some, None, OnOk, IfOk, length};
 ghost use Rattle.aud_meaning.specs.Ties.Single.{runs};
-ghost use Rattle.aud_code.specs.Flat.{end_at, left_by, handler_at};
+ghost use Rattle.aud_code.specs.Flat.{end_at};
 ghost use Rattle.aud_code.specs.Sound.{counts_of, LastFine};
 ghost use Rattle.aud_code.specs.View.{plain_last};
-ghost use Rattle.aud_single.specs.Steps.{StepsTo, Stands, IsStep, ends_by, raises_by};
-ghost use Rattle.aud_single.specs.Shown.{main_at};
+ghost use Rattle.aud_exc.specs.View.{plain_raised};
+ghost use Rattle.aud_single.specs.Steps.{StepsTo, Stands, IsStep, EndsAt};
+ghost use Rattle.aud_single.specs.Steps.{ends_by, flows_by, raises_by, raised, place_behind};
 
-use crate::progress::{Pending, Progress, Stage};
-use aud_code::line::{EndLine, Ending, Last};
+use crate::progress::Progress;
+use crate::stage::Stage;
+use aud_code::line::Last;
 use aud_code::sound_code::SoundCode;
+use aud_exc::propagation::{find_handler, unwind};
+use aud_exc::raised::Raised;
 use aud_expr::evaluate::{Evaluation, Outcome, evaluate};
 use aud_expr::operands::Operands;
+use aud_meaning::state::Construct;
 use aud_text::limits::STEPS;
+use aud_text::place::Pos;
 use aud_text::raise::Raise;
 use aud_typed::program::Exception;
 use std::alloc::AllocError;
@@ -26,18 +31,18 @@ impl Progress {
         requires steps { self.old.steps < STEPS }
         ensures { IfOk result (λ ticks. IsStep code.now self.old self.new ticks) }
     {
-        let place = self.place();
         match self.stage() {
             Stage::Runs(None) => return self.act(code, operands),
-            Stage::Runs(Some(pending)) => self.leave(code, pending),
+            Stage::Runs(Some(raised)) => self.propagate(code, raised),
             Stage::Completed(raised) | Stage::Terminated(raised) => {
-                self.turn(Stage::Terminated(raised), place)
+                self.turn(Stage::Terminated(raised), self.place())
             }
         }
         Ok(0)
     }
 
-    // The expressions of the step are evaluated, and its ending or the exception that they raise follows.
+    // The expressions of the step are evaluated, and its ending or the exception that they raise follows. Behind all lines
+    // nothing is left to do but to leave what is open.
     fn act(&mut self, code: &SoundCode, operands: &mut Operands) -> Result<u64, AllocError>
         requires runs { self.old.stage ≡ runs None }
         requires stands { Stands code.now.lines self.old }
@@ -45,82 +50,140 @@ impl Progress {
         ensures { IfOk result (λ ticks. IsStep code.now self.old self.new ticks) }
     {
         let place = self.place();
-        let Evaluation { outcome, ticks } = evaluate(code, place, &[0], self.frames(), operands)?;
+        if code.len() <= place {
+            self.leave_construct(None, 0, code.len());
+            return Ok(0);
+        }
+        let store = self.store();
+        let Evaluation { outcome, ticks } = evaluate(
+            code,
+            place,
+            store.display(),
+            store.frames(),
+            operands,
+        )?;
         match outcome {
-            Outcome::Reaches(ending) => self.end(code.ending(ending).last, code.len(), operands)?,
-            Outcome::Fails(raise) => self.fail(raise, code.ending(place), code.len()),
+            Outcome::Reaches(reached) => self.reach(code, reached, operands)?,
+            Outcome::Fails(raise) => self.fail(code, raise),
         }
         Ok(ticks)
     }
 
-    // What the ending of a step does; `behind` is the place behind all lines.
-    fn end(&mut self, last: Last, behind: usize, operands: &mut Operands) -> Result<(), AllocError>
-        requires fine { LastFine (plain_last last) (counts_of operands.old) }
+    // What the ending at a place does, which is that of the step from it on.
+    fn reach(
+        &mut self,
+        code: &SoundCode,
+        reached: usize,
+        operands: &mut Operands,
+    ) -> Result<(), AllocError>
+        requires fine { LastFine (end_at code.now reached).last (counts_of operands.old) }
         requires steps { self.old.steps < STEPS }
-        ensures does { OnOk result (self.new ≡ ends_by last behind operands.old self.old) }
+        ensures does { OnOk result (EndsAt code.now reached (λ last at.
+            self.new ≡ ends_by last at (length code.now.lines) operands.old self.old)) }
+        ensures steps { OnOk result (self.new.steps ≡ self.old.steps + 1) }
+    {
+        match code.ending(reached) {
+            Some(ending) => self.end(&ending.last, ending.at, code.len(), operands),
+            None => {
+                self.leave_construct(None, 0, code.len());
+                Ok(())
+            }
+        }
+    }
+
+    // What the ending of a step does; `behind` is the place behind all lines.
+    fn end(
+        &mut self,
+        last: &Last,
+        at: Pos,
+        behind: usize,
+        operands: &mut Operands,
+    ) -> Result<(), AllocError>
+        requires fine { LastFine (plain_last last.now) (counts_of operands.old) }
+        requires steps { self.old.steps < STEPS }
+        ensures does { OnOk result (self.new ≡ ends_by last.now at behind operands.old self.old) }
         ensures steps { OnOk result (self.new.steps ≡ self.old.steps + 1) }
     {
         match last {
-            Last::Does(Ending::Declare { up_to, again }, next) => {
-                self.declare(operands.pop(), up_to, again, next)?;
+            Last::Does(ending, next) => self.act_by(*ending, at, *next, operands),
+            _ => {
+                self.flow(last, behind);
+                Ok(())
             }
-            Last::Does(Ending::Null, next) => self.go(next),
-            Last::Does(Ending::Assign, next) => {
-                let value = operands.pop();
-                let target = operands.pop_target();
-                self.assign(target, value, next);
-            }
-            Last::Does(Ending::Put, next) => self.put(operands.text(), next)?,
-            Last::Does(Ending::If(there) | Ending::While(there) | Ending::Exit(there), next) => {
-                self.go(if operands.pop_truth() { there } else { next });
-            }
-            Last::Guards => self.go(self.place()),
-            Last::Ends => self.turn(Stage::Completed(None), behind),
         }
-        Ok(())
     }
 
-    // An exception that the evaluation before an ending raises, and that pends from now on.
-    fn fail(&mut self, raise: Raise, ending: EndLine, behind: usize)
+    // What an ending does before which nothing is evaluated.
+    fn flow(&mut self, last: &Last, behind: usize)
         requires steps { self.old.steps < STEPS }
-        ensures { self.new ≡ raises_by ending.last raise ending.at behind self.old }
+        ensures does { self.new ≡ flows_by last.now behind self.old }
+        ensures steps { self.new.steps ≡ self.old.steps + 1 }
     {
-        match ending.last {
-            Last::Does(_, _) => {
-                let pending = Pending::new(Exception::Predefined(raise), ending.at);
-                self.turn(Stage::Runs(Some(pending)), self.place());
+        match last {
+            Last::Does(_, next) => self.go(*next),
+            Last::Continues {
+                control,
+                behind: out,
+                inside,
+            } => self.continue_loop(*control, *out, *inside),
+            Last::Guards(_) => self.go(self.place()),
+            Last::Ends(construct, next) => {
+                self.leave_construct(None, 0, place_behind(*construct, *next, behind));
             }
-            Last::Guards => self.go(self.place()),
-            Last::Ends => self.turn(Stage::Completed(None), behind),
+            Last::Leaves { loops, to } => self.leave_construct(None, *loops, *to),
         }
     }
 
-    // The body is left by an exception, for which it has no handler (RM 11.4).
-    fn leave(&mut self, code: &SoundCode, pending: Pending)
-        requires runs { self.old.stage ≡ runs (Some pending) }
+    // An exception that the evaluation of a step raises: it pends from now on. Where nothing is evaluated the ending does what it
+    // does.
+    fn fail(&mut self, code: &SoundCode, raise: Raise)
+        requires steps { self.old.steps < STEPS }
+        ensures does { EndsAt code.now self.old.control.place (λ last at.
+            self.new ≡ raises_by last at (length code.now.lines) raise self.old) }
+        ensures steps { self.new.steps ≡ self.old.steps + 1 }
+    {
+        match code.ending(self.place()) {
+            Some(ending) => match ending.last {
+                Last::Does(_, _) => self.raise(Exception::Predefined(raise), ending.at),
+                _ => self.flow(&ending.last, code.len()),
+            },
+            None => self.leave_construct(None, 0, code.len()),
+        }
+    }
+
+    /// One step, which raises where the program stands (RM 11.3).
+    pub(crate) fn raise(&mut self, exception: Exception, at: Pos)
+        requires steps { self.old.steps < STEPS }
+        ensures { self.new ≡ raised exception at self.old }
+    {
+        self.turn(Stage::Runs(Some(Raised { exception, at })), self.place());
+    }
+
+    // A pending exception is handled, or leaves the innermost construct (RM 11.4).
+    fn propagate(&mut self, code: &SoundCode, raised: Raised)
+        requires runs { self.old.stage ≡ runs (Some (plain_raised raised)) }
+        requires stands { Stands code.now.lines self.old }
         requires steps { self.old.steps < STEPS }
         ensures next { StepsTo code.now self.old self.new }
         ensures stands { Stands code.now.lines self.new }
         ensures steps { self.new.steps ≡ self.old.steps + 1 }
     {
-        let place = left(code, self.place());
-        self.turn(Stage::Completed(Some(pending.exception())), place);
+        match find_handler(code, self.place(), raised.exception) {
+            Some(handler) => self.handle(raised.exception, handler),
+            None => {
+                let place = unwind(code, self.place()).unwrap_or(code.len());
+                self.leave_construct(Some(raised.exception), 0, place);
+            }
+        }
     }
 }
 
-// Where the end of the construct leads that an exception leaves which is pending at a place.
-fn left(code: &SoundCode, place: usize) -> usize
-    ensures unhandled { (x : Exceptions) → handler_at code.now x (main_at place) ≡ None }
-    ensures left { main_at result ≡ left_by code.now (end_at code.now place).out (main_at place) }
+// Where the end of a construct leads; a body's leads behind all lines.
+fn place_behind(construct: Construct, next: usize, behind: usize) -> usize
+    ensures { result ≡ place_behind construct next behind }
 {
-    let out = code.ending(place).out;
-    let guarded = code.ending(out);
-    let end = match guarded.last {
-        Last::Guards => guarded.out,
-        Last::Does(_, _) | Last::Ends => out,
-    };
-    match code.ending(end).last {
-        Last::Ends => code.len(),
-        Last::Does(_, _) | Last::Guards => place,
+    match construct {
+        Construct::Unit => behind,
+        Construct::Block | Construct::Accept => next,
     }
 }

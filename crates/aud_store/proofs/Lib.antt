@@ -1,1 +1,4 @@
+pub mod Below
+pub mod Leaving
+pub mod Opened
 pub mod Writes

@@ -1,6 +1,6 @@
 // The variables of all executions of bodies.
 
-ghost use Rattle.std.specs.Prelude.{◌≡◌, ℤ, pos, ◌<◌, List, [], ◌∷◌, ◌++◌, length, map, OnOk, slice_get, slice_index_or, slice_set};
+ghost use Rattle.std.specs.Prelude.{◌≡◌, ℤ, pos, ◌<◌, List, [], ◌∷◌, ◌++◌, length, map, replicate, OnOk, OnErr, slice_get, slice_index_or, slice_set};
 ghost use Rattle.aud_store.specs.Ties.Frames.{with_frame};
 
 use aud_text::int32::Int32;
@@ -31,11 +31,14 @@ impl Frames {
         }
     }
 
-    /// One more frame, which has no variables yet.
-    pub fn enter(&mut self, alloc: Global) -> Result<(), AllocError>
-        ensures { OnOk result (self.new ≡ self.old ++ [] ∷ []) }
+    /// One more frame, with these variables.
+    pub fn enter(&mut self, alloc: Global, variables: &[Int32]) -> Result<(), AllocError>
+        ensures entered { OnOk result (self.new ≡ self.old ++ variables.now ∷ []) }
+        ensures kept { OnErr result (self.new ≡ self.old) }
     {
-        self.frames.push(Vec::new(alloc))?;
+        let mut frame = Vec::new(alloc);
+        frame.extend_from_slice(variables)?;
+        self.frames.push(frame)?;
         Ok(())
     }
 
@@ -83,15 +86,16 @@ impl Frames {
             .unwrap_or(Int32::new(0))
     }
 
-    /// One more variable of a frame, with its initial value.
-    pub fn declare(&mut self, frame: usize, value: Int32) -> Result<(), AllocError>
+    /// More variables of a frame: so many, each with this value.
+    pub fn declare(&mut self, frame: usize, count: usize, value: Int32) -> Result<(), AllocError>
         requires { frame < length self.old }
         ensures declared { OnOk result (self.new ≡
-            with_frame frame (λ vs. vs ++ value ∷ []) self.old) }
-        ensures kept { length self.new ≡ length self.old }
+            with_frame frame (λ vs. vs ++ replicate count value) self.old) }
+        ensures kept { OnErr result (self.new ≡ self.old) }
     {
         let variables = &mut self.frames[frame];
-        variables.push(value)?;
+        let length = variables.len().checked_add(count).ok_or(AllocError)?;
+        variables.resize(length, value)?;
         Ok(())
     }
 

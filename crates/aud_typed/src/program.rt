@@ -81,6 +81,8 @@ pub enum Exception {
 pub enum IntegerExpression {
     Number(Int32),
     Variable(Variable),
+    /// An element of an array, by its index (RM 4.1.1).
+    Element(ArrayAt, Box<IntegerExpression>),
     Unary(Unary, Box<IntegerExpression>),
     /// An operand, and operations one after the other on what stands before them.
     Chain(Box<IntegerExpression>, Vec<Operation>),
@@ -107,6 +109,8 @@ pub enum Connective {
 pub enum BooleanExpression {
     Truth(bool),
     Variable(Variable),
+    /// An element of an array, by its index (RM 4.1.1).
+    Element(ArrayAt, IntegerExpression),
     Not(Box<BooleanExpression>),
     /// Of two Integers.
     Relation(Relation, IntegerExpression, IntegerExpression),
@@ -124,11 +128,11 @@ pub enum ValueExpression {
     Truth(BooleanExpression),
 }
 
-/// A variable that is assigned, and its subtype.
-#[derive(Clone, Copy, PartialEq, Eq, Debug)]
-pub struct Reference {
-    pub variable: Variable,
-    pub subtype: Subtype,
+/// What is assigned, with its subtype: a variable, or an element of an array, by its index.
+#[derive(Drop, Debug)]
+pub enum Reference {
+    Scalar(Variable, Subtype),
+    Element(ArrayAt, IntegerExpression, Subtype),
 }
 
 /// A text, which is put out.
@@ -152,6 +156,9 @@ pub enum Statement {
     /// The next variables of the innermost frame, until this number of them is elaborated, each with an initial value of its own
     /// (RM 3.3.1(7)).
     Declare(Pos, usize, ValueExpression),
+    /// The next variable of the innermost frame: an array of this many elements, each with the value of its subtype that is
+    /// nearest to zero (RM 3.6; profile choice of the value).
+    DeclareArray(Pos, Subtype, usize),
     Null(Pos),
     Assign(Pos, Reference, ValueExpression),
     Put(Pos, TextExpression),
@@ -160,8 +167,14 @@ pub enum Statement {
     While(Pos, BooleanExpression, Box<Statements>),
     /// A loop that is left by an exit, if at all.
     Loop(Box<Statements>),
+    For(Box<ForStatement>),
     /// Out of the loop that is this number of loops further out than the innermost one, where the condition is true (RM 5.7).
     Exit(Pos, usize, BooleanExpression),
+    /// RM 11.3.
+    Raise(Pos, Exception),
+    /// Raises the exception again that is being handled (RM 11.3(5)).
+    RaiseAgain(Pos),
+    Block(Box<BlockStatement>),
 }
 
 /// The condition and statements behind `if`, those behind each `elsif`, and the statements behind `else`, which are none where
@@ -183,6 +196,51 @@ pub struct Arm {
     pub statements: Statements,
 }
 
+/// A `for` loop (RM 5.5): where it begins and where its `for` stands, the number of its parameter's table, and whether it goes
+/// from the last value to the first.
+#[derive(Drop, Debug)]
+#[cycle(statement)]
+pub struct ForStatement {
+    pub at: Pos,
+    pub next_at: Pos,
+    pub region: usize,
+    pub backward: bool,
+    pub first: IntegerExpression,
+    pub last: IntegerExpression,
+    pub statements: Statements,
+}
+
+/// A block, with the number of the table of its variables (RM 5.6).
+#[derive(Drop, Debug)]
+#[cycle(statement)]
+pub struct BlockStatement {
+    pub at: Pos,
+    pub region: usize,
+    pub body: Body,
+}
+
+/// Declarations, a `begin`, statements and their handlers, and an `end` (RM 11.2).
+#[derive(Drop, Debug)]
+#[cycle(statement)]
+pub struct Body {
+    pub declarations: Vec<Statement>,
+    /// Where its `begin` stands.
+    pub begin: Pos,
+    pub statements: Statements,
+    pub handlers: Vec<Handler>,
+    /// Where its `end` stands.
+    pub end: Pos,
+}
+
+/// What is done for these exceptions, or for all others where the flag holds (RM 11.2).
+#[derive(Drop, Debug)]
+#[cycle(statement)]
+pub struct Handler {
+    pub others: bool,
+    pub choices: Vec<Exception>,
+    pub statements: Statements,
+}
+
 /// A sequence of statements (RM 5.1(2)): the first, and those behind it.
 #[derive(Drop, Debug)]
 #[cycle(statement)]
@@ -191,11 +249,13 @@ pub struct Statements {
     pub others: Vec<Statement>,
 }
 
-/// How a variable is shown: as a number, or as False or True.
+/// How a variable is shown: as a number or as False or True, or as this many of them.
 #[derive(Clone, Copy, PartialEq, Eq, Debug)]
 pub enum Shown {
     Whole,
     Truth,
+    Wholes(usize),
+    Truths(usize),
 }
 
 /// The name of a variable or constant, and how its value is shown.
@@ -205,21 +265,18 @@ pub struct Named {
     pub shown: Shown,
 }
 
-/// A typed program: its main procedure, whose variables and constants are of scalar subtypes.
+/// A typed program: its main procedure, which has blocks and `for` loops.
 #[derive(Debug)]
 pub struct Program {
     pub name: Name,
     /// Where its first word stands.
     pub at: Pos,
-    /// Its variables and constants, in the order of their declarations.
-    pub variables: Vec<Named>,
-    /// Its declarations, in their order.
-    pub declarations: Vec<Statement>,
-    /// Where the `begin` of its body stands.
-    pub begin: Pos,
-    pub statements: Statements,
-    /// Where the `end` of its body stands.
-    pub end: Pos,
+    pub body: Body,
+    /// The variables and constants of each frame, in the order of their declarations, by the frames' tables: the main
+    /// procedure's first.
+    pub regions: Vec<Vec<Named>>,
+    /// The names of the exceptions that are declared, by their numbers.
+    pub exceptions: Vec<Name>,
 }
 
 // A drop of its own is one call wherever a program is dropped; a derived one would be its parts' drops, each time anew.
@@ -228,11 +285,9 @@ impl Drop for Program {
         let Program {
             name: _,
             at: _,
-            variables: _,
-            declarations: _,
-            begin: _,
-            statements: _,
-            end: _,
+            body: _,
+            regions: _,
+            exceptions: _,
         } = self;
     }
 }

@@ -8,10 +8,13 @@ use aud_typed::program::Program;
 use std::alloc::{AllocError, Global};
 use std::process::Abort;
 
-// What is told of a typed program: how many variables it has, and where its end stands.
+// What is told of a typed program: how many variables its main procedure has, and where its end stands.
 fn told(alloc: Global, program: &Program) -> Result<String, AllocError> {
-    let end = program.end;
-    let count = program.variables.len();
+    let end = program.body.end;
+    let count = match program.regions.first() {
+        Some(region) => region.len(),
+        None => 0,
+    };
     format!(in alloc; "{} {}:{}", count, end.line, end.col)
 }
 

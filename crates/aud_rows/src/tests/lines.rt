@@ -28,11 +28,11 @@ const LINES: &[u8] = b"Push(Int32 { value: 7 })\n\
     AppendImage\n\
     AppendNewLine\n\
     13 52 Does(Put, 14)\n\
-    14 82 Guards\n\
-    14 82 Ends\n\
+    14 82 Guards([])\n\
+    14 82 Ends(Unit, 0)\n\
     16 0 Does(Null, 17)\n\
-    17 0 Guards\n\
-    17 0 Ends\n";
+    17 0 Guards([])\n\
+    17 0 Ends(Unit, 0)\n";
 
 fn told(alloc: Global, code: &SoundCode) -> Result<String, AllocError> {
     let mut out = String::new(alloc);

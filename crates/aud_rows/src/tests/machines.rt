@@ -4,7 +4,7 @@ use crate::tests::finds;
 use aud_bench::loading::load;
 use aud_machine::machine::{Machine, Ran};
 use aud_meaning::state::{NextStep, State, StepKind};
-use aud_single::progress::Stage;
+use aud_single::stage::Stage;
 use aud_text::int32::Int32;
 use aud_text::limits::{CHOICES, CLOCK, Limits, STANDARD, STEPS};
 use aud_text::place::Pos;
@@ -108,9 +108,9 @@ fn looks(rt: &impl Abort, machine: &Machine) {
     assert!(rt; machine.program().name.is(b"M") && machine.limits() == SMALL);
     let parts = machine.parts();
     assert!(rt; parts.steps == 2 && parts.clock == 0);
-    assert!(rt; parts.main == Stage::Runs(None) && parts.elaborated == 1);
-    assert!(rt; parts.frames.len() == 1);
-    assert!(rt; parts.frames.frame(0) == [Int32::new(42)].as_slice());
+    assert!(rt; parts.main == Stage::Runs(None) && parts.store.elaborated() == 1);
+    assert!(rt; parts.store.frames().len() == 1);
+    assert!(rt; parts.store.frames().frame(0) == [Int32::new(42)].as_slice());
 }
 
 fn tells(rt: &impl Abort, machine: &Machine, wanted: Told) {

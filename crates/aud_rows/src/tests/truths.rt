@@ -2,10 +2,11 @@
 
 use crate::tests::finds;
 use aud_code::instruction::Instruction;
-use aud_code::line::{Code, EndLine, Ending, Last, Line};
+use aud_code::line::{Code, EndLine, Ending, Last, Line, Way};
 use aud_code::sound_code::{SoundCode, verify};
 use aud_expr::evaluate::{Evaluation, Outcome, evaluate};
 use aud_expr::operands::Operands;
+use aud_meaning::state::Construct;
 use aud_single::progress::Progress;
 use aud_single::run::run;
 use aud_store::frames::Frames;
@@ -261,15 +262,31 @@ fn instruction(given: Given) -> Instruction {
     }
 }
 
+// How a step of a table ends.
+#[derive(Clone, Copy)]
+enum Tail {
+    Does(Ending, usize),
+    Ends,
+}
+
+impl Tail {
+    fn ending(self) -> Last {
+        match self {
+            Tail::Does(ending, next) => Last::Does(ending, next),
+            Tail::Ends => Last::Ends(Construct::Unit, 0),
+        }
+    }
+}
+
 // Steps of these instructions, which end so; the body's end is at this place.
-fn code(alloc: Global, steps: &[(&[Given], Last)], end: usize) -> Result<Code, AllocError> {
+fn code(alloc: Global, steps: &[(&[Given], Tail)], end: usize) -> Result<Code, AllocError> {
     let mut lines = Vec::new(alloc);
     for (given, last) in steps {
         for one in *given {
             lines.push(Line::Instruction(instruction(*one)))?;
         }
         lines.push(Line::End(EndLine {
-            last: *last,
+            last: last.ending(),
             at: Pos { line: 1, col: 1 },
             out: end,
         }))?;
@@ -286,7 +303,7 @@ fn putting(alloc: Global, given: &[Given]) -> Result<Code, AllocError> {
     let end = given.len().saturating_add(1);
     code(
         alloc,
-        &[(given, Last::Does(Ending::Put, end)), (&[], Last::Ends)],
+        &[(given, Tail::Does(Ending::Put, end)), (&[], Tail::Ends)],
         end,
     )
 }
@@ -345,28 +362,32 @@ const TRUE: &[Given] = &[PushTruth(true)];
 
 const FALSE: &[Given] = &[PushTruth(false)];
 
+const OUT: Way = Way { to: 5, loops: 0 };
+
+const MIDDLE: Way = Way { to: 3, loops: 0 };
+
 // A step with one instruction leads to the places 2 and 5.
 const DECISIONS: [Decision; 8] = [
     ("into an if", TRUE, Ending::If(5), Some(b"TRUE")),
     ("past an if", FALSE, Ending::If(5), Some(b"FALSE")),
     ("into a loop", TRUE, Ending::While(5), Some(b"TRUE")),
-    ("out of a loop", TRUE, Ending::Exit(5), Some(b"TRUE")),
-    ("no exit", FALSE, Ending::Exit(5), Some(b"FALSE")),
+    ("out of a loop", TRUE, Ending::Exit(OUT), Some(b"TRUE")),
+    ("no exit", FALSE, Ending::Exit(OUT), Some(b"FALSE")),
     ("nothing to decide by", &[], Ending::If(4), None),
     ("into a step's middle", FALSE, Ending::While(3), None),
-    ("out to a step's middle", FALSE, Ending::Exit(3), None),
+    ("out to a step's middle", FALSE, Ending::Exit(MIDDLE), None),
 ];
 
 // A step that ends so, behind it one that puts FALSE and one that puts TRUE, and the end of their body.
 fn deciding(alloc: Global, given: &[Given], ending: Ending) -> Result<Code, AllocError> {
     let next = given.len().saturating_add(1);
     let end = next.saturating_add(6);
-    let put = Last::Does(Ending::Put, end);
-    let steps: [(&[Given], Last); 4] = [
-        (given, Last::Does(ending, next)),
+    let put = Tail::Does(Ending::Put, end);
+    let steps: [(&[Given], Tail); 4] = [
+        (given, Tail::Does(ending, next)),
         (&[PushTruth(false), AppendTruth], put),
         (&[PushTruth(true), AppendTruth], put),
-        (&[], Last::Ends),
+        (&[], Tail::Ends),
     ];
     code(alloc, &steps, end)
 }
@@ -378,7 +399,7 @@ fn puts(
     code: &SoundCode,
     wanted: &[u8],
 ) -> Result<(), AllocError> {
-    let mut progress = Progress::new(code, alloc)?;
+    let mut progress = Progress::new(code, Pos { line: 1, col: 1 }, alloc)?;
     let mut operands = Operands::new(alloc);
     let few = (STEPS - progress.steps()).min(100);
     let ran = run(&mut progress, code, &mut operands, few)?;

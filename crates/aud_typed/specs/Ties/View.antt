@@ -1,6 +1,7 @@
--- The plain program of a program in memory. It has as yet neither arrays, blocks, for loops and handlers nor anything of tasks.
-use Rattle.std.specs.Prelude.{List, [], ◌∷◌, map}
-use Rattle.aud_typed.specs.declared.program.IntegerExpression.{IntegerExpression, Number, Variable, Unary', Chain', Row_of-Operation, end_of-Operation, more_of-Operation}
+-- The plain program of a program in memory. It has as yet neither procedures nor anything of tasks.
+use Rattle.std.specs.Prelude.{List, [], ◌∷◌, map, Vec}
+use Rattle.std.specs.Global.{Global}
+use Rattle.aud_typed.specs.declared.program.IntegerExpression.{IntegerExpression, Number, Variable, Element', Unary', Chain', Row_of-Operation, end_of-Operation, more_of-Operation}
 use Rattle.aud_typed.specs.declared.program.Connective.{Connective}
 use Rattle.aud_typed.specs.declared.program.Connective.TheVariants.{Logical, AndThen, OrElse}
 use Rattle.aud_typed.specs.declared.program.BooleanExpression as boolean
@@ -8,10 +9,15 @@ use Rattle.aud_typed.specs.declared.program.BooleanExpression.{BooleanExpression
 use Rattle.aud_typed.specs.declared.program.ValueExpression.{ValueExpression}
 use Rattle.aud_typed.specs.declared.program.ValueExpression.TheVariants.{Whole, Truth}
 use Rattle.aud_typed.specs.declared.program.Reference.{Reference}
+use Rattle.aud_typed.specs.declared.program.Reference.TheVariants as reference
 use Rattle.aud_typed.specs.declared.program.TextExpression.{TextExpression, Literal, Image, ImageTruth, Join', NewLine, Row_of-TextExpression, end_of-TextExpression, more_of-TextExpression}
-use Rattle.aud_typed.specs.declared.program.Statement.{Statement, Declare, Null, Assign, Put, If', While', Loop', Exit, Row_of-Statement, end_of-Statement, more_of-Statement}
+use Rattle.aud_typed.specs.declared.program.Statement.{Statement, Declare, DeclareArray, Null, Assign, Put, If', While', Loop', For', Exit, Raise, RaiseAgain, Block', Row_of-Statement, end_of-Statement, more_of-Statement}
 use Rattle.aud_typed.specs.declared.program.IfStatement.{IfStatement, IfStatement', out-IfStatement, Row_of-Arm, end_of-Arm, more_of-Arm}
 use Rattle.aud_typed.specs.declared.program.Arm.{Arm}
+use Rattle.aud_typed.specs.declared.program.ForStatement.{ForStatement, out-ForStatement}
+use Rattle.aud_typed.specs.declared.program.BlockStatement.{BlockStatement, BlockStatement', out-BlockStatement}
+use Rattle.aud_typed.specs.declared.program.Body.{Body, Body', out-Body, Row_of-Handler, end_of-Handler, more_of-Handler}
+use Rattle.aud_typed.specs.declared.program.Handler.{Handler}
 use Rattle.aud_typed.specs.declared.program.Statements.{Statements}
 use Rattle.aud_typed.specs.declared.program.Subtype.TheVariants.{Boolean}
 use Rattle.aud_typed.specs.declared.program.Shown.{Shown}
@@ -19,12 +25,13 @@ use Rattle.aud_typed.specs.declared.program.Shown.TheVariants as shown
 use Rattle.aud_typed.specs.declared.program.Named.{Named}
 use Rattle.aud_typed.specs.declared.program.Program.{Program}
 use Rattle.aud_typed.specs.Tree as tree
-use Rattle.aud_typed.specs.Tree.{before, part_of, Part, some}
+use Rattle.aud_typed.specs.Tree.{before, part_of, Part, some, Handlers, no_handlers, handler}
 
 abbrev mutual
   pub plain_integer : IntegerExpression → tree.IntegerExpression
   plain_integer (Number value) = tree.number value
   plain_integer (Variable v) = tree.variable v
+  plain_integer (Element' a _ index) = tree.element a (plain_integer index)
   plain_integer (Unary' operator _ x) = tree.unary operator (plain_integer x)
   plain_integer (Chain' _ x _ rest) = tree.chained (plain_integer x) (plain_operations rest)
 
@@ -46,6 +53,7 @@ abbrev mutual
   pub plain_boolean : BooleanExpression → tree.BooleanExpression
   plain_boolean (boolean.Truth b) = tree.truth b
   plain_boolean (boolean.Variable v) = tree.stored (tree.scalar v Boolean)
+  plain_boolean (boolean.Element a index) = tree.stored (tree.component a (plain_integer index) Boolean)
   plain_boolean (boolean.Not' _ x) = tree.negation (plain_boolean x)
   plain_boolean (boolean.Relation operator x y) = tree.relation operator (plain_integer x) (plain_integer y)
   plain_boolean (boolean.Comparison' operator _ x _ y) = tree.comparison operator (plain_boolean x) (plain_boolean y)
@@ -60,7 +68,8 @@ plain_value (Whole t e) = tree.whole t (plain_integer e)
 plain_value (Truth e) = tree.boolean (plain_boolean e)
 
 abbrev pub plain_reference : Reference → tree.Reference
-plain_reference r = tree.scalar r.variable r.subtype
+plain_reference (reference.Scalar v t) = tree.scalar v t
+plain_reference (reference.Element a index t) = tree.component a (plain_integer index) t
 
 abbrev mutual
   pub plain_text : TextExpression → tree.TextExpression
@@ -77,13 +86,19 @@ abbrev mutual
 abbrev mutual
   pub plain_statement : Statement → tree.Statement
   plain_statement (Declare at up_to e) = tree.declare at up_to (plain_value e)
+  plain_statement (DeclareArray at t n) = tree.declare_array at t n
   plain_statement (Null at) = tree.null at
   plain_statement (Assign at r e) = tree.assign at (plain_reference r) (plain_value e)
   plain_statement (Put at t) = tree.put at (plain_text t)
   plain_statement (If' _ s) = plain_if s
   plain_statement (While' at c _ first _ others) = tree.while_loop at (plain_boolean c) (before (plain_statement first) (plain_row others))
   plain_statement (Loop' _ first _ others) = tree.plain_loop (before (plain_statement first) (plain_row others))
+  plain_statement (For' _ at next_at region backward a b first _ others) =
+      tree.for_loop (record { at = at; next_at = next_at; region = region; backward = backward }) (plain_integer a) (plain_integer b) (before (plain_statement first) (plain_row others))
   plain_statement (Exit at n c) = tree.exit at n (plain_boolean c)
+  plain_statement (Raise at x) = tree.raising at x
+  plain_statement (RaiseAgain at) = tree.raising_again at
+  plain_statement (Block' _ b) = plain_block b
 
   pub plain_row : {n : _} → Row_of-Statement n → List tree.Statement
   plain_row end_of-Statement = []
@@ -97,26 +112,39 @@ abbrev mutual
   plain_arms end_of-Arm otherwise = otherwise
   plain_arms (more_of-Arm at c first _ others rest) otherwise = some (tree.if_then at (plain_boolean c) (before (plain_statement first) (plain_row others)) (plain_arms rest otherwise))
 
+  pub plain_block : BlockStatement → tree.Statement
+  plain_block (BlockStatement' at region b) = tree.block at region (plain_body b)
+
+  pub plain_handlers : {n : _} → Row_of-Handler n → Handlers
+  plain_handlers end_of-Handler = no_handlers
+  plain_handlers (more_of-Handler others choices first _ more rest) = handler others choices.items (before (plain_statement first) (plain_row more)) (plain_handlers rest)
+
+  pub plain_body : Body → tree.Body
+  plain_body (Body' _ declarations begin first _ others _ handlers end) =
+      tree.body (part_of (plain_row declarations)) begin (before (plain_statement first) (plain_row others)) (plain_handlers handlers) end
+
 abbrev pub plain_statements : List Statement → List tree.Statement
 plain_statements ss = map plain_statement ss
 
 abbrev pub plain_shown : Shown → tree.Shown
 plain_shown shown.Whole = tree.as_whole
 plain_shown shown.Truth = tree.as_truth
+plain_shown (shown.Wholes n) = tree.as_wholes n
+plain_shown (shown.Truths n) = tree.as_truths n
 
 abbrev pub plain_named : Named → tree.Named
 plain_named n = record { name = n.name; shown = plain_shown n.shown }
+
+abbrev pub plain_region : Vec Named Global → List tree.Named
+plain_region r = map plain_named r.items
 
 abbrev pub plain_program : Program → tree.Program
 plain_program p = tree.program_of_main (record {
   name = p.name;
   at = p.at;
-  variables = map plain_named p.variables.items;
-  declarations = plain_statements p.declarations.items;
-  begin = p.begin;
-  first = plain_statement p.statements.first;
-  others = plain_statements p.statements.others.items;
-  end = p.end;
+  main = plain_body p.body;
+  regions = map plain_region p.regions.items;
+  exceptions = p.exceptions.items;
 })
 
 -- The same by the parts of what is in memory.
@@ -137,3 +165,20 @@ abbrev pub if_in : IfStatement → tree.Statement
 if_in s =
     let first = (out-IfStatement s).first in
     tree.if_then first.at (plain_boolean first.condition) (statements_in first.statements) (part_of_arms (out-IfStatement s).others.items (part_of (plain_statements (out-IfStatement s).otherwise.items)))
+
+abbrev pub for_in : ForStatement → tree.Statement
+for_in s =
+    let o = out-ForStatement s in
+    tree.for_loop (record { at = o.at; next_at = o.next_at; region = o.region; backward = o.backward }) (plain_integer o.first) (plain_integer o.last) (statements_in o.statements)
+
+abbrev pub handlers_in : List Handler → Handlers
+handlers_in [] = no_handlers
+handlers_in (h ∷ hs) = handler h.others h.choices.items (statements_in h.statements) (handlers_in hs)
+
+abbrev pub body_in : Body → tree.Body
+body_in body =
+    let b = out-Body body in
+    tree.body (part_of (plain_statements b.declarations.items)) b.begin (statements_in b.statements) (handlers_in b.handlers.items) b.end
+
+abbrev pub block_in : BlockStatement → tree.Statement
+block_in s = tree.block (out-BlockStatement s).at (out-BlockStatement s).region (body_in (out-BlockStatement s).body)

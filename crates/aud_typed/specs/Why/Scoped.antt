@@ -1,28 +1,48 @@
--- Each variable that is read or assigned has been elaborated (RM 3.3.1, 8.3): the items that a typed program names are there. As yet it
--- is said of programs that are their main procedure alone, with the statements below, and of no others.
-use Rattle.std.specs.Prelude.{◌≡◌, ℕ, suc, max, ◌<◌, List, [], ◌∷◌, length, slice_index}
+-- Each variable that is read or assigned has been elaborated (RM 3.3.1, 8.3), and each table and exception is there: the items that
+-- a typed program names are there. As yet it is said of programs that are their main procedure alone, with the statements below,
+-- and of no others.
+use Rattle.std.specs.Prelude.{◌≡◌, ℕ, zero, suc, ◌+◌, ◌-◌, max, ◌<◌, ◌≤◌, List, [], ◌∷◌, ◌++◌, length, slice_index_or}
 use Rattle.aud_typed.specs.declared.program.Variable.{Variable}
-use Rattle.aud_typed.specs.Tree.{IntegerExpression, number, variable, element, unary, binary, count, BooleanExpression, truth, stored, negation, relation, comparison, logical, and_then, or_else, ValueExpression, whole, boolean, Reference, scalar, component, TextExpression, literal, image, image_truth, join, new_line, Statement, sequence, declare, null, assign, put, if_then, plain_loop, while_loop, exit, Part, nothing, some, Body, body, Named, Program}
+use Rattle.aud_typed.specs.declared.program.ArrayAt.{ArrayAt}
+use Rattle.aud_typed.specs.declared.program.Exception.{Exception}
+use Rattle.aud_typed.specs.declared.program.Exception.TheVariants.{Predefined, Declared}
+use Rattle.aud_typed.specs.Tree.{IntegerExpression, number, variable, element, unary, binary, count, BooleanExpression, truth, stored, negation, relation, comparison, logical, and_then, or_else, ValueExpression, whole, boolean, Reference, scalar, component, TextExpression, literal, image, image_truth, join, new_line, Statement, sequence, declare, declare_array, null, assign, put, if_then, plain_loop, while_loop, for_loop, exit, raising, raising_again, block, Part, nothing, some, Handlers, no_handlers, handler, Body, body, Shown, as_whole, as_truth, as_wholes, as_truths, hidden, Named, Plan, Program}
 
--- the number of variables elaborated so far in each open frame, outermost first
+-- how many names of an open frame are elaborated, and how many cells they have
+pub record Elaborated : Type 0 where
+  pub names : ℕ
+  pub cells : ℕ
+
+-- of each open frame, outermost first
 abbrev pub Scope : Type 0
-Scope = List ℕ
+Scope = List Elaborated
 
--- the variable has been elaborated; no frame is open at a level past the scope's end, where the count is 0
+abbrev pub none_yet : Elaborated
+none_yet = record { names = 0; cells = 0 }
+
+-- no frame is open at a level past the scope's end
+abbrev pub cells_at : ℕ → Scope → ℕ
+cells_at level scope = (slice_index_or scope level none_yet).cells
+
+-- the variable has been elaborated
 abbrev pub IsElaborated : Variable → Scope → Type 0
-IsElaborated v scope = v.index < slice_index scope v.level
+IsElaborated v scope = v.index < cells_at v.level scope
+
+-- the array has been elaborated
+abbrev pub AreElaborated : ArrayAt → Scope → Type 0
+AreElaborated a scope = a.first.index + a.length ≤ cells_at a.first.level scope
 
 abbrev pub IntegerScoped : IntegerExpression → Scope → Type 0
 IntegerScoped (number value) scope = Unit {0}
 IntegerScoped (variable v) scope = IsElaborated v scope
-IntegerScoped (element a index) scope = ⊥
+IntegerScoped (element a index) scope = AreElaborated a scope × IntegerScoped index scope
 IntegerScoped (unary operator x) scope = IntegerScoped x scope
 IntegerScoped (binary operator x y) scope = IntegerScoped x scope × IntegerScoped y scope
 IntegerScoped (count v entry) scope = ⊥
 
 abbrev pub ReferenceScoped : Reference → Scope → Type 0
 ReferenceScoped (scalar v subtype) scope = IsElaborated v scope
-ReferenceScoped (component a index subtype) scope = ⊥
+ReferenceScoped (component a index subtype) scope = AreElaborated a scope × IntegerScoped index scope
 
 abbrev pub BooleanScoped : BooleanExpression → Scope → Type 0
 BooleanScoped (truth b) scope = Unit {0}
@@ -46,55 +66,98 @@ TextScoped (image_truth e) scope = BooleanScoped e scope
 TextScoped (join x y) scope = TextScoped x scope × TextScoped y scope
 TextScoped new_line scope = Unit {0}
 
--- one variable more in the innermost frame, and then as many as this number
-abbrev pub elaborated : ℕ → Scope → Scope
-elaborated up_to [] = []
-elaborated up_to (n ∷ []) = max (suc n) up_to ∷ []
-elaborated up_to (n ∷ ns) = n ∷ elaborated up_to ns
+-- in the innermost frame
+abbrev pub in_innermost : (Elaborated → Elaborated) → Scope → Scope
+in_innermost f [] = []
+in_innermost f (e ∷ []) = f e ∷ []
+in_innermost f (e ∷ es) = e ∷ in_innermost f es
+
+-- more names, of a cell each, until there are this number of them; one at least
+abbrev pub declared_up_to : ℕ → Elaborated → Elaborated
+declared_up_to up_to e =
+    let names = max (suc e.names) up_to in
+    record { names = names; cells = e.cells + (names - e.names) }
+
+-- one name more, of these cells
+abbrev pub declared_with : ℕ → Elaborated → Elaborated
+declared_with cells e = record { names = suc e.names; cells = e.cells + cells }
 
 abbrev pub scope_after : Statement → Scope → Scope
 scope_after (sequence a b) scope = scope_after b (scope_after a scope)
-scope_after (declare at up_to e) scope = elaborated up_to scope
+scope_after (declare at up_to e) scope = in_innermost (declared_up_to up_to) scope
+scope_after (declare_array at t n) scope = in_innermost (declared_with n) scope
 scope_after _ scope = scope
-
-abbrev mutual
-  pub StatementScoped : Statement → Scope → Type 0
-  StatementScoped (sequence a b) scope = StatementScoped a scope × StatementScoped b (scope_after a scope)
-  -- in what is elaborated before it; each variable more only adds to that
-  StatementScoped (declare at up_to e) scope = ValueScoped e scope
-  StatementScoped (null at) scope = Unit {0}
-  StatementScoped (assign at r e) scope = ReferenceScoped r scope × ValueScoped e scope
-  StatementScoped (put at t) scope = TextScoped t scope
-  StatementScoped (if_then at c a p) scope = BooleanScoped c scope × StatementScoped a scope × PartScoped p scope
-  StatementScoped (plain_loop a) scope = StatementScoped a scope
-  StatementScoped (while_loop at c a) scope = BooleanScoped c scope × StatementScoped a scope
-  StatementScoped (exit at n c) scope = BooleanScoped c scope
-  StatementScoped _ scope = ⊥
-
-  pub PartScoped : Part → Scope → Type 0
-  PartScoped nothing scope = Unit {0}
-  PartScoped (some s) scope = StatementScoped s scope
 
 abbrev pub scope_behind : Part → Scope → Scope
 scope_behind nothing scope = scope
 scope_behind (some s) scope = scope_after s scope
 
-abbrev declarations_of : Body → Part
-declarations_of (body declarations begin statements _ end) = declarations
+abbrev pub shown_cells : Shown → ℕ
+shown_cells as_whole = 1
+shown_cells as_truth = 1
+shown_cells (as_wholes n) = n
+shown_cells (as_truths n) = n
+shown_cells (hidden n) = n
 
-abbrev statements_of : Body → Statement
-statements_of (body declarations begin statements _ end) = statements
+abbrev pub cells_of : List Named → ℕ
+cells_of [] = 0
+cells_of (n ∷ ns) = shown_cells n.shown + cells_of ns
 
--- the body's own frame is open, at first with no variables, and behind its declarations with those of its table
-pub record BodyScoped (b : Body) (region : List Named) : Type 0 where
-  pub declarations : PartScoped (declarations_of b) (0 ∷ [])
-  pub variables : scope_behind (declarations_of b) (0 ∷ []) ≡ length region ∷ []
-  pub statements : StatementScoped (statements_of b) (length region ∷ [])
+-- all of a table's variables
+abbrev pub all_of_table : List Named → Elaborated
+all_of_table ns = record { names = length ns; cells = cells_of ns }
+
+module _ (plan : Plan) where
+  abbrev pub table : ℕ → List Named
+  table n = slice_index_or plan.regions n []
+
+  abbrev pub IsThere : Exception → Type 0
+  IsThere (Predefined raise) = Unit {0}
+  IsThere (Declared n) = n < length plan.exceptions
+
+  abbrev pub AllThere : List Exception → Type 0
+  AllThere [] = Unit {0}
+  AllThere (x ∷ xs) = IsThere x × AllThere xs
+
+  abbrev mutual
+    pub StatementScoped : Statement → Scope → Type 0
+    StatementScoped (sequence a b) scope = StatementScoped a scope × StatementScoped b (scope_after a scope)
+    -- in what is elaborated before it; each variable more only adds to that
+    StatementScoped (declare at up_to e) scope = ValueScoped e scope
+    StatementScoped (declare_array at t n) scope = Unit {0}
+    StatementScoped (null at) scope = Unit {0}
+    StatementScoped (assign at r e) scope = ReferenceScoped r scope × ValueScoped e scope
+    StatementScoped (put at t) scope = TextScoped t scope
+    StatementScoped (if_then at c a p) scope = BooleanScoped c scope × StatementScoped a scope × PartScoped p scope
+    StatementScoped (plain_loop a) scope = StatementScoped a scope
+    StatementScoped (while_loop at c a) scope = BooleanScoped c scope × StatementScoped a scope
+    StatementScoped (for_loop f a b s) scope = IntegerScoped a scope × IntegerScoped b scope × (cells_of (table f.region) ≡ 1) × StatementScoped s (scope ++ all_of_table (table f.region) ∷ [])
+    StatementScoped (exit at n c) scope = BooleanScoped c scope
+    StatementScoped (raising at x) scope = IsThere x
+    StatementScoped (raising_again at) scope = Unit {0}
+    StatementScoped (block at n b) scope = BodyScoped b (table n) scope
+    StatementScoped _ scope = ⊥
+
+    pub PartScoped : Part → Scope → Type 0
+    PartScoped nothing scope = Unit {0}
+    PartScoped (some s) scope = StatementScoped s scope
+
+    pub HandlersScoped : Handlers → Scope → Type 0
+    HandlersScoped no_handlers scope = Unit {0}
+    HandlersScoped (handler others choices s more) scope = AllThere choices × StatementScoped s scope × HandlersScoped more scope
+
+    -- its own frame is open within these, at first with no variables, and behind its declarations with those of its table
+    pub BodyScoped : Body → List Named → Scope → Type 0
+    BodyScoped (body d begin s h end) names scope =
+        PartScoped d (scope ++ none_yet ∷ [])
+        × (scope_behind d (scope ++ none_yet ∷ []) ≡ scope ++ all_of_table names ∷ [])
+        × StatementScoped s (scope ++ all_of_table names ∷ [])
+        × HandlersScoped h (scope ++ all_of_table names ∷ [])
 
 -- a program of one body
-abbrev pub ScopedBy : List Body → List (List Named) → Type 0
-ScopedBy (b ∷ []) (region ∷ []) = BodyScoped b region
+abbrev pub ScopedBy : Plan → List Body → Type 0
+ScopedBy plan (b ∷ []) = BodyScoped plan b (table plan 0) []
 ScopedBy _ _ = ⊥
 
 abbrev pub IsScoped : Program → Type 0
-IsScoped program = ScopedBy program.bodies program.plan.regions
+IsScoped program = ScopedBy program.plan program.bodies

@@ -2,6 +2,7 @@ use Rattle.std.proofs.Common.{◌+◌, Some, None, inl, inr, ap, ◌∙◌, arit
 use Rattle.aud_meaning.specs.Configuration.{Configuration}
 use Rattle.aud_meaning.specs.Run.{run, main_raised}
 use Rattle.aud_text.specs.declared.limits.Limits.{Limits}
+use Rattle.aud_typed.specs.declared.program.Program.{Program}
 use Rattle.aud_typed.specs.Tree as tree
 use Rattle.aud_typed.specs.Ties.View.{plain_program}
 use Rattle.aud_bench.specs.declared.request.Answer.TheVariants as answer
@@ -38,7 +39,9 @@ returns-clause-serves c =
     (elim c.else-now-wanted.branch [ else-now-wanted-via-then-now-wanted+else-has_more w ↦ inr (w.has_more.ensures.no w.if-has_more.false) | else-now-wanted-via-else-now-wanted w ↦ inl w.if-now-wanted.false ])
     c.ended_by.result
     (c.ended_by.ensures ∙ ap (ended_by c.in_ok-ran.ran.state)
-    (c.in_ok-raised.ensures c.args.machine.now.program
+    (c.in_ok-raised.ensures
+    ∙ ap (λ names. named_if names c.raised.result) c.deref.ensures.value
+    ∙ ap (λ (p : Program). named_if p.exceptions.items c.raised.result) (c.program.ensures ∙ c.in_ok-ran.ensures.leaves.program)
     ∙ ap (named_if program.plan.exceptions) (c.raised.ensures (run c.args.machine.now.limits program now here) did.shows)
     ∙ ap (λ (limits : Limits). named_if program.plan.exceptions (main_raised (run limits program now here).tasks)) under.is_behind.limits_are
     ∙ ap (λ (p : tree.Program). named_if p.plan.exceptions (main_raised (run bounds p now here).tasks)) under.is_behind.program_is))

@@ -39,4 +39,4 @@ returns-in-Instruction-clause-few c =
 pub returns-in-End-clause-exact : goal.returns-in-End-clause-exact
 returns-in-End-clause-exact c =
     let here = rw c.in-End.is at (here_end (goal.at.returns-in-End-clause-exact c).In-End) in
-    need_of_end c.args.lines.now c.args.place c.in-End.line here c.need_of_ending.result c.need_of_ending.ensures.exact
+    need_of_end c.args.lines.now c.args.place c.in-End.line here c.need_of_last.result c.need_of_last.ensures.exact

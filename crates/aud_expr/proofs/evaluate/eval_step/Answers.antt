@@ -50,3 +50,9 @@ returns-in_ok-append_image-in-AppendImage-clause-acts c = rw c.in-AppendImage.is
 
 pub returns-in_ok-append_truth-in-AppendTruth-clause-acts : goal.returns-in_ok-append_truth-in-AppendTruth-clause-acts
 returns-in_ok-append_truth-in-AppendTruth-clause-acts c = rw c.in-AppendTruth.is (λ stops s ed ef go. c.in_ok-append_truth-in-AppendTruth.ensures stops s go)
+
+pub returns-in-LoadElement-clause-acts : goal.returns-in-LoadElement-clause-acts
+returns-in-LoadElement-clause-acts c = rw c.in-LoadElement.is c.load_element.ensures
+
+pub returns-in-FindElement-clause-acts : goal.returns-in-FindElement-clause-acts
+returns-in-FindElement-clause-acts c = rw c.in-FindElement.is c.find_element.ensures

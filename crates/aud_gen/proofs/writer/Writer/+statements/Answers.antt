@@ -1,31 +1,34 @@
-use Rattle.std.proofs.Common.{◌≡◌, suc, ◌+◌, ◌-◌, ◌++◌, length, drop, ap, sym, ◌∙◌, arith}
+use Rattle.std.proofs.Common.{◌≡◌, ℕ, refl, suc, ◌+◌, ◌-◌, ◌++◌, length, drop, ap, sym, ◌∙◌, arith}
 use Rattle.std.specs.Prelude.{if◌then◌else◌, vec_len}
 use Rattle.std.proofs.lemmas.List.{length-drop}
 use Rattle.aud_typed.specs.declared.program.IfStatement.{out-IfStatement}
-use Rattle.aud_typed.proofs.Opened.{loop_open, while_open, if_open}
+use Rattle.aud_typed.specs.declared.program.BlockStatement.{out-BlockStatement}
+use Rattle.aud_typed.specs.declared.program.Body.{out-Body}
+use Rattle.aud_typed.proofs.Opened.{loop_open, while_open, if_open, for_open, block_open}
 use Rattle.aud_typed.specs.Tree.{part_of, while_loop, plain_loop}
-use Rattle.aud_typed.specs.Ties.View.{plain_boolean, plain_statement, plain_statements, statements_in, part_of_arms, if_in}
-use Rattle.aud_code.specs.Places.{Way}
+use Rattle.aud_typed.specs.Ties.View.{plain_boolean, plain_statement, plain_statements, statements_in, part_of_arms, if_in, for_in, handlers_in, body_in, block_in}
 use Rattle.aud_gen.specs.Instructions.{condition_code}
-use Rattle.aud_gen.specs.Layout.{statement_size_by}
+use Rattle.aud_gen.specs.Layout.{statement_size_by, part_size_by, end_place_by, ways_count, in_loop}
 use Rattle.aud_gen.specs.Written.{flat_step}
-use Rattle.aud_gen.specs.Writes.{has_statements, around, statement_lines}
+use Rattle.aud_gen.specs.Writes.{has_statements, around, statement_lines, part_lines, guard_lines, handlers_lines}
 use Rattle.aud_gen.proofs.Loops.{dropped}
-use Rattle.aud_gen.proofs.Lines.{chosen, passed_over, none_left, with_part, one_listed, one_arm, same_lines, same_loop, whole_while, whole_loop, whole_list, whole_arm, if_by}
+use Rattle.aud_gen.proofs.Lines.{chosen, passed_over, none_left, with_part, one_listed, one_arm, same_lines, same_around, same_loop, whole_while, whole_list, whole_arm, if_by}
+use Rattle.aud_gen.proofs.Constructs.{bounds, whole_for, whole_body, whole_block, with_handlers, one_handler}
 use Rattle.aud_gen.proofs.writer.Writer.+statements.Goals as goal
 use Rattle.aud_gen.proofs.writer.Writer.+statements.Goals.{write_arm-then-more, write_arm-else-more}
 
 pub write_arm-returns : goal.write_arm-returns
-write_arm-returns t c back =
-    let size = statement_size_by flat_step (statements_in c.args.arm.now.statements) (suc (length c.args.self.now.exits)) in
-    let inside_is : c.in_ok-inside.inside ≡ suc (length c.args.self.now.lines + length (condition_code (plain_boolean c.args.arm.now.condition))) = omega (arith, c.in_ok-inside.ensures, c.in_ok-sum.ensures, c.in_ok-boolean_length.ensures, c.place.ensures) in
-    let behind_is : c.in_ok-behind.behind ≡ c.in_ok-inside.inside + size = c.in_ok-behind.ensures ∙ ap (λ n. c.in_ok-inside.inside + n) (c.in_ok-statements_length.ensures (suc (length c.args.self.now.exits))) in
+write_arm-returns t c =
+    let a = around c.args.out c.args.ways.now in
+    let size = statement_size_by flat_step (statements_in c.args.arm.now.statements) (ways_count a) in
+    let inside_is : c.in_ok-inside.inside ≡ suc (length c.args.self.now + length (condition_code (plain_boolean c.args.arm.now.condition))) = omega (arith, c.in_ok-inside.ensures, c.in_ok-sum.ensures, c.in_ok-boolean_length.ensures, c.place.ensures) in
+    let behind_is : c.in_ok-behind.behind ≡ c.in_ok-inside.inside + size = c.in_ok-behind.ensures ∙ ap (λ n. c.in_ok-inside.inside + n) (c.in_ok-statements_length.ensures ∙ ap (statement_size_by flat_step (statements_in c.args.arm.now.statements)) c.in_ok-count.ensures) in
     let leads : c.if-more.otherwise ≡ (if c.args.more then c.in_ok-inside.inside + size else c.args.next) =
     elim c.if-more.branch [
       | write_arm-then-more w ↦ w.otherwise-is ∙ behind_is ∙ sym (chosen c.args.more (c.in_ok-inside.inside + size) c.args.next w.if-more.true)
       | write_arm-else-more w ↦ w.otherwise-is ∙ sym (passed_over c.args.more (c.in_ok-inside.inside + size) c.args.next w.if-more.false)
     ] in
-    whole_arm c.write_statements.result c.args.arm.now c.args.more c.args.self.now c.write_boolean.new.self c.end.new.self c.write_statements.new.self c.args.next c.args.out c.in_ok-inside.inside c.if-more.otherwise back inside_is leads c.in_ok-write_boolean.ensures c.in_ok-end.ensures (c.write_statements.ensures back)
+    whole_arm c.write_statements.result c.args.arm.now c.args.more c.args.self.now c.write_boolean.new.self c.end_statement.new.self c.write_statements.new.self c.args.next c.in_ok-inside.inside c.if-more.otherwise a inside_is leads c.in_ok-write_boolean.ensures c.in_ok-end_statement.ensures c.write_statements.ensures
 
 pub write_if-loop-arm-init : goal.write_if-loop-arm-init
 write_if-loop-arm-init t c =
@@ -35,8 +38,8 @@ write_if-loop-arm-init t c =
     let many : length arms ≡ c.len-left.result = omega (arith, fit) in
     let otherwise = part_of (plain_statements (out-IfStatement c.args.s.now).otherwise.items) in
     let goes = c.goes_on.ensures arms many ∙ ap (λ ss. has_statements (part_of_arms arms (part_of (plain_statements ss)))) c.deref.ensures.value in
-    let a = around c.args.self.now c.args.out in
-    (fit, λ back. one_arm first (part_of_arms arms otherwise) c.goes_on.result c.args.self.now c.write_arm.new.self _ c.args.next c.args.out back goes (c.in_ok-write_arm.ensures back) (ap (λ arms'. record c.args.self.now { lines = c.args.self.now.lines ++ statement_lines (if_by first arms' otherwise) (length c.args.self.now.lines) c.args.next (a back) }) c.deref-arm-items.ensures.value))
+    let a = around c.args.out c.args.ways.now in
+    (fit, one_arm first (part_of_arms arms otherwise) c.goes_on.result c.args.self.now c.write_arm.new.self _ c.args.next a goes c.in_ok-write_arm.ensures (ap (λ arms'. c.args.self.now ++ statement_lines (if_by first arms' otherwise) (length c.args.self.now) c.args.next a) c.deref-arm-items.ensures.value))
 
 pub write_if-loop-arm-preserved : goal.write_if-loop-arm-preserved
 write_if-loop-arm-preserved t c =
@@ -46,36 +49,92 @@ write_if-loop-arm-preserved t c =
     let otherwise = part_of (plain_statements (out-IfStatement c.args.s.now).otherwise.items) in
     let many : length rest ≡ c.loop-arm.left - 1 = omega (arith, c.loop-arm.invariant.0, length-drop (c.loop-arm.arm-index + 1) arms) in
     let goes = c.goes_on-in-loop-arm.ensures rest many ∙ ap (λ ss. has_statements (part_of_arms rest (part_of (plain_statements ss)))) c.deref-in-loop-arm.ensures.value in
-    let left = λ (back : Way). ap (λ arms'. with_part c.loop-arm.self (part_of_arms arms' otherwise) c.args.next c.args.out back) (sym (dropped arms c.loop-arm.arm-index c.arm-item.result (omega arith) c.arm-item.is)) ∙ c.loop-arm.invariant.1 back in
-    (fit, λ back. one_arm c.arm-item.result (part_of_arms rest otherwise) c.goes_on-in-loop-arm.result c.loop-arm.self c.write_arm-in-loop-arm.new.self _ c.args.next c.args.out back goes (c.in_ok-write_arm-2.ensures back) (left back))
+    let a = around c.args.out c.args.ways.now in
+    let left = ap (λ arms'. with_part c.loop-arm.self (part_of_arms arms' otherwise) c.args.next a) (sym (dropped arms c.loop-arm.arm-index c.arm-item.result (omega arith) c.arm-item.is)) ∙ c.loop-arm.invariant.1 in
+    (fit, one_arm c.arm-item.result (part_of_arms rest otherwise) c.goes_on-in-loop-arm.result c.loop-arm.self c.write_arm-in-loop-arm.new.self _ c.args.next a goes c.in_ok-write_arm-2.ensures left)
 
 pub write_list-loop-s-preserved : goal.write_list-loop-s-preserved
 write_list-loop-s-preserved t c =
     let rest = drop (c.loop-s.s-index + 1) c.args.ss.now in
     let fit : c.loop-s.left - 1 + (c.loop-s.s-index + 1) ≡ length c.args.ss.now = omega (arith, c.loop-s.invariant.0) in
     let many : c.loop-s.left - 1 ≡ length rest = omega (arith, c.loop-s.invariant.0, length-drop (c.loop-s.s-index + 1) c.args.ss.now) in
-    let left = λ (back : Way). ap (λ ss. with_part c.loop-s.self (part_of (plain_statements ss)) c.args.next c.args.out back) (sym (dropped c.args.ss.now c.loop-s.s-index c.s-item.result (omega arith) c.s-item.is)) ∙ c.loop-s.invariant.1 back in
-    (fit, λ back. one_listed c.s-item.result rest _ c.loop-s.self c.write_in_list.new.self _ c.args.next c.args.out back (none_left rest (c.loop-s.left - 1) many) (c.in_ok-write_in_list.ensures back) (left back))
-
-pub write_loop-returns : goal.write_loop-returns
-write_loop-returns t c back =
-    whole_loop (statements_in c.args.body.now) c.args.self.now c.enter_loop.new.self c.write_statements.new.self c.leave_loop.new.self c.args.next c.args.again c.args.out back c.in_ok-enter_loop.ensures (c.in_ok-write_statements.ensures back) c.leave_loop.ensures
+    let a = around c.args.out c.args.ways.now in
+    let left = ap (λ ss. with_part c.loop-s.self (part_of (plain_statements ss)) c.args.next a) (sym (dropped c.args.ss.now c.loop-s.s-index c.s-item.result (omega arith) c.s-item.is)) ∙ c.loop-s.invariant.1 in
+    (fit, one_listed c.s-item.result rest _ c.loop-s.self c.write_in_list.new.self _ c.args.next a (none_left rest (c.loop-s.left - 1) many) c.in_ok-write_in_list.ensures left)
 
 pub write_statement-returns-in-If : goal.write_statement-returns-in-If
-write_statement-returns-in-If t c back =
+write_statement-returns-in-If t c =
     let is : if_in c.deref.result.now ≡ plain_statement c.args.s.now = ap if_in c.deref.ensures ∙ sym (ap plain_statement c.in-If.is ∙ if_open c.in-If.branches.value) in
-    same_lines c.write_if.result c.args.self.now c.write_if.new.self (if_in c.deref.result.now) (plain_statement c.args.s.now) c.args.next (around c.args.self.now c.args.out back) is (c.write_if.ensures back)
+    same_lines c.write_if.result c.args.self.now c.write_if.new.self (if_in c.deref.result.now) (plain_statement c.args.s.now) c.args.next (around c.args.out c.args.ways.now) is c.write_if.ensures
 
 pub write_statement-returns-in_ok-write_while-in-While : goal.write_statement-returns-in_ok-write_while-in-While
-write_statement-returns-in_ok-write_while-in-While t c back =
+write_statement-returns-in_ok-write_while-in-While t c =
     let is : plain_statement c.args.s.now ≡ while_loop c.in-While.at (plain_boolean c.in-While.condition) (statements_in c.in-While.body.value) = ap plain_statement c.in-While.is ∙ while_open c.in-While.at c.in-While.condition c.in-While.body in
-    whole_while c.write_loop.result c.in-While.at (plain_boolean c.in-While.condition) (statements_in c.in-While.body.value) (statements_in c.deref-in-While.result.now) (plain_statement c.args.s.now) c.args.self.now c.write_while.new.self c.write_loop.new.self c.args.next c.args.out c.place-place.result back c.place-place.ensures c.in_ok-write_while-in-While.ensures (ap statements_in c.deref-in-While.ensures) is (c.write_loop.ensures back)
+    whole_while c.write_loop.result c.in-While.at (plain_boolean c.in-While.condition) (statements_in c.in-While.body.value) (statements_in c.deref-in-While.result.now) (plain_statement c.args.s.now) c.args.self.now c.write_while.new.self c.write_loop.new.self c.args.next c.place-place.result (around c.args.out c.args.ways.now) c.place-place.ensures c.in_ok-write_while-in-While.ensures (ap statements_in c.deref-in-While.ensures) is c.write_loop.ensures
 
 pub write_statement-returns-in-Loop : goal.write_statement-returns-in-Loop
-write_statement-returns-in-Loop t c back =
+write_statement-returns-in-Loop t c =
     let is : plain_statement c.args.s.now ≡ plain_loop (statements_in c.in-Loop.body.value) = ap plain_statement c.in-Loop.is ∙ loop_open c.in-Loop.body in
-    same_loop c.write_loop-in-Loop.result c.args.self.now c.write_loop-in-Loop.new.self (statements_in c.in-Loop.body.value) (statements_in c.deref-in-Loop.result.now) (plain_statement c.args.s.now) c.args.next c.place.result c.args.out back c.place.ensures (ap statements_in c.deref-in-Loop.ensures) is (c.write_loop-in-Loop.ensures back)
+    same_loop c.write_loop-in-Loop.result c.args.self.now c.write_loop-in-Loop.new.self (statements_in c.in-Loop.body.value) (statements_in c.deref-in-Loop.result.now) (plain_statement c.args.s.now) c.args.next c.place.result (around c.args.out c.args.ways.now) c.place.ensures (ap statements_in c.deref-in-Loop.ensures) is c.write_loop-in-Loop.ensures
 
 pub write_statements-returns : goal.write_statements-returns
-write_statements-returns t c back =
-    whole_list c.write_list.result c.args.ss.now.first c.args.ss.now.others.items c.deref.result.now c.is_empty.result c.args.self.now c.write_in_list.new.self c.write_list.new.self c.args.next c.args.out back (c.is_empty.ensures ∙ none_left c.args.ss.now.others.items (vec_len c.args.ss.now.others) (sym c.deref.ensures.len ∙ ap length c.deref.ensures.value)) c.deref.ensures.value (c.in_ok-write_in_list.ensures back) (c.write_list.ensures back)
+write_statements-returns t c =
+    whole_list c.write_list.result c.args.ss.now.first c.args.ss.now.others.items c.deref.result.now c.is_empty.result c.args.self.now c.write_in_list.new.self c.write_list.new.self c.args.next (around c.args.out c.args.ways.now) (c.is_empty.ensures ∙ none_left c.args.ss.now.others.items (vec_len c.args.ss.now.others) (sym c.deref.ensures.len ∙ ap length c.deref.ensures.value)) c.deref.ensures.value c.in_ok-write_in_list.ensures c.write_list.ensures
+
+pub write_body-returns : goal.write_body-returns
+write_body-returns t c =
+    let b = out-Body c.args.body.now in
+    let w = λ (out : ℕ). around out c.args.ways.now in
+    let count = ways_count (w 0) in
+    let counted : c.in_ok-count.count ≡ count = c.in_ok-count.ensures in
+    let d = part_of (plain_statements b.declarations.items) in
+    let s = statements_in b.statements in
+    let begin_is : c.in_ok-begin.begin ≡ length c.args.self.now + part_size_by flat_step d count =
+    omega (arith, c.in_ok-begin.ensures, c.place.ensures, c.in_ok-list_length.ensures ∙ ap (λ z. part_size_by flat_step (part_of (plain_statements z)) c.in_ok-count.count) c.deref.ensures.value ∙ ap (part_size_by flat_step d) counted) in
+    let guard_is : c.in_ok-guard.guard ≡ c.in_ok-begin.begin + statement_size_by flat_step s count =
+    omega (arith, c.in_ok-guard.ensures, c.in_ok-statements_length.ensures ∙ ap (statement_size_by flat_step s) counted) in
+    let n2 = c.write_statements.new.self in
+    let n3 = c.write_guards.new.self in
+    whole_body w count (λ out. refl) c.end.result c.args.construct d s (handlers_in b.handlers.items) b.end c.args.self.now c.write_list.new.self n2 n3 c.write_handlers.new.self c.end.new.self c.in_ok-begin.begin c.in_ok-guard.guard c.args.last c.args.next c.args.out begin_is guard_is
+    (c.in_ok-write_list.ensures ∙ ap (λ z. c.args.self.now ++ part_lines (part_of (plain_statements z)) (length c.args.self.now) c.in_ok-begin.begin (w c.args.last)) c.deref-2.ensures.value)
+    c.in_ok-write_statements.ensures
+    (c.in_ok-write_guards.ensures ∙ ap (λ z. n2 ++ guard_lines (handlers_in z) b.end (length n2) c.args.last c.in_ok-count.count) c.deref-3.ensures.value ∙ ap (λ n. n2 ++ guard_lines (handlers_in b.handlers.items) b.end (length n2) c.args.last n) counted)
+    (c.in_ok-write_handlers.ensures ∙ ap (λ z. n3 ++ handlers_lines (handlers_in z) (length n3) c.args.last (w c.args.last)) c.deref-4.ensures.value)
+    c.end.ensures
+
+pub write_block-returns : goal.write_block-returns
+write_block-returns t c =
+    let o = out-BlockStatement c.args.block.now in
+    let b = out-Body o.body in
+    let a = around c.args.out c.args.ways.now in
+    let last_is : c.in_ok-last.last ≡ end_place_by flat_step (body_in o.body) c.in_ok-inside.inside (ways_count a) = c.in_ok-last.ensures ∙ ap (end_place_by flat_step (body_in o.body) c.in_ok-inside.inside) c.in_ok-count.ensures in
+    let inside_is : c.in_ok-inside.inside ≡ length c.args.self.now + 1 = omega (arith, c.in_ok-inside.ensures, c.place.ensures) in
+    whole_block c.write_stubs.result o.at o.region (body_in o.body) (part_of (plain_statements b.declarations.items)) b.begin (statements_in b.statements) (handlers_in b.handlers.items) b.end c.args.self.now c.end_statement.new.self c.write_body.new.self c.write_stubs.new.self c.in_ok-inside.inside c.in_ok-last.last c.args.next a (around c.in_ok-last.last c.in_ok-inner.inner) refl inside_is last_is (c.in_ok-inner.ensures c.in_ok-last.last) c.in_ok-end_statement.ensures c.in_ok-write_body.ensures c.write_stubs.ensures
+
+pub write_for-returns : goal.write_for-returns
+write_for-returns t c =
+    let again_is : c.in_ok-again.again ≡ suc (length c.args.self.now + bounds c.args.s.now) = omega (arith, c.in_ok-again.ensures, c.in_ok-sum.ensures, c.place.ensures, c.in_ok-bounds.ensures, c.in_ok-integer_length.ensures, c.in_ok-integer_length-2.ensures) in
+    whole_for c.write_statements.result c.args.s.now c.args.self.now c.write_control.new.self c.write_statements.new.self c.in_ok-again.again c.args.next (around c.args.out c.args.ways.now) (around c.args.out c.in_ok-inner.inner) again_is (c.in_ok-inner.ensures c.args.out) c.in_ok-write_control.ensures c.write_statements.ensures
+
+pub write_handlers-loop-handler-preserved : goal.write_handlers-loop-handler-preserved
+write_handlers-loop-handler-preserved t c =
+    let a = around c.args.last c.args.ways.now in
+    let hs = c.args.handlers.now in
+    let i = c.loop-handler.handler-index in
+    one_handler c.handler-item.result (drop (i + 1) hs) c.loop-handler.self c.write_statements.new.self _ c.args.last a c.in_ok-write_statements.ensures
+    (ap (λ z. with_handlers c.loop-handler.self z c.args.last a) (sym (dropped hs i c.handler-item.result (omega arith) c.handler-item.is)) ∙ c.loop-handler.invariant)
+
+pub write_loop-returns : goal.write_loop-returns
+write_loop-returns t c =
+    let a = around c.args.out c.args.ways.now in
+    same_around c.write_statements.result c.args.self.now c.write_statements.new.self (λ b. statement_lines (statements_in c.args.body.now) (length c.args.self.now) c.args.again b) (around c.args.out c.in_ok-inner.inner) (in_loop c.args.next a) (c.in_ok-inner.ensures c.args.out) c.write_statements.ensures
+
+pub write_statement-returns-in-For : goal.write_statement-returns-in-For
+write_statement-returns-in-For t c =
+    let is : for_in c.deref-in-For.result.now ≡ plain_statement c.args.s.now = ap for_in c.deref-in-For.ensures ∙ sym (ap plain_statement c.in-For.is ∙ for_open c.in-For.s) in
+    same_lines c.write_for.result c.args.self.now c.write_for.new.self (for_in c.deref-in-For.result.now) (plain_statement c.args.s.now) c.args.next (around c.args.out c.args.ways.now) is c.write_for.ensures
+
+pub write_statement-returns-in-Block : goal.write_statement-returns-in-Block
+write_statement-returns-in-Block t c =
+    let is : block_in c.deref-in-Block.result.now ≡ plain_statement c.args.s.now = ap block_in c.deref-in-Block.ensures ∙ sym (ap plain_statement c.in-Block.is ∙ block_open c.in-Block.block.value) in
+    same_lines c.write_block.result c.args.self.now c.write_block.new.self (block_in c.deref-in-Block.result.now) (plain_statement c.args.s.now) c.args.next (around c.args.out c.args.ways.now) is c.write_block.ensures

@@ -2,14 +2,19 @@ use Rattle.std.proofs.Common.{◌≡◌, ◌+◌, length, drop}
 use Rattle.aud_typed.specs.declared.program.IfStatement.{out-IfStatement}
 use Rattle.aud_typed.specs.Tree.{part_of, some}
 use Rattle.aud_typed.specs.Ties.View.{plain_statements, part_of_arms, if_in}
-use Rattle.aud_code.specs.Places.{Way}
+use Rattle.aud_gen.specs.Writes.{around}
 use Rattle.aud_gen.proofs.Lines.{with_part}
+use Rattle.aud_gen.proofs.Constructs.{with_handlers}
 use Rattle.aud_gen.proofs.writer.Writer.+statements.Given as goal
 
 abbrev pub invariant-write_if-loop-arm : goal.invariant-write_if-loop-arm
 invariant-write_if-loop-arm l =
-    (l.left + l.arm-index ≡ length l.arm-items) × ((back : Way) → with_part l.self (part_of_arms (drop l.arm-index l.arm-items) (part_of (plain_statements (out-IfStatement l.s).otherwise.items))) l.next l.out back ≡ with_part l.fn.self (some (if_in l.s)) l.next l.out back)
+    (l.left + l.arm-index ≡ length l.arm-items) × (with_part l.self (part_of_arms (drop l.arm-index l.arm-items) (part_of (plain_statements (out-IfStatement l.s).otherwise.items))) l.next (around l.out l.ways) ≡ with_part l.fn.self (some (if_in l.s)) l.next (around l.out l.ways))
 
 abbrev pub invariant-write_list-loop-s : goal.invariant-write_list-loop-s
 invariant-write_list-loop-s l =
-    (l.left + l.s-index ≡ length l.ss) × ((back : Way) → with_part l.self (part_of (plain_statements (drop l.s-index l.ss))) l.next l.out back ≡ with_part l.fn.self (part_of (plain_statements l.ss)) l.next l.out back)
+    (l.left + l.s-index ≡ length l.ss) × (with_part l.self (part_of (plain_statements (drop l.s-index l.ss))) l.next (around l.out l.ways) ≡ with_part l.fn.self (part_of (plain_statements l.ss)) l.next (around l.out l.ways))
+
+abbrev pub invariant-write_handlers-loop-handler : goal.invariant-write_handlers-loop-handler
+invariant-write_handlers-loop-handler l =
+    with_handlers l.self (drop l.handler-index l.handlers) l.last (around l.last l.ways) ≡ with_handlers l.fn.self l.handlers l.last (around l.last l.ways)

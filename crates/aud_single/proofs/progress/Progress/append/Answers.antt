@@ -9,6 +9,6 @@ use Rattle.aud_single.proofs.progress.Progress.append.Goals as goal
 pub returns-clause-put : goal.returns-clause-put
 returns-clause-put c =
     let inside = c.self.inside in
-    let p : Single Spot = record { control = main_at inside.place; stage = plain_stage inside.stage; elaborated = inside.elaborated; frames = inside.frames; output = inside.output.items; cut = inside.cut; choices = inside.choices.items; clock = inside.clock; steps = inside.steps } in
-    put_cut c.args.text.now p c.extend_from_slice-2.new.self.items c.self.invariant.2 (omega (arith, c.if-text-room.false)) (grind (arith, c.in_ok-extend_from_slice-2.ensures.items))
+    let p : Single Spot = record { control = main_at inside.place; stage = plain_stage inside.stage; stack = inside.store.stack; frames = inside.store.frames; output = inside.output.items; cut = inside.cut; choices = inside.choices.items; clock = inside.clock; steps = inside.steps } in
+    put_cut c.args.text.now p c.extend_from_slice-2.new.self.items c.self.invariant.0 (omega (arith, c.if-text-room.false)) (grind (arith, c.in_ok-extend_from_slice-2.ensures.items))
     ∙ ap (written c.args.text.now) c.self.view_is

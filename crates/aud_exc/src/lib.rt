@@ -1,0 +1,5 @@
+// Exceptions: those that are raised, and where they go.
+#![tactic(auto)]
+
+pub mod propagation;
+pub mod raised;

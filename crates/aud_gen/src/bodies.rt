@@ -1,0 +1,91 @@
+// What stands in bodies beside statements.
+
+ghost use Rattle.std.specs.Prelude.{◌≡◌, ◌∷◌, [], map, length, IfOk};
+ghost use Rattle.aud_typed.specs.Ties.View.{handlers_in};
+ghost use Rattle.aud_code.specs.View.{plain_guard, plain_way};
+ghost use Rattle.aud_gen.specs.Layout.{guards_of_by};
+ghost use Rattle.aud_gen.specs.Written.{flat_step};
+ghost use Rattle.aud_gen.specs.Writes.{around, all_ways, guard_lines, stub_lines, idle_lines, Writes};
+
+use crate::lengths::{statements_length, sum};
+use crate::ways::Ways;
+use crate::writer::{Writer, Written};
+use aud_code::line::{Ending, Guard, Last, Way};
+use aud_meaning::state::Construct;
+use aud_text::place::Pos;
+use aud_typed::program::Handler;
+use std::alloc::{AllocError, Global};
+
+const NOWHERE: Pos = Pos { line: 0, col: 0 };
+
+// Where these handlers begin, of which the first one stands at a place; this number of ways leads out.
+fn guards(
+    alloc: Global,
+    handlers: &[Handler],
+    place: usize,
+    ways: usize,
+) -> Result<Vec<Guard>, AllocError>
+    ensures { IfOk result (λ gs. map plain_guard gs.items ≡
+        guards_of_by flat_step (handlers_in handlers.now) place ways) }
+{
+    let mut guards = Vec::new(alloc);
+    let mut to = place;
+    for handler in handlers {
+        guards.push(Guard {
+            others: handler.others,
+            choices: Vec::from_slice(alloc, &handler.choices)?,
+            to,
+        })?;
+        to = sum(to, statements_length(&handler.statements, ways)?)?;
+    }
+    Ok(guards)
+}
+
+impl Writer {
+    /// The line behind the statements of a body, which says where its handlers begin; the first one stands behind it.
+    pub fn write_guards(
+        &mut self,
+        handlers: &[Handler],
+        end: Pos,
+        last: usize,
+        ways: usize,
+    ) -> Written
+        ensures { Writes result self.old self.new
+            (guard_lines (handlers_in handlers.now) end (length self.old) last ways) }
+    {
+        let first = sum(self.place(), 1)?;
+        let guards = guards(self.alloc(), handlers, first, ways)?;
+        self.end(Last::Guards(guards), end, last)
+    }
+
+    /// Behind a block: a line for each way, by which the block is left on it.
+    pub fn write_stubs(&mut self, ways: &Ways, end: Pos) -> Written
+        ensures { Writes result self.old self.new
+            (stub_lines (all_ways (around 0 ways.now)) end (length self.old)) }
+    {
+        for way in &ways.exits {
+            self.write_stub(*way, end)?;
+        }
+        self.write_stub(ways.back, end)
+    }
+
+    // Nothing is raised there.
+    fn write_stub(&mut self, way: Way, end: Pos) -> Written
+        ensures { Writes result self.old self.new
+            (stub_lines (plain_way way ∷ []) end (length self.old)) }
+    {
+        let Way { to, loops } = way;
+        self.end(Last::Leaves { loops, to }, end, self.place())
+    }
+
+    /// A body of one null statement, for a number that no body has.
+    pub fn write_idle(&mut self) -> Written
+        ensures { Writes result self.old self.new (idle_lines (length self.old)) }
+    {
+        let guard = sum(self.place(), 1)?;
+        let last = sum(guard, 1)?;
+        self.end_statement(Ending::Null, last, NOWHERE, guard)?;
+        self.write_guards(&[], NOWHERE, last, 1)?;
+        self.end(Last::Ends(Construct::Unit, 0), NOWHERE, last)
+    }
+}

@@ -1,0 +1,253 @@
+// All frames ever made, and those that are open.
+
+ghost use Rattle.std.specs.Prelude.{◌≡◌, ◌<◌, ◌∷◌, [], None, suc, pos, length, replicate, nat_le, OnOk, OnErr, IfOk, slice_get, slice_index_or};
+ghost use Rattle.aud_text.specs.declared.limits.TheConstants.{FRAMES};
+ghost use Rattle.aud_meaning.specs.Evaluation.{frame_at};
+ghost use Rattle.aud_meaning.specs.Effects.{innermost, elaborated_in, handled, live_frames};
+ghost use Rattle.aud_meaning.specs.Ties.Single.{closed, closed_times, out_of_loops, AreOpenedAlone};
+ghost use Rattle.aud_store.specs.Ties.Frames.{with_frame};
+ghost use Rattle.aud_store.specs.Ties.Stored.{plain_purpose, with_handling, IsInnermost, entered, declared, innermost_cell, stored, IsStored};
+
+use crate::frames::Frames;
+use crate::stack::{Open, Purpose, Stack};
+use aud_text::int32::Int32;
+use aud_text::limits::FRAMES;
+use aud_text::place::Pos;
+use aud_typed::program::{Exception, Variable};
+use std::alloc::{AllocError, Global};
+use std::marker::Model;
+
+/// The frames of a program of one task: all that were ever made, and those that are open.
+#[derive(Drop)]
+pub struct Store {
+    frames: Frames,
+    stack: Stack,
+}
+
+impl Model for Store {
+    ghost use Rattle.std.specs.Prelude.{◌<◌, All, length};
+    ghost use Rattle.aud_store.specs.Ties.Stored.{Stored};
+
+    ghost Value = { Stored };
+
+    ghost view = { λ s. record { frames = s.frames; stack = s.stack } };
+
+    ghost invariant = { λ s. All (λ o. o.frame < length s.frames) s.stack.opened };
+}
+
+impl Store {
+    /// No frames.
+    pub fn new(alloc: Global) -> Self
+        ensures { result ≡
+            record { frames = []; stack = record { display = []; opened = [] } } }
+    {
+        Store {
+            frames: Frames::new(alloc),
+            stack: Stack::new(alloc),
+        }
+    }
+
+    /// A frame with these cells is opened, those of the names that are elaborated. It gives the frame's number.
+    pub fn enter(
+        &mut self,
+        alloc: Global,
+        purpose: Purpose,
+        region: usize,
+        at: Pos,
+        cells: &[Int32],
+        elaborated: usize,
+    ) -> Result<usize, AllocError>
+        ensures number { IfOk result (λ frame. frame ≡ length self.old.frames) }
+        ensures entered { OnOk result (self.new ≡
+            entered (plain_purpose purpose) region at cells.now elaborated self.old) }
+        ensures kept { OnErr result (self.new ≡ self.old) }
+    {
+        let frame = self.frames.len();
+        self.stack.enter(purpose, frame, region, at, elaborated)?;
+        if let Err(failure) = self.frames.enter(alloc, cells) {
+            self.stack.leave();
+            return Err(failure);
+        }
+        Ok(frame)
+    }
+
+    /// Whether one frame more is allowed.
+    pub fn has_room(&self) -> bool
+        ensures { result ≡ nat_le (suc (live_frames self.now.stack.opened)) FRAMES }
+    {
+        self.stack.live() < FRAMES as usize
+    }
+
+    /// The innermost frame is left.
+    pub fn leave(&mut self)
+        ensures { self.new ≡ record self.old { stack = closed self.old.stack } }
+    {
+        self.stack.leave();
+    }
+
+    /// The innermost frame is left, and that around it, so many of them.
+    pub fn leave_times(&mut self, n: usize)
+        ensures { self.new ≡ record self.old { stack = closed_times n self.old.stack } }
+    {
+        for _ in 0..n {
+            self.leave();
+        }
+    }
+
+    /// The frames of the loops within the innermost construct are left.
+    pub fn leave_loops(&mut self)
+        ensures { self.new ≡ record self.old { stack = out_of_loops self.old.stack } }
+    {
+        while self.stack.is_in_loop() {
+            self.leave();
+        }
+    }
+
+    /// The innermost construct handles an exception (RM 11.4(7)).
+    pub fn handle(&mut self, exception: Exception)
+        ensures { self.new ≡ record self.old { stack = with_handling exception self.old.stack } }
+    {
+        self.stack.handle(exception);
+    }
+
+    /// The exception that is being handled (RM 11.3(5)).
+    pub fn handled(&self) -> Option<Exception>
+        ensures { result ≡ handled self.now.stack.opened None }
+    {
+        self.stack.handled()
+    }
+
+    /// The innermost open frame.
+    pub fn innermost(&self) -> Option<Open>
+        ensures { IsInnermost result self.now.stack.opened }
+    {
+        self.stack.innermost()
+    }
+
+    /// The innermost open frame but for those of loops within its construct.
+    pub fn construct(&self) -> Option<Open>
+        ensures innermost { IsInnermost result (out_of_loops self.now.stack).opened }
+        ensures alone { AreOpenedAlone self.now.stack.opened }
+    {
+        self.stack.construct()
+    }
+
+    /// How many names are elaborated in the innermost frame.
+    pub fn elaborated(&self) -> usize
+        ensures { result ≡ elaborated_in self.now.stack.opened }
+    {
+        self.stack.elaborated()
+    }
+
+    /// One more name of the innermost frame, with its cell (RM 3.3.1).
+    pub fn declare(&mut self, value: Int32) -> Result<(), AllocError>
+        ensures declared { OnOk result (self.new ≡ declared (value ∷ []) self.old) }
+        ensures kept { OnErr result (self.new ≡ self.old) }
+    {
+        self.declare_all(1, value)
+    }
+
+    /// One more name of the innermost frame, with so many cells, each with this value (RM 3.6).
+    pub fn declare_all(&mut self, count: usize, value: Int32) -> Result<(), AllocError>
+        ensures declared { OnOk result (self.new ≡ declared (replicate count value) self.old) }
+        ensures kept { OnErr result (self.new ≡ self.old) }
+    {
+        let elaborated = self.elaborated().checked_add(1).ok_or(AllocError)?;
+        let frame = self.innermost_number();
+        if frame < self.frames.len() {
+            self.frames.declare(frame, count, value)?;
+        }
+        self.stack.set_elaborated(elaborated);
+        Ok(())
+    }
+
+    /// What a cell of the innermost frame holds, or 0 where there is none of this number.
+    pub fn innermost_cell(&self, index: usize) -> Int32
+        ensures { result ≡ innermost_cell index self.now }
+    {
+        self.load_at(self.innermost_number(), index)
+    }
+
+    /// Another value of the first cell of the innermost frame, a loop's parameter.
+    pub fn set_loop(&mut self, value: Int32)
+        ensures { self.new ≡ stored (innermost self.old.stack.opened) 0 value self.old }
+    {
+        self.assign(self.innermost_number(), 0, value);
+    }
+
+    /// What a variable's cell holds, or 0 where there is none.
+    pub fn load(&self, variable: Variable) -> Int32
+        ensures { result ≡ slice_index_or
+            (frame_at self.now.stack.display self.now.frames variable.level)
+            variable.index (pos 0) }
+    {
+        let frame = self.display().get(variable.level).copied().unwrap_or(0);
+        self.load_at(frame, variable.index)
+    }
+
+    /// Another value of a cell; where there is none of this number, nothing changes.
+    pub fn assign(&mut self, frame: usize, index: usize, value: Int32)
+        ensures { self.new ≡ stored frame index value self.old }
+    {
+        if frame < self.frames.len() {
+            self.frames.assign(frame, index, value);
+        }
+    }
+
+    /// The numbers of the frames that are seen, outermost first.
+    pub fn display(&self) -> &[usize]
+        ensures value { result.now ≡ self.now.stack.display }
+        ensures stored { IsStored self.now }
+    {
+        self.stack.display()
+    }
+
+    /// All frames ever made, by their numbers.
+    pub fn frames(&self) -> &Frames
+        ensures { result.now ≡ self.now.frames }
+    {
+        &self.frames
+    }
+
+    /// The cells of a frame, which has none until others are put there.
+    pub fn take(&mut self, frame: usize) -> Vec<Int32>
+        requires { frame < length self.old.frames }
+        ensures taken { slice_get self.old.frames frame ≡ Some result.items }
+        ensures left { self.new ≡ record self.old {
+          frames = with_frame frame (λ cells. []) self.old.frames;
+        } }
+    {
+        self.frames.take(frame)
+    }
+
+    /// Other cells of a frame.
+    pub fn put(&mut self, frame: usize, cells: Vec<Int32>)
+        requires { frame < length self.old.frames }
+        ensures { self.new ≡ record self.old {
+          frames = with_frame frame (λ frame. cells.items) self.old.frames;
+        } }
+    {
+        self.frames.put(frame, cells);
+    }
+
+    // The number of the innermost frame, or 0 where none is open.
+    fn innermost_number(&self) -> usize
+        ensures { result ≡ innermost self.now.stack.opened }
+    {
+        match self.innermost() {
+            Some(open) => open.frame,
+            None => 0,
+        }
+    }
+
+    // What a cell of a frame holds, or 0 where there is none.
+    fn load_at(&self, frame: usize, index: usize) -> Int32
+        ensures { result ≡ slice_index_or (slice_index_or self.now.frames frame []) index (pos 0) }
+    {
+        if frame < self.frames.len() {
+            self.frames.load(frame, index)
+        } else {
+            Int32::new(0)
+        }
+    }
+}
