@@ -1,6 +1,6 @@
 """Times `aud --solo` beside python3 and lua5.4, side by side in one run.
 
-Loops: the same three in each, theirs within a function with local variables. Of aud the processor time of
+Loops: the same in each, the first once more with a handler around it that nothing needs; theirs within a function with local variables. Of aud the processor time of
 whole sessions is taken, of a LOAD alone and of a LOAD with RUNs up to the program's end; the difference is
 the loop. The others time their loops themselves.
 LOADs: the largest source text of several shapes, how the time grows from a quarter of it, and the memory.
@@ -69,6 +69,79 @@ local function loop()
   while x < 300000 do
     x = x + 1
     y = x - y
+  end
+end
+""",
+    ),
+    Loop(
+        "counting, with a handler around it",
+        300_000,
+        900_007,
+        """procedure B is
+X, Y : Integer := 0;
+begin
+begin
+while X < 300000 loop
+X := X + 1;
+Y := X - Y;
+end loop;
+exception
+when others => X := 0;
+end;
+end B;
+""",
+        """
+def loop():
+    x, y = 0, 0
+    try:
+        while x < 300000:
+            x = x + 1
+            y = x - y
+    except ValueError:
+        x = 0
+""",
+        """
+local function loop()
+  local x, y = 0, 0
+  if not pcall(function()
+    while x < 300000 do
+      x = x + 1
+      y = x - y
+    end
+  end) then
+    x = 0
+  end
+end
+""",
+    ),
+    Loop(
+        "for, sum over an array",
+        300_000,
+        606_005,
+        """procedure B is
+A : array (0 .. 99) of Integer;
+S : Integer := 0;
+begin
+for J in 1 .. 3000 loop
+for I in A'First .. A'Last loop
+S := S + A (I);
+end loop;
+end loop;
+end B;
+""",
+        """
+def loop():
+    a, s = [0] * 100, 0
+    for j in range(3000):
+        for i in range(100):
+            s = s + a[i]
+""",
+        """
+local function loop()
+  local a, s = {}, 0
+  for i = 0, 99 do a[i] = 0 end
+  for j = 1, 3000 do
+    for i = 0, 99 do s = s + a[i] end
   end
 end
 """,

@@ -69,8 +69,43 @@ def nested_statements():
     yield "one list of elsif parts", text, None
 
 
+def nested_bodies():
+    """Blocks, handlers and for loops at the limit of levels, of which 127 are entered at once."""
+    inner, entered = DEEP, 127
+    full = "+ 1\nloaded M\n+ 2\nran {} ended\nmain raised STORAGE_ERROR\n"
+    blocks = "begin\n" * inner + "null;\n" + "end;\n" * inner
+    yield "blocks in one another", f"procedure M is begin\n{blocks}end M;\n", full.format(2 * entered + 3)
+    declares = "declare X:Integer;begin\n" * inner + "null;\n" + "end;\n" * inner
+    yield "blocks with declarations", f"procedure M is begin\n{declares}end M;\n", full.format(3 * entered + 3)
+    handlers = "begin null;exception when others=>\n" * inner + "null;\n" + "end;\n" * inner
+    yield "handlers in one another", f"procedure M is begin\n{handlers}end M;\n", 5
+    again = "begin raise Program_Error;exception when others=>\n" * (entered - 1) + "null;\n" + "end;\n" * (entered - 1)
+    yield "handlers that are all entered", f"procedure M is begin\n{again}end M;\n", 4 * (entered - 1) + 3
+    loops = "for I in 1..1 loop\n" * inner + "null;\n" + "end loop;\n" * inner
+    yield "for loops in one another", f"procedure M is begin\n{loops}end M;\n", full.format(entered + 3)
+    text, count = source("procedure M is begin", lambda i: "begin null;end;", "end M;")
+    yield "one list of blocks", text, 3 * count + 2
+    text, _ = source("procedure M is", name, ":exception;begin null;end M;", ",")
+    yield "one list of exceptions", text, 3
+    declared = ",\n".join(",".join(name(i) for i in range(line, line + 150)) for line in range(0, 3_000, 150))
+    chosen = declared.replace(",", "|")
+    yield "one list of choices", (
+        f"procedure M is\n{declared}:exception;begin null;exception when\n{chosen}=>null;end M;\n"
+    ), 3
+
+
+def nested_indexes():
+    """Elements at the limit of levels, each the index of another."""
+    nest = "A(" * DEEP + "1" + ")" * DEEP
+    head = "procedure M is A:array(1..1)of Positive;X:Integer;begin"
+    yield "elements in one another", wrapped(f"{head} X:={nest};end M;"), 5
+    yield "a target of elements in one another", wrapped(f"{head} {nest}:=1;end M;"), 5
+    text, _ = source(f"{head} X:=", lambda i: "A(1)-A(1)", ";end M;", "+")
+    yield "one chain of elements", text, 5
+
+
 def nested_arguments():
-    """Names with arguments, which nothing has as yet."""
+    """Names with arguments that are not declared."""
     calls = "F(" * DEEP + "1" + ")" * DEEP
     yield "arguments in one another", wrapped(f"procedure M is X:Integer;begin X:={calls};end M;"), "- E30"
     levels = "1=1 and 1=1 and 1=1+1*A'B(" * DEEP + "1" + ")" * DEEP
@@ -145,6 +180,8 @@ def shapes():
         f"procedure M is X:Integer;begin X:={levels};end M;"
     ), "- E33"
     yield from nested_statements()
+    yield from nested_bodies()
+    yield from nested_indexes()
     yield from nested_arguments()
     yield "one parenthesis too many", wrapped(
         f"procedure M is X:Integer;begin X:=({nest});end M;"

@@ -10,16 +10,17 @@ use Rattle.aud_syntax.specs.Why.Shorthand.{at, id, var, num, only, more, stateme
 use Rattle.aud_typed.specs.Tree as tree
 use Rattle.aud_check.specs.declared.fault.Fault.{Fault}
 use Rattle.aud_check.specs.Names.{Place, main_place}
-use Rattle.aud_check.specs.Statements.{statement_faults, typed_statement}
+use Rattle.aud_check.specs.Statements.{nothing_around, checked_statement}
+use Rattle.aud_check.specs.Checked.{no_tables}
 
 abbrev place : Place
 place = main_place (codes "P")
 
 abbrev faults_of : Statement → List Fault
-faults_of s = statement_faults s [] place
+faults_of s = (checked_statement s nothing_around place no_tables).faults
 
 abbrev typed_of : Statement → tree.Statement
-typed_of s = typed_statement s [] place
+typed_of s = (checked_statement s nothing_around place no_tables).made
 
 abbrev fault : Pos → Refusal → Fault
 fault p refusal = record { at = p; refusal = refusal }

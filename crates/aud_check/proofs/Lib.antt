@@ -1,15 +1,17 @@
 mod Rows
 mod Scalars
 mod FlowRows
+mod BlockRows
 pub mod Notes
 pub mod Opened
+pub mod Parts
+pub mod Shown
 pub mod Chains
-pub mod Elaborated
+pub mod Declared
 pub mod Judged
 pub mod First
-pub mod ArmsAhead
-pub mod Exits
+pub mod Walked
+pub mod Bodies
 pub mod Hiding
 pub mod Scoping
 pub mod Called
-pub mod Showing

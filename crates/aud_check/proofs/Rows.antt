@@ -12,7 +12,7 @@ use Rattle.aud_syntax.specs.declared.tree.Highest.TheVariants.{Not}
 use Rattle.aud_syntax.specs.declared.tree.Multiplying.TheVariants.{Times}
 use Rattle.aud_syntax.specs.declared.tree.Relational.TheVariants.{Less}
 use Rattle.aud_syntax.specs.declared.tree.Connective.TheVariants.{And, AndThen}
-use Rattle.aud_syntax.specs.Plain.{Expression, alone, connected, no_relations, more_relations, Relation, unrelated, related, Simple, simple, Primary, Addeds, no_addeds, more_addeds, added, Term, term, no_multiplieds, more_multiplieds, multiplied, factor, integer, name, attribute, group, no_expression, an_expression, named, no_parts, part, no_args, Declaration, object, no_declarations, Statement, null, assign, call, body, Unit, unit}
+use Rattle.aud_syntax.specs.Plain.{Expression, alone, connected, no_relations, more_relations, Relation, unrelated, related, Simple, simple, Primary, Addeds, no_addeds, more_addeds, added, Term, term, no_multiplieds, more_multiplieds, multiplied, factor, integer, name, attribute, group, no_expression, an_expression, named, no_parts, part, no_args, Declaration, object, no_declarations, Statement, null, assign, call, body, no_handlers, Unit, unit}
 use Rattle.aud_syntax.specs.Why.Shorthand.{at, id, only, var_at, called, num, str, statements, declarations}
 use Rattle.aud_typed.specs.declared.program.Variable.{Variable}
 use Rattle.aud_typed.specs.declared.program.Unary.TheVariants.{Negative}
@@ -31,7 +31,7 @@ sum s t rest = alone (unrelated (simple s t rest))
 
 -- procedure P is .. begin .. end P;
 abbrev main : List Declaration → Statement → List Statement → Unit
-main ds s ss = unit [] (at 1 1) (id (codes "P") (at 1 11)) (declarations ds) (body (at 5 1) (statements s ss) (at 9 1) (Some (id (codes "P") (at 9 5))))
+main ds s ss = unit [] (at 1 1) (id (codes "P") (at 1 11)) (declarations ds) (body (at 5 1) (statements s ss) no_handlers (at 9 1) (Some (id (codes "P") (at 9 5))) (at 9 6))
 
 abbrev integer_type : Pos → Ident
 integer_type place = id (codes "INTEGER") place
@@ -184,7 +184,7 @@ itself_row = refl
 alone_row : checked (main [] (call (var_at (codes "PUT_LINE") (at 7 1))) []) ≡ Err (fault (at 7 1) WrongNumberOfArguments)
 alone_row = refl
 
-end_row : checked (unit [] (at 1 1) (id (codes "P") (at 1 11)) no_declarations (body (at 2 1) (statements (null (at 3 1)) []) (at 4 1) (Some (id (codes "Q") (at 4 5))))) ≡ Err (fault (at 4 5) WrongNameAtEnd)
+end_row : checked (unit [] (at 1 1) (id (codes "P") (at 1 11)) no_declarations (body (at 2 1) (statements (null (at 3 1)) []) no_handlers (at 4 1) (Some (id (codes "Q") (at 4 5))) (at 4 6))) ≡ Err (fault (at 4 5) WrongNameAtEnd)
 end_row = refl
 
 large_row : checked (main [] (called (id (codes "PUT_LINE") (at 7 1)) (only (attribute (named (part (integer_type (at 7 11)) no_args) no_parts) (id (codes "IMAGE") (at 7 19)) (an_expression (only (integer (record { value = None; at = at 7 26 }))))))) []) ≡ Err (fault (at 7 26) NumberTooLarge)

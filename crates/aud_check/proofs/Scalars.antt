@@ -4,20 +4,20 @@ use Rattle.std.proofs.Common.{◌≡◌, refl}
 use Rattle.aud_text.specs.declared.place.Pos.{Pos}
 use Rattle.aud_text.specs.declared.refusal.Refusal.{Refusal}
 use Rattle.aud_text.specs.declared.refusal.Refusal.TheVariants.{NameNotDeclared, WrongKindOfName, WrongType, WrongNumberOfArguments, NotAVariable}
-use Rattle.aud_syntax.specs.Plain.{Expression, Primary, name, attribute, MaybeExpression, no_expression, an_expression, Name, named, no_parts, more_parts, part, Args, no_args, more_args, Declaration, object, constant, Statement, null, assign, call, body, Unit, unit}
+use Rattle.aud_syntax.specs.Plain.{Expression, Primary, name, attribute, MaybeExpression, no_expression, an_expression, Name, named, no_parts, more_parts, part, Args, no_args, more_args, Declaration, object, constant, Statement, null, assign, call, body, no_handlers, Unit, unit}
 use Rattle.aud_syntax.specs.Why.Shorthand.{at, id, only, var_at, var, called, num, str, statements, declarations}
 use Rattle.aud_typed.specs.declared.program.Variable.{Variable}
 use Rattle.aud_typed.specs.declared.program.Subtype.TheVariants.{Integer, Natural, Positive, Boolean}
 use Rattle.aud_typed.specs.Tree as tree
 use Rattle.aud_check.specs.declared.fault.Fault.{Fault}
-use Rattle.aud_check.specs.Checked.{unhandled, faults, checked}
+use Rattle.aud_check.specs.Checked.{faults, checked}
 
 abbrev fault : Pos → Refusal → Fault
 fault place refusal = record { at = place; refusal = refusal }
 
 -- procedure M is .. begin .. end;
 abbrev main : List Declaration → Statement → Unit
-main ds s = unit [] (at 1 1) (id (codes "M") (at 1 11)) (declarations ds) (body (at 6 1) (statements s []) (at 9 1) None)
+main ds s = unit [] (at 1 1) (id (codes "M") (at 1 11)) (declarations ds) (body (at 6 1) (statements s []) no_handlers (at 9 1) None (at 9 4))
 
 abbrev first_line : Statement
 first_line = null (at 7 1)
@@ -40,11 +40,11 @@ abbrev program_of_four : tree.Statement → tree.Program
 program_of_four s = tree.program_of_main (record {
   name = codes "M";
   at = at 1 1;
-  main = unhandled (
+  main = tree.body (tree.part_of (
       tree.declare (at 2 1) 1 (tree.whole Natural (tree.number (pos 0))) ∷
       tree.declare (at 3 1) 2 (tree.whole Positive (tree.number (pos 1))) ∷
       tree.declare (at 4 1) 3 (tree.boolean (tree.truth false)) ∷
-      tree.declare (at 5 1) 4 (tree.whole Integer (tree.number (pos 3))) ∷ []) (at 6 1) s (at 9 1);
+      tree.declare (at 5 1) 4 (tree.whole Integer (tree.number (pos 3))) ∷ [])) (at 6 1) s tree.no_handlers (at 9 1);
   regions = (shown_as (codes "N") tree.as_whole ∷ shown_as (codes "P") tree.as_whole ∷ shown_as (codes "B") tree.as_truth ∷ shown_as (codes "C") tree.as_whole ∷ []) ∷ [];
   exceptions = [];
 })

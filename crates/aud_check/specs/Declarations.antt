@@ -1,15 +1,20 @@
--- Declarations of variables and constants (RM 3.1, 3.3.1).
-use Rattle.std.specs.Prelude.{ℕ, ◌+◌, Bool, true, false, List, [], ◌∷◌, ◌++◌, Option, Some, None, pos, if◌then◌else◌}
+-- Declarations of variables, constants, arrays and exceptions (RM 3.1, 3.3.1, 3.6, 11.1).
+use Rattle.std.specs.Prelude.{ℕ, ◌+◌, Bool, true, false, List, [], ◌∷◌, ◌++◌, length, map, Option, Some, None, pos, if◌then◌else◌}
 use Rattle.aud_text.specs.declared.place.Pos.{Pos}
 use Rattle.aud_syntax.specs.declared.tree.Ident.{Ident}
-use Rattle.aud_syntax.specs.Plain.{Declaration, object, constant, Declarations, no_declarations, more_declarations, MaybeExpression, no_expression, an_expression}
+use Rattle.aud_syntax.specs.declared.tree.Bound.{Bound}
+use Rattle.aud_syntax.specs.Plain.{Declaration, object, constant, array, exception, Declarations, no_declarations, more_declarations, MaybeExpression, no_expression, an_expression}
 use Rattle.aud_typed.specs.declared.program.Subtype.{Subtype}
 use Rattle.aud_typed.specs.declared.program.Subtype.TheVariants.{Integer, Natural, Positive, Boolean}
+use Rattle.aud_typed.specs.declared.program.Exception.TheVariants as exception_of
 use Rattle.aud_typed.specs.Tree as tree
 use Rattle.aud_check.specs.declared.fault.Fault.{Fault}
 use Rattle.aud_check.specs.declared.names.Meaning.{Meaning}
-use Rattle.aud_check.specs.declared.names.Meaning.TheVariants.{ScalarType, Literal, Object, Builtin, MainProcedure}
+use Rattle.aud_check.specs.declared.names.Meaning.TheVariants.{ScalarType, Literal, Object, Array, Exception, Builtin, MainProcedure}
+use Rattle.aud_check.specs.declared.array.Kind.{Kind}
+use Rattle.aud_check.specs.declared.array.Kind.TheVariants.{Scalar}
 use Rattle.aud_check.specs.Names.{Region, Place, visible, is_declared, innermost, in_region, hiding}
+use Rattle.aud_check.specs.Arrays.{bound_value, bound_faults, or_zero, row_between, new_meaning, cells_of}
 use Rattle.aud_check.specs.Rules.{base_asked, name_not_declared, declared_once, wrong_kind_of_name, right_type}
 use Rattle.aud_check.specs.Expressions.{Typed, number, boolean, checked_expression, expression_at, base_of}
 
@@ -18,6 +23,7 @@ pub record Declared : Type 0 where
   pub faults : List Fault
   pub place : Place
   pub elaborations : List tree.Statement
+  pub exceptions : List (List ℕ)
 
 -- a subtype mark must be that of a subtype (RM 3.2.2)
 abbrev pub subtype_faults : Option Meaning → Pos → List Fault
@@ -25,6 +31,8 @@ subtype_faults None at = name_not_declared at
 subtype_faults (Some (ScalarType s)) at = []
 subtype_faults (Some (Literal b)) at = wrong_kind_of_name at
 subtype_faults (Some (Object o)) at = wrong_kind_of_name at
+subtype_faults (Some (Array a)) at = wrong_kind_of_name at
+subtype_faults (Some (Exception x)) at = wrong_kind_of_name at
 subtype_faults (Some (Builtin b)) at = wrong_kind_of_name at
 subtype_faults (Some MainProcedure) at = wrong_kind_of_name at
 
@@ -58,52 +66,125 @@ abbrev pub initial_value : MaybeExpression → Option Subtype → Place → tree
 initial_value no_expression s place = default_value (known s)
 initial_value (an_expression e) s place = value_for (known s) (checked_expression e place).typed
 
--- the variable or constant of the next cell
-abbrev pub new_meaning : Option Subtype → Bool → ℕ → Meaning
-new_meaning s is_constant index = Object (record { variable = record { level = 0; index = index }; subtype = s; constant = is_constant })
+-- one symbol more, with cells of its own
+abbrev pub with_symbol : List ℕ → Kind → Region → Region
+with_symbol name kind r = record { symbols = r.symbols ++ (name, new_meaning kind r.level r.cells) ∷ []; level = r.level; cells = r.cells + cells_of kind; names = r.names + 1 }
 
--- one symbol more, with a cell of its own
+-- a variable or constant
+abbrev pub scalar : Option Subtype → Bool → Kind
+scalar s is_constant = Scalar (record { subtype = s; constant = is_constant })
+
 abbrev pub with_object : List ℕ → Option Subtype → Bool → Region → Region
-with_object name s is_constant r = record { symbols = r.symbols ++ (name, new_meaning s is_constant r.cells) ∷ []; cells = r.cells + 1 }
+with_object name s is_constant r = with_symbol name (scalar s is_constant) r
 
 -- the region after one name more; a name that it has already stays what it was
-abbrev pub with_name : Ident → Option Subtype → Bool → Region → Region
-with_name i s is_constant r = if is_declared i.name r.symbols then r else with_object i.name s is_constant r
+abbrev pub with_name : Ident → Kind → Region → Region
+with_name i kind r = if is_declared i.name r.symbols then r else with_symbol i.name kind r
 
 -- names are declared one after the other
-abbrev pub declared_names : List Ident → Option Subtype → Bool → Region → Region
-declared_names [] s is_constant r = r
-declared_names (i ∷ is) s is_constant r = declared_names is s is_constant (with_name i s is_constant r)
+abbrev pub declared_names : List Ident → Kind → Region → Region
+declared_names [] kind r = r
+declared_names (i ∷ is) kind r = declared_names is kind (with_name i kind r)
 
 -- each of them once
-abbrev pub twice_faults : List Ident → Option Subtype → Bool → Region → List Fault
-twice_faults [] s is_constant r = []
-twice_faults (i ∷ is) s is_constant r = declared_once i.name i.at r.symbols ++ twice_faults is s is_constant (with_name i s is_constant r)
+abbrev pub twice_faults : List Ident → Kind → Region → List Fault
+twice_faults [] kind r = []
+twice_faults (i ∷ is) kind r = declared_once i.name i.at r.symbols ++ twice_faults is kind (with_name i kind r)
 
--- the names of a declaration, of which the last one has the last cell, each with a value of its own (RM 3.3.1(7))
+-- the subtype that a mark names within a declaration of these names, which are hidden from all visibility (RM 8.3(16))
+abbrev pub marked : Ident → List Ident → Place → Option Meaning
+marked mark identifiers place = visible mark.name (hiding identifiers place)
+
+-- Variables and constants (RM 3.3.1).
+
+-- the names of a declaration, of which the last one is the last name of its frame, each with a value of its own (RM 3.3.1(7))
 abbrev pub elaboration : Pos → Region → tree.ValueExpression → tree.Statement
-elaboration at r e = tree.declare at r.cells e
+elaboration at r e = tree.declare at r.names e
 
--- from where it begins: within the declaration its names are hidden from all visibility (RM 8.3(16))
-abbrev pub checked_object : List Ident → Pos → Ident → MaybeExpression → Bool → Place → Declared
-checked_object identifiers at subtype initial is_constant place =
+abbrev pub checked_object : List Ident → Pos → Ident → MaybeExpression → Bool → Place → List (List ℕ) → Declared
+checked_object identifiers at subtype initial is_constant place xs =
     let inner = hiding identifiers place in
-    let s = subtype_meant (visible subtype.name inner) in
-    let after = declared_names identifiers s is_constant (innermost place) in
+    let s = subtype_meant (marked subtype identifiers place) in
+    let after = declared_names identifiers (scalar s is_constant) (innermost place) in
     record {
-      faults = subtype_faults (visible subtype.name inner) subtype.at ++ (initial_faults initial s inner ++ twice_faults identifiers s is_constant (innermost place));
+      faults = subtype_faults (marked subtype identifiers place) subtype.at ++ (initial_faults initial s inner ++ twice_faults identifiers (scalar s is_constant) (innermost place));
       place = in_region after place;
       elaborations = elaboration at after (initial_value initial s inner) ∷ [];
+      exceptions = xs;
     }
 
-abbrev pub checked_declaration : Declaration → Place → Declared
-checked_declaration (object first others subtype initial) place = checked_object (first ∷ others) first.at subtype initial false place
-checked_declaration (constant first others subtype value) place = checked_object (first ∷ others) first.at subtype (an_expression value) true place
+-- Arrays (RM 3.6).
+
+abbrev pub arrays_kind : Bound → Bound → Option Subtype → Kind
+arrays_kind low high s = row_between (or_zero (bound_value low)) (or_zero (bound_value high)) s
+
+-- each of them is elaborated by itself
+abbrev pub array_elaborations : List Ident → Pos → Option Subtype → Kind → List tree.Statement
+array_elaborations identifiers at s kind = map (λ i. tree.declare_array at (known s) (cells_of kind)) identifiers
+
+abbrev pub checked_array : List Ident → Pos → Bound → Bound → Ident → Place → List (List ℕ) → Declared
+checked_array identifiers at low high subtype place xs =
+    let s = subtype_meant (marked subtype identifiers place) in
+    let kind = arrays_kind low high s in
+    record {
+      faults = bound_faults low ++ (bound_faults high ++ (subtype_faults (marked subtype identifiers place) subtype.at ++ twice_faults identifiers kind (innermost place)));
+      place = in_region (declared_names identifiers kind (innermost place)) place;
+      elaborations = array_elaborations identifiers at s kind;
+      exceptions = xs;
+    }
+
+-- Exceptions (RM 11.1).
+
+-- a region, and the names of all exceptions that are declared so far, by their numbers
+pub record Exceptions : Type 0 where
+  pub region : Region
+  pub names : List (List ℕ)
+
+abbrev pub exception_symbol : List ℕ → Exceptions → Exceptions
+exception_symbol name x = record {
+  region = record { symbols = x.region.symbols ++ (name, Exception (exception_of.Declared (length x.names))) ∷ []; level = x.region.level; cells = x.region.cells; names = x.region.names };
+  names = x.names ++ name ∷ [];
+}
+
+abbrev pub with_exception : Ident → Exceptions → Exceptions
+with_exception i x = if is_declared i.name x.region.symbols then x else exception_symbol i.name x
+
+abbrev pub declared_exceptions : List Ident → Exceptions → Exceptions
+declared_exceptions [] x = x
+declared_exceptions (i ∷ is) x = declared_exceptions is (with_exception i x)
+
+abbrev pub exceptions_twice : List Ident → Exceptions → List Fault
+exceptions_twice [] x = []
+exceptions_twice (i ∷ is) x = declared_once i.name i.at x.region.symbols ++ exceptions_twice is (with_exception i x)
+
+abbrev pub exceptions_in : Place → List (List ℕ) → Exceptions
+exceptions_in place xs = record { region = innermost place; names = xs }
+
+abbrev pub checked_exceptions : List Ident → Place → List (List ℕ) → Declared
+checked_exceptions identifiers place xs =
+    let after = declared_exceptions identifiers (exceptions_in place xs) in
+    record {
+      faults = exceptions_twice identifiers (exceptions_in place xs);
+      place = in_region after.region place;
+      elaborations = [];
+      exceptions = after.names;
+    }
+
+-- Declarative parts (RM 3.11). Each declaration comes with the names of the exceptions that are declared before it.
+
+abbrev pub checked_declaration : Declaration → Place → List (List ℕ) → Declared
+checked_declaration (object first others subtype initial) place xs = checked_object (first ∷ others) first.at subtype initial false place xs
+checked_declaration (constant first others subtype value) place xs = checked_object (first ∷ others) first.at subtype (an_expression value) true place xs
+checked_declaration (array first others low high subtype) place xs = checked_array (first ∷ others) first.at low high subtype place xs
+checked_declaration (exception first others) place xs = checked_exceptions (first ∷ others) place xs
+
+abbrev pub nothing_declared : Place → List (List ℕ) → Declared
+nothing_declared place xs = record { faults = []; place = place; elaborations = []; exceptions = xs }
 
 abbrev pub joined_declared : Declared → Declared → Declared
-joined_declared d e = record { faults = d.faults ++ e.faults; place = e.place; elaborations = d.elaborations ++ e.elaborations }
+joined_declared d e = record { faults = d.faults ++ e.faults; place = e.place; elaborations = d.elaborations ++ e.elaborations; exceptions = e.exceptions }
 
 -- the declarations are elaborated in their order (RM 3.11(7))
-abbrev pub checked_declarations : Declarations → Place → Declared
-checked_declarations no_declarations place = record { faults = []; place = place; elaborations = [] }
-checked_declarations (more_declarations d ds) place = joined_declared (checked_declaration d place) (checked_declarations ds (checked_declaration d place).place)
+abbrev pub checked_declarations : Declarations → Place → List (List ℕ) → Declared
+checked_declarations no_declarations place xs = nothing_declared place xs
+checked_declarations (more_declarations d ds) place xs = joined_declared (checked_declaration d place xs) (checked_declarations ds (checked_declaration d place xs).place (checked_declaration d place xs).exceptions)

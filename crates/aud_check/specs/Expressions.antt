@@ -1,5 +1,5 @@
 -- Expressions: their faults, their types, and what is left of them once their names are resolved (RM 4).
-use Rattle.std.specs.Prelude.{ℕ, ℤ, pos, negsuc, List, [], ◌∷◌, ◌++◌, Option, Some, None, codes}
+use Rattle.std.specs.Prelude.{ℕ, ℤ, pos, negsuc, nat_le, if◌then◌else◌, List, [], ◌∷◌, ◌++◌, Option, Some, None, codes}
 use Rattle.std.specs.Str.{bytes_eq}
 use Rattle.std.specs.Map.{lookup}
 use Rattle.aud_text.specs.declared.place.Pos.{Pos}
@@ -18,6 +18,7 @@ use Rattle.aud_syntax.specs.declared.tree.Connective.{Connective}
 use Rattle.aud_syntax.specs.declared.tree.Connective.TheVariants as connective
 use Rattle.aud_syntax.specs.Plain.{Expression, alone, connected, Relations, no_relations, more_relations, Relation, unrelated, related, Simple, simple, Addeds, no_addeds, more_addeds, Added, added, Term, term, Multiplieds, no_multiplieds, more_multiplieds, Multiplied, multiplied, Factor, factor, Primary, integer, text, name, attribute, group, MaybeExpression, no_expression, an_expression, Name, named, Parts, no_parts, more_parts, NamePart, part, Args, no_args, more_args}
 use Rattle.aud_typed.specs.declared.program.Variable.{Variable}
+use Rattle.aud_typed.specs.declared.program.ArrayAt.{ArrayAt}
 use Rattle.aud_typed.specs.declared.program.Subtype.{Subtype}
 use Rattle.aud_typed.specs.declared.program.Subtype.TheVariants.{Integer, Natural, Positive, Boolean}
 use Rattle.aud_typed.specs.declared.program.Unary.{Unary}
@@ -30,14 +31,15 @@ use Rattle.aud_typed.specs.declared.program.Logical.TheVariants as logical
 use Rattle.aud_typed.specs.Tree as tree
 use Rattle.aud_check.specs.declared.fault.Fault.{Fault}
 use Rattle.aud_check.specs.declared.names.Meaning.{Meaning}
-use Rattle.aud_check.specs.declared.names.Meaning.TheVariants.{ScalarType, Literal, Object, Builtin, MainProcedure}
+use Rattle.aud_check.specs.declared.names.Meaning.TheVariants.{ScalarType, Literal, Object, Array, Exception, Builtin, MainProcedure}
+use Rattle.aud_check.specs.declared.names.Array as array
 use Rattle.aud_check.specs.declared.attribute.Attribute.{Attribute}
-use Rattle.aud_check.specs.declared.attribute.Attribute.TheVariants.{Image, First, Last, Other}
+use Rattle.aud_check.specs.declared.attribute.Attribute.TheVariants.{Image, First, Last, Length, Other}
 use Rattle.aud_check.specs.declared.rules.Base.{Base}
 use Rattle.aud_check.specs.declared.rules.Base.TheVariants.{Whole, Truth, Text}
-use Rattle.aud_check.specs.declared.resolution.Denoted.{Denoted}
 use Rattle.aud_check.specs.Names.{Place}
-use Rattle.aud_check.specs.Resolution.{Resolved, resolved, name_ident}
+use Rattle.aud_check.specs.Arrays.{length_between, array_at}
+use Rattle.aud_check.specs.Resolution.{Resolved, resolved, name_ident, last_args}
 use Rattle.aud_check.specs.Rules.{base_of_subtype, wrong_kind_of_name, right_type, wrong_number_of_arguments, number_too_large}
 
 -- an expression with its type, unknown where the expression is faulty
@@ -211,14 +213,66 @@ abbrev pub checked_number : Option ℤ → Pos → Checked
 checked_number (Some value) at = fine (number (tree.number value))
 checked_number None at = faulty (number_too_large at)
 
--- what is read must be a variable or constant, or False or True (RM 4.1, 4.4)
-abbrev pub name_faults : Option Meaning → Pos → List Fault
-name_faults None at = []
-name_faults (Some (Object o)) at = []
-name_faults (Some (Literal b)) at = []
-name_faults (Some (ScalarType s)) at = wrong_kind_of_name at
-name_faults (Some (Builtin b)) at = wrong_kind_of_name at
-name_faults (Some MainProcedure) at = wrong_kind_of_name at
+-- What names denote with the arguments of their last parts (RM 4.1).
+
+-- what an identifier stands for, or an element of an array, with its index and subtype; nothing where the name is faulty
+pub data Entity : Type 0 where
+  no_entity : Entity
+  entity : Meaning → Entity
+  element_of : ArrayAt → tree.IntegerExpression → Option Subtype → Entity
+
+pub record Indexed : Type 0 where
+  pub faults : List Fault
+  pub entity : Entity
+
+abbrev pub indexes_none : Entity → Indexed
+indexes_none x = record { faults = []; entity = x }
+
+abbrev pub element_with : array.Array → Typed → Entity
+element_with a (number index) = element_of (array_at a) index a.subtype
+element_with a _ = no_entity
+
+-- an array with an index, which is an Integer, is an element of it (RM 4.1.1); the last of the arguments has been typed
+abbrev pub array_indexed : array.Array → Args → Pos → Typed → Indexed
+array_indexed a no_args at last = indexes_none (entity (Array a))
+array_indexed a (more_args e no_args) at last = record { faults = wants Whole (expression_at e) last; entity = element_with a last }
+array_indexed a (more_args e (more_args f es)) at last = record { faults = wrong_number_of_arguments at; entity = no_entity }
+
+abbrev pub indexed : Option Meaning → Args → Pos → Typed → Indexed
+indexed None xs at last = indexes_none no_entity
+indexed (Some (Array a)) xs at last = array_indexed a xs at last
+indexed (Some m) xs at last = indexes_none (entity m)
+
+-- a name: its faults but those in its arguments, what it denotes, and where the identifier stands that decides
+pub record Denoting : Type 0 where
+  pub faults : List Fault
+  pub entity : Entity
+  pub at : Pos
+
+abbrev pub denoting_by : Resolved → Args → Typed → Denoting
+denoting_by r xs last = record {
+  faults = r.faults ++ (indexed r.denoted.meaning xs r.denoted.at last).faults;
+  entity = (indexed r.denoted.meaning xs r.denoted.at last).entity;
+  at = r.denoted.at;
+}
+
+abbrev pub denoting : Name → Typed → Place → Denoting
+denoting n last place = denoting_by (resolved n place) (last_args n) last
+
+-- what is read must be a variable, an element or a constant, or False or True (RM 4.1, 4.4)
+abbrev pub read_faults : Meaning → Pos → List Fault
+read_faults (Object o) at = []
+read_faults (Literal b) at = []
+read_faults (Array a) at = wrong_kind_of_name at
+read_faults (Exception x) at = wrong_kind_of_name at
+read_faults (ScalarType s) at = wrong_kind_of_name at
+read_faults (Builtin b) at = wrong_kind_of_name at
+read_faults MainProcedure at = wrong_kind_of_name at
+
+abbrev pub name_faults : Entity → Pos → List Fault
+name_faults no_entity at = []
+name_faults (entity m) at = read_faults m at
+name_faults (element_of a index s) at = []
 
 -- the value of a variable or constant; where its subtype is not known, nothing is known of its type
 abbrev pub stored : Variable → Option Subtype → Typed
@@ -228,22 +282,35 @@ stored v (Some Natural) = number (tree.variable v)
 stored v (Some Positive) = number (tree.variable v)
 stored v (Some Boolean) = boolean (tree.stored (tree.scalar v Boolean))
 
-abbrev pub value_read : Option Meaning → Typed
-value_read (Some (Object o)) = stored o.variable o.subtype
-value_read (Some (Literal b)) = boolean (tree.truth b)
-value_read _ = unknown
+-- the value of an element
+abbrev pub stored_at : ArrayAt → tree.IntegerExpression → Option Subtype → Typed
+stored_at a index None = unknown
+stored_at a index (Some Integer) = number (tree.element a index)
+stored_at a index (Some Natural) = number (tree.element a index)
+stored_at a index (Some Positive) = number (tree.element a index)
+stored_at a index (Some Boolean) = boolean (tree.stored (tree.component a index Boolean))
+
+abbrev pub meaning_read : Meaning → Typed
+meaning_read (Object o) = stored o.variable o.subtype
+meaning_read (Literal b) = boolean (tree.truth b)
+meaning_read _ = unknown
+
+abbrev pub value_read : Entity → Typed
+value_read no_entity = unknown
+value_read (entity m) = meaning_read m
+value_read (element_of a index s) = stored_at a index s
 
 -- a name as a primary
-abbrev pub checked_name : Denoted → Checked
-checked_name d = record { faults = name_faults d.meaning d.at; typed = value_read d.meaning }
+abbrev pub checked_name : Denoting → Checked
+checked_name d = record { faults = d.faults ++ name_faults d.entity d.at; typed = value_read d.entity }
 
 -- Attributes (RM 4.1.4, K.2). The prefix and the designator stand at a place; the argument, if there is one, comes with that where it begins.
 
--- those of arrays, entries and tasks are known, but as yet there is nothing that has them
+-- those of entries and tasks are known, but as yet there is nothing that has them
 abbrev pub attributes : List (List ℕ × Attribute)
 attributes =
     (codes "IMAGE", Image) ∷ (codes "FIRST", First) ∷ (codes "LAST", Last)
-    ∷ (codes "LENGTH", Other) ∷ (codes "COUNT", Other) ∷ (codes "CALLABLE", Other) ∷ (codes "TERMINATED", Other) ∷ []
+    ∷ (codes "LENGTH", Length) ∷ (codes "COUNT", Other) ∷ (codes "CALLABLE", Other) ∷ (codes "TERMINATED", Other) ∷ []
 
 abbrev pub without_argument : Pos → Option (Pos × Typed) → Typed → Checked
 without_argument designator None t = fine t
@@ -271,21 +338,34 @@ abbrev pub image : Meaning → Pos → Pos → Option (Pos × Typed) → Checked
 image (ScalarType s) prefix designator argument = image_with (base_of_subtype s) designator argument
 image (Object o) prefix designator argument = without_argument designator argument (image_of (stored o.variable o.subtype))
 image (Literal b) prefix designator argument = without_argument designator argument (string (tree.image_truth (tree.truth b)))
+image (Array a) prefix designator argument = faulty (wrong_kind_of_name prefix)
+image (Exception x) prefix designator argument = faulty (wrong_kind_of_name prefix)
 image (Builtin b) prefix designator argument = faulty (wrong_kind_of_name prefix)
 image MainProcedure prefix designator argument = faulty (wrong_kind_of_name prefix)
 
--- the bounds of Integer and its subtypes (RM 3.5(12, 13), 3.5.4(11, 12)); those of Boolean are not in the profile
+-- the bounds of Integer and its subtypes (RM 3.5(12, 13), 3.5.4(11, 12)), and of arrays (RM 3.6.2(3, 5)); those of Boolean are not in the profile
 abbrev pub first_of : Meaning → Option ℤ
 first_of (ScalarType Integer) = Some (negsuc 2147483647)
 first_of (ScalarType Natural) = Some (pos 0)
 first_of (ScalarType Positive) = Some (pos 1)
+first_of (Array a) = Some a.low
 first_of _ = None
 
 abbrev pub last_of : Meaning → Option ℤ
 last_of (ScalarType Integer) = Some (pos 2147483647)
 last_of (ScalarType Natural) = Some (pos 2147483647)
 last_of (ScalarType Positive) = Some (pos 2147483647)
+last_of (Array a) = Some a.high
 last_of _ = None
+
+-- a number, or the last Integer where that is less
+abbrev pub at_most_last : ℕ → ℤ
+at_most_last n = pos (if nat_le n 2147483647 then n else 2147483647)
+
+-- the length of an array (RM 3.6.2(9)); the elaboration of one with more elements than the last Integer raises Storage_Error
+abbrev pub length_of : Meaning → Option ℤ
+length_of (Array a) = Some (at_most_last (length_between a.low a.high))
+length_of _ = None
 
 abbrev pub bound : Option ℤ → Pos → Pos → Option (Pos × Typed) → Checked
 bound None prefix designator argument = faulty (wrong_kind_of_name prefix)
@@ -295,6 +375,7 @@ abbrev pub attribute_of : Attribute → Meaning → Pos → Pos → Option (Pos 
 attribute_of Image m prefix designator argument = image m prefix designator argument
 attribute_of First m prefix designator argument = bound (first_of m) prefix designator argument
 attribute_of Last m prefix designator argument = bound (last_of m) prefix designator argument
+attribute_of Length m prefix designator argument = bound (length_of m) prefix designator argument
 attribute_of Other m prefix designator argument = faulty (wrong_kind_of_name prefix)
 
 -- the designator must be an attribute's
@@ -302,12 +383,19 @@ abbrev pub attribute_named : Option Attribute → Meaning → Pos → Pos → Op
 attribute_named None m prefix designator argument = faulty (wrong_kind_of_name designator)
 attribute_named (Some a) m prefix designator argument = attribute_of a m prefix designator argument
 
-abbrev pub attribute_if : Option Meaning → Pos → Ident → Option (Pos × Typed) → Checked
-attribute_if None prefix designator argument = fine unknown
-attribute_if (Some m) prefix designator argument = attribute_named (lookup (bytes_eq designator.name) attributes) m prefix designator.at argument
+-- an element has none but Image (RM 4.10(40))
+abbrev pub element_attribute : Option Attribute → Typed → Pos → Pos → Option (Pos × Typed) → Checked
+element_attribute None value prefix designator argument = faulty (wrong_kind_of_name designator)
+element_attribute (Some Image) value prefix designator argument = without_argument designator argument (image_of value)
+element_attribute (Some _) value prefix designator argument = faulty (wrong_kind_of_name prefix)
 
-abbrev pub checked_attribute : Denoted → Ident → Option (Pos × Typed) → Checked
-checked_attribute d designator argument = attribute_if d.meaning d.at designator argument
+abbrev pub attribute_if : Entity → Pos → Ident → Option (Pos × Typed) → Checked
+attribute_if no_entity prefix designator argument = fine unknown
+attribute_if (entity m) prefix designator argument = attribute_named (lookup (bytes_eq designator.name) attributes) m prefix designator.at argument
+attribute_if (element_of a index s) prefix designator argument = element_attribute (lookup (bytes_eq designator.name) attributes) (stored_at a index s) prefix designator.at argument
+
+abbrev pub checked_attribute : Denoting → Ident → Option (Pos × Typed) → Checked
+checked_attribute d designator argument = after d.faults (attribute_if d.entity d.at designator argument)
 
 abbrev mutual
   -- RM 4.4(2)
@@ -357,13 +445,13 @@ abbrev mutual
   pub checked_primary : Primary → Place → Checked
   checked_primary (integer n) place = checked_number n.value n.at
   checked_primary (text l) place = fine (string (tree.literal l.text))
-  checked_primary (name n) place = with (checked_arguments n place) (λ t. after (resolved n place).faults (checked_name (resolved n place).denoted))
-  checked_primary (attribute n designator argument) place = with (checked_arguments n place) (λ t. checked_image argument place (resolved n place) designator)
+  checked_primary (name n) place = with (checked_arguments n place) (λ last. checked_name (denoting n last place))
+  checked_primary (attribute n designator argument) place = with (checked_arguments n place) (λ last. checked_image argument place (denoting n last place) designator)
   checked_primary (group at e) place = checked_expression e place
 
-  pub checked_image : MaybeExpression → Place → Resolved → Ident → Checked
-  checked_image no_expression place prefix designator = after prefix.faults (checked_attribute prefix.denoted designator None)
-  checked_image (an_expression e) place prefix designator = with (checked_expression e place) (λ t. after prefix.faults (checked_attribute prefix.denoted designator (Some (expression_at e, t))))
+  pub checked_image : MaybeExpression → Place → Denoting → Ident → Checked
+  checked_image no_expression place prefix designator = checked_attribute prefix designator None
+  checked_image (an_expression e) place prefix designator = with (checked_expression e place) (λ t. checked_attribute prefix designator (Some (expression_at e, t)))
 
   -- the arguments of a name, also where none may stand: their faults, and what the last of them is
   pub checked_arguments : Name → Place → Checked

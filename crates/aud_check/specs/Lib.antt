@@ -1,6 +1,7 @@
 pub mod Least
 pub mod Names
 pub mod Rules
+pub mod Arrays
 pub mod Resolution
 pub mod Expressions
 pub mod Declarations
@@ -8,6 +9,9 @@ pub mod Assignments
 pub mod Calls
 pub mod Conditions
 pub mod Labels
+pub mod Tables
+pub mod Regions
+pub mod Handlers
 pub mod Statements
 pub mod Checked
 pub mod Ties

@@ -1,11 +1,13 @@
 -- What names stand for, where they are visible, and what a construct knows of its place (RM 8.1, 8.2, 8.3).
-use Rattle.std.specs.Prelude.{ℕ, Bool, true, false, List, [], ◌∷◌, Option, Some, None, is_some, codes, if◌then◌else◌}
+use Rattle.std.specs.Prelude.{ℕ, ◌+◌, Bool, true, false, List, [], ◌∷◌, Option, Some, None, is_some, codes, if◌then◌else◌}
 use Rattle.std.specs.Str.{bytes_eq}
 use Rattle.std.specs.List.{list_any}
 use Rattle.std.specs.Map.{lookup}
 use Rattle.aud_syntax.specs.declared.tree.Ident.{Ident}
+use Rattle.aud_text.specs.declared.raise.Raise.TheVariants.{Constraint, Program, Storage, Tasking}
+use Rattle.aud_typed.specs.declared.program.Exception.TheVariants.{Predefined}
 use Rattle.aud_check.specs.declared.names.Meaning.{Meaning}
-use Rattle.aud_check.specs.declared.names.Meaning.TheVariants.{ScalarType, Literal, Builtin, MainProcedure}
+use Rattle.aud_check.specs.declared.names.Meaning.TheVariants.{ScalarType, Literal, Exception, Builtin, MainProcedure}
 use Rattle.aud_check.specs.declared.names.Builtin.TheVariants.{Put, PutLine, NewLine}
 use Rattle.aud_typed.specs.declared.program.Subtype.TheVariants.{Integer, Natural, Positive, Boolean}
 
@@ -13,13 +15,17 @@ use Rattle.aud_typed.specs.declared.program.Subtype.TheVariants.{Integer, Natura
 abbrev pub Symbol : Type 0
 Symbol = List ℕ × Meaning
 
--- a region of declarations (RM 8.1): its names in the order of their declarations, and the cells taken in its frame
+-- a region of declarations (RM 8.1): its names in the order of their declarations, how many frames are further out than its own, and the
+-- cells and names of variables and constants in that
 pub record Region : Type 0 where
   pub symbols : List Symbol
+  pub level : ℕ
   pub cells : ℕ
+  pub names : ℕ
 
-abbrev pub empty_region : Region
-empty_region = record { symbols = []; cells = 0 }
+-- a region with no names yet, at a level
+abbrev pub empty_region : ℕ → Region
+empty_region level = record { symbols = []; level = level; cells = 0; names = 0 }
 
 -- what a region declares a name to be: the first symbol of that name decides
 abbrev pub named_in : List ℕ → List Symbol → Option Meaning
@@ -40,7 +46,7 @@ pub record Place : Type 0 where
   pub hidden : List Ident
 
 abbrev pub innermost_of : List Region → Region
-innermost_of [] = empty_region
+innermost_of [] = empty_region 0
 innermost_of (r ∷ rs) = r
 
 abbrev pub innermost : Place → Region
@@ -53,6 +59,17 @@ others_of (r ∷ rs) = rs
 -- the place with another innermost region
 abbrev pub in_region : Region → Place → Place
 in_region r place = record place { regions = r ∷ others_of place.regions }
+
+-- a place behind the declarations of a region, and of those around it
+abbrev pub place_in : Region → List Region → Place
+place_in r rs = record { regions = r ∷ rs; hidden = [] }
+
+-- the place in one more region, whose frame lies within the innermost one (RM 8.1)
+abbrev pub next_frame : Place → Region
+next_frame place = empty_region ((innermost place).level + 1)
+
+abbrev pub in_frame : Place → Place
+in_frame place = place_in (next_frame place) place.regions
 
 -- the place within a declaration of these names
 abbrev pub hiding : List Ident → Place → Place
@@ -75,12 +92,17 @@ abbrev pub predefined : List Symbol
 predefined =
     (codes "INTEGER", ScalarType Integer) ∷ (codes "NATURAL", ScalarType Natural) ∷ (codes "POSITIVE", ScalarType Positive) ∷ (codes "BOOLEAN", ScalarType Boolean)
     ∷ (codes "FALSE", Literal false) ∷ (codes "TRUE", Literal true)
+    ∷ (codes "CONSTRAINT_ERROR", Exception (Predefined Constraint)) ∷ (codes "PROGRAM_ERROR", Exception (Predefined Program)) ∷ (codes "STORAGE_ERROR", Exception (Predefined Storage)) ∷ (codes "TASKING_ERROR", Exception (Predefined Tasking))
     ∷ (codes "PUT", Builtin Put) ∷ (codes "PUT_LINE", Builtin PutLine) ∷ (codes "NEW_LINE", Builtin NewLine) ∷ []
 
 -- the outermost region
 abbrev pub outermost : List Region
-outermost = (record { symbols = predefined; cells = 0 }) ∷ []
+outermost = (record { symbols = predefined; level = 0; cells = 0; names = 0 }) ∷ []
+
+-- the library's region (RM 10.1.1)
+abbrev pub library : List ℕ → Region
+library name = record { symbols = (name, MainProcedure) ∷ []; level = 0; cells = 0; names = 0 }
 
 -- the place of a main procedure's declarations: its body's region, that of the library, and the predefined one (RM 10.1.1)
 abbrev pub main_place : List ℕ → Place
-main_place name = record { regions = empty_region ∷ (record { symbols = (name, MainProcedure) ∷ []; cells = 0 }) ∷ outermost; hidden = [] }
+main_place name = place_in (empty_region 0) (library name ∷ outermost)

@@ -6,7 +6,7 @@ use Rattle.aud_syntax.specs.declared.tree.Ident.{Ident}
 use Rattle.aud_syntax.specs.Plain.{Name, named, NamePart, part, Parts, no_parts, more_parts, Args, no_args, more_args}
 use Rattle.aud_check.specs.declared.fault.Fault.{Fault}
 use Rattle.aud_check.specs.declared.names.Meaning.{Meaning}
-use Rattle.aud_check.specs.declared.names.Meaning.TheVariants.{ScalarType, Literal, Object, Builtin, MainProcedure}
+use Rattle.aud_check.specs.declared.names.Meaning.TheVariants.{ScalarType, Literal, Object, Array, Exception, Builtin, MainProcedure}
 use Rattle.aud_check.specs.declared.resolution.Denoted.{Denoted}
 use Rattle.aud_check.specs.Names.{Place, visible, declared, named_in, predefined}
 use Rattle.aud_check.specs.Rules.{name_not_declared, wrong_kind_of_name}
@@ -45,13 +45,15 @@ last_of p (more_parts q qs) = last_of q qs
 abbrev pub last_args : Name → Args
 last_args (named p ps) = last_of p ps
 
--- only procedures have arguments: as yet there is nothing with an index (RM 4.1.1)
-abbrev pub is_callable : Meaning → Bool
-is_callable (Builtin b) = true
-is_callable MainProcedure = true
-is_callable (ScalarType s) = false
-is_callable (Literal b) = false
-is_callable (Object o) = false
+-- procedures have arguments, and arrays an index (RM 4.1.1)
+abbrev pub takes_arguments : Meaning → Bool
+takes_arguments (Builtin b) = true
+takes_arguments MainProcedure = true
+takes_arguments (Array a) = true
+takes_arguments (ScalarType s) = false
+takes_arguments (Literal b) = false
+takes_arguments (Exception x) = false
+takes_arguments (Object o) = false
 
 -- as yet there is nothing whose name stands before a point (RM 4.1.3)
 abbrev pub is_last : Parts → Bool
@@ -59,7 +61,7 @@ is_last no_parts = true
 is_last (more_parts q qs) = false
 
 abbrev pub may_stand : Meaning → NamePart → Parts → Bool
-may_stand m p ps = is_last ps && (is_callable m || are_none (part_args p))
+may_stand m p ps = is_last ps && (takes_arguments m || are_none (part_args p))
 
 abbrev pub denoted_by : Meaning → NamePart → Parts → Resolved
 denoted_by m p ps = if may_stand m p ps then denotes m (part_ident p).at else denotes_nothing (wrong_kind_of_name (part_ident p).at) (part_ident p).at

@@ -2,7 +2,7 @@
 use Rattle.std.specs.Prelude.{Bool, true, false, not, List, [], ◌∷◌, Option, Some, None, if◌then◌else◌, ℕ}
 use Rattle.std.specs.Str.{bytes_eq}
 use Rattle.aud_text.specs.declared.place.Pos.{Pos}
-use Rattle.aud_text.specs.declared.refusal.Refusal.TheVariants.{NameNotDeclared, DeclaredTwice, WrongKindOfName, WrongType, WrongNumberOfArguments, NotAVariable, WrongNameAtEnd, ExitWithoutLoop, NumberTooLarge}
+use Rattle.aud_text.specs.declared.refusal.Refusal.TheVariants.{NameNotDeclared, DeclaredTwice, WrongKindOfName, WrongType, WrongNumberOfArguments, NotAVariable, WrongNameAtEnd, ExitWithoutLoop, RaiseWithoutHandler, BadHandlerChoice, NumberTooLarge}
 use Rattle.aud_syntax.specs.declared.tree.Ident.{Ident}
 use Rattle.aud_check.specs.declared.fault.Fault.{Fault}
 use Rattle.aud_check.specs.declared.rules.Base.{Base}
@@ -64,7 +64,7 @@ abbrev pub right_name_at_end : List ℕ → Option Ident → List Fault
 right_name_at_end name None = []
 right_name_at_end name (Some last) = unless (bytes_eq last.name name) (record { at = last.at; refusal = WrongNameAtEnd })
 
--- a labelled loop has its label after `end loop`, another has no name there (RM 5.5(5)); at the name, or the semicolon
+-- a labelled loop or block has its label after its end, another has no name there (RM 5.5(5), 5.6(3)); at the name, or the semicolon
 abbrev pub right_label_at_end : Option Ident → Option Ident → Pos → List Fault
 right_label_at_end None None semicolon = []
 right_label_at_end None (Some last) semicolon = record { at = last.at; refusal = WrongNameAtEnd } ∷ []
@@ -74,6 +74,14 @@ right_label_at_end (Some label) (Some last) semicolon = right_name_at_end label.
 -- an exit leaves a loop that encloses it (RM 5.7(4)); at `exit`
 abbrev pub exit_in_loop : Bool → Pos → List Fault
 exit_in_loop good at = unless good (record { at = at; refusal = ExitWithoutLoop })
+
+-- a raise without a name stands in a handler (RM 11.3(3)); at `raise`
+abbrev pub raise_in_handler : Bool → Pos → List Fault
+raise_in_handler good at = unless good (record { at = at; refusal = RaiseWithoutHandler })
+
+-- no exception is chosen twice by the handlers of a body, and `others` is chosen last (RM 11.2(5)); at the choice
+abbrev pub good_choice : Bool → Pos → List Fault
+good_choice good at = unless good (record { at = at; refusal = BadHandlerChoice })
 
 -- a number is at most the last Integer (RM 3.5.4); at the number
 abbrev pub number_too_large : Pos → List Fault

@@ -1,8 +1,10 @@
 pub mod Arms
 pub mod DeclarativePart
+pub mod Entities
 pub mod Gives
 pub mod Hidden
 pub mod Labels
+pub mod Loops
 pub mod Regions
 pub mod Table
 pub mod Typing

@@ -2,76 +2,129 @@
 
 ghost use Rattle.std.specs.Prelude.{◌≡◌};
 ghost use Rattle.aud_syntax.specs.Ties.View.{plain_expression, plain_name};
-ghost use Rattle.aud_typed.specs.Ties.View.{plain_statement as plain_typed_statement};
+ghost use Rattle.aud_typed.specs.Ties.View.{plain_integer, plain_statement as plain_typed_statement};
 ghost use Rattle.aud_check.specs.Least.{noted};
-ghost use Rattle.aud_check.specs.Assignments.{target_base, target_faults, assigned_faults, assigned, assign_faults, typed_assign};
+ghost use Rattle.aud_check.specs.Assignments.{meaning_base, target_base, changed_faults, target_faults, assigned_faults, meaning_assigned, assigned_at, assigned, assign_faults, typed_assign};
 ghost use Rattle.aud_check.specs.Ties.Typing.{plain_typed, in_box, Leaves};
+ghost use Rattle.aud_check.specs.Ties.Entities.{plain_entity};
 
 use crate::behind::{Left, boxed};
 use crate::declaration::value_for;
+use crate::entity::{Denoting, Element, Entity, name_denotes};
 use crate::expression::{arguments, expression, expression_at};
 use crate::fault::Least;
 use crate::names::{Meaning, Scope};
-use crate::resolution::{Denoted, resolve};
 use crate::rules::{Base, base_asked, not_a_variable, right_type, wrong_kind_of_name};
-use crate::typed::{Operand, base_of};
+use crate::typed::{Operand, Typed, base_of};
 use aud_syntax::tree::{Expression, Name};
 use aud_text::place::Pos;
 use aud_typed::program::{Reference, Statement as TypedStatement};
 
-fn target_base(meaning: Option<Meaning>) -> Option<Base>
-    ensures { result ≡ target_base meaning }
+fn meaning_base(meaning: Meaning) -> Option<Base>
+    ensures { result ≡ meaning_base meaning }
 {
     match meaning {
-        Some(Meaning::Object(object)) => base_asked(object.subtype),
-        Some(Meaning::Literal(_)) => Some(Base::Truth),
+        Meaning::Object(object) => base_asked(object.subtype),
+        Meaning::Literal(_) => Some(Base::Truth),
         _ => None,
     }
 }
 
+fn target_base(target: &Entity) -> Option<Base>
+    ensures { result ≡ target_base (plain_entity target.now) }
+{
+    match target {
+        Entity::Nothing => None,
+        Entity::Whole(meaning) => meaning_base(*meaning),
+        Entity::Element(element) => base_asked(element.subtype),
+    }
+}
+
 // Notes where what is assigned to is no variable (RM 5.2(5)).
-fn check_target(meaning: Option<Meaning>, at: Pos, faults: &mut Least)
-    ensures { faults.new ≡ noted faults.old (target_faults meaning at) }
+fn check_changed(meaning: Meaning, at: Pos, faults: &mut Least)
+    ensures { faults.new ≡ noted faults.old (changed_faults meaning at) }
 {
     match meaning {
-        None => {}
-        Some(Meaning::Object(object)) => {
+        Meaning::Object(object) => {
             if object.constant {
                 not_a_variable(at, faults);
             }
         }
-        Some(Meaning::Literal(_)) => not_a_variable(at, faults),
-        Some(Meaning::ScalarType(_) | Meaning::Builtin(_) | Meaning::MainProcedure) => {
-            wrong_kind_of_name(at, faults);
-        }
+        Meaning::Literal(_) => not_a_variable(at, faults),
+        Meaning::ScalarType(_)
+        | Meaning::Array(_)
+        | Meaning::Exception(_)
+        | Meaning::Builtin(_)
+        | Meaning::MainProcedure => wrong_kind_of_name(at, faults),
+    }
+}
+
+fn check_target(target: &Entity, at: Pos, faults: &mut Least)
+    ensures { faults.new ≡ noted faults.old (target_faults (plain_entity target.now) at) }
+{
+    match target {
+        Entity::Whole(meaning) => check_changed(*meaning, at, faults),
+        Entity::Nothing | Entity::Element(_) => {}
     }
 }
 
 // Notes the faults of an assignment whose target denotes this.
 #[tactic(auto, using(crate::proofs::Notes::noted_append))]
-fn check_assigned(target: Denoted, value: &Operand, faults: &mut Least)
+fn check_assigned(target: &Denoting, value: &Operand, faults: &mut Least)
     ensures { faults.new ≡ noted faults.old
-        (assigned_faults target value.now.at (plain_typed value.now.typed.value)) }
+        (assigned_faults (plain_entity target.now.entity) target.now.at
+        value.now.at (plain_typed value.now.typed.value)) }
 {
-    check_target(target.meaning, target.at, faults);
+    check_target(&target.entity, target.at, faults);
     let base = base_of(&value.typed);
-    right_type(target_base(target.meaning), value.at, base, faults);
+    right_type(target_base(&target.entity), value.at, base, faults);
 }
 
 // An assignment to what has this meaning; a faulty one is left as a null statement.
-fn assigned(meaning: Option<Meaning>, at: Pos, value: Operand) -> TypedStatement
-    ensures { plain_typed_statement result ≡ assigned meaning at (plain_typed value.typed.value) }
+fn meaning_assigned(meaning: Meaning, at: Pos, value: Typed) -> TypedStatement
+    ensures { plain_typed_statement result ≡ meaning_assigned meaning at (plain_typed value) }
 {
-    let Some(Meaning::Object(object)) = meaning else {
+    let Meaning::Object(object) = meaning else {
         return TypedStatement::Null(at);
     };
     match object.subtype {
         None => TypedStatement::Null(at),
         Some(subtype) => {
-            let variable = object.variable;
-            let reference = Reference::Scalar(variable, subtype);
-            TypedStatement::Assign(at, reference, value_for(subtype, value.opened()))
+            let reference = Reference::Scalar(object.variable, subtype);
+            TypedStatement::Assign(at, reference, value_for(subtype, value))
         }
+    }
+}
+
+// An assignment to an element.
+fn element_assigned(element: Element, at: Pos, value: Typed) -> TypedStatement
+    ensures { plain_typed_statement result ≡ assigned_at element.array
+        (plain_integer element.index) element.subtype at (plain_typed value) }
+{
+    let Element {
+        array,
+        index,
+        subtype,
+    } = element;
+    match subtype {
+        None => TypedStatement::Null(at),
+        Some(subtype) => {
+            let reference = Reference::Element(array, index, subtype);
+            TypedStatement::Assign(at, reference, value_for(subtype, value))
+        }
+    }
+}
+
+// An assignment to what a name denotes.
+fn assigned(target: Entity, at: Pos, value: Operand) -> TypedStatement
+    ensures { plain_typed_statement result
+        ≡ assigned (plain_entity target) at (plain_typed value.typed.value) }
+{
+    let value = value.opened();
+    match target {
+        Entity::Nothing => TypedStatement::Null(at),
+        Entity::Whole(meaning) => meaning_assigned(meaning, at, value),
+        Entity::Element(element) => element_assigned(element, at, value),
     }
 }
 
@@ -88,12 +141,12 @@ pub fn assignment(
         (typed_assign (plain_name target.now) (plain_expression value.now) scope.now) }
 {
     let last = arguments(target, scope, faults)?;
-    drop(last);
-    let denoted = resolve(target, scope, faults);
+    let begin = target.first.ident.at;
+    let target = name_denotes(target, last, scope, faults);
     let typed = expression(value, scope, faults)?;
     let at = expression_at(value);
     let value = Operand { at, typed };
-    check_assigned(denoted, &value, faults);
-    let statement = assigned(denoted.meaning, target.first.ident.at, value);
+    check_assigned(&target, &value, faults);
+    let statement = assigned(target.entity, begin, value);
     boxed(scope.alloc(), statement)
 }

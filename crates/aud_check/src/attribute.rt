@@ -4,13 +4,16 @@ ghost use Rattle.std.specs.Prelude.{◌≡◌};
 ghost use Rattle.std.specs.Str.{bytes_eq};
 ghost use Rattle.std.specs.Map.{lookup};
 ghost use Rattle.aud_check.specs.Rules.{wrong_kind_of_name};
-ghost use Rattle.aud_check.specs.Expressions.{unknown, attributes, without_argument, image_of, image_of_type, image_with, image, first_of, last_of, bound, attribute_of, attribute_if, checked_attribute};
+ghost use Rattle.aud_check.specs.Expressions.{unknown, attributes, without_argument, image_of, image_of_type, image_with, image, first_of, last_of, at_most_last, length_of, bound, attribute_of, entity, element_attribute, attribute_if};
 ghost use Rattle.aud_check.specs.Least.{noted};
-ghost use Rattle.aud_check.specs.Ties.Typing.{plain_typed, plain_argument};
+ghost use Rattle.aud_check.specs.Ties.Typing.{plain_typed, plain_argument, Leaves};
+ghost use Rattle.aud_check.specs.Ties.Entities.{plain_entity};
 
+use crate::array::length_between;
+use crate::behind::Made;
+use crate::entity::{Denoting, Entity, stored_at};
 use crate::fault::Least;
 use crate::names::Meaning;
-use crate::resolution::Denoted;
 use crate::rules::{Base, base_of_subtype, wrong_kind_of_name, wrong_number_of_arguments};
 use crate::table::listed;
 use crate::typed::{Operand, Typed, stored, wants};
@@ -19,6 +22,7 @@ use aud_text::int32::Int32;
 use aud_text::name::Name;
 use aud_text::place::Pos;
 use aud_typed::program::{BooleanExpression, IntegerExpression, Subtype, TextExpression};
+use std::alloc::Global;
 
 /// An attribute of the language.
 #[derive(Clone, Copy, PartialEq, Eq, Debug)]
@@ -26,7 +30,8 @@ pub enum Attribute {
     Image,
     First,
     Last,
-    /// One of what no program has as yet: an array, an entry or a task.
+    Length,
+    /// One of what no program has as yet: an entry or a task.
     Other,
 }
 
@@ -41,7 +46,7 @@ const ATTRIBUTES: [(&[u8], Attribute); 7] = [
     (b"IMAGE", Attribute::Image),
     (b"FIRST", Attribute::First),
     (b"LAST", Attribute::Last),
-    (b"LENGTH", Attribute::Other),
+    (b"LENGTH", Attribute::Length),
     (b"COUNT", Attribute::Other),
     (b"CALLABLE", Attribute::Other),
     (b"TERMINATED", Attribute::Other),
@@ -146,7 +151,8 @@ fn image(meaning: Meaning, at: Places, argument: Option<Operand>, faults: &mut L
             let text = TextExpression::ImageTruth(BooleanExpression::Truth(value));
             without_argument(designator, argument, Typed::Text(text), faults)
         }
-        Meaning::Builtin(_) | Meaning::MainProcedure => wrong_kind(at.prefix, argument, faults),
+        Meaning::Array(_) | Meaning::Exception(_) | Meaning::Builtin(_) | Meaning::MainProcedure =>
+            wrong_kind(at.prefix, argument, faults),
     }
 }
 
@@ -157,6 +163,7 @@ fn first_of(meaning: Meaning) -> Option<Int32>
         Meaning::ScalarType(Subtype::Integer) => Some(Int32::new(i32::MIN)),
         Meaning::ScalarType(Subtype::Natural) => Some(Int32::new(0)),
         Meaning::ScalarType(Subtype::Positive) => Some(Int32::new(1)),
+        Meaning::Array(array) => Some(Int32::new(array.low)),
         _ => None,
     }
 }
@@ -168,11 +175,31 @@ fn last_of(meaning: Meaning) -> Option<Int32>
         Meaning::ScalarType(Subtype::Integer | Subtype::Natural | Subtype::Positive) => {
             Some(Int32::new(i32::MAX))
         }
+        Meaning::Array(array) => Some(Int32::new(array.high)),
         _ => None,
     }
 }
 
-// A bound of a subtype, if it has one.
+// A number, or the last Integer where that is less.
+fn at_most_last(number: usize) -> Int32
+    ensures { result ≡ at_most_last number }
+{
+    match i32::try_from(number) {
+        Ok(value) => Int32::new(value),
+        Err(_) => Int32::new(i32::MAX),
+    }
+}
+
+fn length_of(meaning: Meaning) -> Option<Int32>
+    ensures { result ≡ length_of meaning }
+{
+    match meaning {
+        Meaning::Array(array) => Some(at_most_last(length_between(array.low, array.high))),
+        _ => None,
+    }
+}
+
+// A bound of a subtype or array, or an array's length, if it has one.
 fn bound(value: Option<Int32>, at: Places, argument: Option<Operand>, faults: &mut Least) -> Typed
     ensures typed { plain_typed result
         ≡ (bound value at.prefix at.designator (plain_argument argument)).typed }
@@ -204,34 +231,90 @@ fn attribute_of(
         Attribute::Image => image(meaning, at, argument, faults),
         Attribute::First => bound(first_of(meaning), at, argument, faults),
         Attribute::Last => bound(last_of(meaning), at, argument, faults),
+        Attribute::Length => bound(length_of(meaning), at, argument, faults),
         Attribute::Other => wrong_kind(at.prefix, argument, faults),
     }
 }
 
-/// An attribute of what a name denotes, with its argument, if it has one.
-pub fn attribute_value(
-    prefix: Denoted,
+// An attribute of this name of what has a meaning.
+fn meaning_attribute(
+    meaning: Meaning,
+    prefix: Pos,
+    designator: &Ident,
+    argument: Option<Operand>,
+    faults: &mut Least,
+) -> Typed
+    ensures typed { plain_typed result ≡ (attribute_if (entity meaning) prefix
+        designator.now (plain_argument argument)).typed }
+    ensures noted { faults.new ≡ noted faults.old (attribute_if (entity meaning) prefix
+        designator.now (plain_argument argument)).faults }
+{
+    match attribute_named(&designator.name) {
+        None => wrong_kind(designator.at, argument, faults),
+        Some(attribute) => {
+            let at = Places {
+                prefix,
+                designator: designator.at,
+            };
+            attribute_of(attribute, meaning, at, argument, faults)
+        }
+    }
+}
+
+// An attribute of this name of an element with this value (RM 4.10(40)).
+fn element_attribute(
+    value: Typed,
+    prefix: Pos,
     designator: &Ident,
     argument: Option<Operand>,
     faults: &mut Least,
 ) -> Typed
     ensures typed { plain_typed result
-        ≡ (checked_attribute prefix designator.now (plain_argument argument)).typed }
+        ≡ (element_attribute (lookup (bytes_eq designator.now.name) attributes)
+        (plain_typed value) prefix designator.now.at (plain_argument argument)).typed }
     ensures noted { faults.new ≡ noted faults.old
-        (checked_attribute prefix designator.now (plain_argument argument)).faults }
+        (element_attribute (lookup (bytes_eq designator.now.name) attributes)
+        (plain_typed value) prefix designator.now.at (plain_argument argument)).faults }
 {
-    let Some(meaning) = prefix.meaning else {
-        drop(argument);
-        return Typed::Unknown;
-    };
     match attribute_named(&designator.name) {
-        None => wrong_kind(designator.at, argument, faults),
-        Some(attribute) => {
-            let at = Places {
-                prefix: prefix.at,
-                designator: designator.at,
-            };
-            attribute_of(attribute, meaning, at, argument, faults)
+        None => {
+            drop(value);
+            wrong_kind(designator.at, argument, faults)
+        }
+        Some(Attribute::Image) => {
+            without_argument(designator.at, argument, image_of(value), faults)
+        }
+        Some(_) => {
+            drop(value);
+            wrong_kind(prefix, argument, faults)
+        }
+    }
+}
+
+/// An attribute of what a name denotes, with its argument, if it has one.
+pub fn attribute_value(
+    alloc: Global,
+    prefix: Denoting,
+    designator: &Ident,
+    argument: Option<Operand>,
+    faults: &mut Least,
+) -> Made<Typed>
+    ensures { Leaves plain_typed result faults.old faults.new
+        (attribute_if (plain_entity prefix.entity) prefix.at designator.now
+        (plain_argument argument)).faults
+        (attribute_if (plain_entity prefix.entity) prefix.at designator.now
+        (plain_argument argument)).typed }
+{
+    let at = prefix.at;
+    match prefix.entity {
+        Entity::Nothing => {
+            drop(argument);
+            Ok(Typed::Unknown)
+        }
+        Entity::Whole(meaning) => Ok(meaning_attribute(meaning, at, designator, argument, faults)),
+        Entity::Element(element) => {
+            let value = stored_at(alloc, element)?;
+            Ok(element_attribute(value, at, designator, argument, faults))
         }
     }
 }

@@ -1,10 +1,10 @@
 // Calls.
 
 ghost use Rattle.std.specs.Prelude.{◌≡◌, IfOk};
-ghost use Rattle.aud_syntax.specs.Ties.View.{plain_name, plain_expressions};
+ghost use Rattle.aud_syntax.specs.Ties.View.{plain_name, plain_expression, plain_expressions};
 ghost use Rattle.aud_typed.specs.Ties.View.{plain_statement as plain_typed_statement};
 ghost use Rattle.aud_check.specs.Least.{noted};
-ghost use Rattle.aud_check.specs.Calls.{one_text, no_argument, put_faults, callee_faults, put_out, called, call_faults, typed_call};
+ghost use Rattle.aud_check.specs.Calls.{one_text, no_argument, element_called, array_called, put_faults, callee_faults, put_out, called, call_faults, typed_call};
 ghost use Rattle.aud_check.specs.Ties.Typing.{plain_typed, in_box, Leaves};
 
 use crate::behind::{Left, Made, boxed};
@@ -39,6 +39,31 @@ fn no_argument(args: &[Expression], at: Pos, faults: &mut Least)
     }
 }
 
+// Notes that an element is not called, or the fault of its index.
+fn element_called(index: &Expression, at: Pos, last: &Typed, faults: &mut Least)
+    ensures { faults.new ≡ noted faults.old
+        (element_called (plain_expression index.now) at (plain_typed last.now)) }
+{
+    match last {
+        Typed::Number(_) => wrong_kind_of_name(at, faults),
+        _ => wants(Base::Whole, expression_at(index), last, faults),
+    }
+}
+
+// Notes that an array is not called, nor an element, or the fault of its index.
+fn array_called(args: &[Expression], at: Pos, last: &Typed, faults: &mut Least)
+    ensures { faults.new ≡ noted faults.old
+        (array_called (plain_expressions args.now) at (plain_typed last.now)) }
+{
+    match args.split_first() {
+        None => wrong_kind_of_name(at, faults),
+        Some((index, others)) => match others.split_first() {
+            None => element_called(index, at, last, faults),
+            Some(_) => wrong_number_of_arguments(at, faults),
+        },
+    }
+}
+
 // Notes the faults of a call of what a name denotes, with these arguments.
 fn check_callee(denoted: Denoted, args: &[Expression], last: &Typed, faults: &mut Least)
     ensures { faults.new ≡ noted faults.old (callee_faults denoted.meaning
@@ -50,7 +75,13 @@ fn check_callee(denoted: Denoted, args: &[Expression], last: &Typed, faults: &mu
         Some(Meaning::Builtin(Builtin::Put | Builtin::PutLine)) => one_text(args, at, last, faults),
         Some(Meaning::Builtin(Builtin::NewLine)) => no_argument(args, at, faults),
         Some(Meaning::MainProcedure) => wrong_number_of_arguments(at, faults),
-        Some(Meaning::ScalarType(_) | Meaning::Literal(_) | Meaning::Object(_)) => {
+        Some(Meaning::Array(_)) => array_called(args, at, last, faults),
+        Some(
+            Meaning::ScalarType(_)
+            | Meaning::Literal(_)
+            | Meaning::Object(_)
+            | Meaning::Exception(_),
+        ) => {
             wrong_kind_of_name(at, faults);
         }
     }

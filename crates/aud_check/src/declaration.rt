@@ -1,43 +1,39 @@
-// Declarations of variables and constants.
+// Declarations of variables, constants, arrays and exceptions.
 
-ghost use Rattle.std.specs.Prelude.{◌≡◌, [], ◌∷◌, ◌++◌, OnOk};
+ghost use Rattle.std.specs.Prelude.{◌≡◌, [], ◌∷◌, ◌++◌, map, IfOk, OnOk};
+ghost use Rattle.aud_typed.specs.Tree.{declare_array};
 ghost use Rattle.aud_syntax.specs.Plain.{an_expression};
 ghost use Rattle.aud_syntax.specs.Ties.View.{plain_expression, plain_declaration, plain_declarations};
 ghost use Rattle.aud_typed.specs.Ties.View.{plain_value, plain_statements as plain_typed_statements};
 ghost use Rattle.aud_check.specs.Least.{noted};
 ghost use Rattle.aud_check.specs.Names.{visible};
 ghost use Rattle.aud_check.specs.Rules.{declared_once};
-ghost use Rattle.aud_check.specs.Declarations.{subtype_faults, subtype_meant, initial_faults, initial_value, default_value, value_for, known, new_meaning, with_name, declared_names, twice_faults, elaboration, checked_object, checked_declaration, checked_declarations};
+ghost use Rattle.aud_check.specs.Declarations.{subtype_faults, subtype_meant, initial_faults, initial_value, default_value, value_for, known, with_name, declared_names, twice_faults, elaboration, marked, checked_object, checked_array, with_exception, declared_exceptions, exceptions_twice, checked_declaration, checked_declarations};
 ghost use Rattle.aud_check.specs.Ties.Typing.{plain_typed, Leaves};
-ghost use Rattle.aud_check.specs.Ties.DeclarativePart.{Declares, plain_initial};
+ghost use Rattle.aud_check.specs.Ties.DeclarativePart.{Declares, plain_initial, plain_exceptions};
 ghost use Rattle.aud_check.specs.Ties.Regions.{plain_region, plain_place, names_in};
 
+use crate::array::{Kind, Scalar, bound, cells_of, new_meaning, row_between};
 use crate::behind::Made;
 use crate::expression::{expression, expression_at};
 use crate::fault::Least;
-use crate::names::{Meaning, Object, Place, Region, Scope};
+use crate::names::{Meaning, Object, Region, Scope};
 use crate::rules::{base_asked, declared_once, name_not_declared, right_type, wrong_kind_of_name};
 use crate::typed::{Typed, base_of};
-use aud_syntax::tree::{Declaration, Expression, Ident, Identifiers};
+use aud_syntax::tree::{Bound, Declaration, Expression, Ident, Identifiers};
 use aud_text::int32::Int32;
+use aud_text::name::Name;
 use aud_text::place::Pos;
 use aud_typed::program::{
-    BooleanExpression, IntegerExpression, Statement, Subtype, ValueExpression, Variable,
+    BooleanExpression, Exception, IntegerExpression, Statement, Subtype, ValueExpression,
 };
 use std::alloc::AllocError;
 
-/// The place after a declarative part, and its elaborations (RM 3.11).
+/// The region of a declarative part, and its elaborations (RM 3.11).
 #[derive(Drop)]
 pub struct DeclarativePart {
-    pub place: Place,
+    pub region: Region,
     pub elaborations: Vec<Statement>,
-}
-
-// What a declaration declares: of which subtype, where that is known, and whether constants (RM 3.3.1(5)).
-#[derive(Clone, Copy)]
-struct Kind {
-    subtype: Option<Subtype>,
-    constant: bool,
 }
 
 // Notes where a subtype mark is not that of a subtype (RM 3.2.2).
@@ -144,39 +140,31 @@ fn initial_value(
     }
 }
 
-fn new_meaning(kind: Kind, index: usize) -> Meaning
-    ensures { result ≡ new_meaning kind.subtype kind.constant index }
-{
-    Meaning::Object(Object {
-        variable: Variable { level: 0, index },
-        subtype: kind.subtype,
-        constant: kind.constant,
-    })
-}
-
-// Declares one name more, a variable or constant with a cell of its own.
+// Declares one name more, with cells of its own.
 fn declare_name(ident: &Ident, kind: Kind, region: &mut Region, faults: &mut Least) -> Made<()>
     ensures region { OnOk result (plain_region region.new
-        ≡ with_name ident.now kind.subtype kind.constant (plain_region region.old)) }
+        ≡ with_name ident.now kind (plain_region region.old)) }
     ensures noted { OnOk result (faults.new ≡ noted faults.old
         (declared_once ident.now.name ident.now.at region.old.symbols.entries)) }
 {
     if declared_once(ident, &region.symbols, faults) {
-        let cells = region.cells.checked_add(1).ok_or(AllocError)?;
+        let cells = region.cells.checked_add(cells_of(kind)).ok_or(AllocError)?;
+        let names = region.names.checked_add(1).ok_or(AllocError)?;
         let name = ident.name.try_clone(region.alloc)?;
-        let meaning = new_meaning(kind, region.cells);
+        let meaning = new_meaning(kind, region.level, region.cells);
         region.symbols.insert(name, meaning)?;
         region.cells = cells;
+        region.names = names;
     }
     Ok(())
 }
 
 // Declares the names one after the other.
 fn declare(names: &Identifiers, kind: Kind, region: &mut Region, faults: &mut Least) -> Made<()>
-    ensures region { OnOk result (plain_region region.new ≡ declared_names
-        (names_in names.now) kind.subtype kind.constant (plain_region region.old)) }
-    ensures noted { OnOk result (faults.new ≡ noted faults.old (twice_faults
-        (names_in names.now) kind.subtype kind.constant (plain_region region.old))) }
+    ensures region { OnOk result (plain_region region.new
+        ≡ declared_names (names_in names.now) kind (plain_region region.old)) }
+    ensures noted { OnOk result (faults.new ≡ noted faults.old
+        (twice_faults (names_in names.now) kind (plain_region region.old))) }
 {
     declare_name(&names.first, kind, region, faults)?;
     for other in &names.others {
@@ -196,7 +184,7 @@ fn elaborate(
         ≡ plain_typed_statements elaborations.old.items
         ++ elaboration at (plain_region region.now) (plain_value value) ∷ []) }
 {
-    elaborations.push(Statement::Declare(at, region.cells, value))?;
+    elaborations.push(Statement::Declare(at, region.names, value))?;
     Ok(())
 }
 
@@ -207,37 +195,154 @@ fn objects(
     mark: &Ident,
     initial: Option<&Expression>,
     constant: bool,
+    outer: &[&Region],
     part: &mut DeclarativePart,
     faults: &mut Least,
 ) -> Made<()>
-    ensures { OnOk result (Declares faults.old faults.new part.old part.new
+    ensures { OnOk result (Declares faults.old faults.new outer.now part.old part.new []
         (checked_object (names_in names.now) names.now.first.at mark.now
-        (plain_initial initial.entry) constant (plain_place part.old.place))) }
+        (plain_initial initial.entry) constant (plain_place part.old.region outer.now) [])) }
 {
-    let scope = Scope::within(&part.place, names)?;
+    let scope = Scope::within(&part.region, outer, names)?;
     let subtype = subtype_mark(mark, &scope, faults);
     let value = initial_value(initial, subtype, &scope, faults)?;
     drop(scope);
-    let region = &mut part.place.innermost;
-    declare(names, Kind { subtype, constant }, region, faults)?;
+    let region = &mut part.region;
+    let kind = Kind::Scalar(Scalar { subtype, constant });
+    declare(names, kind, region, faults)?;
     elaborate(names.first.at, value, region, &mut part.elaborations)
 }
 
-/// Checks a declaration (RM 3.3.1): notes its faults, and adds to the part what it declares.
-pub fn declaration(
-    declaration: &Declaration,
+// The elaborations of arrays, one for each of the names.
+fn elaborate_arrays(
+    names: &Identifiers,
+    subtype: Subtype,
+    length: usize,
+    elaborations: &mut Vec<Statement>,
+) -> Made<()>
+    ensures { OnOk result (plain_typed_statements elaborations.new.items
+        ≡ plain_typed_statements elaborations.old.items
+        ++ map (λ i. declare_array names.now.first.at subtype length) (names_in names.now)) }
+{
+    let at = names.first.at;
+    elaborations.push(Statement::DeclareArray(at, subtype, length))?;
+    for _ in &names.others {
+        elaborations.push(Statement::DeclareArray(at, subtype, length))?;
+    }
+    Ok(())
+}
+
+// The subtype that a mark names within a declaration of these names.
+fn marked<'x>(
+    mark: &Ident,
+    names: &'x Identifiers,
+    region: &'x Region,
+    outer: &'x [&'x Region],
+    faults: &mut Least,
+) -> Made<Option<Subtype>>
+    ensures subtype { IfOk result (λ subtype. subtype ≡ subtype_meant
+        (marked mark.now (names_in names.now) (plain_place region.now outer.now))) }
+    ensures noted { OnOk result (faults.new ≡ noted faults.old (subtype_faults
+        (marked mark.now (names_in names.now) (plain_place region.now outer.now)) mark.now.at)) }
+{
+    let scope = Scope::within(region, outer, names)?;
+    Ok(subtype_mark(mark, &scope, faults))
+}
+
+// Declares arrays (RM 3.6).
+#[tactic(auto, using(crate::proofs::Notes::noted_append))]
+fn arrays(
+    names: &Identifiers,
+    bounds: (Bound, Bound),
+    mark: &Ident,
+    outer: &[&Region],
     part: &mut DeclarativePart,
     faults: &mut Least,
 ) -> Made<()>
-    ensures { OnOk result (Declares faults.old faults.new part.old part.new
-        (checked_declaration (plain_declaration declaration.now) (plain_place part.old.place))) }
+    ensures { OnOk result (Declares faults.old faults.new outer.now part.old part.new []
+        (checked_array (names_in names.now) names.now.first.at bounds.0 bounds.1 mark.now
+        (plain_place part.old.region outer.now) [])) }
+{
+    let low = bound(bounds.0, faults);
+    let high = bound(bounds.1, faults);
+    let subtype = marked(mark, &*names, &part.region, &*outer, faults)?;
+    let kind = row_between(low, high, subtype);
+    declare(names, kind, &mut part.region, faults)?;
+    elaborate_arrays(
+        names,
+        known(subtype),
+        cells_of(kind),
+        &mut part.elaborations,
+    )
+}
+
+// Declares one exception more, which has the next number.
+fn declare_exception(
+    ident: &Ident,
+    region: &mut Region,
+    exceptions: &mut Vec<Name>,
+    faults: &mut Least,
+) -> Made<()>
+    ensures declared { OnOk result (plain_exceptions region.new exceptions.new
+        ≡ with_exception ident.now (plain_exceptions region.old exceptions.old)) }
+    ensures noted { OnOk result (faults.new ≡ noted faults.old
+        (declared_once ident.now.name ident.now.at region.old.symbols.entries)) }
+{
+    if declared_once(ident, &region.symbols, faults) {
+        let meaning = Meaning::Exception(Exception::Declared(exceptions.len()));
+        let name = ident.name.try_clone(region.alloc)?;
+        region.symbols.insert(name, meaning)?;
+        let name = ident.name.try_clone(region.alloc)?;
+        exceptions.push(name)?;
+    }
+    Ok(())
+}
+
+// Declares exceptions (RM 11.1).
+fn exceptions(
+    names: &Identifiers,
+    region: &mut Region,
+    exceptions: &mut Vec<Name>,
+    faults: &mut Least,
+) -> Made<()>
+    ensures declared { OnOk result (plain_exceptions region.new exceptions.new
+        ≡ declared_exceptions (names_in names.now)
+        (plain_exceptions region.old exceptions.old)) }
+    ensures noted { OnOk result (faults.new ≡ noted faults.old (exceptions_twice
+        (names_in names.now) (plain_exceptions region.old exceptions.old))) }
+{
+    declare_exception(&names.first, region, exceptions, faults)?;
+    for other in &names.others {
+        declare_exception(other, region, exceptions, faults)?;
+    }
+    Ok(())
+}
+
+/// Checks a declaration (RM 3.3.1, 3.6, 11.1): notes its faults, and adds to the part what it declares, and to the
+/// exceptions those that it does.
+pub fn declaration(
+    declaration: &Declaration,
+    outer: &[&Region],
+    part: &mut DeclarativePart,
+    all_exceptions: &mut Vec<Name>,
+    faults: &mut Least,
+) -> Made<()>
+    ensures { OnOk result (Declares faults.old faults.new outer.now part.old part.new all_exceptions.new.items
+        (checked_declaration (plain_declaration declaration.now) (plain_place part.old.region outer.now)
+        all_exceptions.old.items)) }
 {
     match declaration {
         Declaration::Object(names, mark, initial) => {
-            objects(names, mark, initial.as_ref(), false, part, faults)
+            objects(names, mark, initial.as_ref(), false, outer, part, faults)
         }
         Declaration::Constant(names, mark, value) => {
-            objects(names, mark, Some(value), true, part, faults)
+            objects(names, mark, Some(value), true, outer, part, faults)
+        }
+        Declaration::Array(names, low, high, mark) => {
+            arrays(names, (*low, *high), mark, outer, part, faults)
+        }
+        Declaration::Exception(names) => {
+            exceptions(names, &mut part.region, all_exceptions, faults)
         }
     }
 }
@@ -245,14 +350,17 @@ pub fn declaration(
 /// Checks a declarative part (RM 3.11).
 pub fn declarations(
     declarations: &[Declaration],
+    outer: &[&Region],
     part: &mut DeclarativePart,
+    exceptions: &mut Vec<Name>,
     faults: &mut Least,
 ) -> Made<()>
-    ensures { OnOk result (Declares faults.old faults.new part.old part.new
-        (checked_declarations (plain_declarations declarations.now) (plain_place part.old.place))) }
+    ensures { OnOk result (Declares faults.old faults.new outer.now part.old part.new exceptions.new.items
+        (checked_declarations (plain_declarations declarations.now) (plain_place part.old.region outer.now)
+        exceptions.old.items)) }
 {
     for next in declarations {
-        declaration(next, part, faults)?;
+        declaration(next, outer, part, exceptions, faults)?;
     }
     Ok(())
 }

@@ -3,24 +3,23 @@
 ghost use Rattle.std.specs.Prelude.{◌≡◌, IfOk};
 ghost use Rattle.aud_typed.specs.Tree as tree;
 ghost use Rattle.aud_syntax.specs.Ties.View.{plain_expression, plain_chain, plain_relation, plain_comparison, plain_simple, plain_added, plain_term, plain_multiplied, plain_factor, plain_primary, plain_name, plain_part};
-ghost use Rattle.aud_check.specs.Resolution.{resolved};
-ghost use Rattle.aud_check.specs.Expressions.{expression_at, relation_at, simple_at, term_at, factor_at, primary_at, multiplying, adding_operator, checked_number, name_faults, value_read, string, after, checked_name, checked_attribute, checked_expression, checked_relation, checked_simple, checked_added, checked_term, checked_multiplied, checked_factor, checked_primary, checked_arguments, checked_part, further};
+ghost use Rattle.aud_check.specs.Expressions.{expression_at, relation_at, simple_at, term_at, factor_at, primary_at, multiplying, adding_operator, checked_number, string, denoting, checked_name, checked_attribute, checked_expression, checked_relation, checked_simple, checked_added, checked_term, checked_multiplied, checked_factor, checked_primary, checked_arguments, checked_part, further};
 ghost use Rattle.aud_check.specs.Least.{noted};
 ghost use Rattle.aud_check.specs.Ties.Typing.{plain_typed, plain_argument, operation, Shows};
 
 use crate::attribute::attribute_value;
 use crate::behind::{Left, boxed};
+use crate::entity::{check_name, name_denotes, value_read};
 use crate::fault::Least;
-use crate::names::{Meaning, Scope};
-use crate::resolution::resolve;
-use crate::rules::{number_too_large, wrong_kind_of_name};
-use crate::typed::{Operand, Operator, Typed, highest, operation, signed, stored};
+use crate::names::Scope;
+use crate::rules::number_too_large;
+use crate::typed::{Operand, Operator, Typed, highest, operation, signed};
 use aud_syntax::tree::{
     Added, Adding, Chain, Comparison, Connective, Expression, Factor, Ident, Literal, Multiplied,
     Multiplying, Name, NamePart, Number, Primary, Relation, Simple, Term,
 };
 use aud_text::place::Pos;
-use aud_typed::program::{Binary, BooleanExpression, IntegerExpression, TextExpression};
+use aud_typed::program::{Binary, IntegerExpression, TextExpression};
 use std::alloc::Global;
 
 /// Where a primary begins.
@@ -51,7 +50,7 @@ fn term_at(term: &Term) -> Pos
     factor_at(&term.first)
 }
 
-fn simple_at(simple: &Simple) -> Pos
+pub fn simple_at(simple: &Simple) -> Pos
     ensures { result ≡ simple_at (plain_simple simple.now) }
 {
     match &simple.sign {
@@ -124,56 +123,36 @@ fn literal_value(alloc: Global, literal: &Literal) -> Left<Typed>
     boxed(alloc, Typed::Text(TextExpression::Literal(text)))
 }
 
-// Notes where what is read has no value (RM 4.1, 4.4).
-fn check_name(meaning: Option<Meaning>, at: Pos, faults: &mut Least)
-    ensures { faults.new ≡ noted faults.old (name_faults meaning at) }
-{
-    match meaning {
-        None | Some(Meaning::Object(_) | Meaning::Literal(_)) => {}
-        Some(Meaning::ScalarType(_) | Meaning::Builtin(_) | Meaning::MainProcedure) => {
-            wrong_kind_of_name(at, faults);
-        }
-    }
-}
-
-fn value_read(meaning: Option<Meaning>) -> Typed
-    ensures { plain_typed result ≡ value_read meaning }
-{
-    match meaning {
-        Some(Meaning::Object(object)) => stored(object.variable, object.subtype),
-        Some(Meaning::Literal(value)) => Typed::Truth(BooleanExpression::Truth(value)),
-        _ => Typed::Unknown,
-    }
-}
-
-// A name as a primary.
+// A name as a primary, whose last argument is typed.
 #[tactic(auto, using(crate::proofs::Notes::noted_append))]
 #[inline(never)]
-fn name_value(name: &Name, scope: &Scope<'_>, faults: &mut Least) -> Left<Typed>
-    ensures { let read = resolved (plain_name name.now) scope.now in
-        Shows result faults.old faults.new (after read.faults (checked_name read.denoted)) }
+fn name_value(name: &Name, last: Box<Typed>, scope: &Scope<'_>, faults: &mut Least) -> Left<Typed>
+    ensures { Shows result faults.old faults.new
+        (checked_name (denoting (plain_name name.now) (plain_typed last.value) scope.now)) }
 {
-    let denoted = resolve(name, scope, faults);
-    check_name(denoted.meaning, denoted.at, faults);
-    boxed(scope.alloc(), value_read(denoted.meaning))
+    let read = name_denotes(name, last, scope, faults);
+    check_name(&read.entity, read.at, faults);
+    let value = value_read(scope.alloc(), read.entity)?;
+    boxed(scope.alloc(), value)
 }
 
-// An attribute of what a name denotes.
+// An attribute of what a name denotes whose last argument is typed.
 #[tactic(auto, using(crate::proofs::Notes::noted_append))]
 #[inline(never)]
 fn name_attribute(
     prefix: &Name,
+    last: Box<Typed>,
     designator: &Ident,
     argument: Option<Operand>,
     scope: &Scope<'_>,
     faults: &mut Least,
 ) -> Left<Typed>
-    ensures { let read = resolved (plain_name prefix.now) scope.now in
-        Shows result faults.old faults.new (after read.faults
-        (checked_attribute read.denoted designator.now (plain_argument argument))) }
+    ensures { Shows result faults.old faults.new (checked_attribute
+        (denoting (plain_name prefix.now) (plain_typed last.value) scope.now)
+        designator.now (plain_argument argument)) }
 {
-    let denoted = resolve(prefix, scope, faults);
-    let typed = attribute_value(denoted, designator, argument, faults);
+    let prefix = name_denotes(prefix, last, scope, faults);
+    let typed = attribute_value(scope.alloc(), prefix, designator, argument, faults)?;
     boxed(scope.alloc(), typed)
 }
 
@@ -220,19 +199,17 @@ fn primary(primary: &Primary, scope: &Scope<'_>, faults: &mut Least) -> Left<Typ
         Primary::Text(literal) => literal_value(scope.alloc(), literal),
         Primary::Name(name) => {
             let last = arguments(name, scope, faults)?;
-            drop(last);
-            name_value(name, scope, faults)
+            name_value(name, last, scope, faults)
         }
         Primary::Attribute(prefix, designator, argument) => {
             let last = arguments(prefix, scope, faults)?;
-            drop(last);
             match argument {
-                None => name_attribute(prefix, designator, None, scope, faults),
+                None => name_attribute(prefix, last, designator, None, scope, faults),
                 Some(e) => {
                     let typed = expression(e, scope, faults)?;
                     let at = expression_at(e);
                     let argument = Some(Operand { at, typed });
-                    name_attribute(prefix, designator, argument, scope, faults)
+                    name_attribute(prefix, last, designator, argument, scope, faults)
                 }
             }
         }
@@ -303,7 +280,7 @@ fn added(added: &Added, scope: &Scope<'_>, left: Operand, faults: &mut Least) ->
 }
 
 #[cycle(expression)]
-fn simple(e: &Simple, scope: &Scope<'_>, faults: &mut Least) -> Left<Typed>
+pub fn simple(e: &Simple, scope: &Scope<'_>, faults: &mut Least) -> Left<Typed>
     ensures { Shows result faults.old faults.new (checked_simple (plain_simple e.now) scope.now) }
 {
     let typed = term(&e.first, scope, faults)?;

@@ -1,13 +1,12 @@
 // The names that a declaration hides.
 
-ghost use Rattle.std.specs.Prelude.{◌≡◌, List, IfOk};
+ghost use Rattle.std.specs.Prelude.{◌≡◌, ◌∷◌, List, IfOk};
 ghost use Rattle.aud_syntax.specs.declared.tree.Ident.{Ident};
 ghost use Rattle.aud_check.specs.Names.{is_hidden};
 ghost use Rattle.aud_check.specs.Ties.Hidden.{IsSetOf};
-ghost use Rattle.aud_check.specs.Ties.Regions.{names_in};
 
 use crate::behind::Made;
-use aud_syntax::tree::{Ident, Identifiers};
+use aud_syntax::tree::Ident;
 use aud_text::name::Name;
 use indexmap::IndexSet;
 use std::alloc::Global;
@@ -16,33 +15,34 @@ use std::marker::Model;
 /// The names of a declaration, which are hidden from all visibility until it ends (RM 8.3(16, 17)).
 #[derive(Drop)]
 pub struct Hidden<'a> {
-    names: &'a Identifiers,
-    // Those behind the first one. In a set, so that the time for a name does not grow with their number.
-    others: IndexSet<&'a Name>,
+    first: &'a Ident,
+    others: &'a [Ident],
+    // The names of the others. In a set, so that the time for a name does not grow with their number.
+    set: IndexSet<&'a Name>,
 }
 
 impl<'a> Model for Hidden<'a> {
     ghost Value = { List Ident };
 
-    ghost view = { λ hidden. names_in hidden.names.now };
+    ghost view = { λ hidden. hidden.first.now ∷ hidden.others.now };
 
-    ghost invariant = { λ hidden. IsSetOf hidden.names.now.others.items hidden.others.keys };
+    ghost invariant = { λ hidden. IsSetOf hidden.others.now hidden.set.keys };
 }
 
 impl<'a> Hidden<'a> {
     /// The names of a declaration.
-    pub fn new(alloc: Global, names: &'a Identifiers) -> Made<Self>
-        ensures { IfOk result (λ hidden. hidden ≡ names_in names.now) }
+    pub fn new(alloc: Global, first: &'a Ident, others: &'a [Ident]) -> Made<Self>
+        ensures { IfOk result (λ hidden. hidden ≡ first.now ∷ others.now) }
     {
-        let others = set_of(alloc, &names.others)?;
-        Ok(Hidden { names, others })
+        let set = set_of(alloc, others)?;
+        Ok(Hidden { first, others, set })
     }
 
     /// Whether the declaration has this name.
     pub fn has(&self, name: &Name) -> bool
         ensures { result ≡ is_hidden name.now self.now }
     {
-        *name == self.names.first.name || self.others.contains(&name)
+        *name == self.first.name || self.set.contains(&name)
     }
 }
 

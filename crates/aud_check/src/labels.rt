@@ -1,41 +1,65 @@
-// The labels of loops.
+// The labels of loops and blocks.
 
-ghost use Rattle.std.specs.Prelude.{◌≡◌, ◌∷◌, position, IfOk};
-ghost use Rattle.aud_check.specs.Labels.{is_left};
-ghost use Rattle.aud_check.specs.Statements.{loop_at};
-ghost use Rattle.aud_check.specs.Ties.Labels.{plain_labels};
+ghost use Rattle.std.specs.Prelude.{◌≡◌, ◌∷◌, IfOk};
+ghost use Rattle.aud_check.specs.Labels.{has_label, is_named, exit_loop};
+ghost use Rattle.aud_check.specs.Statements.{begin_at};
+ghost use Rattle.aud_check.specs.Ties.Labels.{plain_label, plain_labels};
 
 use crate::behind::Made;
 use aud_syntax::tree::Ident;
 use aud_text::place::Pos;
 use std::alloc::Global;
 
-/// Whether an exit leaves a loop with this label, where it stands in that loop (RM 5.7(4)).
-fn is_left(name: &Option<Ident>, label: &Option<Ident>) -> bool
-    ensures { result ≡ is_left name.now label.now }
+/// Of a loop or a block: which of them it is, and its label, if it has one.
+#[derive(Clone, Copy)]
+pub struct Label<'a> {
+    pub is_loop: bool,
+    pub name: &'a Option<Ident>,
+}
+
+fn has_label(name: &Ident, label: &Option<Ident>) -> bool
+    ensures { result ≡ has_label name.now label.now }
 {
-    match (name, label) {
-        (None, _) => true,
-        (Some(name), Some(label)) => name.name == label.name,
-        (Some(_), None) => false,
+    match label {
+        None => false,
+        Some(label) => name.name == label.name,
+    }
+}
+
+// Whether this is what an exit names (RM 5.7(4)).
+fn is_named(name: &Option<Ident>, label: Label<'_>) -> bool
+    ensures { result ≡ is_named name.now (plain_label label.entry) }
+{
+    match name {
+        None => label.is_loop,
+        Some(name) => has_label(name, label.name),
     }
 }
 
 /// How many loops further out than the innermost one the loop is that an exit leaves (RM 5.7(4)).
-pub fn exit_loop(name: &Option<Ident>, labels: &[&Option<Ident>]) -> Option<usize>
-    ensures { result ≡ position (λ label. is_left name.now label.now) labels.now }
+pub fn exit_loop(name: &Option<Ident>, labels: &[Label<'_>]) -> Option<usize>
+    ensures { result ≡ exit_loop name.now (plain_labels labels.now) }
 {
-    labels.iter().position(|label| is_left(name, label))
+    let mut further_out = 0;
+    for label in labels {
+        if is_named(name, *label) {
+            return if label.is_loop {
+                Some(further_out)
+            } else {
+                None
+            };
+        }
+        if label.is_loop {
+            further_out += 1;
+        }
+    }
+    None
 }
 
-/// The labels around the statements of a loop: its own, and those around it.
-pub fn with_label<'a>(
-    alloc: Global,
-    label: &'a Option<Ident>,
-    labels: &[&'a Option<Ident>],
-) -> Made<Vec<&'a Option<Ident>>>
+/// The labels around the statements of a loop or a block: its own, and those around it.
+pub fn with_label<'a>(alloc: Global, label: Label<'a>, labels: &[Label<'a>]) -> Made<Vec<Label<'a>>>
     ensures { IfOk result (λ inner. plain_labels inner.items
-        ≡ label.now ∷ plain_labels labels.now) }
+        ≡ plain_label label.entry ∷ plain_labels labels.now) }
 {
     let mut inner = Vec::with_capacity(alloc, labels.len())?;
     inner.push(label)?;
@@ -43,9 +67,9 @@ pub fn with_label<'a>(
     Ok(inner)
 }
 
-/// Where a loop begins: at its label, if it has one.
-pub fn loop_at(label: &Option<Ident>, at: Pos) -> Pos
-    ensures { result ≡ loop_at label.now at }
+/// Where a loop or a block begins: at its label, if it has one.
+pub fn begin_at(label: &Option<Ident>, at: Pos) -> Pos
+    ensures { result ≡ begin_at label.now at }
 {
     match label {
         None => at,

@@ -1,17 +1,18 @@
 // Names, and what they stand for.
 
-ghost use Rattle.std.specs.Prelude.{◌≡◌, IfOk, is_some};
-ghost use Rattle.aud_check.specs.Names.{Place as Plain, empty_region, named_in, predefined, declared, hiding, is_hidden, visible, main_place};
+ghost use Rattle.std.specs.Prelude.{◌≡◌, ◌+◌, ◌∷◌, [], IfOk, is_some};
+ghost use Rattle.aud_check.specs.Names.{Place as Plain, empty_region, named_in, predefined, declared, hiding, is_hidden, visible, library, outermost, innermost};
 ghost use Rattle.aud_check.specs.Ties.Regions.{plain_region, plain_regions, plain_place, names_in, hidden_names};
 
 use crate::behind::Made;
 use crate::hidden::Hidden;
 use crate::table::listed;
-use aud_syntax::tree::Identifiers;
+use aud_syntax::tree::{Ident, Identifiers};
 use aud_text::name::Name;
-use aud_typed::program::{Subtype, Variable};
+use aud_text::raise::Raise;
+use aud_typed::program::{Exception, Subtype, Variable};
 use indexmap::IndexMap;
-use std::alloc::Global;
+use std::alloc::{AllocError, Global};
 use std::marker::Model;
 
 /// What a visible name stands for (RM 8.3).
@@ -22,6 +23,9 @@ pub enum Meaning {
     /// False or True (RM 3.5.3).
     Literal(bool),
     Object(Object),
+    Array(Array),
+    /// RM 11.1.
+    Exception(Exception),
     Builtin(Builtin),
     MainProcedure,
 }
@@ -32,6 +36,16 @@ pub struct Object {
     pub variable: Variable,
     pub subtype: Option<Subtype>,
     pub constant: bool,
+}
+
+/// An array (RM 3.6): the cell of its first element, its bounds, and the subtype of its elements, which is not
+/// known where its declaration is faulty.
+#[derive(Clone, Copy, PartialEq, Eq, Debug)]
+pub struct Array {
+    pub first: Variable,
+    pub low: i32,
+    pub high: i32,
+    pub subtype: Option<Subtype>,
 }
 
 /// The procedures that put out texts (RM A.10).
@@ -45,108 +59,148 @@ pub enum Builtin {
 /// The names that a region declares, in the order of their declarations, and what they stand for.
 pub type Symbols = IndexMap<Name, Meaning>;
 
-/// A region of declarations (RM 8.1): its names, the cells that its frame has so far, and what allocates
-/// them.
+/// A region of declarations (RM 8.1): its names, how many frames are further out than its own, the cells
+/// and the names of variables and constants that its frame has so far, and what allocates them.
 #[derive(Drop)]
 pub struct Region {
     pub alloc: Global,
     pub symbols: Symbols,
+    pub level: usize,
     pub cells: usize,
-}
-
-/// The regions around a place: the innermost one, and those further out, the next one last. The
-/// predefined names are further out still.
-#[derive(Drop)]
-pub struct Place {
-    pub innermost: Region,
-    pub outer: Vec<Region>,
+    pub names: usize,
 }
 
 impl Region {
-    fn new(alloc: Global) -> Self
-        ensures { plain_region result ≡ empty_region }
+    /// A region with no names yet.
+    pub fn new(alloc: Global, level: usize) -> Self
+        ensures { plain_region result ≡ empty_region level }
     {
         Region {
             alloc,
             symbols: Symbols::new(alloc),
+            level,
             cells: 0,
+            names: 0,
         }
     }
-}
 
-impl Place {
-    /// The place of a main procedure's declarations (RM 10.1.1).
-    pub fn in_main(alloc: Global, main: &Name) -> Made<Self>
-        ensures { IfOk result (λ place. plain_place place ≡ main_place main.now) }
+    /// The region of the library, which has this main procedure (RM 10.1.1).
+    pub fn library(alloc: Global, main: &Name) -> Made<Self>
+        ensures { IfOk result (λ region. plain_region region ≡ library main.now) }
     {
-        let mut library = Region::new(alloc);
+        let mut library = Region::new(alloc, 0);
         let name = main.try_clone(alloc)?;
         library.symbols.insert(name, Meaning::MainProcedure)?;
-        let mut outer = Vec::new(alloc);
-        outer.push(library)?;
-        Ok(Place {
-            innermost: Region::new(alloc),
-            outer,
-        })
-    }
-
-    // What the regions around the place declare a name to be.
-    fn declared(&self, name: &Name) -> Option<Meaning>
-        ensures { result ≡ declared name.now (plain_place self.now).regions }
-    {
-        match self.innermost.symbols.get(name) {
-            Some(meaning) => Some(*meaning),
-            None => declared(&self.outer, name),
-        }
+        Ok(library)
     }
 }
 
-/// What is visible at a place, which may stand within a declaration.
+/// The regions around those of a program's frames: that of the library, and the predefined names further out.
+pub fn regions_of_library<'a>(library: &'a Region) -> Made<Vec<&'a Region>>
+    ensures { IfOk result (λ regions. plain_regions regions.items
+        ≡ plain_region library.now ∷ outermost) }
+{
+    let mut regions = Vec::new(library.alloc);
+    regions.push(library)?;
+    Ok(regions)
+}
+
+/// What is visible at a place, which may stand within a declaration: the innermost region, and those further
+/// out, the next one first. The predefined names are further out still.
 #[derive(Drop)]
 pub struct Scope<'a> {
-    place: &'a Place,
+    innermost: &'a Region,
+    outer: &'a [&'a Region],
     hidden: Option<Hidden<'a>>,
 }
 
 impl<'a> Model for Scope<'a> {
     ghost Value = { Plain };
 
-    ghost view = { λ scope. hiding (hidden_names scope.hidden) (plain_place scope.place.now) };
+    ghost view = { λ scope. hiding (hidden_names scope.hidden)
+        (plain_place scope.innermost.now scope.outer.now) };
 }
 
 impl<'a> Scope<'a> {
-    /// A place behind declarations.
-    pub fn new(place: &'a Place) -> Self
-        ensures { result ≡ plain_place place.now }
+    /// A place behind the declarations of a region.
+    pub fn new(innermost: &'a Region, outer: &'a [&'a Region]) -> Self
+        ensures { result ≡ plain_place innermost.now outer.now }
     {
         Scope {
-            place,
+            innermost,
+            outer,
             hidden: None,
         }
     }
 
-    /// The place within the declaration of these names.
-    pub fn within(place: &'a Place, names: &'a Identifiers) -> Made<Self>
+    /// The place within the declaration of these names in a region.
+    pub fn within(
+        innermost: &'a Region,
+        outer: &'a [&'a Region],
+        names: &'a Identifiers,
+    ) -> Made<Self>
         ensures { IfOk result (λ scope.
-            scope ≡ hiding (names_in names.now) (plain_place place.now)) }
+            scope ≡ hiding (names_in names.now) (plain_place innermost.now outer.now)) }
     {
-        let hidden = Hidden::new(place.innermost.alloc, names)?;
+        let hidden = Hidden::new(innermost.alloc, &names.first, &names.others)?;
         Ok(Scope {
-            place,
+            innermost,
+            outer,
             hidden: Some(hidden),
         })
     }
 
+    /// The place within the declaration of this name alone.
+    pub fn within_one(&self, name: &'a Ident) -> Made<Self>
+        ensures { IfOk result (λ scope. scope ≡ hiding (name.now ∷ []) self.now) }
+    {
+        let hidden = Hidden::new(self.alloc(), name, &[])?;
+        Ok(Scope {
+            innermost: self.innermost,
+            outer: self.outer,
+            hidden: Some(hidden),
+        })
+    }
+
+    /// The region of a frame within the innermost one (RM 5.6, 8.1).
+    pub fn frame(&self) -> Made<Region>
+        ensures { IfOk result (λ region. plain_region region
+            ≡ empty_region ((innermost self.now).level + 1)) }
+    {
+        let level = self.innermost.level.checked_add(1).ok_or(AllocError)?;
+        Ok(Region::new(self.alloc(), level))
+    }
+
+    /// The regions around such a frame.
+    pub fn regions(&self) -> Made<Vec<&'a Region>>
+        ensures { IfOk result (λ regions. plain_regions regions.items ≡ self.now.regions) }
+    {
+        let mut regions = Vec::with_capacity(self.alloc(), self.outer.len())?;
+        regions.push(self.innermost)?;
+        regions.extend_from_slice(self.outer)?;
+        Ok(regions)
+    }
+
     /// What is made for the place is allocated by this.
     pub fn alloc(&self) -> Global {
-        self.place.innermost.alloc
+        self.innermost.alloc
+    }
+
+    // What the regions around the place declare a name to be.
+    fn declared(&self, name: &Name) -> Option<Meaning>
+        ensures { result ≡ declared name.now self.now.regions }
+    {
+        match self.innermost.symbols.get(name) {
+            Some(meaning) => Some(*meaning),
+            None => declared(self.outer, name),
+        }
     }
 
     /// Whether a region around the place declares a name, or the predefined one.
     pub fn is_declared(&self, name: &Name) -> bool
         ensures { result ≡ is_some (declared name.now self.now.regions) }
     {
-        self.place.declared(name).is_some()
+        self.declared(name).is_some()
     }
 
     /// What a name stands for, none where no declaration of it is visible (RM 8.3).
@@ -156,7 +210,7 @@ impl<'a> Scope<'a> {
         if is_hidden(name, &self.hidden) {
             return None;
         }
-        self.place.declared(name)
+        self.declared(name)
     }
 }
 
@@ -170,10 +224,10 @@ fn is_hidden(name: &Name, hidden: &Option<Hidden<'_>>) -> bool
 }
 
 // What regions declare a name to be.
-fn declared(regions: &[Region], name: &Name) -> Option<Meaning>
+fn declared(regions: &[&Region], name: &Name) -> Option<Meaning>
     ensures { result ≡ declared name.now (plain_regions regions.now) }
 {
-    match regions.split_last() {
+    match regions.split_first() {
         None => predefined(name),
         Some((region, further_out)) => match region.symbols.get(name) {
             Some(meaning) => Some(*meaning),
@@ -182,13 +236,29 @@ fn declared(regions: &[Region], name: &Name) -> Option<Meaning>
     }
 }
 
-const PREDEFINED: [(&[u8], Meaning); 9] = [
+const PREDEFINED: [(&[u8], Meaning); 13] = [
     (b"INTEGER", Meaning::ScalarType(Subtype::Integer)),
     (b"NATURAL", Meaning::ScalarType(Subtype::Natural)),
     (b"POSITIVE", Meaning::ScalarType(Subtype::Positive)),
     (b"BOOLEAN", Meaning::ScalarType(Subtype::Boolean)),
     (b"FALSE", Meaning::Literal(false)),
     (b"TRUE", Meaning::Literal(true)),
+    (
+        b"CONSTRAINT_ERROR",
+        Meaning::Exception(Exception::Predefined(Raise::Constraint)),
+    ),
+    (
+        b"PROGRAM_ERROR",
+        Meaning::Exception(Exception::Predefined(Raise::Program)),
+    ),
+    (
+        b"STORAGE_ERROR",
+        Meaning::Exception(Exception::Predefined(Raise::Storage)),
+    ),
+    (
+        b"TASKING_ERROR",
+        Meaning::Exception(Exception::Predefined(Raise::Tasking)),
+    ),
     (b"PUT", Meaning::Builtin(Builtin::Put)),
     (b"PUT_LINE", Meaning::Builtin(Builtin::PutLine)),
     (b"NEW_LINE", Meaning::Builtin(Builtin::NewLine)),

@@ -6,7 +6,7 @@ ghost use Rattle.aud_syntax.specs.Ties.View.{plain_name, plain_part, part_list, 
 ghost use Rattle.aud_check.specs.Least.{noted};
 ghost use Rattle.aud_check.specs.Names.{named_in, predefined};
 ghost use Rattle.aud_check.specs.Rules.{name_not_declared};
-ghost use Rattle.aud_check.specs.Resolution.{resolved, or_in_library, in_library, in_text_io, denoted_by, is_callable, is_plainly, is_text_io, is_last, may_stand, are_none, last_of, last_args};
+ghost use Rattle.aud_check.specs.Resolution.{resolved, or_in_library, in_library, in_text_io, denoted_by, takes_arguments, is_plainly, is_text_io, is_last, may_stand, are_none, last_of, last_args};
 
 use crate::fault::Least;
 use crate::names::{Meaning, Scope, predefined};
@@ -61,19 +61,20 @@ fn is_last(others: &[NamePart]) -> bool
     }
 }
 
-fn is_callable(meaning: Meaning) -> bool
-    ensures { result ≡ is_callable meaning }
+fn takes_arguments(meaning: Meaning) -> bool
+    ensures { result ≡ takes_arguments meaning }
 {
     match meaning {
-        Meaning::Builtin(_) | Meaning::MainProcedure => true,
-        Meaning::ScalarType(_) | Meaning::Literal(_) | Meaning::Object(_) => false,
+        Meaning::Array(_) | Meaning::Builtin(_) | Meaning::MainProcedure => true,
+        Meaning::ScalarType(_) | Meaning::Literal(_) | Meaning::Object(_) | Meaning::Exception(_) =>
+            false,
     }
 }
 
 fn may_stand(meaning: Meaning, part: &NamePart, others: &[NamePart]) -> bool
     ensures { result ≡ may_stand meaning (plain_part part.now) (part_list others.now) }
 {
-    is_last(others) && (is_callable(meaning) || are_none(&part.args))
+    is_last(others) && (takes_arguments(meaning) || are_none(&part.args))
 }
 
 // What a name denotes whose first identifier has this meaning.

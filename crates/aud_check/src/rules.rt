@@ -3,7 +3,7 @@
 ghost use Rattle.std.specs.Prelude.{◌≡◌, not};
 ghost use Rattle.aud_check.specs.Least.{noted};
 ghost use Rattle.aud_check.specs.Names.{is_declared};
-ghost use Rattle.aud_check.specs.Rules.{base_of_subtype, base_asked, name_not_declared, declared_once, wrong_kind_of_name, fits, right_type, wrong_number_of_arguments, not_a_variable, right_name_at_end, right_label_at_end, exit_in_loop, number_too_large};
+ghost use Rattle.aud_check.specs.Rules.{base_of_subtype, base_asked, name_not_declared, declared_once, wrong_kind_of_name, fits, right_type, wrong_number_of_arguments, not_a_variable, right_name_at_end, right_label_at_end, exit_in_loop, raise_in_handler, good_choice, number_too_large};
 
 use crate::fault::Least;
 use crate::names::Symbols;
@@ -115,7 +115,7 @@ pub fn right_name_at_end(name: &Name, last: &Option<Ident>, faults: &mut Least)
     }
 }
 
-/// A labelled loop has its label after `end loop`, another has no name there (RM 5.5(5)).
+/// A labelled loop or block has its label after its end, another has no name there (RM 5.5(5), 5.6(3)).
 pub fn right_label_at_end(
     label: &Option<Ident>,
     last: &Option<Ident>,
@@ -139,6 +139,24 @@ pub fn exit_in_loop(good: bool, at: Pos, faults: &mut Least)
 {
     if !good {
         faults.note(at, Refusal::ExitWithoutLoop);
+    }
+}
+
+/// A raise without a name stands in a handler (RM 11.3(3)).
+pub fn raise_in_handler(good: bool, at: Pos, faults: &mut Least)
+    ensures { faults.new ≡ noted faults.old (raise_in_handler good at) }
+{
+    if !good {
+        faults.note(at, Refusal::RaiseWithoutHandler);
+    }
+}
+
+/// No exception is chosen twice by the handlers of a body, and `others` is chosen last (RM 11.2(5)).
+pub fn good_choice(good: bool, at: Pos, faults: &mut Least)
+    ensures { faults.new ≡ noted faults.old (good_choice good at) }
+{
+    if !good {
+        faults.note(at, Refusal::BadHandlerChoice);
     }
 }
 

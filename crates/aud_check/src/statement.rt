@@ -1,70 +1,39 @@
-// Statements.
+// Statements and bodies.
 
-ghost use Rattle.std.specs.Prelude.{◌≡◌, ◌++◌, is_some, option_map, IfOk};
-ghost use Rattle.aud_syntax.specs.Ties.View.{plain_expression, plain_maybe, plain_statement, plain_others, plain_statements, plain_if_statement, arm_list, plain_iteration, plain_loop_statement};
-ghost use Rattle.aud_typed.specs.Tree.{null, exit, part_of};
-ghost use Rattle.aud_typed.specs.Ties.View.{plain_boolean, plain_statement as plain_typed_statement, statements_in, part_of_arms};
+ghost use Rattle.std.specs.Prelude.{◌≡◌, ◌++◌, is_some, true};
+ghost use Rattle.aud_syntax.specs.Ties.View.{plain_expression, plain_maybe, plain_statement, plain_others, plain_statements, plain_if_statement, arm_list, plain_loop_statement, plain_block_statement, plain_body, handler_list};
+ghost use Rattle.aud_typed.specs.Tree.{exit};
+ghost use Rattle.aud_typed.specs.Ties.View.{plain_statement as plain_typed_statement};
 ghost use Rattle.aud_check.specs.Rules.{exit_in_loop};
-ghost use Rattle.aud_check.specs.Conditions.{condition_faults, maybe_condition_faults, maybe_condition};
-ghost use Rattle.aud_check.specs.Statements.{iteration_faults, loop_condition, looped, loop_number, statements_faults, typed_statements, others_faults, typed_others};
-ghost use Rattle.aud_check.specs.Ties.Arms.{plain_arm, typed_arm, arm_then, LeavesArms};
+ghost use Rattle.aud_check.specs.Conditions.{maybe_condition_faults, maybe_condition};
+ghost use Rattle.aud_check.specs.Statements.{loop_number, labelled, arm_of, checked_statements, checked_others, checked_arms, checked_body, checked_handlers};
+ghost use Rattle.aud_check.specs.Ties.Arms.{plain_arm, plain_arms as plain_typed_arms, plain_handlers, plain_parts};
 ghost use Rattle.aud_check.specs.Ties.Typing.{plain_sequence, plain_items, in_box, Leaves};
-ghost use Rattle.aud_check.specs.Ties.Within.{labels_of, LeavesStatement};
+ghost use Rattle.aud_check.specs.Ties.Within.{around_of, Checks, ChecksStatement};
 
 use crate::assignment::assignment;
 use crate::behind::{Left, Made, both, boxed, push};
 use crate::call::call;
 use crate::condition::{condition, maybe_condition};
+use crate::declaration::{DeclarativePart, declarations};
 use crate::fault::Least;
-use crate::labels::{exit_loop, loop_at, with_label};
+use crate::handler::{all_choices, raise};
+use crate::iteration::{For, bounds, for_of, forever, while_of};
+use crate::labels::{Label, begin_at, exit_loop, with_label};
+use crate::made::{Parts, arm_of, block_of, body_of, handler_of, if_of, in_order, null_at};
 use crate::names::Scope;
 use crate::rules::{exit_in_loop, right_label_at_end};
+use crate::tables::{Tables, loop_region};
 use crate::within::Within;
 use aud_syntax::tree::{
-    Arm, Expression, Ident, IfStatement, Iteration, LoopStatement, Statement, Statements,
+    Arm, BlockStatement, Body, Expression, Handler, IfStatement, Iteration, LoopStatement,
+    Statement, Statements,
 };
 use aud_text::place::Pos;
 use aud_typed::program::{
-    Arm as TypedArm, BooleanExpression, IfStatement as TypedIf, Statement as TypedStatement,
+    Arm as TypedArm, Handler as TypedHandler, Statement as TypedStatement,
     Statements as TypedStatements,
 };
-use std::alloc::Global;
-
-// The condition of a loop, if it has one.
-fn iteration(
-    iteration: &Iteration,
-    scope: &Scope<'_>,
-    faults: &mut Least,
-) -> Made<Option<Box<BooleanExpression>>>
-    ensures { Leaves (option_map (in_box plain_boolean)) result faults.old faults.new
-        (iteration_faults (plain_iteration iteration.now) scope.now)
-        (loop_condition (plain_iteration iteration.now) scope.now) }
-{
-    match iteration {
-        Iteration::Forever => Ok(None),
-        Iteration::While(e) => Ok(Some(condition(e, scope, faults)?)),
-    }
-}
-
-// A loop with these statements.
-#[inline(never)]
-fn looped(
-    alloc: Global,
-    at: Pos,
-    condition: Option<Box<BooleanExpression>>,
-    body: Box<TypedStatements>,
-) -> Left<TypedStatement>
-    ensures { IfOk result (λ typed. plain_typed_statement typed.value
-        ≡ looped at (option_map (in_box plain_boolean) condition) (statements_in body.value)) }
-{
-    match condition {
-        None => boxed(alloc, TypedStatement::Loop(body)),
-        Some(condition) => {
-            let condition = Box::into_inner(condition);
-            boxed(alloc, TypedStatement::While(at, condition, body))
-        }
-    }
-}
 
 // An exit (RM 5.7) of the loop that is this number of loops further out than the innermost one, if there is such a loop.
 #[tactic(auto, using(crate::proofs::Notes::noted_append))]
@@ -88,123 +57,70 @@ fn exit(
     boxed(scope.alloc(), TypedStatement::Exit(at, depth, condition))
 }
 
-// An if statement of its first arm and the others, and the statements behind `else`.
-#[inline(never)]
-fn if_of(
-    alloc: Global,
-    arms: (Box<TypedArm>, Vec<TypedArm>),
-    otherwise: Vec<TypedStatement>,
-) -> Left<TypedStatement>
-    ensures { IfOk result (λ typed. plain_typed_statement typed.value
-        ≡ arm_then (plain_arm arms.0.value)
-        (part_of_arms arms.1.items (part_of (plain_items otherwise)))) }
-{
-    let (first, others) = arms;
-    let first = Box::into_inner(first);
-    let statement = boxed(
-        alloc,
-        TypedIf {
-            first,
-            others,
-            otherwise,
-        },
-    )?;
-    boxed(alloc, TypedStatement::If(statement))
-}
-
-// An arm of its parts.
-#[inline(never)]
-fn arm_of(
-    alloc: Global,
-    at: Pos,
-    condition: Box<BooleanExpression>,
-    statements: Box<TypedStatements>,
-) -> Left<TypedArm>
-    ensures { IfOk result (λ arm. plain_arm arm.value
-        ≡ record {
-          at = at;
-          condition = plain_boolean condition.value;
-          statements = statements_in statements.value;
-        }) }
-{
-    let condition = Box::into_inner(condition);
-    let statements = Box::into_inner(statements);
-    boxed(
-        alloc,
-        TypedArm {
-            at,
-            condition,
-            statements,
-        },
-    )
-}
-
-// A statement, and those behind it.
-#[inline(never)]
-fn in_order(
-    alloc: Global,
-    first: Box<TypedStatement>,
-    others: Vec<TypedStatement>,
-) -> Left<TypedStatements>
-    ensures { IfOk result (λ typed. plain_sequence typed.value
-        ≡ record { first = plain_typed_statement first.value; others = plain_items others }) }
-{
-    let first = Box::into_inner(first);
-    boxed(alloc, TypedStatements { first, others })
-}
-
-#[inline(never)]
-fn null_at(alloc: Global, at: Pos) -> Left<TypedStatement>
-    ensures { IfOk result (λ typed. plain_typed_statement typed.value ≡ null at) }
-{
-    boxed(alloc, TypedStatement::Null(at))
-}
-
 // What is left of a statement.
 type Stated = Left<TypedStatement>;
 
-// A statement (RM 5.1) in loops with these labels, the innermost one's first.
+// A statement (RM 5.1) among these constructs.
 #[cycle(statement)]
-fn statement<'a>(statement: &'a Statement, within: Within<'_, 'a>, faults: &mut Least) -> Stated
-    ensures { LeavesStatement result faults.old faults.new
+fn statement<'a>(
+    statement: &'a Statement,
+    within: Within<'_, 'a>,
+    tables: &mut Tables,
+    faults: &mut Least,
+) -> Stated
+    ensures { ChecksStatement result faults.old faults.new tables.old tables.new
         (plain_statement statement.now) within.entry }
 {
+    let scope = within.scope;
     match statement {
-        Statement::Null(at) => null_at(within.scope.alloc(), *at),
-        Statement::Assign(target, value) => assignment(target, value, within.scope, faults),
-        Statement::Call(name) => call(name, within.scope, faults),
-        Statement::If(statement) => if_statement(statement, within, faults),
-        Statement::Loop(statement) => loop_statement(statement, within, faults),
+        Statement::Null(at) => null_at(scope.alloc(), *at),
+        Statement::Assign(target, value) => assignment(target, value, scope, faults),
+        Statement::Call(name) => call(name, scope, faults),
+        Statement::If(statement) => if_statement(statement, within, tables, faults),
+        Statement::Loop(statement) => loop_statement(statement, within, tables, faults),
+        Statement::Block(statement) => block_statement(statement, within, tables, faults),
         Statement::Exit(at, name, condition) => {
             let found = exit_loop(name, within.labels);
-            exit(*at, found, condition, within.scope, faults)
+            exit(*at, found, condition, scope, faults)
         }
+        Statement::Raise(at, name) => raise(*at, name, within.in_handler, scope, faults),
     }
 }
 
 // An if statement (RM 5.3).
 #[cycle(statement)]
 #[inline(never)]
-fn if_statement<'a>(node: &'a IfStatement, within: Within<'_, 'a>, faults: &mut Least) -> Stated
-    ensures { LeavesStatement result faults.old faults.new
+fn if_statement<'a>(
+    node: &'a IfStatement,
+    within: Within<'_, 'a>,
+    tables: &mut Tables,
+    faults: &mut Least,
+) -> Stated
+    ensures { ChecksStatement result faults.old faults.new tables.old tables.new
         (plain_if_statement node.now) within.entry }
 {
-    let first = arm(&node.first, within, faults)?;
-    let arms = both(first, arms(&node.others, within, faults))?;
-    let otherwise = more_statements(&node.otherwise, within, faults);
+    let first = arm(&node.first, within, tables, faults)?;
+    let arms = both(first, arms(&node.others, within, tables, faults))?;
+    let otherwise = more_statements(&node.otherwise, within, tables, faults);
     let (arms, otherwise) = both(arms, otherwise)?;
     if_of(within.scope.alloc(), arms, otherwise)
 }
 
 // The arms behind each `elsif`.
 #[cycle(statement)]
-fn arms<'a>(arms: &'a [Arm], within: Within<'_, 'a>, faults: &mut Least) -> Made<Vec<TypedArm>>
-    ensures { LeavesArms result faults.old faults.new
-        (arm_list arms.now) (labels_of within.entry) within.entry.scope.now }
+fn arms<'a>(
+    arms: &'a [Arm],
+    within: Within<'_, 'a>,
+    tables: &mut Tables,
+    faults: &mut Least,
+) -> Made<Vec<TypedArm>>
+    ensures { Checks plain_typed_arms result faults.old faults.new tables.new
+        (checked_arms (arm_list arms.now) (around_of within.entry) within.entry.scope.now
+        tables.old) }
 {
     let mut typed = Vec::with_capacity(within.scope.alloc(), arms.len())?;
     for next in arms {
-        push(&mut typed, arm(next, within, faults)?)?;
+        push(&mut typed, arm(next, within, tables, faults)?)?;
     }
     Ok(typed)
 }
@@ -212,58 +128,205 @@ fn arms<'a>(arms: &'a [Arm], within: Within<'_, 'a>, faults: &mut Least) -> Made
 // A condition, and the statements that are done where it is true.
 #[tactic(auto, using(crate::proofs::Notes::noted_append))]
 #[cycle(statement)]
-fn arm<'a>(arm: &'a Arm, within: Within<'_, 'a>, faults: &mut Least) -> Left<TypedArm>
-    ensures { Leaves (in_box plain_arm) result faults.old faults.new
-        (condition_faults (plain_expression arm.now.condition) within.entry.scope.now
-        ++ statements_faults (plain_statements arm.now.statements)
-        (labels_of within.entry) within.entry.scope.now)
-        (typed_arm arm.now (labels_of within.entry) within.entry.scope.now) }
+fn arm<'a>(
+    arm: &'a Arm,
+    within: Within<'_, 'a>,
+    tables: &mut Tables,
+    faults: &mut Least,
+) -> Left<TypedArm>
+    ensures { Checks (in_box plain_arm) result faults.old faults.new tables.new
+        (arm_of arm.now.at (plain_expression arm.now.condition) within.entry.scope.now
+        (checked_statements (plain_statements arm.now.statements) (around_of within.entry)
+        within.entry.scope.now tables.old)) }
 {
     let condition = condition(&arm.condition, within.scope, faults)?;
-    let statements = statements(&arm.statements, within, faults);
+    let statements = statements(&arm.statements, within, tables, faults);
     let (condition, statements) = both(condition, statements)?;
     arm_of(within.scope.alloc(), arm.at, condition, statements)
 }
 
 // A loop (RM 5.5), whose statements see its label.
-#[tactic(auto, using(crate::proofs::Notes::noted_append))]
 #[cycle(statement)]
 #[inline(never)]
-fn loop_statement<'a>(node: &'a LoopStatement, within: Within<'_, 'a>, faults: &mut Least) -> Stated
-    ensures { LeavesStatement result faults.old faults.new
+fn loop_statement<'a>(
+    node: &'a LoopStatement,
+    within: Within<'_, 'a>,
+    tables: &mut Tables,
+    faults: &mut Least,
+) -> Stated
+    ensures { ChecksStatement result faults.old faults.new tables.old tables.new
         (plain_loop_statement node.now) within.entry }
 {
-    let label = &node.label;
-    right_label_at_end(label, &node.name, node.semicolon, faults);
     let scope = within.scope;
-    let labels = with_label(scope.alloc(), label, within.labels)?;
-    let condition = iteration(&node.iteration, scope, faults)?;
-    let inner = Within {
-        scope,
-        labels: &labels,
-    };
-    let body = statements(&node.statements, inner, faults);
-    let (condition, body) = both(condition, body)?;
-    looped(scope.alloc(), loop_at(label, node.at), condition, body)
+    let at = begin_at(&node.label, node.at);
+    right_label_at_end(&node.label, &node.name, node.semicolon, faults);
+    match &node.iteration {
+        Iteration::Forever => {
+            let body = loop_body(node, within, tables, faults)?;
+            forever(scope.alloc(), body)
+        }
+        Iteration::While(e) => {
+            let condition = condition(e, scope, faults)?;
+            let body = loop_body(node, within, tables, faults);
+            let (condition, body) = both(condition, body)?;
+            while_of(scope.alloc(), at, condition, body)
+        }
+        Iteration::For(parameter) => {
+            let bounds = bounds(parameter, scope, faults)?;
+            let outer = scope.regions()?;
+            let own = loop_region(&parameter.name, scope)?;
+            let region = tables.enter(&own)?;
+            let inner = Within {
+                scope: &Scope::new(&own, &outer),
+                labels: within.labels,
+                in_handler: within.in_handler,
+            };
+            let body = loop_body(node, inner, tables, faults);
+            let (bounds, body) = both(bounds, body)?;
+            let head = For {
+                at,
+                next_at: node.at,
+                region,
+                backward: parameter.reverse,
+            };
+            for_of(scope.alloc(), head, bounds, body)
+        }
+    }
 }
 
-/// Checks a sequence of statements (RM 5.1(2)) in loops with these labels, the innermost one's first:
-/// notes its faults, and answers what is left of it.
-#[tactic(auto, using(crate::proofs::Notes::noted_append))]
+// The statements of a loop.
 #[cycle(statement)]
-pub fn statements<'a>(
-    statements: &'a Statements,
+fn loop_body<'a>(
+    node: &'a LoopStatement,
     within: Within<'_, 'a>,
+    tables: &mut Tables,
     faults: &mut Least,
 ) -> Left<TypedStatements>
-    ensures { Leaves (in_box plain_sequence) result faults.old faults.new
-        (statements_faults (plain_statements statements.now)
-        (labels_of within.entry) within.entry.scope.now)
-        (typed_statements (plain_statements statements.now)
-        (labels_of within.entry) within.entry.scope.now) }
+    ensures { Checks (in_box plain_sequence) result faults.old faults.new tables.new
+        (checked_statements (plain_statements node.now.statements)
+        (labelled true node.now.label (around_of within.entry)) within.entry.scope.now
+        tables.old) }
 {
-    let first = statement(&statements.first, within, faults)?;
-    let others = more_statements(&statements.others, within, faults);
+    let label = Label {
+        is_loop: true,
+        name: &node.label,
+    };
+    let labels = with_label(within.scope.alloc(), label, within.labels)?;
+    let inner = Within {
+        scope: within.scope,
+        labels: &labels,
+        in_handler: within.in_handler,
+    };
+    statements(&node.statements, inner, tables, faults)
+}
+
+// A block (RM 5.6), whose statements see its declarations and its label.
+#[cycle(statement)]
+#[inline(never)]
+fn block_statement<'a>(
+    node: &'a BlockStatement,
+    within: Within<'_, 'a>,
+    tables: &mut Tables,
+    faults: &mut Least,
+) -> Stated
+    ensures { ChecksStatement result faults.old faults.new tables.old tables.new
+        (plain_block_statement node.now) within.entry }
+{
+    let alloc = within.scope.alloc();
+    right_label_at_end(&node.label, &node.body.name, node.body.semicolon, faults);
+    let outer = within.scope.regions()?;
+    let mut part = DeclarativePart {
+        region: within.scope.frame()?,
+        elaborations: Vec::new(alloc),
+    };
+    declarations(
+        &node.declarations,
+        &outer,
+        &mut part,
+        &mut tables.exceptions,
+        faults,
+    )?;
+    let DeclarativePart {
+        region,
+        elaborations,
+    } = part;
+    let number = tables.enter(&region)?;
+    let label = Label {
+        is_loop: false,
+        name: &node.label,
+    };
+    let labels = with_label(alloc, label, within.labels)?;
+    let inner = Within {
+        scope: &Scope::new(&region, &outer),
+        labels: &labels,
+        in_handler: within.in_handler,
+    };
+    let parts = body(&node.body, inner, tables, faults);
+    let (elaborations, parts) = both(elaborations, parts)?;
+    let body = body_of(&node.body, elaborations, parts);
+    block_of(alloc, begin_at(&node.label, node.at), number, body)
+}
+
+/// Checks the statements and handlers of a body (RM 11.2): notes their faults, and answers what is left of
+/// them.
+#[cycle(statement)]
+pub fn body<'a>(
+    node: &'a Body,
+    within: Within<'_, 'a>,
+    tables: &mut Tables,
+    faults: &mut Least,
+) -> Made<Parts>
+    ensures { Checks plain_parts result faults.old faults.new tables.new
+        (checked_body (plain_body node.now) (around_of within.entry) within.entry.scope.now
+        tables.old) }
+{
+    let statements = statements(&node.statements, within, tables, faults)?;
+    let chosen = all_choices(&node.handlers, within.scope, faults);
+    let (statements, ()) = both(statements, chosen)?;
+    let inner = Within {
+        scope: within.scope,
+        labels: within.labels,
+        in_handler: true,
+    };
+    let handlers = handlers(&node.handlers, inner, tables, faults);
+    both(statements, handlers)
+}
+
+// The handlers of a body.
+#[cycle(statement)]
+fn handlers<'a>(
+    handlers: &'a [Handler],
+    within: Within<'_, 'a>,
+    tables: &mut Tables,
+    faults: &mut Least,
+) -> Made<Vec<TypedHandler>>
+    ensures { Checks plain_handlers result faults.old faults.new tables.new
+        (checked_handlers (handler_list handlers.now) (around_of within.entry)
+        within.entry.scope.now tables.old) }
+{
+    let scope = within.scope;
+    let mut typed = Vec::with_capacity(scope.alloc(), handlers.len())?;
+    for next in handlers {
+        let statements = statements(&next.statements, within, tables, faults)?;
+        push(&mut typed, handler_of(&next.choices, scope, statements)?)?;
+    }
+    Ok(typed)
+}
+
+// A sequence of statements (RM 5.1(2)).
+#[cycle(statement)]
+fn statements<'a>(
+    statements: &'a Statements,
+    within: Within<'_, 'a>,
+    tables: &mut Tables,
+    faults: &mut Least,
+) -> Left<TypedStatements>
+    ensures { Checks (in_box plain_sequence) result faults.old faults.new tables.new
+        (checked_statements (plain_statements statements.now) (around_of within.entry)
+        within.entry.scope.now tables.old) }
+{
+    let first = statement(&statements.first, within, tables, faults)?;
+    let others = more_statements(&statements.others, within, tables, faults);
     let (first, others) = both(first, others)?;
     in_order(within.scope.alloc(), first, others)
 }
@@ -272,15 +335,16 @@ pub fn statements<'a>(
 fn more_statements<'a>(
     others: &'a [Statement],
     within: Within<'_, 'a>,
+    tables: &mut Tables,
     faults: &mut Least,
 ) -> Made<Vec<TypedStatement>>
-    ensures { Leaves plain_items result faults.old faults.new
-        (others_faults (plain_others others.now) (labels_of within.entry) within.entry.scope.now)
-        (typed_others (plain_others others.now) (labels_of within.entry) within.entry.scope.now) }
+    ensures { Checks plain_items result faults.old faults.new tables.new
+        (checked_others (plain_others others.now) (around_of within.entry)
+        within.entry.scope.now tables.old) }
 {
     let mut typed = Vec::with_capacity(within.scope.alloc(), others.len())?;
     for next in others {
-        push(&mut typed, statement(next, within, faults)?)?;
+        push(&mut typed, statement(next, within, tables, faults)?)?;
     }
     Ok(typed)
 }

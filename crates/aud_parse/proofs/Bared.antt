@@ -5,12 +5,13 @@ use Rattle.aud_text.specs.declared.place.Pos.{Pos}
 use Rattle.aud_lex.specs.declared.token.Kind.TheVariants as kind
 use Rattle.aud_lex.specs.Element.{Element}
 use Rattle.aud_syntax.specs.declared.tree.Ident.{Ident}
+use Rattle.aud_syntax.specs.declared.tree.Number.{Number}
 use Rattle.aud_syntax.specs.declared.tree.Sign.TheVariants as sign
 use Rattle.aud_syntax.specs.declared.tree.Highest.TheVariants as highest
 use Rattle.aud_syntax.specs.declared.tree.Connective.{Connective}
 use Rattle.aud_syntax.specs.declared.tree.Connective.TheVariants as connective
 use Rattle.aud_syntax.specs.Plain as m
-use Rattle.aud_syntax.specs.Why.Bare.{nowhere, bare_ident, bare_number, bare_literal, bare_signed, bare_operator, bare_sign, bare_highest, bare_end, bare_expression, bare_relation, bare_relations, bare_name, bare_part, bare_parts, bare_args, bare_simple, bare_addeds, bare_added, bare_term, bare_multiplieds, bare_multiplied, bare_factor, bare_primary, bare_maybe, bare_declaration, bare_declarations, bare_statement, bare_more_statements, bare_statements, bare_body, bare_context, bare, bare_arms, bare_iteration}
+use Rattle.aud_syntax.specs.Why.Bare.{nowhere, bare_ident, bare_number, bare_literal, bare_signed, bare_operator, bare_sign, bare_highest, bare_end, bare_expression, bare_relation, bare_relations, bare_name, bare_part, bare_parts, bare_args, bare_simple, bare_addeds, bare_added, bare_term, bare_multiplieds, bare_multiplied, bare_factor, bare_primary, bare_maybe, bare_declaration, bare_declarations, bare_statement, bare_more_statements, bare_statements, bare_body, bare_context, bare, bare_arms, bare_iteration, bare_bound, bare_choices, bare_handlers}
 use Rattle.aud_parse.specs.Grammar as g
 use Rattle.aud_parse.specs.Grammar.{Phrase, Symbol, T, P, N, L, Down, A, Opt, Rep, rule}
 use Rattle.aud_parse.specs.Actions as a
@@ -55,10 +56,18 @@ bare_item (a.a_statement x) = a.a_statement (bare_statement x)
 bare_item (a.some_statements x) = a.some_statements (bare_statements x)
 bare_item (a.an_arm at e x) = a.an_arm nowhere (bare_expression e) (bare_statements x)
 bare_item (a.an_iteration at x) = a.an_iteration nowhere (bare_iteration x)
+bare_item a.there = a.there
+bare_item (a.a_declare at x) = a.a_declare nowhere (bare_declarations x)
+bare_item (a.some_choices x) = a.some_choices (bare_choices x)
+bare_item (a.a_handler c x) = a.a_handler (bare_choices c) (bare_statements x)
 bare_item (a.a_body x) = a.a_body (bare_body x)
 bare_item (a.some_names x xs) = a.some_names (bare_ident x) (map bare_ident xs)
 bare_item (a.a_variable x e) = a.a_variable (bare_ident x) (bare_maybe e)
 bare_item (a.a_constant x e) = a.a_constant (bare_ident x) (bare_expression e)
+bare_item (a.a_bound x) = a.a_bound (bare_bound x)
+bare_item (a.an_index x y) = a.an_index (bare_bound x) (bare_bound y)
+bare_item (a.an_array x y i) = a.an_array (bare_bound x) (bare_bound y) (bare_ident i)
+bare_item a.an_exception = a.an_exception
 bare_item (a.a_declaration x) = a.a_declaration (bare_declaration x)
 bare_item (a.a_context x) = a.a_context (bare_context x)
 bare_item (a.a_unit x) = a.a_unit (bare x)
@@ -79,6 +88,22 @@ bare_opening _ = refl
 bare_the_ident : (x : Item) → a.the_ident (bare_item x) ≡ bare_ident (a.the_ident x)
 bare_the_ident (a.an_ident y) = refl
 bare_the_ident _ = refl
+
+bare_is_there : (x : Item) → a.is_there (bare_item x) ≡ a.is_there x
+bare_is_there a.there = refl
+bare_is_there _ = refl
+
+bare_the_bound : (x : Item) → a.the_bound (bare_item x) ≡ bare_bound (a.the_bound x)
+bare_the_bound (a.a_bound y) = refl
+bare_the_bound _ = refl
+
+bare_low : (x : Item) → a.low (bare_item x) ≡ bare_bound (a.low x)
+bare_low (a.an_index y z) = refl
+bare_low _ = refl
+
+bare_high : (x : Item) → a.high (bare_item x) ≡ bare_bound (a.high x)
+bare_high (a.an_index y z) = refl
+bare_high _ = refl
 
 bare_opt_ident : (x : Item) → a.opt_ident (bare_item x) ≡ bare_end (a.opt_ident x)
 bare_opt_ident (a.an_ident y) = refl
@@ -184,6 +209,18 @@ bare_the_declaration : (x : Item) → a.the_declaration (bare_item x) ≡ bare_d
 bare_the_declaration (a.a_declaration y) = refl
 bare_the_declaration _ = refl
 
+bare_the_choices : (x : Item) → a.the_choices (bare_item x) ≡ bare_choices (a.the_choices x)
+bare_the_choices (a.some_choices y) = refl
+bare_the_choices _ = refl
+
+bare_with_handler : (x : Item) (xs : m.Handlers) → a.with_handler (bare_item x) (bare_handlers xs) ≡ bare_handlers (a.with_handler x xs)
+bare_with_handler (a.a_handler c y) xs = refl
+bare_with_handler _ xs = refl
+
+bare_the_handlers : (x : Item) → a.the_handlers (bare_item x) ≡ bare_handlers (a.the_handlers x)
+bare_the_handlers (cons x y) = ap (λ z. a.with_handler (bare_item x) z) (bare_the_handlers y) ∙ bare_with_handler x (a.the_handlers y)
+bare_the_handlers _ = refl
+
 bare_the_body : (x : Item) → a.the_body (bare_item x) ≡ bare_body (a.the_body x)
 bare_the_body (a.a_body y) = refl
 bare_the_body _ = refl
@@ -239,6 +276,8 @@ bare_the_contexts _ = refl
 bare_declared : (i : Ident) (is : List Ident) (x : Item) → a.declared (bare_ident i) (map bare_ident is) (bare_item x) ≡ bare_declaration (a.declared i is x)
 bare_declared i is (a.a_variable j e) = refl
 bare_declared i is (a.a_constant j e) = refl
+bare_declared i is (a.an_array x y j) = refl
+bare_declared i is a.an_exception = refl
 bare_declared i is _ = refl
 
 bare_with_attribute : (n : m.Name) (x : Item) → a.with_attribute (bare_name n) (bare_item x) ≡ bare_primary (a.with_attribute n x)
@@ -277,8 +316,24 @@ bare_loop_place : (x y : Item) → a.loop_place (bare_item x) (bare_item y) ≡ 
 bare_loop_place (a.an_iteration at z) y = refl
 bare_loop_place _ y = bare_place y
 
+bare_block_declarations : (x : Item) → a.block_declarations (bare_item x) ≡ bare_declarations (a.block_declarations x)
+bare_block_declarations (a.a_declare at y) = refl
+bare_block_declarations _ = refl
+
+bare_is_declare : (x : Item) → a.is_declare (bare_item x) ≡ a.is_declare x
+bare_is_declare (a.a_declare at y) = refl
+bare_is_declare _ = refl
+
+bare_begin : (x : m.Body) → a.begin_of (bare_body x) ≡ nowhere
+bare_begin (m.body begin _ _ _ _ _) = refl
+
+bare_block_place : (x : Item) (y : m.Body) → a.block_place (bare_item x) (bare_body y) ≡ nowhere
+bare_block_place (a.a_declare at z) y = refl
+bare_block_place _ y = bare_begin y
+
 bare_labelled : (i : Ident) (x : m.Statement) → a.labelled (bare_ident i) (bare_statement x) ≡ bare_statement (a.labelled i x)
 bare_labelled i (m.loop label at x statements end semicolon) = refl
+bare_labelled i (m.block label at declare ds x) = refl
 bare_labelled i _ = refl
 
 bare_begun : (i : Ident) (x : Item) → a.begun (bare_ident i) (bare_item x) ≡ bare_statement (a.begun i x)
@@ -330,6 +385,17 @@ made_5 f h st =
     let four : List Item = pop three in
     cc (h (top st) (top one) (top two) (top three) (top four), bare_top st, bare_pop st, bare_top one, bare_pop one, bare_top two, bare_pop two, bare_top three, bare_pop three, bare_top four, bare_pop four)
 
+made_6 : (f : Item → Item → Item → Item → Item → Item → Item) → ((x y u v w z : Item) → f (bare_item x) (bare_item y) (bare_item u) (bare_item v) (bare_item w) (bare_item z) ≡ bare_item (f x y u v w z)) → (st : List Item) →
+    bares (f (top st) (top (pop st)) (top (pop (pop st))) (top (pop (pop (pop st)))) (top (pop (pop (pop (pop st))))) (top (pop (pop (pop (pop (pop st)))))) ∷ pop (pop (pop (pop (pop (pop st))))))
+    ≡ f (top (bares st)) (top (pop (bares st))) (top (pop (pop (bares st)))) (top (pop (pop (pop (bares st))))) (top (pop (pop (pop (pop (bares st)))))) (top (pop (pop (pop (pop (pop (bares st))))))) ∷ pop (pop (pop (pop (pop (pop (bares st))))))
+made_6 f h st =
+    let one : List Item = pop st in
+    let two : List Item = pop one in
+    let three : List Item = pop two in
+    let four : List Item = pop three in
+    let five : List Item = pop four in
+    cc (h (top st) (top one) (top two) (top three) (top four) (top five), bare_top st, bare_pop st, bare_top one, bare_pop one, bare_top two, bare_pop two, bare_top three, bare_pop three, bare_top four, bare_pop four, bare_top five, bare_pop five)
+
 bare_chained : (operator : Connective) (st : List Item) → bares (a.chained operator st) ≡ a.chained operator (bares st)
 bare_chained operator = made_2 (λ x y. a.a_chain operator (a.the_relation x) (a.the_relations y)) (λ x y. cc (bare_the_relation x, bare_the_relations y))
 
@@ -352,7 +418,20 @@ bare_made g.Declaration e = made_2 (λ x y. a.a_declaration (a.declared (a.first
 bare_made g.Variable e = made_2 (λ x y. a.a_variable (a.the_ident x) (a.opt_expression y)) (λ x y. cc (bare_the_ident x, bare_opt_expression y))
 bare_made g.Constant e = made_2 (λ x y. a.a_constant (a.the_ident x) (a.the_expression y)) (λ x y. cc (bare_the_ident x, bare_the_expression y))
 bare_made g.Identifiers e = made_2 (λ x y. a.some_names (a.the_ident x) (a.the_idents y)) (λ x y. cc (bare_the_ident x, bare_the_idents y))
-bare_made g.Body e = made_4 (λ x y z w. a.a_body (m.body (a.place x) (a.the_statements y) (a.place z) (a.opt_ident w))) (λ x y z w. cc (bare_place x, bare_the_statements y, bare_place z, bare_opt_ident w))
+bare_made g.ArrayRest e = made_2 (λ x y. a.an_array (a.low x) (a.high x) (a.the_ident y)) (λ x y. cc (bare_low x, bare_high x, bare_the_ident y))
+bare_made g.InIndex e = made_2 (λ x y. a.an_index (a.the_bound x) (a.the_bound y)) (λ x y. cc (bare_the_bound x, bare_the_bound y))
+bare_made g.Bound e =
+    made_2 (λ x y. a.a_bound (record { negative = a.is_there x; number = a.the_number y }))
+    (λ x y. ap (λ (z : Bool). a.a_bound (record { negative = z; number = a.the_number (bare_item y) })) (bare_is_there x) ∙ ap (λ (z : Number). a.a_bound (record { negative = a.is_there x; number = z })) (bare_the_number y))
+bare_made g.Negated e = λ st. refl
+bare_made g.ExceptionRest e = λ st. refl
+bare_made g.Body e =
+    made_6 (λ x y h z w s. a.a_body (m.body (a.place x) (a.the_statements y) (a.the_handlers h) (a.place z) (a.opt_ident w) (a.place s)))
+    (λ x y h z w s. cc (bare_place x, bare_the_statements y, bare_the_handlers h, bare_place z, bare_opt_ident w, bare_place s))
+bare_made g.HandlerList e = bare_listed
+bare_made g.Handler e = made_2 (λ x y. a.a_handler (a.the_choices x) (a.the_statements y)) (λ x y. cc (bare_the_choices x, bare_the_statements y))
+bare_made g.Others e = made_1 (λ x. a.some_choices (m.others (a.place x))) (λ x. cc (bare_place x))
+bare_made g.NamedChoices e = made_2 (λ x y. a.some_choices (m.exceptions (a.the_ident x) (a.the_idents y))) (λ x y. cc (bare_the_ident x, bare_the_idents y))
 bare_made g.StatementList e = made_2 (λ x y. a.some_statements (m.in_order (a.the_statement x) (a.more_statements y))) (λ x y. cc (bare_the_statement x, bare_more y))
 bare_made g.NullStatement e = made_1 (λ x. a.a_statement (m.null (a.place x))) (λ x. cc (bare_place x))
 bare_made g.NameStatement e = made_2 (λ x y. a.a_statement (a.begun (a.the_ident x) y)) (λ x y. cc (bare_the_ident x, bare_begun (a.the_ident x) y))
@@ -362,6 +441,15 @@ bare_made g.If e = made_5 (λ x y z u v. a.a_statement (m.if_then (a.place x) (a
 bare_made g.Elsif e = made_3 (λ x y z. a.an_arm (a.place x) (a.the_expression y) (a.the_statements z)) (λ x y z. cc (bare_place x, bare_the_expression y, bare_the_statements z))
 bare_made g.Loop e = made_5 (λ x y z u v. a.a_statement (m.loop None (a.loop_place x y) (a.the_iteration x) (a.the_statements z) (a.opt_ident u) (a.place v))) (λ x y z u v. cc (bare_loop_place x y, bare_the_iteration x, bare_the_statements z, bare_opt_ident u, bare_place v))
 bare_made g.While e = made_2 (λ x y. a.an_iteration (a.place x) (m.while (a.the_expression y))) (λ x y. cc (bare_place x, bare_the_expression y))
+bare_made g.For e =
+    made_5 (λ x y z u v. a.an_iteration (a.place x) (m.for (a.the_ident y) (a.is_there z) (a.the_simple u) (a.the_simple v)))
+    (λ x y z u v. cc (bare_place x, bare_the_ident y, bare_is_there z, bare_the_simple u, bare_the_simple v))
+bare_made g.Reverse e = λ st. refl
+bare_made g.Block e =
+    made_2 (λ x y. a.a_statement (m.block None (a.block_place x (a.the_body y)) (a.is_declare x) (a.block_declarations x) (a.the_body y)))
+    (λ x y. cc (bare_block_place x (a.the_body y), bare_is_declare x, bare_block_declarations x, bare_the_body y))
+bare_made g.Declare e = made_2 (λ x y. a.a_declare (a.place x) (a.the_declarations y)) (λ x y. cc (bare_place x, bare_the_declarations y))
+bare_made g.Raise e = made_2 (λ x y. a.a_statement (m.raise (a.place x) (a.opt_ident y))) (λ x y. cc (bare_place x, bare_opt_ident y))
 bare_made g.Exit e = made_3 (λ x y z. a.a_statement (m.exit (a.place x) (a.opt_ident y) (a.opt_expression z))) (λ x y z. cc (bare_place x, bare_opt_ident y, bare_opt_expression z))
 bare_made g.Expression e = made_2 (λ x y. a.an_expression (a.connected (a.the_relation x) y)) (λ x y. cc (bare_the_relation x, bare_connected (a.the_relation x) y))
 bare_made g.AndThen e = bare_chained connective.AndThen

@@ -25,6 +25,11 @@ pub fewer_still : {X : Type 0} (start mid : Rest) (res : Result (X × Rest) Faul
 fewer_still start mid (Ok p) h m = omega (arith, h, m)
 fewer_still start mid (Err e) h m = tt
 
+-- the same where no token need be passed
+pub no_more_still : {X : Type 0} (start mid : Rest) (res : Result (X × Rest) Fault) → IfOk res (λ p. Fewer p.1 mid) → NoMore mid start → IfOk res (λ p. NoMore p.1 start)
+no_more_still start mid (Ok p) h m = omega (arith, h, m)
+no_more_still start mid (Err e) h m = tt
+
 -- a phrase that ends in a word
 pub ends : {s0 : Symbol} {c : Kind} {r : ℕ} (start mid : Rest) {f : List Item → List Item} {X : Type 0} (x : X → Item) {tree : X} (res : Result (X × Rest) Fault) → Ends c tree mid res → NoMore mid start →
     ((k : List Symbol) (ds : List Item) (v : Verdict) → Out (T c ∷ k) r mid.tokens.now ds v → Out (s0 ∷ k) r start.tokens.now (f ds) v) → ((ds : List Item) → f ds ≡ x tree ∷ ds) → Reading Fewer x s0 r start res

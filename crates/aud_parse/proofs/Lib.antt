@@ -24,3 +24,4 @@ pub mod SameWords
 pub mod Worded
 pub mod RoundTrip
 pub mod Rows
+pub mod ControlRows

@@ -1,5 +1,5 @@
 -- The items of trees that are built from their phrases.
-use Rattle.std.proofs.Common.{◌≡◌, List, [], ◌∷◌, map, refl, sym, ap, ◌∙◌}
+use Rattle.std.proofs.Common.{◌≡◌, Bool, true, false, List, [], ◌∷◌, map, refl, sym, ap, ◌∙◌}
 use Rattle.std.specs.Prelude.{Option, Some, None, Vec}
 use Rattle.std.specs.Global.{Global}
 use Rattle.std.specs.Prelude.{Box}
@@ -30,13 +30,20 @@ use Rattle.aud_syntax.specs.declared.tree.Statement.TheVariants as statement
 use Rattle.aud_syntax.specs.declared.tree.Arm.{Arm}
 use Rattle.aud_text.specs.declared.place.Pos.{Pos}
 use Rattle.aud_syntax.specs.declared.tree.Body.{Body}
+use Rattle.aud_syntax.specs.declared.tree.Number.{Number}
+use Rattle.aud_syntax.specs.declared.tree.Bound.{Bound}
+use Rattle.aud_syntax.specs.declared.tree.Iteration.{Iteration}
+use Rattle.aud_syntax.specs.declared.tree.Iteration.TheVariants as iteration
+use Rattle.aud_syntax.specs.declared.tree.Choices.{Choices}
+use Rattle.aud_syntax.specs.declared.tree.Choices.TheVariants as choices
+use Rattle.aud_syntax.specs.declared.tree.Handler.{Handler}
 use Rattle.aud_syntax.specs.declared.tree.Context.{Context}
 use Rattle.aud_syntax.specs.Plain as m
-use Rattle.aud_syntax.specs.Ties.View.{plain_name, plain_primary, plain_factor, plain_multiplieds, plain_term, plain_added, plain_addeds, plain_simple, plain_expression, plain_relation, relation_list, plain_chain, plain_maybe, plain_declaration, plain_declarations, plain_others, plain_statements, plain_statement, plain_context, plain_body, plain_expressions, plain_part, part_list, arm_list}
+use Rattle.aud_syntax.specs.Ties.View.{plain_name, plain_primary, plain_factor, plain_multiplieds, plain_term, plain_added, plain_addeds, plain_simple, plain_expression, plain_relation, relation_list, plain_chain, plain_maybe, plain_declaration, plain_declarations, plain_others, plain_statements, plain_statement, plain_context, plain_body, plain_expressions, plain_part, part_list, arm_list, plain_iteration, plain_choices, handler_list}
 use Rattle.aud_parse.specs.Grammar as g
-use Rattle.aud_parse.specs.Actions.{Item, made, place, an_ident, a_sign, an_operator, a_primary, a_factor, a_term, a_simple, an_expression, chained, some_names, some_statements, a_body, a_unit, the_idents, the_declarations, more_statements, opt_ident, opt_expression, opt_sign, opt_operator, the_multiplieds, the_addeds, the_relations, listed, top, pop, some_args, a_part, a_name, a_statement, the_args, the_parts, expression_args, a_variable, the_contexts, an_arm, the_arms, otherwise, the_iteration, loop_place}
-use Rattle.aud_parse.specs.Ties.Items.{list_item, opt_item, name_item, attribute_item, factor_item, multiplied_item, primary_item, term_item, added_item, simple_item, relation_item, expression_item, boxed_item, names_item, declaration_item, statement_item, statements_item, body_item, unit_item, args_of, args_item, part_item, rest_item, variable_item, context_item, boxed_statement_item, boxed_statements_item, arm_item, boxed_arm_item, while_item}
-use Rattle.aud_parse.specs.Ties.Parts.{assigned_or_called, else_statements, iteration_of, begins_at, behind_label}
+use Rattle.aud_parse.specs.Actions.{Item, made, place, an_ident, a_sign, an_operator, a_primary, a_factor, a_term, a_simple, an_expression, chained, some_names, some_statements, a_body, a_unit, the_idents, the_declarations, more_statements, opt_ident, opt_expression, opt_sign, opt_operator, the_multiplieds, the_addeds, the_relations, listed, top, pop, some_args, a_part, a_name, a_statement, the_args, the_parts, expression_args, a_variable, the_contexts, an_arm, the_arms, otherwise, the_iteration, loop_place, is_there, number_of, a_bound, an_iteration, a_declare, some_choices, begin_of, the_handlers}
+use Rattle.aud_parse.specs.Ties.Items.{list_item, opt_item, name_item, attribute_item, factor_item, multiplied_item, primary_item, term_item, added_item, simple_item, relation_item, expression_item, boxed_item, names_item, declaration_item, statement_item, statements_item, body_item, boxed_body_item, unit_item, args_of, args_item, part_item, rest_item, variable_item, context_item, boxed_statement_item, boxed_statements_item, arm_item, boxed_arm_item, scheme_item, bound_item, declare_item, choices_item, handler_item, boxed_handler_item}
+use Rattle.aud_parse.specs.Ties.Parts.{assigned_or_called, else_statements, iteration_of, begins_at, declared_in, is_declared, declares_at, behind_label, mark_item}
 
 pub multiplied_rows : (n : _) (row : Row_of-Multiplied n) → plain_multiplieds row ≡ the_multiplieds (list_item multiplied_item (items-the_row-Multiplied n row))
 multiplied_rows n end_of-Multiplied = refl
@@ -202,17 +209,17 @@ labelled_is : (label : Option Ident) (at : Pos) (i : m.Iteration) (x : m.Stateme
 labelled_is None at i x last semicolon ds = refl
 labelled_is (Some j) at i x last semicolon ds = refl
 
-scheme_is : (scheme : Option (Pos × Box Expression Global)) (begin : Item) (label last : Option Ident) (x : m.Statements) (semicolon : Pos) →
-    m.loop label (loop_place (opt_item while_item scheme) begin) (the_iteration (opt_item while_item scheme)) x last semicolon ≡ m.loop label (begins_at scheme (place begin)) (iteration_of scheme) x last semicolon
+scheme_is : (scheme : Option (Pos × Box Iteration Global)) (begin : Item) (label last : Option Ident) (x : m.Statements) (semicolon : Pos) →
+    m.loop label (loop_place (opt_item scheme_item scheme) begin) (the_iteration (opt_item scheme_item scheme)) x last semicolon ≡ m.loop label (begins_at scheme (place begin)) (iteration_of scheme) x last semicolon
 scheme_is None begin label last x semicolon = refl
 scheme_is (Some y) begin label last x semicolon = refl
 
-pub loop_items : (b : Box Statement Global) (label : Option Ident) (scheme : Option (Pos × Box Expression Global)) (begin : Item) (x : Box Statements Global) (last : Option Ident) (semicolon : Item) (ds : List Item) →
+pub loop_items : (b : Box Statement Global) (label : Option Ident) (scheme : Option (Pos × Box Iteration Global)) (begin : Item) (x : Box Statements Global) (last : Option Ident) (semicolon : Item) (ds : List Item) →
     plain_statement b.value ≡ m.loop label (begins_at scheme (place begin)) (iteration_of scheme) (plain_statements x.value) last (place semicolon) →
-    behind_label label (made g.Loop (opt_item while_item scheme ∷ begin ∷ boxed_statements_item x ∷ opt_item an_ident last ∷ semicolon ∷ ds)) ≡ boxed_statement_item b ∷ ds
+    behind_label label (made g.Loop (opt_item scheme_item scheme ∷ begin ∷ boxed_statements_item x ∷ opt_item an_ident last ∷ semicolon ∷ ds)) ≡ boxed_statement_item b ∷ ds
 loop_items b label scheme begin x last semicolon ds h =
-    ap (λ z. behind_label label (a_statement (m.loop None (loop_place (opt_item while_item scheme) begin) (the_iteration (opt_item while_item scheme)) (plain_statements x.value) z (place semicolon)) ∷ ds)) (opt_ident_is last)
-    ∙ labelled_is label (loop_place (opt_item while_item scheme) begin) (the_iteration (opt_item while_item scheme)) (plain_statements x.value) last (place semicolon) ds
+    ap (λ z. behind_label label (a_statement (m.loop None (loop_place (opt_item scheme_item scheme) begin) (the_iteration (opt_item scheme_item scheme)) (plain_statements x.value) z (place semicolon)) ∷ ds)) (opt_ident_is last)
+    ∙ labelled_is label (loop_place (opt_item scheme_item scheme) begin) (the_iteration (opt_item scheme_item scheme)) (plain_statements x.value) last (place semicolon) ds
     ∙ ap (λ z. a_statement z ∷ ds) (scheme_is scheme begin label last (plain_statements x.value) (place semicolon))
     ∙ ap (λ z. a_statement z ∷ ds) (sym h)
 
@@ -225,9 +232,69 @@ pub boxed_exit_items : (b : Box Statement Global) (at : Item) (label : Option Id
     made g.Exit (at ∷ opt_item an_ident label ∷ opt_item expression_item e ∷ ds) ≡ boxed_statement_item b ∷ ds
 boxed_exit_items b at label e ds h = exit_items (place at) label e ds ∙ boxed_items b (statement.Exit (place at) label e) ds h
 
-pub body_items : (begin end : Item) (x : Statements) (i : Option Ident) (ds : List Item) →
-    made g.Body (begin ∷ statements_item x ∷ end ∷ opt_item an_ident i ∷ ds) ≡ a_body (m.body (place begin) (plain_statements x) (place end) i) ∷ ds
-body_items begin end x i ds = ap (λ z. a_body (m.body (place begin) (plain_statements x) (place end) z) ∷ ds) (opt_ident_is i)
+pub raise_items : (b : Box Statement Global) (at : Item) (i : Option Ident) (ds : List Item) → b.value ≡ statement.Raise (place at) i → made g.Raise (at ∷ opt_item an_ident i ∷ ds) ≡ boxed_statement_item b ∷ ds
+raise_items b at i ds h = ap (λ z. a_statement (m.raise (place at) z) ∷ ds) (opt_ident_is i) ∙ boxed_items b (statement.Raise (place at) i) ds h
+
+mark_is : (x : Bool) → is_there (mark_item x) ≡ x
+mark_is true = refl
+mark_is false = refl
+
+pub bound_items : (b : Box Bound Global) (negative : Bool) (t : Item) (x : Number) (ds : List Item) → b.value ≡ record { negative = negative; number = x } → x ≡ number_of t → made g.Bound (mark_item negative ∷ made g.Number (t ∷ ds)) ≡ bound_item b ∷ ds
+bound_items b negative t x ds h i =
+    ap (λ (z : Bool). a_bound (record { negative = z; number = number_of t }) ∷ ds) (mark_is negative)
+    ∙ ap (λ (z : Number). a_bound (record { negative = negative; number = z }) ∷ ds) (sym i)
+    ∙ ap (λ (z : Bound). a_bound z ∷ ds) (sym h)
+
+pub declare_items : (at : Item) (v : Vec Declaration Global) (ds : List Item) → made g.Declare (at ∷ list_item declaration_item v.items ∷ ds) ≡ declare_item (place at, v) ∷ ds
+declare_items at v ds = ap (λ z. a_declare (place at) z ∷ ds) (declarations_items v.items)
+
+-- iteration schemes
+
+pub while_items : (b : Box Iteration Global) (at : Item) (e : Box Expression Global) (x : Expression) (ds : List Item) → b.value ≡ iteration.While x → x ≡ e.value → made g.While (at ∷ boxed_item expression_item e ∷ ds) ≡ scheme_item (place at, b) ∷ ds
+while_items b at e x ds h i = ap (λ z. an_iteration (place at) (m.while (plain_expression z)) ∷ ds) (sym i) ∙ ap (λ z. an_iteration (place at) (plain_iteration z) ∷ ds) (sym h)
+
+pub for_items : (b : Box Iteration Global) (at : Item) (i : Ident) (reverse : Bool) (low high : Box Simple Global) (x y : Simple) (ds : List Item) → b.value ≡ iteration.For (record { name = i; reverse = reverse; low = x; high = y }) → x ≡ low.value → y ≡ high.value →
+    made g.For (at ∷ an_ident i ∷ mark_item reverse ∷ boxed_item simple_item low ∷ boxed_item simple_item high ∷ ds) ≡ scheme_item (place at, b) ∷ ds
+for_items b at i reverse low high x y ds h j k =
+    ap (λ z. an_iteration (place at) (m.for i z (plain_simple low.value) (plain_simple high.value)) ∷ ds) (mark_is reverse)
+    ∙ ap (λ z. an_iteration (place at) (m.for i reverse (plain_simple z) (plain_simple high.value)) ∷ ds) (sym j)
+    ∙ ap (λ z. an_iteration (place at) (m.for i reverse (plain_simple x) (plain_simple z)) ∷ ds) (sym k)
+    ∙ ap (λ z. an_iteration (place at) (plain_iteration z) ∷ ds) (sym h)
+
+-- handlers
+
+pub others_items_of : (b : Box Choices Global) (at : Item) (ds : List Item) → b.value ≡ choices.Others (place at) → made g.Others (at ∷ ds) ≡ choices_item b ∷ ds
+others_items_of b at ds h = ap (λ z. some_choices (plain_choices z) ∷ ds) (sym h)
+
+pub choices_items : (b : Box Choices Global) (x : Ident) (v : Vec Ident Global) (ds : List Item) → b.value ≡ choices.Named (record { first = x; others = v }) → made g.NamedChoices (an_ident x ∷ list_item an_ident v.items ∷ ds) ≡ choices_item b ∷ ds
+choices_items b x v ds h = ap (λ z. some_choices (m.exceptions x z) ∷ ds) (idents_items v.items) ∙ ap (λ z. some_choices (plain_choices z) ∷ ds) (sym h)
+
+pub handler_items : (b : Box Handler Global) (c : Box Choices Global) (x : Box Statements Global) (ds : List Item) → b.value ≡ record { choices = c.value; statements = x.value } → made g.Handler (choices_item c ∷ boxed_statements_item x ∷ ds) ≡ boxed_handler_item b ∷ ds
+handler_items b c x ds h = ap (λ (z : Handler). handler_item z ∷ ds) (sym h)
+
+handlers_are : (xs : List Handler) → the_handlers (list_item handler_item xs) ≡ handler_list xs
+handlers_are [] = refl
+handlers_are (x ∷ xs) = ap (λ z. m.more_handlers (plain_choices x.choices) (plain_statements x.statements) z) (handlers_are xs)
+
+pub body_items : (b : Box Body Global) (begin end : Item) (x : Box Statements Global) (v : Vec Handler Global) (i : Option Ident) (semicolon : Item) (ds : List Item) →
+    plain_body b.value ≡ m.body (place begin) (plain_statements x.value) (handler_list v.items) (place end) i (place semicolon) →
+    made g.Body (begin ∷ boxed_statements_item x ∷ list_item handler_item v.items ∷ end ∷ opt_item an_ident i ∷ semicolon ∷ ds) ≡ boxed_body_item b ∷ ds
+body_items b begin end x v i semicolon ds h =
+    ap (λ z. a_body (m.body (place begin) (plain_statements x.value) z (place end) (opt_ident (opt_item an_ident i)) (place semicolon)) ∷ ds) (handlers_are v.items)
+    ∙ ap (λ z. a_body (m.body (place begin) (plain_statements x.value) (handler_list v.items) (place end) z (place semicolon)) ∷ ds) (opt_ident_is i)
+    ∙ ap (λ z. a_body z ∷ ds) (sym h)
+
+block_is : (label : Option Ident) (d : Option (Pos × Vec Declaration Global)) (x : Box Body Global) (ds : List Item) →
+    behind_label label (made g.Block (opt_item declare_item d ∷ boxed_body_item x ∷ ds)) ≡ a_statement (m.block label (declares_at d (begin_of (plain_body x.value))) (is_declared d) (declared_in d) (plain_body x.value)) ∷ ds
+block_is None None x ds = refl
+block_is None (Some d) x ds = refl
+block_is (Some i) None x ds = refl
+block_is (Some i) (Some d) x ds = refl
+
+pub block_items : (b : Box Statement Global) (label : Option Ident) (d : Option (Pos × Vec Declaration Global)) (x : Box Body Global) (ds : List Item) →
+    plain_statement b.value ≡ m.block label (declares_at d (begin_of (plain_body x.value))) (is_declared d) (declared_in d) (plain_body x.value) →
+    behind_label label (made g.Block (opt_item declare_item d ∷ boxed_body_item x ∷ ds)) ≡ boxed_statement_item b ∷ ds
+block_items b label d x ds h = block_is label d x ds ∙ ap (λ z. a_statement z ∷ ds) (sym h)
 
 contexts_items : (xs : List Context) → the_contexts (list_item context_item xs) ≡ map plain_context xs
 contexts_items [] = refl

@@ -3,6 +3,8 @@ use Rattle.std.proofs.Common.{◌≡◌, ℕ, List, [], ◌∷◌, ◌++◌, map
 use Rattle.std.specs.Prelude.{codes}
 use Rattle.aud_lex.specs.Why.Spaced.{Word, word, last_word}
 use Rattle.aud_syntax.specs.declared.tree.Ident.{Ident}
+use Rattle.aud_syntax.specs.declared.tree.Bound.{Bound}
+use Rattle.aud_syntax.specs.declared.tree.Connective.{Connective}
 use Rattle.aud_syntax.specs.Plain as m
 use Rattle.aud_syntax.specs.Why.Bare.{nowhere}
 use Rattle.aud_syntax.specs.Why.Printed as w
@@ -11,7 +13,7 @@ use Rattle.aud_syntax.specs.Why.Printed as w
 abbrev pub texts : List Word → List (List ℕ)
 texts ws = map (λ (x : Word). x.bytes) ws
 
--- words that differ in the ends of their lines alone: a line ends behind `then`, `else` and `loop` where statements follow, and there alone
+-- words that differ in the ends of their lines alone: a line ends behind `then`, `else`, `loop`, `declare`, `exception` and `=>` where statements, declarations or handlers follow, and there alone
 abbrev pub Same : List Word → List Word → Type 0
 Same us ws = texts us ≡ texts ws
 
@@ -51,17 +53,18 @@ list_between a b c us ws e = append_assoc (a ++ b) c ws ∙ append_assoc a b (c 
 pub list_first : (a b us ws : List Word) → us ≡ a → (a ++ b) ++ ws ≡ us ++ (b ++ ws)
 list_first a b us ws e = append_assoc a b ws ∙ ap (λ z. z ++ (b ++ ws)) (sym e)
 
--- the words of statements with others in them, where no line ends behind `then`, `else` and `loop`
+-- the words of statements with others in them, where no line ends behind `then`, `else`, `loop`, `declare`, `exception` and `=>`
 
-abbrev pub arm : List ℕ → List Word → List Word → List Word
-arm spelling e ss = word spelling ∷ (e ++ (word (codes "then") ∷ ss))
+-- some words between two, and statements
+abbrev pub arm : List ℕ → List Word → List ℕ → List Word → List Word
+arm first e second ss = word first ∷ (e ++ (word second ∷ ss))
 
-pub arm_same : (spelling : List ℕ) (e ss ts : List Word) → Same ss ts → Same (arm spelling e ss) (w.arm_words spelling e ts)
-arm_same spelling e ss ts h = ap (λ z. spelling ∷ z) (same_on e (word (codes "then") ∷ ss) (last_word (codes "then") ∷ ts) (ap (λ z. codes "then" ∷ z) h))
+pub arm_same : (first : List ℕ) (e : List Word) (second : List ℕ) (ss ts : List Word) → Same ss ts → Same (arm first e second ss) (word first ∷ (e ++ (last_word second ∷ ts)))
+arm_same first e second ss ts h = ap (λ z. first ∷ z) (same_on e (word second ∷ ss) (last_word second ∷ ts) (ap (λ z. second ∷ z) h))
 
 -- in front of others
 abbrev pub in_if : List Word → List Word → List Word → List Word → List Word → List Word
-in_if e ss vs os ws = arm (codes "if") e (ss ++ (vs ++ (os ++ (word (codes "end") ∷ word (codes "if") ∷ last_word (codes ";") ∷ ws))))
+in_if e ss vs os ws = arm (codes "if") e (codes "then") (ss ++ (vs ++ (os ++ (word (codes "end") ∷ word (codes "if") ∷ last_word (codes ";") ∷ ws))))
 
 pub if_words : (e ss vs os ws : List Word) → in_if e ss vs os [] ++ ws ≡ in_if e ss vs os ws
 if_words e ss vs os ws = one_on _ _ _ (on e _ _ _ (one_on _ _ _ (on ss _ _ _ (on vs _ _ _ (on os _ _ _ refl)))))
@@ -71,10 +74,10 @@ pub if_same : (e : m.Expression) (x : m.Statements) (arms : m.Arms) (otherwise :
 if_same e x arms otherwise ss vs os h i j =
     let end : List Word = word (codes "end") ∷ word (codes "if") ∷ last_word (codes ";") ∷ [] in
     let others : List Word = w.otherwise_words otherwise (w.more_statements_words otherwise) in
-    let apart : arm (codes "if") (w.expression_words e) ss ++ (vs ++ (os ++ end)) ≡ in_if (w.expression_words e) ss vs os [] = one_on _ _ _ (on (w.expression_words e) _ _ _ refl) in
+    let apart : arm (codes "if") (w.expression_words e) (codes "then") ss ++ (vs ++ (os ++ end)) ≡ in_if (w.expression_words e) ss vs os [] = one_on _ _ _ (on (w.expression_words e) _ _ _ refl) in
     ap texts (sym apart)
-    ∙ same_both (arm (codes "if") (w.expression_words e) ss) (w.arm_words (codes "if") (w.expression_words e) (w.statements_words x)) (vs ++ (os ++ end)) (w.arms_words arms ++ (others ++ end))
-    (arm_same (codes "if") (w.expression_words e) ss (w.statements_words x) h)
+    ∙ same_both (arm (codes "if") (w.expression_words e) (codes "then") ss) (w.arm_words (codes "if") (w.expression_words e) (w.statements_words x)) (vs ++ (os ++ end)) (w.arms_words arms ++ (others ++ end))
+    (arm_same (codes "if") (w.expression_words e) (codes "then") ss (w.statements_words x) h)
     (same_both vs (w.arms_words arms) (os ++ end) (others ++ end) i (same_both os others end end j refl))
 
 abbrev pub in_loop : List Word → List Word → List Word → List Word → List Word
@@ -89,17 +92,17 @@ loop_same before ss ts last h =
     let end : List Word = word (codes "end") ∷ word (codes "loop") ∷ (last ++ (last_word (codes ";") ∷ [])) in
     same_on before (word (codes "loop") ∷ (ss ++ end)) (last_word (codes "loop") ∷ (ts ++ end)) (ap (λ z. codes "loop" ∷ z) (same_both ss ts end end h refl))
 
-abbrev pub in_body : List Word → List Word → List Word → List Word
-in_body us last ws = last_word (codes "begin") ∷ (us ++ (word (codes "end") ∷ (last ++ (last_word (codes ";") ∷ ws))))
+abbrev pub in_body : List Word → List Word → List Word → List Word → List Word
+in_body us hs last ws = last_word (codes "begin") ∷ (us ++ (hs ++ (word (codes "end") ∷ (last ++ (last_word (codes ";") ∷ ws)))))
 
-pub body_words : (us last ws : List Word) → in_body us last [] ++ ws ≡ in_body us last ws
-body_words us last ws = one_on _ _ _ (on us _ _ _ (one_on _ _ _ (on last _ _ _ refl)))
+pub body_words : (us hs last ws : List Word) → in_body us hs last [] ++ ws ≡ in_body us hs last ws
+body_words us hs last ws = one_on _ _ _ (on us _ _ _ (on hs _ _ _ (one_on _ _ _ (on last _ _ _ refl))))
 
-pub body_same : (us ts last : List Word) → Same us ts →
-    Same (in_body us last []) (last_word (codes "begin") ∷ (ts ++ (word (codes "end") ∷ (last ++ (last_word (codes ";") ∷ [])))))
-body_same us ts last h =
+pub body_same : (us ts hs gs last : List Word) → Same us ts → Same hs gs →
+    Same (in_body us hs last []) (last_word (codes "begin") ∷ (ts ++ (gs ++ (word (codes "end") ∷ (last ++ (last_word (codes ";") ∷ []))))))
+body_same us ts hs gs last h i =
     let end : List Word = word (codes "end") ∷ (last ++ (last_word (codes ";") ∷ [])) in
-    ap (λ z. codes "begin" ∷ z) (same_both us ts end end h refl)
+    ap (λ z. codes "begin" ∷ z) (same_both us ts (hs ++ end) (gs ++ end) h (same_both hs gs end end i refl))
 
 -- a program behind its context clauses, whose body has these words
 abbrev pub procedure_words : Ident → m.Declarations → List Word → List Word
@@ -107,3 +110,41 @@ procedure_words i ds us = word (codes "procedure") ∷ w.ident_word i ∷ last_w
 
 pub unit_same : (cs : List m.Context) (i : Ident) (ds : m.Declarations) (us ws : List Word) → Same us ws → Same (w.contexts_words cs ++ procedure_words i ds us) (w.contexts_words cs ++ procedure_words i ds ws)
 unit_same cs i ds us ws h = same_on (w.contexts_words cs) (procedure_words i ds us) (procedure_words i ds ws) (ap (λ z. codes "procedure" ∷ i.name ∷ codes "is" ∷ z) (same_on (w.declarations_words ds) us ws h))
+
+-- the words of parts of trees
+
+abbrev pub attribute_words : Ident → m.MaybeExpression → List Word
+attribute_words x e = word (codes "'") ∷ w.ident_word x ∷ w.argument_words e
+
+abbrev pub expression_words : m.Expression → List Word
+expression_words e = w.expression_words e
+
+-- the second relation and those behind it, each but the second behind the operator
+abbrev pub behind_words : Connective → m.Relation → m.Relations → List Word
+behind_words operator x xs = w.relation_words x ++ w.relations_words operator xs
+
+-- the library unit of a context clause
+abbrev pub library_words : List Word
+library_words = word (codes "ADA") ∷ word (codes ".") ∷ word (codes "TEXT_IO") ∷ last_word (codes ";") ∷ []
+
+-- the words behind the names of variables, constants, arrays and exceptions
+
+abbrev pub variable_words : Ident → m.MaybeExpression → List Word
+variable_words i e = w.ident_word i ∷ (w.initial_words e ++ (last_word (codes ";") ∷ []))
+
+abbrev pub constant_words : Ident → m.Expression → List Word
+constant_words i e = word (codes "constant") ∷ w.ident_word i ∷ word (codes ":=") ∷ (expression_words e ++ (last_word (codes ";") ∷ []))
+
+abbrev pub array_words : Bound → Bound → Ident → List Word
+array_words low high i = word (codes "array") ∷ (w.index_words low high ++ (word (codes "of") ∷ w.ident_word i ∷ last_word (codes ";") ∷ []))
+
+abbrev pub exception_words : List Word
+exception_words = word (codes "exception") ∷ last_word (codes ";") ∷ []
+
+-- the words behind a name with which a statement begins, and behind its first identifier
+
+abbrev pub assigned_words : m.Expression → List Word
+assigned_words e = word (codes ":=") ∷ (expression_words e ++ (last_word (codes ";") ∷ []))
+
+abbrev pub behind_words_of : m.Args → m.Parts → List Word → List Word
+behind_words_of xs ps ws = w.args_words xs ++ w.parts_words ps ++ ws

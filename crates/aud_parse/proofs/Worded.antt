@@ -1,6 +1,6 @@
 -- The words of a tree are the tokens that spell it, each written canonically, but for the ends of lines.
 use Rattle.std.proofs.Common.{append-nil, ◌≡◌, ℕ, List, [], ◌∷◌, ◌++◌, map, refl, sym, ap, ◌∙◌, subst, append_assoc}
-use Rattle.std.specs.Prelude.{Option, Some, None, codes, true, ◌==◌}
+use Rattle.std.specs.Prelude.{Option, Some, None, codes, true, false, ◌==◌}
 use Rattle.std.proofs.lemmas.Bool.{eqb-true}
 use Rattle.aud_lex.specs.declared.token.Kind.{Kind}
 use Rattle.aud_lex.specs.declared.token.Kind.TheVariants as kind
@@ -18,6 +18,7 @@ use Rattle.aud_syntax.specs.declared.tree.Multiplying.{Multiplying}
 use Rattle.aud_syntax.specs.declared.tree.Operator.{Operator}
 use Rattle.aud_syntax.specs.declared.tree.Relational.{Relational}
 use Rattle.aud_syntax.specs.declared.tree.Connective.{Connective}
+use Rattle.aud_syntax.specs.declared.tree.Bound.{Bound}
 use Rattle.aud_syntax.specs.declared.tree.Sign.TheVariants as sign
 use Rattle.aud_syntax.specs.declared.tree.Adding.TheVariants as adding
 use Rattle.aud_syntax.specs.declared.tree.Multiplying.TheVariants as multiplying
@@ -37,16 +38,18 @@ use Rattle.aud_parse.proofs.Canonical.{written_as, written}
 use Rattle.aud_parse.proofs.Choosing.{heads}
 use Rattle.aud_parse.proofs.Choices.{and_in}
 use Rattle.aud_parse.proofs.Places.{is_code}
-use Rattle.aud_parse.proofs.SameWords.{texts, Same, same_both, one_on, two, three, last_two, list_between, list_first, arm, arm_same, in_if, if_words, if_same, in_loop, loop_words, loop_same, in_body, body_words, body_same, procedure_words, unit_same}
+use Rattle.aud_parse.proofs.SameWords.{attribute_words, expression_words, behind_words, library_words, variable_words, constant_words, array_words, exception_words, assigned_words, behind_words_of, texts, Same, same_both, one_on, two, three, last_two, list_between, list_first, arm, arm_same, in_if, if_words, if_same, in_loop, loop_words, loop_same, in_body, body_words, body_same, procedure_words, unit_same}
 
 -- the sorts of trees
 data Sort : Type 0 where
-  s_context s_library s_object_rest : Sort
+  s_context s_library s_declaration_rest s_index s_bound s_negated : Sort
   s_behind s_selected s_more_arg : Sort
-  s_unit s_declarations s_declaration s_idents s_more_ident s_initial s_body s_statements s_statement s_rest : Sort
+  s_unit s_declarations s_declaration s_idents s_initial s_body s_statements s_statement s_rest : Sort
   s_expression s_logic s_and_rest s_or_rest s_relation s_compared s_relational s_simple s_sign s_added s_adding s_term s_multiplied s_multiplying s_factor s_operator : Sort
   s_primary s_attribute s_parens s_name s_part s_args s_ident s_number s_literal : Sort
-  s_arm s_else s_loop s_while s_when : Sort
+  s_arm s_else s_unlabelled s_iteration s_reverse s_when s_declare s_handlers s_handler_list s_handler s_choices : Sort
+  -- a further name behind this delimiter
+  s_more_ident : List ℕ → Sort
   -- a further relation behind this operator
   s_more_relation : Connective → Sort
 
@@ -60,12 +63,25 @@ sort g.Declarations = s_declarations
 sort g.DeclarationList = s_declarations
 sort g.Declaration = s_declaration
 sort g.Identifiers = s_idents
-sort g.MoreIdentifiers = s_more_ident
-sort g.ObjectRest = s_object_rest
-sort g.Variable = s_object_rest
-sort g.Constant = s_object_rest
+sort g.MoreIdentifiers = s_more_ident (codes ",")
+sort g.DeclarationRest = s_declaration_rest
+sort g.Variable = s_declaration_rest
+sort g.Constant = s_declaration_rest
+sort g.ArrayRest = s_declaration_rest
+sort g.Index = s_index
+sort g.InIndex = s_index
+sort g.Bound = s_bound
+sort g.Negated = s_negated
+sort g.ExceptionRest = s_declaration_rest
 sort g.Initial = s_initial
 sort g.Body = s_body
+sort g.Handlers = s_handlers
+sort g.HandlerList = s_handler_list
+sort g.Handler = s_handler
+sort g.Choices = s_choices
+sort g.Others = s_choices
+sort g.NamedChoices = s_choices
+sort g.MoreChoices = s_more_ident (codes "|")
 sort g.Statements = s_statements
 sort g.StatementList = s_statements
 sort g.Statement = s_statement
@@ -80,8 +96,15 @@ sort g.Labelled = s_behind
 sort g.If = s_statement
 sort g.Elsif = s_arm
 sort g.ElsePart = s_else
-sort g.Loop = s_loop
-sort g.While = s_while
+sort g.Labellable = s_unlabelled
+sort g.Loop = s_unlabelled
+sort g.Iteration = s_iteration
+sort g.While = s_iteration
+sort g.For = s_iteration
+sort g.Reverse = s_reverse
+sort g.Block = s_unlabelled
+sort g.Declare = s_declare
+sort g.Raise = s_statement
 sort g.Exit = s_statement
 sort g.When = s_when
 sort g.Expression = s_expression
@@ -147,64 +170,47 @@ sort g.Identifier = s_ident
 sort g.Number = s_number
 sort g.Literal = s_literal
 
-abbrev attribute_words : Ident → m.MaybeExpression → List Word
-attribute_words x e = word (codes "'") ∷ w.ident_word x ∷ w.argument_words e
-
-abbrev expression_words : m.Expression → List Word
-expression_words e = w.expression_words e
-
--- the second relation and those behind it, each but the second behind the operator
-abbrev behind_words : Connective → m.Relation → m.Relations → List Word
-behind_words operator x xs = w.relation_words x ++ w.relations_words operator xs
-
--- the library unit of a context clause
-abbrev library_words : List Word
-library_words = word (codes "ADA") ∷ word (codes ".") ∷ word (codes "TEXT_IO") ∷ last_word (codes ";") ∷ []
-
--- the words behind the names of variables and constants
-
-abbrev variable_words : Ident → m.MaybeExpression → List Word
-variable_words i e = w.ident_word i ∷ (w.initial_words e ++ (last_word (codes ";") ∷ []))
-
-abbrev constant_words : Ident → m.Expression → List Word
-constant_words i e = word (codes "constant") ∷ w.ident_word i ∷ word (codes ":=") ∷ (expression_words e ++ (last_word (codes ";") ∷ []))
-
--- the words behind a name with which a statement begins, and behind its first identifier
-
-abbrev assigned_words : m.Expression → List Word
-assigned_words e = word (codes ":=") ∷ (expression_words e ++ (last_word (codes ";") ∷ []))
-
-abbrev behind_words_of : m.Args → m.Parts → List Word → List Word
-behind_words_of xs ps ws = w.args_words xs ++ w.parts_words ps ++ ws
+-- a statement whose words, behind a name, are those without it
+abbrev Unlabelled : m.Statement → Type 0
+Unlabelled s = (i : Ident) → w.statement_words (a.labelled i s) ≡ w.ident_word i ∷ word (codes ":") ∷ w.statement_words s
 
 -- an item of a sort, and its words
 data Says : Sort → Item → List Word → Type 0 where
   says_unit : (u : m.Unit) (us : List Word) → Same us (w.unit_words u) → Says s_unit (a.a_unit u) us
   says_context : (x : m.Context) → Says s_context (a.a_context x) (w.context_words x)
   says_library : Says s_library none library_words
-  says_variable : (i : Ident) (e : m.MaybeExpression) → Says s_object_rest (a.a_variable i e) (variable_words i e)
-  says_constant : (i : Ident) (e : m.Expression) → Says s_object_rest (a.a_constant i e) (constant_words i e)
+  says_variable : (i : Ident) (e : m.MaybeExpression) → Says s_declaration_rest (a.a_variable i e) (variable_words i e)
+  says_constant : (i : Ident) (e : m.Expression) → Says s_declaration_rest (a.a_constant i e) (constant_words i e)
+  says_array : (low high : Bound) (i : Ident) → Says s_declaration_rest (a.an_array low high i) (array_words low high i)
+  says_exception : Says s_declaration_rest a.an_exception exception_words
+  says_index : (low high : Bound) → Says s_index (a.an_index low high) (w.index_words low high)
+  says_bound : (x : Bound) → Says s_bound (a.a_bound x) (w.bound_words x)
+  says_negated : Says s_negated a.there (word (codes "-") ∷ [])
   says_declarations : (x : Item) → Says s_declarations x (w.declarations_words (a.the_declarations x))
   says_declaration : (d : m.Declaration) → Says s_declaration (a.a_declaration d) (w.declaration_words d)
   says_idents : (x : Ident) (xs : List Ident) → Says s_idents (a.some_names x xs) (w.idents_words x xs)
-  says_more_ident : (i : Ident) → Says s_more_ident (a.an_ident i) (word (codes ",") ∷ w.ident_word i ∷ [])
+  says_more_ident : (delimiter : List ℕ) (i : Ident) → Says (s_more_ident delimiter) (a.an_ident i) (word delimiter ∷ w.ident_word i ∷ [])
   says_initial : (e : m.Expression) → Says s_initial (a.an_expression e) (word (codes ":=") ∷ expression_words e)
   says_body : (b : m.Body) (us : List Word) → Same us (w.body_words b) → Says s_body (a.a_body b) us
+  says_handlers : (x : Item) (us : List Word) → Same us (w.handled_words (a.the_handlers x) (w.handlers_words (a.the_handlers x))) → Says s_handlers x us
+  says_handler_list : (c : m.Choices) (x : m.Statements) (y : Item) (us : List Word) → Same us (w.handlers_words (m.more_handlers c x (a.the_handlers y))) → Says s_handler_list (cons (a.a_handler c x) y) us
+  says_handler : (c : m.Choices) (x : m.Statements) (us : List Word) → Same us (w.handler_words c (w.statements_words x)) → Says s_handler (a.a_handler c x) us
+  says_choices : (c : m.Choices) → Says s_choices (a.some_choices c) (w.choices_words c)
   says_statements : (x : m.Statements) (us : List Word) → Same us (w.statements_words x) → Says s_statements (a.some_statements x) us
   says_statement : (s : m.Statement) (us : List Word) → Same us (w.statement_words s) → Says s_statement (a.a_statement s) us
   says_assigned : (e : m.Expression) → Says s_rest (a.assigned e) (assigned_words e)
   says_called : Says s_rest a.called (last_word (codes ";") ∷ [])
   says_assigns : (xs : m.Args) (ps : m.Parts) (e : m.Expression) → Says s_behind (a.assigns xs ps e) (behind_words_of xs ps (assigned_words e))
   says_calls : (xs : m.Args) (ps : m.Parts) → Says s_behind (a.calls xs ps) (behind_words_of xs ps (last_word (codes ";") ∷ []))
-  says_labelled : (at : Pos) (i : m.Iteration) (x : m.Statements) (last : Option Ident) (semicolon : Pos) (us : List Word) → Same us (w.statement_words (m.loop None at i x last semicolon)) →
-      Says s_behind (a.a_statement (m.loop None at i x last semicolon)) (word (codes ":") ∷ us)
+  says_labelled : (s : m.Statement) (us : List Word) → Unlabelled s → Same us (w.statement_words s) → Says s_behind (a.a_statement s) (word (codes ":") ∷ us)
   says_selected : (x : m.NamePart) → Says s_selected (a.a_part x) (word (codes ".") ∷ w.part_words x)
   says_more_arg : (e : m.Expression) → Says s_more_arg (a.an_expression e) (word (codes ",") ∷ expression_words e)
   says_arm : (at : Pos) (e : m.Expression) (x : m.Statements) (us : List Word) → Same us (w.arm_words (codes "elsif") (expression_words e) (w.statements_words x)) → Says s_arm (a.an_arm at e x) us
   says_else : (x : m.Statement) (xs : m.MoreStatements) (us : List Word) → Same us (last_word (codes "else") ∷ w.statements_words (m.in_order x xs)) → Says s_else (a.some_statements (m.in_order x xs)) us
-  says_loop : (at : Pos) (i : m.Iteration) (x : m.Statements) (last : Option Ident) (semicolon : Pos) (us : List Word) → Same us (w.statement_words (m.loop None at i x last semicolon)) →
-      Says s_loop (a.a_statement (m.loop None at i x last semicolon)) us
-  says_while : (at : Pos) (e : m.Expression) → Says s_while (a.an_iteration at (m.while e)) (word (codes "while") ∷ expression_words e)
+  says_unlabelled : (s : m.Statement) (us : List Word) → Unlabelled s → Same us (w.statement_words s) → Says s_unlabelled (a.a_statement s) us
+  says_iteration : (at : Pos) (i : m.Iteration) → Says s_iteration (a.an_iteration at i) (w.iteration_words i)
+  says_reverse : Says s_reverse a.there (word (codes "reverse") ∷ [])
+  says_declare : (at : Pos) (ds : m.Declarations) (us : List Word) → Same us (last_word (codes "declare") ∷ w.declarations_words ds) → Says s_declare (a.a_declare at ds) us
   says_when : (e : m.Expression) → Says s_when (a.an_expression e) (word (codes "when") ∷ expression_words e)
   says_expression : (e : m.Expression) → Says s_expression (a.an_expression e) (expression_words e)
   says_logic : (operator : Connective) (x : m.Relation) (xs : m.Relations) → Says s_logic (a.a_chain operator x xs) (w.connected_words operator x ++ w.relations_words operator xs)
@@ -273,9 +279,13 @@ arms_row : {x : Item} {us : List Word} → Row s_arm x us → Same us (w.arms_wo
 arms_row row_end = refl
 arms_row (row_more {xs = xs} {vs = vs} (says_arm at e x us h) r) = same_both us (w.arm_words (codes "elsif") (expression_words e) (w.statements_words x)) vs (w.arms_words (a.the_arms xs)) h (arms_row r)
 
-idents_row : {x : Item} {us : List Word} → Row s_more_ident x us → us ≡ w.more_ident_words (a.the_idents x)
+handlers_row : {x : Item} {us : List Word} → Row s_handler x us → Same us (w.handlers_words (a.the_handlers x))
+handlers_row row_end = refl
+handlers_row (row_more {xs = xs} {vs = vs} (says_handler c x us h) r) = same_both us (w.handler_words c (w.statements_words x)) vs (w.handlers_words (a.the_handlers xs)) h (handlers_row r)
+
+idents_row : {delimiter : List ℕ} {x : Item} {us : List Word} → Row (s_more_ident delimiter) x us → us ≡ w.more_ident_words delimiter (a.the_idents x)
 idents_row row_end = refl
-idents_row (row_more (says_more_ident i) r) = ap (λ z. word (codes ",") ∷ w.ident_word i ∷ z) (idents_row r)
+idents_row (row_more (says_more_ident delimiter i) r) = ap (λ z. word delimiter ∷ w.ident_word i ∷ z) (idents_row r)
 
 addeds_row : {x : Item} {us : List Word} → Row s_added x us → us ≡ w.addeds_words (a.the_addeds x)
 addeds_row row_end = refl
@@ -305,6 +315,18 @@ of_sort : {o : Sort} {p : Phrase} {ps : List Phrase} {x : Item} {us : List Word}
 of_sort {x = x} {us} here e s = subst (λ o. Says o x us) (heads e).0 s
 of_sort (later m) e s = of_sort m (heads e).1 s
 
+-- a loop and a body of their parts
+
+loop_told : (at : Pos) (i : m.Iteration) (x : m.Statements) (us : List Word) (last : Option Ident) (s : Element) → Same us (w.statements_words x) →
+    Says s_unlabelled (a.a_statement (m.loop None at i x last s.at)) (in_loop (w.iteration_words i) us (w.end_words last) [])
+loop_told at i x us last s h = says_unlabelled (m.loop None at i x last s.at) (in_loop (w.iteration_words i) us (w.end_words last) []) (λ j. refl) (loop_same (w.iteration_words i) us (w.statements_words x) (w.end_words last) h)
+
+body_told : (b : Element) (x : m.Statements) (y : Item) (us hs : List Word) (e : Element) (last : Option Ident) (s : Element) → Same us (w.statements_words x) → Same hs (w.handled_words (a.the_handlers y) (w.handlers_words (a.the_handlers y))) →
+    Says s_body (a.a_body (m.body b.at x (a.the_handlers y) e.at last s.at)) (in_body us hs (w.end_words last) [])
+body_told b x y us hs e last s h j =
+    says_body (m.body b.at x (a.the_handlers y) e.at last s.at) (in_body us hs (w.end_words last) [])
+    (body_same us (w.statements_words x) hs (w.handled_words (a.the_handlers y) (w.handlers_words (a.the_handlers y))) (w.end_words last) h j)
+
 -- the words of a phrase are those of its symbols
 told_rule : (p : Phrase) {k : List Symbol} {ds : List Item} {ws : List Word} → Told (rule p ++ k) ds ws → Told (N p ∷ k) (made p ds) ws
 told_rule g.Unit (t_row {x = x} {us = us} row (t_token u (t_part (says_ident i) (t_word y (t_some (says_declarations d) (t_part {ws = ws} (says_body b vs h) r)))))) =
@@ -325,7 +347,21 @@ told_rule g.Declaration (t_part (says_idents x xs) (t_word c (t_part {ws = ws} (
     so (t_part (says_declaration (m.object x xs i e)) r) (append_assoc (w.idents_words x xs) (word (codes ":") ∷ variable_words i e) ws)
 told_rule g.Declaration (t_part (says_idents x xs) (t_word c (t_part {ws = ws} (says_constant i e) r))) =
     so (t_part (says_declaration (m.constant x xs i e)) r) (append_assoc (w.idents_words x xs) (word (codes ":") ∷ constant_words i e) ws)
-told_rule g.ObjectRest (t_one m s r) = t_part (of_sort m refl s) r
+told_rule g.Declaration (t_part (says_idents x xs) (t_word c (t_part {ws = ws} (says_array l h i) r))) =
+    so (t_part (says_declaration (m.array x xs l h i)) r) (append_assoc (w.idents_words x xs) (word (codes ":") ∷ array_words l h i) ws)
+told_rule g.Declaration (t_part (says_idents x xs) (t_word c (t_part {ws = ws} says_exception r))) =
+    so (t_part (says_declaration (m.exception x xs)) r) (append_assoc (w.idents_words x xs) (word (codes ":") ∷ exception_words) ws)
+told_rule g.DeclarationRest (t_one m s r) = t_part (of_sort m refl s) r
+told_rule g.ArrayRest (t_word c (t_part (says_index l h) (t_word o (t_part (says_ident i) (t_word {ws = ws} s r))))) =
+    so (t_part (says_array l h i) r) (ap (λ z. word (codes "array") ∷ z) (append_assoc (w.index_words l h) (word (codes "of") ∷ w.ident_word i ∷ last_word (codes ";") ∷ []) ws))
+told_rule g.Index (t_level s (t_down r)) = t_part s r
+told_rule g.InIndex (t_word o (t_part (says_bound l) (t_word d (t_part (says_bound h) (t_word {ws = ws} c r))))) =
+    let range : List Word = w.range_words (w.bound_words l) (w.bound_words h) in
+    so (t_part (says_index l h) r) (ap (λ z. word (codes "(") ∷ z) (append_assoc range (word (codes ")") ∷ []) ws ∙ append_assoc (w.bound_words l) (word (codes "..") ∷ w.bound_words h) (word (codes ")") ∷ ws)))
+told_rule g.Bound (t_some says_negated (t_part (says_number n) r)) = t_part (says_bound (record { negative = true; number = n })) r
+told_rule g.Bound (t_none (t_part (says_number n) r)) = t_part (says_bound (record { negative = false; number = n })) r
+told_rule g.Negated (t_word c r) = t_part says_negated r
+told_rule g.ExceptionRest (t_word c (t_word s r)) = t_part says_exception r
 told_rule g.Variable (t_part (says_ident i) (t_some (says_initial e) (t_word {ws = ws} s r))) =
     so (t_part (says_variable i (m.an_expression e)) r) (ap (λ z. w.ident_word i ∷ word (codes ":=") ∷ z) (append_assoc (expression_words e) (last_word (codes ";") ∷ []) ws))
 told_rule g.Variable (t_part (says_ident i) (t_none (t_word s r))) = t_part (says_variable i m.no_expression) r
@@ -333,30 +369,47 @@ told_rule g.Constant (t_word c (t_part (says_ident i) (t_part (says_initial e) (
     so (t_part (says_constant i e) r) (ap (λ z. word (codes "constant") ∷ w.ident_word i ∷ word (codes ":=") ∷ z) (append_assoc (expression_words e) (last_word (codes ";") ∷ []) ws))
 told_rule g.Identifiers (t_part (says_ident i) (t_row {x = x} {us = us} {ws = ws} row r)) =
     so (t_part (says_idents i (a.the_idents x)) r) (ap (λ z. w.ident_word i ∷ (z ++ ws)) (sym (idents_row row)))
-told_rule g.MoreIdentifiers (t_word c (t_part (says_ident i) r)) = t_part (says_more_ident i) r
+told_rule g.MoreIdentifiers (t_word c (t_part (says_ident i) r)) = t_part (says_more_ident (codes ",") i) r
 told_rule g.Initial (t_word c (t_part (says_expression e) r)) = t_part (says_initial e) r
-told_rule g.Body (t_token b (t_part (says_statements x us h) (t_token e (t_some (says_ident i) (t_word {ws = ws} s r))))) =
-    so (t_part (says_body (m.body b.at x e.at (Some i)) (in_body us (w.ident_word i ∷ []) []) (body_same us (w.statements_words x) (w.ident_word i ∷ []) h)) r) (body_words us (w.ident_word i ∷ []) ws)
-told_rule g.Body (t_token b (t_part (says_statements x us h) (t_token e (t_none (t_word {ws = ws} s r))))) =
-    so (t_part (says_body (m.body b.at x e.at None) (in_body us [] []) (body_same us (w.statements_words x) [] h)) r) (body_words us [] ws)
+told_rule g.Body (t_token b (t_part (says_statements x us h) (t_some (says_handlers y hs j) (t_token e (t_some (says_ident i) (t_token {ws = ws} s r)))))) =
+    so (t_part (body_told b x y us hs e (Some i) s h j) r) (body_words us hs (w.ident_word i ∷ []) ws)
+told_rule g.Body (t_token b (t_part (says_statements x us h) (t_some (says_handlers y hs j) (t_token e (t_none (t_token {ws = ws} s r)))))) =
+    so (t_part (body_told b x y us hs e None s h j) r) (body_words us hs [] ws)
+told_rule g.Body (t_token b (t_part (says_statements x us h) (t_none (t_token e (t_some (says_ident i) (t_token {ws = ws} s r)))))) =
+    so (t_part (body_told b x none us [] e (Some i) s h refl) r) (body_words us [] (w.ident_word i ∷ []) ws)
+told_rule g.Body (t_token b (t_part (says_statements x us h) (t_none (t_token e (t_none (t_token {ws = ws} s r)))))) =
+    so (t_part (body_told b x none us [] e None s h refl) r) (body_words us [] [] ws)
+told_rule g.Handlers (t_word e (t_part (says_handler_list c x y us h) r)) = t_part (says_handlers (cons (a.a_handler c x) y) (word (codes "exception") ∷ us) (ap (λ z. codes "exception" ∷ z) h)) r
+told_rule g.HandlerList (t_part (says_handler c x us h) (t_row {x = y} {us = vs} {ws = ws} row r)) =
+    so (t_part (says_handler_list c x y (us ++ vs) (same_both us (w.handler_words c (w.statements_words x)) vs (w.handlers_words (a.the_handlers y)) h (handlers_row row))) r) (append_assoc us vs ws)
+told_rule g.Handler (t_word o (t_part (says_choices c) (t_word d (t_part {ws = ws} (says_statements x ss h) r)))) =
+    so (t_part (says_handler c x (arm (codes "when") (w.choices_words c) (codes "=>") ss) (arm_same (codes "when") (w.choices_words c) (codes "=>") ss (w.statements_words x) h)) r) (one_on _ _ _ (append_assoc (w.choices_words c) (word (codes "=>") ∷ ss) ws))
+told_rule g.Choices (t_one m s r) = t_part (of_sort m refl s) r
+told_rule g.Others (t_token t r) = t_part (says_choices (m.others t.at)) r
+told_rule g.NamedChoices (t_part (says_ident i) (t_row {x = x} {us = us} {ws = ws} row r)) =
+    so (t_part (says_choices (m.exceptions i (a.the_idents x))) r) (ap (λ z. w.ident_word i ∷ (z ++ ws)) (sym (idents_row row)))
+told_rule g.MoreChoices (t_word c (t_part (says_ident i) r)) = t_part (says_more_ident (codes "|") i) r
 told_rule g.Statements (t_level s (t_down r)) = t_part s r
 told_rule g.StatementList (t_part (says_statement d vs h) (t_row {x = x} {us = us} {ws = ws} row r)) =
     so (t_part (says_statements (m.in_order d (a.more_statements x)) (vs ++ us) (same_both vs (w.statement_words d) us (w.more_statements_words (a.more_statements x)) h (statements_row row))) r) (append_assoc vs us ws)
 told_rule g.Statement (t_one here s r) = t_part s r
 told_rule g.Statement (t_one (later here) s r) = t_part s r
 told_rule g.Statement (t_one (later (later here)) s r) = t_part s r
-told_rule g.Statement (t_one (later (later (later here))) (says_loop at i x last semicolon us h) r) = t_part (says_statement (m.loop None at i x last semicolon) us h) r
-told_rule g.Statement (t_one (later (later (later (later here)))) s r) = t_part s r
-told_rule g.Statement (t_one (later (later (later (later (later h))))) s r) = absurd (no_member h)
+told_rule g.Statement (t_one (later (later (later here))) (says_unlabelled s us u h) r) = t_part (says_statement s us h) r
+told_rule g.Statement (t_one (later (later (later (later here)))) (says_unlabelled s us u h) r) = t_part (says_statement s us h) r
+told_rule g.Statement (t_one (later (later (later (later (later here))))) s r) = t_part s r
+told_rule g.Statement (t_one (later (later (later (later (later (later here)))))) s r) = t_part s r
+told_rule g.Statement (t_one (later (later (later (later (later (later (later h))))))) s r) = absurd (no_member h)
 told_rule g.NullStatement (t_token n (t_word s r)) = t_part (says_statement (m.null n.at) w.null_words refl) r
 told_rule g.NameStatement (t_part (says_ident i) (t_part (says_assigns xs ps e) r)) =
     t_part (says_statement (m.assign (m.named (m.part i xs) ps) e) (w.ident_word i ∷ behind_words_of xs ps (assigned_words e)) refl) r
 told_rule g.NameStatement (t_part (says_ident i) (t_part (says_calls xs ps) r)) =
     t_part (says_statement (m.call (m.named (m.part i xs) ps)) (w.ident_word i ∷ behind_words_of xs ps (last_word (codes ";") ∷ [])) refl) r
-told_rule g.NameStatement (t_part (says_ident i) (t_part (says_labelled at j x last semicolon us h) r)) =
-    t_part (says_statement (m.loop (Some i) at j x last semicolon) (w.ident_word i ∷ word (codes ":") ∷ us) (ap (λ z. i.name ∷ codes ":" ∷ z) h)) r
+told_rule g.NameStatement (t_part (says_ident i) (t_part (says_labelled s us u h) r)) =
+    t_part (says_statement (a.labelled i s) (w.ident_word i ∷ word (codes ":") ∷ us) (ap (λ z. i.name ∷ codes ":" ∷ z) h ∙ ap texts (sym (u i)))) r
 told_rule g.NameRest (t_one m s r) = t_part (of_sort m refl s) r
-told_rule g.Labelled (t_word c (t_part (says_loop at i x last semicolon us h) r)) = t_part (says_labelled at i x last semicolon us h) r
+told_rule g.Labelled (t_word c (t_part (says_unlabelled s us u h) r)) = t_part (says_labelled s us u h) r
+told_rule g.Labellable (t_one m s r) = t_part (of_sort m refl s) r
 told_rule g.NamedStatement (t_some (says_args xs) (t_row {x = x} {us = us} row (t_part {ws = ws} (says_assigned e) r))) =
     so (t_part (says_assigns xs (a.the_parts x) e) r) (list_between (w.args_words xs) (w.parts_words (a.the_parts x)) (assigned_words e) us ws (parts_row row))
 told_rule g.NamedStatement (t_some (says_args xs) (t_row {x = x} {us = us} row (t_part {ws = ws} says_called r))) =
@@ -374,17 +427,30 @@ told_rule g.If (t_token i (t_part (says_expression e) (t_word c (t_part (says_st
 told_rule g.If (t_token i (t_part (says_expression e) (t_word c (t_part (says_statements x ss h) (t_row {x = arms} {us = vs} row (t_none (t_word n (t_word f (t_word {ws = ws} s r))))))))) =
     so (t_part (says_statement (m.if_then i.at e x (a.the_arms arms) m.no_statements) (in_if (expression_words e) ss vs [] []) (if_same e x (a.the_arms arms) m.no_statements ss vs [] h (arms_row row) refl)) r) (if_words (expression_words e) ss vs [] ws)
 told_rule g.Elsif (t_token i (t_part (says_expression e) (t_word c (t_part {ws = ws} (says_statements x ss h) r)))) =
-    so (t_part (says_arm i.at e x (arm (codes "elsif") (expression_words e) ss) (arm_same (codes "elsif") (expression_words e) ss (w.statements_words x) h)) r) (one_on _ _ _ (append_assoc (expression_words e) (word (codes "then") ∷ ss) ws))
+    so (t_part (says_arm i.at e x (arm (codes "elsif") (expression_words e) (codes "then") ss) (arm_same (codes "elsif") (expression_words e) (codes "then") ss (w.statements_words x) h)) r) (one_on _ _ _ (append_assoc (expression_words e) (word (codes "then") ∷ ss) ws))
 told_rule g.ElsePart (t_word c (t_part (says_statements (m.in_order y ys) us h) r)) = t_part (says_else y ys (word (codes "else") ∷ us) (ap (λ z. codes "else" ∷ z) h)) r
-told_rule g.Loop (t_some (says_while at e) (t_token l (t_part (says_statements x us h) (t_word n (t_word p (t_some (says_ident i) (t_token {ws = ws} s r))))))) =
-    so (t_part (says_loop at (m.while e) x (Some i) s.at (in_loop (word (codes "while") ∷ expression_words e) us (w.ident_word i ∷ []) []) (loop_same (word (codes "while") ∷ expression_words e) us (w.statements_words x) (w.ident_word i ∷ []) h)) r) (loop_words (word (codes "while") ∷ expression_words e) us (w.ident_word i ∷ []) ws)
-told_rule g.Loop (t_some (says_while at e) (t_token l (t_part (says_statements x us h) (t_word n (t_word p (t_none (t_token {ws = ws} s r))))))) =
-    so (t_part (says_loop at (m.while e) x None s.at (in_loop (word (codes "while") ∷ expression_words e) us [] []) (loop_same (word (codes "while") ∷ expression_words e) us (w.statements_words x) [] h)) r) (loop_words (word (codes "while") ∷ expression_words e) us [] ws)
+told_rule g.Loop (t_some (says_iteration at j) (t_token l (t_part (says_statements x us h) (t_word n (t_word p (t_some (says_ident i) (t_token {ws = ws} s r))))))) =
+    so (t_part (loop_told at j x us (Some i) s h) r) (loop_words (w.iteration_words j) us (w.ident_word i ∷ []) ws)
+told_rule g.Loop (t_some (says_iteration at j) (t_token l (t_part (says_statements x us h) (t_word n (t_word p (t_none (t_token {ws = ws} s r))))))) =
+    so (t_part (loop_told at j x us None s h) r) (loop_words (w.iteration_words j) us [] ws)
 told_rule g.Loop (t_none (t_token l (t_part (says_statements x us h) (t_word n (t_word p (t_some (says_ident i) (t_token {ws = ws} s r))))))) =
-    so (t_part (says_loop l.at m.forever x (Some i) s.at (in_loop [] us (w.ident_word i ∷ []) []) (loop_same [] us (w.statements_words x) (w.ident_word i ∷ []) h)) r) (loop_words [] us (w.ident_word i ∷ []) ws)
+    so (t_part (loop_told l.at m.forever x us (Some i) s h) r) (loop_words [] us (w.ident_word i ∷ []) ws)
 told_rule g.Loop (t_none (t_token l (t_part (says_statements x us h) (t_word n (t_word p (t_none (t_token {ws = ws} s r))))))) =
-    so (t_part (says_loop l.at m.forever x None s.at (in_loop [] us [] []) (loop_same [] us (w.statements_words x) [] h)) r) (loop_words [] us [] ws)
-told_rule g.While (t_token t (t_part (says_expression e) r)) = t_part (says_while t.at e) r
+    so (t_part (loop_told l.at m.forever x us None s h) r) (loop_words [] us [] ws)
+told_rule g.Iteration (t_one m s r) = t_part (of_sort m refl s) r
+told_rule g.While (t_token t (t_part (says_expression e) r)) = t_part (says_iteration t.at (m.while e)) r
+told_rule g.For (t_token t (t_part (says_ident i) (t_word n (t_some says_reverse (t_part (says_simple l) (t_word d (t_part {ws = ws} (says_simple h) r))))))) =
+    so (t_part (says_iteration t.at (m.for i true l h)) r) (ap (λ z. word (codes "for") ∷ w.ident_word i ∷ word (codes "in") ∷ word (codes "reverse") ∷ z) (append_assoc (w.simple_words l) (word (codes "..") ∷ w.simple_words h) ws))
+told_rule g.For (t_token t (t_part (says_ident i) (t_word n (t_none (t_part (says_simple l) (t_word d (t_part {ws = ws} (says_simple h) r))))))) =
+    so (t_part (says_iteration t.at (m.for i false l h)) r) (ap (λ z. word (codes "for") ∷ w.ident_word i ∷ word (codes "in") ∷ z) (append_assoc (w.simple_words l) (word (codes "..") ∷ w.simple_words h) ws))
+told_rule g.Reverse (t_word c r) = t_part says_reverse r
+told_rule g.Block (t_some (says_declare at ds us h) (t_part {ws = ws} (says_body b vs j) r)) =
+    so (t_part (says_unlabelled (m.block None at true ds b) (us ++ vs) (λ i. refl) (same_both us (last_word (codes "declare") ∷ w.declarations_words ds) vs (w.body_words b) h j)) r) (append_assoc us vs ws)
+told_rule g.Block (t_none (t_part (says_body b vs j) r)) = t_part (says_unlabelled (m.block None (a.begin_of b) false m.no_declarations b) vs (λ i. refl) j) r
+told_rule g.Declare (t_token t (t_some (says_declarations x) r)) = t_part (says_declare t.at (a.the_declarations x) (word (codes "declare") ∷ w.declarations_words (a.the_declarations x)) refl) r
+told_rule g.Declare (t_token t (t_none r)) = t_part (says_declare t.at m.no_declarations (word (codes "declare") ∷ []) refl) r
+told_rule g.Raise (t_token t (t_some (says_ident i) (t_word s r))) = t_part (says_statement (m.raise t.at (Some i)) (w.raise_words (Some i)) refl) r
+told_rule g.Raise (t_token t (t_none (t_word s r))) = t_part (says_statement (m.raise t.at None) (w.raise_words None) refl) r
 told_rule g.Exit (t_token t (t_some (says_ident i) (t_some (says_when e) (t_word {ws = ws} s r)))) =
     so (t_part (says_statement (m.exit t.at (Some i) (m.an_expression e)) (w.exit_words (Some i) (m.an_expression e)) refl) r) (one_on _ _ _ (one_on _ _ _ (append_assoc (word (codes "when") ∷ expression_words e) (last_word (codes ";") ∷ []) ws)))
 told_rule g.Exit (t_token t (t_some (says_ident i) (t_none (t_word {ws = ws} s r)))) = t_part (says_statement (m.exit t.at (Some i) m.no_expression) (w.exit_words (Some i) m.no_expression) refl) r

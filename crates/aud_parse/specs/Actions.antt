@@ -1,5 +1,5 @@
 -- How the tree of each phrase is made from those of its symbols.
-use Rattle.std.specs.Prelude.{ℕ, List, [], ◌∷◌, Option, Some, None}
+use Rattle.std.specs.Prelude.{ℕ, List, [], ◌∷◌, Bool, true, false, Option, Some, None}
 use Rattle.aud_text.specs.Name.{capitals}
 use Rattle.aud_text.specs.declared.place.Pos.{Pos}
 use Rattle.aud_lex.specs.Element.{Element}
@@ -18,6 +18,7 @@ use Rattle.aud_syntax.specs.declared.tree.Relational.TheVariants as relational
 use Rattle.aud_syntax.specs.declared.tree.Connective.{Connective}
 use Rattle.aud_syntax.specs.declared.tree.Connective.TheVariants as connective
 use Rattle.aud_syntax.specs.declared.tree.Highest.TheVariants as highest
+use Rattle.aud_syntax.specs.declared.tree.Bound.{Bound}
 use Rattle.aud_syntax.specs.Plain as m
 use Rattle.aud_parse.specs.Grammar as g
 use Rattle.aud_parse.specs.Values.{number_value, unquoted}
@@ -66,12 +67,24 @@ pub data Item : Type 0 where
   an_arm : Pos → m.Expression → m.Statements → Item
   -- how often a loop is gone through, and where that is said
   an_iteration : Pos → m.Iteration → Item
+  -- a word of which only the tree says whether it is there
+  there : Item
+  -- the declarations of a block, and where `declare` stands
+  a_declare : Pos → m.Declarations → Item
+  some_choices : m.Choices → Item
+  a_handler : m.Choices → m.Statements → Item
   a_body : m.Body → Item
   -- the first name of a declaration, and the others
   some_names : Ident → List Ident → Item
   -- what follows the names of variables and constants
   a_variable : Ident → m.MaybeExpression → Item
   a_constant : Ident → m.Expression → Item
+  a_bound : Bound → Item
+  -- the bounds of an index, the least first
+  an_index : Bound → Bound → Item
+  -- what follows the names of arrays and exceptions
+  an_array : Bound → Bound → Ident → Item
+  an_exception : Item
   a_declaration : m.Declaration → Item
   a_context : m.Context → Item
   a_unit : m.Unit → Item
@@ -103,6 +116,10 @@ no_ident = record { name = []; at = no_place }
 abbrev pub the_ident : Item → Ident
 the_ident (an_ident x) = x
 the_ident _ = no_ident
+
+abbrev pub is_there : Item → Bool
+is_there there = true
+is_there _ = false
 
 abbrev pub opt_ident : Item → Option Ident
 opt_ident (an_ident x) = Some x
@@ -307,12 +324,59 @@ abbrev pub the_declarations : Item → m.Declarations
 the_declarations (cons x xs) = m.more_declarations (the_declaration x) (the_declarations xs)
 the_declarations _ = m.no_declarations
 
+abbrev no_bound : Bound
+no_bound = record { negative = false; number = record { value = None; at = no_place } }
+
+abbrev pub the_bound : Item → Bound
+the_bound (a_bound x) = x
+the_bound _ = no_bound
+
+abbrev pub low : Item → Bound
+low (an_index x y) = x
+low _ = no_bound
+
+abbrev pub high : Item → Bound
+high (an_index x y) = y
+high _ = no_bound
+
+abbrev no_choices : m.Choices
+no_choices = m.others no_place
+
+abbrev pub the_choices : Item → m.Choices
+the_choices (some_choices x) = x
+the_choices _ = no_choices
+
+abbrev pub with_handler : Item → m.Handlers → m.Handlers
+with_handler (a_handler c x) xs = m.more_handlers c x xs
+with_handler _ xs = xs
+
+abbrev pub the_handlers : Item → m.Handlers
+the_handlers (cons x xs) = with_handler x (the_handlers xs)
+the_handlers _ = m.no_handlers
+
 abbrev no_body : m.Body
-no_body = m.body no_place no_statements no_place None
+no_body = m.body no_place no_statements m.no_handlers no_place None no_place
 
 abbrev pub the_body : Item → m.Body
 the_body (a_body x) = x
 the_body _ = no_body
+
+-- the declarations of a block, where it begins, and whether it does so with `declare`
+
+abbrev pub block_declarations : Item → m.Declarations
+block_declarations (a_declare at x) = x
+block_declarations _ = m.no_declarations
+
+abbrev pub is_declare : Item → Bool
+is_declare (a_declare at x) = true
+is_declare _ = false
+
+abbrev pub begin_of : m.Body → Pos
+begin_of (m.body begin _ _ _ _ _) = begin
+
+abbrev pub block_place : Item → m.Body → Pos
+block_place (a_declare at x) y = at
+block_place _ y = begin_of y
 
 abbrev pub the_context : Item → m.Context
 the_context (a_context x) = x
@@ -346,22 +410,25 @@ abbrev pub followed : m.Args → m.Parts → Item → Item
 followed xs ps (assigned e) = assigns xs ps e
 followed xs ps _ = calls xs ps
 
--- a loop behind its name (RM 5.5(2))
+-- a loop or a block behind its name (RM 5.5(2), 5.6(2))
 abbrev pub labelled : Ident → m.Statement → m.Statement
 labelled i (m.loop label at x statements end semicolon) = m.loop (Some i) at x statements end semicolon
+labelled i (m.block label at declare ds x) = m.block (Some i) at declare ds x
 labelled i x = x
 
--- the statement that begins with an identifier, by what follows it (RM 5.2, 5.5, 6.4)
+-- the statement that begins with an identifier, by what follows it (RM 5.2, 5.5, 5.6, 6.4)
 abbrev pub begun : Ident → Item → m.Statement
 begun i (assigns xs ps e) = m.assign (m.named (m.part i xs) ps) e
 begun i (calls xs ps) = m.call (m.named (m.part i xs) ps)
 begun i (a_statement x) = labelled i x
 begun i _ = no_statement
 
--- the declaration that begins with some names, by what follows them (RM 3.3.1)
+-- the declaration that begins with some names, by what follows them (RM 3.3.1, 11.1)
 abbrev pub declared : Ident → List Ident → Item → m.Declaration
 declared x xs (a_variable i e) = m.object x xs i e
 declared x xs (a_constant i e) = m.constant x xs i e
+declared x xs (an_array l h i) = m.array x xs l h i
+declared x xs an_exception = m.exception x xs
 declared x xs _ = no_declaration
 
 -- an identifier's letters are kept as capitals (RM 2.3(5))
@@ -393,7 +460,16 @@ made g.Declaration st = a_declaration (declared (first_name (top st)) (other_nam
 made g.Variable st = a_variable (the_ident (top st)) (opt_expression (top (pop st))) ∷ pop (pop st)
 made g.Constant st = a_constant (the_ident (top st)) (the_expression (top (pop st))) ∷ pop (pop st)
 made g.Identifiers st = some_names (the_ident (top st)) (the_idents (top (pop st))) ∷ pop (pop st)
-made g.Body st = a_body (m.body (place (top st)) (the_statements (top (pop st))) (place (top (pop (pop st)))) (opt_ident (top (pop (pop (pop st)))))) ∷ pop (pop (pop (pop st)))
+made g.ArrayRest st = an_array (low (top st)) (high (top st)) (the_ident (top (pop st))) ∷ pop (pop st)
+made g.InIndex st = an_index (the_bound (top st)) (the_bound (top (pop st))) ∷ pop (pop st)
+made g.Bound st = a_bound (record { negative = is_there (top st); number = the_number (top (pop st)) }) ∷ pop (pop st)
+made g.Negated st = there ∷ st
+made g.ExceptionRest st = an_exception ∷ st
+made g.Body st = a_body (m.body (place (top st)) (the_statements (top (pop st))) (the_handlers (top (pop (pop st)))) (place (top (pop (pop (pop st))))) (opt_ident (top (pop (pop (pop (pop st)))))) (place (top (pop (pop (pop (pop (pop st)))))))) ∷ pop (pop (pop (pop (pop (pop st)))))
+made g.HandlerList st = listed st
+made g.Handler st = a_handler (the_choices (top st)) (the_statements (top (pop st))) ∷ pop (pop st)
+made g.Others st = some_choices (m.others (place (top st))) ∷ pop st
+made g.NamedChoices st = some_choices (m.exceptions (the_ident (top st)) (the_idents (top (pop st)))) ∷ pop (pop st)
 made g.StatementList st = some_statements (m.in_order (the_statement (top st)) (more_statements (top (pop st)))) ∷ pop (pop st)
 made g.NullStatement st = a_statement (m.null (place (top st))) ∷ pop st
 made g.NameStatement st = a_statement (begun (the_ident (top st)) (top (pop st))) ∷ pop (pop st)
@@ -404,6 +480,11 @@ made g.If st = a_statement (m.if_then (place (top st)) (the_expression (top (pop
 made g.Elsif st = an_arm (place (top st)) (the_expression (top (pop st))) (the_statements (top (pop (pop st)))) ∷ pop (pop (pop st))
 made g.Loop st = a_statement (m.loop None (loop_place (top st) (top (pop st))) (the_iteration (top st)) (the_statements (top (pop (pop st)))) (opt_ident (top (pop (pop (pop st))))) (place (top (pop (pop (pop (pop st))))))) ∷ pop (pop (pop (pop (pop st))))
 made g.While st = an_iteration (place (top st)) (m.while (the_expression (top (pop st)))) ∷ pop (pop st)
+made g.For st = an_iteration (place (top st)) (m.for (the_ident (top (pop st))) (is_there (top (pop (pop st)))) (the_simple (top (pop (pop (pop st))))) (the_simple (top (pop (pop (pop (pop st))))))) ∷ pop (pop (pop (pop (pop st))))
+made g.Reverse st = there ∷ st
+made g.Block st = a_statement (m.block None (block_place (top st) (the_body (top (pop st)))) (is_declare (top st)) (block_declarations (top st)) (the_body (top (pop st)))) ∷ pop (pop st)
+made g.Declare st = a_declare (place (top st)) (the_declarations (top (pop st))) ∷ pop (pop st)
+made g.Raise st = a_statement (m.raise (place (top st)) (opt_ident (top (pop st)))) ∷ pop (pop st)
 made g.Exit st = a_statement (m.exit (place (top st)) (opt_ident (top (pop st))) (opt_expression (top (pop (pop st))))) ∷ pop (pop (pop st))
 made g.Expression st = an_expression (connected (the_relation (top st)) (top (pop st))) ∷ pop (pop st)
 made g.AndThen st = chained connective.AndThen st

@@ -6,10 +6,12 @@ use Rattle.aud_lex.specs.declared.token.Kind.TheVariants as kind
 -- the names of the grammar's phrases
 pub data Phrase : Type 0 where
   Unit Declarations DeclarationList Declaration Identifiers MoreIdentifiers Initial Body : Phrase
-  Clause WithClause UseClause Library ObjectRest Variable Constant : Phrase
+  Clause WithClause UseClause Library DeclarationRest Variable Constant : Phrase
+  ArrayRest Index InIndex Bound Negated ExceptionRest : Phrase
   Selected MoreArgs NamedStatement StatementRest : Phrase
   Statements StatementList Statement NullStatement NameStatement NameRest Assignment Call : Phrase
-  Labelled If Elsif ElsePart Loop While Exit When : Phrase
+  Labelled Labellable If Elsif ElsePart Loop Iteration While For Reverse Exit When : Phrase
+  Block Declare Raise Handlers HandlerList Handler Choices Others NamedChoices MoreChoices : Phrase
   Expression Logic AndLogic AndRest AndThen AndOnly MoreAndThen MoreAnd : Phrase
   OrLogic OrRest OrElse OrOnly MoreOrElse MoreOr XorLogic MoreXor : Phrase
   Relation Compared RelationalOperator Equal Unequal Less AtMost Greater AtLeast : Phrase
@@ -53,25 +55,40 @@ rule Library = W Ada ∷ T kind.Point ∷ W TextIo ∷ T kind.Semicolon ∷ []
 -- declarations lie one level deeper (RM 3.11)
 rule Declarations = L DeclarationList ∷ Down ∷ []
 rule DeclarationList = N Declaration ∷ Rep Declaration ∷ []
--- variables and constants (RM 3.3.1)
-rule Declaration = N Identifiers ∷ T kind.Colon ∷ N ObjectRest ∷ []
+-- variables, constants and arrays (RM 3.3.1), and exceptions (RM 11.1)
+rule Declaration = N Identifiers ∷ T kind.Colon ∷ N DeclarationRest ∷ []
 rule Identifiers = N Identifier ∷ Rep MoreIdentifiers ∷ []
 rule MoreIdentifiers = T kind.Comma ∷ N Identifier ∷ []
-rule ObjectRest = A (Variable ∷ Constant ∷ []) ∷ []
+rule DeclarationRest = A (Variable ∷ Constant ∷ ArrayRest ∷ ExceptionRest ∷ []) ∷ []
 rule Variable = N Identifier ∷ Opt Initial ∷ T kind.Semicolon ∷ []
 rule Constant = T kind.Constant ∷ N Identifier ∷ N Initial ∷ T kind.Semicolon ∷ []
 rule Initial = T kind.Becomes ∷ N Expression ∷ []
+-- RM 3.6
+rule ArrayRest = T kind.Array ∷ N Index ∷ T kind.Of ∷ N Identifier ∷ T kind.Semicolon ∷ []
+rule Index = L InIndex ∷ Down ∷ []
+rule InIndex = T kind.LeftParenthesis ∷ N Bound ∷ T kind.DoubleDot ∷ N Bound ∷ T kind.RightParenthesis ∷ []
+rule Bound = Opt Negated ∷ N Number ∷ []
+rule Negated = T kind.Minus ∷ []
+rule ExceptionRest = T kind.Exception ∷ T kind.Semicolon ∷ []
 -- RM 6.3, 11.2
-rule Body = P kind.Begin ∷ N Statements ∷ P kind.End ∷ Opt Identifier ∷ T kind.Semicolon ∷ []
+rule Body = P kind.Begin ∷ N Statements ∷ Opt Handlers ∷ P kind.End ∷ Opt Identifier ∷ P kind.Semicolon ∷ []
+rule Handlers = T kind.Exception ∷ N HandlerList ∷ []
+rule HandlerList = N Handler ∷ Rep Handler ∷ []
+rule Handler = T kind.When ∷ N Choices ∷ T kind.Arrow ∷ N Statements ∷ []
+rule Choices = A (Others ∷ NamedChoices ∷ []) ∷ []
+rule Others = P kind.Others ∷ []
+rule NamedChoices = N Identifier ∷ Rep MoreChoices ∷ []
+rule MoreChoices = T kind.Bar ∷ N Identifier ∷ []
 -- statements lie one level deeper (RM 5.1)
 rule Statements = L StatementList ∷ Down ∷ []
 rule StatementList = N Statement ∷ Rep Statement ∷ []
-rule Statement = A (NullStatement ∷ NameStatement ∷ If ∷ Loop ∷ Exit ∷ []) ∷ []
+rule Statement = A (NullStatement ∷ NameStatement ∷ If ∷ Loop ∷ Block ∷ Exit ∷ Raise ∷ []) ∷ []
 rule NullStatement = P kind.Null ∷ T kind.Semicolon ∷ []
--- a loop behind its name, an assignment or a call (RM 5.5, 5.2, 6.4)
+-- a loop or a block behind its name, an assignment or a call (RM 5.5, 5.6, 5.2, 6.4)
 rule NameStatement = N Identifier ∷ N NameRest ∷ []
 rule NameRest = A (Labelled ∷ NamedStatement ∷ []) ∷ []
-rule Labelled = T kind.Colon ∷ N Loop ∷ []
+rule Labelled = T kind.Colon ∷ N Labellable ∷ []
+rule Labellable = A (Loop ∷ Block ∷ []) ∷ []
 rule NamedStatement = Opt Args ∷ Rep Selected ∷ N StatementRest ∷ []
 rule StatementRest = A (Assignment ∷ Call ∷ []) ∷ []
 rule Assignment = T kind.Becomes ∷ N Expression ∷ T kind.Semicolon ∷ []
@@ -81,11 +98,19 @@ rule If = P kind.If ∷ N Expression ∷ T kind.Then ∷ N Statements ∷ Rep El
 rule Elsif = P kind.Elsif ∷ N Expression ∷ T kind.Then ∷ N Statements ∷ []
 rule ElsePart = T kind.Else ∷ N Statements ∷ []
 -- RM 5.5
-rule Loop = Opt While ∷ P kind.Loop ∷ N Statements ∷ T kind.End ∷ T kind.Loop ∷ Opt Identifier ∷ P kind.Semicolon ∷ []
+rule Loop = Opt Iteration ∷ P kind.Loop ∷ N Statements ∷ T kind.End ∷ T kind.Loop ∷ Opt Identifier ∷ P kind.Semicolon ∷ []
+rule Iteration = A (While ∷ For ∷ []) ∷ []
 rule While = P kind.While ∷ N Expression ∷ []
+rule For = P kind.For ∷ N Identifier ∷ T kind.In ∷ Opt Reverse ∷ N Simple ∷ T kind.DoubleDot ∷ N Simple ∷ []
+rule Reverse = T kind.Reverse ∷ []
+-- RM 5.6
+rule Block = Opt Declare ∷ N Body ∷ []
+rule Declare = P kind.Declare ∷ Opt Declarations ∷ []
 -- RM 5.7
 rule Exit = P kind.Exit ∷ Opt Identifier ∷ Opt When ∷ T kind.Semicolon ∷ []
 rule When = T kind.When ∷ N Expression ∷ []
+-- RM 11.3
+rule Raise = P kind.Raise ∷ Opt Identifier ∷ T kind.Semicolon ∷ []
 -- RM 4.4: between the relations of an expression stands the same operator
 rule Expression = N Relation ∷ Opt Logic ∷ []
 rule Logic = A (AndLogic ∷ OrLogic ∷ XorLogic ∷ []) ∷ []

@@ -1,5 +1,6 @@
 pub mod Alike
 pub mod Begun
+pub mod ControlRows
 pub mod Derives
 pub mod Laws
 pub mod Rows

@@ -5,11 +5,15 @@
 
 ghost use Rattle.std.specs.Prelude.{◌≡◌, ◌++◌, ◌∷◌, [], IfOk, Some};
 ghost use Rattle.aud_syntax.specs.Plain as m;
-ghost use Rattle.aud_syntax.specs.Ties.View.{plain_name, plain_expression, plain_statement, plain_statements, plain_others, plain_iteration, arm_list};
-ghost use Rattle.aud_parse.specs.Ties.Parts.{assigned_or_called, else_statements, iteration_of, begins_at};
+ghost use Rattle.aud_syntax.specs.Ties.View.{plain_name, plain_expression, plain_statement, plain_statements, plain_others, plain_iteration, arm_list, plain_choices, handler_list, plain_body, plain_declarations};
+ghost use Rattle.aud_parse.specs.Actions.{begin_of};
+ghost use Rattle.aud_parse.specs.Ties.Parts.{assigned_or_called, else_statements, iteration_of, begins_at, declared_in, is_declared, declares_at};
 
+use crate::declaration::Declare;
+use crate::scheme::Scheme;
 use aud_syntax::tree::{
-    Arm, Expression, Ident, IfStatement, Iteration, LoopStatement, Name, Statement, Statements,
+    Arm, BlockStatement, Body, Choices, Declaration, Expression, Handler, Ident, IfStatement,
+    Iteration, LoopStatement, Name, Statement, Statements,
 };
 use aud_text::place::Pos;
 use std::alloc::{AllocError, Global};
@@ -17,8 +21,8 @@ use std::alloc::{AllocError, Global};
 /// A condition, and the statements that are for it.
 pub type Guarded = (Box<Expression>, Box<Statements>);
 
-/// The condition of a loop, if it has one, and where it begins.
-pub type Scheme = Option<(Pos, Box<Expression>)>;
+/// The name behind `end`, if there is one, and where the semicolon stands.
+pub type End = (Option<Ident>, Pos);
 
 /// A list with one tree more.
 #[inline(never)]
@@ -118,7 +122,7 @@ pub fn made_if(
 }
 
 // Where a loop begins: at its iteration scheme, or at `loop`.
-fn begins_at(scheme: &Scheme, begin: Pos) -> Pos
+fn begins_at(scheme: &Option<Scheme>, begin: Pos) -> Pos
     ensures { result ≡ begins_at scheme.now begin }
 {
     match scheme {
@@ -128,12 +132,12 @@ fn begins_at(scheme: &Scheme, begin: Pos) -> Pos
 }
 
 // How often a loop is gone through.
-fn iteration_of(scheme: Scheme) -> Iteration
+fn iteration_of(scheme: Option<Scheme>) -> Iteration
     ensures { plain_iteration result ≡ iteration_of scheme }
 {
     match scheme {
         None => Iteration::Forever,
-        Some((_, condition)) => Iteration::While(Box::into_inner(condition)),
+        Some((_, iteration)) => Box::into_inner(iteration),
     }
 }
 
@@ -142,10 +146,10 @@ fn iteration_of(scheme: Scheme) -> Iteration
 pub fn made_loop(
     alloc: Global,
     label: Option<Ident>,
-    scheme: Scheme,
+    scheme: Option<Scheme>,
     begin: Pos,
     inner: Box<Statements>,
-    end: (Option<Ident>, Pos),
+    end: End,
 ) -> Result<Box<Statement>, AllocError>
     ensures { IfOk result (λ b. plain_statement b.value ≡
         m.loop label (begins_at scheme begin) (iteration_of scheme)
@@ -167,5 +171,112 @@ pub fn made_loop(
         },
     )?;
     let boxed = Box::new(alloc, Statement::Loop(statement))?;
+    Ok(boxed)
+}
+
+/// A handler of its choices and its statements (RM 11.2(3)).
+#[inline(never)]
+pub fn handler_of(
+    alloc: Global,
+    choices: Box<Choices>,
+    inner: Box<Statements>,
+) -> Result<Box<Handler>, AllocError>
+    ensures { IfOk result (λ b. b.value ≡
+        record { choices = choices.value; statements = inner.value }) }
+{
+    let handler = Handler {
+        choices: Box::into_inner(choices),
+        statements: Box::into_inner(inner),
+    };
+    Ok(Box::new(alloc, handler)?)
+}
+
+/// Statements with handlers, between `begin` and `end` (RM 11.2).
+#[inline(never)]
+pub fn made_body(
+    alloc: Global,
+    begin: Pos,
+    parts: (Box<Statements>, Vec<Handler>),
+    end: Pos,
+    last: End,
+) -> Result<Box<Body>, AllocError>
+    ensures { IfOk result (λ b. plain_body b.value ≡
+        m.body begin (plain_statements parts.0.value) (handler_list parts.1.items) end last.0
+        last.1) }
+{
+    let (inner, handlers) = parts;
+    let (name, semicolon) = last;
+    let statements = Box::into_inner(inner);
+    let body = Box::new(
+        alloc,
+        Body {
+            begin,
+            statements,
+            handlers,
+            end,
+            name,
+            semicolon,
+        },
+    )?;
+    Ok(body)
+}
+
+// Where a block begins: at `declare`, or at `begin`.
+fn declares_at(declare: &Option<Declare>, begin: Pos) -> Pos
+    ensures { result ≡ declares_at declare.now begin }
+{
+    match declare {
+        None => begin,
+        Some(found) => found.0,
+    }
+}
+
+// Whether a block begins with `declare`.
+fn is_declared(declare: &Option<Declare>) -> bool
+    ensures { result ≡ is_declared declare.now }
+{
+    match declare {
+        None => false,
+        Some(_) => true,
+    }
+}
+
+// The declarations of a block.
+fn declared_in(alloc: Global, declare: Option<Declare>) -> Vec<Declaration>
+    ensures { plain_declarations result.items ≡ declared_in declare }
+{
+    match declare {
+        None => Vec::new(alloc),
+        Some((_, all)) => all,
+    }
+}
+
+/// A block statement (RM 5.6).
+#[inline(never)]
+pub fn made_block(
+    alloc: Global,
+    label: Option<Ident>,
+    declare: Option<Declare>,
+    inner: Box<Body>,
+) -> Result<Box<Statement>, AllocError>
+    ensures { IfOk result (λ b. plain_statement b.value ≡
+        m.block label (declares_at declare (begin_of (plain_body inner.value)))
+        (is_declared declare) (declared_in declare) (plain_body inner.value)) }
+{
+    let body = Box::into_inner(inner);
+    let at = declares_at(&declare, body.begin);
+    let is_declared = is_declared(&declare);
+    let declarations = declared_in(alloc, declare);
+    let statement = Box::new(
+        alloc,
+        BlockStatement {
+            label,
+            at,
+            declare: is_declared,
+            declarations,
+            body,
+        },
+    )?;
+    let boxed = Box::new(alloc, Statement::Block(statement))?;
     Ok(boxed)
 }

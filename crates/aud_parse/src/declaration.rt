@@ -1,39 +1,27 @@
-// Declarations of variables and constants (RM 3.3.1).
+// Declarations of variables, constants and arrays (RM 3.3.1), and of exceptions (RM 11.1).
 
 ghost use Rattle.aud_parse.specs.Grammar as g;
-ghost use Rattle.aud_parse.specs.Grammar.{N, Opt, Rep};
-ghost use Rattle.aud_parse.specs.Actions.{an_ident};
-ghost use Rattle.aud_parse.specs.Ties.Items.{vec_item, names_item, variable_item, constant_item, declaration_item};
-ghost use Rattle.aud_parse.specs.Ties.Reads.{Reads, MayRead, ReadsFlat, MayReadFlat};
+ghost use Rattle.aud_parse.specs.Grammar.{N, Opt};
+ghost use Rattle.aud_parse.specs.Actions.{an_exception};
+ghost use Rattle.aud_parse.specs.Ties.Items.{vec_item, opt_item, names_item, variable_item, constant_item, bound_item, index_item, array_item, declaration_item, declare_item};
+ghost use Rattle.aud_parse.specs.Ties.Reads.{Reads, MayRead, ReadsFlat};
 
 use crate::behind::{both, ended};
-use crate::cursor::{Read, Rest, accept, deeper, is, word};
+use crate::cursor::{Read, Rest, accept, deeper, is, token, word};
 use crate::expression::{opt_value, value};
-use crate::leaf::ident;
+use crate::leaf::{ident, mark, more_idents};
+use crate::value::number_value;
 use aud_lex::token::Kind;
-use aud_syntax::tree::{Declaration, Expression, Ident, Identifiers};
+use aud_syntax::tree::{Bound, Declaration, Expression, Ident, Identifiers, Number};
+use aud_text::place::Pos;
 use std::alloc::Global;
-
-/// The further names, each behind a comma.
-fn more_identifiers(alloc: Global, start: Rest) -> Read<Vec<Ident>>
-    ensures { MayReadFlat (vec_item an_ident) (Rep g.MoreIdentifiers) start.entry result }
-{
-    let mut all = Vec::new(alloc);
-    let mut rest = start;
-    'turns: while let Some((_, behind)) = accept(rest, Kind::Comma) {
-        let (name, after) = ident(alloc, behind)?;
-        all.push(name)?;
-        rest = after;
-    }
-    Ok((all, rest))
-}
 
 /// Names (RM 3.3.1(4)).
 fn identifiers(alloc: Global, start: Rest) -> Read<Identifiers>
     ensures { ReadsFlat names_item (N g.Identifiers) start.entry result }
 {
     let (first, rest) = ident(alloc, start)?;
-    let (others, rest) = more_identifiers(alloc, rest)?;
+    let (others, rest) = more_idents(alloc, rest, Kind::Comma)?;
     Ok((Identifiers { first, others }, rest))
 }
 
@@ -56,7 +44,62 @@ fn constant(alloc: Global, start: Rest, room: u32) -> Read<(Ident, Expression)>
     ended((subtype, Box::into_inner(value)), rest, Kind::Semicolon)
 }
 
-/// Variables or constants of one subtype.
+/// The bounds of an index.
+type Index = (Box<Bound>, Box<Bound>);
+
+/// A bound of an index (RM 3.6.1).
+fn bound(alloc: Global, start: Rest) -> Read<Box<Bound>>
+    ensures { ReadsFlat bound_item (N g.Bound) start.entry result }
+{
+    let (negative, rest) = mark(start, Kind::Minus);
+    let (t, rest) = token(rest, Kind::Integer)?;
+    let value = number_value(t.text());
+    let number = Number { value, at: t.at() };
+    let boxed = Box::new(alloc, Bound { negative, number })?;
+    Ok((boxed, rest))
+}
+
+/// The bounds of an index, in parentheses.
+fn in_index(alloc: Global, start: Rest) -> Read<Index>
+    ensures { ReadsFlat index_item (N g.InIndex) start.entry result }
+{
+    let rest = word(start, Kind::LeftParenthesis)?;
+    let (low, rest) = bound(alloc, rest)?;
+    let rest = word(rest, Kind::DoubleDot)?;
+    let (high, rest) = bound(alloc, rest)?;
+    let rest = word(rest, Kind::RightParenthesis)?;
+    Ok(((low, high), rest))
+}
+
+/// The same, one level deeper (RM 3.6).
+fn index(alloc: Global, start: Rest, room: u32) -> Read<Index>
+    ensures { Reads index_item (N g.Index) room start.entry result }
+{
+    deeper(start, room, is(start, Kind::LeftParenthesis))?;
+    in_index(alloc, start)
+}
+
+/// The index of arrays, and the subtype of their elements (RM 3.6).
+fn array(alloc: Global, start: Rest, room: u32) -> Read<(Index, Ident)>
+    ensures { Reads array_item (N g.ArrayRest) room start.entry result }
+{
+    let rest = word(start, Kind::Array)?;
+    let (index, rest) = index(alloc, rest, room)?;
+    let rest = word(rest, Kind::Of)?;
+    let (subtype, rest) = ident(alloc, rest)?;
+    ended((index, subtype), rest, Kind::Semicolon)
+}
+
+/// What stands behind the names of exceptions (RM 11.1).
+fn exceptions(start: Rest) -> Read<()>
+    ensures { ReadsFlat (λ _. an_exception) (N g.ExceptionRest) start.entry result }
+{
+    let rest = word(start, Kind::Exception)?;
+    let rest = word(rest, Kind::Semicolon)?;
+    Ok(((), rest))
+}
+
+/// Variables, constants or arrays of one subtype, or exceptions.
 fn declaration(alloc: Global, start: Rest, room: u32) -> Read<Declaration>
     ensures { Reads declaration_item (N g.Declaration) room start.entry result }
 {
@@ -66,8 +109,17 @@ fn declaration(alloc: Global, start: Rest, room: u32) -> Read<Declaration>
         let ((names, object), rest) = both(names, variable(alloc, rest, room))?;
         return Ok((Declaration::Object(names, object.0, object.1), rest));
     }
-    let ((names, object), rest) = both(names, constant(alloc, rest, room))?;
-    Ok((Declaration::Constant(names, object.0, object.1), rest))
+    if is(rest, Kind::Constant) {
+        let ((names, object), rest) = both(names, constant(alloc, rest, room))?;
+        return Ok((Declaration::Constant(names, object.0, object.1), rest));
+    }
+    if is(rest, Kind::Array) {
+        let ((names, ((low, high), subtype)), rest) = both(names, array(alloc, rest, room))?;
+        let (low, high) = (Box::into_inner(low), Box::into_inner(high));
+        return Ok((Declaration::Array(names, low, high, subtype), rest));
+    }
+    let ((names, ()), rest) = both(names, exceptions(rest))?;
+    Ok((Declaration::Exception(names), rest))
 }
 
 /// Declarations, at least one.
@@ -103,4 +155,19 @@ pub fn opt_declarations(alloc: Global, start: Rest, room: u32) -> Read<Vec<Decla
     }
     let none = Vec::new(alloc);
     Ok((none, start))
+}
+
+/// The declarations of a block behind `declare`, and where that stands.
+pub type Declare = (Pos, Vec<Declaration>);
+
+/// The same, if `declare` comes next (RM 5.6).
+#[inline(never)]
+pub fn opt_declare(alloc: Global, start: Rest, room: u32) -> Read<Option<Declare>>
+    ensures { MayRead (opt_item declare_item) (Opt g.Declare) room start.entry result }
+{
+    if let Some((t, behind)) = accept(start, Kind::Declare) {
+        let (all, rest) = opt_declarations(alloc, behind, room)?;
+        return Ok((Some((t.at(), all)), rest));
+    }
+    Ok((None, start))
 }

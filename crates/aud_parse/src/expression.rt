@@ -277,7 +277,7 @@ fn opt_sign(start: Rest) -> (Option<Signed>, Rest)
 
 /// A simple expression (RM 4.4(4)).
 #[cycle(expression)]
-fn simple(alloc: Global, start: Rest, room: u32) -> Read<Box<Simple>>
+pub fn simple(alloc: Global, start: Rest, room: u32) -> Read<Box<Simple>>
     ensures { Reads (boxed_item simple_item) (N g.Simple) room start.entry result }
 {
     let (sign, rest) = opt_sign(start);

@@ -2,6 +2,7 @@
 
 ghost use Rattle.aud_parse.specs.Why.Laws as laws;
 ghost use Rattle.aud_parse.specs.Why.Rows as rows;
+ghost use Rattle.aud_parse.specs.Why.ControlRows as control;
 
 /// The tree that is read is the tree that the tokens spell.
 pub fn spells_law()
@@ -66,4 +67,19 @@ pub fn faults_of_texts()
 /// The token at which small texts open a level too many.
 pub fn levels_of_texts()
     ensures { rows.LevelsOfTexts }
+{}
+
+/// The trees of small texts with blocks, exceptions, for loops and arrays.
+pub fn trees_of_control()
+    ensures { control.TreesOfControl }
+{}
+
+/// The token at which such texts go wrong.
+pub fn faults_of_control()
+    ensures { control.FaultsOfControl }
+{}
+
+/// The token at which such texts open a level too many.
+pub fn levels_of_control()
+    ensures { control.LevelsOfControl }
 {}

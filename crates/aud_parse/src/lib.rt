@@ -4,6 +4,7 @@
 mod assemble;
 mod behind;
 mod build;
+mod choice_list;
 mod clauses;
 mod cursor;
 mod declaration;
@@ -11,6 +12,7 @@ mod expression;
 pub mod laws;
 mod leaf;
 mod parser;
+mod scheme;
 mod statement;
 mod value;
 

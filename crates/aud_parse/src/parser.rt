@@ -51,7 +51,7 @@ fn unit(alloc: Global, start: Rest, room: u32) -> Read<Unit>
             at: first.at(),
             name,
             declarations,
-            body,
+            body: Box::into_inner(body),
         },
         rest,
     ))

@@ -10,29 +10,43 @@ ghost use Rattle.aud_lex.specs.declared.token.Kind.TheVariants as kind;
 ghost use Rattle.aud_parse.specs.Grammar as g;
 ghost use Rattle.aud_parse.specs.Grammar.{N, T, P, Opt, Rep};
 ghost use Rattle.aud_parse.specs.Actions.{an_ident, token, made};
-ghost use Rattle.aud_parse.specs.Ties.Items.{vec_item, opt_item, assigned_item, rest_item, expression_item, boxed_item, while_item, statement_item, boxed_statement_item, boxed_statements_item, arm_item, boxed_arm_item, body_item, guarded_items};
+ghost use Rattle.aud_parse.specs.Ties.Items.{vec_item, opt_item, assigned_item, rest_item, expression_item, boxed_item, scheme_item, statement_item, boxed_statement_item, boxed_statements_item, arm_item, boxed_arm_item, handler_item, boxed_handler_item, boxed_body_item, guarded_items};
 ghost use Rattle.aud_parse.specs.Ties.Parts.{behind_label};
 ghost use Rattle.aud_parse.specs.Ties.Reads.{Reads, MayRead, ReadsFlat, MayReadFlat, Completes, ReadsAll};
 
 use crate::behind::{both, ended};
-use crate::build::{Guarded, Scheme, add, arm_of, assign_or_call, in_order, made_if, made_loop};
+use crate::build::{
+    Guarded, add, arm_of, assign_or_call, handler_of, in_order, made_block, made_body, made_if,
+    made_loop,
+};
+use crate::choice_list::choices;
 use crate::cursor::{Read, Rest, accept, deeper, is, is_one_of, token, word};
+use crate::declaration::opt_declare;
 use crate::expression::{expression, opt_args, opt_value, selected};
-use crate::leaf::ident;
+use crate::leaf::{ident, opt_ident};
+use crate::scheme::{Scheme, opt_scheme};
 use aud_lex::token::{Kind, Token};
-use aud_syntax::tree::{Arm, Body, Expression, Ident, Name, NamePart, Statement, Statements};
+use aud_syntax::tree::{
+    Arm, Body, Expression, Handler, Ident, Name, NamePart, Statement, Statements,
+};
 use std::alloc::Global;
 
-const STATEMENTS: [Kind; 6] = [
+const STATEMENTS: [Kind; 10] = [
     Kind::Null,
     Kind::Identifier,
     Kind::If,
     Kind::While,
+    Kind::For,
     Kind::Loop,
+    Kind::Declare,
+    Kind::Begin,
     Kind::Exit,
+    Kind::Raise,
 ];
 
-const LOOPS: [Kind; 2] = [Kind::While, Kind::Loop];
+const LOOPS: [Kind; 3] = [Kind::While, Kind::For, Kind::Loop];
+
+const BLOCKS: [Kind; 2] = [Kind::Declare, Kind::Begin];
 
 /// A null statement (RM 5.1(6)).
 #[inline(never)]
@@ -92,28 +106,27 @@ fn exit(alloc: Global, start: Rest, room: u32) -> Read<Box<Statement>>
     ended(statement, rest, Kind::Semicolon)
 }
 
-/// How often a loop is gone through, if that is said, and where (RM 5.5(3)).
+/// A raise statement (RM 11.3).
 #[inline(never)]
-fn opt_while(alloc: Global, start: Rest, room: u32) -> Read<Scheme>
-    ensures { MayRead (opt_item while_item) (Opt g.While) room start.entry result }
+fn raise(alloc: Global, start: Rest) -> Read<Box<Statement>>
+    ensures { ReadsFlat boxed_statement_item (N g.Raise) start.entry result }
 {
-    if let Some((t, behind)) = accept(start, Kind::While) {
-        let (condition, rest) = expression(alloc, behind, room)?;
-        return Ok((Some((t.at(), condition)), rest));
-    }
-    Ok((None, start))
+    let (t, rest) = token(start, Kind::Raise)?;
+    let (exception, rest) = opt_ident(alloc, rest)?;
+    let statement = Box::new(alloc, Statement::Raise(t.at(), exception))?;
+    ended(statement, rest, Kind::Semicolon)
 }
 
 /// What ends a loop, and the loop of all its parts.
 #[inline(never)]
 fn end_loop<'a>(
     alloc: Global,
-    parts: (Option<Ident>, Scheme, Box<Statements>),
+    parts: (Option<Ident>, Option<Scheme>, Box<Statements>),
     begin: &Token,
     start: Rest<'a>,
 ) -> Read<'a, Box<Statement>>
     ensures { (room : ℕ) → Completes
-        (λ es. behind_label parts.0 (made g.Loop (opt_item while_item parts.1
+        (λ es. behind_label parts.0 (made g.Loop (opt_item scheme_item parts.1
         ∷ token begin.now ∷ boxed_statements_item parts.2 ∷ es)))
         boxed_statement_item
         (T kind.End ∷ T kind.Loop ∷ Opt g.Identifier ∷ P kind.Semicolon ∷ [])
@@ -139,10 +152,35 @@ fn loop_statement(
     ensures { Completes (λ es. behind_label label es) boxed_statement_item (N g.Loop ∷ [])
         room start.entry result }
 {
-    let (scheme, rest) = opt_while(alloc, start, room)?;
+    let (scheme, rest) = opt_scheme(alloc, start, room)?;
     let (begin, rest) = token(rest, Kind::Loop)?;
     let (inner, rest) = statements(alloc, rest, room)?;
     end_loop(alloc, (label, scheme, inner), begin, rest)
+}
+
+/// A block statement behind its name, if it has one (RM 5.6).
+#[cycle(statement)]
+#[inline(never)]
+fn block(alloc: Global, label: Option<Ident>, start: Rest, room: u32) -> Read<Box<Statement>>
+    ensures { Completes (λ es. behind_label label es) boxed_statement_item (N g.Block ∷ [])
+        room start.entry result }
+{
+    let (declare, rest) = opt_declare(alloc, start, room)?;
+    let (body, rest) = body(alloc, rest, room)?;
+    let statement = made_block(alloc, label, declare, body)?;
+    Ok((statement, rest))
+}
+
+/// A loop or a block behind its name (RM 5.5, 5.6).
+#[cycle(statement)]
+fn labelled(alloc: Global, label: Option<Ident>, start: Rest, room: u32) -> Read<Box<Statement>>
+    ensures { Completes (λ es. behind_label label es) boxed_statement_item (N g.Labellable ∷ [])
+        room start.entry result }
+{
+    if is_one_of(start, &LOOPS) {
+        return loop_statement(alloc, label, start, room);
+    }
+    block(alloc, label, start, room)
 }
 
 /// A statement that begins with a name: its label, or what is assigned to or called.
@@ -152,7 +190,7 @@ fn name_statement(alloc: Global, start: Rest, room: u32) -> Read<Box<Statement>>
 {
     let (ident, rest) = ident(alloc, start)?;
     if let Some((_, behind)) = accept(rest, Kind::Colon) {
-        return loop_statement(alloc, Some(ident), behind, room);
+        return labelled(alloc, Some(ident), behind, room);
     }
     named(alloc, ident, rest, room)
 }
@@ -268,7 +306,13 @@ fn statement(alloc: Global, start: Rest, room: u32) -> Read<Box<Statement>>
     if is_one_of(start, &LOOPS) {
         return loop_statement(alloc, None, start, room);
     }
-    exit(alloc, start, room)
+    if is_one_of(start, &BLOCKS) {
+        return block(alloc, None, start, room);
+    }
+    if is(start, Kind::Exit) {
+        return exit(alloc, start, room);
+    }
+    raise(alloc, start)
 }
 
 /// The further statements.
@@ -306,30 +350,78 @@ fn statements(alloc: Global, start: Rest, room: u32) -> Read<Box<Statements>>
     statement_list(alloc, start, inside)
 }
 
-/// The name behind `end`, or of the loop that is left, if there is one.
-fn opt_ident(alloc: Global, start: Rest) -> Read<Option<Ident>>
-    ensures { MayReadFlat (opt_item an_ident) (Opt g.Identifier) start.entry result }
+/// A handler of exceptions (RM 11.2(3)).
+#[cycle(statement)]
+fn handler(alloc: Global, start: Rest, room: u32) -> Read<Box<Handler>>
+    ensures { Reads boxed_handler_item (N g.Handler) room start.entry result }
 {
-    if is(start, Kind::Identifier) {
-        let (name, rest) = ident(alloc, start)?;
-        return Ok((Some(name), rest));
-    }
-    Ok((None, start))
+    let rest = word(start, Kind::When)?;
+    let (choices, rest) = choices(alloc, rest)?;
+    let rest = word(rest, Kind::Arrow)?;
+    let (inner, rest) = statements(alloc, rest, room)?;
+    let handler = handler_of(alloc, choices, inner)?;
+    Ok((handler, rest))
 }
 
-/// Statements between `begin` and `end` (RM 6.3, 11.2).
-pub fn body(alloc: Global, start: Rest, room: u32) -> Read<Body>
-    ensures { Reads body_item (N g.Body) room start.entry result }
+/// Handlers, at least one.
+#[cycle(statement)]
+fn handler_list(alloc: Global, start: Rest, room: u32) -> Read<Vec<Handler>>
+    ensures { Reads (vec_item handler_item) (N g.HandlerList) room start.entry result }
+{
+    let mut all = Vec::new(alloc);
+    let mut rest = start;
+    'turns: loop {
+        let (next, after) = handler(alloc, rest, room)?;
+        all = add(all, next)?;
+        if !is(after, Kind::When) {
+            return Ok((all, after));
+        }
+        rest = after;
+    }
+}
+
+/// The handlers behind `exception`, if there are any.
+#[cycle(statement)]
+fn opt_handlers(alloc: Global, start: Rest, room: u32) -> Read<Vec<Handler>>
+    ensures { MayRead (vec_item handler_item) (Opt g.Handlers) room start.entry result }
+{
+    if let Some((_, behind)) = accept(start, Kind::Exception) {
+        return handler_list(alloc, behind, room);
+    }
+    let none = Vec::new(alloc);
+    Ok((none, start))
+}
+
+/// What ends statements with handlers, and these.
+#[inline(never)]
+fn end_body<'a>(
+    alloc: Global,
+    parts: (Box<Statements>, Vec<Handler>),
+    begin: &Token,
+    start: Rest<'a>,
+) -> Read<'a, Box<Body>>
+    ensures { (room : ℕ) → Completes
+        (λ es. made g.Body (token begin.now ∷ boxed_statements_item parts.0
+        ∷ vec_item handler_item parts.1 ∷ es))
+        boxed_body_item
+        (P kind.End ∷ Opt g.Identifier ∷ P kind.Semicolon ∷ [])
+        room start.entry result }
+{
+    let ((parts, end), rest) = both(parts, token(start, Kind::End))?;
+    let ((parts, name), rest) = both(parts, opt_ident(alloc, rest))?;
+    let ((parts, last), rest) = both(parts, token(rest, Kind::Semicolon))?;
+    let body = made_body(alloc, begin.at(), parts, end.at(), (name, last.at()))?;
+    Ok((body, rest))
+}
+
+/// Statements with handlers, between `begin` and `end` (RM 6.3, 11.2).
+#[cycle(statement)]
+#[inline(never)]
+pub fn body(alloc: Global, start: Rest, room: u32) -> Read<Box<Body>>
+    ensures { Reads boxed_body_item (N g.Body) room start.entry result }
 {
     let (begin, rest) = token(start, Kind::Begin)?;
-    let (statements, rest) = statements(alloc, rest, room)?;
-    let ((statements, end), rest) = both(statements, token(rest, Kind::End))?;
-    let ((statements, name), rest) = both(statements, opt_ident(alloc, rest))?;
-    let body = Body {
-        begin: begin.at(),
-        statements: Box::into_inner(statements),
-        end: end.at(),
-        name,
-    };
-    ended(body, rest, Kind::Semicolon)
+    let (inner, rest) = statements(alloc, rest, room)?;
+    let (handlers, rest) = opt_handlers(alloc, rest, room)?;
+    end_body(alloc, (inner, handlers), begin, rest)
 }

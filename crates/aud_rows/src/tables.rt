@@ -1,9 +1,18 @@
 // Sessions with their answers, worked out by hand from the language and the protocol and never taken from a program.
 
+pub mod arrays;
+pub mod arrays_checked;
+pub mod blocks;
+pub mod blocks_checked;
 pub mod checks;
 pub mod constructs;
 pub mod control;
+pub mod exceptions;
+pub mod exceptions_checked;
+pub mod frames;
 pub mod fused;
+pub mod iterations;
+pub mod iterations_checked;
 pub mod lexis;
 pub mod limits;
 pub mod lines;

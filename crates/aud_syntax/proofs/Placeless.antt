@@ -5,7 +5,7 @@ use Rattle.aud_lex.specs.Why.Spaced.{Word, spaced}
 use Rattle.aud_syntax.specs.declared.tree.Ident.{Ident}
 use Rattle.aud_syntax.specs.declared.tree.Connective.{Connective}
 use Rattle.aud_syntax.specs.Plain as m
-use Rattle.aud_syntax.specs.Why.Bare.{bare_ident, bare_end, bare_expression, bare_relations, bare_relation, bare_name, bare_parts, bare_part, bare_args, bare_simple, bare_addeds, bare_term, bare_multiplieds, bare_factor, bare_primary, bare_maybe, bare_declaration, bare_declarations, bare_iteration, bare_statement, bare_more_statements, bare_statements, bare_arms, bare_body, bare_context, bare}
+use Rattle.aud_syntax.specs.Why.Bare.{bare_ident, bare_end, bare_expression, bare_relations, bare_relation, bare_name, bare_parts, bare_part, bare_args, bare_simple, bare_addeds, bare_term, bare_multiplieds, bare_factor, bare_primary, bare_maybe, bare_declaration, bare_declarations, bare_iteration, bare_choices, bare_statement, bare_more_statements, bare_statements, bare_arms, bare_body, bare_handlers, bare_context, bare}
 use Rattle.aud_syntax.specs.Why.Printed as w
 use Rattle.aud_syntax.specs.Why.Laws.{WithoutPlaces}
 
@@ -78,13 +78,15 @@ maybe_same : (spelling : List ℕ) (e : m.MaybeExpression) → w.maybe_words spe
 maybe_same spelling m.no_expression = refl
 maybe_same spelling (m.an_expression e) = cc (expression_same e)
 
-more_idents_same : (xs : List Ident) → w.more_ident_words (map bare_ident xs) ≡ w.more_ident_words xs
-more_idents_same [] = refl
-more_idents_same (x ∷ xs) = cc (more_idents_same xs)
+more_idents_same : (delimiter : List ℕ) (xs : List Ident) → w.more_ident_words delimiter (map bare_ident xs) ≡ w.more_ident_words delimiter xs
+more_idents_same delimiter [] = refl
+more_idents_same delimiter (x ∷ xs) = cc (more_idents_same delimiter xs)
 
 declaration_same : (x : m.Declaration) → w.declaration_words (bare_declaration x) ≡ w.declaration_words x
-declaration_same (m.object x xs subtype value) = cc (more_idents_same xs, maybe_same (codes ":=") value)
-declaration_same (m.constant x xs subtype value) = cc (more_idents_same xs, expression_same value)
+declaration_same (m.object x xs subtype value) = cc (more_idents_same (codes ",") xs, maybe_same (codes ":=") value)
+declaration_same (m.constant x xs subtype value) = cc (more_idents_same (codes ",") xs, expression_same value)
+declaration_same (m.array x xs low high subtype) = cc (more_idents_same (codes ",") xs)
+declaration_same (m.exception x xs) = cc (more_idents_same (codes ",") xs)
 
 declarations_same : (xs : m.Declarations) → w.declarations_words (bare_declarations xs) ≡ w.declarations_words xs
 declarations_same m.no_declarations = refl
@@ -97,10 +99,19 @@ label_same (Some x) = refl
 iteration_same : (i : m.Iteration) → w.iteration_words (bare_iteration i) ≡ w.iteration_words i
 iteration_same m.forever = refl
 iteration_same (m.while e) = cc (expression_same e)
+iteration_same (m.for x reverse low high) = cc (simple_same low, simple_same high)
+
+choices_same : (x : m.Choices) → w.choices_words (bare_choices x) ≡ w.choices_words x
+choices_same (m.exceptions x xs) = cc (more_idents_same (codes "|") xs)
+choices_same (m.others at) = refl
 
 otherwise_same : (xs : m.MoreStatements) (ws : List Word) → w.otherwise_words (bare_more_statements xs) ws ≡ w.otherwise_words xs ws
 otherwise_same m.no_statements ws = refl
 otherwise_same (m.more_statements x xs) ws = refl
+
+handled_same : (xs : m.Handlers) (ws : List Word) → w.handled_words (bare_handlers xs) ws ≡ w.handled_words xs ws
+handled_same m.no_handlers ws = refl
+handled_same (m.more_handlers x statements xs) ws = refl
 
 mutual
   statement_same : (x : m.Statement) → w.statement_words (bare_statement x) ≡ w.statement_words x
@@ -110,6 +121,8 @@ mutual
   statement_same (m.if_then at e statements arms otherwise) = cc (expression_same e, statements_same statements, arms_same arms, otherwise_same otherwise (w.more_statements_words (bare_more_statements otherwise)), more_statements_same otherwise)
   statement_same (m.loop label at i statements last semicolon) = cc (label_same label, iteration_same i, statements_same statements, end_same last)
   statement_same (m.exit at label e) = cc (end_same label, maybe_same (codes "when") e)
+  statement_same (m.block label at declare ds x) = cc (label_same label, declarations_same ds, body_same x)
+  statement_same (m.raise at x) = cc (end_same x)
 
   more_statements_same : (xs : m.MoreStatements) → w.more_statements_words (bare_more_statements xs) ≡ w.more_statements_words xs
   more_statements_same m.no_statements = refl
@@ -122,8 +135,12 @@ mutual
   arms_same m.no_arms = refl
   arms_same (m.more_arms at e statements arms) = cc (expression_same e, statements_same statements, arms_same arms)
 
-body_same : (x : m.Body) → w.body_words (bare_body x) ≡ w.body_words x
-body_same (m.body begin statements end last) = cc (statements_same statements, end_same last)
+  body_same : (x : m.Body) → w.body_words (bare_body x) ≡ w.body_words x
+  body_same (m.body begin statements handlers end last semicolon) = cc (statements_same statements, handled_same handlers (w.handlers_words (bare_handlers handlers)), handlers_same handlers, end_same last)
+
+  handlers_same : (xs : m.Handlers) → w.handlers_words (bare_handlers xs) ≡ w.handlers_words xs
+  handlers_same m.no_handlers = refl
+  handlers_same (m.more_handlers x statements xs) = cc (choices_same x, statements_same statements, handlers_same xs)
 
 context_same : (x : m.Context) → w.context_words (bare_context x) ≡ w.context_words x
 context_same (m.with_text_io at) = refl

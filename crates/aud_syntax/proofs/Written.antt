@@ -19,9 +19,12 @@ use Rattle.aud_syntax.specs.declared.tree.Statement.{Statement}
 use Rattle.aud_syntax.specs.declared.tree.Statement.TheVariants.{Loop}
 use Rattle.aud_syntax.specs.declared.tree.IfStatement.{IfStatement}
 use Rattle.aud_syntax.specs.declared.tree.LoopStatement.{LoopStatement}
-use Rattle.aud_syntax.specs.Ties.View.{plain_expression, plain_chain, plain_boxed, plain_expressions, plain_name, plain_primary, plain_statement, plain_others, plain_if, plain_if_statement, plain_loop_statement}
-use Rattle.aud_syntax.specs.Why.Printed.{ident_word, expression_words, name_words, primary_words, argument_words, args_words, more_args_words, otherwise_words, statement_words, more_statements_words}
-use Rattle.aud_syntax.proofs.Opened.{chain_open, attribute_open, if_open, loop_open}
+use Rattle.aud_syntax.specs.declared.tree.BlockStatement.{BlockStatement}
+use Rattle.aud_syntax.specs.declared.tree.Body.{Body}
+use Rattle.aud_syntax.specs.declared.tree.Handler.{Handler}
+use Rattle.aud_syntax.specs.Ties.View.{plain_expression, plain_chain, plain_boxed, plain_expressions, plain_name, plain_primary, plain_statement, plain_others, plain_if, plain_if_statement, plain_loop_statement, plain_block, plain_block_statement, plain_body, plain_body_parts, handler_list}
+use Rattle.aud_syntax.specs.Why.Printed.{ident_word, expression_words, name_words, primary_words, argument_words, args_words, more_args_words, otherwise_words, statement_words, more_statements_words, body_words, handled_words, handlers_words}
+use Rattle.aud_syntax.proofs.Opened.{chain_open, attribute_open, if_open, loop_open, block_open, body_open}
 
 pub spaced_append : (a b : List Word) → spaced (a ++ b) ≡ spaced a ++ spaced b
 spaced_append [] b = refl
@@ -81,9 +84,13 @@ arguments_end r old out new before i xs ys e h n k =
     let all : out ≡ old ++ spaced (ident_word i ∷ listed (codes "(") (plain_expressions xs)) = sym (append-nil out) ∙ sym (ap (λ z. out ++ spaced (listed before (plain_expressions z))) e) ∙ h in
     subst (λ z. OnOk r (new ≡ old ++ spaced (ident_word i ∷ z))) (some_arguments xs n) (all_written r old out new (ident_word i ∷ listed (codes "(") (plain_expressions xs)) (word (codes ")") ∷ []) all k)
 
+-- the words of a tree, by its parts
+pub written_as : {X E M : Type 0} (words : M → List Word) (r : Result X E) (old new : List ℕ) (x y : M) → x ≡ y → OnOk r (new ≡ old ++ spaced (words y)) → OnOk r (new ≡ old ++ spaced (words x))
+written_as words r old new x y e h = subst (λ z. OnOk r (new ≡ old ++ spaced (words z))) (sym e) h
+
 -- relations with operators between them, as an expression
 pub chain_written : {X E : Type 0} (r : Result X E) (old new : List ℕ) (x : Box Chain Global) → OnOk r (new ≡ old ++ spaced (expression_words (plain_chain x.value))) → OnOk r (new ≡ old ++ spaced (expression_words (plain_expression (Connected x))))
-chain_written r old new x h = subst (λ z. OnOk r (new ≡ old ++ spaced (expression_words z))) (sym (chain_open x)) h
+chain_written r old new x h = written_as expression_words r old new (plain_expression (Connected x)) (plain_chain x.value) (chain_open x) h
 
 -- an attribute as a primary
 pub attribute_written : {X E : Type 0} (r : Result X E) (old a b c new : List ℕ) (x : Box name.Name Global) (i : Ident) (e : Option (Box Expression Global)) → a ≡ old ++ spaced (name_words (plain_name x.value)) → b ≡ a ++ spaced (word (codes "'") ∷ []) →
@@ -100,13 +107,27 @@ attribute_alone old a b c x i h k l = attribute_written {X = ℕ} {E = ℕ} (Ok 
 
 -- an if statement and a loop, as statements
 pub if_written : {X E : Type 0} (r : Result X E) (old new : List ℕ) (x : IfStatement) → OnOk r (new ≡ old ++ spaced (statement_words (plain_if_statement x))) → OnOk r (new ≡ old ++ spaced (statement_words (plain_if x)))
-if_written r old new x h = subst (λ z. OnOk r (new ≡ old ++ spaced (statement_words z))) (sym (if_open x)) h
+if_written r old new x h = written_as statement_words r old new (plain_if x) (plain_if_statement x) (if_open x) h
 
 pub loop_written : {X E : Type 0} (r : Result X E) (old new : List ℕ) (x : Box LoopStatement Global) → OnOk r (new ≡ old ++ spaced (statement_words (plain_loop_statement x.value))) → OnOk r (new ≡ old ++ spaced (statement_words (plain_statement (Loop x))))
-loop_written r old new x h = subst (λ z. OnOk r (new ≡ old ++ spaced (statement_words z))) (sym (loop_open x)) h
+loop_written r old new x h = written_as statement_words r old new (plain_statement (Loop x)) (plain_loop_statement x.value) (loop_open x) h
+
+-- a block, as a statement
+pub block_written : {X E : Type 0} (r : Result X E) (old new : List ℕ) (x : BlockStatement) → OnOk r (new ≡ old ++ spaced (statement_words (plain_block_statement x))) → OnOk r (new ≡ old ++ spaced (statement_words (plain_block x)))
+block_written r old new x h = written_as statement_words r old new (plain_block x) (plain_block_statement x) (block_open x) h
+
+-- statements with handlers, by their parts
+pub body_written : {X E : Type 0} (r : Result X E) (old new : List ℕ) (x : Body) → OnOk r (new ≡ old ++ spaced (body_words (plain_body_parts x))) → OnOk r (new ≡ old ++ spaced (body_words (plain_body x)))
+body_written r old new x h = written_as body_words r old new (plain_body x) (plain_body_parts x) (body_open x) h
 
 -- an else part
 pub else_written : {X E : Type 0} (r : Result X E) (old mid new : List ℕ) (xs : List Statement) → (length xs == 0) ≡ false → mid ≡ old ++ spaced (last_word (codes "else") ∷ []) → OnOk r (new ≡ mid ++ spaced (more_statements_words (plain_others xs))) →
     OnOk r (new ≡ old ++ spaced (otherwise_words (plain_others xs) (more_statements_words (plain_others xs))))
 else_written r old mid new [] e h k = cc
 else_written r old mid new (x ∷ xs) e h k = all_written r old mid new (last_word (codes "else") ∷ []) (more_statements_words (plain_others (x ∷ xs))) h k
+
+-- handlers
+pub handled_written : {X E : Type 0} (r : Result X E) (old mid new : List ℕ) (xs : List Handler) → (length xs == 0) ≡ false → mid ≡ old ++ spaced (last_word (codes "exception") ∷ []) → OnOk r (new ≡ mid ++ spaced (handlers_words (handler_list xs))) →
+    OnOk r (new ≡ old ++ spaced (handled_words (handler_list xs) (handlers_words (handler_list xs))))
+handled_written r old mid new [] e h k = cc
+handled_written r old mid new (x ∷ xs) e h k = all_written r old mid new (last_word (codes "exception") ∷ []) (handlers_words (handler_list (x ∷ xs))) h k

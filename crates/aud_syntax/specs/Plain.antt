@@ -1,5 +1,5 @@
 -- Syntax trees as plain data, with nothing of where they lie in memory (RM 3 to 6).
-use Rattle.std.specs.Prelude.{List, Option}
+use Rattle.std.specs.Prelude.{List, Option, Bool}
 use Rattle.aud_text.specs.declared.place.Pos.{Pos}
 use Rattle.aud_syntax.specs.declared.tree.Ident.{Ident}
 use Rattle.aud_syntax.specs.declared.tree.Number.{Number}
@@ -10,6 +10,7 @@ use Rattle.aud_syntax.specs.declared.tree.Multiplying.{Multiplying}
 use Rattle.aud_syntax.specs.declared.tree.Operator.{Operator}
 use Rattle.aud_syntax.specs.declared.tree.Relational.{Relational}
 use Rattle.aud_syntax.specs.declared.tree.Connective.{Connective}
+use Rattle.aud_syntax.specs.declared.tree.Bound.{Bound}
 
 -- expressions and names (RM 4.1, 4.4)
 mutual
@@ -77,10 +78,15 @@ mutual
     no_args : Args
     more_args : Expression → Args → Args
 
--- the first name, the others, the subtype and the value (RM 3.1, 3.3.1)
+-- of each the first name and the others (RM 3.1)
 pub data Declaration : Type 0 where
+  -- the subtype and the value (RM 3.3.1)
   object : Ident → List Ident → Ident → MaybeExpression → Declaration
   constant : Ident → List Ident → Ident → Expression → Declaration
+  -- the bounds of the index, and the subtype of the elements (RM 3.3.1, 3.6)
+  array : Ident → List Ident → Bound → Bound → Ident → Declaration
+  -- RM 11.1
+  exception : Ident → List Ident → Declaration
 
 pub data Declarations : Type 0 where
   no_declarations : Declarations
@@ -90,6 +96,13 @@ pub data Declarations : Type 0 where
 pub data Iteration : Type 0 where
   forever : Iteration
   while : Expression → Iteration
+  -- the parameter, whether its values come in reverse, and their bounds (RM 5.5(4))
+  for : Ident → Bool → Simple → Simple → Iteration
+
+-- for what a handler is: for these exceptions, or for all that no handler before it names, and where `others` stands (RM 11.2(5))
+pub data Choices : Type 0 where
+  exceptions : Ident → List Ident → Choices
+  others : Pos → Choices
 
 -- RM 5.1
 mutual
@@ -104,6 +117,10 @@ mutual
     loop : Option Ident → Pos → Iteration → Statements → Option Ident → Pos → Statement
     -- where it stands, the name of the loop, and the condition (RM 5.7)
     exit : Pos → Option Ident → MaybeExpression → Statement
+    -- its name, where its first word behind that stands, whether that is `declare`, the declarations and the body (RM 5.6)
+    block : Option Ident → Pos → Bool → Declarations → Body → Statement
+    -- where it stands, and the exception; none is named where one is raised again (RM 11.3)
+    raise : Pos → Option Ident → Statement
 
   -- the first statement, and those behind it (RM 5.1(2))
   pub data Statements : Type 0 where
@@ -118,9 +135,14 @@ mutual
     no_arms : Arms
     more_arms : Pos → Expression → Statements → Arms → Arms
 
--- where the statements begin, the statements, where they end, and the name after `end` (RM 11.2)
-pub data Body : Type 0 where
-  body : Pos → Statements → Pos → Option Ident → Body
+  -- where `begin` stands, the statements, the handlers, where `end` stands, the name after it, and where the semicolon stands (RM 11.2)
+  pub data Body : Type 0 where
+    body : Pos → Statements → Handlers → Pos → Option Ident → Pos → Body
+
+  -- RM 11.2(3)
+  pub data Handlers : Type 0 where
+    no_handlers : Handlers
+    more_handlers : Choices → Statements → Handlers → Handlers
 
 -- a context clause for Ada.Text_IO, and where it begins (RM 10.1.2, 8.4)
 pub data Context : Type 0 where

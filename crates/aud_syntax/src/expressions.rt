@@ -100,7 +100,7 @@ fn push_comparison(out: &mut Vec<u8>, comparison: &Comparison) -> Result<(), All
 }
 
 #[cycle(print)]
-fn push_simple(out: &mut Vec<u8>, simple: &Simple) -> Result<(), AllocError>
+pub fn push_simple(out: &mut Vec<u8>, simple: &Simple) -> Result<(), AllocError>
     ensures { Writes result out.old out.new (simple_words (plain_simple simple.now)) }
 {
     push_sign(out, simple.sign)?;

@@ -3,15 +3,13 @@
 
 ghost use Rattle.std.specs.Prelude.{◌≡◌, IfOk, map};
 ghost use Rattle.aud_syntax.specs.Ties.Writes.{Writes};
-ghost use Rattle.aud_syntax.specs.Ties.View.{plain_expression, plain_maybe, plain_declaration, plain_declarations, plain_context, plain_body, plain_unit};
-ghost use Rattle.aud_syntax.specs.Why.Printed.{object_words, constant_words, declaration_words, declarations_words, body_words, clause_words, context_words, contexts_words, unit_words, printed};
+ghost use Rattle.aud_syntax.specs.Ties.View.{plain_context, plain_unit};
+ghost use Rattle.aud_syntax.specs.Why.Printed.{clause_words, context_words, contexts_words, unit_words, printed};
 
-use crate::expressions::{push_expression, push_maybe};
-use crate::statements::push_statements;
-use crate::tree::{Body, Context, Declaration, Expression, Ident, Identifiers, Unit};
-use crate::words::{
-    push_end_name, push_ident, push_idents, push_last_word, push_two_words, push_word,
-};
+use crate::declarations::push_declarations;
+use crate::statements::push_body;
+use crate::tree::{Context, Unit};
+use crate::words::{push_ident, push_last_word, push_two_words, push_word};
 use aud_text::text::Text;
 use std::alloc::{AllocError, Global};
 
@@ -70,73 +68,5 @@ fn push_clause(out: &mut Vec<u8>, spelling: &[u8]) -> Result<(), AllocError>
 {
     push_two_words(out, spelling, b"ADA")?;
     push_two_words(out, b".", b"TEXT_IO")?;
-    push_last_word(out, b";")
-}
-
-// RM 11.2
-fn push_body(out: &mut Vec<u8>, body: &Body) -> Result<(), AllocError>
-    ensures { Writes result out.old out.new (body_words (plain_body body.now)) }
-{
-    push_last_word(out, b"begin")?;
-    push_statements(out, &body.statements)?;
-    push_word(out, b"end")?;
-    push_end_name(out, &body.name)?;
-    push_last_word(out, b";")
-}
-
-fn push_declarations(out: &mut Vec<u8>, declarations: &[Declaration]) -> Result<(), AllocError>
-    ensures { Writes result out.old out.new
-        (declarations_words (plain_declarations declarations.now)) }
-{
-    for next in declarations {
-        push_declaration(out, next)?;
-    }
-    Ok(())
-}
-
-// RM 3.1
-fn push_declaration(out: &mut Vec<u8>, declaration: &Declaration) -> Result<(), AllocError>
-    ensures { Writes result out.old out.new
-        (declaration_words (plain_declaration declaration.now)) }
-{
-    match declaration {
-        Declaration::Object(names, subtype, value) => push_object(out, names, subtype, value),
-        Declaration::Constant(names, subtype, value) => push_constant(out, names, subtype, value),
-    }
-}
-
-// RM 3.3.1
-fn push_object(
-    out: &mut Vec<u8>,
-    names: &Identifiers,
-    subtype: &Ident,
-    value: &Option<Expression>,
-) -> Result<(), AllocError>
-    ensures { Writes result out.old out.new
-        (object_words names.now.first names.now.others.items subtype.now (plain_maybe value.now)) }
-{
-    push_idents(out, names)?;
-    push_word(out, b":")?;
-    push_ident(out, subtype)?;
-    push_maybe(out, b":=", value)?;
-    push_last_word(out, b";")
-}
-
-// RM 3.3.1
-fn push_constant(
-    out: &mut Vec<u8>,
-    names: &Identifiers,
-    subtype: &Ident,
-    value: &Expression,
-) -> Result<(), AllocError>
-    ensures { Writes result out.old out.new
-        (constant_words names.now.first names.now.others.items subtype.now
-        (plain_expression value.now)) }
-{
-    push_idents(out, names)?;
-    push_two_words(out, b":", b"constant")?;
-    push_ident(out, subtype)?;
-    push_word(out, b":=")?;
-    push_expression(out, value)?;
     push_last_word(out, b";")
 }

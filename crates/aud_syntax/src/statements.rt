@@ -1,14 +1,18 @@
 // The canonical text of statements.
 
 ghost use Rattle.aud_syntax.specs.Ties.Writes.{Writes};
-ghost use Rattle.aud_syntax.specs.Ties.View.{plain_expression, plain_maybe, plain_name, plain_statement, plain_others, plain_statements, plain_if, arm_list, plain_iteration, plain_loop_statement};
-ghost use Rattle.aud_syntax.specs.Why.Printed.{null_words, assignment_words, call_words, label_words, iteration_words, exit_words, expression_words, arm_words, arms_words, otherwise_words, statement_words, more_statements_words, statements_words};
+ghost use Rattle.aud_syntax.specs.Ties.View.{plain_expression, plain_maybe, plain_name, plain_statement, plain_others, plain_statements, plain_if, arm_list, plain_iteration, plain_parameter, plain_choices, plain_loop_statement, plain_block, plain_body, handler_list};
+ghost use Rattle.aud_syntax.specs.Why.Printed.{null_words, assignment_words, call_words, label_words, reverse_words, iteration_words, exit_words, raise_words, declare_words, choices_words, expression_words, arm_words, arms_words, otherwise_words, statement_words, more_statements_words, statements_words, body_words, handler_words, handlers_words, handled_words};
 
-use crate::expressions::{push_expression, push_maybe, push_name};
+use crate::declarations::push_declarations;
+use crate::expressions::{push_expression, push_maybe, push_name, push_simple};
 use crate::tree::{
-    Arm, Expression, Ident, IfStatement, Iteration, LoopStatement, Name, Statement, Statements,
+    Arm, BlockStatement, Body, Choices, Expression, Handler, Ident, IfStatement, Iteration,
+    LoopParameter, LoopStatement, Name, Statement, Statements,
 };
-use crate::words::{push_end_name, push_ident, push_last_word, push_two_words, push_word};
+use crate::words::{
+    push_end_name, push_ident, push_idents, push_last_word, push_two_words, push_word,
+};
 use std::alloc::AllocError;
 
 #[cycle(statement)]
@@ -40,7 +44,9 @@ fn push_statement(out: &mut Vec<u8>, statement: &Statement) -> Result<(), AllocE
         Statement::Call(name) => push_call(out, name),
         Statement::If(statement) => push_if(out, statement),
         Statement::Loop(statement) => push_loop(out, statement),
+        Statement::Block(statement) => push_block(out, statement),
         Statement::Exit(_, label, condition) => push_exit(out, label, condition),
+        Statement::Raise(_, exception) => push_raise(out, exception),
     }
 }
 
@@ -130,6 +136,109 @@ fn push_iteration(out: &mut Vec<u8>, iteration: &Iteration) -> Result<(), AllocE
             push_word(out, b"while")?;
             push_expression(out, condition)
         }
+        Iteration::For(parameter) => push_parameter(out, parameter),
+    }
+}
+
+// RM 5.5(4)
+fn push_parameter(out: &mut Vec<u8>, parameter: &LoopParameter) -> Result<(), AllocError>
+    ensures { Writes result out.old out.new (iteration_words (plain_parameter parameter.now)) }
+{
+    push_word(out, b"for")?;
+    push_ident(out, &parameter.name)?;
+    push_word(out, b"in")?;
+    push_reverse(out, parameter.reverse)?;
+    push_simple(out, &parameter.low)?;
+    push_word(out, b"..")?;
+    push_simple(out, &parameter.high)
+}
+
+fn push_reverse(out: &mut Vec<u8>, reverse: bool) -> Result<(), AllocError>
+    ensures { Writes result out.old out.new (reverse_words reverse) }
+{
+    if reverse {
+        return push_word(out, b"reverse");
+    }
+    Ok(())
+}
+
+// RM 5.6
+#[cycle(statement)]
+fn push_block(out: &mut Vec<u8>, statement: &BlockStatement) -> Result<(), AllocError>
+    ensures { Writes result out.old out.new
+        (statement_words (plain_block statement.now)) }
+{
+    push_label(out, &statement.label)?;
+    push_declare(out, statement.declare)?;
+    push_declarations(out, &statement.declarations)?;
+    push_body(out, &statement.body)
+}
+
+fn push_declare(out: &mut Vec<u8>, declare: bool) -> Result<(), AllocError>
+    ensures { Writes result out.old out.new (declare_words declare) }
+{
+    if declare {
+        return push_last_word(out, b"declare");
+    }
+    Ok(())
+}
+
+// RM 11.2
+#[cycle(statement)]
+pub fn push_body(out: &mut Vec<u8>, body: &Body) -> Result<(), AllocError>
+    ensures { Writes result out.old out.new (body_words (plain_body body.now)) }
+{
+    push_last_word(out, b"begin")?;
+    push_statements(out, &body.statements)?;
+    push_handled(out, &body.handlers)?;
+    push_word(out, b"end")?;
+    push_end_name(out, &body.name)?;
+    push_last_word(out, b";")
+}
+
+// The handlers of a body, if there are any.
+#[cycle(statement)]
+fn push_handled(out: &mut Vec<u8>, handlers: &[Handler]) -> Result<(), AllocError>
+    ensures { Writes result out.old out.new
+        (handled_words (handler_list handlers.now) (handlers_words (handler_list handlers.now))) }
+{
+    if handlers.is_empty() {
+        return Ok(());
+    }
+    push_last_word(out, b"exception")?;
+    push_handlers(out, handlers)
+}
+
+#[cycle(statement)]
+fn push_handlers(out: &mut Vec<u8>, handlers: &[Handler]) -> Result<(), AllocError>
+    ensures { Writes result out.old out.new (handlers_words (handler_list handlers.now)) }
+{
+    for next in handlers {
+        push_handler(out, next)?;
+    }
+    Ok(())
+}
+
+// RM 11.2(3)
+#[cycle(statement)]
+fn push_handler(out: &mut Vec<u8>, handler: &Handler) -> Result<(), AllocError>
+    ensures { Writes result out.old out.new
+        (handler_words (plain_choices handler.now.choices)
+        (statements_words (plain_statements handler.now.statements))) }
+{
+    push_word(out, b"when")?;
+    push_choices(out, &handler.choices)?;
+    push_last_word(out, b"=>")?;
+    push_statements(out, &handler.statements)
+}
+
+// RM 11.2(5)
+fn push_choices(out: &mut Vec<u8>, choices: &Choices) -> Result<(), AllocError>
+    ensures { Writes result out.old out.new (choices_words (plain_choices choices.now)) }
+{
+    match choices {
+        Choices::Named(names) => push_idents(out, b"|", names),
+        Choices::Others(_) => push_word(out, b"others"),
     }
 }
 
@@ -144,6 +253,15 @@ fn push_exit(
     push_word(out, b"exit")?;
     push_end_name(out, label)?;
     push_maybe(out, b"when", condition)?;
+    push_last_word(out, b";")
+}
+
+// RM 11.3
+fn push_raise(out: &mut Vec<u8>, exception: &Option<Ident>) -> Result<(), AllocError>
+    ensures { Writes result out.old out.new (raise_words exception.now) }
+{
+    push_word(out, b"raise")?;
+    push_end_name(out, exception)?;
     push_last_word(out, b";")
 }
 

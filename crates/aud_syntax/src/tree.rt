@@ -208,12 +208,23 @@ pub struct Identifiers {
     pub others: Vec<Ident>,
 }
 
+/// A bound of an array (RM 3.6.1): whether a minus stands before it, and its number.
+#[derive(Clone, Copy, PartialEq, Eq, Debug)]
+pub struct Bound {
+    pub negative: bool,
+    pub number: Number,
+}
+
 /// A declaration (RM 3.1).
 pub enum Declaration {
     /// Variables, their subtype and their initial value (RM 3.3.1).
     Object(Identifiers, Ident, Option<Expression>),
     /// Constants, their subtype and their value (RM 3.3.1).
     Constant(Identifiers, Ident, Expression),
+    /// Arrays, the bounds of their index, and the subtype of their elements (RM 3.3.1, 3.6).
+    Array(Identifiers, Bound, Bound, Ident),
+    /// Exceptions (RM 11.1).
+    Exception(Identifiers),
 }
 
 /// A statement (RM 5.1).
@@ -227,8 +238,11 @@ pub enum Statement {
     Call(Name),
     If(Box<IfStatement>),
     Loop(Box<LoopStatement>),
+    Block(Box<BlockStatement>),
     /// Where `exit` stands, the name of the loop that is left, and the condition (RM 5.7).
     Exit(Pos, Option<Ident>, Option<Expression>),
+    /// Where `raise` stands, and the exception; none is named where one is raised again (RM 11.3).
+    Raise(Pos, Option<Ident>),
 }
 
 /// An if statement (RM 5.3): what stands behind `if`, what behind each `elsif`, and the statements behind `else`, of which
@@ -270,6 +284,29 @@ pub enum Iteration {
     Forever,
     /// As long as the condition is true.
     While(Expression),
+    /// Once for each value of the parameter.
+    For(LoopParameter),
+}
+
+/// The parameter of a for loop (RM 5.5(4)), whether its values come in reverse, and their bounds.
+#[derive(Drop)]
+pub struct LoopParameter {
+    pub name: Ident,
+    pub reverse: bool,
+    pub low: Simple,
+    pub high: Simple,
+}
+
+/// A block statement (RM 5.6): its name, where its first word behind that stands, whether that is `declare`, and the
+/// declarations behind it.
+#[derive(Drop)]
+#[cycle(statement)]
+pub struct BlockStatement {
+    pub label: Option<Ident>,
+    pub at: Pos,
+    pub declare: bool,
+    pub declarations: Vec<Declaration>,
+    pub body: Body,
 }
 
 /// A sequence of statements (RM 5.1(2)): the first, and those behind it.
@@ -280,12 +317,34 @@ pub struct Statements {
     pub others: Vec<Statement>,
 }
 
-/// A body's statements (RM 11.2(2)), where they begin and end, and the name after `end`.
+/// A sequence of statements with handlers (RM 11.2(2)): where its `begin` and its `end` stand, the name behind `end`, and where
+/// the semicolon stands.
+#[derive(Drop)]
+#[cycle(statement)]
 pub struct Body {
     pub begin: Pos,
     pub statements: Statements,
+    pub handlers: Vec<Handler>,
     pub end: Pos,
     pub name: Option<Ident>,
+    pub semicolon: Pos,
+}
+
+/// An exception handler (RM 11.2(3)): for what it is, and its statements.
+#[derive(Drop)]
+#[cycle(statement)]
+pub struct Handler {
+    pub choices: Choices,
+    pub statements: Statements,
+}
+
+/// The exceptions for which a handler is (RM 11.2(5)).
+#[derive(Drop)]
+pub enum Choices {
+    /// These.
+    Named(Identifiers),
+    /// All that no handler before it names, and where `others` stands.
+    Others(Pos),
 }
 
 /// A context clause for Ada.Text_IO, and where it begins.
@@ -314,18 +373,9 @@ impl Drop for Declaration {
         match self {
             Declaration::Object(_, _, _) => {}
             Declaration::Constant(_, _, _) => {}
+            Declaration::Array(_, _, _, _) => {}
+            Declaration::Exception(_) => {}
         }
-    }
-}
-
-impl Drop for Body {
-    fn drop(self) {
-        let Body {
-            begin: _,
-            statements: _,
-            end: _,
-            name: _,
-        } = self;
     }
 }
 

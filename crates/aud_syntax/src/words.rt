@@ -3,30 +3,36 @@
 ghost use Rattle.std.specs.Prelude.{◌≡◌, ◌++◌, ◌∷◌, [], OnOk};
 ghost use Rattle.aud_lex.specs.Why.Spaced.{word, last_word};
 ghost use Rattle.aud_syntax.specs.Ties.Writes.{Writes};
-ghost use Rattle.aud_syntax.specs.Why.Printed.{ident_word, number_word, doubled, literal_word, more_ident_words, idents_words, end_words};
+ghost use Rattle.aud_syntax.specs.Why.Printed.{ident_word, number_word, doubled, literal_word, more_ident_words, separated_words, end_words};
 
 use crate::tree::{Ident, Identifiers, Literal, Number};
 use aud_text::digits::push_decimal;
 use std::alloc::AllocError;
 
-pub fn push_idents(out: &mut Vec<u8>, names: &Identifiers) -> Result<(), AllocError>
-    ensures { Writes result out.old out.new (idents_words names.now.first names.now.others.items) }
+// Names, with the delimiter between each two.
+pub fn push_idents(
+    out: &mut Vec<u8>,
+    delimiter: &[u8],
+    names: &Identifiers,
+) -> Result<(), AllocError>
+    ensures { Writes result out.old out.new
+        (separated_words delimiter.now names.now.first names.now.others.items) }
 {
     push_ident(out, &names.first)?;
-    push_more_idents(out, &names.others)
+    push_more_idents(out, delimiter, &names.others)
 }
 
-fn push_more_idents(out: &mut Vec<u8>, names: &[Ident]) -> Result<(), AllocError>
-    ensures { Writes result out.old out.new (more_ident_words names.now) }
+fn push_more_idents(out: &mut Vec<u8>, delimiter: &[u8], names: &[Ident]) -> Result<(), AllocError>
+    ensures { Writes result out.old out.new (more_ident_words delimiter.now names.now) }
 {
     for next in names {
-        push_word(out, b",")?;
+        push_word(out, delimiter)?;
         push_ident(out, next)?;
     }
     Ok(())
 }
 
-// The name behind `end` or `exit`, if there is one (RM 5.5, 5.7, 6.3).
+// The name behind `end`, `exit` or `raise`, if there is one (RM 5.5, 5.7, 6.3, 11.3).
 pub fn push_end_name(out: &mut Vec<u8>, name: &Option<Ident>) -> Result<(), AllocError>
     ensures { Writes result out.old out.new (end_words name.now) }
 {

@@ -25,6 +25,8 @@ pub enum Refusal {
     NotAVariable,
     WrongNameAtEnd,
     ExitWithoutLoop,
+    RaiseWithoutHandler,
+    BadHandlerChoice,
     NumberTooLarge,
     OutOfMemory,
 }
@@ -69,6 +71,8 @@ impl Refusal {
             Refusal::NotAVariable => (35, b"not a variable"),
             Refusal::WrongNameAtEnd => (36, b"wrong name at end"),
             Refusal::ExitWithoutLoop => (40, b"exit without loop"),
+            Refusal::RaiseWithoutHandler => (42, b"raise without handler"),
+            Refusal::BadHandlerChoice => (43, b"bad handler choice"),
             Refusal::NumberTooLarge => (45, b"number too large"),
             Refusal::OutOfMemory => (90, b"out of memory"),
         }

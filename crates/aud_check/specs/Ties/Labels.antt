@@ -1,8 +1,10 @@
 -- The labels around a statement in memory.
-use denote.Ref.{Bor}
-use Rattle.std.specs.Prelude.{List, Option, map}
-use Rattle.aud_syntax.specs.declared.tree.Ident.{Ident}
-use Rattle.aud_check.specs.Labels.{Labels}
+use Rattle.std.specs.Prelude.{List, map}
+use Rattle.aud_check.specs.declared.labels.Label as memory
+use Rattle.aud_check.specs.Labels.{Label, Labels}
 
-abbrev pub plain_labels : List (Bor (Option Ident)) → Labels
-plain_labels labels = map (λ label. label.now) labels
+abbrev pub plain_label : memory.Label → Label
+plain_label l = record { is_loop = l.is_loop; name = l.name.now }
+
+abbrev pub plain_labels : List memory.Label → Labels
+plain_labels labels = map plain_label labels

@@ -1,5 +1,5 @@
 -- What is shown by a check of statements in memory, by where they stand.
-use Rattle.std.specs.Prelude.{Option, Box, Result}
+use Rattle.std.specs.Prelude.{◌≡◌, Option, Box, Result, Ok, Err}
 use Rattle.std.specs.Global.{Global}
 use Rattle.std.specs.declared.alloc.AllocError.{AllocError}
 use Rattle.aud_syntax.specs.Plain.{Statement}
@@ -7,13 +7,20 @@ use Rattle.aud_typed.specs.declared.program.Statement as memory
 use Rattle.aud_typed.specs.Ties.View.{plain_statement}
 use Rattle.aud_check.specs.declared.fault.Fault.{Fault}
 use Rattle.aud_check.specs.declared.within.Within.{Within}
-use Rattle.aud_check.specs.Labels.{Labels}
-use Rattle.aud_check.specs.Statements.{statement_faults, typed_statement}
+use Rattle.aud_check.specs.Least.{noted}
+use Rattle.aud_check.specs.Tables.{Tables, Outcome}
+use Rattle.aud_check.specs.Statements.{Around, checked_statement}
 use Rattle.aud_check.specs.Ties.Labels.{plain_labels}
-use Rattle.aud_check.specs.Ties.Typing.{in_box, Leaves}
+use Rattle.aud_check.specs.Ties.Typing.{in_box}
 
-abbrev pub labels_of : Within → Labels
-labels_of within = plain_labels within.labels.now
+-- the constructs around a statement
+abbrev pub around_of : Within → Around
+around_of within = record { labels = plain_labels within.labels.now; in_handler = within.in_handler }
 
-abbrev pub LeavesStatement : Result (Box memory.Statement Global) AllocError → Option Fault → Option Fault → Statement → Within → Type 0
-LeavesStatement result old new s within = Leaves (in_box plain_statement) result old new (statement_faults s (labels_of within) within.scope.now) (typed_statement s (labels_of within) within.scope.now)
+-- the faults are noted, these are the tables, and this is made; nothing is said where memory is refused
+abbrev pub Checks : {X Y : Type 0} → (X → Y) → Result X AllocError → Option Fault → Option Fault → Tables → Outcome Y → Type 0
+Checks plain (Ok x) old new tables o = (new ≡ noted old o.faults) × (tables ≡ o.tables) × (plain x ≡ o.made)
+Checks plain (Err e) old new tables o = Unit {0}
+
+abbrev pub ChecksStatement : Result (Box memory.Statement Global) AllocError → Option Fault → Option Fault → Tables → Tables → Statement → Within → Type 0
+ChecksStatement result old new old_tables new_tables s within = Checks (in_box plain_statement) result old new new_tables (checked_statement s (around_of within) within.scope.now old_tables)

@@ -18,12 +18,15 @@ use Rattle.aud_syntax.specs.declared.tree.Declaration.{Declaration}
 use Rattle.aud_syntax.specs.declared.tree.Statement.{Statement}
 use Rattle.aud_syntax.specs.declared.tree.Statements.{Statements}
 use Rattle.aud_syntax.specs.declared.tree.Arm.{Arm}
+use Rattle.aud_syntax.specs.declared.tree.Iteration.{Iteration}
+use Rattle.aud_syntax.specs.declared.tree.Bound.{Bound}
+use Rattle.aud_syntax.specs.declared.tree.Choices.{Choices}
+use Rattle.aud_syntax.specs.declared.tree.Handler.{Handler}
 use Rattle.aud_syntax.specs.declared.tree.Body.{Body}
 use Rattle.aud_syntax.specs.declared.tree.Context.{Context}
 use Rattle.aud_syntax.specs.declared.tree.Unit as declared
-use Rattle.aud_syntax.specs.Ties.View.{plain_expression, plain_boxed, plain_maybe, plain_expressions, plain_part, plain_name, plain_primary, plain_factor, plain_multiplied, plain_term, plain_added, plain_simple, plain_relation, plain_declaration, plain_statement, plain_statements, plain_body, plain_context, plain_unit}
-use Rattle.aud_parse.specs.Actions.{Item, none, cons, in_parens, an_attribute, some_args, a_part, a_name, a_primary, a_factor, a_multiplied, a_term, an_added, a_simple, a_relation, an_expression, assigned, called, some_names, a_variable, a_constant, a_declaration, a_statement, some_statements, a_body, a_context, a_unit, an_arm, an_iteration}
-use Rattle.aud_syntax.specs.Plain as m
+use Rattle.aud_syntax.specs.Ties.View.{plain_expression, plain_boxed, plain_maybe, plain_expressions, plain_part, plain_name, plain_primary, plain_factor, plain_multiplied, plain_term, plain_added, plain_simple, plain_relation, plain_declaration, plain_declarations, plain_statement, plain_statements, plain_iteration, plain_choices, plain_body, plain_context, plain_unit}
+use Rattle.aud_parse.specs.Actions.{Item, none, cons, in_parens, an_attribute, some_args, a_part, a_name, a_primary, a_factor, a_multiplied, a_term, an_added, a_simple, a_relation, an_expression, assigned, called, some_names, a_variable, a_constant, a_declaration, a_statement, some_statements, a_body, a_context, a_unit, an_arm, an_iteration, a_bound, an_index, an_array, a_declare, some_choices, a_handler}
 
 abbrev pub list_item : {X : Type 0} → (X → Item) → List X → Item
 list_item f [] = none
@@ -100,6 +103,15 @@ variable_item x = a_variable x.0 (plain_maybe x.1)
 abbrev pub constant_item : Ident × Expression → Item
 constant_item x = a_constant x.0 (plain_expression x.1)
 
+abbrev pub bound_item : Box Bound Global → Item
+bound_item x = a_bound x.value
+
+abbrev pub index_item : Box Bound Global × Box Bound Global → Item
+index_item x = an_index x.0.value x.1.value
+
+abbrev pub array_item : (Box Bound Global × Box Bound Global) × Ident → Item
+array_item x = an_array x.0.0.value x.0.1.value x.1
+
 abbrev pub declaration_item : Declaration → Item
 declaration_item x = a_declaration (plain_declaration x)
 
@@ -121,8 +133,25 @@ arm_item x = an_arm x.at (plain_expression x.condition) (plain_statements x.stat
 abbrev pub boxed_arm_item : Box Arm Global → Item
 boxed_arm_item b = arm_item b.value
 
-abbrev pub while_item : Pos × Box Expression Global → Item
-while_item x = an_iteration x.0 (m.while (plain_expression x.1.value))
+abbrev pub scheme_item : Pos × Box Iteration Global → Item
+scheme_item x = an_iteration x.0 (plain_iteration x.1.value)
+
+-- two bounds
+abbrev pub range_items : Box Simple Global × Box Simple Global → List Item
+range_items x = boxed_item simple_item x.0 ∷ boxed_item simple_item x.1 ∷ []
+
+-- the declarations of a block, and where `declare` stands
+abbrev pub declare_item : Pos × Vec Declaration Global → Item
+declare_item x = a_declare x.0 (plain_declarations x.1.items)
+
+abbrev pub choices_item : Box Choices Global → Item
+choices_item b = some_choices (plain_choices b.value)
+
+abbrev pub handler_item : Handler → Item
+handler_item x = a_handler (plain_choices x.choices) (plain_statements x.statements)
+
+abbrev pub boxed_handler_item : Box Handler Global → Item
+boxed_handler_item b = handler_item b.value
 
 -- a condition and the statements behind it
 abbrev pub guarded_items : Box Expression Global × Box Statements Global → List Item
@@ -130,6 +159,9 @@ guarded_items x = boxed_item expression_item x.0 ∷ boxed_statements_item x.1 �
 
 abbrev pub body_item : Body → Item
 body_item x = a_body (plain_body x)
+
+abbrev pub boxed_body_item : Box Body Global → Item
+boxed_body_item b = body_item b.value
 
 abbrev pub context_item : Context → Item
 context_item x = a_context (plain_context x)

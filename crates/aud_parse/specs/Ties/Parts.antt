@@ -1,5 +1,5 @@
 -- Statements of the parts that were read.
-use Rattle.std.specs.Prelude.{◌≡◌, List, [], ◌∷◌, Option, Some, None, Box}
+use Rattle.std.specs.Prelude.{◌≡◌, List, [], ◌∷◌, Bool, true, false, Option, Some, None, Box, Vec}
 use Rattle.std.specs.Global.{Global}
 use Rattle.aud_text.specs.declared.place.Pos.{Pos}
 use Rattle.aud_lex.specs.declared.token.Kind.{Kind}
@@ -7,12 +7,14 @@ use Rattle.aud_syntax.specs.declared.tree.Ident.{Ident}
 use Rattle.aud_syntax.specs.declared.tree.Expression.{Expression}
 use Rattle.aud_syntax.specs.declared.tree.Statement.{Statement}
 use Rattle.aud_syntax.specs.declared.tree.Statements.{Statements}
+use Rattle.aud_syntax.specs.declared.tree.Declaration.{Declaration}
+use Rattle.aud_syntax.specs.declared.tree.Iteration.{Iteration}
 use Rattle.aud_syntax.specs.Plain as m
-use Rattle.aud_syntax.specs.Ties.View.{plain_expression}
+use Rattle.aud_syntax.specs.Ties.View.{plain_expression, plain_iteration, plain_declarations}
 use Rattle.aud_parse.specs.Grammar as g
 use Rattle.aud_parse.specs.Grammar.{Phrase, T, N, rule}
 use Rattle.aud_parse.specs.First.{firsts}
-use Rattle.aud_parse.specs.Actions.{Item, an_ident, made}
+use Rattle.aud_parse.specs.Actions.{Item, there, none, an_ident, made}
 
 -- an assignment of a value to a name, or a call where there is none
 abbrev pub assigned_or_called : m.Name → Option Expression → m.Statement
@@ -26,21 +28,49 @@ else_statements (Some b) = b.value.first ∷ b.value.others.items
 
 -- how often a loop is gone through, and where it begins: at that, or at `loop`
 
-abbrev pub iteration_of : Option (Pos × Box Expression Global) → m.Iteration
+abbrev pub iteration_of : Option (Pos × Box Iteration Global) → m.Iteration
 iteration_of None = m.forever
-iteration_of (Some x) = m.while (plain_expression x.1.value)
+iteration_of (Some x) = plain_iteration x.1.value
 
-abbrev pub begins_at : Option (Pos × Box Expression Global) → Pos → Pos
+abbrev pub begins_at : Option (Pos × Box Iteration Global) → Pos → Pos
 begins_at None begin = begin
 begins_at (Some x) begin = x.0
 
--- a loop behind its name, if it has one
+-- the declarations of a block, whether they stand behind `declare`, and where it begins: at that, or at `begin`
+
+abbrev pub declared_in : Option (Pos × Vec Declaration Global) → m.Declarations
+declared_in None = m.no_declarations
+declared_in (Some x) = plain_declarations x.1.items
+
+abbrev pub is_declared : Option (Pos × Vec Declaration Global) → Bool
+is_declared None = false
+is_declared (Some x) = true
+
+abbrev pub declares_at : Option (Pos × Vec Declaration Global) → Pos → Pos
+declares_at None begin = begin
+declares_at (Some x) begin = x.0
+
+-- a loop or a block behind its name, if it has one
 abbrev pub behind_label : Option Ident → List Item → List Item
 behind_label None st = st
 behind_label (Some i) st = made g.NameStatement (an_ident i ∷ st)
 
--- a phrase that is this word and an expression, whose tree it has
-pub record IsValue (c : Kind) (p : Phrase) : Type 0 where
-  pub symbols : rule p ≡ T c ∷ N g.Expression ∷ []
+-- a phrase that is this word and another phrase, whose tree it has
+pub record IsBehind (c : Kind) (q p : Phrase) : Type 0 where
+  pub symbols : rule p ≡ T c ∷ N q ∷ []
   pub begins : firsts p ≡ c ∷ []
   pub same : (st : List Item) → made p st ≡ st
+
+-- the same of an expression
+abbrev pub IsValue : Kind → Phrase → Type 0
+IsValue c p = IsBehind c g.Expression p
+
+-- a phrase that is this word, of which the tree keeps whether it is there
+pub record IsMark (c : Kind) (p : Phrase) : Type 0 where
+  pub symbols : rule p ≡ T c ∷ []
+  pub begins : firsts p ≡ c ∷ []
+  pub same : (st : List Item) → made p st ≡ there ∷ st
+
+abbrev pub mark_item : Bool → Item
+mark_item true = there
+mark_item false = none

@@ -3,6 +3,7 @@ use Rattle.std.specs.Prelude.{◌≡◌, ℕ, zero, suc, ◌+◌, ◌-◌, ◌*�
 use Rattle.aud_text.specs.declared.place.Pos.{Pos}
 use Rattle.aud_lex.specs.Element.{Element}
 use Rattle.aud_lex.specs.Lexed.{lexed}
+use Rattle.aud_syntax.specs.declared.tree.Ident.{Ident}
 use Rattle.aud_syntax.specs.declared.tree.Sign.TheVariants as sign
 use Rattle.aud_syntax.specs.declared.tree.Adding.TheVariants.{Plus, Minus, Join}
 use Rattle.aud_syntax.specs.declared.tree.Multiplying.TheVariants.{Times, Divide, Modulo, Remainder}
@@ -10,7 +11,7 @@ use Rattle.aud_syntax.specs.declared.tree.Relational.{Relational}
 use Rattle.aud_syntax.specs.declared.tree.Relational.TheVariants.{Equal, Unequal, Less, AtMost, Greater, AtLeast}
 use Rattle.aud_syntax.specs.declared.tree.Connective.{Connective}
 use Rattle.aud_syntax.specs.declared.tree.Connective.TheVariants.{And, Or, Xor, AndThen, OrElse}
-use Rattle.aud_syntax.specs.Plain.{Expression, alone, connected, Relations, no_relations, more_relations, Relation, unrelated, related, Simple, simple, added, multiplied, Primary, name, attribute, group, Name, named, part, no_expression, an_expression, Declaration, object, constant, Statement, null, assign, call, Body, body, Unit, unit, Statements, Arms, no_arms, more_arms, if_then, forever, while, loop, exit}
+use Rattle.aud_syntax.specs.Plain.{Expression, alone, connected, Relations, no_relations, more_relations, Relation, unrelated, related, Simple, simple, added, multiplied, Primary, name, attribute, group, Name, named, part, no_expression, an_expression, Declaration, object, constant, Statement, null, assign, call, Body, Unit, unit, Statements, Arms, no_arms, more_arms, if_then, forever, while, loop, exit}
 use Rattle.aud_syntax.specs.Plain as m
 use Rattle.aud_parse.specs.Grammar as g
 use Rattle.aud_parse.specs.Actions.{the_unit}
@@ -30,6 +31,10 @@ IsRead source what = read_by parsed (lexed source) ≡ Some what
 abbrev pub program : List Declaration → Body → Unit
 program ds b = unit [] (at 1 1) (id (codes "P") (at 1 11)) (declarations ds) b
 
+-- a body without handlers
+abbrev pub body : Pos → m.Statements → Pos → Option Ident → Pos → Body
+body begin inner end last semicolon = m.body begin inner m.no_handlers end last semicolon
+
 -- the text as declarations, statements or an expression, in the second line of a program, and a place there
 
 abbrev pub with_declarations : List ℕ → List ℕ
@@ -42,13 +47,13 @@ abbrev pub with_expression : List ℕ → List ℕ
 with_expression source = codes "procedure P is begin X :=\n" ++ source ++ codes "\n; end;"
 
 abbrev pub DeclarationsAre : List ℕ → List Declaration → Type 0
-DeclarationsAre source ds = IsRead (with_declarations source) (Ok (program ds (body (at 3 1) (statements (null (at 3 7)) []) (at 3 13) None)))
+DeclarationsAre source ds = IsRead (with_declarations source) (Ok (program ds (body (at 3 1) (statements (null (at 3 7)) []) (at 3 13) None (at 3 16))))
 
 abbrev pub StatementsAre : List ℕ → Statement → List Statement → Type 0
-StatementsAre source first others = IsRead (with_statements source) (Ok (program [] (body (at 1 16) (statements first others) (at 3 1) None)))
+StatementsAre source first others = IsRead (with_statements source) (Ok (program [] (body (at 1 16) (statements first others) (at 3 1) None (at 3 4))))
 
 abbrev pub ExpressionIs : List ℕ → Expression → Type 0
-ExpressionIs source e = IsRead (with_expression source) (Ok (program [] (body (at 1 16) (statements (assign (var_at (codes "X") (at 1 22)) e) []) (at 3 3) None)))
+ExpressionIs source e = IsRead (with_expression source) (Ok (program [] (body (at 1 16) (statements (assign (var_at (codes "X") (at 1 22)) e) []) (at 3 3) None (at 3 6))))
 
 abbrev pub col : ℕ → Pos
 col n = at 2 n
@@ -91,24 +96,24 @@ abbrev pub example_call : Statement
 example_call = called (id (codes "PUT_LINE") (at 5 4)) (sum (one (str (codes "x") (at 5 14))) (adding Join example_image ∷ []))
 
 abbrev pub example_body : Body
-example_body = body (at 3 1) (statements example_assign (example_call ∷ [])) (at 6 1) (Some (id (codes "SUM") (at 6 5)))
+example_body = body (at 3 1) (statements example_assign (example_call ∷ [])) (at 6 1) (Some (id (codes "SUM") (at 6 5))) (at 6 8)
 
 -- programs (RM 6.3)
 abbrev pub Programs : Type 0
 Programs =
     IsRead (codes "procedure P is begin null; end;")
-    (Ok (program [] (body (at 1 16) (statements (null (at 1 22)) []) (at 1 28) None)))
+    (Ok (program [] (body (at 1 16) (statements (null (at 1 22)) []) (at 1 28) None (at 1 31))))
     × IsRead (codes "PROCEDURE p IS\nBEGIN\n  NULL;\nEND p;")
-    (Ok (program [] (body (at 2 1) (statements (null (at 3 3)) []) (at 4 1) (Some (id (codes "P") (at 4 5))))))
+    (Ok (program [] (body (at 2 1) (statements (null (at 3 3)) []) (at 4 1) (Some (id (codes "P") (at 4 5))) (at 4 6))))
     × IsRead (codes "procedure P is begin null; end Other_Name;")
-    (Ok (program [] (body (at 1 16) (statements (null (at 1 22)) []) (at 1 28) (Some (id (codes "OTHER_NAME") (at 1 32))))))
+    (Ok (program [] (body (at 1 16) (statements (null (at 1 22)) []) (at 1 28) (Some (id (codes "OTHER_NAME") (at 1 32))) (at 1 42))))
     × IsRead (codes "-- a comment\n  procedure P is begin null; end;")
-    (Ok (unit [] (at 2 3) (id (codes "P") (at 2 13)) (declarations []) (body (at 2 18) (statements (null (at 2 24)) []) (at 2 30) None)))
+    (Ok (unit [] (at 2 3) (id (codes "P") (at 2 13)) (declarations []) (body (at 2 18) (statements (null (at 2 24)) []) (at 2 30) None (at 2 33))))
     × IsRead example (Ok (unit [] (at 1 1) (id (codes "SUM") (at 1 11)) (declarations (example_declaration ∷ [])) example_body))
 
 -- a body that does nothing, behind `procedure P is` at the beginning of a line
 abbrev pub nothing : ℕ → Body
-nothing line = body (at line 16) (statements (null (at line 22)) []) (at line 28) None
+nothing line = body (at line 16) (statements (null (at line 22)) []) (at line 28) None (at line 31)
 
 -- context clauses (RM 10.1.2, 8.4)
 abbrev pub Clauses : Type 0
@@ -411,7 +416,6 @@ WrongControlFlow =
     × StatementsStop (codes "loop end loop;") 1
     × StatementsStop (codes "loop null; end;") 4
     × StatementsStop (codes "loop null; end loop 1;") 5
-    × StatementsStop (codes "for I in 1 .. 2 loop null; end loop;") 0
     × StatementsStop (codes "L : null;") 2
     × StatementsStop (codes "L : M : loop null; end loop;") 2
     × StatementsStop (codes "L.M : loop null; end loop;") 3
@@ -518,7 +522,7 @@ FewLevels =
     × IsReadWithin 1 (with_statements (codes "X := 1 2 (3);")) (Err (wrong_at (4 + 3)))
     × IsReadWithin 1 (with_statements (codes "X := (1 2);")) (Err (deep_at (4 + 2)))
     × IsReadWithin 2 (codes "procedure P is X : T := (1); begin P (2); P (3); end;")
-    (Ok (program (closed_declaration ∷ []) (body (at 1 30) closed_calls (at 1 50) None)))
+    (Ok (program (closed_declaration ∷ []) (body (at 1 30) closed_calls (at 1 50) None (at 1 53))))
 
 -- an expression in this number of parentheses, of which the first opens at column n of the second line
 abbrev pub nested : ℕ → ℕ → Expression

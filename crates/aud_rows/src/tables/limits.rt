@@ -378,7 +378,7 @@ pub const SIZES: [LongCase; 6] = [
 ];
 
 /// Programs that do not end: 1,000,000 steps of a LOAD, and 65,536 bytes of output.
-pub const LOOPS: [LongCase; 3] = [
+pub const LOOPS: [LongCase; 4] = [
     LongCase {
         name: "an unending loop takes the steps of a LOAD",
         sent: &[
@@ -417,6 +417,23 @@ pub const LOOPS: [LongCase; 3] = [
             Piece::Text(
                 b"+ 1\nloaded M\n+ 1\nran 6000 more\n+ 1\nran 554 output full\n+ 1\nran 0 output full\n",
             ),
+            Piece::Text(b"+ 2\nbytes 65536\n"),
+            Piece::Many(6_553, b"0123456789"),
+            Piece::Text(b"012345\n"),
+        ],
+    },
+    LongCase {
+        name: "a text that is cut raises nothing that a handler could handle",
+        sent: &[
+            Piece::Text(
+                b"LOAD 2\nprocedure M is begin begin for I in 1 .. 9999 loop Put (\"0123456789\"); end loop;\n",
+            ),
+            Piece::Text(
+                b"exception when others => Put (\"x\"); end; exception when others => Put (\"x\"); end M;\nRUN 99999\nRUN 1\nOUTPUT\n",
+            ),
+        ],
+        written: &[
+            Piece::Text(b"+ 1\nloaded M\n+ 1\nran 13109 output full\n+ 1\nran 0 output full\n"),
             Piece::Text(b"+ 2\nbytes 65536\n"),
             Piece::Many(6_553, b"0123456789"),
             Piece::Text(b"012345\n"),

@@ -2,8 +2,9 @@
 
 use crate::case::{Case, LongCase, spelled};
 use crate::tables::{
-    checks, constructs, control, fused, lexis, limits, lines, logic, rows, runs, subtypes, syntax,
-    types, values,
+    arrays, arrays_checked, blocks, blocks_checked, checks, constructs, control, exceptions,
+    exceptions_checked, frames, fused, iterations, iterations_checked, lexis, limits, lines, logic,
+    rows, runs, subtypes, syntax, types, values,
 };
 use aud_server::solo::{SoloFault, solo};
 use std::alloc::Global;
@@ -81,18 +82,29 @@ fn reads_tokens(rt: HostRuntime) -> Result<(), SoloFault> {
 #[test]
 fn finds_syntax_faults(rt: HostRuntime) -> Result<(), SoloFault> {
     meets(&rt, rt.alloc(), &syntax::TABLES)?;
-    meets(&rt, rt.alloc(), &[&constructs::SYNTAX])
+    let tables: [&[Case]; 5] = [
+        &constructs::SYNTAX,
+        &blocks_checked::SYNTAX,
+        &exceptions_checked::SYNTAX,
+        &iterations_checked::SYNTAX,
+        &arrays_checked::SYNTAX,
+    ];
+    meets(&rt, rt.alloc(), &tables)
 }
 
 #[test]
 fn finds_broken_rules(rt: HostRuntime) -> Result<(), SoloFault> {
-    let tables: [&[Case]; 6] = [
+    let tables: [&[Case]; 10] = [
         &checks::NAMES,
         &checks::TYPES,
         &checks::SEVERAL,
         &logic::CHECKS,
         &types::CHECKS,
         &constructs::CHECKS,
+        &blocks_checked::CHECKS,
+        &exceptions_checked::CHECKS,
+        &iterations_checked::CHECKS,
+        &arrays_checked::CHECKS,
     ];
     meets(&rt, rt.alloc(), &tables)
 }
@@ -127,6 +139,44 @@ fn decides_and_repeats(rt: HostRuntime) -> Result<(), SoloFault> {
 }
 
 #[test]
+fn enters_blocks(rt: HostRuntime) -> Result<(), SoloFault> {
+    let tables: [&[Case]; 4] = [
+        &blocks::BLOCKS,
+        &blocks::NAMES,
+        &blocks::LABELS,
+        &blocks::EXITS,
+    ];
+    meets(&rt, rt.alloc(), &tables)
+}
+
+#[test]
+fn handles_exceptions(rt: HostRuntime) -> Result<(), SoloFault> {
+    let tables: [&[Case]; 4] = [
+        &exceptions::RAISED,
+        &exceptions::HANDLED,
+        &exceptions::WITHIN,
+        &exceptions::NAMES,
+    ];
+    meets(&rt, rt.alloc(), &tables)
+}
+
+#[test]
+fn goes_through_ranges(rt: HostRuntime) -> Result<(), SoloFault> {
+    let tables: [&[Case]; 3] = [
+        &iterations::RANGES,
+        &iterations::PARAMETERS,
+        &iterations::LEFT,
+    ];
+    meets(&rt, rt.alloc(), &tables)
+}
+
+#[test]
+fn keeps_elements(rt: HostRuntime) -> Result<(), SoloFault> {
+    let tables: [&[Case]; 3] = [&arrays::ELEMENTS, &arrays::BOUNDS, &arrays::RAISED];
+    meets(&rt, rt.alloc(), &tables)
+}
+
+#[test]
 fn runs_in_pieces(rt: HostRuntime) -> Result<(), SoloFault> {
     meets(&rt, rt.alloc(), &[&runs::CUTS, &runs::OUTPUTS, &runs::KEPT])
 }
@@ -150,6 +200,16 @@ fn measures_sources(rt: HostRuntime) -> Result<(), SoloFault> {
 #[test]
 fn counts_levels(rt: HostRuntime) -> Result<(), SoloFault> {
     meets_long(&rt, rt.alloc(), &limits::LEVELS)
+}
+
+#[test]
+fn counts_frames(rt: HostRuntime) -> Result<(), SoloFault> {
+    meets_long(&rt, rt.alloc(), &frames::FRAMES)
+}
+
+#[test]
+fn counts_levels_of_statements(rt: HostRuntime) -> Result<(), SoloFault> {
+    meets_long(&rt, rt.alloc(), &frames::LEVELS)
 }
 
 #[test]

@@ -16,7 +16,12 @@ use Rattle.aud_syntax.specs.declared.tree.Factor.{Factor}
 use Rattle.aud_syntax.specs.declared.tree.Primary.{Primary, Integer, Text, Name', Attribute', Group', Held-Primary-Attribute-2, None', Some'}
 use Rattle.aud_syntax.specs.declared.tree.Declaration.{Declaration}
 use Rattle.aud_syntax.specs.declared.tree.Declaration.TheVariants as declaration
-use Rattle.aud_syntax.specs.declared.tree.Statement.{Statement, Null, Assign, Call, If', Loop', Exit, Row_of-Statement, end_of-Statement, more_of-Statement}
+use Rattle.aud_syntax.specs.declared.tree.LoopParameter.{LoopParameter}
+use Rattle.aud_syntax.specs.declared.tree.Choices.{Choices}
+use Rattle.aud_syntax.specs.declared.tree.Choices.TheVariants as choices
+use Rattle.aud_syntax.specs.declared.tree.BlockStatement.{BlockStatement, BlockStatement', out-BlockStatement}
+use Rattle.aud_syntax.specs.declared.tree.Handler.{Handler}
+use Rattle.aud_syntax.specs.declared.tree.Statement.{Statement, Null, Assign, Call, If', Loop', Block', Exit, Raise, Row_of-Statement, end_of-Statement, more_of-Statement}
 use Rattle.aud_syntax.specs.declared.tree.IfStatement.{IfStatement, IfStatement', out-IfStatement, Row_of-Arm, end_of-Arm, more_of-Arm}
 use Rattle.aud_syntax.specs.declared.tree.Arm.{Arm}
 use Rattle.aud_syntax.specs.declared.tree.LoopStatement.{LoopStatement}
@@ -25,7 +30,7 @@ use Rattle.aud_syntax.specs.declared.tree.Iteration.TheVariants as iteration
 use Rattle.aud_syntax.specs.declared.tree.Statements.{Statements}
 use Rattle.aud_syntax.specs.declared.tree.Context.{Context}
 use Rattle.aud_syntax.specs.declared.tree.Context.TheVariants as context
-use Rattle.aud_syntax.specs.declared.tree.Body.{Body}
+use Rattle.aud_syntax.specs.declared.tree.Body.{Body, Body', out-Body, Row_of-Handler, end_of-Handler, more_of-Handler}
 use Rattle.aud_syntax.specs.declared.tree.Unit as declared
 use Rattle.aud_syntax.specs.Plain as m
 
@@ -121,14 +126,26 @@ plain_boxed (Some e) = m.an_expression (plain_expression e.value)
 abbrev pub plain_declaration : Declaration → m.Declaration
 plain_declaration (declaration.Object names subtype value) = m.object names.first names.others.items subtype (plain_maybe value)
 plain_declaration (declaration.Constant names subtype value) = m.constant names.first names.others.items subtype (plain_expression value)
+plain_declaration (declaration.Array names low high subtype) = m.array names.first names.others.items low high subtype
+plain_declaration (declaration.Exception names) = m.exception names.first names.others.items
 
 abbrev pub plain_declarations : List Declaration → m.Declarations
 plain_declarations [] = m.no_declarations
 plain_declarations (x ∷ xs) = m.more_declarations (plain_declaration x) (plain_declarations xs)
 
+-- RM 5.5(4)
+abbrev pub plain_parameter : LoopParameter → m.Iteration
+plain_parameter x = m.for x.name x.reverse (plain_simple x.low) (plain_simple x.high)
+
 abbrev pub plain_iteration : Iteration → m.Iteration
 plain_iteration iteration.Forever = m.forever
 plain_iteration (iteration.While e) = m.while (plain_expression e)
+plain_iteration (iteration.For x) = plain_parameter x
+
+-- RM 11.2(5)
+abbrev pub plain_choices : Choices → m.Choices
+plain_choices (choices.Named names) = m.exceptions names.first names.others.items
+plain_choices (choices.Others at) = m.others at
 
 -- RM 5.1
 abbrev mutual
@@ -138,7 +155,9 @@ abbrev mutual
   plain_statement (Call x) = m.call (plain_name x)
   plain_statement (If' _ s) = plain_if s
   plain_statement (Loop' _ label at i first _ others name semicolon) = m.loop label at (plain_iteration i) (m.in_order (plain_statement first) (plain_row others)) name semicolon
+  plain_statement (Block' _ s) = plain_block s
   plain_statement (Exit at label e) = m.exit at label (plain_maybe e)
+  plain_statement (Raise at x) = m.raise at x
 
   pub plain_row : {n : _} → Row_of-Statement n → m.MoreStatements
   plain_row end_of-Statement = m.no_statements
@@ -151,6 +170,18 @@ abbrev mutual
   pub plain_arms : {n : _} → Row_of-Arm n → m.Arms
   plain_arms end_of-Arm = m.no_arms
   plain_arms (more_of-Arm at e first _ others arms) = m.more_arms at (plain_expression e) (m.in_order (plain_statement first) (plain_row others)) (plain_arms arms)
+
+  -- RM 5.6
+  pub plain_block : BlockStatement → m.Statement
+  plain_block (BlockStatement' label at declare declarations x) = m.block label at declare (plain_declarations declarations.items) (plain_body x)
+
+  -- RM 11.2
+  pub plain_body : Body → m.Body
+  plain_body (Body' begin first _ others _ handlers end name semicolon) = m.body begin (m.in_order (plain_statement first) (plain_row others)) (plain_handlers handlers) end name semicolon
+
+  pub plain_handlers : {n : _} → Row_of-Handler n → m.Handlers
+  plain_handlers end_of-Handler = m.no_handlers
+  plain_handlers (more_of-Handler x first _ others handlers) = m.more_handlers (plain_choices x) (m.in_order (plain_statement first) (plain_row others)) (plain_handlers handlers)
 
 -- The same by the parts of what is in memory.
 
@@ -173,9 +204,21 @@ plain_if_statement s =
 abbrev pub plain_loop_statement : LoopStatement → m.Statement
 plain_loop_statement x = m.loop x.label x.at (plain_iteration x.iteration) (plain_statements x.statements) x.name x.semicolon
 
+-- RM 5.6
+abbrev pub plain_block_statement : BlockStatement → m.Statement
+plain_block_statement s =
+    let x = out-BlockStatement s in
+    m.block x.label x.at x.declare (plain_declarations x.declarations.items) (plain_body x.body)
+
 -- RM 11.2
-abbrev pub plain_body : Body → m.Body
-plain_body x = m.body x.begin (plain_statements x.statements) x.end x.name
+abbrev pub handler_list : List Handler → m.Handlers
+handler_list [] = m.no_handlers
+handler_list (x ∷ xs) = m.more_handlers (plain_choices x.choices) (plain_statements x.statements) (handler_list xs)
+
+abbrev pub plain_body_parts : Body → m.Body
+plain_body_parts x =
+    let y = out-Body x in
+    m.body y.begin (plain_statements y.statements) (handler_list y.handlers.items) y.end y.name y.semicolon
 
 -- RM 8.4, 10.1.2
 abbrev pub plain_context : Context → m.Context

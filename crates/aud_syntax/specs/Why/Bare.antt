@@ -6,7 +6,8 @@ use Rattle.aud_syntax.specs.declared.tree.Number.{Number}
 use Rattle.aud_syntax.specs.declared.tree.Literal.{Literal}
 use Rattle.aud_syntax.specs.declared.tree.Signed.{Signed}
 use Rattle.aud_syntax.specs.declared.tree.Operator.{Operator}
-use Rattle.aud_syntax.specs.Plain.{Expression, alone, connected, Relations, no_relations, more_relations, Relation, unrelated, related, Simple, simple, Addeds, no_addeds, more_addeds, Added, added, Term, term, Multiplieds, no_multiplieds, more_multiplieds, Multiplied, multiplied, Factor, factor, Primary, integer, text, name, attribute, group, MaybeExpression, no_expression, an_expression, Name, named, Parts, no_parts, more_parts, NamePart, part, Args, no_args, more_args, Declaration, object, constant, Declarations, no_declarations, more_declarations, Statement, null, assign, call, if_then, loop, exit, Arms, no_arms, more_arms, Iteration, forever, while, Statements, in_order, MoreStatements, no_statements, more_statements, Body, body, Context, with_text_io, use_text_io, Unit, unit}
+use Rattle.aud_syntax.specs.declared.tree.Bound.{Bound}
+use Rattle.aud_syntax.specs.Plain.{Expression, alone, connected, Relations, no_relations, more_relations, Relation, unrelated, related, Simple, simple, Addeds, no_addeds, more_addeds, Added, added, Term, term, Multiplieds, no_multiplieds, more_multiplieds, Multiplied, multiplied, Factor, factor, Primary, integer, text, name, attribute, group, MaybeExpression, no_expression, an_expression, Name, named, Parts, no_parts, more_parts, NamePart, part, Args, no_args, more_args, Declaration, object, constant, array, exception, Declarations, no_declarations, more_declarations, Statement, null, assign, call, if_then, loop, exit, block, raise, Arms, no_arms, more_arms, Iteration, forever, while, for, Choices, exceptions, others, Statements, in_order, MoreStatements, no_statements, more_statements, Body, body, Handlers, no_handlers, more_handlers, Context, with_text_io, use_text_io, Unit, unit}
 
 abbrev pub nowhere : Pos
 nowhere = record { line = 1; col = 1 }
@@ -99,9 +100,14 @@ abbrev mutual
   bare_args no_args = no_args
   bare_args (more_args e xs) = more_args (bare_expression e) (bare_args xs)
 
+abbrev pub bare_bound : Bound → Bound
+bare_bound x = record { negative = x.negative; number = bare_number x.number }
+
 abbrev pub bare_declaration : Declaration → Declaration
 bare_declaration (object x xs subtype value) = object (bare_ident x) (map bare_ident xs) (bare_ident subtype) (bare_maybe value)
 bare_declaration (constant x xs subtype value) = constant (bare_ident x) (map bare_ident xs) (bare_ident subtype) (bare_expression value)
+bare_declaration (array x xs low high subtype) = array (bare_ident x) (map bare_ident xs) (bare_bound low) (bare_bound high) (bare_ident subtype)
+bare_declaration (exception x xs) = exception (bare_ident x) (map bare_ident xs)
 
 abbrev pub bare_declarations : Declarations → Declarations
 bare_declarations no_declarations = no_declarations
@@ -110,6 +116,11 @@ bare_declarations (more_declarations x xs) = more_declarations (bare_declaration
 abbrev pub bare_iteration : Iteration → Iteration
 bare_iteration forever = forever
 bare_iteration (while e) = while (bare_expression e)
+bare_iteration (for x reverse low high) = for (bare_ident x) reverse (bare_simple low) (bare_simple high)
+
+abbrev pub bare_choices : Choices → Choices
+bare_choices (exceptions x xs) = exceptions (bare_ident x) (map bare_ident xs)
+bare_choices (others at) = others nowhere
 
 abbrev mutual
   pub bare_statement : Statement → Statement
@@ -119,6 +130,8 @@ abbrev mutual
   bare_statement (if_then at e statements arms otherwise) = if_then nowhere (bare_expression e) (bare_statements statements) (bare_arms arms) (bare_more_statements otherwise)
   bare_statement (loop label at i statements last semicolon) = loop (bare_end label) nowhere (bare_iteration i) (bare_statements statements) (bare_end last) nowhere
   bare_statement (exit at label e) = exit nowhere (bare_end label) (bare_maybe e)
+  bare_statement (block label at declare ds x) = block (bare_end label) nowhere declare (bare_declarations ds) (bare_body x)
+  bare_statement (raise at x) = raise nowhere (bare_end x)
 
   pub bare_more_statements : MoreStatements → MoreStatements
   bare_more_statements no_statements = no_statements
@@ -131,8 +144,12 @@ abbrev mutual
   bare_arms no_arms = no_arms
   bare_arms (more_arms at e statements arms) = more_arms nowhere (bare_expression e) (bare_statements statements) (bare_arms arms)
 
-abbrev pub bare_body : Body → Body
-bare_body (body begin statements end last) = body nowhere (bare_statements statements) nowhere (bare_end last)
+  pub bare_body : Body → Body
+  bare_body (body begin statements handlers end last semicolon) = body nowhere (bare_statements statements) (bare_handlers handlers) nowhere (bare_end last) nowhere
+
+  pub bare_handlers : Handlers → Handlers
+  bare_handlers no_handlers = no_handlers
+  bare_handlers (more_handlers x statements xs) = more_handlers (bare_choices x) (bare_statements statements) (bare_handlers xs)
 
 abbrev pub bare_context : Context → Context
 bare_context (with_text_io at) = with_text_io nowhere

@@ -1,5 +1,5 @@
 -- The canonical text of a syntax tree: its words in order, each with a blank or, at the end of a line, a line feed behind it.
-use Rattle.std.specs.Prelude.{ℕ, ℤ, List, [], ◌∷◌, ◌++◌, ◌==◌, if◌then◌else◌, Option, Some, None, codes, nat_abs}
+use Rattle.std.specs.Prelude.{ℕ, ℤ, List, [], ◌∷◌, ◌++◌, ◌==◌, Bool, true, false, if◌then◌else◌, Option, Some, None, codes, nat_abs}
 use Rattle.std.specs.Fmt.{decimal}
 use Rattle.aud_lex.specs.Why.Spaced.{Word, word, last_word, spaced}
 use Rattle.aud_syntax.specs.declared.tree.Ident.{Ident}
@@ -19,7 +19,8 @@ use Rattle.aud_syntax.specs.declared.tree.Relational.{Relational}
 use Rattle.aud_syntax.specs.declared.tree.Relational.TheVariants as relational
 use Rattle.aud_syntax.specs.declared.tree.Connective.{Connective}
 use Rattle.aud_syntax.specs.declared.tree.Connective.TheVariants as connective
-use Rattle.aud_syntax.specs.Plain.{Expression, alone, connected, Relations, no_relations, more_relations, Relation, unrelated, related, Simple, simple, Addeds, no_addeds, more_addeds, Added, added, Term, term, Multiplieds, no_multiplieds, more_multiplieds, Multiplied, multiplied, Factor, factor, Primary, integer, text, name, attribute, group, MaybeExpression, no_expression, an_expression, Name, named, Parts, no_parts, more_parts, NamePart, part, Args, no_args, more_args, Declaration, object, constant, Declarations, no_declarations, more_declarations, Statement, null, assign, call, if_then, loop, exit, Arms, no_arms, more_arms, Iteration, forever, while, Statements, in_order, MoreStatements, no_statements, more_statements, Body, body, Context, with_text_io, use_text_io, Unit, unit}
+use Rattle.aud_syntax.specs.declared.tree.Bound.{Bound}
+use Rattle.aud_syntax.specs.Plain.{Expression, alone, connected, Relations, no_relations, more_relations, Relation, unrelated, related, Simple, simple, Addeds, no_addeds, more_addeds, Added, added, Term, term, Multiplieds, no_multiplieds, more_multiplieds, Multiplied, multiplied, Factor, factor, Primary, integer, text, name, attribute, group, MaybeExpression, no_expression, an_expression, Name, named, Parts, no_parts, more_parts, NamePart, part, Args, no_args, more_args, Declaration, object, constant, array, exception, Declarations, no_declarations, more_declarations, Statement, null, assign, call, if_then, loop, exit, block, raise, Arms, no_arms, more_arms, Iteration, forever, while, for, Choices, exceptions, others, Statements, in_order, MoreStatements, no_statements, more_statements, Body, body, Handlers, no_handlers, more_handlers, Context, with_text_io, use_text_io, Unit, unit}
 
 -- a name as the tree has it, in capitals (RM 2.3)
 abbrev pub ident_word : Ident → Word
@@ -169,13 +170,17 @@ abbrev pub maybe_words : List ℕ → MaybeExpression → List Word
 maybe_words spelling no_expression = []
 maybe_words spelling (an_expression e) = word spelling ∷ expression_words e
 
--- RM 3.3.1
-abbrev pub more_ident_words : List Ident → List Word
-more_ident_words [] = []
-more_ident_words (x ∷ xs) = word (codes ",") ∷ ident_word x ∷ more_ident_words xs
+-- names, with this delimiter between each two
+abbrev pub more_ident_words : List ℕ → List Ident → List Word
+more_ident_words delimiter [] = []
+more_ident_words delimiter (x ∷ xs) = word delimiter ∷ ident_word x ∷ more_ident_words delimiter xs
 
+abbrev pub separated_words : List ℕ → Ident → List Ident → List Word
+separated_words delimiter x xs = ident_word x ∷ more_ident_words delimiter xs
+
+-- RM 3.3.1
 abbrev pub idents_words : Ident → List Ident → List Word
-idents_words x xs = ident_word x ∷ more_ident_words xs
+idents_words x xs = separated_words (codes ",") x xs
 
 abbrev pub initial_words : MaybeExpression → List Word
 initial_words e = maybe_words (codes ":=") e
@@ -186,9 +191,34 @@ object_words x xs subtype value = idents_words x xs ++ (word (codes ":") ∷ ide
 abbrev pub constant_words : Ident → List Ident → Ident → Expression → List Word
 constant_words x xs subtype value = idents_words x xs ++ (word (codes ":") ∷ word (codes "constant") ∷ ident_word subtype ∷ word (codes ":=") ∷ (expression_words value ++ (last_word (codes ";") ∷ [])))
 
+-- RM 3.6.1
+abbrev pub minus_words : Bool → List Word
+minus_words true = word (codes "-") ∷ []
+minus_words false = []
+
+abbrev pub bound_words : Bound → List Word
+bound_words x = minus_words x.negative ++ (number_word x.number ∷ [])
+
+-- two bounds (RM 3.5)
+abbrev pub range_words : List Word → List Word → List Word
+range_words low high = low ++ (word (codes "..") ∷ high)
+
+-- the bounds of an index (RM 3.6)
+abbrev pub index_words : Bound → Bound → List Word
+index_words low high = in_parentheses (range_words (bound_words low) (bound_words high))
+
+abbrev pub array_words : Ident → List Ident → Bound → Bound → Ident → List Word
+array_words x xs low high subtype = idents_words x xs ++ (word (codes ":") ∷ word (codes "array") ∷ (index_words low high ++ (word (codes "of") ∷ ident_word subtype ∷ last_word (codes ";") ∷ [])))
+
+-- RM 11.1
+abbrev pub exception_words : Ident → List Ident → List Word
+exception_words x xs = idents_words x xs ++ (word (codes ":") ∷ word (codes "exception") ∷ last_word (codes ";") ∷ [])
+
 abbrev pub declaration_words : Declaration → List Word
 declaration_words (object x xs subtype value) = object_words x xs subtype value
 declaration_words (constant x xs subtype value) = constant_words x xs subtype value
+declaration_words (array x xs low high subtype) = array_words x xs low high subtype
+declaration_words (exception x xs) = exception_words x xs
 
 abbrev pub declarations_words : Declarations → List Word
 declarations_words no_declarations = []
@@ -206,20 +236,26 @@ assignment_words x e = name_words x ++ (word (codes ":=") ∷ (expression_words 
 abbrev pub call_words : Name → List Word
 call_words x = name_words x ++ (last_word (codes ";") ∷ [])
 
--- the name after `end`, and the loop that is left (RM 5.5, 5.7, 6.3)
+-- the name after `end`, the loop that is left, and the exception that is raised (RM 5.5, 5.7, 6.3, 11.3)
 abbrev pub end_words : Option Ident → List Word
 end_words None = []
 end_words (Some x) = ident_word x ∷ []
 
--- the name before a loop (RM 5.5)
+-- the name before a loop or a block (RM 5.5, 5.6)
 abbrev pub label_words : Option Ident → List Word
 label_words None = []
 label_words (Some x) = ident_word x ∷ word (codes ":") ∷ []
+
+-- RM 5.5(4)
+abbrev pub reverse_words : Bool → List Word
+reverse_words true = word (codes "reverse") ∷ []
+reverse_words false = []
 
 -- RM 5.5(3)
 abbrev pub iteration_words : Iteration → List Word
 iteration_words forever = []
 iteration_words (while e) = word (codes "while") ∷ expression_words e
+iteration_words (for x reverse low high) = word (codes "for") ∷ ident_word x ∷ word (codes "in") ∷ (reverse_words reverse ++ range_words (simple_words low) (simple_words high))
 
 -- RM 5.7
 abbrev pub condition_words : MaybeExpression → List Word
@@ -227,6 +263,29 @@ condition_words e = maybe_words (codes "when") e
 
 abbrev pub exit_words : Option Ident → MaybeExpression → List Word
 exit_words label e = word (codes "exit") ∷ (end_words label ++ (condition_words e ++ (last_word (codes ";") ∷ [])))
+
+-- RM 11.3
+abbrev pub raise_words : Option Ident → List Word
+raise_words x = word (codes "raise") ∷ (end_words x ++ (last_word (codes ";") ∷ []))
+
+-- RM 5.6
+abbrev pub declare_words : Bool → List Word
+declare_words true = last_word (codes "declare") ∷ []
+declare_words false = []
+
+-- RM 11.2(5)
+abbrev pub choices_words : Choices → List Word
+choices_words (exceptions x xs) = separated_words (codes "|") x xs
+choices_words (others at) = word (codes "others") ∷ []
+
+-- the choices and the statements of a handler (RM 11.2(3))
+abbrev pub handler_words : Choices → List Word → List Word
+handler_words x statements = word (codes "when") ∷ (choices_words x ++ (last_word (codes "=>") ∷ statements))
+
+-- `exception` and the words of the handlers behind it, if there are any (RM 11.2(2))
+abbrev pub handled_words : Handlers → List Word → List Word
+handled_words no_handlers handlers = []
+handled_words (more_handlers x s xs) handlers = last_word (codes "exception") ∷ handlers
 
 -- `if` or `elsif`, the condition and the statements (RM 5.3)
 abbrev pub arm_words : List ℕ → List Word → List Word → List Word
@@ -246,6 +305,8 @@ abbrev mutual
   statement_words (if_then at e statements arms otherwise) = arm_words (codes "if") (expression_words e) (statements_words statements) ++ (arms_words arms ++ (otherwise_words otherwise (more_statements_words otherwise) ++ (word (codes "end") ∷ word (codes "if") ∷ last_word (codes ";") ∷ [])))
   statement_words (loop label at i statements last semicolon) = label_words label ++ (iteration_words i ++ (last_word (codes "loop") ∷ (statements_words statements ++ (word (codes "end") ∷ word (codes "loop") ∷ (end_words last ++ (last_word (codes ";") ∷ []))))))
   statement_words (exit at label e) = exit_words label e
+  statement_words (block label at declare declarations rest) = label_words label ++ (declare_words declare ++ (declarations_words declarations ++ body_words rest))
+  statement_words (raise at x) = raise_words x
 
   pub more_statements_words : MoreStatements → List Word
   more_statements_words no_statements = []
@@ -258,9 +319,13 @@ abbrev mutual
   arms_words no_arms = []
   arms_words (more_arms at e statements arms) = arm_words (codes "elsif") (expression_words e) (statements_words statements) ++ arms_words arms
 
--- RM 11.2
-abbrev pub body_words : Body → List Word
-body_words (body begin statements end last) = last_word (codes "begin") ∷ (statements_words statements ++ (word (codes "end") ∷ (end_words last ++ (last_word (codes ";") ∷ []))))
+  -- RM 11.2
+  pub body_words : Body → List Word
+  body_words (body begin statements handlers end last semicolon) = last_word (codes "begin") ∷ (statements_words statements ++ (handled_words handlers (handlers_words handlers) ++ (word (codes "end") ∷ (end_words last ++ (last_word (codes ";") ∷ [])))))
+
+  pub handlers_words : Handlers → List Word
+  handlers_words no_handlers = []
+  handlers_words (more_handlers x s xs) = handler_words x (statements_words s) ++ handlers_words xs
 
 -- RM 8.4, 10.1.2
 abbrev pub context_spelling : Context → List ℕ

@@ -6,6 +6,6 @@ use Rattle.aud_check.proofs.declaration.declare.Given as goal
 
 abbrev pub invariant-loop-other : goal.invariant-loop-other
 invariant-loop-other l = record {
-  region : declared_names (drop l.other-index l.names.others.items) l.kind.subtype l.kind.constant (plain_region l.region) ≡ declared_names (names_in l.fn.names) l.kind.subtype l.kind.constant (plain_region l.fn.region);
-  noted : noted l.faults (twice_faults (drop l.other-index l.names.others.items) l.kind.subtype l.kind.constant (plain_region l.region)) ≡ noted l.fn.faults (twice_faults (names_in l.fn.names) l.kind.subtype l.kind.constant (plain_region l.fn.region));
+  region : declared_names (drop l.other-index l.names.others.items) l.kind (plain_region l.region) ≡ declared_names (names_in l.fn.names) l.kind (plain_region l.fn.region);
+  noted : noted l.faults (twice_faults (drop l.other-index l.names.others.items) l.kind (plain_region l.region)) ≡ noted l.fn.faults (twice_faults (names_in l.fn.names) l.kind (plain_region l.fn.region));
 }

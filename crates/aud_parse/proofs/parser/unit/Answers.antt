@@ -24,4 +24,4 @@ pub returns-in_err-body : goal.returns-in_err-body
 returns-in_err-body c = exit _ _ _ c.from_residual-in_err-body.ensures.1 c.in_err-body.ensures.reads (λ k ds v o. o_rule (c.in_ok-context.ensures.reads _ _ _ _ (c.in_ok-first.ensures.reads _ _ _ _ (c.in_ok-name.ensures.reads _ _ _ _ (c.in_ok-rest.ensures.reads _ _ _ _ (c.in_ok-declarations.ensures.reads _ _ _ o))))))
 
 pub returns : goal.returns
-returns c = record { reads = λ k ds v o. rw c.at.ensures (to (o_rule (c.in_ok-context.ensures.reads _ _ _ _ (c.in_ok-first.ensures.reads _ _ _ _ (c.in_ok-name.ensures.reads _ _ _ _ (c.in_ok-rest.ensures.reads _ _ _ _ (c.in_ok-declarations.ensures.reads _ _ _ (c.in_ok-body.ensures.reads _ _ _ o))))))) (unit_items c.in_ok-context.context (token c.in_ok-first.first.now) _ c.in_ok-declarations.declarations c.in_ok-body.body ds)); shorter = search rules }
+returns c = record { reads = λ k ds v o. rw (c.at.ensures, c.into_inner.ensures) (to (o_rule (c.in_ok-context.ensures.reads _ _ _ _ (c.in_ok-first.ensures.reads _ _ _ _ (c.in_ok-name.ensures.reads _ _ _ _ (c.in_ok-rest.ensures.reads _ _ _ _ (c.in_ok-declarations.ensures.reads _ _ _ (c.in_ok-body.ensures.reads _ _ _ o))))))) (unit_items c.in_ok-context.context (token c.in_ok-first.first.now) _ c.in_ok-declarations.declarations c.in_ok-body.body.value ds)); shorter = search rules }

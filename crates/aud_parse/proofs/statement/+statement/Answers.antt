@@ -1,13 +1,14 @@
 use Rattle.aud_parse.specs.Grammar as g
 use Rattle.aud_parse.specs.Grammar.{Symbol, N, T}
 use Rattle.aud_lex.specs.declared.token.Kind.TheVariants as kind
-use Rattle.std.proofs.Common.{List, [], ◌∷◌, sym, ◌∙◌, refl, rules, arith}
+use Rattle.std.proofs.Common.{List, [], ◌∷◌, ap, sym, ◌∙◌, refl, rules, arith}
 use Rattle.aud_parse.specs.Ties.Outcome.{o_rule, o_this, o_other, o_last, o_yes, o_no, o_more}
 use Rattle.aud_parse.specs.Actions.{token}
-use Rattle.aud_parse.proofs.Passing.{to, exit, hand_on, level_on, no_level, word_passes, turns_push}
-use Rattle.aud_parse.proofs.Joined.{exit_all}
+use Rattle.aud_parse.specs.Ties.Items.{list_item, handler_item}
+use Rattle.aud_parse.proofs.Passing.{to, exit, hand_after, hand_on, level_on, no_level, word_passes, turns_push, heads_none, heads_push, heads_end}
+use Rattle.aud_parse.proofs.Joined.{exit_all, no_more_still}
 use Rattle.aud_parse.proofs.Connecting.{completes, completes_in, exit_in, exit_among}
-use Rattle.aud_parse.proofs.Rolls.{arm_items, in_order_items}
+use Rattle.aud_parse.proofs.Rolls.{arm_items, in_order_items, handler_items, block_items}
 use Rattle.aud_parse.proofs.statement.+statement.Goals as goal
 
 -- what a branch is read by, behind its first word
@@ -30,7 +31,7 @@ pub name_statement-returns-in_err-ident : goal.name_statement-returns-in_err-ide
 name_statement-returns-in_err-ident t c = exit _ _ _ c.from_residual.ensures.1 (c.in_err-ident.ensures.reads c.args.room) (λ k ds v o. o_rule o)
 
 pub name_statement-returns-in-Some : goal.name_statement-returns-in-Some
-name_statement-returns-in-Some t c = completes _ c.args.start c.in-Some.behind _ c.loop_statement.ensures (omega (arith, c.in-Some.ensures.shorter, c.in_ok-ident.ensures.shorter)) (λ k ds v o. o_rule (c.in_ok-ident.ensures.reads _ _ _ _ (o_rule (o_this c.in-Some.ensures.reads.0 (o_rule (word_passes c.in-Some.ensures.reads _ _ _ o))))))
+name_statement-returns-in-Some t c = completes _ c.args.start c.in-Some.behind _ c.labelled.ensures (omega (arith, c.in-Some.ensures.shorter, c.in_ok-ident.ensures.shorter)) (λ k ds v o. o_rule (c.in_ok-ident.ensures.reads _ _ _ _ (o_rule (o_this c.in-Some.ensures.reads.0 (o_rule (word_passes c.in-Some.ensures.reads _ _ _ o))))))
 
 pub name_statement-returns : goal.name_statement-returns
 name_statement-returns t c = completes _ c.args.start c.in_ok-ident.rest _ c.named.ensures (search rules) (λ k ds v o. o_rule (c.in_ok-ident.ensures.reads _ _ _ _ (o_rule (o_other c.in_default.ensures.reads (o_last o)))))
@@ -98,8 +99,14 @@ statement-returns-then-is-3 t c = record { reads = hand_on _ c.args.start _ c.if
 pub statement-returns-then-is_one_of : goal.statement-returns-then-is_one_of
 statement-returns-then-is_one_of t c = completes _ c.args.start c.args.start _ c.loop_statement.ensures (omega arith) (λ k ds v o. o_rule (o_other (sym c.is.ensures ∙ c.if-is.false) (o_other (sym c.is-2.ensures ∙ c.if-is-2.false) (o_other (sym c.is-3.ensures ∙ c.if-is-3.false) (o_this (sym c.is_one_of.ensures ∙ c.if-is_one_of.true) o)))))
 
+pub statement-returns-then-is_one_of-2 : goal.statement-returns-then-is_one_of-2
+statement-returns-then-is_one_of-2 t c = completes _ c.args.start c.args.start _ c.block.ensures (omega arith) (λ k ds v o. o_rule (o_other (sym c.is.ensures ∙ c.if-is.false) (o_other (sym c.is-2.ensures ∙ c.if-is-2.false) (o_other (sym c.is-3.ensures ∙ c.if-is-3.false) (o_other (sym c.is_one_of.ensures ∙ c.if-is_one_of.false) (o_this (sym c.is_one_of-2.ensures ∙ c.if-is_one_of-2.true) o))))))
+
+pub statement-returns-then-is-4 : goal.statement-returns-then-is-4
+statement-returns-then-is-4 t c = record { reads = hand_on _ c.args.start _ c.exit.ensures.reads (λ k ds v o. o_rule (o_other (sym c.is.ensures ∙ c.if-is.false) (o_other (sym c.is-2.ensures ∙ c.if-is-2.false) (o_other (sym c.is-3.ensures ∙ c.if-is-3.false) (o_other (sym c.is_one_of.ensures ∙ c.if-is_one_of.false) (o_other (sym c.is_one_of-2.ensures ∙ c.if-is_one_of-2.false) (o_this (sym c.is-4.ensures ∙ c.if-is-4.true) o))))))); shorter = search rules }
+
 pub statement-returns : goal.statement-returns
-statement-returns t c = record { reads = hand_on _ c.args.start _ c.exit.ensures.reads (λ k ds v o. o_rule (o_other (sym c.is.ensures ∙ c.if-is.false) (o_other (sym c.is-2.ensures ∙ c.if-is-2.false) (o_other (sym c.is-3.ensures ∙ c.if-is-3.false) (o_other (sym c.is_one_of.ensures ∙ c.if-is_one_of.false) (o_last o)))))); shorter = search rules }
+statement-returns t c = record { reads = hand_on _ c.args.start _ (c.raise.ensures.reads c.args.room) (λ k ds v o. o_rule (o_other (sym c.is.ensures ∙ c.if-is.false) (o_other (sym c.is-2.ensures ∙ c.if-is-2.false) (o_other (sym c.is-3.ensures ∙ c.if-is-3.false) (o_other (sym c.is_one_of.ensures ∙ c.if-is_one_of.false) (o_other (sym c.is_one_of-2.ensures ∙ c.if-is_one_of-2.false) (o_other (sym c.is-4.ensures ∙ c.if-is-4.false) (o_last o)))))))); shorter = search rules }
 
 pub more_statements-turns-preserved : goal.more_statements-turns-preserved
 more_statements-turns-preserved t c = record { turns = turns_push c.in_ok-next.next.value c.turns.invariant.turns (sym c.is_one_of.ensures ∙ c.turns-test.true) c.in_ok-next.ensures.reads c.in_ok-all.ensures; shorter = search rules }
@@ -121,3 +128,63 @@ statements-returns-in_err-inside t c = no_level _ g.Statements g.StatementList _
 
 pub statements-returns : goal.statements-returns
 statements-returns t c = record { reads = level_on _ c.args.start _ _ c.in_ok-inside.ensures c.statement_list.ensures.reads (λ k ds v o. o_rule o); shorter = search rules }
+
+pub block-returns-in_err-declare : goal.block-returns-in_err-declare
+block-returns-in_err-declare t c = exit_in _ _ _ c.from_residual.ensures.1 c.in_err-declare.ensures.reads (λ k ds v o. o_rule o)
+
+pub block-returns-in_err-body : goal.block-returns-in_err-body
+block-returns-in_err-body t c = exit_in _ _ _ c.from_residual-in_err-body.ensures.1 c.in_err-body.ensures.reads (λ k ds v o. o_rule (c.in_ok-declare.ensures.reads _ _ _ o))
+
+pub block-returns : goal.block-returns
+block-returns t c = record { reads = λ k ds v o. (_, o_rule (c.in_ok-declare.ensures.reads _ _ _ (c.in_ok-body.ensures.reads _ _ _ o)), block_items c.in_ok-statement.statement c.args.label c.in_ok-declare.declare c.in_ok-body.body ds c.in_ok-statement.ensures); shorter = search rules }
+
+pub labelled-returns-then-is_one_of : goal.labelled-returns-then-is_one_of
+labelled-returns-then-is_one_of t c = completes_in (λ ds. ds) _ c.args.start c.args.start _ c.loop_statement.ensures (omega arith) (λ k ds v o. o_rule (o_this (sym c.is_one_of.ensures ∙ c.if-is_one_of.true) o)) (λ ds. refl)
+
+pub labelled-returns : goal.labelled-returns
+labelled-returns t c = completes_in (λ ds. ds) _ c.args.start c.args.start _ c.block.ensures (omega arith) (λ k ds v o. o_rule (o_other (sym c.is_one_of.ensures ∙ c.if-is_one_of.false) (o_last o))) (λ ds. refl)
+
+pub handler-returns-in_err-rest : goal.handler-returns-in_err-rest
+handler-returns-in_err-rest t c = exit _ _ _ c.from_residual.ensures.1 (c.in_err-rest.ensures.reads c.args.room) (λ k ds v o. o_rule o)
+
+pub handler-returns-in_err-choices : goal.handler-returns-in_err-choices
+handler-returns-in_err-choices t c = exit _ _ _ c.from_residual-in_err-choices.ensures.1 (c.in_err-choices.ensures.reads c.args.room) (λ k ds v o. o_rule (c.in_ok-rest.ensures.reads _ _ _ _ o))
+
+pub handler-returns-in_err-rest-2 : goal.handler-returns-in_err-rest-2
+handler-returns-in_err-rest-2 t c = exit _ _ _ c.from_residual-in_err-rest-2.ensures.1 (c.in_err-rest-2.ensures.reads c.args.room) (λ k ds v o. o_rule (c.in_ok-rest.ensures.reads _ _ _ _ (c.in_ok-choices.ensures.reads _ _ _ _ o)))
+
+pub handler-returns-in_err-inner : goal.handler-returns-in_err-inner
+handler-returns-in_err-inner t c = exit _ _ _ c.from_residual-in_err-inner.ensures.1 c.in_err-inner.ensures.reads (λ k ds v o. o_rule (c.in_ok-rest.ensures.reads _ _ _ _ (c.in_ok-choices.ensures.reads _ _ _ _ (c.in_ok-rest-2.ensures.reads _ _ _ _ o))))
+
+pub handler-returns : goal.handler-returns
+handler-returns t c = record { reads = λ k ds v o. to (o_rule (c.in_ok-rest.ensures.reads _ _ _ _ (c.in_ok-choices.ensures.reads _ _ _ _ (c.in_ok-rest-2.ensures.reads _ _ _ _ (c.in_ok-inner.ensures.reads _ _ _ o))))) (handler_items c.in_ok-handler.handler c.in_ok-choices.choices c.in_ok-inner.inner ds c.in_ok-handler.ensures); shorter = search rules }
+
+pub handler_list-turns-init : goal.handler_list-turns-init
+handler_list-turns-init t c = record { turns = heads_none c.new-all.ensures.items; shorter = search rules }
+
+pub handler_list-turns-preserved : goal.handler_list-turns-preserved
+handler_list-turns-preserved t c = record { turns = heads_push c.in_ok-next.next.value c.turns.invariant.turns c.in_ok-next.ensures.reads (λ k ds v o. o_more (sym c.is.ensures ∙ c.if-not-is.false) o) c.in_ok-all.ensures; shorter = search rules }
+
+pub handler_list-returns-in_err-next : goal.handler_list-returns-in_err-next
+handler_list-returns-in_err-next t c = exit _ _ _ c.from_residual.ensures.1 c.in_err-next.ensures.reads (λ k ds v o. o_rule (c.turns.invariant.turns.by _ _ _ o))
+
+pub handler_list-returns-then-not-is : goal.handler_list-returns-then-not-is
+handler_list-returns-then-not-is t c = record { reads = heads_end c.in_ok-next.next.value c.turns.invariant.turns c.in_ok-next.ensures.reads (sym c.is.ensures ∙ c.if-not-is.true) c.in_ok-all.ensures (λ k ds v o. o_rule o); shorter = search rules }
+
+pub opt_handlers-returns-in-Some : goal.opt_handlers-returns-in-Some
+opt_handlers-returns-in-Some t c = record { reads = hand_after _ c.args.start c.in-Some.behind _ c.handler_list.ensures.reads (λ k ds v o. o_yes c.in-Some.ensures.reads.0 (o_rule (word_passes c.in-Some.ensures.reads _ _ _ o))); shorter = no_more_still c.args.start c.in-Some.behind _ c.handler_list.ensures.shorter (omega (arith, c.in-Some.ensures.shorter)) }
+
+pub opt_handlers-returns : goal.opt_handlers-returns
+opt_handlers-returns t c = record { reads = λ k ds v o. to (o_no c.in_default.ensures.reads o) (ap (λ l. list_item handler_item l ∷ ds) (sym c.new-none.ensures.items)); shorter = search rules }
+
+pub body-returns-in_err-begin : goal.body-returns-in_err-begin
+body-returns-in_err-begin t c = exit _ _ _ c.from_residual.ensures.1 (c.in_err-begin.ensures.reads c.args.room) (λ k ds v o. o_rule o)
+
+pub body-returns-in_err-inner : goal.body-returns-in_err-inner
+body-returns-in_err-inner t c = exit _ _ _ c.from_residual-in_err-inner.ensures.1 c.in_err-inner.ensures.reads (λ k ds v o. o_rule (c.in_ok-begin.ensures.reads _ _ _ _ o))
+
+pub body-returns-in_err-handlers : goal.body-returns-in_err-handlers
+body-returns-in_err-handlers t c = exit _ _ _ c.from_residual-in_err-handlers.ensures.1 c.in_err-handlers.ensures.reads (λ k ds v o. o_rule (c.in_ok-begin.ensures.reads _ _ _ _ (c.in_ok-inner.ensures.reads _ _ _ o)))
+
+pub body-returns : goal.body-returns
+body-returns t c = completes _ c.args.start c.in_ok-handlers.rest _ (c.end_body.ensures c.args.room) (search rules) (λ k ds v o. o_rule (c.in_ok-begin.ensures.reads _ _ _ _ (c.in_ok-inner.ensures.reads _ _ _ (c.in_ok-handlers.ensures.reads _ _ _ o))))

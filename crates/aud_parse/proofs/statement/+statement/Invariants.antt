@@ -1,7 +1,7 @@
 use Rattle.std.proofs.Common.{◌+◌, ◌*◌, ◌≤◌, length}
 use Rattle.aud_parse.specs.Grammar as g
-use Rattle.aud_parse.specs.Ties.Items.{arm_item, statement_item}
-use Rattle.aud_parse.proofs.Passing.{Turns}
+use Rattle.aud_parse.specs.Ties.Items.{arm_item, handler_item, statement_item}
+use Rattle.aud_parse.proofs.Passing.{Turns, Heads}
 use Rattle.aud_parse.proofs.statement.+statement.Given as goal
 
 abbrev pub decreases-statements : goal.decreases-statements
@@ -16,11 +16,17 @@ decreases-opt_else l = 16 * l.room + 1
 abbrev pub decreases-loop_statement : goal.decreases-loop_statement
 decreases-loop_statement l = 16 * l.room + 1
 
-abbrev pub decreases-name_statement : goal.decreases-name_statement
-decreases-name_statement l = 16 * l.room + 2
+abbrev pub decreases-handler : goal.decreases-handler
+decreases-handler l = 16 * l.room + 1
+
+abbrev pub decreases-handler_list : goal.decreases-handler_list
+decreases-handler_list l = 16 * l.room + 2
 
 abbrev pub decreases-elsif : goal.decreases-elsif
 decreases-elsif l = 16 * l.room + 2
+
+abbrev pub decreases-opt_handlers : goal.decreases-opt_handlers
+decreases-opt_handlers l = 16 * l.room + 3
 
 abbrev pub decreases-elsifs : goal.decreases-elsifs
 decreases-elsifs l = 16 * l.room + 3
@@ -28,14 +34,26 @@ decreases-elsifs l = 16 * l.room + 3
 abbrev pub decreases-if_statement : goal.decreases-if_statement
 decreases-if_statement l = 16 * l.room + 4
 
+abbrev pub decreases-body : goal.decreases-body
+decreases-body l = 16 * l.room + 4
+
+abbrev pub decreases-block : goal.decreases-block
+decreases-block l = 16 * l.room + 5
+
+abbrev pub decreases-labelled : goal.decreases-labelled
+decreases-labelled l = 16 * l.room + 6
+
+abbrev pub decreases-name_statement : goal.decreases-name_statement
+decreases-name_statement l = 16 * l.room + 7
+
 abbrev pub decreases-statement : goal.decreases-statement
-decreases-statement l = 16 * l.room + 5
+decreases-statement l = 16 * l.room + 8
 
 abbrev pub decreases-more_statements : goal.decreases-more_statements
-decreases-more_statements l = 16 * l.room + 6
+decreases-more_statements l = 16 * l.room + 9
 
 abbrev pub decreases-statement_list : goal.decreases-statement_list
-decreases-statement_list l = 16 * l.room + 7
+decreases-statement_list l = 16 * l.room + 10
 
 abbrev pub invariant-elsifs-turns : goal.invariant-elsifs-turns
 invariant-elsifs-turns l = record { turns : Turns arm_item g.Elsif l.room l.start.tokens.now l.all.items l.rest.tokens.now; shorter : length l.rest.tokens.now ≤ length l.start.tokens.now }
@@ -48,3 +66,9 @@ invariant-more_statements-turns l = record { turns : Turns statement_item g.Stat
 
 abbrev pub decreases-more_statements-turns : goal.decreases-more_statements-turns
 decreases-more_statements-turns l = length l.rest.tokens.now
+
+abbrev pub invariant-handler_list-turns : goal.invariant-handler_list-turns
+invariant-handler_list-turns l = record { turns : Heads handler_item g.Handler g.Handler l.room l.start.tokens.now l.all.items l.rest.tokens.now; shorter : length l.rest.tokens.now ≤ length l.start.tokens.now }
+
+abbrev pub decreases-handler_list-turns : goal.decreases-handler_list-turns
+decreases-handler_list-turns l = length l.rest.tokens.now

@@ -3,11 +3,11 @@ use Rattle.std.specs.Prelude.{Option, Box}
 use Rattle.std.specs.Global.{Global}
 use Rattle.aud_text.specs.declared.place.Pos.{Pos}
 use Rattle.aud_syntax.specs.declared.tree.Ident.{Ident}
-use Rattle.aud_syntax.specs.declared.tree.Expression.{Expression}
+use Rattle.aud_syntax.specs.declared.tree.Iteration.{Iteration}
 use Rattle.aud_syntax.specs.declared.tree.Statements.{Statements}
 use Rattle.aud_parse.specs.Grammar as g
 use Rattle.aud_parse.specs.Actions.{an_ident, token, made}
-use Rattle.aud_parse.specs.Ties.Items.{opt_item, while_item, boxed_statements_item}
+use Rattle.aud_parse.specs.Ties.Items.{opt_item, scheme_item, boxed_statements_item}
 use Rattle.aud_parse.specs.Ties.Parts.{behind_label}
 use Rattle.aud_parse.proofs.Joined.{at_room, joined, not_joined}
 use Rattle.aud_parse.proofs.Connecting.{exit_in}
@@ -36,7 +36,7 @@ returns c = λ room.
       reads = λ k ds v o. (
         _,
         c.in_ok-parts.ensures.reads.1 _ _ _ _ (c.in_ok-parts-2.ensures.reads.1 _ _ _ _ (j.reads _ _ _ (i.reads _ _ _ o))),
-        ap (λ (z : Option Ident × Option (Pos × Box Expression Global) × Box Statements Global). behind_label z.0 (made g.Loop (opt_item while_item z.1 ∷ token c.args.begin.now ∷ boxed_statements_item z.2 ∷ opt_item an_ident c.in_ok-parts-3.name ∷ token c.in_ok-label.last.now ∷ ds)))
+        ap (λ (z : Option Ident × Option (Pos × Box Iteration Global) × Box Statements Global). behind_label z.0 (made g.Loop (opt_item scheme_item z.1 ∷ token c.args.begin.now ∷ boxed_statements_item z.2 ∷ opt_item an_ident c.in_ok-parts-3.name ∷ token c.in_ok-label.last.now ∷ ds)))
             (sym (i.first ∙ j.first ∙ c.in_ok-parts-2.ensures.reads.0 ∙ c.in_ok-parts.ensures.reads.0))
             ∙ loop_items c.in_ok-statement.statement c.in_ok-label.label c.in_ok-label.scheme (token c.args.begin.now) c.in_ok-label.inner c.in_ok-parts-3.name (token c.in_ok-label.last.now) ds (rw (sym c.at.ensures, sym c.at-2.ensures) c.in_ok-statement.ensures),
       );

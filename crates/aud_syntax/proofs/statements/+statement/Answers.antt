@@ -2,9 +2,11 @@ use Rattle.std.proofs.Common.{◌++◌, ◌∷◌, [], ◌∙◌, sym, refl, ari
 use Rattle.std.specs.Prelude.{codes}
 use Rattle.aud_lex.specs.Why.Spaced.{word, last_word}
 use Rattle.aud_syntax.specs.declared.tree.IfStatement.{out-IfStatement}
-use Rattle.aud_syntax.specs.Ties.View.{plain_expression, plain_statement, plain_others, plain_statements, arm_list, plain_iteration}
-use Rattle.aud_syntax.specs.Why.Printed.{expression_words, label_words, iteration_words, end_words, arm_words, arms_words, otherwise_words, statement_words, more_statements_words, statements_words}
-use Rattle.aud_syntax.proofs.Written.{all_written, next_written, if_written, loop_written, else_written}
+use Rattle.aud_syntax.specs.declared.tree.BlockStatement.{out-BlockStatement}
+use Rattle.aud_syntax.specs.declared.tree.Body.{out-Body}
+use Rattle.aud_syntax.specs.Ties.View.{plain_expression, plain_statement, plain_others, plain_statements, arm_list, plain_iteration, plain_choices, plain_declarations, plain_body, handler_list}
+use Rattle.aud_syntax.specs.Why.Printed.{expression_words, label_words, iteration_words, end_words, arm_words, arms_words, otherwise_words, statement_words, more_statements_words, statements_words, declare_words, declarations_words, body_words, choices_words, handler_words, handlers_words, handled_words}
+use Rattle.aud_syntax.proofs.Written.{all_written, next_written, if_written, loop_written, else_written, block_written, body_written, handled_written}
 use Rattle.aud_syntax.proofs.statements.+statement.Goals as goal
 
 pub push_arm-returns : goal.push_arm-returns
@@ -18,6 +20,44 @@ push_arm-returns t c =
 pub push_arms-loop-next-preserved : goal.push_arms-loop-next-preserved
 push_arms-loop-next-preserved t c =
     next_written (λ xs. arms_words (arm_list xs)) (λ x. arm_words (codes "elsif") (expression_words (plain_expression x.condition)) (statements_words (plain_statements x.statements))) (λ x xs. refl) c.args.arms.now c.loop-next.next-index c.next-item.result (omega arith) c.next-item.is c.loop-next.out.items c.push_arm.new.out.items _ c.loop-next.invariant c.in_ok-push_arm.ensures
+
+pub push_block-returns : goal.push_block-returns
+push_block-returns t c =
+    let x = out-BlockStatement c.args.statement.now in
+    let declarations = declarations_words (plain_declarations x.declarations.items) in
+    let rest = body_words (plain_body x.body) in
+    block_written c.push_body.result c.args.out.now.items c.push_body.new.out.items c.args.statement.now
+    (all_written c.push_body.result c.args.out.now.items c.push_label.new.out.items c.push_body.new.out.items (label_words x.label) (declare_words x.declare ++ (declarations ++ (rest))) c.in_ok-push_label.ensures
+    (all_written c.push_body.result c.push_label.new.out.items c.push_declare.new.out.items c.push_body.new.out.items (declare_words x.declare) (declarations ++ (rest)) c.in_ok-push_declare.ensures
+    (all_written c.push_body.result c.push_declare.new.out.items c.push_declarations.new.out.items c.push_body.new.out.items declarations rest (rw c.deref.ensures.value at c.in_ok-push_declarations.ensures) c.push_body.ensures)))
+
+pub push_body-returns : goal.push_body-returns
+push_body-returns t c =
+    let x = out-Body c.args.body.now in
+    let statements = statements_words (plain_statements x.statements) in
+    let handled = handled_words (handler_list x.handlers.items) (handlers_words (handler_list x.handlers.items)) in
+    body_written c.push_last_word-2.result c.args.out.now.items c.push_last_word-2.new.out.items c.args.body.now
+    (all_written c.push_last_word-2.result c.args.out.now.items c.push_last_word.new.out.items c.push_last_word-2.new.out.items (last_word (codes "begin") ∷ []) (statements ++ (handled ++ (word (codes "end") ∷ [] ++ (end_words x.name ++ (last_word (codes ";") ∷ []))))) c.in_ok-push_last_word.ensures
+    (all_written c.push_last_word-2.result c.push_last_word.new.out.items c.push_statements.new.out.items c.push_last_word-2.new.out.items statements (handled ++ (word (codes "end") ∷ [] ++ (end_words x.name ++ (last_word (codes ";") ∷ [])))) c.in_ok-push_statements.ensures
+    (all_written c.push_last_word-2.result c.push_statements.new.out.items c.push_handled.new.out.items c.push_last_word-2.new.out.items handled (word (codes "end") ∷ [] ++ (end_words x.name ++ (last_word (codes ";") ∷ []))) (rw c.deref.ensures.value at c.in_ok-push_handled.ensures)
+    (all_written c.push_last_word-2.result c.push_handled.new.out.items c.push_word.new.out.items c.push_last_word-2.new.out.items (word (codes "end") ∷ []) (end_words x.name ++ (last_word (codes ";") ∷ [])) c.in_ok-push_word.ensures
+    (all_written c.push_last_word-2.result c.push_word.new.out.items c.push_end_name.new.out.items c.push_last_word-2.new.out.items (end_words x.name) (last_word (codes ";") ∷ []) c.in_ok-push_end_name.ensures c.push_last_word-2.ensures)))))
+
+pub push_handled-returns : goal.push_handled-returns
+push_handled-returns t c =
+    handled_written c.push_handlers.result c.args.out.now.items c.push_last_word.new.out.items c.push_handlers.new.out.items c.args.handlers.now (sym c.is_empty.ensures ∙ c.if-is_empty.false) c.in_ok-push_last_word.ensures c.push_handlers.ensures
+
+pub push_handler-returns : goal.push_handler-returns
+push_handler-returns t c =
+    let choices = choices_words (plain_choices c.args.handler.now.choices) in
+    let statements = statements_words (plain_statements c.args.handler.now.statements) in
+    all_written c.push_statements.result c.args.out.now.items c.push_word.new.out.items c.push_statements.new.out.items (word (codes "when") ∷ []) (choices ++ (last_word (codes "=>") ∷ [] ++ (statements))) c.in_ok-push_word.ensures
+    (all_written c.push_statements.result c.push_word.new.out.items c.push_choices.new.out.items c.push_statements.new.out.items choices (last_word (codes "=>") ∷ [] ++ (statements)) c.in_ok-push_choices.ensures
+    (all_written c.push_statements.result c.push_choices.new.out.items c.push_last_word.new.out.items c.push_statements.new.out.items (last_word (codes "=>") ∷ []) statements c.in_ok-push_last_word.ensures c.push_statements.ensures))
+
+pub push_handlers-loop-next-preserved : goal.push_handlers-loop-next-preserved
+push_handlers-loop-next-preserved t c =
+    next_written (λ xs. handlers_words (handler_list xs)) (λ x. handler_words (plain_choices x.choices) (statements_words (plain_statements x.statements))) (λ x xs. refl) c.args.handlers.now c.loop-next.next-index c.next-item.result (omega arith) c.next-item.is c.loop-next.out.items c.push_handler.new.out.items _ c.loop-next.invariant c.in_ok-push_handler.ensures
 
 pub push_if-returns : goal.push_if-returns
 push_if-returns t c =

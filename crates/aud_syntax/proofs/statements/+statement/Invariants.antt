@@ -1,7 +1,7 @@
 use Rattle.std.proofs.Common.{◌≡◌, ◌++◌, drop}
 use Rattle.aud_lex.specs.Why.Spaced.{spaced}
-use Rattle.aud_syntax.specs.Ties.View.{plain_others, arm_list}
-use Rattle.aud_syntax.specs.Why.Printed.{more_statements_words, arms_words}
+use Rattle.aud_syntax.specs.Ties.View.{plain_others, arm_list, handler_list}
+use Rattle.aud_syntax.specs.Why.Printed.{more_statements_words, arms_words, handlers_words}
 use Rattle.aud_syntax.proofs.statements.+statement.Given as goal
 
 abbrev pub invariant-push_more_statements-loop-next : goal.invariant-push_more_statements-loop-next
@@ -9,3 +9,6 @@ invariant-push_more_statements-loop-next l = l.out.items ++ spaced (more_stateme
 
 abbrev pub invariant-push_arms-loop-next : goal.invariant-push_arms-loop-next
 invariant-push_arms-loop-next l = l.out.items ++ spaced (arms_words (arm_list (drop l.next-index l.arms))) ≡ l.fn.out.items ++ spaced (arms_words (arm_list l.fn.arms))
+
+abbrev pub invariant-push_handlers-loop-next : goal.invariant-push_handlers-loop-next
+invariant-push_handlers-loop-next l = l.out.items ++ spaced (handlers_words (handler_list (drop l.next-index l.handlers))) ≡ l.fn.out.items ++ spaced (handlers_words (handler_list l.fn.handlers))
