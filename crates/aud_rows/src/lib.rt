@@ -1,9 +1,8 @@
-// Sessions and their answers, and the tests of all crates.
+// Sessions and their answers, and the tests of the server and the private server.
 #![tactic(auto)]
 
 #[cfg(test)]
 mod case;
-pub mod laws;
 #[cfg(test)]
 mod tables;
 #[cfg(test)]

@@ -1,19 +1,12 @@
-// What no contract says: examples worked out by hand, and each call once where it succeeds. They stand here for every crate,
-// since a crate that has tests of its own is proved twice.
+// Whole sessions, and what no contract says of the server and the private server: each call once where it succeeds. They stand
+// here for every crate that a session goes through, since a crate that has tests of its own is proved twice.
 
 mod answers;
 mod benches;
 mod checks;
-mod fusing;
-mod lines;
-mod machines;
 mod requests;
 mod serving;
 mod sessions;
-mod texts;
-mod tokens;
-mod trees;
-mod truths;
 
 use std::process::Abort;
 
