@@ -20,7 +20,7 @@ abbrev pub exception_meant : Option Meaning → Option Exception
 exception_meant (Some (meaning.Exception x)) = Some x
 exception_meant _ = None
 
--- a name of an exception must be one (RM 11.2(5), 11.3(2))
+-- a name of an exception must be one (RM 11.2(6), 11.3(3))
 abbrev pub exception_faults : Option Meaning → Pos → List Fault
 exception_faults None at = name_not_declared at
 exception_faults (Some (meaning.Exception x)) at = []
@@ -66,7 +66,7 @@ pub record Chosen : Type 0 where
 abbrev pub none_chosen : Chosen
 none_chosen = record { exceptions = []; others = false }
 
--- no exception is chosen twice (RM 11.2(5))
+-- no exception is chosen twice (RM 11.2(7), and within one handler by choice of the profile)
 abbrev pub chosen_once : Option Exception → Pos → Chosen → List Fault
 chosen_once None at c = []
 chosen_once (Some x) at c = good_choice (not (is_chosen x c.exceptions)) at
@@ -93,7 +93,7 @@ abbrev pub is_last : Handlers → Bool
 is_last no_handlers = true
 is_last (more_handlers c ss hs) = false
 
--- `others` stands last, and once (RM 11.2(5))
+-- `others` stands last, and once (RM 11.2(8))
 abbrev pub choices_faults : Choices → Bool → Chosen → Place → List Fault
 choices_faults (exceptions first more) last c place = names_chosen_faults (first ∷ more) c place
 choices_faults (others at) last c place = good_choice (last && not c.others) at

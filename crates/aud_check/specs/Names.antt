@@ -1,5 +1,5 @@
 -- What names stand for, where they are visible, and what a construct knows of its place (RM 8.1, 8.2, 8.3).
-use Rattle.std.specs.Prelude.{ℕ, ◌+◌, Bool, true, false, List, [], ◌∷◌, Option, Some, None, is_some, codes, if◌then◌else◌}
+use Rattle.std.specs.Prelude.{ℕ, ◌+◌, Bool, true, false, ◌||◌, List, [], ◌∷◌, Option, Some, None, is_some, codes, if◌then◌else◌}
 use Rattle.std.specs.Str.{bytes_eq}
 use Rattle.std.specs.List.{list_any}
 use Rattle.std.specs.Map.{lookup}
@@ -82,6 +82,10 @@ is_hidden name hidden = list_any (λ i. bytes_eq name i.name) hidden
 -- what a name stands for, where it is visible (RM 4.1, 8.3)
 abbrev pub visible : List ℕ → Place → Option Meaning
 visible name place = if is_hidden name place.hidden then None else declared name place.regions
+
+-- whether a declaration has taken a name, also one that has not ended: nothing further out is meant by it
+abbrev pub is_taken : List ℕ → Place → Bool
+is_taken name place = is_hidden name place.hidden || is_some (declared name place.regions)
 
 -- whether a region has declared a name (RM 8.3(26): no two homographs in one region)
 abbrev pub is_declared : List ℕ → List Symbol → Bool

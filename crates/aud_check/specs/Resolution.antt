@@ -1,5 +1,5 @@
 -- What a name denotes that may have several parts and arguments (RM 4.1).
-use Rattle.std.specs.Prelude.{ℕ, Bool, true, false, not, ◌&&◌, ◌||◌, List, [], Option, Some, None, is_some, codes, if◌then◌else◌}
+use Rattle.std.specs.Prelude.{ℕ, Bool, true, false, not, ◌&&◌, ◌||◌, List, [], Option, Some, None, codes, if◌then◌else◌}
 use Rattle.std.specs.Str.{bytes_eq}
 use Rattle.aud_text.specs.declared.place.Pos.{Pos}
 use Rattle.aud_syntax.specs.declared.tree.Ident.{Ident}
@@ -8,7 +8,7 @@ use Rattle.aud_check.specs.declared.fault.Fault.{Fault}
 use Rattle.aud_check.specs.declared.names.Meaning.{Meaning}
 use Rattle.aud_check.specs.declared.names.Meaning.TheVariants.{ScalarType, Literal, Object, Array, Exception, Builtin, MainProcedure}
 use Rattle.aud_check.specs.declared.resolution.Denoted.{Denoted}
-use Rattle.aud_check.specs.Names.{Place, visible, declared, named_in, predefined}
+use Rattle.aud_check.specs.Names.{Place, visible, is_taken, named_in, predefined}
 use Rattle.aud_check.specs.Rules.{name_not_declared, wrong_kind_of_name}
 
 -- the faults in a name, and what it denotes with the place of the identifier that decides: nothing where it is faulty
@@ -77,9 +77,9 @@ in_text_io _ r rest = not_declared r
 abbrev pub is_plainly : List ℕ → NamePart → Bool
 is_plainly name p = bytes_eq (part_ident p).name name && are_none (part_args p)
 
--- the name of the library that it is in may stand before it, where nothing else is declared to be Ada
+-- the name of the library that it is in may stand before it, where no declaration has taken the name Ada
 abbrev pub is_text_io : NamePart → NamePart → Place → Bool
-is_text_io p q place = is_plainly (codes "ADA") p && is_plainly (codes "TEXT_IO") q && not (is_some (declared (part_ident p).name place.regions))
+is_text_io p q place = is_plainly (codes "ADA") p && is_plainly (codes "TEXT_IO") q && not (is_taken (part_ident p).name place)
 
 abbrev pub in_library : NamePart → Parts → Place → Resolved
 in_library p (more_parts q (more_parts r rest)) place = if is_text_io p q place then in_text_io (named_in (part_ident r).name predefined) r rest else not_declared p

@@ -79,7 +79,7 @@ exit_in_loop good at = unless good (record { at = at; refusal = ExitWithoutLoop 
 abbrev pub raise_in_handler : Bool → Pos → List Fault
 raise_in_handler good at = unless good (record { at = at; refusal = RaiseWithoutHandler })
 
--- no exception is chosen twice by the handlers of a body, and `others` is chosen last (RM 11.2(5)); at the choice
+-- no exception is chosen twice by the handlers of a body, and `others` is chosen last (RM 11.2(7, 8)); at the choice
 abbrev pub good_choice : Bool → Pos → List Fault
 good_choice good at = unless good (record { at = at; refusal = BadHandlerChoice })
 

@@ -327,9 +327,9 @@ pub fn declaration(
     all_exceptions: &mut Vec<Name>,
     faults: &mut Least,
 ) -> Made<()>
-    ensures { OnOk result (Declares faults.old faults.new outer.now part.old part.new all_exceptions.new.items
-        (checked_declaration (plain_declaration declaration.now) (plain_place part.old.region outer.now)
-        all_exceptions.old.items)) }
+    ensures { OnOk result (Declares faults.old faults.new outer.now part.old part.new
+        all_exceptions.new.items (checked_declaration (plain_declaration declaration.now)
+        (plain_place part.old.region outer.now) all_exceptions.old.items)) }
 {
     match declaration {
         Declaration::Object(names, mark, initial) => {
@@ -355,9 +355,9 @@ pub fn declarations(
     exceptions: &mut Vec<Name>,
     faults: &mut Least,
 ) -> Made<()>
-    ensures { OnOk result (Declares faults.old faults.new outer.now part.old part.new exceptions.new.items
-        (checked_declarations (plain_declarations declarations.now) (plain_place part.old.region outer.now)
-        exceptions.old.items)) }
+    ensures { OnOk result (Declares faults.old faults.new outer.now part.old part.new
+        exceptions.new.items (checked_declarations (plain_declarations declarations.now)
+        (plain_place part.old.region outer.now) exceptions.old.items)) }
 {
     for next in declarations {
         declaration(next, outer, part, exceptions, faults)?;

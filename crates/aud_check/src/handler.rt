@@ -18,7 +18,7 @@ use aud_typed::program::{Exception, Statement as TypedStatement};
 use std::alloc::Global;
 use std::marker::Model;
 
-// Notes where what a name stands for is no exception (RM 11.2(5), 11.3(2)).
+// Notes where what a name stands for is no exception (RM 11.2(6), 11.3(3)).
 fn check_exception(meaning: Option<Meaning>, at: Pos, faults: &mut Least)
     ensures { faults.new ≡ noted faults.old (exception_faults meaning at) }
 {
@@ -169,7 +169,7 @@ impl Chosen {
     }
 }
 
-/// Checks the choices of the handlers of a body (RM 11.2(5)).
+/// Checks the choices of the handlers of a body (RM 11.2(7, 8)).
 pub fn all_choices(handlers: &[Handler], scope: &Scope<'_>, faults: &mut Least) -> Made<()>
     ensures { OnOk result (faults.new ≡ noted faults.old
         (all_choices_faults (handler_list handlers.now) none_chosen scope.now)) }

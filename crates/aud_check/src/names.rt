@@ -1,7 +1,7 @@
 // Names, and what they stand for.
 
-ghost use Rattle.std.specs.Prelude.{◌≡◌, ◌+◌, ◌∷◌, [], IfOk, is_some};
-ghost use Rattle.aud_check.specs.Names.{Place as Plain, empty_region, named_in, predefined, declared, hiding, is_hidden, visible, library, outermost, innermost};
+ghost use Rattle.std.specs.Prelude.{◌≡◌, ◌+◌, ◌∷◌, [], IfOk};
+ghost use Rattle.aud_check.specs.Names.{Place as Plain, empty_region, named_in, predefined, declared, hiding, is_hidden, is_taken, visible, library, outermost, innermost};
 ghost use Rattle.aud_check.specs.Ties.Regions.{plain_region, plain_regions, plain_place, names_in, hidden_names};
 
 use crate::behind::Made;
@@ -196,11 +196,11 @@ impl<'a> Scope<'a> {
         }
     }
 
-    /// Whether a region around the place declares a name, or the predefined one.
-    pub fn is_declared(&self, name: &Name) -> bool
-        ensures { result ≡ is_some (declared name.now self.now.regions) }
+    /// Whether a declaration around the place has taken a name, also the one that lasts there, or it is predefined.
+    pub fn is_taken(&self, name: &Name) -> bool
+        ensures { result ≡ is_taken name.now self.now }
     {
-        self.declared(name).is_some()
+        is_hidden(name, &self.hidden) || self.declared(name).is_some()
     }
 
     /// What a name stands for, none where no declaration of it is visible (RM 8.3).

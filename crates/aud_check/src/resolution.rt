@@ -134,7 +134,7 @@ fn is_plainly(name: &[u8], part: &NamePart) -> bool
 fn is_text_io(first: &NamePart, second: &NamePart, scope: &Scope<'_>) -> bool
     ensures { result ≡ is_text_io (plain_part first.now) (plain_part second.now) scope.now }
 {
-    is_plainly(ADA, first) && is_plainly(TEXT_IO, second) && !scope.is_declared(&first.ident.name)
+    is_plainly(ADA, first) && is_plainly(TEXT_IO, second) && !scope.is_taken(&first.ident.name)
 }
 
 // What a name of at least two parts denotes whose first identifier is not visible.

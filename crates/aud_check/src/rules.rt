@@ -151,7 +151,7 @@ pub fn raise_in_handler(good: bool, at: Pos, faults: &mut Least)
     }
 }
 
-/// No exception is chosen twice by the handlers of a body, and `others` is chosen last (RM 11.2(5)).
+/// No exception is chosen twice by the handlers of a body, and `others` is chosen last (RM 11.2(7, 8)).
 pub fn good_choice(good: bool, at: Pos, faults: &mut Least)
     ensures { faults.new ≡ noted faults.old (good_choice good at) }
 {

@@ -7,6 +7,7 @@ pub mod blocks_checked;
 pub mod checks;
 pub mod constructs;
 pub mod control;
+pub mod documents;
 pub mod exceptions;
 pub mod exceptions_checked;
 pub mod frames;

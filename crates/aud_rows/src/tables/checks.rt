@@ -3,7 +3,15 @@
 use crate::case::Case;
 
 /// Names.
-pub const NAMES: [Case; 15] = [
+pub const NAMES: [Case; 16] = [
+    Case {
+        name: "a name of the library that the declaration under way takes",
+        sent: b"LOAD 1\n\
+            procedure M is Ada : Integer := Ada.Text_IO.New_Line; begin null; end M;\n\
+            LOAD 1\n\
+            procedure M is begin for Ada in 1 .. Ada.Text_IO.Put loop null; end loop; end M;\n",
+        written: b"- E30 1:33 name not declared\n- E30 1:38 name not declared\n",
+    },
     Case {
         name: "a target, a callee and a value that are not declared",
         sent: b"LOAD 1\n\
