@@ -2,9 +2,9 @@
 
 use crate::case::{Case, LongCase, spelled};
 use crate::tables::{
-    arrays, arrays_checked, blocks, blocks_checked, checks, constructs, control, documents, exceptions,
-    exceptions_checked, frames, fused, iterations, iterations_checked, lexis, limits, lines, logic,
-    rows, runs, subtypes, syntax, types, values,
+    arrays, arrays_checked, blocks, blocks_checked, checks, constructs, control, documents,
+    exceptions, exceptions_checked, frames, fused, iterations, iterations_checked, lexis, limits,
+    lines, logic, rows, runs, subtypes, syntax, types, values,
 };
 use aud_server::solo::{SoloFault, solo};
 use std::alloc::Global;
@@ -71,7 +71,11 @@ fn meets_long(rt: &impl Abort, alloc: Global, cases: &[LongCase]) -> Result<(), 
 
 #[test]
 fn answers_rows(rt: HostRuntime) -> Result<(), SoloFault> {
-    meets(&rt, rt.alloc(), &[&rows::ROWS, &documents::PROGRAMS, &documents::SESSION])
+    meets(
+        &rt,
+        rt.alloc(),
+        &[&rows::ROWS, &documents::PROGRAMS, &documents::SESSION],
+    )
 }
 
 #[test]
