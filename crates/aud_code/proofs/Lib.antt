@@ -1,5 +1,6 @@
 pub mod Counting
 pub mod Fine
+pub mod Framing
 pub mod Needing
 pub mod Passing
 pub mod Verifying

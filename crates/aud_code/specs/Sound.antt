@@ -3,6 +3,7 @@ use Rattle.std.specs.Prelude.{◌≡◌, ℕ, zero, suc, List, [], ◌∷◌, le
 use Rattle.aud_code.specs.Places.{Way, Guard}
 use Rattle.aud_code.specs.Instruction.{Instruction, Push, Load, LoadElement, OnOne, OnTwo, Count, Check, Cell, PushTruth, Truth, Negate, Relate, Compare, Combine, PassIfFalse, PassIfTrue, IsCallable, IsTerminated, Find, FindElement, LoadFound, Pass, PassCopy, AppendText, AppendImage, AppendTruth, AppendNewLine, Name, Milliseconds, Seconds, BeginObject, Component, OpensAccept, OpensDelay, OpensTerminate, Mark, PassUnlessNext, SetTime, Ending, Declare, DeclareObject, Assign, If, While, Loop, Exit, ReturnValue, CallTask, Operands, Ended, Reached, Marked, Raised, Lost}
 use Rattle.aud_code.specs.Flat.{Last, Does, Continues, Guards, Ends, Leaves, EndLine, FlatLine, end, Flat, instructions_at, end_at}
+use Rattle.aud_code.specs.Frames.{At, EachAt, StepFits}
 
 -- how many operands there are, and whether an object is being declared
 pub record Counts : Type 0 where
@@ -135,8 +136,11 @@ pub record Leads (lines : List FlatLine) (l : EndLine) : Type 0 where
   pub exit : WayStart lines l.exit
   pub last : LastLeads lines l.last
 
--- Sound code: each step finds its operands, and leads to steps.
+-- Sound code: each step finds its operands, leads to steps, and leaves the frames open that are to be open there.
 pub record IsSound (code : Flat) : Type 0 where
   pub operands : (n : ℕ) → IsStart code.lines n → AreFine (LastFine (end_at code n).last) (instructions_at code n) 0 no_counts
   pub leads : (n : ℕ) (l : EndLine) → slice_get code.lines n ≡ Some (end l) → Leads code.lines l
   pub starts : EachStart code.lines code.starts × IsStart code.lines code.spare
+  pub frames : (n : ℕ) → IsStart code.lines n → StepFits code.lines n
+  -- bodies begin with no frame of a construct
+  pub framed : EachAt code.lines code.starts None × At code.lines code.spare None

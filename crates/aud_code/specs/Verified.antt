@@ -2,6 +2,7 @@
 use Rattle.std.specs.Prelude.{◌≡◌, ◌↔◌, ◌≤◌, ℕ, ◌+◌, ◌-◌, ◌*◌, List, length, drop, Option, Some, None, slice_get, slice_index_or}
 use Rattle.aud_code.specs.Instruction.{Instruction, PassIfFalse, PassIfTrue}
 use Rattle.aud_code.specs.Flat.{FlatLine, instructs, end, instructions_from, end_from}
+use Rattle.aud_code.specs.Frames.{StepFits}
 use Rattle.aud_code.specs.Sound.{Counts, no_counts, LastFine, AreFine, Leads}
 use Rattle.aud_code.specs.declared.counts.Counts.{Counts as InMemory}
 
@@ -48,11 +49,11 @@ NeedsFrom lines first needs =
 abbrev pub EndsAt : List FlatLine → ℕ → ℕ → Type 0
 EndsAt lines place last = length (instructions_from (drop place lines)) + place ≡ last
 
--- an ending leads to steps, and the step behind it finds its operands
+-- an ending leads to steps, and the step behind it finds its operands and fits its frames
 abbrev pub LineFineBy : List FlatLine → ℕ → Option FlatLine → Type 0
 LineFineBy lines place None = Unit {0}
 LineFineBy lines place (Some (instructs i)) = Unit {0}
-LineFineBy lines place (Some (end l)) = Leads lines l × StepFine lines (place + 1) no_counts
+LineFineBy lines place (Some (end l)) = Leads lines l × (StepFine lines (place + 1) no_counts × StepFits lines (place + 1))
 
 abbrev pub LineFine : List FlatLine → ℕ → Type 0
 LineFine lines place = LineFineBy lines place (slice_get lines place)

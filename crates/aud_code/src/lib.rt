@@ -2,6 +2,7 @@
 #![tactic(auto)]
 
 mod counts;
+mod frames;
 pub mod fused;
 mod fusing;
 pub mod instruction;

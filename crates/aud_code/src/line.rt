@@ -82,12 +82,14 @@ pub enum Last {
     },
 }
 
-/// The ending of a step: where the step stands in the text, and the place where an exception goes that is pending here.
+/// The ending of a step: where the step stands in the text, the place where an exception goes that is pending here, and the
+/// place of the step that opened the innermost frame that is open here (directly in a body there is none).
 #[derive(Drop, Debug)]
 pub struct EndLine {
     pub last: Last,
     pub at: Pos,
     pub out: usize,
+    pub within: Option<usize>,
 }
 
 /// What stands at a place. The ending of the step that begins at a place is the first one from there on.

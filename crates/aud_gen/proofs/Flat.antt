@@ -10,3 +10,7 @@ pub mod Moving
 pub mod Behind
 pub mod Parts
 pub mod Written
+pub mod Frames
+pub mod FramesWays
+pub mod FramesStatements
+pub mod FramesLaw

@@ -1,7 +1,7 @@
 -- The lines of statements in memory, one after the other.
 use Rattle.std.proofs.Common.{◌≡◌, ℕ, suc, ◌+◌, ◌<◌, List, [], ◌∷◌, ◌++◌, length, Bool, true, false, nat_eq, refl, ap, sym, ◌∙◌, arith, append-nil, append_assoc, length-append}
 use Rattle.std.proofs.Math.Dec.{eqb-suc-zero}
-use Rattle.std.specs.Prelude.{None, map, if◌then◌else◌, Result, Ok, Err, IsTrue, IsFalse}
+use Rattle.std.specs.Prelude.{Option, None, map, if◌then◌else◌, Result, Ok, Err, IsTrue, IsFalse}
 use Rattle.std.specs.declared.alloc.AllocError.{AllocError}
 use Rattle.aud_text.specs.declared.place.Pos.{Pos}
 use Rattle.aud_typed.specs.declared.program.Arm.{Arm}
@@ -12,13 +12,12 @@ use Rattle.aud_typed.specs.Tree.{For, before, part_of, nothing, some, body, if_t
 use Rattle.aud_meaning.specs.declared.state.Construct.{Construct}
 use Rattle.aud_code.specs.declared.line.Ending.TheVariants.{If, While}
 use Rattle.aud_code.specs.declared.line.Last.TheVariants.{Does}
-use Rattle.aud_code.specs.Flat.{FlatLine, instructs, end}
-use Rattle.aud_code.specs.View.{plain_end}
+use Rattle.aud_code.specs.Flat.{FlatLine, instructs}
 use Rattle.aud_gen.specs.Instructions.{condition_code}
 use Rattle.aud_gen.specs.Layout.{Line, Around, in_loop, ways_count, line, part_place, body_size_by, statement_size_by, part_size_by, statement_code_by, part_code_by, body_code_by}
 use Rattle.aud_gen.specs.Assembly.{instructions_by, end_line as moved_end, step_lines}
 use Rattle.aud_gen.specs.Written.{flat_step, written}
-use Rattle.aud_gen.specs.Writes.{Writes, has_statements, statement_lines, part_lines, listed_lines, arm_length, arm_lines, while_lines}
+use Rattle.aud_gen.specs.Writes.{ended, Writes, has_statements, statement_lines, part_lines, listed_lines, arm_length, arm_lines, while_lines}
 use Rattle.aud_gen.proofs.Flat.Assembly.{assembled_append, its_length}
 use Rattle.aud_gen.proofs.Flat.Behind.{adds, total_more}
 use Rattle.aud_gen.proofs.Writing.{Adds, written_more}
@@ -121,19 +120,19 @@ one_arm arm p more now new whole next a goes h left =
 
 -- A `while`, and its statements.
 
-while_size : (at : Pos) (c : tree.BooleanExpression) (place next out : ℕ) → length (while_lines at c place next out) ≡ suc (length (condition_code c))
-while_size at c place next out = its_length (condition_code c) _
+while_size : (at : Pos) (c : tree.BooleanExpression) (place next out : ℕ) (within : Option ℕ) → length (while_lines at c place next out within) ≡ suc (length (condition_code c))
+while_size at c place next out within = its_length (condition_code c) _
 
-while_done : (at : Pos) (c : tree.BooleanExpression) (ss : tree.Statement) (old mid new : List FlatLine) (next place : ℕ) (a : Around) → place ≡ length old → mid ≡ old ++ while_lines at c (length old) next a.out →
+while_done : (at : Pos) (c : tree.BooleanExpression) (ss : tree.Statement) (old mid new : List FlatLine) (next place : ℕ) (a : Around) → place ≡ length old → mid ≡ old ++ while_lines at c (length old) next a.out a.within →
     new ≡ mid ++ statement_lines ss (length mid) place (in_loop next a) → new ≡ old ++ statement_lines (while_loop at c ss) (length old) next a
 while_done at c ss old mid new next place a here h k =
     let inside : length old + suc (length (condition_code c)) ≡ suc (length old + length (condition_code c)) = omega arith in
-    let step = while_lines at c (length old) next a.out in
-    continued old mid new step (λ n. statement_lines ss n place (in_loop next a)) _ h (while_size at c (length old) next a.out) k
+    let step = while_lines at c (length old) next a.out a.within in
+    continued old mid new step (λ n. statement_lines ss n place (in_loop next a)) _ h (while_size at c (length old) next a.out a.within) k
     ∙ ap (λ n. old ++ (step ++ statement_lines ss n place (in_loop next a))) inside
     ∙ ap (λ n. old ++ (step ++ statement_lines ss (suc (length old + length (condition_code c))) n (in_loop next a))) here
 
-pub whole_while : {X : Type 0} (r : Result X AllocError) (at : Pos) (c : tree.BooleanExpression) (ss tt' s : tree.Statement) (old mid new : List FlatLine) (next place : ℕ) (a : Around) → place ≡ length old → mid ≡ old ++ while_lines at c (length old) next a.out →
+pub whole_while : {X : Type 0} (r : Result X AllocError) (at : Pos) (c : tree.BooleanExpression) (ss tt' s : tree.Statement) (old mid new : List FlatLine) (next place : ℕ) (a : Around) → place ≡ length old → mid ≡ old ++ while_lines at c (length old) next a.out a.within →
     tt' ≡ ss → s ≡ while_loop at c ss → Writes r mid new (statement_lines tt' (length mid) place (in_loop next a)) → Writes r old new (statement_lines s (length old) next a)
 whole_while (Ok x) at c ss tt' s old mid new next place a here h e is k =
     while_done at c ss old mid new next place a here h (k ∙ ap (λ z. mid ++ statement_lines z (length mid) place (in_loop next a)) e)
@@ -168,24 +167,24 @@ whole_list (Err x) first others left is_last old mid new next a last e h k = tt
 -- An arm, by what is written of it.
 arm_done : (arm : Arm) (more : Bool) (old now mid new : List FlatLine) (next inside otherwise : ℕ) (a : Around) → inside ≡ suc (length old + length (condition_code (plain_boolean arm.condition))) →
     otherwise ≡ (if more then inside + statement_size_by flat_step (statements_in arm.statements) (ways_count a) else next) → Adds old now (condition_code (plain_boolean arm.condition)) →
-    mid ≡ now ++ end (plain_end (record { last = Does (If inside) otherwise; at = arm.at; out = a.out })) ∷ [] →
+    mid ≡ now ++ ended (Does (If inside) otherwise) arm.at a.out a.within →
     new ≡ mid ++ statement_lines (statements_in arm.statements) (length mid) next a → new ≡ old ++ arm_lines arm more (length old) next a
 arm_done arm more old now mid new next inside otherwise a ei eo h1 h2 h3 =
     let ss = statements_in arm.statements in
     let c = plain_boolean arm.condition in
     let place = suc (length old + length (condition_code c)) in
     let size = statement_size_by flat_step ss (ways_count a) in
-    let ended = λ (n m : ℕ). end (plain_end (record { last = Does (If n) m; at = arm.at; out = a.out })) ∷ [] in
+    let step_end = λ (n m : ℕ). ended (Does (If n) m) arm.at a.out a.within in
     let leads = eo ∙ ap (λ n. if more then n + size else next) ei in
-    let step = written_more old now mid (map instructs (condition_code c)) (ended inside otherwise) h1 h2 ∙ ap (λ n. old ++ (map instructs (condition_code c) ++ ended n otherwise)) ei ∙ ap (λ n. old ++ (map instructs (condition_code c) ++ ended place n)) leads in
-    let lines = map instructs (condition_code c) ++ ended place (if more then place + size else next) in
+    let step = written_more old now mid (map instructs (condition_code c)) (step_end inside otherwise) h1 h2 ∙ ap (λ n. old ++ (map instructs (condition_code c) ++ step_end n otherwise)) ei ∙ ap (λ n. old ++ (map instructs (condition_code c) ++ step_end place n)) leads in
+    let lines = map instructs (condition_code c) ++ step_end place (if more then place + size else next) in
     let same : length old + suc (length (condition_code c)) ≡ place = omega arith in
-    continued old mid new lines (λ n. statement_lines ss n next a) _ step (its_length (condition_code c) (plain_end (record { last = Does (If place) (if more then place + size else next); at = arm.at; out = a.out }))) h3
+    continued old mid new lines (λ n. statement_lines ss n next a) _ step (its_length (condition_code c) _) h3
     ∙ ap (λ n. old ++ (lines ++ statement_lines ss n next a)) same
 
 pub whole_arm : {X : Type 0} (r : Result X AllocError) (arm : Arm) (more : Bool) (old now mid new : List FlatLine) (next inside otherwise : ℕ) (a : Around) → inside ≡ suc (length old + length (condition_code (plain_boolean arm.condition))) →
     otherwise ≡ (if more then inside + statement_size_by flat_step (statements_in arm.statements) (ways_count a) else next) → Adds old now (condition_code (plain_boolean arm.condition)) →
-    mid ≡ now ++ end (plain_end (record { last = Does (If inside) otherwise; at = arm.at; out = a.out })) ∷ [] →
+    mid ≡ now ++ ended (Does (If inside) otherwise) arm.at a.out a.within →
     Writes r mid new (statement_lines (statements_in arm.statements) (length mid) next a) → Writes r old new (arm_lines arm more (length old) next a)
 whole_arm (Ok x) arm more old now mid new next inside otherwise a ei eo h1 h2 h3 = arm_done arm more old now mid new next inside otherwise a ei eo h1 h2 h3
 whole_arm (Err x) arm more old now mid new next inside otherwise a ei eo h1 h2 h3 = tt
@@ -200,9 +199,9 @@ some_arm [] p h = absurd (omega (arith, h))
 some_arm (a ∷ more) p h = refl
 
 -- the step of a `while`, by what is written of it
-pub whole_test : {X : Type 0} (r : Result X AllocError) (at : Pos) (c : tree.BooleanExpression) (old now new : List FlatLine) (next out inside : ℕ) → inside ≡ suc (length old + length (condition_code c)) → Adds old now (condition_code c) →
-    Writes r now new (end (plain_end (record { last = Does (While inside) next; at = at; out = out })) ∷ []) → Writes r old new (while_lines at c (length old) next out)
-whole_test (Ok x) at c old now new next out inside e h k =
-    let ended = λ (n : ℕ). end (plain_end (record { last = Does (While n) next; at = at; out = out })) ∷ [] in
-    written_more old now new (map instructs (condition_code c)) (ended inside) h k ∙ ap (λ n. old ++ (map instructs (condition_code c) ++ ended n)) e
-whole_test (Err x) at c old now new next out inside e h k = tt
+pub whole_test : {X : Type 0} (r : Result X AllocError) (at : Pos) (c : tree.BooleanExpression) (old now new : List FlatLine) (next out inside : ℕ) (within : Option ℕ) → inside ≡ suc (length old + length (condition_code c)) → Adds old now (condition_code c) →
+    Writes r now new (ended (Does (While inside) next) at out within) → Writes r old new (while_lines at c (length old) next out within)
+whole_test (Ok x) at c old now new next out inside within e h k =
+    let step_end = λ (n : ℕ). ended (Does (While n) next) at out within in
+    written_more old now new (map instructs (condition_code c)) (step_end inside) h k ∙ ap (λ n. old ++ (map instructs (condition_code c) ++ step_end n)) e
+whole_test (Err x) at c old now new next out inside within e h k = tt

@@ -1,6 +1,6 @@
 -- What the code of expressions in memory is made of.
 use Rattle.std.proofs.Common.{◌≡◌, ℕ, ◌+◌, ◌<◌, List, [], ◌∷◌, ◌++◌, length, drop, get_or, refl, ap, sym, ◌∙◌, arith, append_assoc}
-use Rattle.std.specs.Prelude.{Vec, Box, map}
+use Rattle.std.specs.Prelude.{Vec, Box, map, Option, None, Some}
 use Rattle.std.specs.Global.{Global}
 use Rattle.std.proofs.lemmas.List.{length-append, map-append}
 use Rattle.aud_typed.specs.declared.program.IntegerExpression.{IntegerExpression}
@@ -18,6 +18,7 @@ use Rattle.aud_typed.proofs.Chains.{plain_operation, chain_open, connection_open
 use Rattle.aud_code.specs.Instruction.{Instruction, OnTwo, Combine}
 use Rattle.aud_code.specs.Flat.{FlatLine, instructs}
 use Rattle.aud_gen.specs.Instructions.{integer_code, condition_code, text_code}
+use Rattle.aud_gen.specs.Assembly.{within_moved}
 use Rattle.aud_gen.specs.Writes.{right_code}
 use Rattle.aud_gen.proofs.Loops.{dropped}
 
@@ -89,3 +90,8 @@ operation_written old now mid new d o h k n =
 pub connection_written : (old now new : List FlatLine) (c : Connective) (x y : tree.BooleanExpression) → Adds old now (condition_code x) → Adds now new (right_code c y) → Adds old new (condition_code (connected c x y))
 connection_written old now new c x y h k =
     instructions_written old now new (condition_code x) (right_code c y) h k ∙ ap (λ is. old ++ map instructs is) (sym (connection_code c x y))
+
+-- what opened the innermost frame stands where it does
+pub within_stays : (w : Option ℕ) → within_moved (λ n. n) w ≡ w
+within_stays None = refl
+within_stays (Some n) = refl

@@ -40,8 +40,12 @@ module _ (f : ℕ → ℕ) where
   way_moved None = None
   way_moved (Some w) = Some (record w { to = f w.to })
 
+  abbrev pub within_moved : Option ℕ → Option ℕ
+  within_moved None = None
+  within_moved (Some n) = Some (f n)
+
   abbrev pub end_line : Line → EndLine
-  end_line l = record { last = last_by l.what; at = l.at; out = f l.out; ways = map f l.ways; bodies = map f l.bodies; exit = way_moved l.exit }
+  end_line l = record { last = last_by l.what; at = l.at; out = f l.out; within = within_moved l.within; ways = map f l.ways; bodies = map f l.bodies; exit = way_moved l.exit }
 
   abbrev pub step_lines : Line → List FlatLine
   step_lines l = map instructs (instructions_by l.what) ++ end (end_line l) ∷ []

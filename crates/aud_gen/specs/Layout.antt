@@ -33,6 +33,8 @@ pub record Line : Type 0 where
   pub at : Pos
   -- where an exception goes that is pending here
   pub out : ℕ
+  -- the place of the line whose step opened the innermost frame that is open here; directly in a body there is none
+  pub within : Option ℕ
   -- the places of its parts, by their numbers
   pub ways : List ℕ
   -- those of what accepts do, by the alternatives' numbers
@@ -43,6 +45,7 @@ pub record Line : Type 0 where
 -- what surrounds a statement
 pub record Around : Type 0 where
   pub out : ℕ
+  pub within : Option ℕ
   pub exits : List Way
   pub back : Way
 
@@ -52,8 +55,9 @@ one_more w = record w { loops = suc w.loops }
 abbrev pub in_loop : ℕ → Around → Around
 in_loop next a = record a { exits = record { to = next; loops = 0 } ∷ a.exits }
 
-abbrev pub in_for : ℕ → Around → Around
-in_for next a = record a { exits = record { to = next; loops = 1 } ∷ map one_more a.exits; back = one_more a.back }
+-- the loop has a frame, which the step at the place opens
+abbrev pub in_for : ℕ → ℕ → Around → Around
+in_for place next a = record a { within = Some place; exits = record { to = next; loops = 1 } ∷ map one_more a.exits; back = one_more a.back }
 
 pub record Code : Type 0 where
   pub lines : List Line
@@ -73,36 +77,36 @@ doing_place without_do place next = next
 doing_place (with_do n b) place next = place
 
 abbrev pub line : Statement → List ℕ → List ℕ → Option Way → Around → Line
-line s ways bodies w a = record { what = does s; at = statement_at s; out = a.out; ways = ways; bodies = bodies; exit = w }
+line s ways bodies w a = record { what = does s; at = statement_at s; out = a.out; within = a.within; ways = ways; bodies = bodies; exit = w }
 
 -- a block is left on the way out, and n loops around it; nothing is raised there
-abbrev pub stub_line : ℕ → ℕ → Pos → ℕ → Line
-stub_line loops to end place = record { what = leaves loops to; at = end; out = place; ways = []; bodies = []; exit = None }
+abbrev pub stub_line : ℕ → ℕ → Pos → Option ℕ → ℕ → Line
+stub_line loops to end within place = record { what = leaves loops to; at = end; out = place; within = within; ways = []; bodies = []; exit = None }
 
-abbrev pub stubs : List Way → Pos → ℕ → List Line
-stubs [] end place = []
-stubs (w ∷ ws) end place = stub_line w.loops w.to end place ∷ stubs ws end (suc place)
+abbrev pub stubs : List Way → Pos → Option ℕ → ℕ → List Line
+stubs [] end within place = []
+stubs (w ∷ ws) end within place = stub_line w.loops w.to end within place ∷ stubs ws end within (suc place)
 
 abbrev pub stub_ways : List Way → ℕ → List Way
 stub_ways [] place = []
 stub_ways (w ∷ ws) place = record { to = place; loops = 0 } ∷ stub_ways ws (suc place)
 
--- a block with its end at the place last, behind which it is left on other ways
-abbrev pub in_block : ℕ → Around → Around
-in_block last a = record { out = last; exits = stub_ways a.exits (suc last); back = record { to = suc last + length a.exits; loops = 0 } }
+-- a block that the step at the place opens, with its end at the place last, behind which it is left on other ways
+abbrev pub in_block : ℕ → ℕ → Around → Around
+in_block place last a = record { out = last; within = Some place; exits = stub_ways a.exits (suc last); back = record { to = suc last + length a.exits; loops = 0 } }
 
--- a body with its end at the place last
-abbrev pub in_call : ℕ → Around
-in_call last = record { out = last; exits = []; back = record { to = last; loops = 0 } }
+-- a body with its end at the place last; what an accept does is within its step
+abbrev pub in_call : Option ℕ → ℕ → Around
+in_call within last = record { out = last; within = within; exits = []; back = record { to = last; loops = 0 } }
 
-abbrev pub end_line : Construct → Pos → ℕ → ℕ → Line
-end_line c end next out = record { what = ends c next; at = end; out = out; ways = []; bodies = []; exit = None }
+abbrev pub end_line : Construct → Pos → ℕ → ℕ → Option ℕ → Line
+end_line c end next out within = record { what = ends c next; at = end; out = out; within = within; ways = []; bodies = []; exit = None }
 
 abbrev pub around_out : ℕ → Around → Around
 around_out out a = record a { out = out }
 
-abbrev pub stubs_of : Body → List Way → ℕ → List Line
-stubs_of (body d begin s h end) ws place = stubs ws end place
+abbrev pub stubs_of : Body → List Way → Option ℕ → ℕ → List Line
+stubs_of (body d begin s h end) ws within place = stubs ws end within place
 
 -- What follows is laid out by what place is behind a statement's own step, counted from a number on.
 module _ (behind : Statement → ℕ → ℕ) where
@@ -162,8 +166,8 @@ module _ (behind : Statement → ℕ → ℕ) where
   bodies_from_by (delaying g x p more) place next e = part_place p place next ∷ bodies_from_by more (place + part_size_by p e) next e
   bodies_from_by (terminating g more) place next e = next ∷ bodies_from_by more place next e
 
-  abbrev pub guard_line_by : Handlers → Pos → ℕ → ℕ → ℕ → Line
-  guard_line_by h end handling last e = record { what = guards (guards_of_by h handling e); at = end; out = last; ways = []; bodies = []; exit = None }
+  abbrev pub guard_line_by : Handlers → Pos → ℕ → ℕ → ℕ → Option ℕ → Line
+  guard_line_by h end handling last e within = record { what = guards (guards_of_by h handling e); at = end; out = last; within = within; ways = []; bodies = []; exit = None }
 
   -- statements, the line that guards them, handlers
   abbrev pub main_size_by : Statement → Handlers → ℕ → ℕ
@@ -187,24 +191,24 @@ module _ (behind : Statement → ℕ → ℕ) where
         line (while_loop pos c x) (next ∷ (behind (while_loop pos c x) place) ∷ []) [] None a ∷ statement_code_by x (behind (while_loop pos c x) place) place (in_loop next a)
     statement_code_by (for_loop f x y s) place next a =
         line (for_loop f x y s) (next ∷ (suc (behind (for_loop f x y s) place)) ∷ []) [] None a
-        ∷ record { what = continues f; at = f.next_at; out = a.out; ways = next ∷ (suc (behind (for_loop f x y s) place)) ∷ []; bodies = []; exit = None }
-        ∷ statement_code_by s (suc (behind (for_loop f x y s) place)) (behind (for_loop f x y s) place) (in_for next a)
+        ∷ record { what = continues f; at = f.next_at; out = a.out; within = Some place; ways = next ∷ (suc (behind (for_loop f x y s) place)) ∷ []; bodies = []; exit = None }
+        ∷ statement_code_by s (suc (behind (for_loop f x y s) place)) (behind (for_loop f x y s) place) (in_for place next a)
     statement_code_by (exit pos n c) place next a = line (exit pos n c) (next ∷ []) [] (Some (slice_index_or a.exits n (record { to = next; loops = 0 }))) a ∷ []
     statement_code_by (return pos) place next a = line (return pos) (next ∷ []) [] (Some a.back) a ∷ []
     statement_code_by (return_value pos x) place next a = line (return_value pos x) (next ∷ []) [] (Some a.back) a ∷ []
     statement_code_by (block pos n b) place next a =
         let end = end_place_by b (behind (block pos n b) place) (ways_count a) in
         line (block pos n b) (next ∷ (behind (block pos n b) place) ∷ []) [] None a
-        ∷ (body_code_by construct.Block b (behind (block pos n b) place) next a.out (in_block end a) ++ stubs_of b (a.exits ++ a.back ∷ []) (suc end))
+        ∷ (body_code_by construct.Block b (behind (block pos n b) place) next a.out (in_block place end a) ++ stubs_of b (a.exits ++ a.back ∷ []) (Some place) (suc end))
     statement_code_by (entry_call pos c p q) place next a =
         let second = (behind (entry_call pos c p q) place) + part_size_by p (ways_count a) in
         line (entry_call pos c p q) (part_place p (behind (entry_call pos c p q) place) next ∷ part_place q second next ∷ []) [] None a
         ∷ (part_code_by p (behind (entry_call pos c p q) place) next a ++ part_code_by q second next a)
-    statement_code_by (accept pos n d) place next a = line (accept pos n d) (next ∷ []) (doing_place d (behind (accept pos n d) place) next ∷ []) None a ∷ doing_code_by d (behind (accept pos n d) place) next a.out
+    statement_code_by (accept pos n d) place next a = line (accept pos n d) (next ∷ []) (doing_place d (behind (accept pos n d) place) next ∷ []) None a ∷ doing_code_by d place (behind (accept pos n d) place) next a.out
     statement_code_by (select pos offered p) place next a =
         let second = (behind (select pos offered p) place) + offered_size_by offered (ways_count a) in
         line (select pos offered p) (part_place p second next ∷ parts_from_by offered (behind (select pos offered p) place) next (ways_count a)) (place ∷ bodies_from_by offered (behind (select pos offered p) place) next (ways_count a)) None a
-        ∷ (offered_code_by offered (behind (select pos offered p) place) next a ++ part_code_by p second next a)
+        ∷ (offered_code_by offered place (behind (select pos offered p) place) next a ++ part_code_by p second next a)
     statement_code_by s place next a = line s (next ∷ []) [] None a ∷ []
 
     pub part_code_by : Part → ℕ → ℕ → Around → List Line
@@ -224,22 +228,23 @@ module _ (behind : Statement → ℕ → ℕ) where
         let last = first + main_size_by s h (ways_count a) in
         part_code_by d place first (around_out last a)
         ++ (statement_code_by s first last (around_out guard a)
-        ++ (guard_line_by h end (suc guard) last (ways_count a) ∷ (handlers_code_by h (suc guard) last (around_out last a) ++ end_line c end next out ∷ [])))
+        ++ (guard_line_by h end (suc guard) last (ways_count a) a.within ∷ (handlers_code_by h (suc guard) last (around_out last a) ++ end_line c end next out a.within ∷ [])))
 
-    pub doing_code_by : Doing → ℕ → ℕ → ℕ → List Line
-    doing_code_by without_do place next out = []
-    doing_code_by (with_do n b) place next out =
+    -- what an accept does, whose step stands at the place opener
+    pub doing_code_by : Doing → ℕ → ℕ → ℕ → ℕ → List Line
+    doing_code_by without_do opener place next out = []
+    doing_code_by (with_do n b) opener place next out =
         let end = end_place_by b place 1 in
-        body_code_by construct.Accept b place next out (in_call end)
+        body_code_by construct.Accept b place next out (in_call (Some opener) end)
 
-    pub offered_code_by : Alternatives → ℕ → ℕ → Around → List Line
-    offered_code_by no_alternatives place next a = []
-    offered_code_by (accepting g pos n d p more) place next a =
+    pub offered_code_by : Alternatives → ℕ → ℕ → ℕ → Around → List Line
+    offered_code_by no_alternatives opener place next a = []
+    offered_code_by (accepting g pos n d p more) opener place next a =
         let after = place + doing_size_by d in
-        doing_code_by d place (part_place p after next) a.out
-        ++ (part_code_by p after next a ++ offered_code_by more (after + part_size_by p (ways_count a)) next a)
-    offered_code_by (delaying g x p more) place next a = part_code_by p place next a ++ offered_code_by more (place + part_size_by p (ways_count a)) next a
-    offered_code_by (terminating g more) place next a = offered_code_by more place next a
+        doing_code_by d opener place (part_place p after next) a.out
+        ++ (part_code_by p after next a ++ offered_code_by more opener (after + part_size_by p (ways_count a)) next a)
+    offered_code_by (delaying g x p more) opener place next a = part_code_by p place next a ++ offered_code_by more opener (place + part_size_by p (ways_count a)) next a
+    offered_code_by (terminating g more) opener place next a = offered_code_by more opener place next a
 
   -- of a body, from the place first of its statements on
   abbrev pub main_code_by : Construct → Statement → Handlers → Pos → ℕ → ℕ → ℕ → Around → List Line
@@ -247,12 +252,12 @@ module _ (behind : Statement → ℕ → ℕ) where
       let guard = first + statement_size_by s (ways_count a) in
       let last = first + main_size_by s h (ways_count a) in
       statement_code_by s first last (around_out guard a)
-      ++ (guard_line_by h end (suc guard) last (ways_count a) ∷ (handlers_code_by h (suc guard) last (around_out last a) ++ end_line c end next out ∷ []))
+      ++ (guard_line_by h end (suc guard) last (ways_count a) a.within ∷ (handlers_code_by h (suc guard) last (around_out last a) ++ end_line c end next out a.within ∷ []))
 
   -- A program: its bodies one after the other.
 
   abbrev pub unit_code_by : Body → ℕ → List Line
-  unit_code_by b place = let end = end_place_by b place 1 in body_code_by construct.Unit b place 0 end (in_call end)
+  unit_code_by b place = let end = end_place_by b place 1 in body_code_by construct.Unit b place 0 end (in_call None end)
 
   -- and at last one that no program has, for numbers that no body has
   abbrev pub units_code_by : List Body → ℕ → List Line
@@ -308,7 +313,7 @@ main_size = main_size_by one_line
 abbrev pub end_place : Body → ℕ → ℕ → ℕ
 end_place = end_place_by one_line
 
-abbrev pub guard_line : Handlers → Pos → ℕ → ℕ → ℕ → Line
+abbrev pub guard_line : Handlers → Pos → ℕ → ℕ → ℕ → Option ℕ → Line
 guard_line = guard_line_by one_line
 
 abbrev pub statement_code : Statement → ℕ → ℕ → Around → List Line
@@ -323,10 +328,10 @@ handlers_code = handlers_code_by one_line
 abbrev pub body_code : Construct → Body → ℕ → ℕ → ℕ → Around → List Line
 body_code = body_code_by one_line
 
-abbrev pub doing_code : Doing → ℕ → ℕ → ℕ → List Line
+abbrev pub doing_code : Doing → ℕ → ℕ → ℕ → ℕ → List Line
 doing_code = doing_code_by one_line
 
-abbrev pub offered_code : Alternatives → ℕ → ℕ → Around → List Line
+abbrev pub offered_code : Alternatives → ℕ → ℕ → ℕ → Around → List Line
 offered_code = offered_code_by one_line
 
 abbrev pub main_code : Construct → Statement → Handlers → Pos → ℕ → ℕ → ℕ → Around → List Line
@@ -351,7 +356,7 @@ code_of = code_of_by one_line
 
 -- a place behind all lines is that of a task that has nothing left to do
 abbrev pub no_line : ℕ → Line
-no_line n = record { what = ends construct.Unit 0; at = record { line = 0; col = 0 }; out = n; ways = []; bodies = []; exit = None }
+no_line n = record { what = ends construct.Unit 0; at = record { line = 0; col = 0 }; out = n; within = None; ways = []; bodies = []; exit = None }
 
 abbrev pub line_at : Code → ℕ → Line
 line_at code n = slice_index_or code.lines n (no_line n)

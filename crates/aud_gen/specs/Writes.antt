@@ -1,5 +1,5 @@
 -- What is written of the statements and bodies of a program in memory.
-use Rattle.std.specs.Prelude.{◌≡◌, ℕ, suc, ◌+◌, List, [], ◌∷◌, ◌++◌, length, map, None, Bool, true, false, if◌then◌else◌, Result, OnOk}
+use Rattle.std.specs.Prelude.{◌≡◌, ℕ, suc, ◌+◌, List, [], ◌∷◌, ◌++◌, length, map, Option, None, Some, Bool, true, false, if◌then◌else◌, Result, OnOk}
 use Rattle.std.specs.declared.alloc.AllocError.{AllocError}
 use Rattle.aud_text.specs.declared.place.Pos.{Pos}
 use Rattle.aud_typed.specs.Tree as tree
@@ -13,12 +13,14 @@ use Rattle.aud_meaning.specs.declared.state.Construct.{Construct}
 use Rattle.aud_meaning.specs.Items.{no_body}
 use Rattle.aud_code.specs.Places.{Way}
 use Rattle.aud_code.specs.Instruction.{Instruction, Combine, PassIfFalse, PassIfTrue}
+use Rattle.aud_code.specs.Flat as flat
 use Rattle.aud_code.specs.Flat.{FlatLine, Flat}
-use Rattle.aud_code.specs.View.{plain_way}
+use Rattle.aud_code.specs.View.{plain_way, plain_end}
+use Rattle.aud_code.specs.declared.line.Last.{Last}
 use Rattle.aud_gen.specs.declared.ways.Ways.{Ways}
 use Rattle.aud_gen.specs.Instructions.{condition_code}
 use Rattle.aud_gen.specs.Layout.{Around, ways_count, around_out, in_call, continues, line, end_line, stubs, guard_line_by, statement_size_by, part_size_by, statement_code_by, part_code_by, handlers_code_by, unit_code_by}
-use Rattle.aud_gen.specs.Assembly.{step_lines}
+use Rattle.aud_gen.specs.Assembly.{within_moved, step_lines}
 use Rattle.aud_gen.specs.Written.{flat_step, written, written_bodies}
 
 -- Lengths.
@@ -35,10 +37,14 @@ way_to place = record { to = place; loops = 0 }
 
 -- what surrounds statements out of which these ways lead, and of which exceptions go to out
 abbrev pub around : ℕ → Ways → Around
-around out w = record { out = out; exits = map plain_way w.exits.items; back = plain_way w.back }
+around out w = record { out = out; within = w.within; exits = map plain_way w.exits.items; back = plain_way w.back }
 
 abbrev pub all_ways : Around → List Way
 all_ways a = a.exits ++ a.back ∷ []
+
+-- the ending of a step, as the layout's stand in code
+abbrev pub ended : Last → Pos → ℕ → Option ℕ → List FlatLine
+ended last at out within = flat.end (plain_end (record { last = last; at = at; out = out; within = within_moved (λ n. n) within })) ∷ []
 
 -- these lines are written behind those that are there; nothing is said where memory is refused
 abbrev pub Writes : {X : Type 0} → Result X AllocError → (old new : List FlatLine) → List FlatLine → Type 0
@@ -80,25 +86,25 @@ arm_lines arm more place next around =
     step_lines (λ n. n) (line step ((if more then behind else next) ∷ inside ∷ []) [] None around) ++ statement_lines ss inside next around
 
 -- the step of a `while`; its statements stand behind it
-abbrev pub while_lines : Pos → tree.BooleanExpression → (place next out : ℕ) → List FlatLine
-while_lines at c place next out =
+abbrev pub while_lines : Pos → tree.BooleanExpression → (place next out : ℕ) → Option ℕ → List FlatLine
+while_lines at c place next out within =
     let step = while_loop at c (tree.null at) in
-    step_lines (λ n. n) (line step (next ∷ flat_step step place ∷ []) [] None (in_call out))
+    step_lines (λ n. n) (line step (next ∷ flat_step step place ∷ []) [] None (in_call within out))
 
--- the two steps of a `for`, the second one at the place again, behind which its statements stand
-abbrev pub for_lines : ForStatement → (again next out : ℕ) → List FlatLine
-for_lines s again next out =
+-- the two steps of a `for`, the first one at a place, the second one at the place again, behind which its statements stand
+abbrev pub for_lines : ForStatement → (place again next out : ℕ) → Option ℕ → List FlatLine
+for_lines s place again next out within =
     let o = out-ForStatement s in
     let f : For = record { at = o.at; next_at = o.next_at; region = o.region; backward = o.backward } in
-    written (line (for_loop f (plain_integer o.first) (plain_integer o.last) (tree.null o.at)) (next ∷ suc again ∷ []) [] None (in_call out) ∷ record { what = continues f; at = f.next_at; out = out; ways = next ∷ suc again ∷ []; bodies = []; exit = None } ∷ [])
+    written (line (for_loop f (plain_integer o.first) (plain_integer o.last) (tree.null o.at)) (next ∷ suc again ∷ []) [] None (in_call within out) ∷ record { what = continues f; at = f.next_at; out = out; within = Some place; ways = next ∷ suc again ∷ []; bodies = []; exit = None } ∷ [])
 
 -- lines by which a block is left on these ways, the first of them at a place
-abbrev pub stub_lines : List Way → Pos → ℕ → List FlatLine
-stub_lines ws end place = written (stubs ws end place)
+abbrev pub stub_lines : List Way → Pos → Option ℕ → ℕ → List FlatLine
+stub_lines ws end within place = written (stubs ws end within place)
 
 -- the line at the place guard, which guards statements by the handlers that stand behind it
-abbrev pub guard_lines : tree.Handlers → Pos → (guard last ways : ℕ) → List FlatLine
-guard_lines h end guard last ways = written (guard_line_by flat_step h end (suc guard) last ways ∷ [])
+abbrev pub guard_lines : tree.Handlers → Pos → (guard last ways : ℕ) → Option ℕ → List FlatLine
+guard_lines h end guard last ways within = written (guard_line_by flat_step h end (suc guard) last ways within ∷ [])
 
 abbrev pub handlers_lines : tree.Handlers → (place last : ℕ) → Around → List FlatLine
 handlers_lines h place last a = written (handlers_code_by flat_step h place last a)
@@ -110,7 +116,7 @@ body_lines c (body d begin s h end) last place next out a =
     let guard = first + statement_size_by flat_step s (ways_count a) in
     part_lines d place first (around_out last a)
     ++ (statement_lines s first last (around_out guard a)
-    ++ (guard_lines h end guard last (ways_count a) ++ (handlers_lines h (suc guard) last (around_out last a) ++ written (end_line c end next out ∷ []))))
+    ++ (guard_lines h end guard last (ways_count a) a.within ++ (handlers_lines h (suc guard) last (around_out last a) ++ written (end_line c end next out a.within ∷ []))))
 
 -- of a body that no program has
 abbrev pub idle_lines : ℕ → List FlatLine

@@ -49,33 +49,34 @@ impl Writer {
         end: Pos,
         last: usize,
         ways: usize,
+        within: Option<usize>,
     ) -> Written
         ensures { Writes result self.old self.new
-            (guard_lines (handlers_in handlers.now) end (length self.old) last ways) }
+            (guard_lines (handlers_in handlers.now) end (length self.old) last ways within) }
     {
         let first = sum(self.place(), 1)?;
         let guards = guards(self.alloc(), handlers, first, ways)?;
-        self.end(Last::Guards(guards), end, last)
+        self.end(Last::Guards(guards), end, last, within)
     }
 
-    /// Behind a block: a line for each way, by which the block is left on it.
-    pub fn write_stubs(&mut self, ways: &Ways, end: Pos) -> Written
+    /// Behind a block, which the step at the place `within` opened: a line for each way, by which the block is left on it.
+    pub fn write_stubs(&mut self, ways: &Ways, end: Pos, within: Option<usize>) -> Written
         ensures { Writes result self.old self.new
-            (stub_lines (all_ways (around 0 ways.now)) end (length self.old)) }
+            (stub_lines (all_ways (around 0 ways.now)) end within (length self.old)) }
     {
         for way in &ways.exits {
-            self.write_stub(*way, end)?;
+            self.write_stub(*way, end, within)?;
         }
-        self.write_stub(ways.back, end)
+        self.write_stub(ways.back, end, within)
     }
 
     // Nothing is raised there.
-    fn write_stub(&mut self, way: Way, end: Pos) -> Written
+    fn write_stub(&mut self, way: Way, end: Pos, within: Option<usize>) -> Written
         ensures { Writes result self.old self.new
-            (stub_lines (plain_way way ∷ []) end (length self.old)) }
+            (stub_lines (plain_way way ∷ []) end within (length self.old)) }
     {
         let Way { to, loops } = way;
-        self.end(Last::Leaves { loops, to }, end, self.place())
+        self.end(Last::Leaves { loops, to }, end, self.place(), within)
     }
 
     /// A body of one null statement, for a number that no body has.
@@ -84,8 +85,8 @@ impl Writer {
     {
         let guard = sum(self.place(), 1)?;
         let last = sum(guard, 1)?;
-        self.end_statement(Ending::Null, last, NOWHERE, guard)?;
-        self.write_guards(&[], NOWHERE, last, 1)?;
-        self.end(Last::Ends(Construct::Unit, 0), NOWHERE, last)
+        self.end_statement(Ending::Null, last, NOWHERE, guard, None)?;
+        self.write_guards(&[], NOWHERE, last, 1, None)?;
+        self.end(Last::Ends(Construct::Unit, 0), NOWHERE, last, None)
     }
 }

@@ -40,25 +40,37 @@ impl Writer {
                 let again = self.place();
                 self.write_value(e)?;
                 let up_to = *up_to;
-                self.end_statement(Ending::Declare { up_to, again }, next, *at, out)
+                self.end_statement(
+                    Ending::Declare { up_to, again },
+                    next,
+                    *at,
+                    out,
+                    ways.within,
+                )
             }
             Statement::DeclareArray(at, subtype, length) => {
-                self.end_statement(Ending::DeclareArray(*subtype, *length), next, *at, out)
+                self.end_statement(
+                    Ending::DeclareArray(*subtype, *length),
+                    next,
+                    *at,
+                    out,
+                    ways.within,
+                )
             }
-            Statement::Null(at) => self.end_statement(Ending::Null, next, *at, out),
+            Statement::Null(at) => { self.end_statement(Ending::Null, next, *at, out, ways.within) }
             Statement::Assign(at, target, e) => {
                 self.write_reference(target)?;
                 self.write_value(e)?;
-                self.end_statement(Ending::Assign, next, *at, out)
+                self.end_statement(Ending::Assign, next, *at, out, ways.within)
             }
             Statement::Put(at, t) => {
                 self.write_text(t)?;
-                self.end_statement(Ending::Put, next, *at, out)
+                self.end_statement(Ending::Put, next, *at, out, ways.within)
             }
             Statement::If(branches) => self.write_if(branches, ways, out, next),
             Statement::While(at, condition, body) => {
                 let place = self.place();
-                self.write_while(condition, *at, out, next)?;
+                self.write_while(condition, *at, out, next, ways.within)?;
                 self.write_loop(body, ways, out, next, place)
             }
             Statement::Loop(body) => self.write_loop(body, ways, out, next, self.place()),
@@ -66,12 +78,14 @@ impl Writer {
             Statement::Exit(at, further, condition) => {
                 let way = ways.exit(*further, next);
                 self.write_boolean(condition)?;
-                self.end_statement(Ending::Exit(way), next, *at, out)
+                self.end_statement(Ending::Exit(way), next, *at, out, ways.within)
             }
             Statement::Raise(at, exception) => {
-                self.end_statement(Ending::Raise(*exception), next, *at, out)
+                self.end_statement(Ending::Raise(*exception), next, *at, out, ways.within)
             }
-            Statement::RaiseAgain(at) => self.end_statement(Ending::RaiseAgain, next, *at, out),
+            Statement::RaiseAgain(at) => {
+                self.end_statement(Ending::RaiseAgain, next, *at, out, ways.within)
+            }
             Statement::Block(block) => self.write_block(block, ways, out, next),
         }
     }
@@ -151,7 +165,7 @@ impl Writer {
         let behind = sum(inside, statements_length(&arm.statements, ways.count()?)?)?;
         let otherwise = if more { behind } else { next };
         self.write_boolean(&arm.condition)?;
-        self.end_statement(Ending::If(inside), otherwise, arm.at, out)?;
+        self.end_statement(Ending::If(inside), otherwise, arm.at, out, ways.within)?;
         self.write_statements(&arm.statements, ways, out, next)
     }
 
@@ -179,13 +193,14 @@ impl Writer {
         at: Pos,
         out: usize,
         next: usize,
+        within: Option<usize>,
     ) -> Written
         ensures { Writes result self.old self.new
-            (while_lines at (plain_boolean condition.now) (length self.old) next out) }
+            (while_lines at (plain_boolean condition.now) (length self.old) next out within) }
     {
         let inside = sum(self.place(), sum(boolean_length(condition)?, 1)?)?;
         self.write_boolean(condition)?;
-        self.end_statement(Ending::While(inside), next, at, out)
+        self.end_statement(Ending::While(inside), next, at, out, within)
     }
 
     // The step of a `for` and the step `next`, to which its statements lead back.
@@ -194,16 +209,25 @@ impl Writer {
         ensures { WritesInside result self.old self.new (around out ways.now) (λ place a.
             statement_lines (for_in s.now) place next a) }
     {
+        let place = self.place();
         let bounds = sum(integer_length(&s.first)?, integer_length(&s.last)?)?;
-        let again = sum(sum(self.place(), bounds)?, 1)?;
-        let inner = ways.in_for(self.alloc(), next)?;
-        self.write_control(s, again, out, next)?;
+        let again = sum(sum(place, bounds)?, 1)?;
+        let inner = ways.in_for(self.alloc(), place, next)?;
+        self.write_control(s, place, again, out, next, ways.within)?;
         self.write_statements(&s.statements, &inner, out, again)
     }
 
-    // Both steps; the second one stands at the place `again`.
-    fn write_control(&mut self, s: &ForStatement, again: usize, out: usize, next: usize) -> Written
-        ensures { Writes result self.old self.new (for_lines s.now again next out) }
+    // Both steps; the first one stands at a place, the second one at the place `again`.
+    fn write_control(
+        &mut self,
+        s: &ForStatement,
+        place: usize,
+        again: usize,
+        out: usize,
+        next: usize,
+        within: Option<usize>,
+    ) -> Written
+        ensures { Writes result self.old self.new (for_lines s.now place again next out within) }
     {
         let control = ForLoop {
             at: s.at,
@@ -214,13 +238,13 @@ impl Writer {
         let inside = sum(again, 1)?;
         self.write_integer(&s.first)?;
         self.write_integer(&s.last)?;
-        self.end_statement(Ending::Loop { control, inside }, next, s.at, out)?;
+        self.end_statement(Ending::Loop { control, inside }, next, s.at, out, within)?;
         let last = Last::Continues {
             control,
             behind: next,
             inside,
         };
-        self.end(last, s.next_at, out)
+        self.end(last, s.next_at, out, Some(place))
     }
 
     // The step of a block, its body, and the lines by which it is left on other ways.
@@ -236,12 +260,14 @@ impl Writer {
             statement_lines (block_in block.now) place next a) }
     {
         let region = block.region;
-        let inside = sum(self.place(), 1)?;
+        let place = self.place();
+        let inside = sum(place, 1)?;
         let last = place_of_end(&block.body, inside, ways.count()?)?;
-        let inner = ways.in_block(self.alloc(), last)?;
-        self.end_statement(Ending::Block { region, inside }, next, block.at, out)?;
+        let inner = ways.in_block(self.alloc(), place, last)?;
+        let step = Ending::Block { region, inside };
+        self.end_statement(step, next, block.at, out, ways.within)?;
         self.write_body(&block.body, Construct::Block, &inner, last, next, out)?;
-        self.write_stubs(ways, block.body.end)
+        self.write_stubs(ways, block.body.end, Some(place))
     }
 
     /// A body with its end at the place `last`: its declarations, its statements, the line that guards them, its handlers,
@@ -264,9 +290,9 @@ impl Writer {
         let guard = sum(begin, statements_length(&body.statements, count)?)?;
         self.write_list(&body.declarations, ways, last, begin)?;
         self.write_statements(&body.statements, ways, guard, last)?;
-        self.write_guards(&body.handlers, body.end, last, count)?;
+        self.write_guards(&body.handlers, body.end, last, count, ways.within)?;
         self.write_handlers(&body.handlers, ways, last)?;
-        self.end(Last::Ends(construct, next), body.end, out)
+        self.end(Last::Ends(construct, next), body.end, out, ways.within)
     }
 
     // The statements of handlers, behind which comes the end at the place `last`.

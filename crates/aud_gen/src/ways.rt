@@ -1,6 +1,6 @@
 // The ways out of what is written.
 
-ghost use Rattle.std.specs.Prelude.{◌≡◌, ℕ, map, IfOk, slice_index_or};
+ghost use Rattle.std.specs.Prelude.{◌≡◌, ℕ, map, None, IfOk, slice_index_or};
 ghost use Rattle.aud_code.specs.View.{plain_way};
 ghost use Rattle.aud_gen.specs.Layout.{one_more, ways_count, in_call, in_loop, in_for, in_block};
 ghost use Rattle.aud_gen.specs.Writes.{around, way_to};
@@ -9,9 +9,11 @@ use crate::lengths::sum;
 use aud_code::line::Way;
 use std::alloc::{AllocError, Global};
 
-/// The ways of exits, out of the innermost loop first, and the way out of the body.
+/// The place of the step that opened the innermost frame, the ways of exits, out of the innermost loop first, and the way out
+/// of the body.
 #[derive(Drop, Debug)]
 pub struct Ways {
+    pub within: Option<usize>,
     pub exits: Vec<Way>,
     pub back: Way,
 }
@@ -30,9 +32,10 @@ fn with_loop(way: Way) -> Result<Way, AllocError>
 impl Ways {
     /// Out of a body with its end at this place, in no loop.
     pub fn of_body(alloc: Global, last: usize) -> Ways
-        ensures { (out : ℕ) → around out result ≡ record (in_call last) { out = out } }
+        ensures { (out : ℕ) → around out result ≡ record (in_call None last) { out = out } }
     {
         Ways {
+            within: None,
             exits: Vec::new(alloc),
             back: Way { to: last, loops: 0 },
         }
@@ -68,15 +71,16 @@ impl Ways {
             exits.push(*way)?;
         }
         Ok(Ways {
+            within: self.within,
             exits,
             back: self.back,
         })
     }
 
-    /// Within a `for` loop, behind which is the step at this place: its frame is left on each way.
-    pub fn in_for(&self, alloc: Global, next: usize) -> Result<Ways, AllocError>
+    /// Within a `for` loop whose step stands at a place, behind which is the step `next`: its frame is left on each way.
+    pub fn in_for(&self, alloc: Global, place: usize, next: usize) -> Result<Ways, AllocError>
         ensures { IfOk result (λ ways. (out : ℕ) →
-            around out ways ≡ in_for next (around out self.now)) }
+            around out ways ≡ in_for place next (around out self.now)) }
     {
         let mut exits = Vec::new(alloc);
         exits.push(Way { to: next, loops: 1 })?;
@@ -84,15 +88,17 @@ impl Ways {
             exits.push(with_loop(*way)?)?;
         }
         Ok(Ways {
+            within: Some(place),
             exits,
             back: with_loop(self.back)?,
         })
     }
 
-    /// Within a block with its end at this place: behind it stands a line for each way, which leaves the block.
-    pub fn in_block(&self, alloc: Global, last: usize) -> Result<Ways, AllocError>
+    /// Within a block whose step stands at a place and whose end is at the place `last`: behind it stands a line for each way,
+    /// which leaves the block.
+    pub fn in_block(&self, alloc: Global, opener: usize, last: usize) -> Result<Ways, AllocError>
         ensures { IfOk result (λ ways. (out : ℕ) →
-            around out ways ≡ record (in_block last (around out self.now)) { out = out }) }
+            around out ways ≡ record (in_block opener last (around out self.now)) { out = out }) }
     {
         let mut exits = Vec::new(alloc);
         let mut place = last;
@@ -104,6 +110,7 @@ impl Ways {
             })?;
         }
         Ok(Ways {
+            within: Some(opener),
             exits,
             back: Way {
                 to: sum(place, 1)?,

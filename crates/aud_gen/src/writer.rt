@@ -1,10 +1,10 @@
 // Code that is being written, line by line.
 
 ghost use Rattle.std.specs.Prelude.{◌≡◌, [], ◌∷◌, length, map};
-ghost use Rattle.aud_code.specs.Flat.{instructs, end};
+ghost use Rattle.aud_code.specs.Flat.{instructs};
 ghost use Rattle.aud_code.specs.declared.line.Last.TheVariants.{Does};
-ghost use Rattle.aud_code.specs.View.{plain_instruction, plain_line, plain_end};
-ghost use Rattle.aud_gen.specs.Writes.{Writes};
+ghost use Rattle.aud_code.specs.View.{plain_instruction, plain_line};
+ghost use Rattle.aud_gen.specs.Writes.{ended, Writes};
 
 use aud_code::instruction::Instruction;
 use aud_code::line::{EndLine, Ending, Last, Line};
@@ -76,19 +76,30 @@ impl Writer {
         self.write(Line::Instruction(instruction))
     }
 
-    /// The ending of a step, which stands at a place of the text. An exception that is pending there goes to the place `out`.
-    pub fn end(&mut self, last: Last, at: Pos, out: usize) -> Written
-        ensures { Writes result self.old self.new
-            (end (plain_end (record { last = last; at = at; out = out })) ∷ []) }
+    /// The ending of a step, which stands at a place of the text. An exception that is pending there goes to the place `out`; the
+    /// innermost frame was opened by the step at the place `within`.
+    pub fn end(&mut self, last: Last, at: Pos, out: usize, within: Option<usize>) -> Written
+        ensures { Writes result self.old self.new (ended last at out within) }
     {
-        self.write(Line::End(EndLine { last, at, out }))
+        self.write(Line::End(EndLine {
+            last,
+            at,
+            out,
+            within,
+        }))
     }
 
     /// The ending of a statement's step; the next step begins at the place `next`, unless this one leads elsewhere.
-    pub fn end_statement(&mut self, ending: Ending, next: usize, at: Pos, out: usize) -> Written
-        ensures { Writes result self.old self.new
-            (end (plain_end (record { last = Does ending next; at = at; out = out })) ∷ []) }
+    pub fn end_statement(
+        &mut self,
+        ending: Ending,
+        next: usize,
+        at: Pos,
+        out: usize,
+        within: Option<usize>,
+    ) -> Written
+        ensures { Writes result self.old self.new (ended (Does ending next) at out within) }
     {
-        self.end(Last::Does(ending, next), at, out)
+        self.end(Last::Does(ending, next), at, out, within)
     }
 }

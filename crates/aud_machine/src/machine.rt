@@ -47,7 +47,7 @@ impl Model for Machine {
     ghost use Rattle.aud_typed.specs.Ties.View.{plain_program};
     ghost use Rattle.aud_meaning.specs.Ties.Single.{all_of};
     ghost use Rattle.aud_gen.specs.Assembly.{flat_program};
-    ghost use Rattle.aud_single.specs.Steps.{Stands};
+    ghost use Rattle.aud_single.specs.Steps.{Fits};
     ghost use Rattle.aud_machine.specs.Shown.{Shown};
     ghost use Rattle.std.specs.Coded.{codes};
     ghost use Rattle.aud_typed.specs.contracts.program.Body as body;
@@ -58,7 +58,7 @@ impl Model for Machine {
 
     ghost view = { λ m. record { program = m.program; code = m.code; limits = m.limits; all = all_of m.program.name m.progress; spent = m.spent } };
 
-    ghost invariant = { λ m. (m.code ≡ flat_program (plain_program m.program)) × (m.spent ≡ false → Stands m.code.lines m.progress) };
+    ghost invariant = { λ m. (m.code ≡ flat_program (plain_program m.program)) × (m.spent ≡ false → Fits m.code.lines m.progress) };
 }
 
 impl Machine {

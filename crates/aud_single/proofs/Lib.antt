@@ -1,7 +1,8 @@
 pub mod Output
 pub mod Asked
 pub mod Steps
-pub mod Standing
+pub mod Frames
+pub mod Fitting
 pub mod Moving
 pub mod Next
 pub mod Running

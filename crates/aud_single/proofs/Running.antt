@@ -9,7 +9,7 @@ use Rattle.aud_meaning.specs.Ties.Single.{Stage, Single, runs, completed, termin
 use Rattle.aud_code.specs.Places.{Spot}
 use Rattle.aud_code.specs.Flat.{Flat, flat_controls}
 use Rattle.aud_single.specs.declared.run.Ran.{Ran}
-use Rattle.aud_single.specs.Steps.{StepsTo, Stands}
+use Rattle.aud_single.specs.Steps.{StepsTo, Fits}
 use Rattle.aud_single.specs.Moving.{Enables, IsIn}
 use Rattle.aud_single.specs.Running.{RunsOn, RunsTo}
 use Rattle.aud_single.specs.Ticks.{ticks_in, step_ticks, moved_ticks, run_ticks}
@@ -87,7 +87,7 @@ pub record RunsSoFar (code : Flat) (n : ℕ) (old new : Single Spot) (steps tick
   pub leads : RunsOn code steps total old new
   pub counted : ticks ≡ min total (2 ^ 64 - 1)
   pub within : steps ≤ n
-  pub stands : Stands code.lines new
+  pub fits : Fits code.lines new
   pub steps_taken : steps + old.steps ≡ new.steps
   pub few : ticks ≤ steps * length code.lines
 

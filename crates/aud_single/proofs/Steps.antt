@@ -1,5 +1,5 @@
 -- What a statement's step of a program in memory does is the step of its code.
-use Rattle.std.proofs.Common.{◌≡◌, ℕ, suc, ℤ, List, [], ◌∷◌, Some, None, Bool, true, false, if◌then◌else◌, length, replicate, nat_lt, nat_le, refl, sym, ap, ◌∙◌, subst}
+use Rattle.std.proofs.Common.{◌≡◌, ℕ, suc, ℤ, List, [], ◌∷◌, Option, Some, None, Bool, true, false, if◌then◌else◌, length, replicate, nat_lt, nat_le, refl, sym, ap, ◌∙◌, subst}
 use Rattle.std.specs.Prelude.{slice_get, int_le, ◌+ℤ◌}
 use Rattle.aud_text.specs.declared.limits.Limits.{Limits}
 use Rattle.aud_text.specs.declared.limits.TheConstants.{ELEMENTS, FRAMES}
@@ -71,9 +71,9 @@ module _ (plan : Plan) (name : List ℕ) (limits : Limits) (code : Flat) (q : Si
   either false x y u v e f = f
 
   -- A statement at its place, before the place of the next one.
-  module _ (e : Ending) (next : ℕ) (at : Pos) (out : ℕ) (is_end : EndsAs code q.control.place (record { last = Does e next; at = at; out = out })) where
+  module _ (e : Ending) (next : ℕ) (at : Pos) (out : ℕ) (within : Option ℕ) (is_end : EndsAs code q.control.place (record { last = Does e next; at = at; out = out; within = within })) where
     abbrev l : EndLine
-    l = record { last = Does e next; at = at; out = out }
+    l = record { last = Does e next; at = at; out = out; within = within }
 
     -- it comes to this
     abbrev Comes : Single Spot → Type 0
@@ -100,21 +100,21 @@ module _ (plan : Plan) (name : List ℕ) (limits : Limits) (code : Flat) (q : Si
   one_of_two false next inside = refl
 
   -- its declarations
-  declares_so : (up_to again next : ℕ) (at : Pos) (out : ℕ) (o : Operands) → EndsAs code q.control.place (record { last = Does (Declare up_to again) next; at = at; out = out }) → LeadsTo code q (Reached o) → Takes (length o.integers) (λ n. Unit {0}) → In (does (Declare up_to again) at next o now) ≡ Stepped now
-  declares_so up_to again next at out o is_end evaluated fine = by o.integers evaluated fine
+  declares_so : (up_to again next : ℕ) (at : Pos) (out : ℕ) (within : Option ℕ) (o : Operands) → EndsAs code q.control.place (record { last = Does (Declare up_to again) next; at = at; out = out; within = within }) → LeadsTo code q (Reached o) → Takes (length o.integers) (λ n. Unit {0}) → In (does (Declare up_to again) at next o now) ≡ Stepped now
+  declares_so up_to again next at out within o is_end evaluated fine = by o.integers evaluated fine
     where
       by : (zs : List ℤ) → LeadsTo code q (Reached (record o { integers = zs })) → Takes (length zs) (λ n. Unit {0}) → In (does (Declare up_to again) at next (record o { integers = zs }) now) ≡ Stepped now
       by [] evaluated fine = absurd fine
       by (z ∷ zs) evaluated fine =
-          let l : EndLine = record { last = Does (Declare up_to again) next; at = at; out = out } in
+          let l : EndLine = record { last = Does (Declare up_to again) next; at = at; out = out; within = within } in
           let s = declared (z ∷ []) (stored_in q) in
           let more = nat_lt (elaborated_in s.stack.opened) up_to in
           sym (declares_step plan name k limits q up_to z (asks_so plan name limits code q l is_end (Reached (record o { integers = z ∷ zs })) evaluated)
           ∙ ap (λ (t : Spot). In (record now { control = t; stack = s.stack; frames = s.frames; steps = suc q.steps })) (takes_so plan name limits code q l is_end (if more then 1 else 0) ∙ one_of_two more next again))
 
-  declares_array_so : (t : Subtype) (n next : ℕ) (at : Pos) (out : ℕ) (o : Operands) → EndsAs code q.control.place (record { last = Does (DeclareArray t n) next; at = at; out = out }) → LeadsTo code q (Reached o) → In (declared_array n (nearest_zero t) at next now) ≡ Stepped now
-  declares_array_so t n next at out o is_end evaluated =
-      let l : EndLine = record { last = Does (DeclareArray t n) next; at = at; out = out } in
+  declares_array_so : (t : Subtype) (n next : ℕ) (at : Pos) (out : ℕ) (within : Option ℕ) (o : Operands) → EndsAs code q.control.place (record { last = Does (DeclareArray t n) next; at = at; out = out; within = within }) → LeadsTo code q (Reached o) → In (declared_array n (nearest_zero t) at next now) ≡ Stepped now
+  declares_array_so t n next at out within o is_end evaluated =
+      let l : EndLine = record { last = Does (DeclareArray t n) next; at = at; out = out; within = within } in
       let s = declared (replicate n (nearest_zero t)) (stored_in q) in
       let there : goes next q.control ≡ k.takes 0 q.control = sym (takes_so plan name limits code q l is_end 0) in
       by (nat_le n ELEMENTS) _ _ _ (ap (λ (c : Spot). In (record now { control = c; stack = s.stack; frames = s.frames; steps = suc q.steps })) there)
@@ -125,82 +125,82 @@ module _ (plan : Plan) (name : List ℕ) (limits : Limits) (code : Flat) (q : Si
       by false x y X e = refl
 
   -- a variable's value
-  assigns_so : (next : ℕ) (at : Pos) (out : ℕ) (o : Operands) → EndsAs code q.control.place (record { last = Does Assign next; at = at; out = out }) → LeadsTo code q (Reached o) → Takes (length o.targets) (λ n. Takes (length o.integers) (λ m. Unit {0})) → In (does Assign at next o now) ≡ Stepped now
-  assigns_so next at out o is_end evaluated fine = by o.targets o.integers evaluated fine
+  assigns_so : (next : ℕ) (at : Pos) (out : ℕ) (within : Option ℕ) (o : Operands) → EndsAs code q.control.place (record { last = Does Assign next; at = at; out = out; within = within }) → LeadsTo code q (Reached o) → Takes (length o.targets) (λ n. Takes (length o.integers) (λ m. Unit {0})) → In (does Assign at next o now) ≡ Stepped now
+  assigns_so next at out within o is_end evaluated fine = by o.targets o.integers evaluated fine
     where
       by : (ts : List Target) (zs : List ℤ) → LeadsTo code q (Reached (record o { targets = ts; integers = zs })) → Takes (length ts) (λ n. Takes (length zs) (λ m. Unit {0})) → In (does Assign at next (record o { targets = ts; integers = zs }) now) ≡ Stepped now
       by [] zs evaluated fine = absurd fine
       by (t ∷ ts) [] evaluated fine = absurd fine
       by (t ∷ ts) (z ∷ zs) evaluated fine =
-          let l : EndLine = record { last = Does Assign next; at = at; out = out } in
+          let l : EndLine = record { last = Does Assign next; at = at; out = out; within = within } in
           sym (assigns_step plan name k limits q t z (asks_so plan name limits code q l is_end (Reached (record o { targets = t ∷ ts; integers = z ∷ zs })) evaluated)
           ∙ ap (λ (c : Spot). In (record now { control = c; frames = assigned t.frame t.index z q.frames; steps = suc q.steps })) (takes_so plan name limits code q l is_end 0))
 
-  puts_so : (next : ℕ) (at : Pos) (out : ℕ) (o : Operands) → EndsAs code q.control.place (record { last = Does Put next; at = at; out = out }) → LeadsTo code q (Reached o) → In (does Put at next o now) ≡ Stepped now
-  puts_so next at out o is_end evaluated =
-      let l : EndLine = record { last = Does Put next; at = at; out = out } in
+  puts_so : (next : ℕ) (at : Pos) (out : ℕ) (within : Option ℕ) (o : Operands) → EndsAs code q.control.place (record { last = Does Put next; at = at; out = out; within = within }) → LeadsTo code q (Reached o) → In (does Put at next o now) ≡ Stepped now
+  puts_so next at out within o is_end evaluated =
+      let l : EndLine = record { last = Does Put next; at = at; out = out; within = within } in
       let shared = put_out o.text (record { frames = q.frames; output = q.output; cut = q.cut; calls = []; arrivals = 0; objects = [] }) in
       sym (puts_step plan name k limits q o.text (asks_so plan name limits code q l is_end (Reached o) evaluated)
       ∙ ap (λ (t : Spot). In (record now { control = t; output = shared.output; cut = shared.cut; steps = suc q.steps })) (takes_so plan name limits code q l is_end 0))
 
   -- a loop's frame, or a block's
-  loops_so : (f : ForLoop) (inside next : ℕ) (at : Pos) (out : ℕ) (o : Operands) → EndsAs code q.control.place (record { last = Does (Loop f inside) next; at = at; out = out }) → LeadsTo code q (Reached o) → Takes (length o.integers) (λ n. Takes n (λ m. Unit {0})) → In (does (Loop f inside) at next o now) ≡ Stepped now
-  loops_so f inside next at out o is_end evaluated fine = by o.integers evaluated fine
+  loops_so : (f : ForLoop) (inside next : ℕ) (at : Pos) (out : ℕ) (within : Option ℕ) (o : Operands) → EndsAs code q.control.place (record { last = Does (Loop f inside) next; at = at; out = out; within = within }) → LeadsTo code q (Reached o) → Takes (length o.integers) (λ n. Takes n (λ m. Unit {0})) → In (does (Loop f inside) at next o now) ≡ Stepped now
+  loops_so f inside next at out within o is_end evaluated fine = by o.integers evaluated fine
     where
       by : (zs : List ℤ) → LeadsTo code q (Reached (record o { integers = zs })) → Takes (length zs) (λ n. Takes n (λ m. Unit {0})) → In (does (Loop f inside) at next (record o { integers = zs }) now) ≡ Stepped now
       by [] evaluated fine = absurd fine
       by (y ∷ []) evaluated fine = absurd fine
       by (y ∷ x ∷ zs) evaluated fine =
-          let l : EndLine = record { last = Does (Loop f inside) next; at = at; out = out } in
+          let l : EndLine = record { last = Does (Loop f inside) next; at = at; out = out; within = within } in
           let s = entered for_loop f.region f.at (for_first f.backward x y ∷ for_first f.backward y x ∷ []) 1 (stored_in q) in
           let there : In (record now { control = goes inside q.control; stack = s.stack; frames = s.frames; steps = suc q.steps }) ≡ In (record now { control = k.takes 1 q.control; stack = s.stack; frames = s.frames; steps = suc q.steps }) = ap (λ (c : Spot). In (record now { control = c; stack = s.stack; frames = s.frames; steps = suc q.steps })) (sym (takes_so plan name limits code q l is_end 1)) in
           let on : In (moved_to next now) ≡ In (record now { control = k.takes 0 q.control; steps = suc q.steps }) = ap (λ (c : Spot). In (record now { control = c; steps = suc q.steps })) (sym (takes_so plan name limits code q l is_end 0)) in
           either (int_le x y) _ _ _ _ (either (nat_le (suc (live_frames q.stack.opened)) FRAMES) _ _ _ _ there refl) on
           ∙ sym (enters_loop_step plan name k limits q (plain_for f) x y (asks_so plan name limits code q l is_end (Reached (record o { integers = y ∷ x ∷ zs })) evaluated))
 
-  blocks_so : (region inside next : ℕ) (at : Pos) (out : ℕ) (o : Operands) → EndsAs code q.control.place (record { last = Does (Block region inside) next; at = at; out = out }) → LeadsTo code q (Reached o) → In (does (Block region inside) at next o now) ≡ Stepped now
-  blocks_so region inside next at out o is_end evaluated =
-      let l : EndLine = record { last = Does (Block region inside) next; at = at; out = out } in
+  blocks_so : (region inside next : ℕ) (at : Pos) (out : ℕ) (within : Option ℕ) (o : Operands) → EndsAs code q.control.place (record { last = Does (Block region inside) next; at = at; out = out; within = within }) → LeadsTo code q (Reached o) → In (does (Block region inside) at next o now) ≡ Stepped now
+  blocks_so region inside next at out within o is_end evaluated =
+      let l : EndLine = record { last = Does (Block region inside) next; at = at; out = out; within = within } in
       let s = entered for_block region at [] 0 (stored_in q) in
       let there : In (record now { control = goes inside q.control; stack = s.stack; frames = s.frames; steps = suc q.steps }) ≡ In (record now { control = k.takes 1 q.control; stack = s.stack; frames = s.frames; steps = suc q.steps }) = ap (λ (c : Spot). In (record now { control = c; stack = s.stack; frames = s.frames; steps = suc q.steps })) (sym (takes_so plan name limits code q l is_end 1)) in
       either (nat_le (suc (live_frames q.stack.opened)) FRAMES) _ _ _ _ there refl
       ∙ sym (enters_block_step plan name k limits q at region (asks_so plan name limits code q l is_end (Reached o) evaluated))
 
   -- out of loops
-  exits_so : (w : Way) (next : ℕ) (at : Pos) (out : ℕ) (o : Operands) → EndsAs code q.control.place (record { last = Does (Exit w) next; at = at; out = out }) → LeadsTo code q (Reached o) → Takes (length o.booleans) (λ n. Unit {0}) → In (does (Exit w) at next o now) ≡ Stepped now
-  exits_so w next at out o is_end evaluated fine = by o.booleans evaluated fine
+  exits_so : (w : Way) (next : ℕ) (at : Pos) (out : ℕ) (within : Option ℕ) (o : Operands) → EndsAs code q.control.place (record { last = Does (Exit w) next; at = at; out = out; within = within }) → LeadsTo code q (Reached o) → Takes (length o.booleans) (λ n. Unit {0}) → In (does (Exit w) at next o now) ≡ Stepped now
+  exits_so w next at out within o is_end evaluated fine = by o.booleans evaluated fine
     where
       by : (bs : List Bool) → LeadsTo code q (Reached (record o { booleans = bs })) → Takes (length bs) (λ n. Unit {0}) → In (does (Exit w) at next (record o { booleans = bs }) now) ≡ Stepped now
       by [] evaluated fine = absurd fine
       by (true ∷ bs) evaluated fine =
-          let l : EndLine = record { last = Does (Exit w) next; at = at; out = out } in
+          let l : EndLine = record { last = Does (Exit w) next; at = at; out = out; within = within } in
           sym (goes_out_step plan name k limits q w.loops (asks_so plan name limits code q l is_end (Reached (record o { booleans = true ∷ bs })) evaluated)
           ∙ ap (λ (c : Spot). In (record now { control = c; stack = closed_times w.loops q.stack; steps = suc q.steps })) (out_so plan name limits code q l is_end))
-      by (false ∷ bs) evaluated fine = on_by (Exit w) next at out is_end (record o { booleans = false ∷ bs }) evaluated 0 refl
+      by (false ∷ bs) evaluated fine = on_by (Exit w) next at out within is_end (record o { booleans = false ∷ bs }) evaluated 0 refl
 
   -- each statement
-  done_by : (e : Ending) (next : ℕ) (at : Pos) (out : ℕ) (o : Operands) → EndsAs code q.control.place (record { last = Does e next; at = at; out = out }) → LeadsTo code q (Reached o) → LastFine (plain_last (Does e next)) (counts_of o) → In (does e at next o now) ≡ Stepped now
-  done_by (Declare up_to again) next at out o is_end evaluated fine = declares_so up_to again next at out o is_end evaluated fine
-  done_by (DeclareArray t n) next at out o is_end evaluated fine = declares_array_so t n next at out o is_end evaluated
-  done_by Null next at out o is_end evaluated fine = on_by Null next at out is_end o evaluated 0 refl
-  done_by Assign next at out o is_end evaluated fine = assigns_so next at out o is_end evaluated fine
-  done_by Put next at out o is_end evaluated fine = puts_so next at out o is_end evaluated
-  done_by (If inside) next at out o is_end evaluated fine =
-      decides (If inside) next at out is_end inside o evaluated fine (λ bs e. on_by (If inside) next at out is_end _ e 1 refl) (λ bs e. on_by (If inside) next at out is_end _ e 0 refl)
-  done_by (While inside) next at out o is_end evaluated fine =
-      decides (While inside) next at out is_end inside o evaluated fine (λ bs e. on_by (While inside) next at out is_end _ e 1 refl) (λ bs e. on_by (While inside) next at out is_end _ e 0 refl)
-  done_by (Loop f inside) next at out o is_end evaluated fine = loops_so f inside next at out o is_end evaluated fine
-  done_by (Exit w) next at out o is_end evaluated fine = exits_so w next at out o is_end evaluated fine
-  done_by (ending.Raise x) next at out o is_end evaluated fine =
-      sym (raises_step plan name k limits q x at (asks_so plan name limits code q (record { last = Does (ending.Raise x) next; at = at; out = out }) is_end (Reached o) evaluated))
-  done_by RaiseAgain next at out o is_end evaluated fine =
-      sym (raises_again_step plan name k limits q at (asks_so plan name limits code q (record { last = Does RaiseAgain next; at = at; out = out }) is_end (Reached o) evaluated))
-  done_by (Block region inside) next at out o is_end evaluated fine = blocks_so region inside next at out o is_end evaluated
+  done_by : (e : Ending) (next : ℕ) (at : Pos) (out : ℕ) (within : Option ℕ) (o : Operands) → EndsAs code q.control.place (record { last = Does e next; at = at; out = out; within = within }) → LeadsTo code q (Reached o) → LastFine (plain_last (Does e next)) (counts_of o) → In (does e at next o now) ≡ Stepped now
+  done_by (Declare up_to again) next at out within o is_end evaluated fine = declares_so up_to again next at out within o is_end evaluated fine
+  done_by (DeclareArray t n) next at out within o is_end evaluated fine = declares_array_so t n next at out within o is_end evaluated
+  done_by Null next at out within o is_end evaluated fine = on_by Null next at out within is_end o evaluated 0 refl
+  done_by Assign next at out within o is_end evaluated fine = assigns_so next at out within o is_end evaluated fine
+  done_by Put next at out within o is_end evaluated fine = puts_so next at out within o is_end evaluated
+  done_by (If inside) next at out within o is_end evaluated fine =
+      decides (If inside) next at out within is_end inside o evaluated fine (λ bs e. on_by (If inside) next at out within is_end _ e 1 refl) (λ bs e. on_by (If inside) next at out within is_end _ e 0 refl)
+  done_by (While inside) next at out within o is_end evaluated fine =
+      decides (While inside) next at out within is_end inside o evaluated fine (λ bs e. on_by (While inside) next at out within is_end _ e 1 refl) (λ bs e. on_by (While inside) next at out within is_end _ e 0 refl)
+  done_by (Loop f inside) next at out within o is_end evaluated fine = loops_so f inside next at out within o is_end evaluated fine
+  done_by (Exit w) next at out within o is_end evaluated fine = exits_so w next at out within o is_end evaluated fine
+  done_by (ending.Raise x) next at out within o is_end evaluated fine =
+      sym (raises_step plan name k limits q x at (asks_so plan name limits code q (record { last = Does (ending.Raise x) next; at = at; out = out; within = within }) is_end (Reached o) evaluated))
+  done_by RaiseAgain next at out within o is_end evaluated fine =
+      sym (raises_again_step plan name k limits q at (asks_so plan name limits code q (record { last = Does RaiseAgain next; at = at; out = out; within = within }) is_end (Reached o) evaluated))
+  done_by (Block region inside) next at out within o is_end evaluated fine = blocks_so region inside next at out within o is_end evaluated
 
   -- the parameter of the innermost loop
-  continues_so : (f : ForLoop) (behind inside : ℕ) (at : Pos) (out : ℕ) (o : Ended) → EndsAs code q.control.place (record { last = Continues f behind inside; at = at; out = out }) → LeadsTo code q o → In (continued f behind inside now) ≡ Stepped now
-  continues_so f behind inside at out o is_end evaluated =
-      let l : EndLine = record { last = Continues f behind inside; at = at; out = out } in
+  continues_so : (f : ForLoop) (behind inside : ℕ) (at : Pos) (out : ℕ) (within : Option ℕ) (o : Ended) → EndsAs code q.control.place (record { last = Continues f behind inside; at = at; out = out; within = within }) → LeadsTo code q o → In (continued f behind inside now) ≡ Stepped now
+  continues_so f behind inside at out within o is_end evaluated =
+      let l : EndLine = record { last = Continues f behind inside; at = at; out = out; within = within } in
       let s = stored_in q in
       let value = innermost_cell 0 s in
       let frames = (store.stored (innermost q.stack.opened) 0 (value +ℤ for_step f.backward) s).frames in
@@ -275,21 +275,21 @@ module _ (plan : Plan) (name : List ℕ) (limits : Limits) (code : Flat) (q : Si
   -- Each ending.
 
   -- where nothing is evaluated
-  module _ (at : Pos) (out : ℕ) (x : Ended) (evaluated : LeadsTo code q x) (alone : IsAlone) where
-    stays_so : (last : Last) → ways_of last ≡ [] → ((o : Ended) → asked_last (plain_last last) (loops_of (exit_of last)) at scene o ≡ goes_on 0) → EndsAs code q.control.place (record { last = last; at = at; out = out }) → In (record now { steps = suc q.steps }) ≡ Stepped now
+  module _ (at : Pos) (out : ℕ) (within : Option ℕ) (x : Ended) (evaluated : LeadsTo code q x) (alone : IsAlone) where
+    stays_so : (last : Last) → ways_of last ≡ [] → ((o : Ended) → asked_last (plain_last last) (loops_of (exit_of last)) at scene o ≡ goes_on 0) → EndsAs code q.control.place (record { last = last; at = at; out = out; within = within }) → In (record now { steps = suc q.steps }) ≡ Stepped now
     stays_so last none on is_end =
-        let l : EndLine = record { last = last; at = at; out = out } in
+        let l : EndLine = record { last = last; at = at; out = out; within = within } in
         ap (λ ws. In (record now { control = goes_there (slice_get ws 0) q.control; steps = suc q.steps })) (sym none)
         ∙ goes_so plan name limits code q l is_end x evaluated 0 (on x)
 
-    leaves_so : (n to : ℕ) → EndsAs code q.control.place (record { last = Leaves n to; at = at; out = out }) → In (construct_left None n to now) ≡ Stepped now
+    leaves_so : (n to : ℕ) → EndsAs code q.control.place (record { last = Leaves n to; at = at; out = out; within = within }) → In (construct_left None n to now) ≡ Stepped now
     leaves_so n to is_end =
-        let l : EndLine = record { last = Leaves n to; at = at; out = out } in
+        let l : EndLine = record { last = Leaves n to; at = at; out = out; within = within } in
         ends_so n to alone (asks_so plan name limits code q l is_end x evaluated) (behind_so plan name limits code q l is_end)
 
-    closes_so : (c : Construct) (next : ℕ) → EndsAs code q.control.place (record { last = Ends c next; at = at; out = out }) → q.control.returns ≡ [] → In (construct_left None 0 (place_behind c next (length code.lines)) now) ≡ Stepped now
+    closes_so : (c : Construct) (next : ℕ) → EndsAs code q.control.place (record { last = Ends c next; at = at; out = out; within = within }) → q.control.returns ≡ [] → In (construct_left None 0 (place_behind c next (length code.lines)) now) ≡ Stepped now
     closes_so c next is_end main =
-        let l : EndLine = record { last = Ends c next; at = at; out = out } in
+        let l : EndLine = record { last = Ends c next; at = at; out = out; within = within } in
         ends_so 0 (place_behind c next (length code.lines)) alone (asks_so plan name limits code q l is_end x evaluated) (behind_so plan name limits code q l is_end ∙ by c)
       where
         by : (c : Construct) → flat.ended_in code (flat.Ends c next) q.control ≡ goes (place_behind c next (length code.lines)) q.control
@@ -297,23 +297,23 @@ module _ (plan : Plan) (name : List ℕ) (limits : Limits) (code : Flat) (q : Si
         by construct.Block = refl
         by construct.Accept = refl
 
-  ended_by : (last : Last) (at : Pos) (out : ℕ) (o : Operands) → EndsAs code q.control.place (record { last = last; at = at; out = out }) → LeadsTo code q (Reached o) → LastFine (plain_last last) (counts_of o) → q.control.returns ≡ [] → IsAlone → In (ends_by last at (length code.lines) o now) ≡ Stepped now
-  ended_by (Does e next) at out o is_end evaluated fine main alone = done_by e next at out o is_end evaluated fine
-  ended_by (Continues f behind inside) at out o is_end evaluated fine main alone = continues_so f behind inside at out (Reached o) is_end evaluated
-  ended_by (Guards gs) at out o is_end evaluated fine main alone = stays_so at out (Reached o) evaluated alone (Guards gs) refl (λ o. refl) is_end
-  ended_by (Ends c next) at out o is_end evaluated fine main alone = closes_so at out (Reached o) evaluated alone c next is_end main
-  ended_by (Leaves n to) at out o is_end evaluated fine main alone = leaves_so at out (Reached o) evaluated alone n to is_end
+  ended_by : (last : Last) (at : Pos) (out : ℕ) (within : Option ℕ) (o : Operands) → EndsAs code q.control.place (record { last = last; at = at; out = out; within = within }) → LeadsTo code q (Reached o) → LastFine (plain_last last) (counts_of o) → q.control.returns ≡ [] → IsAlone → In (ends_by last at (length code.lines) o now) ≡ Stepped now
+  ended_by (Does e next) at out within o is_end evaluated fine main alone = done_by e next at out within o is_end evaluated fine
+  ended_by (Continues f behind inside) at out within o is_end evaluated fine main alone = continues_so f behind inside at out within (Reached o) is_end evaluated
+  ended_by (Guards gs) at out within o is_end evaluated fine main alone = stays_so at out within (Reached o) evaluated alone (Guards gs) refl (λ o. refl) is_end
+  ended_by (Ends c next) at out within o is_end evaluated fine main alone = closes_so at out within (Reached o) evaluated alone c next is_end main
+  ended_by (Leaves n to) at out within o is_end evaluated fine main alone = leaves_so at out within (Reached o) evaluated alone n to is_end
 
   -- an evaluation that raises
-  raised_by : (last : Last) (at : Pos) (out : ℕ) (raise : Raise) → EndsAs code q.control.place (record { last = last; at = at; out = out }) → LeadsTo code q (instruction.Raised raise) → q.control.returns ≡ [] → IsAlone → In (raises_by last at (length code.lines) raise now) ≡ Stepped now
-  raised_by (Does (Declare up_to again) next) at out raise is_end evaluated main alone =
-      sym (raises_in_part_step plan name k limits q raise at (asks_so plan name limits code q (record { last = Does (Declare up_to again) next; at = at; out = out }) is_end (instruction.Raised raise) evaluated))
-  raised_by (Does e next) at out raise is_end evaluated main alone =
-      sym (raises_here_step plan name k limits q raise at (asks_so plan name limits code q (record { last = Does e next; at = at; out = out }) is_end (instruction.Raised raise) evaluated))
-  raised_by (Continues f behind inside) at out raise is_end evaluated main alone = continues_so f behind inside at out (instruction.Raised raise) is_end evaluated
-  raised_by (Guards gs) at out raise is_end evaluated main alone = stays_so at out (instruction.Raised raise) evaluated alone (Guards gs) refl (λ o. refl) is_end
-  raised_by (Ends c next) at out raise is_end evaluated main alone = closes_so at out (instruction.Raised raise) evaluated alone c next is_end main
-  raised_by (Leaves n to) at out raise is_end evaluated main alone = leaves_so at out (instruction.Raised raise) evaluated alone n to is_end
+  raised_by : (last : Last) (at : Pos) (out : ℕ) (within : Option ℕ) (raise : Raise) → EndsAs code q.control.place (record { last = last; at = at; out = out; within = within }) → LeadsTo code q (instruction.Raised raise) → q.control.returns ≡ [] → IsAlone → In (raises_by last at (length code.lines) raise now) ≡ Stepped now
+  raised_by (Does (Declare up_to again) next) at out within raise is_end evaluated main alone =
+      sym (raises_in_part_step plan name k limits q raise at (asks_so plan name limits code q (record { last = Does (Declare up_to again) next; at = at; out = out; within = within }) is_end (instruction.Raised raise) evaluated))
+  raised_by (Does e next) at out within raise is_end evaluated main alone =
+      sym (raises_here_step plan name k limits q raise at (asks_so plan name limits code q (record { last = Does e next; at = at; out = out; within = within }) is_end (instruction.Raised raise) evaluated))
+  raised_by (Continues f behind inside) at out within raise is_end evaluated main alone = continues_so f behind inside at out within (instruction.Raised raise) is_end evaluated
+  raised_by (Guards gs) at out within raise is_end evaluated main alone = stays_so at out within (instruction.Raised raise) evaluated alone (Guards gs) refl (λ o. refl) is_end
+  raised_by (Ends c next) at out within raise is_end evaluated main alone = closes_so at out within (instruction.Raised raise) evaluated alone c next is_end main
+  raised_by (Leaves n to) at out within raise is_end evaluated main alone = leaves_so at out within (instruction.Raised raise) evaluated alone n to is_end
 
 -- The program as it stands, before the step and after it.
 
@@ -328,12 +328,12 @@ module _ (code : Flat) (q new : Single Spot) (main : q.control.returns ≡ []) (
   pub acts : (l : EndLine) (o : Operands) → q.stage ≡ runs None → EndsAs code q.control.place l → LeadsTo code q (Reached o) → LastFine (plain_last l.last) (counts_of o) → new ≡ ends_by l.last l.at (length code.lines) o q → StepsTo code q new
   acts l o stage is_end evaluated fine is plan name limits =
       ap (all_of name) is
-      ∙ subst (λ s. In plan name limits code q (ends_by l.last l.at (length code.lines) o (record q { stage = s })) ≡ Stepped plan name limits code q (record q { stage = s })) (sym stage) (ended_by plan name limits code q l.last l.at l.out o is_end evaluated fine main alone)
+      ∙ subst (λ s. In plan name limits code q (ends_by l.last l.at (length code.lines) o (record q { stage = s })) ≡ Stepped plan name limits code q (record q { stage = s })) (sym stage) (ended_by plan name limits code q l.last l.at l.out l.within o is_end evaluated fine main alone)
 
   pub fails : (l : EndLine) (raise : Raise) → q.stage ≡ runs None → EndsAs code q.control.place l → LeadsTo code q (instruction.Raised raise) → new ≡ raises_by l.last l.at (length code.lines) raise q → StepsTo code q new
   fails l raise stage is_end evaluated is plan name limits =
       ap (all_of name) is
-      ∙ subst (λ s. In plan name limits code q (raises_by l.last l.at (length code.lines) raise (record q { stage = s })) ≡ Stepped plan name limits code q (record q { stage = s })) (sym stage) (raised_by plan name limits code q l.last l.at l.out raise is_end evaluated main alone)
+      ∙ subst (λ s. In plan name limits code q (raises_by l.last l.at (length code.lines) raise (record q { stage = s })) ≡ Stepped plan name limits code q (record q { stage = s })) (sym stage) (raised_by plan name limits code q l.last l.at l.out l.within raise is_end evaluated main alone)
 
   -- a pending exception leaves the innermost construct
   pub leaves : (p : Pending) (place : ℕ) → q.stage ≡ runs (Some p) → handler_at code p.exception q.control ≡ None → left_by code (end_at code q.control.place).out q.control ≡ goes place q.control → new ≡ construct_left (Some p.exception) 0 place q → StepsTo code q new

@@ -27,6 +27,8 @@ use Rattle.aud_code.specs.declared.line.Way.{Way}
 use Rattle.aud_code.specs.Places.{Spot, goes}
 use Rattle.aud_code.specs.Instruction.{Operands}
 use Rattle.aud_code.specs.Flat.{FlatLine, Flat, flat_controls, end_at}
+use Rattle.aud_code.specs.Flat as flat
+use Rattle.aud_code.specs.Frames.{found, Found, LoopAround, BlockAround}
 use Rattle.aud_code.specs.Sound.{IsStart, EachStart, WayStart, LastLeads}
 use Rattle.aud_code.specs.View.{plain_end, plain_last, ways_of, exit_of}
 use Rattle.aud_store.specs.Ties.Stored.{Stored, entered, declared, innermost_cell}
@@ -39,23 +41,45 @@ abbrev pub StepsTo : Flat → Single Spot → Single Spot → Type 0
 StepsTo code old new =
     InAnyProgram (λ plan name. (limits : Limits) → all_of name new ≡ step_with plan (flat_controls plan code) limits (all_of name old) (own_move 0))
 
--- a step begins at a place, unless that is behind all lines
-abbrev pub Begins : List FlatLine → ℕ → Type 0
-Begins lines place = place < length lines → IsStart lines place
+-- the innermost frame was opened for this, by a step around what stands within w; what holds of what is around that step
+abbrev pub OpenedFor : List FlatLine → Purpose → Option ℕ → List Opened → (Option ℕ → Type 0) → Type 0
+OpenedFor lines for_body w outer go = (w ≡ None) × (outer ≡ [])
+OpenedFor lines for_block w outer go = BlockAround lines w go
+OpenedFor lines for_loop w outer go = LoopAround lines w go
+OpenedFor lines purpose w outer go = ⊥
 
--- while it runs, it stands where a step begins, or behind all lines
-abbrev pub StandsIn : List FlatLine → ℕ → Stage → Type 0
-StandsIn lines place (runs pending) = Begins lines place
-StandsIn lines place (completed raised) = Unit {0}
-StandsIn lines place (terminated raised) = Unit {0}
+-- the open frames, innermost first, are those of the loops and blocks around what stands within w, and the body's
+abbrev pub AreAround : List FlatLine → Option ℕ → List Opened → Type 0
+AreAround lines w [] = ⊥
+AreAround lines w (o ∷ os) = OpenedFor lines o.purpose w os (λ v. AreAround lines v os)
 
-abbrev pub Stands : List FlatLine → Single Spot → Type 0
-Stands lines p = StandsIn lines p.control.place p.stage
+-- where an exception is pending: at a statement, or at the end of a block that it left
+abbrev pub PendsWithin : List FlatLine → flat.Last → Option ℕ → List Opened → Type 0
+PendsWithin lines (flat.Does e) w os = AreAround lines w os
+PendsWithin lines (flat.Ends construct.Block next) w os = BlockAround lines w (λ v. AreAround lines v os)
+PendsWithin lines last w os = ⊥
+
+-- a step begins at the place, and those frames are open that are to be open there; with an exception pending
+abbrev pub FitsAt : List FlatLine → ℕ → List Opened → Type 0
+FitsAt lines place os = IsStart lines place × Found (found lines place) (λ l. AreAround lines l.within os)
+
+abbrev pub PendsAt : List FlatLine → ℕ → List Opened → Type 0
+PendsAt lines place os = IsStart lines place × Found (found lines place) (λ l. PendsWithin lines l.last l.within os)
+
+-- so it stands while it runs
+abbrev pub FitsIn : List FlatLine → ℕ → List Opened → Stage → Type 0
+FitsIn lines place os (runs None) = FitsAt lines place os
+FitsIn lines place os (runs (Some p)) = PendsAt lines place os
+FitsIn lines place os (completed raised) = Unit {0}
+FitsIn lines place os (terminated raised) = Unit {0}
+
+abbrev pub Fits : List FlatLine → Single Spot → Type 0
+Fits lines p = FitsIn lines p.control.place p.stack.opened p.stage
 
 -- the step leads to new, and this number of instructions was executed, each a tick
 pub record IsStep (code : Flat) (old new : Single Spot) (executed : ℕ) : Type 0 where
   pub next : StepsTo code old new
-  pub stands : Stands code.lines new
+  pub fits : Fits code.lines new
   pub steps : new.steps ≡ old.steps + 1
   pub ticks : executed ≡ step_ticks code old
   pub few : executed ≤ length code.lines
@@ -100,6 +124,10 @@ written text p = let shared = put_out text (shared_in p) in record p { output = 
 -- to the first place where the newest truth value is true, else to the second
 abbrev pub decided : ℕ → ℕ → Operands → Single Spot → Single Spot
 decided there next o p = with_newest o.booleans p (λ b. moved_to (if b then there else next) p)
+
+-- a construct is under way
+abbrev pub HasConstruct : Single Spot → Type 0
+HasConstruct p = 0 < length (out_of_loops p.stack).opened
 
 -- a frame is opened, and the step leads inside; where there is no room, Storage_Error
 abbrev pub opened : Purpose → ℕ → Pos → List ℤ → ℕ → ℕ → Single Spot → Single Spot

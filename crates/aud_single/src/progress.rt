@@ -5,11 +5,12 @@ ghost use Rattle.aud_meaning.specs.Run.{main_raised, supplied, advanced};
 ghost use Rattle.aud_meaning.specs.Effects.{innermost};
 ghost use Rattle.aud_meaning.specs.Ties.Single.{runs, all_of, closed, out_of_loops, AreOpenedAlone};
 ghost use Rattle.aud_code.specs.Flat.{start_at};
+ghost use Rattle.aud_code.specs.Frames.{At};
 ghost use Rattle.aud_code.specs.Sound.{IsStart};
 ghost use Rattle.aud_expr.specs.Fused.{SeesMain};
 ghost use Rattle.aud_store.specs.Ties.Stored.{declared, entered, plain_purpose, IsInnermost};
 ghost use Rattle.aud_store.specs.Ties.Stored as store;
-ghost use Rattle.aud_single.specs.Steps.{Stands, moved_to, declared_to, stored, stored_in, on_stored};
+ghost use Rattle.aud_single.specs.Steps.{Fits, HasConstruct, moved_to, declared_to, stored, stored_in, on_stored};
 ghost use Rattle.aud_single.specs.Steps.{written, left_loops, construct_left, out_of_construct, handled_at};
 ghost use Rattle.aud_single.specs.Shown.{plain_stage, Becomes, IsOpening};
 ghost use Rattle.aud_single.specs.Fast.{RunsFast};
@@ -88,7 +89,7 @@ impl Progress {
     /// The main procedure before its first step, with the place where its text begins (RM 10.2).
     pub fn new(code: &SoundCode, at: Pos, alloc: Global) -> Result<Self, AllocError>
         ensures opening { IfOk result (λ p. IsOpening code.now at p) }
-        ensures stands { IfOk result (λ p. Stands code.now.lines p) }
+        ensures fits { IfOk result (λ p. Fits code.now.lines p) }
     {
         let mut store = Store::new(alloc);
         store.enter(alloc, Purpose::Body, 0, at, &[], 0)?;
@@ -325,14 +326,15 @@ impl Progress {
         loops: usize,
         place: usize,
     )
-        requires { self.old.steps < STEPS }
+        requires construct { HasConstruct self.old }
+        requires steps { self.old.steps < STEPS }
         ensures left { self.new ≡ construct_left exception loops place self.old }
         ensures alone { AreOpenedAlone self.old.stack.opened }
         ensures steps { self.new.steps ≡ self.old.steps + 1 }
     {
         let stage = match self.store.construct() {
             Some(construct) => self.leave_open(construct, exception),
-            None => Stage::Runs(None),
+            None => unreachable!(),
         };
         self.store.leave_times(loops);
         self.turn(stage, place);
@@ -354,7 +356,7 @@ impl Progress {
                 let at = construct.at;
                 Stage::Runs(exception.map(|exception| Raised { exception, at }))
             }
-            Purpose::Loop => Stage::Runs(None),
+            Purpose::Loop => unreachable!(),
         }
     }
 
@@ -369,14 +371,12 @@ impl Progress {
     /// The next steps, at most n, for as long as each is done by fused instructions. It tells where they led, how many they were,
     /// and how many instructions they executed.
     pub(crate) fn run_fast(&mut self, code: &SoundCode, n: u32) -> FastRun
-        requires stands { Stands code.now.lines self.old }
+        requires fits { Fits code.now.lines self.old }
         requires budget { self.old.steps + n ≤ STEPS }
         ensures runs { RunsFast code.now n self.old self.new result }
     {
         match self.stage {
-            Stage::Runs(None) if !self.cut && self.place < code.len() && self.sees_main() => {
-                self.run_free(code, n)
-            }
+            Stage::Runs(None) if !self.cut && self.sees_main() => self.run_free(code, n),
             _ => FastRun {
                 place: self.place,
                 steps: 0,
@@ -389,7 +389,7 @@ impl Progress {
     fn run_free(&mut self, code: &SoundCode, n: u32) -> FastRun
         requires runs { self.old.stage ≡ runs None }
         requires uncut { self.old.cut ≡ false }
-        requires begins { IsStart code.now.lines self.old.control.place }
+        requires fits { Fits code.now.lines self.old }
         requires display { SeesMain self.old.stack.display }
         requires framed { 0 < length self.old.frames }
         requires budget { self.old.steps + n ≤ STEPS }
@@ -432,6 +432,7 @@ impl Progress {
 fn first_place(code: &SoundCode) -> usize
     ensures place { result ≡ start_at code.now 0 }
     ensures begins { IsStart code.now.lines result }
+    ensures framed { At code.now.lines result None }
 {
     match code.starts().first() {
         Some(place) => *place,

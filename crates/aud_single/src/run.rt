@@ -1,7 +1,7 @@
 // Runs of several steps.
 
 ghost use Rattle.std.specs.Prelude.{◌+◌, ◌≤◌, IfOk};
-ghost use Rattle.aud_single.specs.Steps.{Stands};
+ghost use Rattle.aud_single.specs.Steps.{Fits};
 ghost use Rattle.aud_single.specs.Running.{RunsTo};
 
 use crate::fast::FastRun;
@@ -27,10 +27,10 @@ pub fn run(
     operands: &mut Operands,
     n: u32,
 ) -> Result<Ran, AllocError>
-    requires stands { Stands code.now.lines progress.old }
+    requires fits { Fits code.now.lines progress.old }
     requires budget { progress.old.steps + n ≤ STEPS }
     ensures runs { IfOk result (λ ran. RunsTo code.now n progress.old progress.new ran) }
-    ensures stands { IfOk result (λ _. Stands code.now.lines progress.new) }
+    ensures fits { IfOk result (λ _. Fits code.now.lines progress.new) }
     ensures few { IfOk result (λ ran. ran.steps ≤ n) }
 {
     let FastRun {

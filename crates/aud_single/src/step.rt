@@ -3,10 +3,11 @@
 ghost use Rattle.std.specs.Prelude.{◌≡◌, ◌<◌, ◌+◌, Some, None, OnOk, IfOk, length};
 ghost use Rattle.aud_meaning.specs.Ties.Single.{runs};
 ghost use Rattle.aud_code.specs.Flat.{end_at};
+ghost use Rattle.aud_code.specs.Frames.{found};
 ghost use Rattle.aud_code.specs.Sound.{counts_of, LastFine};
 ghost use Rattle.aud_code.specs.View.{plain_last};
 ghost use Rattle.aud_exc.specs.View.{plain_raised};
-ghost use Rattle.aud_single.specs.Steps.{StepsTo, Stands, IsStep, EndsAt};
+ghost use Rattle.aud_single.specs.Steps.{StepsTo, Fits, IsStep, EndsAt, HasConstruct};
 ghost use Rattle.aud_single.specs.Steps.{ends_by, flows_by, raises_by, raised, place_behind};
 
 use crate::progress::Progress;
@@ -27,7 +28,7 @@ use std::alloc::AllocError;
 impl Progress {
     /// One step. It tells how many instructions were executed, each a tick.
     pub fn step(&mut self, code: &SoundCode, operands: &mut Operands) -> Result<u64, AllocError>
-        requires stands { Stands code.now.lines self.old }
+        requires fits { Fits code.now.lines self.old }
         requires steps { self.old.steps < STEPS }
         ensures { IfOk result (λ ticks. IsStep code.now self.old self.new ticks) }
     {
@@ -41,19 +42,14 @@ impl Progress {
         Ok(0)
     }
 
-    // The expressions of the step are evaluated, and its ending or the exception that they raise follows. Behind all lines
-    // nothing is left to do but to leave what is open.
+    // The expressions of the step are evaluated, and its ending or the exception that they raise follows.
     fn act(&mut self, code: &SoundCode, operands: &mut Operands) -> Result<u64, AllocError>
         requires runs { self.old.stage ≡ runs None }
-        requires stands { Stands code.now.lines self.old }
+        requires fits { Fits code.now.lines self.old }
         requires steps { self.old.steps < STEPS }
         ensures { IfOk result (λ ticks. IsStep code.now self.old self.new ticks) }
     {
         let place = self.place();
-        if code.len() <= place {
-            self.leave_construct(None, 0, code.len());
-            return Ok(0);
-        }
         let store = self.store();
         let Evaluation { outcome, ticks } = evaluate(
             code,
@@ -76,18 +72,21 @@ impl Progress {
         reached: usize,
         operands: &mut Operands,
     ) -> Result<(), AllocError>
-        requires fine { LastFine (end_at code.now reached).last (counts_of operands.old) }
+        requires runs { self.old.stage ≡ runs None }
+        requires fits { Fits code.now.lines self.old }
+        requires reached { found code.now.lines reached
+            ≡ found code.now.lines self.old.control.place }
+        requires fine { LastFine (end_at code.now self.old.control.place).last
+            (counts_of operands.old) }
         requires steps { self.old.steps < STEPS }
-        ensures does { OnOk result (EndsAt code.now reached (λ last at.
+        ensures does { OnOk result (EndsAt code.now self.old.control.place (λ last at.
             self.new ≡ ends_by last at (length code.now.lines) operands.old self.old)) }
+        ensures fits { OnOk result (Fits code.now.lines self.new) }
         ensures steps { OnOk result (self.new.steps ≡ self.old.steps + 1) }
     {
         match code.ending(reached) {
             Some(ending) => self.end(&ending.last, ending.at, code.len(), operands),
-            None => {
-                self.leave_construct(None, 0, code.len());
-                Ok(())
-            }
+            None => unreachable!(),
         }
     }
 
@@ -99,6 +98,7 @@ impl Progress {
         behind: usize,
         operands: &mut Operands,
     ) -> Result<(), AllocError>
+        requires construct { HasConstruct self.old }
         requires fine { LastFine (plain_last last.now) (counts_of operands.old) }
         requires steps { self.old.steps < STEPS }
         ensures does { OnOk result (self.new ≡ ends_by last.now at behind operands.old self.old) }
@@ -115,6 +115,7 @@ impl Progress {
 
     // What an ending does before which nothing is evaluated.
     fn flow(&mut self, last: &Last, behind: usize)
+        requires construct { HasConstruct self.old }
         requires steps { self.old.steps < STEPS }
         ensures does { self.new ≡ flows_by last.now behind self.old }
         ensures steps { self.new.steps ≡ self.old.steps + 1 }
@@ -137,9 +138,12 @@ impl Progress {
     // An exception that the evaluation of a step raises: it pends from now on. Where nothing is evaluated the ending does what it
     // does.
     fn fail(&mut self, code: &SoundCode, raise: Raise)
+        requires runs { self.old.stage ≡ runs None }
+        requires fits { Fits code.now.lines self.old }
         requires steps { self.old.steps < STEPS }
         ensures does { EndsAt code.now self.old.control.place (λ last at.
             self.new ≡ raises_by last at (length code.now.lines) raise self.old) }
+        ensures fits { Fits code.now.lines self.new }
         ensures steps { self.new.steps ≡ self.old.steps + 1 }
     {
         match code.ending(self.place()) {
@@ -147,7 +151,7 @@ impl Progress {
                 Last::Does(_, _) => self.raise(Exception::Predefined(raise), ending.at),
                 _ => self.flow(&ending.last, code.len()),
             },
-            None => self.leave_construct(None, 0, code.len()),
+            None => unreachable!(),
         }
     }
 
@@ -162,16 +166,17 @@ impl Progress {
     // A pending exception is handled, or leaves the innermost construct (RM 11.4).
     fn propagate(&mut self, code: &SoundCode, raised: Raised)
         requires runs { self.old.stage ≡ runs (Some (plain_raised raised)) }
-        requires stands { Stands code.now.lines self.old }
+        requires fits { Fits code.now.lines self.old }
         requires steps { self.old.steps < STEPS }
         ensures next { StepsTo code.now self.old self.new }
-        ensures stands { Stands code.now.lines self.new }
+        ensures fits { Fits code.now.lines self.new }
         ensures steps { self.new.steps ≡ self.old.steps + 1 }
     {
+        let behind = code.len();
         match find_handler(code, self.place(), raised.exception) {
             Some(handler) => self.handle(raised.exception, handler),
             None => {
-                let place = unwind(code, self.place()).unwrap_or(code.len());
+                let place = unwind(code, self.place()).unwrap_or(behind);
                 self.leave_construct(Some(raised.exception), 0, place);
             }
         }

@@ -31,7 +31,7 @@ offset_zero (l ∷ ls) = refl
 
 module _ (f : ℕ → ℕ) where
   -- what stands from the step of a number on
-  from_step : (l : Line) (ls : List Line) (n : ℕ) → drop (line_size l + n) (step_lines f l ++ assembled_from f ls) ≡ drop n (assembled_from f ls)
+  pub from_step : (l : Line) (ls : List Line) (n : ℕ) → drop (line_size l + n) (step_lines f l ++ assembled_from f ls) ≡ drop n (assembled_from f ls)
   from_step l ls n =
       sym (drop-drop n (line_size l) (step_lines f l ++ assembled_from f ls)) ∙ ap (drop n) (drop_at (step_lines f l) (assembled_from f ls) (line_size l) (its_length (instructions_by l.what) (end_line f l)))
 

@@ -1,5 +1,5 @@
 -- The places of a program's lines are within it, and each is moved to where a step begins.
-use Rattle.std.proofs.Common.{◌≡◌, ℕ, zero, suc, ◌+◌, ◌≤◌, List, [], ◌∷◌, ◌++◌, length, map, slice_get, Some, refl, subst, arith, length-append}
+use Rattle.std.proofs.Common.{◌≡◌, ℕ, zero, suc, ◌+◌, ◌≤◌, List, [], ◌∷◌, ◌++◌, length, map, slice_get, Some, None, refl, subst, arith, length-append}
 use Rattle.aud_typed.specs.Tree.{Body, Program}
 use Rattle.aud_meaning.specs.declared.state.Construct.TheVariants as construct
 use Rattle.aud_meaning.specs.Items.{no_body}
@@ -17,7 +17,7 @@ module _ (T : ℕ) where
   unit_in b at h =
       let fits = last_is one_line b at 1 in
       let last : end_place b at 1 ≤ T = omega (arith, h, fits) in
-      body_in T construct.Unit b at 0 (end_place b at 1) (in_call (end_place b at 1)) h (omega arith) last (call_in T (end_place b at 1) last)
+      body_in T construct.Unit b at 0 (end_place b at 1) (in_call None (end_place b at 1)) h (omega arith) last (call_in T None (end_place b at 1) last)
 
   units_in : (bs : List Body) (at : ℕ) → at + length (units_code bs at) ≤ T → LinesIn T (units_code bs at)
   units_in [] at h = let n = length-unit no_body at in unit_in no_body at (omega (arith, h, n))

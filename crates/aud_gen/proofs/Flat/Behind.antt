@@ -75,12 +75,12 @@ module _ (lines : List Line) where
   behind_handlers hs at next a at' e h ea ec =
       past (handlers_code hs at next a) at at' _ _ _ h (length-handlers hs at next a) (total-handlers flat_step adds one_line hs at next a) (ap (handlers_size_by flat_step hs) ec) ea
 
-  behind_doing : (d : Doing) (at next out : ℕ) (at' : ℕ) → HasAt lines at (doing_code d at next out) → F at ≡ at' → F (at + doing_size d) ≡ at' + doing_size_by flat_step d
-  behind_doing d at next out at' h ea = past (doing_code d at next out) at at' _ _ _ h (length-doing d at next out) (total-doing flat_step adds one_line d at next out) refl ea
+  behind_doing : (d : Doing) (opener at next out : ℕ) (at' : ℕ) → HasAt lines at (doing_code d opener at next out) → F at ≡ at' → F (at + doing_size d) ≡ at' + doing_size_by flat_step d
+  behind_doing d opener at next out at' h ea = past (doing_code d opener at next out) at at' _ _ _ h (length-doing d opener at next out) (total-doing flat_step adds one_line d opener at next out) refl ea
 
-  behind_offered : (o : Alternatives) (at next : ℕ) (a : Around) (at' e : ℕ) → HasAt lines at (offered_code o at next a) → F at ≡ at' → ways_count a ≡ e → F (at + offered_size o (ways_count a)) ≡ at' + offered_size_by flat_step o e
-  behind_offered o at next a at' e h ea ec =
-      past (offered_code o at next a) at at' _ _ _ h (length-offered o at next a) (total-offered flat_step adds one_line o at next a) (ap (offered_size_by flat_step o) ec) ea
+  behind_offered : (o : Alternatives) (opener at next : ℕ) (a : Around) (at' e : ℕ) → HasAt lines at (offered_code o opener at next a) → F at ≡ at' → ways_count a ≡ e → F (at + offered_size o (ways_count a)) ≡ at' + offered_size_by flat_step o e
+  behind_offered o opener at next a at' e h ea ec =
+      past (offered_code o opener at next a) at at' _ _ _ h (length-offered o opener at next a) (total-offered flat_step adds one_line o opener at next a) (ap (offered_size_by flat_step o) ec) ea
 
   behind_body : (c : Construct) (b : Body) (at next out : ℕ) (a : Around) (at' e : ℕ) → HasAt lines at (body_code c b at next out a) → F at ≡ at' → ways_count a ≡ e → F (at + body_size b (ways_count a)) ≡ at' + body_size_by flat_step b e
   behind_body c b at next out a at' e h ea ec =
@@ -103,8 +103,8 @@ module _ (lines : List Line) where
   pub part_and : (p : Part) (at next : ℕ) (a : Around) (more : List Line) (at' e : ℕ) → HasAt lines at (part_code p at next a ++ more) → F at ≡ at' → ways_count a ≡ e → Halves (part_code p at next a) more at (part_size p (ways_count a)) at' (part_size_by flat_step p e)
   part_and p at next a more at' e h ea ec = halves (part_code p at next a) more at _ at' _ (length-part p at next a) h (λ k. behind_part p at next a at' e k ea ec)
 
-  pub offered_and : (o : Alternatives) (at next : ℕ) (a : Around) (more : List Line) (at' e : ℕ) → HasAt lines at (offered_code o at next a ++ more) → F at ≡ at' → ways_count a ≡ e → Halves (offered_code o at next a) more at (offered_size o (ways_count a)) at' (offered_size_by flat_step o e)
-  offered_and o at next a more at' e h ea ec = halves (offered_code o at next a) more at _ at' _ (length-offered o at next a) h (λ k. behind_offered o at next a at' e k ea ec)
+  pub offered_and : (o : Alternatives) (opener at next : ℕ) (a : Around) (more : List Line) (at' e : ℕ) → HasAt lines at (offered_code o opener at next a ++ more) → F at ≡ at' → ways_count a ≡ e → Halves (offered_code o opener at next a) more at (offered_size o (ways_count a)) at' (offered_size_by flat_step o e)
+  offered_and o opener at next a more at' e h ea ec = halves (offered_code o opener at next a) more at _ at' _ (length-offered o opener at next a) h (λ k. behind_offered o opener at next a at' e k ea ec)
 
   pub body_and : (c : Construct) (b : Body) (at next out : ℕ) (a : Around) (more : List Line) (at' e : ℕ) → HasAt lines at (body_code c b at next out a ++ more) → F at ≡ at' → ways_count a ≡ e → Halves (body_code c b at next out a) more at (body_size b (ways_count a)) at' (body_size_by flat_step b e)
   body_and c b at next out a more at' e h ea ec = halves (body_code c b at next out a) more at _ at' _ (length-body c b at next out a) h (λ k. behind_body c b at next out a at' e k ea ec)
@@ -139,7 +139,7 @@ module _ (lines : List Line) where
     pub after : F (at + doing_size d) ≡ at' + doing_size_by flat_step d
     pub later : F (at + doing_size d + part_size p (ways_count a)) ≡ at' + doing_size_by flat_step d + part_size_by flat_step p e
 
-  pub passed_offer : (d : Doing) (p : Part) (more : Alternatives) (at next : ℕ) (a : Around) (at' e : ℕ) → OfferAt lines d p more at next a → F at ≡ at' → ways_count a ≡ e → PassedOffer d p at a at' e
-  passed_offer d p more at next a at' e it ea ec =
-      let behind = behind_doing d at (part_place p (at + doing_size d) next) a.out at' it.doing ea in
+  pub passed_offer : (d : Doing) (p : Part) (more : Alternatives) (opener at next : ℕ) (a : Around) (at' e : ℕ) → OfferAt lines d p more opener at next a → F at ≡ at' → ways_count a ≡ e → PassedOffer d p at a at' e
+  passed_offer d p more opener at next a at' e it ea ec =
+      let behind = behind_doing d opener at (part_place p (at + doing_size d) next) a.out at' it.doing ea in
       record { after = behind; later = behind_part p (at + doing_size d) next a _ e it.part behind ec }

@@ -5,7 +5,7 @@ use Rattle.std.proofs.Math.ListN.{get_or-map}
 use Rattle.aud_code.specs.Places.{Way, Guard}
 use Rattle.aud_code.specs.Flat.{Guards, instructs, end}
 use Rattle.aud_gen.specs.Layout.{What, does, continues, guards, ends, leaves, Line, Around, one_more, in_loop, in_for, around_out, ways_count}
-use Rattle.aud_gen.specs.Assembly.{instructions_by, guard_moved, last_by, way_moved, end_line, step_lines, assembled_from}
+use Rattle.aud_gen.specs.Assembly.{instructions_by, guard_moved, last_by, way_moved, within_moved, end_line, step_lines, assembled_from}
 
 abbrev Stays : ℕ → ℕ
 Stays n = n
@@ -15,7 +15,7 @@ module _ (f : ℕ → ℕ) where
   way_to w = record w { to = f w.to }
 
   abbrev pub moved : Around → Around
-  moved a = record { out = f a.out; exits = map way_to a.exits; back = way_to a.back }
+  moved a = record { out = f a.out; within = within_moved f a.within; exits = map way_to a.exits; back = way_to a.back }
 
   abbrev pub what_moved : What → What
   what_moved (does a) = does a
@@ -25,7 +25,7 @@ module _ (f : ℕ → ℕ) where
   what_moved (leaves n next) = leaves n (f next)
 
   abbrev pub line_moved : Line → Line
-  line_moved l = record { what = what_moved l.what; at = l.at; out = f l.out; ways = map f l.ways; bodies = map f l.bodies; exit = way_moved f l.exit }
+  line_moved l = record { what = what_moved l.what; at = l.at; out = f l.out; within = within_moved f l.within; ways = map f l.ways; bodies = map f l.bodies; exit = way_moved f l.exit }
 
   same_instructions : (w : What) → instructions_by w ≡ instructions_by (what_moved w)
   same_instructions (does a) = refl
@@ -49,12 +49,17 @@ module _ (f : ℕ → ℕ) where
   same_way None = refl
   same_way (Some w) = refl
 
+  same_within : (w : Option ℕ) → within_moved f w ≡ within_moved Stays (within_moved f w)
+  same_within None = refl
+  same_within (Some n) = refl
+
   same_end : (l : Line) → end_line f l ≡ end_line Stays (line_moved l)
   same_end l =
-      ap (λ w. record { last = w; at = l.at; out = f l.out; ways = map f l.ways; bodies = map f l.bodies; exit = way_moved f l.exit }) (same_last l.what)
-      ∙ ap (λ ns. record { last = last_by Stays (what_moved l.what); at = l.at; out = f l.out; ways = ns; bodies = map f l.bodies; exit = way_moved f l.exit }) (sym (map-id (map f l.ways)))
-      ∙ ap (λ ns. record { last = last_by Stays (what_moved l.what); at = l.at; out = f l.out; ways = map Stays (map f l.ways); bodies = ns; exit = way_moved f l.exit }) (sym (map-id (map f l.bodies)))
-      ∙ ap (λ w. record { last = last_by Stays (what_moved l.what); at = l.at; out = f l.out; ways = map Stays (map f l.ways); bodies = map Stays (map f l.bodies); exit = w }) (same_way l.exit)
+      ap (λ w. record { last = w; at = l.at; out = f l.out; within = within_moved f l.within; ways = map f l.ways; bodies = map f l.bodies; exit = way_moved f l.exit }) (same_last l.what)
+      ∙ ap (λ v. record { last = last_by Stays (what_moved l.what); at = l.at; out = f l.out; within = v; ways = map f l.ways; bodies = map f l.bodies; exit = way_moved f l.exit }) (same_within l.within)
+      ∙ ap (λ ns. record { last = last_by Stays (what_moved l.what); at = l.at; out = f l.out; within = within_moved Stays (within_moved f l.within); ways = ns; bodies = map f l.bodies; exit = way_moved f l.exit }) (sym (map-id (map f l.ways)))
+      ∙ ap (λ ns. record { last = last_by Stays (what_moved l.what); at = l.at; out = f l.out; within = within_moved Stays (within_moved f l.within); ways = map Stays (map f l.ways); bodies = ns; exit = way_moved f l.exit }) (sym (map-id (map f l.bodies)))
+      ∙ ap (λ w. record { last = last_by Stays (what_moved l.what); at = l.at; out = f l.out; within = within_moved Stays (within_moved f l.within); ways = map Stays (map f l.ways); bodies = map Stays (map f l.bodies); exit = w }) (same_way l.exit)
 
   same_step : (l : Line) → step_lines f l ≡ step_lines Stays (line_moved l)
   same_step l =
@@ -95,9 +100,13 @@ module _ (f : ℕ → ℕ) where
   ways_moved [] = refl
   ways_moved (w ∷ ws) = ap (λ xs. one_more (way_to w) ∷ xs) (ways_moved ws)
 
-  pub for_moved : (n m : ℕ) (a b : Around) → f n ≡ m → moved a ≡ b → moved (in_for n a) ≡ in_for m b
-  for_moved n m a b h k =
-      ap (λ ws. record { out = f a.out; exits = record { to = f n; loops = 1 } ∷ ws; back = one_more (way_to a.back) }) (ways_moved a.exits) ∙ ap (λ x. in_for x (moved a)) h ∙ ap (in_for m) k
+  -- the step of the loop at the place p, and behind it the place n
+  pub for_moved : (p q n m : ℕ) (a b : Around) → f p ≡ q → f n ≡ m → moved a ≡ b → moved (in_for p n a) ≡ in_for q m b
+  for_moved p q n m a b e h k =
+      ap (λ ws. record { out = f a.out; within = Some (f p); exits = record { to = f n; loops = 1 } ∷ ws; back = one_more (way_to a.back) }) (ways_moved a.exits)
+      ∙ ap (λ x. in_for x (f n) (moved a)) e
+      ∙ ap (λ x. in_for q x (moved a)) h
+      ∙ ap (in_for q m) k
 
   pub exit_moved : (a b : Around) (k n m : ℕ) → f n ≡ m → moved a ≡ b → way_to (get_or a.exits k (record { to = n; loops = 0 })) ≡ get_or b.exits k (record { to = m; loops = 0 })
   exit_moved a b k n m h e =

@@ -11,6 +11,7 @@ use Rattle.aud_code.specs.Sound.{IsStart, EachStart, WayStart, GuardsStart, Last
 use Rattle.aud_gen.proofs.Flat.Starting.{starts_fine}
 use Rattle.aud_gen.proofs.Flat.Within.{PlacesIn, WayIn, GuardsIn, WhatIn, LineIn, LinesIn, one_and}
 use Rattle.aud_gen.proofs.Flat.Beginning.{places_within, begins}
+use Rattle.aud_gen.proofs.Flat.FramesLaw.{each_fits, bodies_framed}
 
 abbrev IsEnd : Option FlatLine → Type 0
 IsEnd None = ⊥
@@ -83,4 +84,6 @@ code_is_sound program =
       operands = λ n h. starts_fine f lines n h n;
       leads = λ n l g. leads_in f T X (λ k h. begins f lines k h) lines (places_within program) n l g;
       starts = (each f T X (λ k h. begins f lines k h) (starts_from program.bodies 0) (starts_in T program.bodies 0 all), begins f lines (spare_from program.bodies 0) (spare_in T program.bodies 0 all));
+      frames = each_fits program;
+      framed = bodies_framed program;
     }

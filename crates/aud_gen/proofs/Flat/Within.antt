@@ -76,18 +76,18 @@ module _ (T : ℕ) where
   loop_in : (next : ℕ) (a : Around) → next ≤ T → AroundIn a → AroundIn (in_loop next a)
   loop_in next a n h = record { out = h.out; exits = (n, h.exits); back = h.back }
 
-  for_in : (next : ℕ) (a : Around) → next ≤ T → AroundIn a → AroundIn (in_for next a)
-  for_in next a n h = record { out = h.out; exits = (n, more_in a.exits h.exits); back = h.back }
+  for_in : (place next : ℕ) (a : Around) → next ≤ T → AroundIn a → AroundIn (in_for place next a)
+  for_in place next a n h = record { out = h.out; exits = (n, more_in a.exits h.exits); back = h.back }
 
   stub_ways_in : (ws : List Way) (at : ℕ) → at + length ws ≤ T → WaysIn (stub_ways ws at)
   stub_ways_in [] at h = tt
   stub_ways_in (w ∷ ws) at h = (omega (arith, h), stub_ways_in ws (suc at) (omega (arith, h)))
 
-  block_in : (last : ℕ) (a : Around) → suc last + length a.exits ≤ T → AroundIn (in_block last a)
-  block_in last a h = record { out = omega (arith, h); exits = stub_ways_in a.exits (suc last) h; back = h }
+  block_in : (place last : ℕ) (a : Around) → suc last + length a.exits ≤ T → AroundIn (in_block place last a)
+  block_in place last a h = record { out = omega (arith, h); exits = stub_ways_in a.exits (suc last) h; back = h }
 
-  pub call_in : (last : ℕ) → last ≤ T → AroundIn (in_call last)
-  call_in last h = record { out = h; exits = tt; back = h }
+  pub call_in : (within : Option ℕ) (last : ℕ) → last ≤ T → AroundIn (in_call within last)
+  call_in within last h = record { out = h; exits = tt; back = h }
 
   out_in : (n : ℕ) (a : Around) → n ≤ T → AroundIn a → AroundIn (around_out n a)
   out_in n a h k = record { out = h; exits = k.exits; back = k.back }
@@ -98,9 +98,9 @@ module _ (T : ℕ) where
   exit_in (w ∷ ws) zero next h k = h.0
   exit_in (w ∷ ws) (suc n) next h k = exit_in ws n next h.1 k
 
-  stubs_in : (ws : List Way) (w : Way) (end : Pos) (at : ℕ) → WaysIn ws → w.to ≤ T → at + length ws ≤ T → LinesIn (stubs (ws ++ w ∷ []) end at)
-  stubs_in [] w end at h k l = one_and (record { out = omega (arith, l); ways = tt; bodies = tt; exit = tt; what = k; at = tt }) no_lines
-  stubs_in (x ∷ ws) w end at h k l = one_and (record { out = omega (arith, l); ways = tt; bodies = tt; exit = tt; what = h.0; at = tt }) (stubs_in ws w end (suc at) h.1 k (omega (arith, l)))
+  stubs_in : (ws : List Way) (w : Way) (end : Pos) (within : Option ℕ) (at : ℕ) → WaysIn ws → w.to ≤ T → at + length ws ≤ T → LinesIn (stubs (ws ++ w ∷ []) end within at)
+  stubs_in [] w end within at h k l = one_and (record { out = omega (arith, l); ways = tt; bodies = tt; exit = tt; what = k; at = tt }) no_lines
+  stubs_in (x ∷ ws) w end within at h k l = one_and (record { out = omega (arith, l); ways = tt; bodies = tt; exit = tt; what = h.0; at = tt }) (stubs_in ws w end within (suc at) h.1 k (omega (arith, l)))
 
   part_place_in : (p : Part) (at next : ℕ) → at ≤ T → next ≤ T → part_place p at next ≤ T
   part_place_in nothing at next h k = k
@@ -110,8 +110,8 @@ module _ (T : ℕ) where
   doing_place_in without_do at next h k = k
   doing_place_in (with_do n b) at next h k = h
 
-  stubs_of_in : (b : Body) (ws : List Way) (w : Way) (at : ℕ) → WaysIn ws → w.to ≤ T → at + length ws ≤ T → LinesIn (stubs_of b (ws ++ w ∷ []) at)
-  stubs_of_in (body d begin s hs end) ws w at h k l = stubs_in ws w end at h k l
+  stubs_of_in : (b : Body) (ws : List Way) (w : Way) (within : Option ℕ) (at : ℕ) → WaysIn ws → w.to ≤ T → at + length ws ≤ T → LinesIn (stubs_of b (ws ++ w ∷ []) within at)
+  stubs_of_in (body d begin s hs end) ws w within at h k l = stubs_in ws w end within at h k l
 
   guards_in : (h : Handlers) (at e : ℕ) → at + handlers_size h e ≤ T → GuardsIn (guards_of h at e)
   guards_in no_handlers at e k = tt
@@ -150,30 +150,30 @@ module _ (T : ℕ) where
     statement_in (while_loop pos c x) at next a h k i =
         one_and (plain_line (while_loop pos c x) (next ∷ suc at ∷ []) [] a i (k, (omega (arith, h), tt)) tt) (statement_in x (suc at) at (in_loop next a) (omega (arith, h)) (omega (arith, h)) (loop_in next a k i))
     statement_in (for_loop f x y s) at next a h k i =
-        let n = ap (statement_size s) (count-for next a) in
+        let n = ap (statement_size s) (count-for at next a) in
         one_and (plain_line (for_loop f x y s) (next ∷ suc (suc at) ∷ []) [] a i (k, (omega (arith, h), tt)) tt)
         (one_and (record { out = i.out; ways = (k, (omega (arith, h), tt)); bodies = tt; exit = tt; what = tt; at = tt })
-        (statement_in s (suc (suc at)) (suc at) (in_for next a) (omega (arith, h, n)) (omega (arith, h)) (for_in next a k i)))
+        (statement_in s (suc (suc at)) (suc at) (in_for at next a) (omega (arith, h, n)) (omega (arith, h)) (for_in at next a k i)))
     statement_in (block pos n b) at next a h k i =
         let e = ways_count a in
         let fits = last_is one_line b (suc at) e in
         let last = end_place b (suc at) e in
-        let size = ap (body_size b) (count-block last a) in
+        let size = ap (body_size b) (count-block at last a) in
         one_and (plain_line (block pos n b) (next ∷ suc at ∷ []) [] a i (k, (omega (arith, h), tt)) tt)
-        (both (body_in construct.Block b (suc at) next a.out (in_block last a) (omega (arith, h, size)) k i.out (block_in last a (omega (arith, h, fits))))
-        (stubs_of_in b a.exits a.back (suc last) i.exits i.back (omega (arith, h, fits))))
+        (both (body_in construct.Block b (suc at) next a.out (in_block at last a) (omega (arith, h, size)) k i.out (block_in at last a (omega (arith, h, fits))))
+        (stubs_of_in b a.exits a.back (Some at) (suc last) i.exits i.back (omega (arith, h, fits))))
     statement_in (entry_call pos c p q) at next a h k i =
         let second = suc at + part_size p (ways_count a) in
         one_and (plain_line (entry_call pos c p q) (part_place p (suc at) next ∷ part_place q second next ∷ []) [] a i (part_place_in p (suc at) next (omega (arith, h)) k, (part_place_in q second next (omega (arith, h)) k, tt)) tt)
         (both (part_in p (suc at) next a (omega (arith, h)) k i) (part_in q second next a (omega (arith, h)) k i))
     statement_in (accept pos n d) at next a h k i =
-        one_and (plain_line (accept pos n d) (next ∷ []) (doing_place d (suc at) next ∷ []) a i (k, tt) (doing_place_in d (suc at) next (omega (arith, h)) k, tt)) (doing_in d (suc at) next a.out (omega (arith, h)) k i.out)
+        one_and (plain_line (accept pos n d) (next ∷ []) (doing_place d (suc at) next ∷ []) a i (k, tt) (doing_place_in d (suc at) next (omega (arith, h)) k, tt)) (doing_in d at (suc at) next a.out (omega (arith, h)) k i.out)
     statement_in (select pos offered p) at next a h k i =
         let e = ways_count a in
         let second = suc at + offered_size offered e in
         let places = offers_in offered (suc at) next e (omega (arith, h)) k in
         one_and (plain_line (select pos offered p) (part_place p second next ∷ parts_from offered (suc at) next e) (at ∷ bodies_from offered (suc at) next e) a i (part_place_in p second next (omega (arith, h)) k, places.0) (omega (arith, h), places.1))
-        (both (offered_in offered (suc at) next a (omega (arith, h)) k i) (part_in p second next a (omega (arith, h)) k i))
+        (both (offered_in offered at (suc at) next a (omega (arith, h)) k i) (part_in p second next a (omega (arith, h)) k i))
     statement_in (exit pos n c) at next a h k i = way_line (exit pos n c) next _ a k (exit_in a.exits n next i.exits k) i
     statement_in (return pos) at next a h k i = way_line (return pos) next a.back a k i.back i
     statement_in (return_value pos e) at next a h k i = way_line (return_value pos e) next a.back a k i.back i
@@ -200,18 +200,18 @@ module _ (T : ℕ) where
         (one_and (record { out = last_in; ways = tt; bodies = tt; exit = tt; what = guards_in hs (suc guard) e (omega (arith, h)); at = tt })
         (both (handlers_in hs (suc guard) last (around_out last a) (omega (arith, h)) last_in (out_in last a last_in i)) (one_and (record { out = o; ways = tt; bodies = tt; exit = tt; what = k; at = tt }) no_lines))))
 
-    doing_in : (d : Doing) (at next out : ℕ) → at + doing_size d ≤ T → next ≤ T → out ≤ T → LinesIn (doing_code d at next out)
-    doing_in without_do at next out h k o = no_lines
-    doing_in (with_do n b) at next out h k o =
+    doing_in : (d : Doing) (opener at next out : ℕ) → at + doing_size d ≤ T → next ≤ T → out ≤ T → LinesIn (doing_code d opener at next out)
+    doing_in without_do opener at next out h k o = no_lines
+    doing_in (with_do n b) opener at next out h k o =
         let fits = last_is one_line b at 1 in
-        body_in construct.Accept b at next out (in_call (end_place b at 1)) h k o (call_in (end_place b at 1) (omega (arith, h, fits)))
+        body_in construct.Accept b at next out (in_call (Some opener) (end_place b at 1)) h k o (call_in (Some opener) (end_place b at 1) (omega (arith, h, fits)))
 
-    offered_in : (x : Alternatives) (at next : ℕ) (a : Around) → at + offered_size x (ways_count a) ≤ T → next ≤ T → AroundIn a → LinesIn (offered_code x at next a)
-    offered_in no_alternatives at next a h k i = no_lines
-    offered_in (accepting g pos n d p more) at next a h k i =
+    offered_in : (x : Alternatives) (opener at next : ℕ) (a : Around) → at + offered_size x (ways_count a) ≤ T → next ≤ T → AroundIn a → LinesIn (offered_code x opener at next a)
+    offered_in no_alternatives opener at next a h k i = no_lines
+    offered_in (accepting g pos n d p more) opener at next a h k i =
         let after = at + doing_size d in
-        both (doing_in d at (part_place p after next) a.out (omega (arith, h)) (part_place_in p after next (omega (arith, h)) k) i.out)
-        (both (part_in p after next a (omega (arith, h)) k i) (offered_in more (after + part_size p (ways_count a)) next a (omega (arith, h)) k i))
-    offered_in (delaying g x p more) at next a h k i =
-        both (part_in p at next a (omega (arith, h)) k i) (offered_in more (at + part_size p (ways_count a)) next a (omega (arith, h)) k i)
-    offered_in (terminating g more) at next a h k i = offered_in more at next a h k i
+        both (doing_in d opener at (part_place p after next) a.out (omega (arith, h)) (part_place_in p after next (omega (arith, h)) k) i.out)
+        (both (part_in p after next a (omega (arith, h)) k i) (offered_in more opener (after + part_size p (ways_count a)) next a (omega (arith, h)) k i))
+    offered_in (delaying g x p more) opener at next a h k i =
+        both (part_in p at next a (omega (arith, h)) k i) (offered_in more opener (at + part_size p (ways_count a)) next a (omega (arith, h)) k i)
+    offered_in (terminating g more) opener at next a h k i = offered_in more opener at next a h k i

@@ -1,5 +1,5 @@
 -- The code of a program is its layout with the places of instructions: each place of the layout moves to where its step begins.
-use Rattle.std.proofs.Common.{◌≡◌, ℕ, suc, ◌+◌, List, [], ◌∷◌, ◌++◌, map, refl, sym, ap, ◌∙◌, append-nil}
+use Rattle.std.proofs.Common.{◌≡◌, ℕ, suc, ◌+◌, List, [], ◌∷◌, ◌++◌, map, Some, None, refl, sym, ap, ◌∙◌, append-nil}
 use Rattle.aud_typed.specs.Tree.{Statement, sequence, declare, if_then, plain_loop, while_loop, for_loop, exit, return, return_value, block, entry_call, accept, select, Part, nothing, some, Handlers, no_handlers, handler, Body, body, Doing, without_do, with_do, Alternatives, no_alternatives, accepting, delaying, terminating}
 use Rattle.aud_meaning.specs.declared.state.Construct.{Construct}
 use Rattle.aud_meaning.specs.declared.state.Construct.TheVariants as construct
@@ -12,7 +12,7 @@ use Rattle.aud_gen.specs.Shows.{HasAt}
 use Rattle.aud_gen.proofs.Standing.Places.{has_moved, has_all, body_at, offer_has}
 use Rattle.aud_gen.proofs.Flat.Assembly.{offset_zero}
 use Rattle.aud_gen.proofs.Flat.Moving.{moved, Moves, none_moved, more_moved, same_lines, both_moved, count_moved, out_moved, loop_moved, for_moved, exit_moved}
-use Rattle.aud_gen.proofs.Flat.Parts.{place_more, one_place, two_places, part_place_moved, doing_place_moved, offers_moved, around_block, stubs_of_moved, out_same, line_same, line_out, line_alone, next_moved, guard_moved_to, end_moved}
+use Rattle.aud_gen.proofs.Flat.Parts.{place_more, one_place, two_places, part_place_moved, doing_place_moved, offers_moved, around_block, stubs_of_moved, out_same, within_same, line_same, line_out, line_alone, next_moved, guard_moved_to, end_moved}
 use Rattle.aud_gen.proofs.Standing.Sizes.{last_is, count-block}
 use Rattle.aud_gen.proofs.Flat.Behind.{behind_line, behind_plain, statement_and, part_and, offered_and, body_and, Halves, behind_main, passed_body, passed_offer}
 
@@ -43,22 +43,22 @@ module _ (lines : List Line) where
         let inside = behind_plain lines _ _ (suc at) _ refl own.rest own.behind in
         let ways = two_places lines next (suc (suc at)) next' _ en inside in
         more_moved F (line_same lines (for_loop f x y z) _ [] _ [] a b ways refl eb)
-        (more_moved F (next_moved lines f a b _ _ ways eb) (statement_moved z (suc (suc at)) (suc at) (in_for next a) _ _ (in_for next' b) after.rest inside own.behind (for_moved F next next' a b en eb)))
+        (more_moved F (next_moved lines f at at' a b _ _ ea ways eb) (statement_moved z (suc (suc at)) (suc at) (in_for at next a) _ _ (in_for at' next' b) after.rest inside own.behind (for_moved F at at' next next' a b ea en eb)))
     statement_moved (block pos n x) at next a at' next' b h ea en eb =
         let w = ways_count a in
         let end = end_place x (suc at) w in
-        let inner = in_block end a in
+        let inner = in_block at end a in
         let own = behind_line lines _ _ at at' h ea in
-        let counts = count-block end a ∙ count_moved F a b eb in
+        let counts = count-block at end a ∙ count_moved F a b eb in
         let it = body_and lines construct.Block x (suc at) next a.out inner _ _ _ own.rest own.behind counts in
-        let ends : F end ≡ end_place_by flat_step x (suc (at' + _)) (ways_count b) = ap (λ k. F (end_place x (suc at) k)) (sym (count-block end a)) ∙ behind_main lines construct.Block x (suc at) next a.out inner _ _ it.front own.behind counts in
-        let same : suc at + body_size x (ways_count inner) ≡ suc end = ap (λ k. suc at + body_size x k) (count-block end a) ∙ sym (last_is one_line x (suc at) w) in
-        let hs = has_moved lines _ _ (stubs_of x (a.exits ++ a.back ∷ []) (suc end)) same it.back in
+        let ends : F end ≡ end_place_by flat_step x (suc (at' + _)) (ways_count b) = ap (λ k. F (end_place x (suc at) k)) (sym (count-block at end a)) ∙ behind_main lines construct.Block x (suc at) next a.out inner _ _ it.front own.behind counts in
+        let same : suc at + body_size x (ways_count inner) ≡ suc end = ap (λ k. suc at + body_size x k) (count-block at end a) ∙ sym (last_is one_line x (suc at) w) in
+        let hs = has_moved lines _ _ (stubs_of x (a.exits ++ a.back ∷ []) (Some at) (suc end)) same it.back in
         let past : F (suc end) ≡ suc (end_place_by flat_step x _ (ways_count b)) = ap F (sym same) ∙ it.behind ∙ sym (last_is flat_step x _ (ways_count b)) in
         more_moved F (line_same lines (block pos n x) _ [] _ [] a b (two_places lines next (suc at) next' _ en own.behind) refl eb)
         (both_moved F
-        (body_moved construct.Block x (suc at) next a.out inner _ next' b.out _ it.front own.behind en (out_same lines a b eb) (around_block lines x end _ a b hs ends past eb))
-        (stubs_of_moved lines x a b (suc end) _ hs past eb))
+        (body_moved construct.Block x (suc at) next a.out inner _ next' b.out _ it.front own.behind en (out_same lines a b eb) (around_block lines x at at' end _ a b hs ea ends past eb))
+        (stubs_of_moved lines x a b at at' (suc end) _ hs ea past eb))
     statement_moved (entry_call pos c p q) at next a at' next' b h ea en eb =
         let own = behind_line lines _ _ at at' h ea in
         let it = part_and lines p (suc at) next a _ _ _ own.rest own.behind (count_moved F a b eb) in
@@ -69,15 +69,15 @@ module _ (lines : List Line) where
         let own = behind_line lines _ _ at at' h ea in
         more_moved F
         (line_same lines (accept pos n d) _ _ _ _ a b (one_place lines next next' en) (one_place lines _ _ (doing_place_moved lines d (suc at) next _ next' own.behind en)) eb)
-        (doing_moved d (suc at) next a.out _ next' b.out own.rest own.behind en (out_same lines a b eb))
+        (doing_moved d at (suc at) next a.out at' _ next' b.out own.rest ea own.behind en (out_same lines a b eb))
     statement_moved (select pos offered p) at next a at' next' b h ea en eb =
         let own = behind_line lines _ _ at at' h ea in
         let ec = count_moved F a b eb in
-        let it = offered_and lines offered (suc at) next a _ _ _ own.rest own.behind ec in
-        let places = offers_moved lines offered (suc at) next a _ next' _ it.front own.behind en ec in
+        let it = offered_and lines offered at (suc at) next a _ _ _ own.rest own.behind ec in
+        let places = offers_moved lines offered at (suc at) next a _ next' _ it.front own.behind en ec in
         let ways = place_more lines _ _ _ _ (part_place_moved lines p _ next _ next' it.behind en) places.parts in
         more_moved F (line_same lines (select pos offered p) _ _ _ _ a b ways (place_more lines at at' _ _ ea places.bodies) eb)
-        (both_moved F (offered_moved offered (suc at) next a _ next' b it.front own.behind en eb) (part_moved p _ next a _ next' b it.back it.behind en eb))
+        (both_moved F (offered_moved offered at (suc at) next a at' _ next' b it.front ea own.behind en eb) (part_moved p _ next a _ next' b it.back it.behind en eb))
     statement_moved (exit pos n c) at next a at' next' b h ea en eb = line_out lines (exit pos n c) next next' _ _ a b en (exit_moved F a b n next next' en eb) eb
     statement_moved (return pos) at next a at' next' b h ea en eb = line_out lines (return pos) next next' _ _ a b en (ap (λ (c : Around). c.back) eb) eb
     statement_moved (return_value pos x) at next a at' next' b h ea en eb = line_out lines (return_value pos x) next next' _ _ a b en (ap (λ (c : Around). c.back) eb) eb
@@ -104,28 +104,29 @@ module _ (lines : List Line) where
         let al = out_moved F last _ a b is.handlers eb in
         both_moved F (part_moved d at _ (around_out last a) at' _ _ it.declarations ea is.declarations al)
         (both_moved F (statement_moved s _ last (around_out guard a) _ _ _ it.main.statements is.declarations is.handlers (out_moved F guard _ a b is.statements eb))
-        (more_moved F (guard_moved_to lines hs end (suc guard) last (around_out last a) _ _ _ it.main.handlers is.guarding is.handlers ec)
-        (both_moved F (handlers_moved hs (suc guard) last (around_out last a) _ _ _ it.main.handlers is.guarding is.handlers al) (end_moved lines c end next out next' out' en eo))))
+        (more_moved F (guard_moved_to lines hs end (suc guard) last (around_out last a) _ _ _ b.within it.main.handlers is.guarding is.handlers ec (within_same lines a b eb))
+        (both_moved F (handlers_moved hs (suc guard) last (around_out last a) _ _ _ it.main.handlers is.guarding is.handlers al) (end_moved lines c end next out next' out' a.within b.within en eo (within_same lines a b eb)))))
 
-    doing_moved : (d : Doing) (at next out : ℕ) (at' next' out' : ℕ) → HasAt lines at (doing_code d at next out) → F at ≡ at' → F next ≡ next' → F out ≡ out' → Moves F (doing_code d at next out) (doing_code_by flat_step d at' next' out')
-    doing_moved without_do at next out at' next' out' h ea en eo = none_moved F
-    doing_moved (with_do n x) at next out at' next' out' h ea en eo =
-        let inner = in_call (end_place x at 1) in
+    doing_moved : (d : Doing) (opener at next out : ℕ) (opener' at' next' out' : ℕ) → HasAt lines at (doing_code d opener at next out) → F opener ≡ opener' → F at ≡ at' → F next ≡ next' → F out ≡ out' → Moves F (doing_code d opener at next out) (doing_code_by flat_step d opener' at' next' out')
+    doing_moved without_do opener at next out opener' at' next' out' h ep ea en eo = none_moved F
+    doing_moved (with_do n x) opener at next out opener' at' next' out' h ep ea en eo =
+        let inner = in_call (Some opener) (end_place x at 1) in
+        let last' = end_place_by flat_step x at' 1 in
         let ends = behind_main lines construct.Accept x at next out inner at' 1 h ea refl in
-        body_moved construct.Accept x at next out inner at' next' out' _ h ea en eo (ap in_call ends)
+        body_moved construct.Accept x at next out inner at' next' out' (in_call (Some opener') last') h ea en eo (ap (in_call (Some (F opener))) ends ∙ ap (λ p. in_call (Some p) last') ep)
 
-    offered_moved : (o : Alternatives) (at next : ℕ) (a : Around) (at' next' : ℕ) (b : Around) → HasAt lines at (offered_code o at next a) → F at ≡ at' → F next ≡ next' → moved F a ≡ b → Moves F (offered_code o at next a) (offered_code_by flat_step o at' next' b)
-    offered_moved no_alternatives at next a at' next' b h ea en eb = none_moved F
-    offered_moved (accepting g pos n d p more) at next a at' next' b h ea en eb =
+    offered_moved : (o : Alternatives) (opener at next : ℕ) (a : Around) (opener' at' next' : ℕ) (b : Around) → HasAt lines at (offered_code o opener at next a) → F opener ≡ opener' → F at ≡ at' → F next ≡ next' → moved F a ≡ b → Moves F (offered_code o opener at next a) (offered_code_by flat_step o opener' at' next' b)
+    offered_moved no_alternatives opener at next a opener' at' next' b h ep ea en eb = none_moved F
+    offered_moved (accepting g pos n d p more) opener at next a opener' at' next' b h ep ea en eb =
         let after = at + doing_size d in
-        let it = offer_has lines d p more at next a h in
-        let is = passed_offer lines d p more at next a at' _ it ea (count_moved F a b eb) in
-        both_moved F (doing_moved d at (part_place p after next) a.out at' _ _ it.doing ea (part_place_moved lines p after next _ next' is.after en) (out_same lines a b eb))
-        (both_moved F (part_moved p after next a _ next' b it.part is.after en eb) (offered_moved more _ next a _ next' b it.others is.later en eb))
-    offered_moved (delaying g x p more) at next a at' next' b h ea en eb =
+        let it = offer_has lines d p more opener at next a h in
+        let is = passed_offer lines d p more opener at next a at' _ it ea (count_moved F a b eb) in
+        both_moved F (doing_moved d opener at (part_place p after next) a.out opener' at' _ _ it.doing ep ea (part_place_moved lines p after next _ next' is.after en) (out_same lines a b eb))
+        (both_moved F (part_moved p after next a _ next' b it.part is.after en eb) (offered_moved more opener _ next a opener' _ next' b it.others ep is.later en eb))
+    offered_moved (delaying g x p more) opener at next a opener' at' next' b h ep ea en eb =
         let it = part_and lines p at next a _ at' _ h ea (count_moved F a b eb) in
-        both_moved F (part_moved p at next a at' next' b it.front ea en eb) (offered_moved more _ next a _ next' b it.back it.behind en eb)
-    offered_moved (terminating g more) at next a at' next' b h ea en eb = offered_moved more at next a at' next' b h ea en eb
+        both_moved F (part_moved p at next a at' next' b it.front ea en eb) (offered_moved more opener _ next a opener' _ next' b it.back ep it.behind en eb)
+    offered_moved (terminating g more) opener at next a opener' at' next' b h ep ea en eb = offered_moved more opener at next a opener' at' next' b h ep ea en eb
 
   -- Bodies, one after the other.
 
@@ -133,11 +134,11 @@ module _ (lines : List Line) where
     unit_moved : (x : Body) (at at' : ℕ) → HasAt lines at (unit_code x at) → F at ≡ at' → Moves F (unit_code x at) (unit_code_by flat_step x at')
     unit_moved x at at' h e =
         let end = end_place x at 1 in
-        let ends = behind_main lines construct.Unit x at 0 end (in_call end) at' 1 h e refl in
-        body_moved construct.Unit x at 0 end (in_call end) at' 0 _ _ h e zero_is ends (ap in_call ends)
+        let ends = behind_main lines construct.Unit x at 0 end (in_call None end) at' 1 h e refl in
+        body_moved construct.Unit x at 0 end (in_call None end) at' 0 _ _ h e zero_is ends (ap (in_call None) ends)
 
     unit_and : (x : Body) (at : ℕ) (more : List Line) (at' : ℕ) → HasAt lines at (unit_code x at ++ more) → F at ≡ at' → Halves lines (unit_code x at) more at (body_size x 1) at' (body_size_by flat_step x 1)
-    unit_and x at more at' h e = body_and lines construct.Unit x at 0 _ (in_call (end_place x at 1)) more at' 1 h e refl
+    unit_and x at more at' h e = body_and lines construct.Unit x at 0 _ (in_call None (end_place x at 1)) more at' 1 h e refl
 
     units_moved : (xs : List Body) (at at' : ℕ) → HasAt lines at (units_code xs at) → F at ≡ at' → Moves F (units_code xs at) (units_code_by flat_step xs at')
     units_moved [] at at' h e = unit_moved no_body at at' h e

@@ -23,8 +23,8 @@ unit_stands : (code : Code) (b : Body) (place : ℕ) (returns : List ℕ) (rest 
 unit_stands code (body d begin s h end) place returns rest has callers =
     let b = body d begin s h end in
     let last = end_place b place 1 in
-    let all = has_same code.lines place _ _ (sym (append-nil (body_code construct.Unit b place 0 last (in_call last)))) has in
-    body_stands code returns construct.Unit b (in_call last) place 0 last rest has (refl, refl, has_end code construct.Unit d begin s h end place 0 last (in_call last) [] all, callers)
+    let all = has_same code.lines place _ _ (sym (append-nil (body_code construct.Unit b place 0 last (in_call None last)))) has in
+    body_stands code returns construct.Unit b (in_call None last) place 0 last rest has (refl, refl, has_end code construct.Unit d begin s h end place 0 last (in_call None last) [] all, callers)
 
 same_handled : (program : Program) (code : Code) (x : Exception) (m : Spot) (c : List Item) → ShowsControl code m c → is_there (handler_at program code x m) ≡ is_some_part (reached_at x c).handler
 same_handled program code x m c h =

@@ -1,5 +1,5 @@
 -- Where tasks go on.
-use Rattle.std.proofs.Common.{◌≡◌, ℕ, ◌+◌, List, [], ◌∷◌, ◌++◌, length, le_refl, inr, refl, sym, subst, arith, Option}
+use Rattle.std.proofs.Common.{◌≡◌, ℕ, ◌+◌, List, [], ◌∷◌, ◌++◌, length, le_refl, inr, refl, sym, subst, arith, Option, Some, None}
 use Rattle.std.proofs.lemmas.List.{get_or_past}
 use Rattle.aud_text.specs.declared.place.Pos.{Pos}
 use Rattle.aud_typed.specs.Tree.{Statement, sequence, plain_loop, Part, nothing, some, Handlers, Body, body, Doing, without_do, with_do}
@@ -31,7 +31,7 @@ module _ (code : Code) where
 
   -- nothing is left to do
   pub shown_none : ShowsControl code (at_place (length code.lines) []) []
-  shown_none = record { around = in_call (length code.lines); stands = (get_or_past code.lines (length code.lines) (no_line (length code.lines)) (le_refl (length code.lines)), refl, refl); settled = tt }
+  shown_none = record { around = in_call None (length code.lines); stands = (get_or_past code.lines (length code.lines) (no_line (length code.lines)) (le_refl (length code.lines)), refl, refl); settled = tt }
 
   module _ (returns : List ℕ) where
     comes_first : (s : Statement) (around : Around) (place next : ℕ) (rest : List Item) → IsStep s → HasAt code.lines place (statement_code s place next around) → Stands code around next returns rest → ShowsControl code (at_place place returns) (Do s ∷ rest)
@@ -49,7 +49,7 @@ module _ (code : Code) where
     enters s around place next rest has st = comes_first s around place next rest tt has st
 
     -- the statements of a construct, whose end stands behind them
-    pub main_stands : (c : Construct) (s : Statement) (h : Handlers) (end : Pos) (around : Around) (place next out : ℕ) (rest : List Item) → HasAt code.lines place (main_code c s h end place next out around) → EndsAt c (λ a p rs. Stands code a p rs rest) code end around.exits around.back (place + main_size s h (ways_count around)) returns rest → ShowsControl code (at_place place returns) (entered s (Ends c h end ∷ rest))
+    pub main_stands : (c : Construct) (s : Statement) (h : Handlers) (end : Pos) (around : Around) (place next out : ℕ) (rest : List Item) → HasAt code.lines place (main_code c s h end place next out around) → EndsAt c (λ a p rs. Stands code a p rs rest) code end around.exits around.back around.within (place + main_size s h (ways_count around)) returns rest → ShowsControl code (at_place place returns) (entered s (Ends c h end ∷ rest))
     main_stands c s h end around place next out rest has ends =
         let it = main_at code.lines c s h end place next out around [] (has_all code.lines place _ has) in
         enters s _ place _ (Ends c h end ∷ rest) it.statements (inr it.guarding, ends)
@@ -61,7 +61,7 @@ module _ (code : Code) where
     resumes (InLoop s ∷ rest) around place st = enters s st.1 place st.0 rest st.3 st.4
     resumes (InFor s ∷ rest) around place st = record { around = around; stands = st; settled = tt }
     resumes (Begin c s h end ∷ rest) around place st =
-        main_stands c s h end around place st.0 st.1 rest st.3 (subst (λ p. EndsAt c (λ a p rs. Stands code a p rs rest) code end around.exits around.back p returns rest) st.2 st.4)
+        main_stands c s h end around place st.0 st.1 rest st.3 (subst (λ p. EndsAt c (λ a p rs. Stands code a p rs rest) code end around.exits around.back around.within p returns rest) st.2 st.4)
     resumes (Ends c h end ∷ rest) around place st = record { around = around; stands = st; settled = tt }
     resumes (Leaving m end ∷ rest) around place st = record { around = around; stands = st; settled = tt }
 
@@ -69,7 +69,7 @@ module _ (code : Code) where
     end_of (body d begin s h end) = end
 
     -- a construct from its declarations on
-    pub body_stands : (c : Construct) (b : Body) (around : Around) (place next out : ℕ) (rest : List Item) → HasAt code.lines place (body_code c b place next out around) → EndsAt c (λ a p rs. Stands code a p rs rest) code (end_of b) around.exits around.back (end_place b place (ways_count around)) returns rest → ShowsControl code (at_place place returns) (body_before c b rest)
+    pub body_stands : (c : Construct) (b : Body) (around : Around) (place next out : ℕ) (rest : List Item) → HasAt code.lines place (body_code c b place next out around) → EndsAt c (λ a p rs. Stands code a p rs rest) code (end_of b) around.exits around.back around.within (end_place b place (ways_count around)) returns rest → ShowsControl code (at_place place returns) (body_before c b rest)
     body_stands c (body nothing begin s h end) around place next out rest has ends =
         let zero_more : place + 0 ≡ place = omega arith in
         let moved = has_moved code.lines place (place + 0) (main_code c s h end (place + 0) next out around) (sym zero_more) has in
@@ -93,14 +93,14 @@ module _ (code : Code) where
     part_stands p around place next rest has st = resumes (before p rest) around (part_place p place next) (before_stands p around place next rest has st)
 
   -- the end of a construct, and what stands behind it
-  pub has_end : (c : Construct) (d : Part) (begin : Pos) (s : Statement) (h : Handlers) (end : Pos) (place next out : ℕ) (a : Around) (more : List Line) → HasAt code.lines place (body_code c (body d begin s h end) place next out a ++ more) → HasAt code.lines (end_place (body d begin s h end) place (ways_count a)) (end_line c end next out ∷ more)
+  pub has_end : (c : Construct) (d : Part) (begin : Pos) (s : Statement) (h : Handlers) (end : Pos) (place next out : ℕ) (a : Around) (more : List Line) → HasAt code.lines place (body_code c (body d begin s h end) place next out a ++ more) → HasAt code.lines (end_place (body d begin s h end) place (ways_count a)) (end_line c end next out a.within ∷ more)
   has_end c d begin s h end place next out a more has = let it = body_at code.lines c d begin s h end place next out a more has in it.main.ended
 
   module _ (returns : List ℕ) where
     -- what an accept does
-    pub doing_stands : (d : Doing) (outer : Around) (place next : ℕ) (rest : List Item) → HasAt code.lines place (doing_code d place next outer.out) → Stands code outer next returns rest → ShowsControl code (at_place (doing_place d place next) returns) (doing_by d rest)
-    doing_stands without_do outer place next rest has st = resumes returns rest outer next st
-    doing_stands (with_do n (body d begin s h end)) outer place next rest has st =
+    pub doing_stands : (d : Doing) (outer : Around) (opener place next : ℕ) (rest : List Item) → HasAt code.lines place (doing_code d opener place next outer.out) → Stands code outer next returns rest → ShowsControl code (at_place (doing_place d place next) returns) (doing_by d rest)
+    doing_stands without_do outer opener place next rest has st = resumes returns rest outer next st
+    doing_stands (with_do n (body d begin s h end)) outer opener place next rest has st =
         let b = body d begin s h end in
-        let inner = in_call (end_place b place 1) in
+        let inner = in_call (Some opener) (end_place b place 1) in
         body_stands returns construct.Accept b inner place next outer.out rest has (next, outer, refl, refl, has_end construct.Accept d begin s h end place next outer.out inner [] (has_all code.lines place _ has), st)

@@ -17,16 +17,16 @@ use Rattle.aud_gen.proofs.Standing.Control.{first, at_place, shown_none, enters}
 
 module _ (code : Code) where
   -- from the line where a construct ends, and from the line before its handlers
-  left_end : (c : Construct) (end : Pos) (next to out : ℕ) (s : Spot) → line_at code out ≡ end_line c end next to → left_by code out s ≡ out_of_end code (ends c next) out s
-  left_end c end next to out s e =
+  left_end : (c : Construct) (end : Pos) (next to : ℕ) (within : Option ℕ) (out : ℕ) (s : Spot) → line_at code out ≡ end_line c end next to within → left_by code out s ≡ out_of_end code (ends c next) out s
+  left_end c end next to within out s e =
       ap (λ (l : Line). out_of_end code (line_at code (end_by code l.what out)).what (end_by code l.what out) s) e ∙ ap (λ (l : Line). out_of_end code l.what out s) e
 
-  left_stub : (m to place : ℕ) (end : Pos) (s : Spot) → line_at code place ≡ stub_line m to end place → left_by code place s ≡ goes place s
-  left_stub m to place end s e =
+  left_stub : (m to place : ℕ) (end : Pos) (within : Option ℕ) (s : Spot) → line_at code place ≡ stub_line m to end within place → left_by code place s ≡ goes place s
+  left_stub m to place end within s e =
       ap (λ (l : Line). out_of_end code (line_at code (end_by code l.what place)).what (end_by code l.what place) s) e ∙ ap (λ (l : Line). out_of_end code l.what place s) e
 
-  left_guard : (c : Construct) (end : Pos) (next to guard handling last e : ℕ) (h : Handlers) (s : Spot) → line_at code guard ≡ guard_line h end handling last e → line_at code last ≡ end_line c end next to → left_by code guard s ≡ out_of_end code (ends c next) last s
-  left_guard c end next to guard handling last e h s g l =
+  left_guard : (c : Construct) (end : Pos) (next to guard handling last e : ℕ) (within : Option ℕ) (h : Handlers) (s : Spot) → line_at code guard ≡ guard_line h end handling last e within → line_at code last ≡ end_line c end next to within → left_by code guard s ≡ out_of_end code (ends c next) last s
+  left_guard c end next to guard handling last e within h s g l =
       ap (λ (l : Line). out_of_end code (line_at code (end_by code l.what guard)).what (end_by code l.what guard) s) g
       ∙ ap (λ (l : Line). out_of_end code (line_at code l.out).what l.out s) g
       ∙ ap (λ (l : Line). out_of_end code l.what last s) l
@@ -59,26 +59,26 @@ module _ (code : Code) where
         (catches_in x more around (at + size) last from (has_back code.lines at size cs cm (length-statement s at last around) has) st)
 
     -- out of a construct
-    end_shown : (c : Construct) (end : Pos) (exits : List Way) (back : Way) (next place : ℕ) (rest : List Item) (p : ℕ) → EndsAt c (λ a p rs. Stands code a p rs rest) code end exits back place returns rest → ShowsControl code (out_of_end code (ends c next) place (at_place code p returns)) (left_from (Ends c no_handlers end ∷ rest))
-    end_shown construct.Block end exits back next place rest p es = record { around = record { out = place; exits = exits; back = back }; stands = (inl (refl, refl), es); settled = tt }
-    end_shown construct.Accept end exits back next place rest p es = record { around = record { out = place; exits = exits; back = back }; stands = (inl (refl, refl), es); settled = tt }
-    end_shown construct.Unit end exits back next place rest p es = callers_shown code returns rest returns es.3
+    end_shown : (c : Construct) (end : Pos) (exits : List Way) (back : Way) (within : Option ℕ) (next place : ℕ) (rest : List Item) (p : ℕ) → EndsAt c (λ a p rs. Stands code a p rs rest) code end exits back within place returns rest → ShowsControl code (out_of_end code (ends c next) place (at_place code p returns)) (left_from (Ends c no_handlers end ∷ rest))
+    end_shown construct.Block end exits back within next place rest p es = record { around = record { out = place; within = within; exits = exits; back = back }; stands = (inl (refl, refl), es); settled = tt }
+    end_shown construct.Accept end exits back within next place rest p es = record { around = record { out = place; within = within; exits = exits; back = back }; stands = (inl (refl, refl), es); settled = tt }
+    end_shown construct.Unit end exits back within next place rest p es = callers_shown code returns rest returns es.3
 
     -- where there is no handler
     none_caught : (w : Option ℕ) (from : List Item) → w ≡ None → Catches nothing w from
     none_caught w from e = subst (λ v. Catches nothing v from) (sym e) tt
 
-    leads_end : (x : Exception) (c : Construct) (end : Pos) (exits : List Way) (back : Way) (place : ℕ) (rest : List Item) → EndsAt c (λ a p rs. Stands code a p rs rest) code end exits back place returns rest → LeadsOut place x (record { handler = nothing; from = Ends c no_handlers end ∷ rest })
-    leads_end x c end exits back place rest es =
-        let l = end_is code returns c end exits back place rest es in
+    leads_end : (x : Exception) (c : Construct) (end : Pos) (exits : List Way) (back : Way) (within : Option ℕ) (place : ℕ) (rest : List Item) → EndsAt c (λ a p rs. Stands code a p rs rest) code end exits back within place returns rest → LeadsOut place x (record { handler = nothing; from = Ends c no_handlers end ∷ rest })
+    leads_end x c end exits back within place rest es =
+        let l = end_is code returns c end exits back within place rest es in
         record {
           catches = none_caught (handler_by (line_at code place).what x) (Ends c no_handlers end ∷ rest) (ap (λ (l : Line). handler_by l.what x) l.2);
-          left = λ p. subst (λ s. ShowsControl code s (left_from (Ends c no_handlers end ∷ rest))) (sym (left_end c end l.0 l.1 place (at_place code p returns) l.2)) (end_shown c end exits back l.0 place rest p es);
+          left = λ p. subst (λ s. ShowsControl code s (left_from (Ends c no_handlers end ∷ rest))) (sym (left_end c end l.0 l.1 within place (at_place code p returns) l.2)) (end_shown c end exits back within l.0 place rest p es);
         }
 
-    leads_guard : (x : Exception) (c : Construct) (h : Handlers) (end : Pos) (around : Around) (place : ℕ) (rest : List Item) → HandlersAt code around place end h → EndsAt c (λ a p rs. Stands code a p rs rest) code end around.exits around.back place returns rest → LeadsOut around.out x (record { handler = handler_for x h; from = Ends c no_handlers end ∷ rest })
+    leads_guard : (x : Exception) (c : Construct) (h : Handlers) (end : Pos) (around : Around) (place : ℕ) (rest : List Item) → HandlersAt code around place end h → EndsAt c (λ a p rs. Stands code a p rs rest) code end around.exits around.back around.within place returns rest → LeadsOut around.out x (record { handler = handler_for x h; from = Ends c no_handlers end ∷ rest })
     leads_guard x c h end around place rest (inl none) es =
-        let at_end = leads_end x c end around.exits around.back place rest es in
+        let at_end = leads_end x c end around.exits around.back around.within place rest es in
         let from = Ends c no_handlers end ∷ rest in
         let one = subst (λ o. LeadsOut o x (record { handler = nothing; from = from })) (sym none.1) at_end in
         subst (λ g. LeadsOut around.out x (record { handler = handler_for x g; from = from })) (sym none.0) one
@@ -86,12 +86,12 @@ module _ (code : Code) where
         let from = Ends c no_handlers end ∷ rest in
         let e = ways_count around in
         let g = line_is code around.out _ _ has in
-        let l = end_is code returns c end around.exits around.back place rest es in
+        let l = end_is code returns c end around.exits around.back around.within place rest es in
         let at_end : Stands code (around_out place around) place returns from = (inl (refl, refl), es) in
         let caught = catches_in x h (around_out place around) (suc around.out) place from (has_tail code.lines around.out _ _ has) at_end in
         record {
           catches = subst (λ (l : Line). Catches (handler_for x h) (handler_by l.what x) from) (sym g) caught;
-          left = λ p. subst (λ s. ShowsControl code s (left_from from)) (sym (left_guard c end l.0 l.1 around.out (suc around.out) place e h (at_place code p returns) g l.2)) (end_shown c end around.exits around.back l.0 place rest p es);
+          left = λ p. subst (λ s. ShowsControl code s (left_from from)) (sym (left_guard c end l.0 l.1 around.out (suc around.out) place e around.within h (at_place code p returns) g l.2)) (end_shown c end around.exits around.back around.within l.0 place rest p es);
         }
 
     -- nothing is left to do
@@ -100,7 +100,7 @@ module _ (code : Code) where
         let shown : ShowsControl code (back_to code returns) [] = subst (λ rs. ShowsControl code (back_to code rs) []) (sym r) (shown_none code) in
         record {
           catches = none_caught (handler_by (line_at code place).what x) [] (ap (λ (l : Line). handler_by l.what x) e);
-          left = λ p. subst (λ s. ShowsControl code s []) (sym (left_end construct.Unit nowhere 0 place place (at_place code p returns) e)) shown;
+          left = λ p. subst (λ s. ShowsControl code s []) (sym (left_end construct.Unit nowhere 0 place None place (at_place code p returns) e)) shown;
         }
 
     -- a block on the way out
@@ -109,7 +109,7 @@ module _ (code : Code) where
         let l = line_is code place _ _ st.3 in
         record {
           catches = none_caught (handler_by (line_at code place).what x) (Leaving m end ∷ rest) (ap (λ (l : Line). handler_by l.what x) l);
-          left = λ p. subst (λ s. ShowsControl code s (Leaving m end ∷ rest)) (sym (left_stub m st.0 place end (at_place code p returns) l)) (record { around = around; stands = st; settled = tt });
+          left = λ p. subst (λ s. ShowsControl code s (Leaving m end ∷ rest)) (sym (left_stub m st.0 place end around.within (at_place code p returns) l)) (record { around = around; stands = st; settled = tt });
         }
 
     leads : (x : Exception) (items : List Item) (around : Around) (place : ℕ) → Stands code around place returns items → LeadsOut around.out x (reached x items)
@@ -117,15 +117,15 @@ module _ (code : Code) where
     leads x (Do s ∷ rest) around place st = leads x rest around st.0 st.2
     leads x (InLoop s ∷ rest) around place st = subst (λ (a : Around). LeadsOut a.out x (reached x rest)) (sym st.2) (leads x rest st.1 st.0 st.4)
     leads x (InFor s ∷ rest) around place st = subst (λ (a : Around). LeadsOut a.out x (reached x rest)) (sym st.4) (leads x rest st.1 st.0 st.7)
-    leads x (Begin c s h end ∷ rest) around place st = leads_end x c end around.exits around.back around.out rest st.4
+    leads x (Begin c s h end ∷ rest) around place st = leads_end x c end around.exits around.back around.within around.out rest st.4
     leads x (Ends c h end ∷ rest) around place st = leads_guard x c h end around place rest st.0 st.1
     leads x (Leaving m end ∷ rest) around place st = subst (λ (a : Around). LeadsOut a.out x (record { handler = nothing; from = Leaving m end ∷ rest })) (sym st.2) (leads_leaving x m end rest around place st)
 
-    leads_behind : (x : Exception) (c : Construct) (h : Handlers) (end : Pos) (exits : List Way) (back : Way) (place : ℕ) (rest : List Item) → EndsAt c (λ a p rs. Stands code a p rs rest) code end exits back place returns rest → LeadsOut (line_at code place).out x (reached_behind c end x rest)
-    leads_behind x construct.Block h end exits back place rest es = subst (λ (l : Line). LeadsOut l.out x (reached x rest)) (sym (line_is code place _ _ es.4)) (leads x rest es.1 es.0 es.5)
-    leads_behind x construct.Accept h end exits back place rest es = subst (λ (l : Line). LeadsOut l.out x (reached x rest)) (sym (line_is code place _ _ es.4)) (leads x rest es.1 es.0 es.5)
-    leads_behind x construct.Unit h end exits back place rest es =
-        subst (λ (l : Line). LeadsOut l.out x (record { handler = nothing; from = Ends construct.Unit no_handlers end ∷ rest })) (sym (line_is code place _ _ es.2)) (leads_end x construct.Unit end exits back place rest es)
+    leads_behind : (x : Exception) (c : Construct) (h : Handlers) (end : Pos) (exits : List Way) (back : Way) (within : Option ℕ) (place : ℕ) (rest : List Item) → EndsAt c (λ a p rs. Stands code a p rs rest) code end exits back within place returns rest → LeadsOut (line_at code place).out x (reached_behind c end x rest)
+    leads_behind x construct.Block h end exits back within place rest es = subst (λ (l : Line). LeadsOut l.out x (reached x rest)) (sym (line_is code place _ _ es.4)) (leads x rest es.1 es.0 es.5)
+    leads_behind x construct.Accept h end exits back within place rest es = subst (λ (l : Line). LeadsOut l.out x (reached x rest)) (sym (line_is code place _ _ es.4)) (leads x rest es.1 es.0 es.5)
+    leads_behind x construct.Unit h end exits back within place rest es =
+        subst (λ (l : Line). LeadsOut l.out x (record { handler = nothing; from = Ends construct.Unit no_handlers end ∷ rest })) (sym (line_is code place _ _ es.2)) (leads_end x construct.Unit end exits back within place rest es)
 
     -- from where a task stands
     pub leads_at : (x : Exception) (items : List Item) (around : Around) (place : ℕ) → Stands code around place returns items → IsSettled items → LeadsOut (line_at code place).out x (reached_at x items)
@@ -137,7 +137,7 @@ module _ (code : Code) where
         let l = for_is code s st.2 st.0 st.1 st.5 st.6 in
         subst (λ (l : Line). LeadsOut l.out x (reached x rest)) (sym (ap (line_at code) st.3 ∙ l.1)) (leads x rest st.1 st.0 st.7)
     leads_at x (Begin c s h end ∷ rest) around place st is = absurd is
-    leads_at x (Ends c h end ∷ rest) around place st is = leads_behind x c h end around.exits around.back place rest st.1
+    leads_at x (Ends c h end ∷ rest) around place st is = leads_behind x c h end around.exits around.back around.within place rest st.1
     leads_at x (Leaving m end ∷ rest) around place st is =
         subst (λ (l : Line). LeadsOut l.out x (record { handler = nothing; from = Leaving m end ∷ rest })) (sym (line_is code place _ _ st.3)) (leads_leaving x m end rest around place st)
 

@@ -1,5 +1,5 @@
 -- Where the code of each part stands.
-use Rattle.std.proofs.Common.{◌≡◌, ℕ, zero, suc, ◌+◌, List, [], ◌∷◌, ◌++◌, length, drop, get_or, refl, sym, ap, ◌∙◌, subst, arith, append_assoc, append-nil}
+use Rattle.std.proofs.Common.{◌≡◌, ℕ, zero, suc, ◌+◌, List, [], ◌∷◌, ◌++◌, length, drop, get_or, None, refl, sym, ap, ◌∙◌, subst, arith, append_assoc, append-nil}
 use Rattle.std.proofs.lemmas.List.{drop-drop, drop_at, get_or-drop}
 use Rattle.aud_text.specs.declared.place.Pos.{Pos}
 use Rattle.aud_typed.specs.Tree.{Statement, Part, Handlers, Body, body, Doing, Alternatives, Program}
@@ -74,11 +74,11 @@ length-handlers h at next a = length_by (total-handlers one_line adds_one one_li
 pub length-body : (c : Construct) (b : Body) (at next out : ℕ) (a : Around) → length (body_code c b at next out a) ≡ body_size b (ways_count a)
 length-body c b at next out a = length_by (total-body one_line adds_one one_line c b at next out a)
 
-pub length-doing : (d : Doing) (at next out : ℕ) → length (doing_code d at next out) ≡ doing_size d
-length-doing d at next out = length_by (total-doing one_line adds_one one_line d at next out)
+pub length-doing : (d : Doing) (opener at next out : ℕ) → length (doing_code d opener at next out) ≡ doing_size d
+length-doing d opener at next out = length_by (total-doing one_line adds_one one_line d opener at next out)
 
-pub length-offered : (o : Alternatives) (at next : ℕ) (a : Around) → length (offered_code o at next a) ≡ offered_size o (ways_count a)
-length-offered o at next a = length_by (total-offered one_line adds_one one_line o at next a)
+pub length-offered : (o : Alternatives) (opener at next : ℕ) (a : Around) → length (offered_code o opener at next a) ≡ offered_size o (ways_count a)
+length-offered o opener at next a = length_by (total-offered one_line adds_one one_line o opener at next a)
 
 -- The parts of a construct, each where it stands; more lines may stand behind its end.
 
@@ -92,16 +92,16 @@ module _ (lines : List Line) (c : Construct) (s : Statement) (h : Handlers) (end
   pub record MainAt (more : List Line) : Type 0 where
     pub statements : HasAt lines first (statement_code s first last (around_out guard a))
     -- the line that guards them
-    pub guarding : HasAt lines guard (guard_line h end (suc guard) last (ways_count a) ∷ handlers_code h (suc guard) last (around_out last a))
+    pub guarding : HasAt lines guard (guard_line h end (suc guard) last (ways_count a) a.within ∷ handlers_code h (suc guard) last (around_out last a))
     pub handlers : HasAt lines (suc guard) (handlers_code h (suc guard) last (around_out last a))
-    pub ended : HasAt lines last (end_line c end next out ∷ more)
+    pub ended : HasAt lines last (end_line c end next out a.within ∷ more)
 
   pub main_at : (more : List Line) → HasAt lines first (main_code c s h end first next out a ++ more) → MainAt more
   main_at more has =
       let cs = statement_code s first last (around_out guard a) in
-      let g = guard_line h end (suc guard) last (ways_count a) in
+      let g = guard_line h end (suc guard) last (ways_count a) a.within in
       let ch = handlers_code h (suc guard) last (around_out last a) in
-      let behind = end_line c end next out ∷ more in
+      let behind = end_line c end next out a.within ∷ more in
       let flat : main_code c s h end first next out a ++ more ≡ cs ++ (g ∷ (ch ++ behind)) = simp append_assoc in
       let all = has_same lines first _ _ flat has in
       let guarded = has_back lines first (statement_size s (ways_count a)) cs (g ∷ (ch ++ behind)) (length-statement s first last (around_out guard a)) all in
@@ -137,18 +137,18 @@ has_all lines place a h = has_same lines place a (a ++ []) (sym (append-nil a)) 
 
 -- what an accept of a select does, what follows it, and the other alternatives
 
-pub record OfferAt (lines : List Line) (d : Doing) (p : Part) (more : Alternatives) (at next : ℕ) (a : Around) : Type 0 where
-  pub doing : HasAt lines at (doing_code d at (part_place p (at + doing_size d) next) a.out)
+pub record OfferAt (lines : List Line) (d : Doing) (p : Part) (more : Alternatives) (opener at next : ℕ) (a : Around) : Type 0 where
+  pub doing : HasAt lines at (doing_code d opener at (part_place p (at + doing_size d) next) a.out)
   pub part : HasAt lines (at + doing_size d) (part_code p (at + doing_size d) next a)
-  pub others : HasAt lines (at + doing_size d + part_size p (ways_count a)) (offered_code more (at + doing_size d + part_size p (ways_count a)) next a)
+  pub others : HasAt lines (at + doing_size d + part_size p (ways_count a)) (offered_code more opener (at + doing_size d + part_size p (ways_count a)) next a)
 
-pub offer_has : (lines : List Line) (d : Doing) (p : Part) (more : Alternatives) (at next : ℕ) (a : Around) → let after = at + doing_size d in HasAt lines at (doing_code d at (part_place p after next) a.out ++ (part_code p after next a ++ offered_code more (after + part_size p (ways_count a)) next a)) → OfferAt lines d p more at next a
-offer_has lines d p more at next a h =
+pub offer_has : (lines : List Line) (d : Doing) (p : Part) (more : Alternatives) (opener at next : ℕ) (a : Around) → let after = at + doing_size d in HasAt lines at (doing_code d opener at (part_place p after next) a.out ++ (part_code p after next a ++ offered_code more opener (after + part_size p (ways_count a)) next a)) → OfferAt lines d p more opener at next a
+offer_has lines d p more opener at next a h =
     let after = at + doing_size d in
-    let cd = doing_code d at (part_place p after next) a.out in
+    let cd = doing_code d opener at (part_place p after next) a.out in
     let cp = part_code p after next a in
-    let cm = offered_code more (after + part_size p (ways_count a)) next a in
-    let h1 = has_back lines at (doing_size d) cd (cp ++ cm) (length-doing d at (part_place p after next) a.out) h in
+    let cm = offered_code more opener (after + part_size p (ways_count a)) next a in
+    let h1 = has_back lines at (doing_size d) cd (cp ++ cm) (length-doing d opener at (part_place p after next) a.out) h in
     record {
       doing = has_front lines at cd (cp ++ cm) h;
       part = has_front lines after cp cm h1;
@@ -158,7 +158,7 @@ offer_has lines d p more at next a h =
 -- Bodies.
 
 pub length-unit : (b : Body) (at : ℕ) → length (unit_code b at) ≡ body_size b 1
-length-unit b at = length-body construct.Unit b at 0 (end_place b at 1) (in_call (end_place b at 1))
+length-unit b at = length-body construct.Unit b at 0 (end_place b at 1) (in_call None (end_place b at 1))
 
 units_at : (lines : List Line) (bs : List Body) (at n : ℕ) → HasAt lines at (units_code bs at) → HasAt lines (get_or (starts_from bs at) n (spare_from bs at)) (unit_code (get_or bs n no_body) (get_or (starts_from bs at) n (spare_from bs at)))
 units_at lines [] at n h = h

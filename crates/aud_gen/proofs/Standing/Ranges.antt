@@ -1,5 +1,5 @@
 -- A task that has something left to do stands at a line.
-use Rattle.std.proofs.Common.{◌≡◌, ℕ, suc, ◌<◌, List, [], ◌∷◌, ◌++◌, length, drop, sym, ap, subst, arith, length-drop}
+use Rattle.std.proofs.Common.{◌≡◌, ℕ, suc, ◌<◌, List, [], ◌∷◌, ◌++◌, length, drop, sym, ap, subst, arith, length-drop, Option}
 use Rattle.aud_text.specs.declared.place.Pos.{Pos}
 use Rattle.aud_meaning.specs.declared.state.Construct.{Construct}
 use Rattle.aud_meaning.specs.declared.state.Construct.TheVariants as construct
@@ -18,10 +18,10 @@ module _ (code : Code) where
       let len : length (drop place code.lines) ≡ suc (length (b ++ h.rest)) = ap length h.is in
       omega (arith, len, length-drop place code.lines)
 
-  end_in_range : (c : Construct) (end : Pos) (exits : List Way) (back : Way) (place : ℕ) (returns : List ℕ) (rest : List Item) → EndsAt c (λ a p rs. Stands code a p rs rest) code end exits back place returns rest → place < length code.lines
-  end_in_range construct.Block end exits back place returns rest es = in_range place _ _ es.4
-  end_in_range construct.Accept end exits back place returns rest es = in_range place _ _ es.4
-  end_in_range construct.Unit end exits back place returns rest es = in_range place _ _ es.2
+  end_in_range : (c : Construct) (end : Pos) (exits : List Way) (back : Way) (within : Option ℕ) (place : ℕ) (returns : List ℕ) (rest : List Item) → EndsAt c (λ a p rs. Stands code a p rs rest) code end exits back within place returns rest → place < length code.lines
+  end_in_range construct.Block end exits back within place returns rest es = in_range place _ _ es.4
+  end_in_range construct.Accept end exits back within place returns rest es = in_range place _ _ es.4
+  end_in_range construct.Unit end exits back within place returns rest es = in_range place _ _ es.2
 
   at_line : (items : List Item) (around : Around) (place : ℕ) (returns : List ℕ) → Stands code around place returns items → IsSettled items → IsLeft items → place < length code.lines
   at_line [] around place returns st is some = absurd some
@@ -33,7 +33,7 @@ module _ (code : Code) where
       for_by (λ s. HasAt code.lines st.2 (statement_code s st.2 st.0 st.1) → place < length code.lines)
       (λ f x y b has. subst (λ p. p < length code.lines) (sym st.3) (in_range (suc st.2) _ _ (has_tail code.lines st.2 _ _ has))) s st.5 st.6
   at_line (Begin c s h end ∷ rest) around place returns st is some = absurd is
-  at_line (Ends c h end ∷ rest) around place returns st is some = end_in_range c end around.exits around.back place returns rest st.1
+  at_line (Ends c h end ∷ rest) around place returns st is some = end_in_range c end around.exits around.back around.within place returns rest st.1
   at_line (Leaving m end ∷ rest) around place returns st is some = in_range place _ _ st.3
 
 pub place_law : (code : Code) (s : Spot) (items : List Item) → ShowsControl code s items → IsLeft items → s.place < length code.lines

@@ -33,24 +33,24 @@ module _ (code : Code) (returns : List ℕ) where
   one_loop (w ∷ ws) (suc n) o h = one_loop ws n o h
 
   -- a block is left at one of the lines behind its end
-  leaving : (o : Out) (w : Way) (end : Pos) (at : ℕ) → HasAt code.lines at (stub_line w.loops w.to end at ∷ []) → CallAt o w → CallAt (through_block end o) (record { to = at; loops = 0 })
-  leaving o w end at has h =
-      (in_call at, refl, (w.to, h.0, refl, subst (λ n. HasAt code.lines at (stub_line n w.to end at ∷ [])) (sym h.1) has, h.2))
+  leaving : (o : Out) (w : Way) (end : Pos) (within : Option ℕ) (at : ℕ) → HasAt code.lines at (stub_line w.loops w.to end within at ∷ []) → CallAt o w → CallAt (through_block end o) (record { to = at; loops = 0 })
+  leaving o w end within at has h =
+      (in_call within at, refl, (w.to, h.0, refl, subst (λ n. HasAt code.lines at (stub_line n w.to end within at ∷ [])) (sym h.1) has, h.2))
 
-  through : (ws more : List Way) (n : ℕ) (end : Pos) (at : ℕ) (o : Option Out) → HasAt code.lines at (stubs (ws ++ more) end at) → FoundAt o (slice_get ws n) → FoundAt (if_out (through_block end) o) (slice_get (stub_ways ws at) n)
-  through [] more n end at None has h = tt
-  through [] more n end at (Some o) has h = absurd h
-  through (w ∷ ws) more zero end at None has h = absurd h
-  through (w ∷ ws) more zero end at (Some o) has h = leaving o w end at (has_line code.lines at _ _ has) h
-  through (w ∷ ws) more (suc n) end at o has h = through ws more n end (suc at) o (has_tail code.lines at _ _ has) h
+  through : (ws more : List Way) (n : ℕ) (end : Pos) (within : Option ℕ) (at : ℕ) (o : Option Out) → HasAt code.lines at (stubs (ws ++ more) end within at) → FoundAt o (slice_get ws n) → FoundAt (if_out (through_block end) o) (slice_get (stub_ways ws at) n)
+  through [] more n end within at None has h = tt
+  through [] more n end within at (Some o) has h = absurd h
+  through (w ∷ ws) more zero end within at None has h = absurd h
+  through (w ∷ ws) more zero end within at (Some o) has h = leaving o w end within at (has_line code.lines at _ _ has) h
+  through (w ∷ ws) more (suc n) end within at o has h = through ws more n end within (suc at) o (has_tail code.lines at _ _ has) h
 
-  ends_found : (c : Construct) (end : Pos) (exits : List Way) (back : Way) (place n : ℕ) (rest : List Item) → EndsAt c (λ a p rs. Stands code a p rs rest) code end exits back place returns rest → ((a : Around) (p : ℕ) → Stands code a p returns rest → FoundAt (out_of_loop n rest) (slice_get a.exits n)) → FoundAt (out_through c end (out_of_loop n rest)) (slice_get exits n)
-  ends_found construct.Block end exits back place n rest es go =
+  ends_found : (c : Construct) (end : Pos) (exits : List Way) (back : Way) (within : Option ℕ) (place n : ℕ) (rest : List Item) → EndsAt c (λ a p rs. Stands code a p rs rest) code end exits back within place returns rest → ((a : Around) (p : ℕ) → Stands code a p returns rest → FoundAt (out_of_loop n rest) (slice_get a.exits n)) → FoundAt (out_through c end (out_of_loop n rest)) (slice_get exits n)
+  ends_found construct.Block end exits back within place n rest es go =
       let outer = es.1 in
       subst (λ ws. FoundAt (if_out (through_block end) (out_of_loop n rest)) (slice_get ws n)) (sym es.2)
-      (through outer.exits (outer.back ∷ []) n end (suc place) (out_of_loop n rest) (has_tail code.lines place _ _ es.4) (go outer es.0 es.5))
-  ends_found construct.Accept end exits back place n rest es go = subst (λ ws. FoundAt None (slice_get ws n)) (sym es.2) tt
-  ends_found construct.Unit end exits back place n rest es go = subst (λ ws. FoundAt None (slice_get ws n)) (sym es.0) tt
+      (through outer.exits (outer.back ∷ []) n end within (suc place) (out_of_loop n rest) (has_tail code.lines place _ _ es.4) (go outer es.0 es.5))
+  ends_found construct.Accept end exits back within place n rest es go = subst (λ ws. FoundAt None (slice_get ws n)) (sym es.2) tt
+  ends_found construct.Unit end exits back within place n rest es go = subst (λ ws. FoundAt None (slice_get ws n)) (sym es.0) tt
 
   found_in : (items : List Item) (n : ℕ) (around : Around) (place : ℕ) → Stands code around place returns items → FoundAt (out_of_loop n items) (slice_get around.exits n)
   found_in [] n around place st = subst (λ a. FoundAt None (slice_get a.exits n)) (sym st.2) tt
@@ -65,30 +65,30 @@ module _ (code : Code) (returns : List ℕ) where
       subst (λ a. FoundAt (Some (record { loops = 1; to = rest })) (slice_get a.exits zero)) (sym st.4) h
   found_in (InFor s ∷ rest) (suc n) around place st =
       subst (λ a. FoundAt (if_out one_loop_more (out_of_loop n rest)) (slice_get a.exits (suc n))) (sym st.4) (one_loop st.1.exits n (out_of_loop n rest) (found_in rest n st.1 st.0 st.7))
-  found_in (Begin c s h end ∷ rest) n around place st = ends_found c end around.exits around.back around.out n rest st.4 (λ a p w. found_in rest n a p w)
-  found_in (Ends c h end ∷ rest) n around place st = ends_found c end around.exits around.back place n rest st.1 (λ a p w. found_in rest n a p w)
+  found_in (Begin c s h end ∷ rest) n around place st = ends_found c end around.exits around.back around.within around.out n rest st.4 (λ a p w. found_in rest n a p w)
+  found_in (Ends c h end ∷ rest) n around place st = ends_found c end around.exits around.back around.within place n rest st.1 (λ a p w. found_in rest n a p w)
   found_in (Leaving m end ∷ rest) n around place st = subst (λ a. FoundAt None (slice_get a.exits n)) (sym st.2) tt
 
-  last_stub : (ws : List Way) (w : Way) (end : Pos) (at : ℕ) → HasAt code.lines at (stubs (ws ++ w ∷ []) end at) → HasAt code.lines (at + length ws) (stub_line w.loops w.to end (at + length ws) ∷ [])
-  last_stub [] w end at has =
+  last_stub : (ws : List Way) (w : Way) (end : Pos) (within : Option ℕ) (at : ℕ) → HasAt code.lines at (stubs (ws ++ w ∷ []) end within at) → HasAt code.lines (at + length ws) (stub_line w.loops w.to end within (at + length ws) ∷ [])
+  last_stub [] w end within at has =
       let same : at ≡ at + 0 = omega arith in
-      subst (λ p. HasAt code.lines p (stub_line w.loops w.to end p ∷ [])) same has
-  last_stub (v ∷ ws) w end at has =
+      subst (λ p. HasAt code.lines p (stub_line w.loops w.to end within p ∷ [])) same has
+  last_stub (v ∷ ws) w end within at has =
       let same : suc at + length ws ≡ at + suc (length ws) = omega arith in
-      subst (λ p. HasAt code.lines p (stub_line w.loops w.to end p ∷ [])) same (last_stub ws w end (suc at) (has_tail code.lines at _ _ has))
+      subst (λ p. HasAt code.lines p (stub_line w.loops w.to end within p ∷ [])) same (last_stub ws w end within (suc at) (has_tail code.lines at _ _ has))
 
-  ends_call : (c : Construct) (end : Pos) (exits : List Way) (back : Way) (place : ℕ) (rest : List Item) → EndsAt c (λ a p rs. Stands code a p rs rest) code end exits back place returns rest → ((a : Around) (p : ℕ) → Stands code a p returns rest → CallAt (out_of_call rest) a.back) → CallAt (call_through c end rest (out_of_call rest)) back
-  ends_call construct.Block end exits back place rest es go =
+  ends_call : (c : Construct) (end : Pos) (exits : List Way) (back : Way) (within : Option ℕ) (place : ℕ) (rest : List Item) → EndsAt c (λ a p rs. Stands code a p rs rest) code end exits back within place returns rest → ((a : Around) (p : ℕ) → Stands code a p returns rest → CallAt (out_of_call rest) a.back) → CallAt (call_through c end rest (out_of_call rest)) back
+  ends_call construct.Block end exits back within place rest es go =
       let outer = es.1 in
-      let stub = last_stub outer.exits outer.back end (suc place) (has_tail code.lines place _ _ es.4) in
-      subst (λ w. CallAt (through_block end (out_of_call rest)) w) (sym es.3) (leaving (out_of_call rest) outer.back end (suc place + length outer.exits) stub (go outer es.0 es.5))
-  ends_call construct.Accept end exits back place rest es go =
-      let a : Around = record { out = place; exits = exits; back = back } in
+      let stub = last_stub outer.exits outer.back end within (suc place) (has_tail code.lines place _ _ es.4) in
+      subst (λ w. CallAt (through_block end (out_of_call rest)) w) (sym es.3) (leaving (out_of_call rest) outer.back end within (suc place + length outer.exits) stub (go outer es.0 es.5))
+  ends_call construct.Accept end exits back within place rest es go =
+      let a : Around = record { out = place; within = within; exits = exits; back = back } in
       let o : Out = record { loops = 0; to = Ends construct.Accept no_handlers end ∷ rest } in
       let h : CallAt o (record { to = place; loops = 0 }) = (a, refl, (inl (refl, refl), es)) in
       subst (λ w. CallAt o w) (sym es.3) h
-  ends_call construct.Unit end exits back place rest es go =
-      let a : Around = record { out = place; exits = exits; back = back } in
+  ends_call construct.Unit end exits back within place rest es go =
+      let a : Around = record { out = place; within = within; exits = exits; back = back } in
       let o : Out = record { loops = 0; to = Ends construct.Unit no_handlers end ∷ rest } in
       let h : CallAt o (record { to = place; loops = 0 }) = (a, refl, (inl (refl, refl), es)) in
       subst (λ w. CallAt o w) (sym es.1) h
@@ -102,8 +102,8 @@ module _ (code : Code) (returns : List ℕ) where
   call_in (InFor s ∷ rest) around place st =
       let h = call_in rest st.1 st.0 st.7 in
       subst (λ a. CallAt (one_loop_more (out_of_call rest)) a.back) (sym st.4) (h.0, ap suc h.1, h.2)
-  call_in (Begin c s h end ∷ rest) around place st = ends_call c end around.exits around.back around.out rest st.4 (λ a p w. call_in rest a p w)
-  call_in (Ends c h end ∷ rest) around place st = ends_call c end around.exits around.back place rest st.1 (λ a p w. call_in rest a p w)
+  call_in (Begin c s h end ∷ rest) around place st = ends_call c end around.exits around.back around.within around.out rest st.4 (λ a p w. call_in rest a p w)
+  call_in (Ends c h end ∷ rest) around place st = ends_call c end around.exits around.back around.within place rest st.1 (λ a p w. call_in rest a p w)
   call_in (Leaving m end ∷ rest) around place st =
       let h : CallAt (record { loops = 0; to = Leaving m end ∷ rest }) (record { to = place; loops = 0 }) = (around, refl, st) in
       subst (λ a. CallAt (record { loops = 0; to = Leaving m end ∷ rest }) a.back) (sym st.2) h
@@ -136,7 +136,7 @@ module _ (code : Code) (returns : List ℕ) where
       subst (λ l. FoundAt None l.exit) (sym (ap (line_at code) st.3 ∙ l.1)) tt
   out_found (Begin c s h end ∷ rest) around place st is = absurd is
   out_found (Ends c h end ∷ rest) around place st is =
-      let l = end_is code returns c end around.exits around.back place rest st.1 in
+      let l = end_is code returns c end around.exits around.back around.within place rest st.1 in
       subst (λ l. FoundAt None l.exit) (sym l.2) tt
   out_found (Leaving m end ∷ rest) around place st is = subst (λ l. FoundAt None l.exit) (sym (line_is code place _ _ st.3)) tt
 

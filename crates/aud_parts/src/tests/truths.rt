@@ -289,6 +289,7 @@ fn code(alloc: Global, steps: &[(&[Given], Tail)], end: usize) -> Result<Code, A
             last: last.ending(),
             at: Pos { line: 1, col: 1 },
             out: end,
+            within: None,
         }))?;
     }
     Ok(Code {

@@ -1,9 +1,11 @@
-use Rattle.std.proofs.Common.{◌≡◌, ℕ, zero, suc, ◌≤◌, List, length, arith}
-use Rattle.std.proofs.lemmas.Option.{slice_get_past, slice_get_within}
+use Rattle.std.proofs.Common.{◌≡◌, ℕ, zero, suc, ◌≤◌, List, length, sym, ap, ◌∙◌, arith}
+use Rattle.std.proofs.lemmas.List.{drop_all}
+use Rattle.std.proofs.lemmas.Option.{slice_get_within}
 use Rattle.aud_code.specs.Flat.{FlatLine, end}
+use Rattle.aud_code.specs.Frames.{found_from}
 use Rattle.aud_code.specs.Sound.{IsStart}
 use Rattle.aud_code.specs.View.{plain_end}
-use Rattle.aud_expr.proofs.Instructions.{needed, passes_on, goes_on, raised, raised_ticks, at_end, its_end, fits_end, end_ticks, no_ending}
+use Rattle.aud_expr.proofs.Instructions.{needed, passes_on, goes_on, raised, raised_ticks, at_end, fits_end, end_ticks, none_met}
 use Rattle.aud_expr.proofs.evaluate.evaluate.Goals as goal
 
 start_within : (lines : List FlatLine) (place : ℕ) → IsStart lines place → place ≤ length lines
@@ -14,8 +16,7 @@ pub returns-in-End-clause-ends : goal.returns-in-End-clause-ends
 returns-in-End-clause-ends c = at_end _ _ _ _ _ _ _ _ c.loop-place.invariant.stands (plain_end c.in-End.field-0) (rw c.in-End.is at c.line.ensures)
 
 pub returns-in-End-clause-reaches : goal.returns-in-End-clause-reaches
-returns-in-End-clause-reaches c =
-    rw (c.line.ensures, c.in-End.is) (its_end _ _ _ _ _ _ _ _ c.loop-place.invariant.stands (plain_end c.in-End.field-0) (rw c.in-End.is at c.line.ensures))
+returns-in-End-clause-reaches c = c.loop-place.invariant.stands.meets
 
 pub returns-in-End-clause-fits : goal.returns-in-End-clause-fits
 returns-in-End-clause-fits c = fits_end _ _ _ _ _ _ _ _ c.loop-place.invariant.stands (plain_end c.in-End.field-0) (rw c.in-End.is at c.line.ensures)
@@ -57,7 +58,8 @@ behind c = omega (arith, c.len-place-end.ensures.lines)
 
 pub returns-clause-reaches : goal.returns-clause-reaches
 returns-clause-reaches c =
-    rw (slice_get_past c.args.code.now.lines c.len.result (omega (arith, c.len.ensures.lines))) (no_ending _ _ _ _ _ _ _ _ c.loop-place.invariant.stands (behind c))
+    let none = drop_all c.len.result c.args.code.now.lines (omega (arith, c.len.ensures.lines)) in
+    ap found_from none ∙ sym (none_met _ _ _ _ _ _ _ _ c.loop-place.invariant.stands (behind c))
 
 pub returns-clause-few : goal.returns-clause-few
 returns-clause-few c =

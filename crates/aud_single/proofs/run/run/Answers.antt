@@ -23,7 +23,7 @@ loop-steps-preserved c =
       leads = all;
       counted = omega (arith, so_far.counted, taken.ticks, c.saturating_add.ensures, c.saturating_add-ticks.ensures);
       within = omega (arith, fast.within, c.loop-steps-test.true);
-      stands = fast.stands;
+      fits = fast.fits;
       steps_taken = omega (arith, fast.steps, taken.steps, so_far.steps_taken);
       few = omega (arith, so_far.few, taken.few, fast.few, c.saturating_add.ensures, c.saturating_add-ticks.ensures);
     }

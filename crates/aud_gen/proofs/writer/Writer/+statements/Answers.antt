@@ -95,10 +95,10 @@ write_body-returns t c =
     omega (arith, c.in_ok-guard.ensures, c.in_ok-statements_length.ensures ∙ ap (statement_size_by flat_step s) counted) in
     let n2 = c.write_statements.new.self in
     let n3 = c.write_guards.new.self in
-    whole_body w count (λ out. refl) c.end.result c.args.construct d s (handlers_in b.handlers.items) b.end c.args.self.now c.write_list.new.self n2 n3 c.write_handlers.new.self c.end.new.self c.in_ok-begin.begin c.in_ok-guard.guard c.args.last c.args.next c.args.out begin_is guard_is
+    whole_body w c.args.ways.now.within count (λ out. refl) c.end.result c.args.construct d s (handlers_in b.handlers.items) b.end c.args.self.now c.write_list.new.self n2 n3 c.write_handlers.new.self c.end.new.self c.in_ok-begin.begin c.in_ok-guard.guard c.args.last c.args.next c.args.out begin_is guard_is
     (c.in_ok-write_list.ensures ∙ ap (λ z. c.args.self.now ++ part_lines (part_of (plain_statements z)) (length c.args.self.now) c.in_ok-begin.begin (w c.args.last)) c.deref-2.ensures.value)
     c.in_ok-write_statements.ensures
-    (c.in_ok-write_guards.ensures ∙ ap (λ z. n2 ++ guard_lines (handlers_in z) b.end (length n2) c.args.last c.in_ok-count.count) c.deref-3.ensures.value ∙ ap (λ n. n2 ++ guard_lines (handlers_in b.handlers.items) b.end (length n2) c.args.last n) counted)
+    (c.in_ok-write_guards.ensures ∙ ap (λ z. n2 ++ guard_lines (handlers_in z) b.end (length n2) c.args.last c.in_ok-count.count c.args.ways.now.within) c.deref-3.ensures.value ∙ ap (λ n. n2 ++ guard_lines (handlers_in b.handlers.items) b.end (length n2) c.args.last n c.args.ways.now.within) counted)
     (c.in_ok-write_handlers.ensures ∙ ap (λ z. n3 ++ handlers_lines (handlers_in z) (length n3) c.args.last (w c.args.last)) c.deref-4.ensures.value)
     c.end.ensures
 
@@ -108,13 +108,13 @@ write_block-returns t c =
     let b = out-Body o.body in
     let a = around c.args.out c.args.ways.now in
     let last_is : c.in_ok-last.last ≡ end_place_by flat_step (body_in o.body) c.in_ok-inside.inside (ways_count a) = c.in_ok-last.ensures ∙ ap (end_place_by flat_step (body_in o.body) c.in_ok-inside.inside) c.in_ok-count.ensures in
-    let inside_is : c.in_ok-inside.inside ≡ length c.args.self.now + 1 = omega (arith, c.in_ok-inside.ensures, c.place.ensures) in
-    whole_block c.write_stubs.result o.at o.region (body_in o.body) (part_of (plain_statements b.declarations.items)) b.begin (statements_in b.statements) (handlers_in b.handlers.items) b.end c.args.self.now c.end_statement.new.self c.write_body.new.self c.write_stubs.new.self c.in_ok-inside.inside c.in_ok-last.last c.args.next a (around c.in_ok-last.last c.in_ok-inner.inner) refl inside_is last_is (c.in_ok-inner.ensures c.in_ok-last.last) c.in_ok-end_statement.ensures c.in_ok-write_body.ensures c.write_stubs.ensures
+    let inside_is : c.in_ok-inside.inside ≡ length c.args.self.now + 1 = omega (arith, c.in_ok-inside.ensures, c.place-place.ensures) in
+    whole_block c.write_stubs.result o.at o.region (body_in o.body) (part_of (plain_statements b.declarations.items)) b.begin (statements_in b.statements) (handlers_in b.handlers.items) b.end c.args.self.now c.end_statement.new.self c.write_body.new.self c.write_stubs.new.self c.place-place.result c.in_ok-inside.inside c.in_ok-last.last c.args.next a (around c.in_ok-last.last c.in_ok-inner.inner) refl c.place-place.ensures inside_is last_is (c.in_ok-inner.ensures c.in_ok-last.last) c.in_ok-end_statement.ensures c.in_ok-write_body.ensures c.write_stubs.ensures
 
 pub write_for-returns : goal.write_for-returns
 write_for-returns t c =
-    let again_is : c.in_ok-again.again ≡ suc (length c.args.self.now + bounds c.args.s.now) = omega (arith, c.in_ok-again.ensures, c.in_ok-sum.ensures, c.place.ensures, c.in_ok-bounds.ensures, c.in_ok-integer_length.ensures, c.in_ok-integer_length-2.ensures) in
-    whole_for c.write_statements.result c.args.s.now c.args.self.now c.write_control.new.self c.write_statements.new.self c.in_ok-again.again c.args.next (around c.args.out c.args.ways.now) (around c.args.out c.in_ok-inner.inner) again_is (c.in_ok-inner.ensures c.args.out) c.in_ok-write_control.ensures c.write_statements.ensures
+    let again_is : c.in_ok-again.again ≡ suc (length c.args.self.now + bounds c.args.s.now) = omega (arith, c.in_ok-again.ensures, c.in_ok-sum.ensures, c.place-place.ensures, c.in_ok-bounds.ensures, c.in_ok-integer_length.ensures, c.in_ok-integer_length-2.ensures) in
+    whole_for c.write_statements.result c.args.s.now c.args.self.now c.write_control.new.self c.write_statements.new.self c.place-place.result c.in_ok-again.again c.args.next (around c.args.out c.args.ways.now) (around c.args.out c.in_ok-inner.inner) c.place-place.ensures again_is (c.in_ok-inner.ensures c.args.out) c.in_ok-write_control.ensures c.write_statements.ensures
 
 pub write_handlers-loop-handler-preserved : goal.write_handlers-loop-handler-preserved
 write_handlers-loop-handler-preserved t c =

@@ -7,4 +7,4 @@ use Rattle.aud_gen.proofs.writer.Writer.write_stubs.Given as goal
 
 abbrev pub invariant-loop-way : goal.invariant-loop-way
 invariant-loop-way l =
-    with_stubs l.self (map plain_way (drop l.way-index l.way-items) ++ plain_way l.ways.back ∷ []) l.end ≡ with_stubs l.fn.self (all_ways (around 0 l.ways)) l.end
+    with_stubs l.self (map plain_way (drop l.way-index l.way-items) ++ plain_way l.ways.back ∷ []) l.end l.within ≡ with_stubs l.fn.self (all_ways (around 0 l.ways)) l.end l.within

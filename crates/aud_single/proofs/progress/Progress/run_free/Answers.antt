@@ -49,5 +49,10 @@ pub returns : goal.returns
 returns c =
     let put = (goal.at.returns c).After-put in
     let run = c.fast_run_with-cells.result.0 in
-    let fast = runs_fast c.args.code.now c.args.n c.self.inside.place c.take.result.items c.fast_run_with-cells.result.1.items (before put) (after put) run (free put) c.fast_run_with-cells.ensures.done c.fast_run_with-cells.ensures.few (led_there put) in
+    let fast = runs_fast c.args.code.now c.args.n c.self.inside.place c.take.result.items c.fast_run_with-cells.result.1.items (before put) (after put) run (free put) (rw (← c.self.view_is) at c.requires.fits) c.fast_run_with-cells.ensures.done c.fast_run_with-cells.ensures.few (led_there put) in
     record { runs = subst (λ p. RunsFast c.args.code.now c.args.n p (after put) run) c.self.view_is fast }
+
+pub fast_run_with-cells-requires : goal.fast_run_with-cells-requires
+fast_run_with-cells-requires c =
+    let here = rw c.requires.runs at c.requires.fits in
+    rw (← c.self.view_is) at here.0

@@ -1,0 +1,265 @@
+// The frames that are open where steps stand.
+
+ghost use Rattle.std.specs.Prelude.{◌≡◌, ◌↔◌, List, [], ◌∷◌, map, None, Some};
+ghost use Rattle.std.specs.Prelude.{IfNone, IfSome, IsTrue};
+ghost use Rattle.aud_code.specs.Frames.{found, frame_inside, opener, At, Behind, BlockAround};
+ghost use Rattle.aud_code.specs.Frames.{EachAt, GoTo, GuardsAt, IsEnd, LastFits, LoopAround};
+ghost use Rattle.aud_code.specs.Frames.{Found, OpensBlock, OpensLoop, OutFits, OutOf, OutOfLoops};
+ghost use Rattle.aud_code.specs.Frames.{StepFits, TakesExceptions, WayFits, WaysAt};
+ghost use Rattle.aud_code.specs.View.{inside_of, plain_end, plain_ending, plain_guard, plain_last};
+ghost use Rattle.aud_code.specs.View.{plain_line, way_of};
+
+use crate::line::{EndLine, Ending, Guard, Last, Line};
+use aud_meaning::state::Construct;
+
+/// The ending of the step that begins at a place; none behind all lines.
+pub(crate) fn found(lines: &[Line], first: usize) -> Option<&EndLine>
+    ensures some { IfSome result (λ end.
+        found (map plain_line lines.now) first ≡ Some (plain_end end.now)) }
+    ensures none { IfNone result (found (map plain_line lines.now) first ≡ None) }
+{
+    for place in first..lines.len() {
+        match &lines[place] {
+            Line::Instruction(_) => {}
+            Line::End(end) => return Some(end),
+        }
+    }
+    None
+}
+
+/// Whether a step begins at a place that stands within this frame.
+pub(crate) fn is_within(lines: &[Line], place: usize, within: Option<usize>) -> bool
+    ensures { IsTrue result ↔ At (map plain_line lines.now) place within }
+{
+    match found(lines, place) {
+        Some(end) => end.within == within,
+        None => false,
+    }
+}
+
+/// Whether the step that begins at a place, if one does, leaves the frames open that are to be open where it leads.
+pub(crate) fn step_fits(lines: &[Line], place: usize) -> bool
+    ensures { IsTrue result ↔ StepFits (map plain_line lines.now) place }
+{
+    match found(lines, place) {
+        Some(end) => fits(lines, place, end),
+        None => true,
+    }
+}
+
+// The ending of the step at a place.
+fn fits(lines: &[Line], place: usize, end: &EndLine) -> bool
+    ensures { IsTrue result ↔ LastFits (map plain_line lines.now)
+        (plain_last end.now.last) place (plain_end end.now) }
+{
+    let within = end.within;
+    match &end.last {
+        Last::Does(ending, next) => {
+            is_within(lines, *next, within)
+                && ending_fits(lines, place, within, *ending)
+                && out_fits(lines, within, end.out)
+        }
+        Last::Continues { behind, inside, .. } => continues_fit(lines, within, *behind, *inside),
+        Last::Guards(guards) => {
+            guards_within(lines, guards, within) && goes_to_end(lines, within, end.out)
+        }
+        Last::Ends(Construct::Unit, _) => within.is_none(),
+        Last::Ends(Construct::Block, next) => block_end_fits(lines, within, *next, end.out),
+        // No step in memory opens a rendezvous.
+        Last::Ends(Construct::Accept, _) => false,
+        Last::Leaves { loops, to } => leaving_fits(lines, within, *loops, *to),
+    }
+}
+
+// Where a statement's step leads besides: into the frame that it opens, if it opens one, or out of loops.
+fn ending_fits(lines: &[Line], place: usize, within: Option<usize>, ending: Ending) -> bool
+    ensures { IsTrue result ↔ (EachAt (map plain_line lines.now) (inside_of ending)
+        (frame_inside (plain_ending ending) place within)
+        × WayFits (map plain_line lines.now) within (way_of ending)) }
+{
+    match ending {
+        Ending::Declare { again: inside, .. } | Ending::If(inside) | Ending::While(inside) => {
+            is_within(lines, inside, within)
+        }
+        Ending::Loop { inside, .. } | Ending::Block { inside, .. } => {
+            is_within(lines, inside, Some(place))
+        }
+        Ending::Exit(way) => leaves_loops(lines, within, way.loops, way.to),
+        Ending::DeclareArray(_, _)
+        | Ending::Null
+        | Ending::Assign
+        | Ending::Put
+        | Ending::Raise(_)
+        | Ending::RaiseAgain => true,
+    }
+}
+
+// The end of a loop's statements, in the loop's frame.
+fn continues_fit(lines: &[Line], within: Option<usize>, behind: usize, inside: usize) -> bool
+    ensures { IsTrue result ↔ LoopAround (map plain_line lines.now) within
+        (λ around. WaysAt (map plain_line lines.now) around within (behind ∷ inside ∷ [])) }
+{
+    match loop_around(lines, within) {
+        Some(step) => is_within(lines, behind, step.within) && is_within(lines, inside, within),
+        None => false,
+    }
+}
+
+// The end of a block, in the block's frame; what is around the block comes behind it.
+fn block_end_fits(lines: &[Line], within: Option<usize>, next: usize, out: usize) -> bool
+    ensures { IsTrue result ↔ BlockAround (map plain_line lines.now) within
+        (Behind (map plain_line lines.now) next out) }
+{
+    match block_around(lines, within) {
+        Some(step) => is_within(lines, next, step.within) && out_fits(lines, step.within, out),
+        None => false,
+    }
+}
+
+// On a way out of a block and of this many loops around it.
+fn leaving_fits(lines: &[Line], within: Option<usize>, loops: usize, to: usize) -> bool
+    ensures { IsTrue result ↔ BlockAround (map plain_line lines.now) within
+        (λ around. OutOfLoops (map plain_line lines.now) loops around
+        (At (map plain_line lines.now) to)) }
+{
+    match block_around(lines, within) {
+        Some(step) => leaves_loops(lines, step.within, loops, to),
+        None => false,
+    }
+}
+
+// Out of this number of loops, to a place.
+fn leaves_loops(lines: &[Line], within: Option<usize>, loops: usize, to: usize) -> bool
+    ensures { IsTrue result ↔ OutOfLoops (map plain_line lines.now) loops within
+        (At (map plain_line lines.now) to) }
+{
+    let mut around = within;
+    for _ in 0..loops {
+        match loop_around(lines, around) {
+            Some(step) => around = step.within,
+            None => return false,
+        }
+    }
+    is_within(lines, to, around)
+}
+
+// The step of the loop whose frame is the innermost one.
+fn loop_around(lines: &[Line], within: Option<usize>) -> Option<&EndLine>
+    ensures some { IfSome result (λ step.
+        (opener (map plain_line lines.now) within ≡ Some (plain_end step.now))
+        × OpensLoop (plain_last step.now.last)) }
+    ensures none { IfNone result
+        (Found (opener (map plain_line lines.now) within) (λ step. OpensLoop step.last) → ⊥) }
+{
+    let step = opener(lines, within)?;
+    if opens_loop(&step.last) {
+        Some(step)
+    } else {
+        None
+    }
+}
+
+// The step of the block whose frame is the innermost one.
+fn block_around(lines: &[Line], within: Option<usize>) -> Option<&EndLine>
+    ensures some { IfSome result (λ step.
+        (opener (map plain_line lines.now) within ≡ Some (plain_end step.now))
+        × OpensBlock (plain_last step.now.last)) }
+    ensures none { IfNone result
+        (Found (opener (map plain_line lines.now) within) (λ step. OpensBlock step.last) → ⊥) }
+{
+    let step = opener(lines, within)?;
+    if opens_block(&step.last) {
+        Some(step)
+    } else {
+        None
+    }
+}
+
+// The step that opened the innermost frame.
+fn opener(lines: &[Line], within: Option<usize>) -> Option<&EndLine>
+    ensures some { IfSome result (λ step.
+        opener (map plain_line lines.now) within ≡ Some (plain_end step.now)) }
+    ensures none { IfNone result (opener (map plain_line lines.now) within ≡ None) }
+{
+    found(lines, within?)
+}
+
+// Where exceptions go of what stands within this frame.
+fn out_fits(lines: &[Line], within: Option<usize>, out: usize) -> bool
+    ensures { IsTrue result ↔ OutFits (map plain_line lines.now) within out }
+{
+    match within {
+        Some(place) => match found(lines, place) {
+            Some(step) => out_of_opener(lines, place, step, out),
+            None => false,
+        },
+        None => goes_to(lines, within, out),
+    }
+}
+
+// Those of a loop's statements go where those of the loop's own step go.
+fn out_of_opener(lines: &[Line], place: usize, step: &EndLine, out: usize) -> bool
+    ensures { IsTrue result ↔ OutOf (map plain_line lines.now)
+        (plain_last step.now.last) place step.now.out out }
+{
+    match &step.last {
+        Last::Does(Ending::Loop { .. }, _) => step.out == out,
+        _ => goes_to(lines, Some(place), out),
+    }
+}
+
+fn goes_to(lines: &[Line], within: Option<usize>, out: usize) -> bool
+    ensures { IsTrue result ↔ GoTo (map plain_line lines.now) within out }
+{
+    match found(lines, out) {
+        Some(end) => takes_exceptions(&end.last) && end.within == within,
+        None => false,
+    }
+}
+
+// From guarded statements to the end of their construct.
+fn goes_to_end(lines: &[Line], within: Option<usize>, out: usize) -> bool
+    ensures { IsTrue result ↔ Found (found (map plain_line lines.now) out)
+        (λ end. IsEnd end.last × (end.within ≡ within)) }
+{
+    match found(lines, out) {
+        Some(end) => is_end(&end.last) && end.within == within,
+        None => false,
+    }
+}
+
+fn guards_within(lines: &[Line], guards: &[Guard], within: Option<usize>) -> bool
+    ensures { IsTrue result ↔
+        GuardsAt (map plain_line lines.now) within (map plain_guard guards.now) }
+{
+    for guard in guards {
+        if !is_within(lines, guard.to, within) {
+            return false;
+        }
+    }
+    true
+}
+
+fn opens_loop(last: &Last) -> bool
+    ensures { IsTrue result ↔ OpensLoop (plain_last last.now) }
+{
+    matches!(last, Last::Does(Ending::Loop { .. }, _))
+}
+
+fn opens_block(last: &Last) -> bool
+    ensures { IsTrue result ↔ OpensBlock (plain_last last.now) }
+{
+    matches!(last, Last::Does(Ending::Block { .. }, _))
+}
+
+fn takes_exceptions(last: &Last) -> bool
+    ensures { IsTrue result ↔ TakesExceptions (plain_last last.now) }
+{
+    matches!(last, Last::Guards(_) | Last::Ends(_, _))
+}
+
+fn is_end(last: &Last) -> bool
+    ensures { IsTrue result ↔ IsEnd (plain_last last.now) }
+{
+    matches!(last, Last::Ends(_, _))
+}
