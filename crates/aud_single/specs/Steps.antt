@@ -41,7 +41,7 @@ abbrev pub StepsTo : Flat → Single Spot → Single Spot → Type 0
 StepsTo code old new =
     InAnyProgram (λ plan name. (limits : Limits) → all_of name new ≡ step_with plan (flat_controls plan code) limits (all_of name old) (own_move 0))
 
--- the innermost frame was opened for this, by a step around what stands within w; what holds of what is around that step
+-- of what stands within w the innermost frame was opened for this; what holds of what is around that
 abbrev pub OpenedFor : List FlatLine → Purpose → Option ℕ → List Opened → (Option ℕ → Type 0) → Type 0
 OpenedFor lines for_body w outer go = (w ≡ None) × (outer ≡ [])
 OpenedFor lines for_block w outer go = BlockAround lines w go
