@@ -147,6 +147,45 @@ end
 """,
     ),
     Loop(
+        "recursive calls, Fibonacci",
+        21_891,
+        131_349,
+        """procedure B is
+R : Integer;
+procedure Fib (N : Integer; F : out Integer) is
+X, Y : Integer;
+begin
+if N < 2 then
+F := N;
+else
+Fib (N - 1, X);
+Fib (N - 2, Y);
+F := X + Y;
+end if;
+end Fib;
+begin
+Fib (20, R);
+end B;
+""",
+        """
+def fib(n):
+    if n < 2:
+        return n
+    return fib(n - 1) + fib(n - 2)
+def loop():
+    r = fib(20)
+""",
+        """
+local function fib(n)
+  if n < 2 then return n end
+  return fib(n - 1) + fib(n - 2)
+end
+local function loop()
+  local r = fib(20)
+end
+""",
+    ),
+    Loop(
         "nested, mod and if",
         200_000,
         800_806,

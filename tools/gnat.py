@@ -21,20 +21,24 @@ COUNTERS = 8  # variables that count loops, and so the most loops of a program t
 FRESH = 24  # the most blocks and `for` loops of a program
 
 WORDS = set(
-    "abs and array begin constant declare else elsif end exception exit for if in is loop mod not null of or others"
-    " procedure raise rem reverse then use when while with xor".split()
+    "abs and array begin constant declare else elsif end exception exit for if in is loop mod not null of or others out"
+    " procedure raise rem return reverse then use when while with xor".split()
 )
 TOKEN = re.compile(r'"(?:[^"]|"")*"|:=|/=|<=|>=|=>|\.\.|[A-Za-z]\w*|\d+|[^\s\w]|\n')
 PREDEFINED = ["Constraint_Error", "Program_Error", "Storage_Error", "Tasking_Error"]
 
-# What GNAT takes and docs/LANGUAGE.md leaves out, in a text with a space
-# between tokens. Arrays are called A.., exceptions E.., labels L.., the procedure M..
+# What GNAT takes and docs/LANGUAGE.md leaves out, and variables of which GNAT wants that they are not two arguments of a call, in a
+# text with a space between tokens. Arrays are called A.., exceptions E.., labels L.., the main procedure M.., others Q..
 DEPARTURES = re.compile(
     r"\bwhen \w+ :(?! =)"  # the name of an occurrence
     r"|\bwhen (?:\w+ \| )*(\w+) (?:\| \w+ )*\| \1 "  # a choice twice in one handler
     r"|\b(?:[AELM]\d+|Ada|Text_IO|\w+_Error) ' Image"  # Image of what is no scalar object
     r"|\barray \( (?!-? ?\d+ \.\. -? ?\d+ \))"  # bounds that are no numbers
     r"|\bL\d+ (?:,|in|: (?!loop|while|for|declare|begin))"  # a label's name declared beside it
+    r"|\bprocedure (\w+) [^;]*?: (?:in |out )*\2\b"  # a procedure's name in its formals means what is further out
+    r"|(?s:\bprocedure (\w+)\b.*\bprocedure \3\b)"  # procedures of one name stand beside each other
+    r"|\bprocedure (?:Put|Put_Line|New_Line|True|False)\b"
+    r"|\bQ\d+ \((?:[^;]*,)? (\w+) (?:\([^;]*\) )?,(?:[^;]*,)? \4 [,()]"  # a variable as two arguments
 )
 
 
@@ -57,6 +61,8 @@ class Writer:
         self.fresh = 0
         self.labels = []
         self.handling = False
+        self.formals = {}  # those of each procedure above, behind that of its depth: names, modes and subtypes
+        self.within = False  # whether this is a procedure within the main one
         self.seen = {}  # what each visible name is: a subtype, "number", "truth", "exception" or an Array
 
     def pick(self, *choices):
@@ -177,6 +183,7 @@ class Writer:
 
     def statement(self, depth):
         simple = [self.assignment] * 6 + [self.decision] * 2 + [self.output] * 4 + [self.leaving] * 2 + [self.raising, lambda: "null;"]
+        simple += [self.returning] if self.within else [self.call] * 2
         deep = [self.choice_of, self.loop, self.counted, self.block] * 2
         if depth > 0 and self.by.random() < 0.4:
             return self.pick(*deep)(depth)
@@ -223,6 +230,57 @@ class Writer:
         label = self.by.choice(self.labels + [""])
         when = f" when {self.boolean(2)}" if self.by.random() < 0.85 else ""
         return f"exit{label}{when};"
+
+    def returning(self):
+        return f"if {self.boolean(2)} then\nreturn;\nend if;"
+
+    def call(self, depth=None):
+        """A call of a visible procedure, in which no variable is given twice to be changed."""
+        if not self.formals:
+            return "null;"
+        name, taken = self.by.choice(list(self.formals)), []
+        arguments = [depth or str(self.pick(0, 1, 2))]
+        for _, mode, subtype in self.formals[name]:
+            if mode in ("", "in "):
+                arguments.append(self.value_of(subtype))
+                continue
+            subtypes = ["Boolean"] if subtype == "Boolean" else ["Integer", "Natural", "Positive"]
+            targets = [it for it in self.named(*subtypes) + self.arrays(*subtypes) if it not in taken]
+            if not targets:
+                return "null;"
+            taken.append(self.by.choice(targets))
+            arguments.append(self.element(taken[-1]) if isinstance(self.seen[taken[-1]], Array) else taken[-1])
+        return f"{name} ({', '.join(arguments)});"
+
+    def calling_itself(self, name, formals, depth):
+        """A call in the procedure of this name, of itself, as long as its depth is not 0."""
+        above, self.formals = self.formals, {name: formals}
+        call = self.call(f"{depth} - 1")
+        self.formals = above
+        return f"if {depth} > 0 then\n{call}\nend if;\n"
+
+    def procedure(self, number, level=0):
+        """A procedure, whose formals that are given back have a value before anything can fail."""
+        name, depth = f"Q{number}{level}", f"H{number}{level}"
+        kinds = ("Integer", "Integer", "Natural", "Positive", "Boolean")
+        modes = ("", "in ", "out ", "in out ", "in out ")
+        formals = [(f"G{number}{level}{at}", self.pick(*modes), self.pick(*kinds)) for at in range(self.pick(0, 1, 2, 3))]
+        kept = dict(self.seen), dict(self.formals), self.labels, self.within
+        self.labels, self.within = [], True
+        self.seen[depth] = "number"
+        for formal, mode, subtype in formals:
+            constant = "truth" if subtype == "Boolean" else "number"
+            self.seen[formal] = constant if mode in ("", "in ") else subtype
+        head = "; ".join([f"{depth} : Integer"] + [f"{formal} : {mode}{subtype}" for formal, mode, subtype in formals])
+        first = "".join(f"{it[0]} := {'True' if it[2] == 'Boolean' else '1'};\n" for it in formals if it[1] == "out ")
+        declared, fills = self.declarations() if self.by.random() < 0.5 else ("", "")
+        inner = self.procedure(number, level + 1) if level < 2 and self.by.random() < 0.3 else ""
+        calls = self.calling_itself(name, formals, depth) + (self.call() + "\n" if self.by.random() < 0.5 else "")
+        body = first + fills + self.statements(2, self.pick(1, 2, 3)) + "\n" + calls + self.statements(1, self.pick(1, 2))
+        handlers = self.handlers(1) if self.by.random() < 0.5 else ""
+        self.seen, self.formals, self.labels, self.within = kept
+        self.formals[name] = formals
+        return f"procedure {name} ({head}) is\n{declared}\n{inner}begin\n{body}\n{handlers}end {name};\n"
 
     def choice_of(self, depth):
         def part():
@@ -390,11 +448,12 @@ class Writer:
 
     def program(self, name):
         declared, fills = self.main_declarations()
+        declared += "\n" + "".join(self.procedure(number) for number in range(self.pick(0, 1, 2, 3)))
         body = self.statements(3, self.pick(6, 9, 12))
         handlers = self.handlers(2) if self.by.random() < 0.5 else ""
         return (
             "with Ada.Text_IO; use Ada.Text_IO;\n"
-            f"procedure {name} is\n{declared}\nbegin\n{fills}{body}\n{self.told()}{handlers}end {name};\n"
+            f"procedure {name} is\n{declared}begin\n{fills}{body}\n{self.told()}{handlers}end {name};\n"
         )
 
 

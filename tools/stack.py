@@ -94,6 +94,29 @@ def nested_bodies():
     ), 3
 
 
+def nested_procedures():
+    """Procedures at the limit of levels, of which 127 are entered at once besides the main one, and long lists of their parts."""
+    inner, entered = DEEP, 127
+    full = f"+ 1\nloaded M\n+ 2\nran {2 * entered + 3} ended\nmain raised STORAGE_ERROR\n"
+    for shape, formals, arguments in ("", "", ""), (" with formals", "(A,B:in out Integer)", "(X,Y)"):
+        heads = "".join(f"procedure {name(i)}{formals} is\n" for i in range(inner))
+        ends = "".join(f"begin {name(i)}{arguments};end;\n" for i in reversed(range(1, inner)))
+        text = f"procedure M is X,Y:Integer;\n{heads}begin null;end;\n{ends}begin {name(0)}{arguments};end M;\n"
+        yield f"procedures in one another{shape}", text, full.replace(str(2 * entered + 3), str(2 * entered + 5))
+    yield "a program that calls itself", "procedure M is begin\nM;end M;\n", full
+    text, _ = source("procedure M is", lambda i: f"procedure {name(i)} is begin null;end;", "begin null;end M;")
+    yield "one list of procedures", text, 3
+    text, _ = source("procedure M is procedure P(", lambda i: f"{name(i)}:out Natural", ")is begin null;end;begin null;end M;", ";")
+    yield "one list of formals", text, 3
+    count = 3_000
+    names = ",\n".join(",".join(name(i) for i in range(line, line + 150)) for line in range(0, count, 150))
+    values = ",\n".join([",".join("1" * 150)] * (count // 150))
+    text = f"procedure M is procedure P(\n{names}:Integer)is begin null;end;begin P(\n{values});end M;\n"
+    yield "one list of arguments with their formals", text, 5
+    text, count = source("procedure M is procedure P is begin return;end;begin", lambda i: "P;", "end M;")
+    yield "one list of calls", text, 3 * count + 2
+
+
 def nested_indexes():
     """Elements at the limit of levels, each the index of another."""
     nest = "A(" * DEEP + "1" + ")" * DEEP
@@ -181,6 +204,7 @@ def shapes():
     ), "- E33"
     yield from nested_statements()
     yield from nested_bodies()
+    yield from nested_procedures()
     yield from nested_indexes()
     yield from nested_arguments()
     yield "one parenthesis too many", wrapped(

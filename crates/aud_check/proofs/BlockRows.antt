@@ -13,15 +13,18 @@ use Rattle.aud_typed.specs.declared.program.Subtype.TheVariants.{Integer}
 use Rattle.aud_typed.specs.Tree as tree
 use Rattle.aud_check.specs.declared.fault.Fault.{Fault}
 use Rattle.aud_check.specs.Names.{main_place}
-use Rattle.aud_check.specs.Tables.{Outcome}
+use Rattle.aud_check.specs.Tables.{Tables, Outcome, no_body}
 use Rattle.aud_check.specs.Statements.{nothing_around, checked_statement}
 
 abbrev fault : Pos → Refusal → Fault
 fault p refusal = record { at = p; refusal = refusal }
 
--- in the main procedure, whose region is empty
+-- in the main procedure, whose region is the first and empty
+abbrev main_tables : Tables
+main_tables = record { regions = [] ∷ []; exceptions = []; profiles = [] ∷ []; units = no_body ∷ [] }
+
 abbrev checked_in_main : Statement → Outcome tree.Statement
-checked_in_main s = checked_statement s nothing_around (main_place (codes "P")) (record { regions = [] ∷ []; exceptions = [] })
+checked_in_main s = checked_statement s nothing_around (main_place (codes "P")) main_tables
 
 abbrev faults_of : Statement → List Fault
 faults_of s = (checked_in_main s).faults

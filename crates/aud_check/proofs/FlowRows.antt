@@ -11,7 +11,7 @@ use Rattle.aud_typed.specs.Tree as tree
 use Rattle.aud_check.specs.declared.fault.Fault.{Fault}
 use Rattle.aud_check.specs.Names.{Place, main_place}
 use Rattle.aud_check.specs.Statements.{nothing_around, checked_statement}
-use Rattle.aud_check.specs.Checked.{no_tables}
+use Rattle.aud_check.specs.Tables.{no_tables}
 
 abbrev place : Place
 place = main_place (codes "P")

@@ -2,6 +2,7 @@ mod Rows
 mod Scalars
 mod FlowRows
 mod BlockRows
+mod ProcedureRows
 pub mod Notes
 pub mod Opened
 pub mod Parts
@@ -15,3 +16,5 @@ pub mod Bodies
 pub mod Hiding
 pub mod Scoping
 pub mod Called
+pub mod Passing
+pub mod Kept

@@ -20,6 +20,11 @@ pub leaves : {X Y : Type 0} (plain : X → Y) (r : Result X AllocError) (old new
 leaves plain (Ok x) old new fs y p h = (p, h)
 leaves plain (Err e) old new fs y p h = tt
 
+-- faults that were noted before
+pub leaves_after : {X Y : Type 0} (plain : X → Y) (r : Result X AllocError) (old mid new : Option Fault) (fs gs : List Fault) (y : Y) → mid ≡ noted old fs → Leaves plain r mid new gs y → Leaves plain r old new (fs ++ gs) y
+leaves_after plain (Ok x) old mid new fs gs y p h = (noted_then old mid new fs gs p h.0, h.1)
+leaves_after plain (Err e) old mid new fs gs y p h = tt
+
 -- what is left of a part goes in a box
 pub boxes : {X Y : Type 0} (plain : X → Y) (r : Result (Box X Global) AllocError) (x : X) (y : Y) → IfOk r (λ b. b.value ≡ x) → plain x ≡ y → IfOk r (λ b. plain b.value ≡ y)
 boxes plain (Ok b) x y p q = ap plain p ∙ q

@@ -6,7 +6,8 @@ use Rattle.aud_text.specs.declared.place.Pos.{Pos}
 use Rattle.aud_typed.specs.declared.program.Arm.{Arm}
 use Rattle.aud_typed.specs.declared.program.Handler.{Handler}
 use Rattle.aud_typed.specs.declared.program.Statement.{Statement}
-use Rattle.aud_typed.specs.declared.program.Statements.{Statements}
+use Rattle.aud_typed.specs.declared.program.Statement.TheVariants.{Null}
+use Rattle.aud_typed.specs.declared.program.Statements.{Statements, roll-Statements}
 use Rattle.aud_typed.specs.declared.program.IfStatement.{roll-IfStatement, out-roll-IfStatement}
 use Rattle.aud_typed.specs.declared.program.Body.{roll-Body, out-roll-Body}
 use Rattle.aud_typed.specs.Tree as tree
@@ -31,3 +32,11 @@ if_parts first others otherwise = rw out-roll-IfStatement (ap (arm_then (plain_a
 pub body_parts : (declarations : Vec Statement Global) (begin : Pos) (statements : Statements) (handlers : Vec Handler Global) (end : Pos) → plain_body (roll-Body (record { declarations = declarations; begin = begin; statements = statements; handlers = handlers; end = end })) ≡ tree.body (tree.part_of (plain_statements declarations.items)) begin (statements_in statements) (handlers_in handlers.items) end
 body_parts declarations begin statements handlers end =
     body_open (roll-Body (record { declarations = declarations; begin = begin; statements = statements; handlers = handlers; end = end })) ∙ rw out-roll-Body refl
+
+-- one in which there is nothing
+pub empty_body : (at : Pos) (declarations others : Vec Statement Global) (handlers : Vec Handler Global) → declarations.items ≡ [] → others.items ≡ [] → handlers.items ≡ []
+    → plain_body (roll-Body (record { declarations = declarations; begin = at; statements = roll-Statements (record { first = Null at; others = others }); handlers = handlers; end = at })) ≡ tree.body tree.nothing at (tree.null at) tree.no_handlers at
+empty_body at declarations others handlers d o h =
+    let made : List Statement → List Statement → List Handler → tree.Body = λ ds ss hs. tree.body (tree.part_of (plain_statements ds)) at (tree.before (tree.null at) (plain_statements ss)) (handlers_in hs) at in
+    body_parts declarations at (roll-Statements (record { first = Null at; others = others })) handlers at
+    ∙ ap (λ ds. made ds others.items handlers.items) d ∙ ap (λ ss. made [] ss handlers.items) o ∙ ap (made [] []) h

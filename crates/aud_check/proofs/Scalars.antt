@@ -37,14 +37,18 @@ abbrev shown_as : List ℕ → tree.Shown → tree.Named
 shown_as spelling shown = record { name = spelling; shown = shown }
 
 abbrev program_of_four : tree.Statement → tree.Program
-program_of_four s = tree.program_of_main (record {
+program_of_four s = tree.program_of_procedures (record {
   name = codes "M";
-  at = at 1 1;
-  main = tree.body (tree.part_of (
-      tree.declare (at 2 1) 1 (tree.whole Natural (tree.number (pos 0))) ∷
-      tree.declare (at 3 1) 2 (tree.whole Positive (tree.number (pos 1))) ∷
-      tree.declare (at 4 1) 3 (tree.boolean (tree.truth false)) ∷
-      tree.declare (at 5 1) 4 (tree.whole Integer (tree.number (pos 3))) ∷ [])) (at 6 1) s tree.no_handlers (at 9 1);
+  units = (record {
+    level = 0;
+    region = 0;
+    at = at 1 1;
+    body = tree.body (tree.part_of (
+        tree.declare (at 2 1) 1 (tree.whole Natural (tree.number (pos 0))) ∷
+        tree.declare (at 3 1) 2 (tree.whole Positive (tree.number (pos 1))) ∷
+        tree.declare (at 4 1) 3 (tree.boolean (tree.truth false)) ∷
+        tree.declare (at 5 1) 4 (tree.whole Integer (tree.number (pos 3))) ∷ [])) (at 6 1) s tree.no_handlers (at 9 1);
+  }) ∷ [];
   regions = (shown_as (codes "N") tree.as_whole ∷ shown_as (codes "P") tree.as_whole ∷ shown_as (codes "B") tree.as_truth ∷ shown_as (codes "C") tree.as_whole ∷ []) ∷ [];
   exceptions = [];
 })

@@ -8,7 +8,7 @@ use Rattle.aud_typed.specs.declared.program.Subtype.{Subtype}
 use Rattle.aud_typed.specs.Tree as tree
 use Rattle.aud_check.specs.declared.fault.Fault.{Fault}
 use Rattle.aud_check.specs.declared.names.Meaning.{Meaning}
-use Rattle.aud_check.specs.declared.names.Meaning.TheVariants.{ScalarType, Literal, Object, Array, Exception, Builtin, MainProcedure}
+use Rattle.aud_check.specs.declared.names.Meaning.TheVariants.{ScalarType, Literal, Object, Array, Exception, Builtin, Procedure}
 use Rattle.aud_check.specs.declared.rules.Base.{Base}
 use Rattle.aud_check.specs.declared.rules.Base.TheVariants.{Truth}
 use Rattle.aud_check.specs.Names.{Place}
@@ -36,7 +36,7 @@ changed_faults (Array a) at = wrong_kind_of_name at
 changed_faults (ScalarType s) at = wrong_kind_of_name at
 changed_faults (Exception x) at = wrong_kind_of_name at
 changed_faults (Builtin b) at = wrong_kind_of_name at
-changed_faults MainProcedure at = wrong_kind_of_name at
+changed_faults (Procedure n) at = wrong_kind_of_name at
 
 abbrev pub target_faults : Entity → Pos → List Fault
 target_faults no_entity at = []

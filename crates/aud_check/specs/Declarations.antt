@@ -1,29 +1,28 @@
--- Declarations of variables, constants, arrays and exceptions (RM 3.1, 3.3.1, 3.6, 11.1).
-use Rattle.std.specs.Prelude.{ℕ, ◌+◌, Bool, true, false, List, [], ◌∷◌, ◌++◌, length, map, Option, Some, None, pos, if◌then◌else◌}
+-- Declarations of variables, constants, arrays and exceptions, and of procedures' names (RM 3.1, 3.3.1, 3.6, 6.1, 11.1).
+use Rattle.std.specs.Prelude.{ℕ, ◌+◌, Bool, false, List, [], ◌∷◌, ◌++◌, length, map, Option, Some, None, pos, if◌then◌else◌}
 use Rattle.aud_text.specs.declared.place.Pos.{Pos}
 use Rattle.aud_syntax.specs.declared.tree.Ident.{Ident}
 use Rattle.aud_syntax.specs.declared.tree.Bound.{Bound}
-use Rattle.aud_syntax.specs.Plain.{Declaration, object, constant, array, exception, Declarations, no_declarations, more_declarations, MaybeExpression, no_expression, an_expression}
+use Rattle.aud_syntax.specs.Plain.{Expression, MaybeExpression, no_expression, an_expression}
 use Rattle.aud_typed.specs.declared.program.Subtype.{Subtype}
 use Rattle.aud_typed.specs.declared.program.Subtype.TheVariants.{Integer, Natural, Positive, Boolean}
 use Rattle.aud_typed.specs.declared.program.Exception.TheVariants as exception_of
 use Rattle.aud_typed.specs.Tree as tree
 use Rattle.aud_check.specs.declared.fault.Fault.{Fault}
 use Rattle.aud_check.specs.declared.names.Meaning.{Meaning}
-use Rattle.aud_check.specs.declared.names.Meaning.TheVariants.{ScalarType, Literal, Object, Array, Exception, Builtin, MainProcedure}
+use Rattle.aud_check.specs.declared.names.Meaning.TheVariants.{ScalarType, Literal, Object, Array, Exception, Builtin, Procedure}
 use Rattle.aud_check.specs.declared.array.Kind.{Kind}
 use Rattle.aud_check.specs.declared.array.Kind.TheVariants.{Scalar}
 use Rattle.aud_check.specs.Names.{Region, Place, visible, is_declared, innermost, in_region, hiding}
 use Rattle.aud_check.specs.Arrays.{bound_value, bound_faults, or_zero, row_between, new_meaning, cells_of}
 use Rattle.aud_check.specs.Rules.{base_asked, name_not_declared, declared_once, wrong_kind_of_name, right_type}
+use Rattle.aud_check.specs.Tables.{Tables, Outcome}
 use Rattle.aud_check.specs.Expressions.{Typed, number, boolean, checked_expression, expression_at, base_of}
 
--- the faults of declarations, the place after them, and their elaborations (RM 3.11)
+-- the place after declarations, and their elaborations (RM 3.11)
 pub record Declared : Type 0 where
-  pub faults : List Fault
   pub place : Place
   pub elaborations : List tree.Statement
-  pub exceptions : List (List ℕ)
 
 -- a subtype mark must be that of a subtype (RM 3.2.2)
 abbrev pub subtype_faults : Option Meaning → Pos → List Fault
@@ -34,16 +33,19 @@ subtype_faults (Some (Object o)) at = wrong_kind_of_name at
 subtype_faults (Some (Array a)) at = wrong_kind_of_name at
 subtype_faults (Some (Exception x)) at = wrong_kind_of_name at
 subtype_faults (Some (Builtin b)) at = wrong_kind_of_name at
-subtype_faults (Some MainProcedure) at = wrong_kind_of_name at
+subtype_faults (Some (Procedure n)) at = wrong_kind_of_name at
 
 abbrev pub subtype_meant : Option Meaning → Option Subtype
 subtype_meant (Some (ScalarType s)) = Some s
 subtype_meant _ = None
 
--- the initial value must be of the subtype's type (RM 3.3.1(4), 5.2)
+-- a value must be of the type of the subtype that its place asks (RM 3.3.1(4), 5.2, 6.4.1(3))
+abbrev pub given_faults : Expression → Option Subtype → Place → List Fault
+given_faults e s place = (checked_expression e place).faults ++ right_type (base_asked s) (expression_at e) (base_of (checked_expression e place).typed)
+
 abbrev pub initial_faults : MaybeExpression → Option Subtype → Place → List Fault
 initial_faults no_expression s place = []
-initial_faults (an_expression e) s place = (checked_expression e place).faults ++ right_type (base_asked s) (expression_at e) (base_of (checked_expression e place).typed)
+initial_faults (an_expression e) s place = given_faults e s place
 
 -- a variable without an initial value starts with 0 or False, or 1 where it is Positive (RM 3.3.1(21): any value; profile choice)
 abbrev pub default_value : Subtype → tree.ValueExpression
@@ -62,9 +64,12 @@ abbrev pub known : Option Subtype → Subtype
 known None = Integer
 known (Some s) = s
 
+abbrev pub given_value : Expression → Option Subtype → Place → tree.ValueExpression
+given_value e s place = value_for (known s) (checked_expression e place).typed
+
 abbrev pub initial_value : MaybeExpression → Option Subtype → Place → tree.ValueExpression
 initial_value no_expression s place = default_value (known s)
-initial_value (an_expression e) s place = value_for (known s) (checked_expression e place).typed
+initial_value (an_expression e) s place = given_value e s place
 
 -- one symbol more, with cells of its own
 abbrev pub with_symbol : List ℕ → Kind → Region → Region
@@ -101,16 +106,18 @@ marked mark identifiers place = visible mark.name (hiding identifiers place)
 abbrev pub elaboration : Pos → Region → tree.ValueExpression → tree.Statement
 elaboration at r e = tree.declare at r.names e
 
-abbrev pub checked_object : List Ident → Pos → Ident → MaybeExpression → Bool → Place → List (List ℕ) → Declared
-checked_object identifiers at subtype initial is_constant place xs =
+abbrev pub checked_object : List Ident → Pos → Ident → MaybeExpression → Bool → Place → Tables → Outcome Declared
+checked_object identifiers at subtype initial is_constant place t =
     let inner = hiding identifiers place in
     let s = subtype_meant (marked subtype identifiers place) in
     let after = declared_names identifiers (scalar s is_constant) (innermost place) in
     record {
       faults = subtype_faults (marked subtype identifiers place) subtype.at ++ (initial_faults initial s inner ++ twice_faults identifiers (scalar s is_constant) (innermost place));
-      place = in_region after place;
-      elaborations = elaboration at after (initial_value initial s inner) ∷ [];
-      exceptions = xs;
+      tables = t;
+      made = record {
+        place = in_region after place;
+        elaborations = elaboration at after (initial_value initial s inner) ∷ [];
+      };
     }
 
 -- Arrays (RM 3.6).
@@ -122,15 +129,17 @@ arrays_kind low high s = row_between (or_zero (bound_value low)) (or_zero (bound
 abbrev pub array_elaborations : List Ident → Pos → Option Subtype → Kind → List tree.Statement
 array_elaborations identifiers at s kind = map (λ i. tree.declare_array at (known s) (cells_of kind)) identifiers
 
-abbrev pub checked_array : List Ident → Pos → Bound → Bound → Ident → Place → List (List ℕ) → Declared
-checked_array identifiers at low high subtype place xs =
+abbrev pub checked_array : List Ident → Pos → Bound → Bound → Ident → Place → Tables → Outcome Declared
+checked_array identifiers at low high subtype place t =
     let s = subtype_meant (marked subtype identifiers place) in
     let kind = arrays_kind low high s in
     record {
       faults = bound_faults low ++ (bound_faults high ++ (subtype_faults (marked subtype identifiers place) subtype.at ++ twice_faults identifiers kind (innermost place)));
-      place = in_region (declared_names identifiers kind (innermost place)) place;
-      elaborations = array_elaborations identifiers at s kind;
-      exceptions = xs;
+      tables = t;
+      made = record {
+        place = in_region (declared_names identifiers kind (innermost place)) place;
+        elaborations = array_elaborations identifiers at s kind;
+      };
     }
 
 -- Exceptions (RM 11.1).
@@ -160,31 +169,29 @@ exceptions_twice (i ∷ is) x = declared_once i.name i.at x.region.symbols ++ ex
 abbrev pub exceptions_in : Place → List (List ℕ) → Exceptions
 exceptions_in place xs = record { region = innermost place; names = xs }
 
-abbrev pub checked_exceptions : List Ident → Place → List (List ℕ) → Declared
-checked_exceptions identifiers place xs =
-    let after = declared_exceptions identifiers (exceptions_in place xs) in
+abbrev pub declares_only : Region → Place → Declared
+declares_only r place = record { place = in_region r place; elaborations = [] }
+
+abbrev pub checked_exceptions : List Ident → Place → Tables → Outcome Declared
+checked_exceptions identifiers place t =
+    let after = declared_exceptions identifiers (exceptions_in place t.exceptions) in
     record {
-      faults = exceptions_twice identifiers (exceptions_in place xs);
-      place = in_region after.region place;
-      elaborations = [];
-      exceptions = after.names;
+      faults = exceptions_twice identifiers (exceptions_in place t.exceptions);
+      tables = record t { exceptions = after.names };
+      made = declares_only after.region place;
     }
 
--- Declarative parts (RM 3.11). Each declaration comes with the names of the exceptions that are declared before it.
+-- Procedures (RM 6.1).
 
-abbrev pub checked_declaration : Declaration → Place → List (List ℕ) → Declared
-checked_declaration (object first others subtype initial) place xs = checked_object (first ∷ others) first.at subtype initial false place xs
-checked_declaration (constant first others subtype value) place xs = checked_object (first ∷ others) first.at subtype (an_expression value) true place xs
-checked_declaration (array first others low high subtype) place xs = checked_array (first ∷ others) first.at low high subtype place xs
-checked_declaration (exception first others) place xs = checked_exceptions (first ∷ others) place xs
+-- the region after the name of a procedure whose unit has this number; a name that it has already stays what it was
+abbrev pub with_procedure : Ident → ℕ → Region → Region
+with_procedure i unit r = if is_declared i.name r.symbols then r else record r { symbols = r.symbols ++ (i.name, Procedure unit) ∷ [] }
 
-abbrev pub nothing_declared : Place → List (List ℕ) → Declared
-nothing_declared place xs = record { faults = []; place = place; elaborations = []; exceptions = xs }
+-- Declarative parts (RM 3.11).
 
-abbrev pub joined_declared : Declared → Declared → Declared
-joined_declared d e = record { faults = d.faults ++ e.faults; place = e.place; elaborations = d.elaborations ++ e.elaborations; exceptions = e.exceptions }
+abbrev pub nothing_declared : Place → Declared
+nothing_declared place = record { place = place; elaborations = [] }
 
 -- the declarations are elaborated in their order (RM 3.11(7))
-abbrev pub checked_declarations : Declarations → Place → List (List ℕ) → Declared
-checked_declarations no_declarations place xs = nothing_declared place xs
-checked_declarations (more_declarations d ds) place xs = joined_declared (checked_declaration d place xs) (checked_declarations ds (checked_declaration d place xs).place (checked_declaration d place xs).exceptions)
+abbrev pub joined_declared : Declared → Declared → Declared
+joined_declared d e = record { place = e.place; elaborations = d.elaborations ++ e.elaborations }

@@ -31,7 +31,7 @@ use Rattle.aud_typed.specs.declared.program.Logical.TheVariants as logical
 use Rattle.aud_typed.specs.Tree as tree
 use Rattle.aud_check.specs.declared.fault.Fault.{Fault}
 use Rattle.aud_check.specs.declared.names.Meaning.{Meaning}
-use Rattle.aud_check.specs.declared.names.Meaning.TheVariants.{ScalarType, Literal, Object, Array, Exception, Builtin, MainProcedure}
+use Rattle.aud_check.specs.declared.names.Meaning.TheVariants.{ScalarType, Literal, Object, Array, Exception, Builtin, Procedure}
 use Rattle.aud_check.specs.declared.names.Array as array
 use Rattle.aud_check.specs.declared.attribute.Attribute.{Attribute}
 use Rattle.aud_check.specs.declared.attribute.Attribute.TheVariants.{Image, First, Last, Length, Other}
@@ -267,7 +267,7 @@ read_faults (Array a) at = wrong_kind_of_name at
 read_faults (Exception x) at = wrong_kind_of_name at
 read_faults (ScalarType s) at = wrong_kind_of_name at
 read_faults (Builtin b) at = wrong_kind_of_name at
-read_faults MainProcedure at = wrong_kind_of_name at
+read_faults (Procedure n) at = wrong_kind_of_name at
 
 abbrev pub name_faults : Entity → Pos → List Fault
 name_faults no_entity at = []
@@ -341,7 +341,7 @@ image (Literal b) prefix designator argument = without_argument designator argum
 image (Array a) prefix designator argument = faulty (wrong_kind_of_name prefix)
 image (Exception x) prefix designator argument = faulty (wrong_kind_of_name prefix)
 image (Builtin b) prefix designator argument = faulty (wrong_kind_of_name prefix)
-image MainProcedure prefix designator argument = faulty (wrong_kind_of_name prefix)
+image (Procedure n) prefix designator argument = faulty (wrong_kind_of_name prefix)
 
 -- the bounds of Integer and its subtypes (RM 3.5(12, 13), 3.5.4(11, 12)), and of arrays (RM 3.6.2(3, 5)); those of Boolean are not in the profile
 abbrev pub first_of : Meaning → Option ℤ

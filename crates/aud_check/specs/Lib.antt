@@ -4,12 +4,14 @@ pub mod Rules
 pub mod Arrays
 pub mod Resolution
 pub mod Expressions
+pub mod Tables
 pub mod Declarations
+pub mod Formals
 pub mod Assignments
+pub mod Arguments
 pub mod Calls
 pub mod Conditions
 pub mod Labels
-pub mod Tables
 pub mod Regions
 pub mod Handlers
 pub mod Statements

@@ -7,7 +7,7 @@ use Rattle.aud_syntax.specs.declared.tree.Ident.{Ident}
 use Rattle.aud_text.specs.declared.raise.Raise.TheVariants.{Constraint, Program, Storage, Tasking}
 use Rattle.aud_typed.specs.declared.program.Exception.TheVariants.{Predefined}
 use Rattle.aud_check.specs.declared.names.Meaning.{Meaning}
-use Rattle.aud_check.specs.declared.names.Meaning.TheVariants.{ScalarType, Literal, Exception, Builtin, MainProcedure}
+use Rattle.aud_check.specs.declared.names.Meaning.TheVariants.{ScalarType, Literal, Exception, Builtin, Procedure}
 use Rattle.aud_check.specs.declared.names.Builtin.TheVariants.{Put, PutLine, NewLine}
 use Rattle.aud_typed.specs.declared.program.Subtype.TheVariants.{Integer, Natural, Positive, Boolean}
 
@@ -91,6 +91,14 @@ is_taken name place = is_hidden name place.hidden || is_some (declared name plac
 abbrev pub is_declared : List ℕ → List Symbol → Bool
 is_declared name symbols = is_some (named_in name symbols)
 
+-- within the formals of a procedure its own name is hidden besides theirs, but where a formal before them has that (RM 8.3(15, 16))
+abbrev pub own_hidden : Ident → Region → Option Ident
+own_hidden own r = if is_declared own.name r.symbols then None else Some own
+
+abbrev pub with_own : Option Ident → List Ident → List Ident
+with_own None names = names
+with_own (Some own) names = own ∷ names
+
 -- the predefined names (RM 8.6(2), A.1, A.10.1)
 abbrev pub predefined : List Symbol
 predefined =
@@ -103,9 +111,9 @@ predefined =
 abbrev pub outermost : List Region
 outermost = (record { symbols = predefined; level = 0; cells = 0; names = 0 }) ∷ []
 
--- the library's region (RM 10.1.1)
+-- the library's region, in which the main procedure is declared, whose unit is the first (RM 10.1.1)
 abbrev pub library : List ℕ → Region
-library name = record { symbols = (name, MainProcedure) ∷ []; level = 0; cells = 0; names = 0 }
+library name = record { symbols = (name, Procedure 0) ∷ []; level = 0; cells = 0; names = 0 }
 
 -- the place of a main procedure's declarations: its body's region, that of the library, and the predefined one (RM 10.1.1)
 abbrev pub main_place : List ℕ → Place

@@ -6,7 +6,7 @@ use Rattle.aud_syntax.specs.declared.tree.Ident.{Ident}
 use Rattle.aud_syntax.specs.Plain.{Name, named, NamePart, part, Parts, no_parts, more_parts, Args, no_args, more_args}
 use Rattle.aud_check.specs.declared.fault.Fault.{Fault}
 use Rattle.aud_check.specs.declared.names.Meaning.{Meaning}
-use Rattle.aud_check.specs.declared.names.Meaning.TheVariants.{ScalarType, Literal, Object, Array, Exception, Builtin, MainProcedure}
+use Rattle.aud_check.specs.declared.names.Meaning.TheVariants.{ScalarType, Literal, Object, Array, Exception, Builtin, Procedure}
 use Rattle.aud_check.specs.declared.resolution.Denoted.{Denoted}
 use Rattle.aud_check.specs.Names.{Place, visible, is_taken, named_in, predefined}
 use Rattle.aud_check.specs.Rules.{name_not_declared, wrong_kind_of_name}
@@ -48,7 +48,7 @@ last_args (named p ps) = last_of p ps
 -- procedures have arguments, and arrays an index (RM 4.1.1)
 abbrev pub takes_arguments : Meaning → Bool
 takes_arguments (Builtin b) = true
-takes_arguments MainProcedure = true
+takes_arguments (Procedure n) = true
 takes_arguments (Array a) = true
 takes_arguments (ScalarType s) = false
 takes_arguments (Literal b) = false

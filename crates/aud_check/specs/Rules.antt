@@ -2,7 +2,7 @@
 use Rattle.std.specs.Prelude.{Bool, true, false, not, List, [], ◌∷◌, Option, Some, None, if◌then◌else◌, ℕ}
 use Rattle.std.specs.Str.{bytes_eq}
 use Rattle.aud_text.specs.declared.place.Pos.{Pos}
-use Rattle.aud_text.specs.declared.refusal.Refusal.TheVariants.{NameNotDeclared, DeclaredTwice, WrongKindOfName, WrongType, WrongNumberOfArguments, NotAVariable, WrongNameAtEnd, ExitWithoutLoop, RaiseWithoutHandler, BadHandlerChoice, NumberTooLarge}
+use Rattle.aud_text.specs.declared.refusal.Refusal.TheVariants.{NameNotDeclared, DeclaredTwice, WrongKindOfName, WrongType, WrongNumberOfArguments, NotAVariable, WrongNameAtEnd, ExitWithoutLoop, ReturnOutOfPlace, RaiseWithoutHandler, BadHandlerChoice, NumberTooLarge}
 use Rattle.aud_syntax.specs.declared.tree.Ident.{Ident}
 use Rattle.aud_check.specs.declared.fault.Fault.{Fault}
 use Rattle.aud_check.specs.declared.rules.Base.{Base}
@@ -55,7 +55,7 @@ right_type asked at given = unless (fits asked given) (record { at = at; refusal
 abbrev pub wrong_number_of_arguments : Pos → List Fault
 wrong_number_of_arguments at = record { at = at; refusal = WrongNumberOfArguments } ∷ []
 
--- a target is a variable (RM 5.2(5)), and no constant (RM 3.3.1(5)); at the target
+-- a target, and an argument of mode out or in out, is a variable (RM 5.2(5), 6.4.1(5)), and no constant (RM 3.3.1(5)); at its first token
 abbrev pub not_a_variable : Pos → List Fault
 not_a_variable at = record { at = at; refusal = NotAVariable } ∷ []
 
@@ -74,6 +74,10 @@ right_label_at_end (Some label) (Some last) semicolon = right_name_at_end label.
 -- an exit leaves a loop that encloses it (RM 5.7(4)); at `exit`
 abbrev pub exit_in_loop : Bool → Pos → List Fault
 exit_in_loop good at = unless good (record { at = at; refusal = ExitWithoutLoop })
+
+-- a return has a value exactly in a function (RM 6.5(5)); at `return`
+abbrev pub return_in_place : Bool → Pos → List Fault
+return_in_place good at = unless good (record { at = at; refusal = ReturnOutOfPlace })
 
 -- a raise without a name stands in a handler (RM 11.3(3)); at `raise`
 abbrev pub raise_in_handler : Bool → Pos → List Fault

@@ -5,7 +5,9 @@ pub mod Gives
 pub mod Hidden
 pub mod Labels
 pub mod Loops
+pub mod Passed
 pub mod Regions
 pub mod Table
+pub mod Tables
 pub mod Typing
 pub mod Within

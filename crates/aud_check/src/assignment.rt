@@ -30,7 +30,8 @@ fn meaning_base(meaning: Meaning) -> Option<Base>
     }
 }
 
-fn target_base(target: &Entity) -> Option<Base>
+/// The type of what a name denotes that is assigned to, where it is known.
+pub fn target_base(target: &Entity) -> Option<Base>
     ensures { result ≡ target_base (plain_entity target.now) }
 {
     match target {
@@ -55,11 +56,12 @@ fn check_changed(meaning: Meaning, at: Pos, faults: &mut Least)
         | Meaning::Array(_)
         | Meaning::Exception(_)
         | Meaning::Builtin(_)
-        | Meaning::MainProcedure => wrong_kind_of_name(at, faults),
+        | Meaning::Procedure(_) => wrong_kind_of_name(at, faults),
     }
 }
 
-fn check_target(target: &Entity, at: Pos, faults: &mut Least)
+/// Notes where what is assigned to, or copied back to, is neither a variable nor an element.
+pub fn check_target(target: &Entity, at: Pos, faults: &mut Least)
     ensures { faults.new ≡ noted faults.old (target_faults (plain_entity target.now) at) }
 {
     match target {

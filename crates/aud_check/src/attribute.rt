@@ -151,7 +151,7 @@ fn image(meaning: Meaning, at: Places, argument: Option<Operand>, faults: &mut L
             let text = TextExpression::ImageTruth(BooleanExpression::Truth(value));
             without_argument(designator, argument, Typed::Text(text), faults)
         }
-        Meaning::Array(_) | Meaning::Exception(_) | Meaning::Builtin(_) | Meaning::MainProcedure =>
+        Meaning::Array(_) | Meaning::Exception(_) | Meaning::Builtin(_) | Meaning::Procedure(_) =>
             wrong_kind(at.prefix, argument, faults),
     }
 }

@@ -1,14 +1,14 @@
-// Declarations of variables, constants, arrays and exceptions.
+// Declarations of variables, constants, arrays and exceptions, and of procedures' names.
 
 ghost use Rattle.std.specs.Prelude.{◌≡◌, [], ◌∷◌, ◌++◌, map, IfOk, OnOk};
 ghost use Rattle.aud_typed.specs.Tree.{declare_array};
-ghost use Rattle.aud_syntax.specs.Plain.{an_expression};
-ghost use Rattle.aud_syntax.specs.Ties.View.{plain_expression, plain_declaration, plain_declarations};
+ghost use Rattle.aud_syntax.specs.Ties.View.{plain_expression};
 ghost use Rattle.aud_typed.specs.Ties.View.{plain_value, plain_statements as plain_typed_statements};
 ghost use Rattle.aud_check.specs.Least.{noted};
 ghost use Rattle.aud_check.specs.Names.{visible};
+ghost use Rattle.aud_check.specs.Tables.{no_tables};
 ghost use Rattle.aud_check.specs.Rules.{declared_once};
-ghost use Rattle.aud_check.specs.Declarations.{subtype_faults, subtype_meant, initial_faults, initial_value, default_value, value_for, known, with_name, declared_names, twice_faults, elaboration, marked, checked_object, checked_array, with_exception, declared_exceptions, exceptions_twice, checked_declaration, checked_declarations};
+ghost use Rattle.aud_check.specs.Declarations.{subtype_faults, subtype_meant, given_faults, given_value, initial_faults, initial_value, default_value, value_for, known, with_name, declared_names, twice_faults, elaboration, marked, checked_object, checked_array, with_exception, declared_exceptions, exceptions_twice, with_procedure};
 ghost use Rattle.aud_check.specs.Ties.Typing.{plain_typed, Leaves};
 ghost use Rattle.aud_check.specs.Ties.DeclarativePart.{Declares, plain_initial, plain_exceptions};
 ghost use Rattle.aud_check.specs.Ties.Regions.{plain_region, plain_place, names_in};
@@ -20,7 +20,7 @@ use crate::fault::Least;
 use crate::names::{Meaning, Object, Region, Scope};
 use crate::rules::{base_asked, declared_once, name_not_declared, right_type, wrong_kind_of_name};
 use crate::typed::{Typed, base_of};
-use aud_syntax::tree::{Bound, Declaration, Expression, Ident, Identifiers};
+use aud_syntax::tree::{Bound, Expression, Ident, Identifiers};
 use aud_text::int32::Int32;
 use aud_text::name::Name;
 use aud_text::place::Pos;
@@ -56,8 +56,8 @@ fn subtype_meant(meaning: Option<Meaning>) -> Option<Subtype>
     }
 }
 
-// The subtype that a mark names, if it names one.
-fn subtype_mark(mark: &Ident, scope: &Scope<'_>, faults: &mut Least) -> Option<Subtype>
+/// The subtype that a mark names, if it names one.
+pub fn subtype_mark(mark: &Ident, scope: &Scope<'_>, faults: &mut Least) -> Option<Subtype>
     ensures subtype { result ≡ subtype_meant (visible mark.now.name scope.now) }
     ensures noted { faults.new
         ≡ noted faults.old (subtype_faults (visible mark.now.name scope.now) mark.now.at) }
@@ -93,7 +93,8 @@ pub fn value_for(subtype: Subtype, value: Typed) -> ValueExpression
     }
 }
 
-fn known(subtype: Option<Subtype>) -> Subtype
+/// A subtype; one that is not known is of a faulty program.
+pub fn known(subtype: Option<Subtype>) -> Subtype
     ensures { result ≡ known subtype }
 {
     match subtype {
@@ -102,17 +103,17 @@ fn known(subtype: Option<Subtype>) -> Subtype
     }
 }
 
-// The value that a declaration gives.
+/// A value for a place that asks for a subtype, where that is known: notes its faults, and answers what is left of it.
 #[tactic(auto, using(crate::proofs::Notes::noted_append))]
-fn given_value(
+pub fn given_value(
     value: &Expression,
     subtype: Option<Subtype>,
     scope: &Scope<'_>,
     faults: &mut Least,
 ) -> Made<ValueExpression>
     ensures { Leaves plain_value result faults.old faults.new
-        (initial_faults (an_expression (plain_expression value.now)) subtype scope.now)
-        (initial_value (an_expression (plain_expression value.now)) subtype scope.now) }
+        (given_faults (plain_expression value.now) subtype scope.now)
+        (given_value (plain_expression value.now) subtype scope.now) }
 {
     let typed = expression(value, scope, faults)?;
     right_type(
@@ -159,8 +160,8 @@ fn declare_name(ident: &Ident, kind: Kind, region: &mut Region, faults: &mut Lea
     Ok(())
 }
 
-// Declares the names one after the other.
-fn declare(names: &Identifiers, kind: Kind, region: &mut Region, faults: &mut Least) -> Made<()>
+/// Declares names one after the other, with cells of their own.
+pub fn declare(names: &Identifiers, kind: Kind, region: &mut Region, faults: &mut Least) -> Made<()>
     ensures region { OnOk result (plain_region region.new
         ≡ declared_names (names_in names.now) kind (plain_region region.old)) }
     ensures noted { OnOk result (faults.new ≡ noted faults.old
@@ -188,9 +189,9 @@ fn elaborate(
     Ok(())
 }
 
-// Declares variables or constants (RM 3.3.1).
+/// Declares variables or constants (RM 3.3.1).
 #[tactic(auto, using(crate::proofs::Notes::noted_append))]
-fn objects(
+pub fn objects(
     names: &Identifiers,
     mark: &Ident,
     initial: Option<&Expression>,
@@ -199,9 +200,10 @@ fn objects(
     part: &mut DeclarativePart,
     faults: &mut Least,
 ) -> Made<()>
-    ensures { OnOk result (Declares faults.old faults.new outer.now part.old part.new []
+    ensures { OnOk result (Declares faults.old faults.new outer.now part.old part.new no_tables
         (checked_object (names_in names.now) names.now.first.at mark.now
-        (plain_initial initial.entry) constant (plain_place part.old.region outer.now) [])) }
+        (plain_initial initial.entry) constant (plain_place part.old.region outer.now)
+        no_tables)) }
 {
     let scope = Scope::within(&part.region, outer, names)?;
     let subtype = subtype_mark(mark, &scope, faults);
@@ -249,9 +251,9 @@ fn marked<'x>(
     Ok(subtype_mark(mark, &scope, faults))
 }
 
-// Declares arrays (RM 3.6).
+/// Declares arrays (RM 3.6).
 #[tactic(auto, using(crate::proofs::Notes::noted_append))]
-fn arrays(
+pub fn arrays(
     names: &Identifiers,
     bounds: (Bound, Bound),
     mark: &Ident,
@@ -259,9 +261,9 @@ fn arrays(
     part: &mut DeclarativePart,
     faults: &mut Least,
 ) -> Made<()>
-    ensures { OnOk result (Declares faults.old faults.new outer.now part.old part.new []
+    ensures { OnOk result (Declares faults.old faults.new outer.now part.old part.new no_tables
         (checked_array (names_in names.now) names.now.first.at bounds.0 bounds.1 mark.now
-        (plain_place part.old.region outer.now) [])) }
+        (plain_place part.old.region outer.now) no_tables)) }
 {
     let low = bound(bounds.0, faults);
     let high = bound(bounds.1, faults);
@@ -298,8 +300,8 @@ fn declare_exception(
     Ok(())
 }
 
-// Declares exceptions (RM 11.1).
-fn exceptions(
+/// Declares exceptions (RM 11.1).
+pub fn exceptions(
     names: &Identifiers,
     region: &mut Region,
     exceptions: &mut Vec<Name>,
@@ -318,49 +320,21 @@ fn exceptions(
     Ok(())
 }
 
-/// Checks a declaration (RM 3.3.1, 3.6, 11.1): notes its faults, and adds to the part what it declares, and to the
-/// exceptions those that it does.
-pub fn declaration(
-    declaration: &Declaration,
-    outer: &[&Region],
-    part: &mut DeclarativePart,
-    all_exceptions: &mut Vec<Name>,
+/// Declares the name of a procedure (RM 6.1), whose unit has this number.
+pub fn declare_procedure(
+    ident: &Ident,
+    number: usize,
+    region: &mut Region,
     faults: &mut Least,
 ) -> Made<()>
-    ensures { OnOk result (Declares faults.old faults.new outer.now part.old part.new
-        all_exceptions.new.items (checked_declaration (plain_declaration declaration.now)
-        (plain_place part.old.region outer.now) all_exceptions.old.items)) }
+    ensures region { OnOk result (plain_region region.new
+        ≡ with_procedure ident.now number (plain_region region.old)) }
+    ensures noted { OnOk result (faults.new ≡ noted faults.old
+        (declared_once ident.now.name ident.now.at region.old.symbols.entries)) }
 {
-    match declaration {
-        Declaration::Object(names, mark, initial) => {
-            objects(names, mark, initial.as_ref(), false, outer, part, faults)
-        }
-        Declaration::Constant(names, mark, value) => {
-            objects(names, mark, Some(value), true, outer, part, faults)
-        }
-        Declaration::Array(names, low, high, mark) => {
-            arrays(names, (*low, *high), mark, outer, part, faults)
-        }
-        Declaration::Exception(names) => {
-            exceptions(names, &mut part.region, all_exceptions, faults)
-        }
-    }
-}
-
-/// Checks a declarative part (RM 3.11).
-pub fn declarations(
-    declarations: &[Declaration],
-    outer: &[&Region],
-    part: &mut DeclarativePart,
-    exceptions: &mut Vec<Name>,
-    faults: &mut Least,
-) -> Made<()>
-    ensures { OnOk result (Declares faults.old faults.new outer.now part.old part.new
-        exceptions.new.items (checked_declarations (plain_declarations declarations.now)
-        (plain_place part.old.region outer.now) exceptions.old.items)) }
-{
-    for next in declarations {
-        declaration(next, outer, part, exceptions, faults)?;
+    if declared_once(ident, &region.symbols, faults) {
+        let name = ident.name.try_clone(region.alloc)?;
+        region.symbols.insert(name, Meaning::Procedure(number))?;
     }
     Ok(())
 }

@@ -151,7 +151,7 @@ fn check_read(meaning: Meaning, at: Pos, faults: &mut Least)
         | Meaning::Array(_)
         | Meaning::Exception(_)
         | Meaning::Builtin(_)
-        | Meaning::MainProcedure => wrong_kind_of_name(at, faults),
+        | Meaning::Procedure(_) => wrong_kind_of_name(at, faults),
     }
 }
 

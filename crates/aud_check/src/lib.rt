@@ -8,6 +8,7 @@ ghost use Rattle.aud_typed.specs.Ties.View.{plain_program};
 ghost use Rattle.aud_check.specs.Checked.{checked};
 ghost use Rattle.aud_check.specs.Ties.Gives.{Gives};
 
+mod argument;
 mod array;
 mod assignment;
 mod attribute;
@@ -18,11 +19,13 @@ mod declaration;
 mod entity;
 mod expression;
 pub mod fault;
+mod formal;
 mod handler;
 mod hidden;
 mod iteration;
 mod labels;
 pub mod laws;
+mod leaving;
 mod made;
 mod names;
 mod resolution;
@@ -40,7 +43,7 @@ use aud_typed::program::Program;
 use std::alloc::Global;
 
 /// The typed program of a program without faults (RM 10.1.1). Each variable in it has been elaborated where it
-/// is read or assigned (RM 3.3.1).
+/// is read or assigned (RM 3.3.1), and each procedure is there that is called.
 ///
 /// # Errors
 ///

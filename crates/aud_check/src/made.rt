@@ -3,7 +3,7 @@
 ghost use Rattle.std.specs.Prelude.{◌≡◌, IfOk};
 ghost use Rattle.aud_syntax.specs.Ties.View.{plain_body as plain_source, plain_choices};
 ghost use Rattle.aud_typed.specs.Tree.{null, block, part_of};
-ghost use Rattle.aud_typed.specs.Ties.View.{plain_boolean, plain_statement, plain_body, statements_in};
+ghost use Rattle.aud_typed.specs.Ties.View.{plain_boolean, plain_statement, plain_body, plain_unit, statements_in};
 ghost use Rattle.aud_check.specs.Statements.{arm_then, arms_then, body_with};
 ghost use Rattle.aud_check.specs.Handlers.{is_others, choices_of};
 ghost use Rattle.aud_check.specs.Ties.Arms.{plain_arm, plain_arms, plain_handler, plain_parts};
@@ -15,7 +15,7 @@ use crate::names::Scope;
 use aud_syntax::tree::{Body as SourceBody, Choices};
 use aud_text::place::Pos;
 use aud_typed::program::{
-    Arm, BlockStatement, Body, BooleanExpression, Handler, IfStatement, Statement, Statements,
+    Arm, BlockStatement, Body, BooleanExpression, Handler, IfStatement, Statement, Statements, Unit,
 };
 use std::alloc::Global;
 
@@ -120,26 +120,53 @@ pub type Parts = (Box<Statements>, Vec<Handler>);
 
 /// A body with these declarations.
 #[inline(never)]
-pub fn body_of(source: &SourceBody, declarations: Vec<Statement>, parts: Parts) -> Body
-    ensures { plain_body result
-        ≡ body_with (plain_items declarations) (plain_source source.now) (plain_parts parts) }
+pub fn body_of(
+    alloc: Global,
+    source: &SourceBody,
+    declarations: Vec<Statement>,
+    parts: Parts,
+) -> Left<Body>
+    ensures { IfOk result (λ body. plain_body body.value
+        ≡ body_with (plain_items declarations) (plain_source source.now) (plain_parts parts)) }
 {
     let (statements, handlers) = parts;
-    Body {
-        declarations,
-        begin: source.begin,
-        statements: Box::into_inner(statements),
-        handlers,
-        end: source.end,
-    }
+    boxed(
+        alloc,
+        Body {
+            declarations,
+            begin: source.begin,
+            statements: Box::into_inner(statements),
+            handlers,
+            end: source.end,
+        },
+    )
 }
 
 /// A block that begins at a place, whose region has this number (RM 5.6).
 #[inline(never)]
-pub fn block_of(alloc: Global, at: Pos, region: usize, body: Body) -> Left<Statement>
+pub fn block_of(alloc: Global, at: Pos, region: usize, body: Box<Body>) -> Left<Statement>
     ensures { IfOk result (λ typed. plain_statement typed.value
-        ≡ block at region (plain_body body)) }
+        ≡ block at region (plain_body body.value)) }
 {
+    let body = Box::into_inner(body);
     let statement = boxed(alloc, BlockStatement { at, region, body })?;
     boxed(alloc, Statement::Block(statement))
+}
+
+/// A procedure's body, which begins at a place, with the level and the number of its region (RM 6.3).
+#[inline(never)]
+pub fn unit_of(alloc: Global, level: usize, region: usize, at: Pos, body: Box<Body>) -> Left<Unit>
+    ensures { IfOk result (λ unit. plain_unit unit.value
+        ≡ record { level = level; region = region; at = at; body = plain_body body.value }) }
+{
+    let body = Box::into_inner(body);
+    boxed(
+        alloc,
+        Unit {
+            level,
+            region,
+            at,
+            body,
+        },
+    )
 }

@@ -1,13 +1,14 @@
 // Names, and what they stand for.
 
 ghost use Rattle.std.specs.Prelude.{◌≡◌, ◌+◌, ◌∷◌, [], IfOk};
-ghost use Rattle.aud_check.specs.Names.{Place as Plain, empty_region, named_in, predefined, declared, hiding, is_hidden, is_taken, visible, library, outermost, innermost};
+ghost use Rattle.std.specs.Option.{option_copied};
+ghost use Rattle.aud_check.specs.Names.{Place as Plain, empty_region, named_in, predefined, declared, hiding, is_hidden, is_taken, own_hidden, with_own, visible, library, outermost, innermost, next_frame};
 ghost use Rattle.aud_check.specs.Ties.Regions.{plain_region, plain_regions, plain_place, names_in, hidden_names};
 
 use crate::behind::Made;
 use crate::hidden::Hidden;
 use crate::table::listed;
-use aud_syntax::tree::{Ident, Identifiers};
+use aud_syntax::tree::{Ident, Identifiers, Mode};
 use aud_text::name::Name;
 use aud_text::raise::Raise;
 use aud_typed::program::{Exception, Subtype, Variable};
@@ -27,7 +28,8 @@ pub enum Meaning {
     /// RM 11.1.
     Exception(Exception),
     Builtin(Builtin),
-    MainProcedure,
+    /// A procedure, by the number of its unit (RM 6.1): the main procedure's is 0.
+    Procedure(usize),
 }
 
 /// A variable or constant (RM 3.3.1): its subtype, which is not known where its declaration is faulty.
@@ -45,6 +47,13 @@ pub struct Array {
     pub first: Variable,
     pub low: i32,
     pub high: i32,
+    pub subtype: Option<Subtype>,
+}
+
+/// A formal parameter as calls see it (RM 6.1): its subtype is not known where its declaration is faulty.
+#[derive(Clone, Copy, PartialEq, Eq, Debug)]
+pub struct Parameter {
+    pub mode: Mode,
     pub subtype: Option<Subtype>,
 }
 
@@ -90,7 +99,7 @@ impl Region {
     {
         let mut library = Region::new(alloc, 0);
         let name = main.try_clone(alloc)?;
-        library.symbols.insert(name, Meaning::MainProcedure)?;
+        library.symbols.insert(name, Meaning::Procedure(0))?;
         Ok(library)
     }
 }
@@ -142,7 +151,27 @@ impl<'a> Scope<'a> {
         ensures { IfOk result (λ scope.
             scope ≡ hiding (names_in names.now) (plain_place innermost.now outer.now)) }
     {
-        let hidden = Hidden::new(innermost.alloc, &names.first, &names.others)?;
+        let hidden = Hidden::new(innermost.alloc, None, &names.first, &names.others)?;
+        Ok(Scope {
+            innermost,
+            outer,
+            hidden: Some(hidden),
+        })
+    }
+
+    /// The place within the declaration of these formals of a procedure in its region.
+    pub fn within_formal(
+        own: &'a Ident,
+        innermost: &'a Region,
+        outer: &'a [&'a Region],
+        names: &'a Identifiers,
+    ) -> Made<Self>
+        ensures { IfOk result (λ scope. scope
+            ≡ hiding (with_own (own_hidden own.now (plain_region innermost.now))
+            (names_in names.now)) (plain_place innermost.now outer.now)) }
+    {
+        let own = own_hidden(own, innermost);
+        let hidden = Hidden::new(innermost.alloc, own, &names.first, &names.others)?;
         Ok(Scope {
             innermost,
             outer,
@@ -154,7 +183,7 @@ impl<'a> Scope<'a> {
     pub fn within_one(&self, name: &'a Ident) -> Made<Self>
         ensures { IfOk result (λ scope. scope ≡ hiding (name.now ∷ []) self.now) }
     {
-        let hidden = Hidden::new(self.alloc(), name, &[])?;
+        let hidden = Hidden::new(self.alloc(), None, name, &[])?;
         Ok(Scope {
             innermost: self.innermost,
             outer: self.outer,
@@ -211,6 +240,33 @@ impl<'a> Scope<'a> {
             return None;
         }
         self.declared(name)
+    }
+}
+
+/// The regions around a frame within this region, which lies in those, and the frame's own (RM 6.1, 8.1).
+pub fn frame_within<'a>(
+    innermost: &'a Region,
+    outer: &'a [&'a Region],
+) -> Made<(Vec<&'a Region>, Region)>
+    ensures regions { IfOk result (λ frame. plain_regions frame.0.items
+        ≡ (plain_place innermost.now outer.now).regions) }
+    ensures own { IfOk result (λ frame. plain_region frame.1
+        ≡ next_frame (plain_place innermost.now outer.now)) }
+{
+    let scope = Scope::new(innermost, outer);
+    let regions = scope.regions()?;
+    let region = scope.frame()?;
+    Ok((regions, region))
+}
+
+// The name of a procedure within its formals, where none of those before has it.
+fn own_hidden<'a>(own: &'a Ident, region: &Region) -> Option<&'a Ident>
+    ensures { option_copied result ≡ own_hidden own.now (plain_region region.now) }
+{
+    if region.symbols.contains_key(&own.name) {
+        None
+    } else {
+        Some(own)
     }
 }
 

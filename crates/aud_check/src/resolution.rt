@@ -65,7 +65,7 @@ fn takes_arguments(meaning: Meaning) -> bool
     ensures { result ≡ takes_arguments meaning }
 {
     match meaning {
-        Meaning::Array(_) | Meaning::Builtin(_) | Meaning::MainProcedure => true,
+        Meaning::Array(_) | Meaning::Builtin(_) | Meaning::Procedure(_) => true,
         Meaning::ScalarType(_) | Meaning::Literal(_) | Meaning::Object(_) | Meaning::Exception(_) =>
             false,
     }

@@ -3,7 +3,7 @@
 ghost use Rattle.std.specs.Prelude.{◌≡◌, not};
 ghost use Rattle.aud_check.specs.Least.{noted};
 ghost use Rattle.aud_check.specs.Names.{is_declared};
-ghost use Rattle.aud_check.specs.Rules.{base_of_subtype, base_asked, name_not_declared, declared_once, wrong_kind_of_name, fits, right_type, wrong_number_of_arguments, not_a_variable, right_name_at_end, right_label_at_end, exit_in_loop, raise_in_handler, good_choice, number_too_large};
+ghost use Rattle.aud_check.specs.Rules.{base_of_subtype, base_asked, name_not_declared, declared_once, wrong_kind_of_name, fits, right_type, wrong_number_of_arguments, not_a_variable, right_name_at_end, right_label_at_end, exit_in_loop, return_in_place, raise_in_handler, good_choice, number_too_large};
 
 use crate::fault::Least;
 use crate::names::Symbols;
@@ -97,7 +97,7 @@ pub fn wrong_number_of_arguments(at: Pos, faults: &mut Least)
     faults.note(at, Refusal::WrongNumberOfArguments);
 }
 
-/// A target is a variable (RM 5.2(5)), and no constant (RM 3.3.1(5)).
+/// A target, and an argument of mode out or in out, is a variable (RM 5.2(5), 6.4.1(5)), and no constant (RM 3.3.1(5)).
 pub fn not_a_variable(at: Pos, faults: &mut Least)
     ensures { faults.new ≡ noted faults.old (not_a_variable at) }
 {
@@ -139,6 +139,15 @@ pub fn exit_in_loop(good: bool, at: Pos, faults: &mut Least)
 {
     if !good {
         faults.note(at, Refusal::ExitWithoutLoop);
+    }
+}
+
+/// A return has a value exactly in a function (RM 6.5(5)).
+pub fn return_in_place(good: bool, at: Pos, faults: &mut Least)
+    ensures { faults.new ≡ noted faults.old (return_in_place good at) }
+{
+    if !good {
+        faults.note(at, Refusal::ReturnOutOfPlace);
     }
 }
 

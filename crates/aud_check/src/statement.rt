@@ -1,61 +1,43 @@
-// Statements and bodies.
+// Statements, declarative parts and bodies.
 
-ghost use Rattle.std.specs.Prelude.{◌≡◌, ◌++◌, is_some, true};
-ghost use Rattle.aud_syntax.specs.Ties.View.{plain_expression, plain_maybe, plain_statement, plain_others, plain_statements, plain_if_statement, arm_list, plain_loop_statement, plain_block_statement, plain_body, handler_list};
-ghost use Rattle.aud_typed.specs.Tree.{exit};
-ghost use Rattle.aud_typed.specs.Ties.View.{plain_statement as plain_typed_statement};
-ghost use Rattle.aud_check.specs.Rules.{exit_in_loop};
-ghost use Rattle.aud_check.specs.Conditions.{maybe_condition_faults, maybe_condition};
-ghost use Rattle.aud_check.specs.Statements.{loop_number, labelled, arm_of, checked_statements, checked_others, checked_arms, checked_body, checked_handlers};
+ghost use Rattle.std.specs.Prelude.{true, IfOk, OnOk};
+ghost use Rattle.aud_syntax.specs.Ties.View.{plain_expression, plain_statement, plain_others, plain_statements, plain_if_statement, arm_list, plain_loop_statement, plain_block_statement, plain_body, handler_list, plain_declaration, plain_declarations, plain_procedure};
+ghost use Rattle.aud_typed.specs.Ties.View.{plain_body as plain_typed_body};
+ghost use Rattle.aud_check.specs.Statements.{labelled, arm_of, checked_statements, checked_others, checked_arms, checked_body, checked_handlers, checked_declaration, checked_declarations, body_behind};
+ghost use Rattle.aud_check.specs.Tables.{next_region, region_kept};
 ghost use Rattle.aud_check.specs.Ties.Arms.{plain_arm, plain_arms as plain_typed_arms, plain_handlers, plain_parts};
-ghost use Rattle.aud_check.specs.Ties.Typing.{plain_sequence, plain_items, in_box, Leaves};
-ghost use Rattle.aud_check.specs.Ties.Within.{around_of, Checks, ChecksStatement};
+ghost use Rattle.aud_check.specs.Ties.DeclarativePart.{Declares, Enters};
+ghost use Rattle.aud_check.specs.Ties.Regions.{plain_place};
+ghost use Rattle.aud_check.specs.Ties.Tables.{plain_tables};
+ghost use Rattle.aud_check.specs.Ties.Typing.{plain_sequence, plain_items, in_box};
+ghost use Rattle.aud_check.specs.Ties.Within.{around_of, around_entering, Checks, ChecksStatement};
 
 use crate::assignment::assignment;
-use crate::behind::{Left, Made, both, boxed, push};
+use crate::behind::{Left, Made, both, push};
 use crate::call::call;
-use crate::condition::{condition, maybe_condition};
-use crate::declaration::{DeclarativePart, declarations};
+use crate::condition::condition;
+use crate::declaration::{DeclarativePart, arrays, declare_procedure, exceptions, objects};
 use crate::fault::Least;
+use crate::formal::formals;
 use crate::handler::{all_choices, raise};
 use crate::iteration::{For, bounds, for_of, forever, while_of};
 use crate::labels::{Label, begin_at, exit_loop, with_label};
-use crate::made::{Parts, arm_of, block_of, body_of, handler_of, if_of, in_order, null_at};
-use crate::names::Scope;
-use crate::rules::{exit_in_loop, right_label_at_end};
-use crate::tables::{Tables, loop_region};
-use crate::within::Within;
-use aud_syntax::tree::{
-    Arm, BlockStatement, Body, Expression, Handler, IfStatement, Iteration, LoopStatement,
-    Statement, Statements,
+use crate::leaving::{exit, return_from};
+use crate::made::{
+    Parts, arm_of, block_of, body_of, handler_of, if_of, in_order, null_at, unit_of,
 };
-use aud_text::place::Pos;
+use crate::names::{Region, Scope, frame_within};
+use crate::rules::{right_label_at_end, right_name_at_end};
+use crate::tables::{Tables, loop_region};
+use crate::within::{Entering, Within};
+use aud_syntax::tree::{
+    Arm, BlockStatement, Body, Declaration, Handler, IfStatement, Iteration, LoopStatement,
+    ProcedureDeclaration, Statement, Statements,
+};
 use aud_typed::program::{
-    Arm as TypedArm, Handler as TypedHandler, Statement as TypedStatement,
+    Arm as TypedArm, Body as TypedBody, Handler as TypedHandler, Statement as TypedStatement,
     Statements as TypedStatements,
 };
-
-// An exit (RM 5.7) of the loop that is this number of loops further out than the innermost one, if there is such a loop.
-#[tactic(auto, using(crate::proofs::Notes::noted_append))]
-#[inline(never)]
-fn exit(
-    at: Pos,
-    found: Option<usize>,
-    condition: &Option<Expression>,
-    scope: &Scope<'_>,
-    faults: &mut Least,
-) -> Left<TypedStatement>
-    ensures { Leaves (in_box plain_typed_statement) result faults.old faults.new
-        (exit_in_loop (is_some found) at
-        ++ maybe_condition_faults (plain_maybe condition.now) scope.now)
-        (exit at (loop_number found) (maybe_condition (plain_maybe condition.now) scope.now)) }
-{
-    exit_in_loop(found.is_some(), at, faults);
-    let condition = maybe_condition(condition, scope, faults)?;
-    let depth = found.unwrap_or(0);
-    let condition = Box::into_inner(condition);
-    boxed(scope.alloc(), TypedStatement::Exit(at, depth, condition))
-}
 
 // What is left of a statement.
 type Stated = Left<TypedStatement>;
@@ -68,14 +50,14 @@ fn statement<'a>(
     tables: &mut Tables,
     faults: &mut Least,
 ) -> Stated
-    ensures { ChecksStatement result faults.old faults.new tables.old tables.new
+    ensures { ChecksStatement result faults.old faults.new (plain_tables tables.old) (plain_tables tables.new)
         (plain_statement statement.now) within.entry }
 {
     let scope = within.scope;
     match statement {
         Statement::Null(at) => null_at(scope.alloc(), *at),
         Statement::Assign(target, value) => assignment(target, value, scope, faults),
-        Statement::Call(name) => call(name, scope, faults),
+        Statement::Call(name) => call(name, scope, &*tables, faults),
         Statement::If(statement) => if_statement(statement, within, tables, faults),
         Statement::Loop(statement) => loop_statement(statement, within, tables, faults),
         Statement::Block(statement) => block_statement(statement, within, tables, faults),
@@ -83,6 +65,7 @@ fn statement<'a>(
             let found = exit_loop(name, within.labels);
             exit(*at, found, condition, scope, faults)
         }
+        Statement::Return(at, value) => return_from(*at, value, scope, faults),
         Statement::Raise(at, name) => raise(*at, name, within.in_handler, scope, faults),
     }
 }
@@ -96,7 +79,7 @@ fn if_statement<'a>(
     tables: &mut Tables,
     faults: &mut Least,
 ) -> Stated
-    ensures { ChecksStatement result faults.old faults.new tables.old tables.new
+    ensures { ChecksStatement result faults.old faults.new (plain_tables tables.old) (plain_tables tables.new)
         (plain_if_statement node.now) within.entry }
 {
     let first = arm(&node.first, within, tables, faults)?;
@@ -114,9 +97,9 @@ fn arms<'a>(
     tables: &mut Tables,
     faults: &mut Least,
 ) -> Made<Vec<TypedArm>>
-    ensures { Checks plain_typed_arms result faults.old faults.new tables.new
+    ensures { Checks plain_typed_arms result faults.old faults.new (plain_tables tables.new)
         (checked_arms (arm_list arms.now) (around_of within.entry) within.entry.scope.now
-        tables.old) }
+        (plain_tables tables.old)) }
 {
     let mut typed = Vec::with_capacity(within.scope.alloc(), arms.len())?;
     for next in arms {
@@ -134,10 +117,10 @@ fn arm<'a>(
     tables: &mut Tables,
     faults: &mut Least,
 ) -> Left<TypedArm>
-    ensures { Checks (in_box plain_arm) result faults.old faults.new tables.new
+    ensures { Checks (in_box plain_arm) result faults.old faults.new (plain_tables tables.new)
         (arm_of arm.now.at (plain_expression arm.now.condition) within.entry.scope.now
         (checked_statements (plain_statements arm.now.statements) (around_of within.entry)
-        within.entry.scope.now tables.old)) }
+        within.entry.scope.now (plain_tables tables.old))) }
 {
     let condition = condition(&arm.condition, within.scope, faults)?;
     let statements = statements(&arm.statements, within, tables, faults);
@@ -154,7 +137,7 @@ fn loop_statement<'a>(
     tables: &mut Tables,
     faults: &mut Least,
 ) -> Stated
-    ensures { ChecksStatement result faults.old faults.new tables.old tables.new
+    ensures { ChecksStatement result faults.old faults.new (plain_tables tables.old) (plain_tables tables.new)
         (plain_loop_statement node.now) within.entry }
 {
     let scope = within.scope;
@@ -202,10 +185,10 @@ fn loop_body<'a>(
     tables: &mut Tables,
     faults: &mut Least,
 ) -> Left<TypedStatements>
-    ensures { Checks (in_box plain_sequence) result faults.old faults.new tables.new
+    ensures { Checks (in_box plain_sequence) result faults.old faults.new (plain_tables tables.new)
         (checked_statements (plain_statements node.now.statements)
         (labelled true node.now.label (around_of within.entry)) within.entry.scope.now
-        tables.old) }
+        (plain_tables tables.old)) }
 {
     let label = Label {
         is_loop: true,
@@ -229,56 +212,182 @@ fn block_statement<'a>(
     tables: &mut Tables,
     faults: &mut Least,
 ) -> Stated
-    ensures { ChecksStatement result faults.old faults.new tables.old tables.new
+    ensures { ChecksStatement result faults.old faults.new (plain_tables tables.old) (plain_tables tables.new)
         (plain_block_statement node.now) within.entry }
 {
     let alloc = within.scope.alloc();
     right_label_at_end(&node.label, &node.body.name, node.body.semicolon, faults);
     let outer = within.scope.regions()?;
-    let mut part = DeclarativePart {
-        region: within.scope.frame()?,
-        elaborations: Vec::new(alloc),
-    };
-    declarations(
-        &node.declarations,
-        &outer,
-        &mut part,
-        &mut tables.exceptions,
-        faults,
-    )?;
-    let DeclarativePart {
-        region,
-        elaborations,
-    } = part;
-    let number = tables.enter(&region)?;
+    let region = within.scope.frame()?;
     let label = Label {
         is_loop: false,
         name: &node.label,
     };
     let labels = with_label(alloc, label, within.labels)?;
-    let inner = Within {
-        scope: &Scope::new(&region, &outer),
+    let entering = Entering {
+        outer: &outer,
         labels: &labels,
         in_handler: within.in_handler,
     };
-    let parts = body(&node.body, inner, tables, faults);
-    let (elaborations, parts) = both(elaborations, parts)?;
-    let body = body_of(&node.body, elaborations, parts);
+    let number = tables.next_region();
+    let part = declared(&node.declarations, region, &outer, tables, faults)?;
+    let body = body_behind(part, &node.body, entering, tables, faults)?;
     block_of(alloc, begin_at(&node.label, node.at), number, body)
 }
 
-/// Checks the statements and handlers of a body (RM 11.2): notes their faults, and answers what is left of
-/// them.
+/// The declarations of a region that is entered: notes their faults, and answers the part behind them, whose names are
+/// in the tables.
 #[cycle(statement)]
-pub fn body<'a>(
+#[inline(never)]
+pub fn declared<'a>(
+    source: &'a [Declaration],
+    region: Region,
+    outer: &[&'a Region],
+    tables: &mut Tables,
+    faults: &mut Least,
+) -> Made<DeclarativePart>
+    ensures { IfOk result (λ part. Enters faults.old faults.new outer.now part
+        (next_region (plain_tables tables.old)) (plain_tables tables.new)
+        (checked_declarations (plain_declarations source.now) (plain_place region outer.now)
+        (region_kept (plain_tables tables.old)))) }
+{
+    let alloc = region.alloc;
+    let number = tables.next_region();
+    tables.keep_region(alloc)?;
+    let mut part = DeclarativePart {
+        region,
+        elaborations: Vec::new(alloc),
+    };
+    declarations(source, outer, &mut part, tables, faults)?;
+    tables.name_region(number, &part.region)?;
+    Ok(part)
+}
+
+/// The statements of a body behind its declarations: notes their faults, and answers what is left of the body.
+#[cycle(statement)]
+#[inline(never)]
+pub fn body_behind<'a>(
+    part: DeclarativePart,
+    node: &'a Body,
+    entering: Entering<'_, 'a>,
+    tables: &mut Tables,
+    faults: &mut Least,
+) -> Left<TypedBody>
+    ensures { Checks (in_box plain_typed_body) result faults.old faults.new
+        (plain_tables tables.new)
+        (body_behind (plain_items part.elaborations) (plain_body node.now)
+        (around_entering entering.entry) (plain_place part.region entering.entry.outer.now)
+        (plain_tables tables.old)) }
+{
+    let DeclarativePart {
+        region,
+        elaborations,
+    } = part;
+    let within = Within {
+        scope: &Scope::new(&region, entering.outer),
+        labels: entering.labels,
+        in_handler: entering.in_handler,
+    };
+    let parts = body(node, within, tables, faults);
+    let (elaborations, parts) = both(elaborations, parts)?;
+    body_of(region.alloc, node, elaborations, parts)
+}
+
+// A procedure (RM 6.1, 6.3): adds its name to the part, and its formals and its body to the tables.
+#[cycle(statement)]
+#[inline(never)]
+fn procedure<'a>(
+    node: &'a ProcedureDeclaration,
+    outer: &[&'a Region],
+    part: &mut DeclarativePart,
+    tables: &mut Tables,
+    faults: &mut Least,
+) -> Made<()>
+    ensures { OnOk result (Declares faults.old faults.new outer.now part.old part.new (plain_tables tables.new)
+        (checked_declaration (plain_procedure node.now) (plain_place part.old.region outer.now)
+        (plain_tables tables.old))) }
+{
+    let alloc = part.region.alloc;
+    let number = tables.next_unit();
+    declare_procedure(&node.name, number, &mut part.region, faults)?;
+    let (regions, mut region) = frame_within(&part.region, &*outer)?;
+    let profile = formals(&node.name, &node.formals, &regions, &mut region, faults)?;
+    tables.keep_unit(alloc, profile)?;
+    let level = region.level;
+    let own = tables.next_region();
+    let inner = declared(&node.declarations, region, &regions, tables, faults)?;
+    let entering = Entering {
+        outer: &regions,
+        labels: &[],
+        in_handler: false,
+    };
+    let body = body_behind(inner, &node.body, entering, tables, faults)?;
+    right_name_at_end(&node.name.name, &node.body.name, faults);
+    let unit = unit_of(alloc, level, own, node.at, body)?;
+    tables.put_unit(number, Box::into_inner(unit));
+    Ok(())
+}
+
+// A declaration (RM 3.1): notes its faults, and adds to the part and to the tables what it declares.
+#[cycle(statement)]
+fn declaration<'a>(
+    declaration: &'a Declaration,
+    outer: &[&'a Region],
+    part: &mut DeclarativePart,
+    tables: &mut Tables,
+    faults: &mut Least,
+) -> Made<()>
+    ensures { OnOk result (Declares faults.old faults.new outer.now part.old part.new (plain_tables tables.new)
+        (checked_declaration (plain_declaration declaration.now)
+        (plain_place part.old.region outer.now) (plain_tables tables.old))) }
+{
+    match declaration {
+        Declaration::Object(names, mark, initial) => {
+            objects(names, mark, initial.as_ref(), false, outer, part, faults)
+        }
+        Declaration::Constant(names, mark, value) => {
+            objects(names, mark, Some(value), true, outer, part, faults)
+        }
+        Declaration::Array(names, low, high, mark) => {
+            arrays(names, (*low, *high), mark, outer, part, faults)
+        }
+        Declaration::Exception(names) => {
+            exceptions(names, &mut part.region, &mut tables.exceptions, faults)
+        }
+        Declaration::Procedure(node) => procedure(node, outer, part, tables, faults),
+    }
+}
+
+// A declarative part (RM 3.11).
+#[cycle(statement)]
+fn declarations<'a>(
+    declarations: &'a [Declaration],
+    outer: &[&'a Region],
+    part: &mut DeclarativePart,
+    tables: &mut Tables,
+    faults: &mut Least,
+) -> Made<()>
+    ensures { OnOk result (Declares faults.old faults.new outer.now part.old part.new (plain_tables tables.new)
+        (checked_declarations (plain_declarations declarations.now)
+        (plain_place part.old.region outer.now) (plain_tables tables.old))) }
+{
+    for next in declarations {
+        declaration(next, outer, part, tables, faults)?;
+    }
+    Ok(())
+}
+
+// The statements and handlers of a body (RM 11.2).
+#[cycle(statement)]
+fn body<'a>(
     node: &'a Body,
     within: Within<'_, 'a>,
     tables: &mut Tables,
     faults: &mut Least,
 ) -> Made<Parts>
-    ensures { Checks plain_parts result faults.old faults.new tables.new
+    ensures { Checks plain_parts result faults.old faults.new (plain_tables tables.new)
         (checked_body (plain_body node.now) (around_of within.entry) within.entry.scope.now
-        tables.old) }
+        (plain_tables tables.old)) }
 {
     let statements = statements(&node.statements, within, tables, faults)?;
     let chosen = all_choices(&node.handlers, within.scope, faults);
@@ -300,9 +409,9 @@ fn handlers<'a>(
     tables: &mut Tables,
     faults: &mut Least,
 ) -> Made<Vec<TypedHandler>>
-    ensures { Checks plain_handlers result faults.old faults.new tables.new
+    ensures { Checks plain_handlers result faults.old faults.new (plain_tables tables.new)
         (checked_handlers (handler_list handlers.now) (around_of within.entry)
-        within.entry.scope.now tables.old) }
+        within.entry.scope.now (plain_tables tables.old)) }
 {
     let scope = within.scope;
     let mut typed = Vec::with_capacity(scope.alloc(), handlers.len())?;
@@ -321,9 +430,9 @@ fn statements<'a>(
     tables: &mut Tables,
     faults: &mut Least,
 ) -> Left<TypedStatements>
-    ensures { Checks (in_box plain_sequence) result faults.old faults.new tables.new
+    ensures { Checks (in_box plain_sequence) result faults.old faults.new (plain_tables tables.new)
         (checked_statements (plain_statements statements.now) (around_of within.entry)
-        within.entry.scope.now tables.old) }
+        within.entry.scope.now (plain_tables tables.old)) }
 {
     let first = statement(&statements.first, within, tables, faults)?;
     let others = more_statements(&statements.others, within, tables, faults);
@@ -338,9 +447,9 @@ fn more_statements<'a>(
     tables: &mut Tables,
     faults: &mut Least,
 ) -> Made<Vec<TypedStatement>>
-    ensures { Checks plain_items result faults.old faults.new tables.new
+    ensures { Checks plain_items result faults.old faults.new (plain_tables tables.new)
         (checked_others (plain_others others.now) (around_of within.entry)
-        within.entry.scope.now tables.old) }
+        within.entry.scope.now (plain_tables tables.old)) }
 {
     let mut typed = Vec::with_capacity(within.scope.alloc(), others.len())?;
     for next in others {

@@ -1,58 +1,141 @@
 // The tables of a program, as a check of its text makes them.
 
-ghost use Rattle.std.specs.Prelude.{◌≡◌, [], ◌++◌, map, option_map, IfOk, OnOk};
-ghost use Rattle.aud_typed.specs.Ties.View.{plain_shown, plain_region as plain_named_region};
+ghost use Rattle.std.specs.Prelude.{◌≡◌, [], ◌++◌, option_map, IfOk, OnOk};
+ghost use Rattle.aud_typed.specs.Ties.View.{plain_shown, plain_region as plain_named_region, plain_unit};
 ghost use Rattle.aud_check.specs.Regions.{shown_of, shown_row, shown, shown_before, shown_names, loop_region};
-ghost use Rattle.aud_check.specs.Tables.{Tables as Plain, next_region, with_region};
+ghost use Rattle.aud_check.specs.Tables.{no_tables, next_region, with_region, region_kept, region_named, next_unit, no_body, unit_kept, with_unit, profile_of};
 ghost use Rattle.aud_check.specs.Ties.Regions.{plain_region};
+ghost use Rattle.aud_check.specs.Ties.Tables.{plain_tables};
 
 use crate::array::length_between;
 use crate::behind::Made;
-use crate::names::{Meaning, Object, Region, Scope};
+use crate::names::{Meaning, Object, Parameter, Region, Scope};
 use aud_syntax::tree::Ident;
 use aud_text::name::Name;
-use aud_typed::program::{Named, Shown, Subtype, Variable};
+use aud_text::place::Pos;
+use aud_typed::program::{Body, Named, Shown, Statement, Statements, Subtype, Unit, Variable};
 use std::alloc::Global;
-use std::marker::Model;
 
 /// The variables and constants of each region that has been entered, by the regions' numbers, and the
-/// names of the exceptions, by theirs.
+/// names of the exceptions, by theirs; of each procedure that has been declared its formals, and its body, by the
+/// number of its unit.
 #[derive(Drop)]
 pub struct Tables {
     pub regions: Vec<Vec<Named>>,
     pub exceptions: Vec<Name>,
-}
-
-impl Model for Tables {
-    ghost Value = { Plain };
-
-    ghost view = { λ tables. record {
-      regions = map plain_named_region tables.regions.items;
-      exceptions = tables.exceptions.items;
-    } };
+    pub profiles: Vec<Vec<Parameter>>,
+    pub units: Vec<Unit>,
 }
 
 impl Tables {
     /// Those of a program of which nothing is checked yet.
     pub fn new(alloc: Global) -> Self
-        ensures { result ≡ record { regions = []; exceptions = [] } }
+        ensures { plain_tables result ≡ no_tables }
     {
         Tables {
             regions: Vec::new(alloc),
             exceptions: Vec::new(alloc),
+            profiles: Vec::new(alloc),
+            units: Vec::new(alloc),
         }
     }
 
-    /// Enters a region, behind its declarations: its number.
+    /// The number of the region that is entered next.
+    pub fn next_region(&self) -> usize
+        ensures { result ≡ next_region (plain_tables self.now) }
+    {
+        self.regions.len()
+    }
+
+    /// Enters a region that has all its names: its number.
     pub fn enter(&mut self, region: &Region) -> Made<usize>
-        ensures number { IfOk result (λ number. number ≡ next_region self.old) }
-        ensures tables { OnOk result (self.new
-            ≡ with_region (shown_names region.now.symbols.entries) self.old) }
+        ensures number { IfOk result (λ number. number ≡ next_region (plain_tables self.old)) }
+        ensures tables { OnOk result (plain_tables self.new
+            ≡ with_region (shown_names region.now.symbols.entries) (plain_tables self.old)) }
     {
         let number = self.regions.len();
         let names = names_of(region)?;
         self.regions.push(names)?;
         Ok(number)
+    }
+
+    /// Keeps the place of a region that is entered before its declarations.
+    pub fn keep_region(&mut self, alloc: Global) -> Made<()>
+        ensures { OnOk result (plain_tables self.new ≡ region_kept (plain_tables self.old)) }
+    {
+        self.regions.push(Vec::new(alloc))?;
+        Ok(())
+    }
+
+    /// Puts the names of a region where its place was kept.
+    #[tactic(auto, using(crate::proofs::Kept::region_set, crate::proofs::Kept::region_past))]
+    pub fn name_region(&mut self, number: usize, region: &Region) -> Made<()>
+        ensures { OnOk result (plain_tables self.new
+            ≡ region_named number (shown_names region.now.symbols.entries) (plain_tables self.old)) }
+    {
+        let names = names_of(region)?;
+        if number < self.regions.len() {
+            self.regions[number] = names;
+        }
+        Ok(())
+    }
+
+    /// The number of the unit that is declared next.
+    pub fn next_unit(&self) -> usize
+        ensures { result ≡ next_unit (plain_tables self.now) }
+    {
+        self.units.len()
+    }
+
+    /// Keeps the place of a unit with these formals.
+    pub fn keep_unit(&mut self, alloc: Global, profile: Vec<Parameter>) -> Made<()>
+        ensures { OnOk result (plain_tables self.new ≡ unit_kept profile.items (plain_tables self.old)) }
+    {
+        self.profiles.push(profile)?;
+        self.units.push(no_body(alloc))?;
+        Ok(())
+    }
+
+    /// Puts a unit where its place was kept.
+    #[tactic(auto, using(crate::proofs::Kept::unit_set, crate::proofs::Kept::unit_past))]
+    pub fn put_unit(&mut self, number: usize, unit: Unit)
+        ensures { plain_tables self.new ≡ with_unit number (plain_unit unit) (plain_tables self.old) }
+    {
+        if number < self.units.len() {
+            self.units[number] = unit;
+        }
+    }
+
+    /// The formals of a unit.
+    pub fn profile(&self, unit: usize) -> &[Parameter]
+        ensures { result.now ≡ profile_of unit (plain_tables self.now) }
+    {
+        match self.profiles.get(unit) {
+            None => &[],
+            Some(profile) => profile,
+        }
+    }
+}
+
+// What stands in the place of a unit whose body is not checked yet.
+fn no_body(alloc: Global) -> Unit
+    ensures { plain_unit result ≡ no_body }
+{
+    let at = Pos { line: 0, col: 0 };
+    Unit {
+        level: 0,
+        region: 0,
+        at,
+        body: Body {
+            declarations: Vec::new(alloc),
+            begin: at,
+            statements: Statements {
+                first: Statement::Null(at),
+                others: Vec::new(alloc),
+            },
+            handlers: Vec::new(alloc),
+            end: at,
+        },
     }
 }
 

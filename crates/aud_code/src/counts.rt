@@ -31,6 +31,12 @@ const TARGET: Counts = Counts {
     ..NOTHING
 };
 
+// One target, and one Integer.
+const TARGET_AND_INTEGER: Counts = Counts {
+    integers: 1,
+    ..TARGET
+};
+
 fn integers(count: usize) -> Counts
     ensures { result ≡ record { integers = count; booleans = 0; targets = 0 } }
 {
@@ -115,8 +121,10 @@ pub fn need_before(instruction: &Instruction, next: Counts, over: Counts) -> Cou
             .or(over.before(booleans(1), booleans(1))),
         Instruction::Find(_, _) => next.before(NOTHING, TARGET),
         Instruction::FindElement(_, _) => next.before(integers(1), TARGET),
+        Instruction::LoadFound => next.before(TARGET, TARGET_AND_INTEGER),
+        Instruction::PassCopy(_) => next.before(TARGET_AND_INTEGER, NOTHING),
         Instruction::AppendText(_) | Instruction::AppendNewLine => next,
-        Instruction::AppendImage => next.before(integers(1), NOTHING),
+        Instruction::AppendImage | Instruction::Pass => next.before(integers(1), NOTHING),
         Instruction::AppendTruth => next.before(booleans(1), NOTHING),
     }
 }
@@ -141,10 +149,7 @@ fn need_of_ending(ending: Ending) -> Counts
 {
     match ending {
         Ending::Declare { .. } => integers(1),
-        Ending::Assign => Counts {
-            targets: 1,
-            ..integers(1)
-        },
+        Ending::Assign => TARGET_AND_INTEGER,
         Ending::If(_) | Ending::While(_) | Ending::Exit(_) => booleans(1),
         Ending::Loop { .. } => integers(2),
         Ending::DeclareArray(_, _)
@@ -152,6 +157,8 @@ fn need_of_ending(ending: Ending) -> Counts
         | Ending::Put
         | Ending::Raise(_)
         | Ending::RaiseAgain
-        | Ending::Block { .. } => NOTHING,
+        | Ending::Block { .. }
+        | Ending::Return(_)
+        | Ending::Call(_) => NOTHING,
     }
 }

@@ -71,7 +71,8 @@ fn fits(lines: &[Line], place: usize, end: &EndLine) -> bool
     }
 }
 
-// Where a statement's step leads besides: into the frame that it opens, if it opens one, or out of loops.
+// Where a statement's step leads besides: into the frame that it opens, if it opens one, or out of loops. A call leads to a body,
+// which begins with no frame of a construct.
 fn ending_fits(lines: &[Line], place: usize, within: Option<usize>, ending: Ending) -> bool
     ensures { IsTrue result ↔ (EachAt (map plain_line lines.now) (inside_of ending)
         (frame_inside (plain_ending ending) place within)
@@ -84,13 +85,16 @@ fn ending_fits(lines: &[Line], place: usize, within: Option<usize>, ending: Endi
         Ending::Loop { inside, .. } | Ending::Block { inside, .. } => {
             is_within(lines, inside, Some(place))
         }
-        Ending::Exit(way) => leaves_loops(lines, within, way.loops, way.to),
+        Ending::Exit(way) | Ending::Return(way) => {
+            leaves_loops(lines, within, way.loops, way.to)
+        }
         Ending::DeclareArray(_, _)
         | Ending::Null
         | Ending::Assign
         | Ending::Put
         | Ending::Raise(_)
-        | Ending::RaiseAgain => true,
+        | Ending::RaiseAgain
+        | Ending::Call(_) => true,
     }
 }
 

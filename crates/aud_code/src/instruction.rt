@@ -5,7 +5,7 @@ use aud_text::text::Text;
 use aud_typed::program::{ArrayAt, Binary, Logical, Relation, Subtype, Unary, Variable};
 
 /// An instruction. They work on the operands of a step: Integers, truth values and targets, of which the newest is taken
-/// first, and a text that grows at its end.
+/// first, the arguments of a call, and a text that grows at its end.
 #[derive(Drop, Debug)]
 pub enum Instruction {
     /// One more Integer.
@@ -44,6 +44,13 @@ pub enum Instruction {
     /// Takes the newest Integer, an index; the element's cell, with its subtype, as one more target. Constraint_Error is raised
     /// where the array has no element of that index (RM 4.1.1(7)).
     FindElement(ArrayAt, Subtype),
+    /// What the newest target's cell holds, as one more Integer.
+    LoadFound,
+    /// Takes the newest Integer, as the next argument of a call.
+    Pass,
+    /// Takes the newest Integer, as the next argument, and the newest target, to which the formal of this number is copied back
+    /// (RM 6.4.1(17)).
+    PassCopy(usize),
     AppendText(Text),
     /// Takes the newest Integer, and puts its image at the text's end.
     AppendImage,

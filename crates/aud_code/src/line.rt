@@ -50,6 +50,10 @@ pub enum Ending {
     RaiseAgain,
     /// A block's frame, of the variables of this table; the step leads inside (RM 5.6).
     Block { region: usize, inside: usize },
+    /// The step leads out of a procedure, to its end (RM 6.5).
+    Return(Way),
+    /// The frame of a procedure, the body of this number; the step leads to its beginning (RM 6.4).
+    Call(usize),
 }
 
 /// The place of the statements that handle these exceptions, or all others where the flag holds (RM 11.2).

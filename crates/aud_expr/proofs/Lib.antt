@@ -1,2 +1,3 @@
 pub mod Instructions
 pub mod Closing
+pub mod Newest

@@ -6,6 +6,7 @@ ghost use Rattle.aud_code.specs.View.{plain_instruction};
 ghost use Rattle.aud_expr.specs.Flow.{InSight, FindsOperands, Acts, ended, evaluated_at, ReachesEnd, FitsEnd};
 ghost use Rattle.aud_expr.specs.Ticks.{ticks_at};
 
+use crate::arguments::{load_found, pass, pass_copy};
 use crate::elements::{find_element, load_element};
 use crate::flow::Flow;
 use crate::integers::{check, on_one, on_two};
@@ -72,6 +73,9 @@ pub fn eval_step(
         Instruction::FindElement(array, subtype) => {
             return find_element(*array, *subtype, display, frames, operands);
         }
+        Instruction::LoadFound => load_found(frames, operands)?,
+        Instruction::Pass => pass(operands)?,
+        Instruction::PassCopy(formal) => pass_copy(*formal, operands)?,
         Instruction::AppendText(text) => operands.append(text.as_bytes())?,
         Instruction::AppendImage => append_image(operands)?,
         Instruction::AppendTruth => append_truth(operands)?,

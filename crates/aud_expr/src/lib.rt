@@ -1,6 +1,7 @@
 // The evaluation of a step's expressions, by its instructions.
 #![tactic(auto)]
 
+mod arguments;
 mod elements;
 pub mod evaluate;
 mod few;
@@ -8,9 +9,8 @@ pub mod flow;
 pub mod fused;
 mod integers;
 pub mod operands;
-mod operators;
+pub mod operators;
 pub mod stack;
-pub mod target;
 mod texts;
 mod truths;
 mod variables;

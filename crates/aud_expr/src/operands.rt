@@ -1,13 +1,14 @@
-// What the instructions of a step work on: Integers, truth values, targets, and a text that grows.
+// What the instructions of a step work on: Integers, truth values, targets, arguments, and a text that grows.
 
-ghost use Rattle.std.specs.Prelude.{◌≡◌, ◌<◌, [], ◌++◌, None, reverse, length, OnOk};
+ghost use Rattle.std.specs.Prelude.{◌≡◌, ◌<◌, [], ◌∷◌, ◌++◌, None, reverse, length, OnOk};
 ghost use Rattle.aud_text.specs.Integer.{image};
 ghost use Rattle.aud_meaning.specs.Evaluation.{image_of_truth};
 ghost use Rattle.aud_meaning.specs.Parts.{no_waits};
 ghost use Rattle.aud_code.specs.Instruction.{Operands as Plain, no_operands};
+ghost use Rattle.aud_code.specs.Eval.{newest};
 ghost use Rattle.aud_expr.specs.Operands.{with_integer, with_truth, with_target};
 
-use crate::target::Target;
+use aud_store::target::{Back, Target};
 use aud_text::int32::Int32;
 use smallvec::SmallVec;
 use std::alloc::{AllocError, Global};
@@ -20,6 +21,8 @@ pub struct Operands {
     booleans: SmallVec<bool, 8>,
     targets: Vec<Target>,
     text: Vec<u8>,
+    values: Vec<Int32>,
+    backs: Vec<Back>,
 }
 
 impl Model for Operands {
@@ -30,8 +33,8 @@ impl Model for Operands {
       booleans = reverse o.booleans.items;
       targets = reverse o.targets.items;
       text = o.text.items;
-      values = [];
-      backs = [];
+      values = o.values.items;
+      backs = o.backs.items;
       names = [];
       delay = 0;
       cells = None;
@@ -50,6 +53,8 @@ impl Operands {
             booleans: SmallVec::new(alloc),
             targets: Vec::new(alloc),
             text: Vec::new(alloc),
+            values: Vec::new(alloc),
+            backs: Vec::new(alloc),
         }
     }
 
@@ -61,6 +66,8 @@ impl Operands {
         self.booleans.clear();
         self.targets.clear();
         self.text.clear();
+        self.values.clear();
+        self.backs.clear();
     }
 
     /// One more Integer. No object is being declared, as yet.
@@ -130,6 +137,45 @@ impl Operands {
             Some(target) => target,
             None => unreachable!(),
         }
+    }
+
+    /// The newest target, if there is one.
+    #[tactic(auto, using(crate::proofs::Newest::newest_last))]
+    pub fn newest_target(&self) -> Option<Target>
+        ensures { result ≡ newest self.now.targets }
+    {
+        self.targets.last().copied()
+    }
+
+    /// One more argument of a call.
+    pub fn pass(&mut self, value: Int32) -> Result<(), AllocError>
+        ensures { OnOk result
+            (self.new ≡ record self.old { values = self.old.values ++ value ∷ [] }) }
+    {
+        self.values.push(value)?;
+        Ok(())
+    }
+
+    /// One more formal that is copied back.
+    pub fn pass_back(&mut self, back: Back) -> Result<(), AllocError>
+        ensures { OnOk result (self.new ≡ record self.old { backs = self.old.backs ++ back ∷ [] }) }
+    {
+        self.backs.push(back)?;
+        Ok(())
+    }
+
+    /// The arguments so far.
+    pub fn values(&self) -> &[Int32]
+        ensures { result.now ≡ self.now.values }
+    {
+        &self.values
+    }
+
+    /// The formals so far that are copied back.
+    pub fn backs(&self) -> &[Back]
+        ensures { result.now ≡ self.now.backs }
+    {
+        &self.backs
     }
 
     /// Puts bytes at the end of the text.

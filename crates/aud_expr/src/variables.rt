@@ -1,11 +1,12 @@
 // Variables, as an evaluation sees them.
 
-ghost use Rattle.std.specs.Prelude.{◌≡◌, slice_index};
+ghost use Rattle.std.specs.Prelude.{◌≡◌, [], pos, slice_index, slice_index_or};
 ghost use Rattle.aud_meaning.specs.Evaluation.{cell};
+ghost use Rattle.aud_code.specs.Eval.{held};
 ghost use Rattle.aud_expr.specs.Flow.{InSight};
 
-use crate::target::Target;
 use aud_store::frames::Frames;
+use aud_store::target::Target;
 use aud_text::int32::Int32;
 use aud_typed::program::{Subtype, Variable};
 
@@ -13,9 +14,22 @@ use aud_typed::program::{Subtype, Variable};
 pub fn value_of(variable: Variable, display: &[usize], frames: &Frames) -> Int32
     ensures { InSight display.now frames.now (λ s. result ≡ cell variable s.sight) }
 {
-    let frame = frame_of(display, variable.level);
+    load(frames, frame_of(display, variable.level), variable.index)
+}
+
+/// What a target's cell holds, or 0 where there is none.
+pub fn held(target: Target, frames: &Frames) -> Int32
+    ensures { result ≡ held target frames.now }
+{
+    load(frames, target.frame(), target.index())
+}
+
+// What a cell of a frame holds, or 0 where there is none.
+fn load(frames: &Frames, frame: usize, index: usize) -> Int32
+    ensures { result ≡ slice_index_or (slice_index_or frames.now frame []) index (pos 0) }
+{
     if frame < frames.len() {
-        frames.load(frame, variable.index)
+        frames.load(frame, index)
     } else {
         Int32::new(0)
     }

@@ -10,7 +10,6 @@ use Rattle.aud_typed.specs.Tree as tree
 use Rattle.aud_typed.specs.Tree.{For, nothing, body, for_loop, block, no_handlers, handler}
 use Rattle.aud_meaning.specs.declared.state.Construct.{Construct}
 use Rattle.aud_meaning.specs.declared.state.Construct.TheVariants as construct
-use Rattle.aud_meaning.specs.Items.{no_body}
 use Rattle.aud_code.specs.Places.{Way, Guard}
 use Rattle.aud_code.specs.Instruction.{Instruction}
 use Rattle.aud_code.specs.Flat.{FlatLine, instructs}
@@ -19,9 +18,9 @@ use Rattle.aud_code.specs.declared.line.Way.{Way as Away}
 use Rattle.aud_code.specs.declared.line.Last.TheVariants.{Does, Ends}
 use Rattle.aud_code.specs.declared.line.Ending.TheVariants.{Block}
 use Rattle.aud_gen.specs.Instructions.{integer_code}
-use Rattle.aud_gen.specs.Layout.{Line, Around, in_for, in_block, stub_ways, in_call, around_out, ways_count, continues, line, end_line, stubs, stubs_of, guard_line_by, body_size_by, end_place_by, main_size_by, statement_size_by, part_size_by, statement_code_by, part_code_by, handlers_code_by, body_code_by, unit_code_by, units_code_by}
+use Rattle.aud_gen.specs.Layout.{Line, Around, in_for, in_block, stub_ways, in_call, around_out, ways_count, continues, line, end_line, stubs, stubs_of, guard_line_by, body_size_by, end_place_by, main_size_by, statement_size_by, part_size_by, statement_code_by, part_code_by, handlers_code_by, body_code_by}
 use Rattle.aud_gen.specs.Assembly.{end_line as moved_end, step_lines}
-use Rattle.aud_gen.specs.Written.{flat_step, written, written_bodies}
+use Rattle.aud_gen.specs.Written.{flat_step, written}
 use Rattle.aud_gen.specs.Writes.{ended, Writes, all_ways, statement_lines, part_lines, for_lines, stub_lines, guard_lines, handlers_lines, body_lines}
 use Rattle.aud_gen.proofs.Flat.Assembly.{assembled_append, its_length}
 use Rattle.aud_gen.proofs.Writing.{Adds, written_more, instructions_written}
@@ -217,17 +216,3 @@ pub next_stub : (ways : List Away) (i place : ℕ) → i < length ways → stub_
 next_stub [] i place h = absurd (omega (arith, h))
 next_stub (w ∷ ways) zero place h = refl
 next_stub (w ∷ ways) (suc i) place h = next_stub ways i place (omega (arith, h))
-
--- A program: its body, and behind it the one for numbers that no body has.
-
-pub bodies_written : (b : tree.Body) (last : ℕ) (lines n1 : List FlatLine) (starts : List ℕ) (spare : ℕ) (a : Around) → last ≡ end_place_by flat_step b 0 1 → a ≡ in_call None last → starts ≡ 0 ∷ [] → spare ≡ length n1 → n1 ≡ body_lines construct.Unit b last 0 0 last a → lines ≡ n1 ++ written (unit_code_by flat_step no_body (length n1)) → record { lines = lines; starts = starts; spare = spare; barriers = [] } ≡ written_bodies (b ∷ []) []
-bodies_written b last lines n1 starts spare a el ea z e h k =
-    let size = 0 + body_size_by flat_step b 1 in
-    let L = end_place_by flat_step b 0 1 in
-    let first : n1 ≡ written (unit_code_by flat_step b 0) = h ∙ ap (λ x. body_lines construct.Unit b last 0 0 last x) ea ∙ ap (λ l. body_lines construct.Unit b l 0 0 l (in_call None l)) el ∙ body_laid construct.Unit b 0 0 L (in_call None L) in
-    let many : length n1 ≡ size = ap length first ∙ body_written construct.Unit b 0 0 L (in_call None L) ∙ omega arith in
-    let all : lines ≡ written (units_code_by flat_step (b ∷ []) 0) =
-    k ∙ ap (λ ls. ls ++ written (unit_code_by flat_step no_body (length n1))) first ∙ ap (λ n. written (unit_code_by flat_step b 0) ++ written (unit_code_by flat_step no_body n)) many ∙ sym (assembled_append (λ n. n) (unit_code_by flat_step b 0) (unit_code_by flat_step no_body size)) in
-    ap (λ ls. record { lines = ls; starts = starts; spare = spare; barriers = [] }) all
-    ∙ ap (λ ns. record { lines = written (units_code_by flat_step (b ∷ []) 0); starts = ns; spare = spare; barriers = [] }) z
-    ∙ ap (λ n. record { lines = written (units_code_by flat_step (b ∷ []) 0); starts = 0 ∷ []; spare = n; barriers = [] }) (e ∙ many)

@@ -3,6 +3,8 @@ pub mod Writing
 pub mod Lists
 pub mod Lines
 pub mod Constructs
+pub mod Arguments
+pub mod Units
 pub mod Asking
 pub mod ByKind
 pub mod Standing

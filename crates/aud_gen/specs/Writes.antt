@@ -8,7 +8,8 @@ use Rattle.aud_typed.specs.declared.program.Connective.{Connective}
 use Rattle.aud_typed.specs.declared.program.Connective.TheVariants.{Logical, AndThen, OrElse}
 use Rattle.aud_typed.specs.declared.program.Arm.{Arm}
 use Rattle.aud_typed.specs.declared.program.ForStatement.{ForStatement, out-ForStatement}
-use Rattle.aud_typed.specs.Ties.View.{plain_integer, plain_boolean, statements_in}
+use Rattle.aud_typed.specs.declared.program.Unit as declared
+use Rattle.aud_typed.specs.Ties.View.{plain_integer, plain_boolean, statements_in, body_in}
 use Rattle.aud_meaning.specs.declared.state.Construct.{Construct}
 use Rattle.aud_meaning.specs.Items.{no_body}
 use Rattle.aud_code.specs.Places.{Way}
@@ -118,9 +119,15 @@ body_lines c (body d begin s h end) last place next out a =
     ++ (statement_lines s first last (around_out guard a)
     ++ (guard_lines h end guard last (ways_count a) a.within ++ (handlers_lines h (suc guard) last (around_out last a) ++ written (end_line c end next out a.within ∷ []))))
 
+abbrev pub unit_lines : tree.Body → ℕ → List FlatLine
+unit_lines b place = written (unit_code_by flat_step b place)
+
+abbrev pub bodies_in : List declared.Unit → List tree.Body
+bodies_in units = map (λ (u : declared.Unit). body_in u.body) units
+
+abbrev pub units_code : List declared.Unit → Flat
+units_code units = written_bodies (bodies_in units) []
+
 -- of a body that no program has
 abbrev pub idle_lines : ℕ → List FlatLine
-idle_lines place = written (unit_code_by flat_step no_body place)
-
-abbrev pub main_code : tree.Body → Flat
-main_code b = written_bodies (b ∷ []) []
+idle_lines place = unit_lines no_body place

@@ -1,16 +1,20 @@
-// The instructions of expressions.
+// The instructions of expressions and arguments.
 
 ghost use Rattle.std.specs.Prelude.{map};
+ghost use Rattle.aud_typed.specs.Ties.View.{plain_argument, plain_arguments};
 ghost use Rattle.aud_typed.specs.Ties.View.{plain_integer, plain_boolean, plain_value, plain_reference, plain_text};
 ghost use Rattle.aud_code.specs.Flat.{instructs};
+ghost use Rattle.aud_gen.specs.Instructions.{argument_code, arguments_code, copied_code};
 ghost use Rattle.aud_gen.specs.Instructions.{integer_code, condition_code, value_code, reference_code, text_code};
 ghost use Rattle.aud_gen.specs.Writes.{right_code, Writes};
 
 use crate::lengths::boolean_length;
 use crate::writer::{Writer, Written};
 use aud_code::instruction::Instruction;
+use aud_meaning::values::nearest_zero;
 use aud_typed::program::{
-    BooleanExpression, Connective, IntegerExpression, Reference, TextExpression, ValueExpression,
+    Argument, BooleanExpression, Connective, IntegerExpression, Reference, Subtype, TextExpression,
+    ValueExpression,
 };
 
 impl Writer {
@@ -131,6 +135,47 @@ impl Writer {
                 self.write_integer(index)?;
                 self.instruct(Instruction::FindElement(*array, *subtype))
             }
+        }
+    }
+
+    /// The arguments of a call, for the formals from the first one on.
+    pub fn write_arguments(&mut self, arguments: &[Argument]) -> Written
+        ensures { Writes result self.old self.new
+            (map instructs (arguments_code 0 (plain_arguments arguments.now))) }
+    {
+        for number in 0..arguments.len() {
+            self.write_argument(number, &arguments[number])?;
+        }
+        Ok(())
+    }
+
+    // An argument, for the formal of this number.
+    fn write_argument(&mut self, number: usize, argument: &Argument) -> Written
+        ensures { Writes result self.old self.new
+            (map instructs (argument_code number (plain_argument argument.now))) }
+    {
+        match argument {
+            Argument::ByValue(e) => {
+                self.write_value(e)?;
+                self.instruct(Instruction::Pass)
+            }
+            Argument::ByCopy(is_in, formal, r) => {
+                self.write_reference(r)?;
+                self.write_first_value(*is_in, *formal)?;
+                self.instruct(Instruction::PassCopy(number))
+            }
+        }
+    }
+
+    // What a formal of mode in out or out begins with, of this subtype.
+    fn write_first_value(&mut self, is_in: bool, formal: Subtype) -> Written
+        ensures { Writes result self.old self.new (map instructs (copied_code is_in formal)) }
+    {
+        if is_in {
+            self.instruct(Instruction::LoadFound)?;
+            self.instruct(Instruction::Check(formal))
+        } else {
+            self.instruct(Instruction::Push(nearest_zero(formal)))
         }
     }
 

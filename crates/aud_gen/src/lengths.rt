@@ -1,15 +1,18 @@
 // How many lines each part of a program becomes.
 
-ghost use Rattle.std.specs.Prelude.{◌≡◌, ◌+◌, length, IfOk};
+ghost use Rattle.std.specs.Prelude.{◌≡◌, ◌+◌, ℕ, length, IfOk};
 ghost use Rattle.aud_typed.specs.Tree.{part_of};
+ghost use Rattle.aud_typed.specs.Ties.View.{plain_argument, plain_arguments};
 ghost use Rattle.aud_typed.specs.Ties.View.{plain_integer, plain_boolean, plain_value, plain_reference, plain_text, plain_statement, plain_statements, statements_in, if_in, for_in, handlers_in, body_in, block_in};
+ghost use Rattle.aud_typed.specs.declared.program.Subtype.{Subtype};
+ghost use Rattle.aud_gen.specs.Instructions.{argument_code, arguments_code, copied_code};
 ghost use Rattle.aud_gen.specs.Instructions.{integer_code, condition_code, value_code, reference_code, text_code};
 ghost use Rattle.aud_gen.specs.Layout.{statement_size_by, part_size_by, handlers_size_by, body_size_by, end_place_by};
 ghost use Rattle.aud_gen.specs.Written.{flat_step};
 ghost use Rattle.aud_gen.specs.Writes.{arm_length};
 
 use aud_typed::program::{
-    Arm, BlockStatement, Body, BooleanExpression, ForStatement, Handler, IfStatement,
+    Argument, Arm, BlockStatement, Body, BooleanExpression, ForStatement, Handler, IfStatement,
     IntegerExpression, Reference, Statement, Statements, TextExpression, ValueExpression,
 };
 use std::alloc::AllocError;
@@ -104,6 +107,38 @@ pub fn reference_length(r: &Reference) -> Result<usize, AllocError>
     }
 }
 
+/// Of an argument of a call, whatever the number of its formal.
+pub fn argument_length(argument: &Argument) -> Result<usize, AllocError>
+    ensures { IfOk result (λ n. (number : ℕ) →
+        n ≡ length (argument_code number (plain_argument argument.now))) }
+{
+    match argument {
+        Argument::ByValue(e) => sum(value_length(e)?, 1),
+        Argument::ByCopy(is_in, _, r) => {
+            sum(sum(reference_length(r)?, first_value_length(*is_in))?, 1)
+        }
+    }
+}
+
+// Of what a formal of mode in out or out begins with, whatever its subtype.
+fn first_value_length(is_in: bool) -> usize
+    ensures { (formal : Subtype) → result ≡ length (copied_code is_in formal) }
+{
+    if is_in { 2 } else { 1 }
+}
+
+/// Of all arguments of a call.
+pub fn arguments_length(arguments: &[Argument]) -> Result<usize, AllocError>
+    ensures { IfOk result (λ n.
+        n ≡ length (arguments_code 0 (plain_arguments arguments.now))) }
+{
+    let mut total = 0;
+    for argument in arguments {
+        total = sum(total, argument_length(argument)?)?;
+    }
+    Ok(total)
+}
+
 /// Of a statement, with all that is in it, out of which this number of ways leads: of the loops around it, and out of the body.
 #[cycle(lengths)]
 pub fn statement_length(s: &Statement, ways: usize) -> Result<usize, AllocError>
@@ -130,6 +165,8 @@ pub fn statement_length(s: &Statement, ways: usize) -> Result<usize, AllocError>
         Statement::Raise(..) => Ok(1),
         Statement::RaiseAgain(_) => Ok(1),
         Statement::Block(block) => block_length(block, ways),
+        Statement::Return(_) => Ok(1),
+        Statement::ProcedureCall(_, _, arguments) => sum(arguments_length(arguments)?, 1),
     }
 }
 

@@ -1,31 +1,44 @@
 // The code of a program.
 
-ghost use Rattle.std.specs.Prelude.{◌≡◌, IfOk};
+ghost use Rattle.std.specs.Prelude.{◌≡◌, length, IfOk};
 ghost use Rattle.aud_typed.specs.Ties.View.{body_in, plain_program};
 ghost use Rattle.aud_code.specs.View.{plain_code};
 ghost use Rattle.aud_gen.specs.Assembly.{flat_program};
-ghost use Rattle.aud_gen.specs.Writes.{main_code};
+ghost use Rattle.aud_gen.specs.Writes.{unit_lines, units_code, Writes};
 
 use crate::lengths::place_of_end;
 use crate::ways::Ways;
-use crate::writer::Writer;
+use crate::writer::{Writer, Written};
 use aud_code::line::Code;
 use aud_code::sound_code::{SoundCode, verify};
 use aud_meaning::state::Construct;
-use aud_typed::program::{Body, Program};
+use aud_typed::program::{Body, Program, Unit};
 use std::alloc::{AllocError, Global};
 
-// The code of a body. Behind it stands what is run for a number that no body has.
-fn write_code(alloc: Global, body: &Body) -> Result<Code, AllocError>
-    ensures { IfOk result (λ code. plain_code code ≡ main_code (body_in body.now)) }
+impl Writer {
+    // The body of a procedure.
+    fn write_unit(&mut self, body: &Body) -> Written
+        ensures { Writes result self.old self.new
+            (unit_lines (body_in body.now) (length self.old)) }
+    {
+        let last = place_of_end(body, self.place(), 1)?;
+        let ways = Ways::of_body(self.alloc(), last);
+        self.write_body(body, Construct::Unit, &ways, last, 0, last)
+    }
+}
+
+// The code of all bodies, one after the other. Behind them stands what is run for a number that no body has.
+fn write_code(alloc: Global, units: &[Unit]) -> Result<Code, AllocError>
+    ensures { IfOk result (λ code. plain_code code ≡ units_code units.now) }
 {
-    let last = place_of_end(body, 0, 1)?;
-    let ways = Ways::of_body(alloc, last);
     let mut writer = Writer::new(alloc);
-    writer.write_body(body, Construct::Unit, &ways, last, 0, last)?;
+    let mut starts = Vec::new(alloc);
+    for unit in units {
+        starts.push(writer.place())?;
+        writer.write_unit(&unit.body)?;
+    }
     let spare = writer.place();
     writer.write_idle()?;
-    let starts = vec![in alloc; 0; 1]?;
     Ok(Code {
         lines: writer.into_lines(),
         starts,
@@ -37,7 +50,7 @@ fn write_code(alloc: Global, body: &Body) -> Result<Code, AllocError>
 pub fn generate(alloc: Global, program: &Program) -> Result<SoundCode, AllocError>
     ensures { IfOk result (λ code. code ≡ flat_program (plain_program program.now)) }
 {
-    let code = write_code(alloc, &program.body)?;
+    let code = write_code(alloc, &program.units)?;
     let verified = verify(alloc, code)?;
     match verified {
         Some(sound) => Ok(sound),

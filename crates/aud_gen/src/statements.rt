@@ -87,6 +87,13 @@ impl Writer {
                 self.end_statement(Ending::RaiseAgain, next, *at, out, ways.within)
             }
             Statement::Block(block) => self.write_block(block, ways, out, next),
+            Statement::Return(at) => {
+                self.end_statement(Ending::Return(ways.back), next, *at, out, ways.within)
+            }
+            Statement::ProcedureCall(at, unit, arguments) => {
+                self.write_arguments(arguments)?;
+                self.end_statement(Ending::Call(*unit), next, *at, out, ways.within)
+            }
         }
     }
 

@@ -1,11 +1,13 @@
 -- From what the code does to what the program does.
-use Rattle.std.proofs.Common.{◌≡◌, ℕ, ◌+◌, ◌<◌, ◌≤◌, List, Option, Some, None, refl, sym, ap, ◌∙◌, subst, arith}
+use Rattle.std.proofs.Common.{◌≡◌, ℕ, ◌+◌, ◌<◌, ◌≤◌, List, length, get_or, Option, Some, None, refl, sym, ap, ◌∙◌, subst, arith}
 use Rattle.std.specs.Prelude.{replicate, slice_get}
 use Rattle.std.proofs.lemmas.Option.{slice_get_past}
 use Rattle.std.proofs.lemmas.List.{length-replicate}
 use Rattle.aud_text.specs.declared.limits.Limits.{Limits}
+use Rattle.aud_text.specs.declared.place.Pos.{Pos}
 use Rattle.aud_typed.specs.declared.program.Program.{Program}
 use Rattle.aud_typed.specs.declared.program.Body.{out-Body}
+use Rattle.aud_typed.specs.declared.program.Unit as declared
 use Rattle.aud_typed.specs.Ties.View.{plain_program}
 use Rattle.aud_typed.proofs.Opened.{body_open}
 use Rattle.aud_typed.specs.Tree as tree
@@ -25,15 +27,28 @@ use Rattle.aud_gen.specs.Law as code
 use Rattle.aud_gen.proofs.Flat.Laws.{agreement_law, seen_law, moves_law, state_law, step_law, run_law, opening_law}
 use Rattle.aud_single.specs.declared.run.Ran.{Ran}
 use Rattle.aud_single.specs.Moving.{Enables, IsIn}
+use Rattle.aud_single.specs.Next.{ComesNext}
+use Rattle.aud_single.specs.Shown.{plans_of, unit_in, IsOpening}
+use Rattle.aud_single.proofs.Planned.{unit_found}
 use Rattle.aud_single.specs.Steps.{StepsTo}
 use Rattle.aud_single.specs.Running.{RunsTo}
 use Rattle.aud_machine.specs.Shown.{Shown}
 use Rattle.aud_machine.specs.Shows.{Shows, Did, Takes}
 
 -- Of a program and its code.
+-- the `end` of the main procedure, which is the first unit
+pub main_end : (p : Program) (us : List declared.Unit) (u : declared.Unit) → us ≡ p.units.items → 0 < length us → u ≡ get_or us 0 u → (out-Body u.body).end ≡ (unit_of (plain_program p).plan 0).end
+main_end p us u is some at =
+    sym (ap tree.end_of (body_open u.body))
+    ∙ sym (ap (λ (x : tree.UnitPlan). x.end) (unit_found us 0 u some at))
+    ∙ ap (λ l. (unit_in (plans_of l) 0).end) is
+
 module _ (p : Program) (lines : Flat) (is : lines ≡ flat_program (plain_program p)) where
   abbrev program : tree.Program
   program = plain_program p
+
+  abbrev units : List tree.UnitPlan
+  units = plans_of p.units.items
 
   abbrev In : Single Spot → All Spot
   In q = all_of p.name q
@@ -47,9 +62,9 @@ module _ (p : Program) (lines : Flat) (is : lines ≡ flat_program (plain_progra
       ∙ ap (λ x. state_at program.plan (flat_controls program.plan x) (In q)) is
       ∙ state_law program (In q) c h
 
-  pub coming_shown : (q : Single Spot) (task : ℕ) (next : Option NextStep) (c : Configuration) → ((plan : tree.Plan) → (name : List ℕ) → (unit_of plan 0).end ≡ (out-Body p.body).end → next ≡ coming_step_at plan (flat_controls plan lines) task (all_of name q)) → Showing q c → next ≡ coming_step_in program task c
-  coming_shown q task next c told h =
-      told program.plan p.name (ap tree.end_of (body_open p.body))
+  pub coming_shown : (q : Single Spot) (final : Pos) (task : ℕ) (next : Option NextStep) (c : Configuration) → final ≡ (unit_of program.plan 0).end → ComesNext lines final task q next → Showing q c → next ≡ coming_step_in program task c
+  coming_shown q final task next c there told h =
+      told program.plan p.name (sym there)
       ∙ ap (λ x. coming_step_at program.plan (flat_controls program.plan x) task (In q)) is
       ∙ ap (coming_step program.plan (flat program).barrier task) (seen_law program (In q) c h)
       ∙ ap (λ b. coming_step program.plan b task (seen program.plan (controls program) c)) (agreement_law program).barrier
@@ -60,17 +75,17 @@ module _ (p : Program) (lines : Flat) (is : lines ≡ flat_program (plain_progra
       ∙ ap (λ x. moves_at program.plan (flat_controls program.plan x) (In q)) (sym is)
       ∙ told program.plan p.name
 
-  pub opening_shown : (q : Single Spot) → ((plan : tree.Plan) → (name : List ℕ) → (unit_of plan 0).region ≡ 0 → (unit_of plan 0).at ≡ p.at → all_of name q ≡ opening_with plan name ((flat_controls plan lines).begins 0)) → Showing q (opening program)
+  pub opening_shown : (q : Single Spot) → IsOpening lines units q → Showing q (opening program)
   opening_shown q told =
-      let there = told program.plan p.name refl refl ∙ ap (λ x. opening_with program.plan p.name ((flat_controls program.plan x).begins 0)) is in
+      let there = told program.plan p.name refl ∙ ap (λ x. opening_with program.plan p.name ((flat_controls program.plan x).begins 0)) is in
       subst (λ m. code.Shows program m (opening program)) (sym there) (opening_law program)
 
   -- Runs.
 
-  module _ (limits : Limits) (n : ℕ) (old new : Single Spot) (ran : Ran) (c : Configuration) (r : RunsTo lines n old new ran) (h : Showing old c) where
+  module _ (limits : Limits) (n : ℕ) (old new : Single Spot) (ran : Ran) (c : Configuration) (r : RunsTo units lines n old new ran) (h : Showing old c) where
     pub run_shown : Showing new (run limits program n c)
     run_shown =
-        let there = r.run program.plan p.name limits ∙ ap (λ x. run_with program.plan (flat_controls program.plan x) limits n (In old)) is in
+        let there = r.run program.plan p.name refl limits ∙ ap (λ x. run_with program.plan (flat_controls program.plan x) limits n (In old)) is in
         subst (λ m. code.Shows program m (run limits program n c)) (sym there) (run_law limits program n (In old) c h)
 
     pub run_did : Did program ran c (run limits program n c)
@@ -88,10 +103,10 @@ module _ (p : Program) (lines : Flat) (is : lines ≡ flat_program (plain_progra
       let none = ap (λ ms. slice_get ms nth) (moves_shown q n c enabled h) ∙ slice_get_past (replicate n (own_move 0)) nth (simp length-replicate past) in
       subst (λ o. Takes limits program c o m m None) (sym none) (refl, refl)
 
-  module _ (limits : Limits) (old new : Single Spot) (ran : Ran) (c : Configuration) (stepped : StepsTo lines old new) (h : Showing old c) where
+  module _ (limits : Limits) (old new : Single Spot) (ran : Ran) (c : Configuration) (stepped : StepsTo units lines old new) (h : Showing old c) where
     pub step_shown : Showing new (step limits program c (own_move 0))
     step_shown =
-        let there = stepped program.plan p.name limits ∙ ap (λ x. step_with program.plan (flat_controls program.plan x) limits (In old) (own_move 0)) is in
+        let there = stepped program.plan p.name refl limits ∙ ap (λ x. step_with program.plan (flat_controls program.plan x) limits (In old) (own_move 0)) is in
         subst (λ m. code.Shows program m (step limits program c (own_move 0))) (sym there) (step_law limits program (In old) c (own_move 0) h)
 
     pub step_did : ran.steps ≡ 1 → new.steps ≡ old.steps + 1 → IsIn lines new ran.state → Did program ran c (step limits program c (own_move 0))

@@ -2,6 +2,7 @@
 
 ghost use Rattle.std.specs.Prelude.{◌≡◌, ◌+◌, ◌*◌, ◌<◌, ◌≤◌, [], ◌∷◌, length, map, min, slice_get, IfOk, IfSome, OnOk};
 ghost use Rattle.aud_typed.specs.Ties.View.{plain_program};
+ghost use Rattle.aud_meaning.specs.Parts.{unit_of};
 ghost use Rattle.aud_meaning.specs.Run.{moves_in, state_in, main_raised, supplied, advanced, opening};
 ghost use Rattle.aud_meaning.specs.Listings.{coming_step_in};
 ghost use Rattle.aud_machine.specs.Shown.{program_in, owns_in, ticks_of_step, ticks_of_run};
@@ -16,6 +17,7 @@ use aud_single::progress::Progress;
 pub use aud_single::run::Ran;
 use aud_single::run::run;
 use aud_text::limits::{CHOICES, CLOCK, Limits, OUTPUT, STEPS};
+use aud_text::place::Pos;
 use aud_typed::program::{Exception, Program};
 use std::alloc::{AllocError, Global};
 use std::marker::Model;
@@ -73,7 +75,7 @@ impl Machine {
         ensures limits { IfOk result (λ m. m.limits ≡ limits) }
     {
         let code = generate(alloc, &program)?;
-        let progress = Progress::new(&code, program.at, alloc)?;
+        let progress = Progress::new(&code, &program.units, alloc)?;
         Ok(Machine {
             program,
             code,
@@ -133,7 +135,7 @@ impl Machine {
         ensures { IfShows self.now (λ c. result ≡ coming_step_in (program_in self.now) task c) }
     {
         self.progress
-            .coming(&self.code, self.program.body.end, task)
+            .coming(&self.code, end_of_main(&self.program), task)
     }
 
     /// How many choices wait.
@@ -223,7 +225,7 @@ impl Machine {
             return Err(AllocError);
         }
         self.spent = true;
-        self.progress = Progress::new(&self.code, self.program.at, alloc)?;
+        self.progress = Progress::new(&self.code, &self.program.units, alloc)?;
         self.spent = false;
         Ok(())
     }
@@ -248,7 +250,13 @@ impl Machine {
         }
         self.spent = true;
         let mut operands = Operands::new(alloc);
-        let ran = run(&mut self.progress, &self.code, &mut operands, n)?;
+        let ran = run(
+            &mut self.progress,
+            &self.code,
+            &self.program.units,
+            &mut operands,
+            n,
+        )?;
         self.spent = false;
         Ok(ran)
     }
@@ -277,7 +285,9 @@ impl Machine {
         }
         self.spent = true;
         let mut operands = Operands::new(alloc);
-        let ticks = self.progress.step(&self.code, &mut operands)?;
+        let ticks = self
+            .progress
+            .step(&self.code, &self.program.units, &mut operands)?;
         self.spent = false;
         let state = self.progress.state(&self.code);
         Ok(Some(Ran {
@@ -285,5 +295,15 @@ impl Machine {
             ticks,
             state,
         }))
+    }
+}
+
+// Where the `end` of the main procedure stands.
+fn end_of_main(program: &Program) -> Pos
+    ensures { result ≡ (unit_of (plain_program program.now).plan 0).end }
+{
+    match program.units.first() {
+        Some(main) => main.body.end,
+        None => Pos { line: 0, col: 0 },
     }
 }

@@ -1,5 +1,5 @@
--- The steps of a program that is its main procedure alone.
-use Rattle.std.proofs.Common.{◌≡◌, ℕ, zero, suc, ℤ, pos, List, [], ◌∷◌, ◌++◌, Some, None, Option, Bool, true, false, refl, ap, ◌∙◌, sym, subst, slice_index_or, slice_set, nat_le, nat_lt, if◌then◌else◌, length, replicate}
+-- The steps of a program of one task.
+use Rattle.std.proofs.Common.{◌≡◌, ℕ, zero, suc, ℤ, pos, List, [], ◌∷◌, ◌++◌, Some, None, Option, Bool, true, false, refl, ap, ◌∙◌, slice_index_or, slice_set, nat_le, nat_lt, if◌then◌else◌, length, replicate, take}
 use Rattle.std.specs.Prelude.{int_le, ◌+ℤ◌, is_some}
 use Rattle.aud_text.specs.declared.place.Pos.{Pos}
 use Rattle.aud_text.specs.declared.raise.Raise.{Raise}
@@ -11,17 +11,17 @@ use Rattle.aud_typed.specs.declared.program.Exception.TheVariants.{Predefined}
 use Rattle.aud_typed.specs.declared.program.Subtype.{Subtype}
 use Rattle.aud_meaning.specs.declared.state.Status.TheVariants.{Completed}
 use Rattle.aud_typed.specs.Tree.{Plan, For}
-use Rattle.aud_meaning.specs.Configuration.{Frame, Pending, Target, Purpose, for_body, for_block, for_loop, for_procedure, for_operation, for_entry, for_accept, Opened, Own, Shared, All}
-use Rattle.aud_meaning.specs.Evaluation.{nearest_zero}
-use Rattle.aud_meaning.specs.Control.{Controls, Asked, raises_here, raises_in_part, declares, declares_array, goes_on, goes_out, assigns, puts, enters_loop, next_of_loop, raises, raises_again, enters_block, ends, handles, is_left_by, Moved, here, passes_end, out_by}
+use Rattle.aud_meaning.specs.Configuration.{Frame, Pending, Target, Returning, Purpose, for_body, for_block, for_loop, for_procedure, for_operation, for_entry, for_accept, Opened, Own, Shared, All}
+use Rattle.aud_meaning.specs.Evaluation.{nearest_zero, Passed}
+use Rattle.aud_meaning.specs.Control.{Controls, Asked, raises_here, raises_in_part, declares, declares_array, goes_on, goes_out, assigns, puts, enters_loop, next_of_loop, raises, raises_again, enters_block, calls_procedure, ends, handles, is_left_by, Moved, here, passes_end, out_by}
 use Rattle.aud_meaning.specs.Run.{own_move, seen, orders, step_with}
 use Rattle.aud_meaning.specs.Control as control
 use Rattle.aud_meaning.specs.Step.{for_first, for_step, has_next, not_handled}
-use Rattle.aud_meaning.specs.Effects.{assigned, changed_first, innermost, elaborated_in, is_loop, live_frames, handled, put_out}
+use Rattle.aud_meaning.specs.Effects.{assigned, changed_first, innermost, elaborated_in, is_loop, live_frames, handled, put_out, CopiedBack, with_result}
 use Rattle.aud_meaning.specs.Effects as effect
 use Rattle.aud_meaning.specs.Tasks as effects
-use Rattle.aud_meaning.specs.Parts.{on_own, numbers, no_waits, exception_of}
-use Rattle.aud_meaning.specs.Ties.Single.{Stage, runs, completed, pending_at, Stack, Single, all_of, scene_in, own_in, closed, closed_by, closed_times, out_of_loops, out_of_loops_by, opens, on_innermost, IsOpenedAlone, AreOpenedAlone}
+use Rattle.aud_meaning.specs.Parts.{on_own, numbers, no_waits, exception_of, unit_of}
+use Rattle.aud_meaning.specs.Ties.Single.{runs, completed, pending_at, Stack, Single, all_of, scene_in, own_in, closed, closed_by, closed_times, out_of_loops, out_of_loops_by, opens, opens_after, on_innermost, given_back, failed_at, IsOfProcedure, IsOpenedAlone, AreOpenedAlone}
 
 -- What leaves frames does so of any task that way.
 
@@ -172,6 +172,24 @@ module _ {C : Type 0} (plan : Plan) (name : List ℕ) (k : Controls C) (limits :
         by true e = rw e refl
         by false e = rw e (ap (λ (o : Own). record (In now) { tasks = record { control = k.takes 0 q.control; own = o } ∷ []; steps = suc q.steps }) (closed_same (own_in name (runs None) q.stack)))
 
+    -- a procedure's frame, whose first cells are the formals' values
+    abbrev called : ℕ → Pos → Passed → Option Target → Single C
+    called unit at p into =
+        let u = unit_of plan unit in
+        record now {
+          control = k.enters unit q.control;
+          stack = opens_after (for_procedure (record { is_function = u.is_function; backs = p.backs; into = into; value = None })) (length q.frames) u.region at (length p.values) (take u.level q.stack.display) q.stack;
+          frames = q.frames ++ p.values ∷ [];
+          steps = suc q.steps;
+        }
+
+    pub calls_procedure_step : (at : Pos) (unit : ℕ) (p : Passed) (into : Option Target) → Asks (calls_procedure at unit p into) → Stepped now ≡ In (if_room at (called unit at p into))
+    calls_procedure_step at unit p into is = ap (after now) is ∙ by (nat_le (suc (live_frames q.stack.opened)) FRAMES) refl
+      where
+        by : (b : Bool) → nat_le (suc (live_frames q.stack.opened)) FRAMES ≡ b → after now (calls_procedure at unit p into) ≡ In (if b then called unit at p into else raised (Predefined Storage) at)
+        by true e = rw e refl
+        by false e = rw e refl
+
     -- Construct by construct (RM 5.6, 6.4, 11.4). The loops within one are left with it.
 
     abbrev inner : Stack
@@ -225,6 +243,80 @@ module _ {C : Type 0} (plan : Plan) (name : List ℕ) (k : Controls C) (limits :
         found b (Some p) to for_block o os s finish is
         ∙ ap (λ (own : Own). does b to (effect.pends p.exception o.at own) (λ c. finish (effects.close_master plan k.barrier o.frame c))) (block_closed o os s is)
 
+    -- A procedure is left: it gives back no value, but formals, unless an exception leaves it.
+
+    procedure_closed : (r : Returning) (o : Opened) (os : List Opened) (s : Stack) → IsInnermost (for_procedure r) o os s → effect.closed (effect.out_of_loops (main s)) ≡ main (outer o os)
+    procedure_closed r o os s is = ap effect.closed (loops_same (main s)) ∙ ap (λ (z : List Opened). effect.closed_by z (main (out_of_loops s))) is
+
+    -- formals are copied back, and then this is done, one way or the other
+    abbrev giving : Single C → Moved → Opened → List Opened → CopiedBack → (All Moved → All Moved) → All C
+    giving b to o os back finish = does b to (main (outer o os)) (λ c. finish (effects.given_back plan k.barrier back o.at 0 c))
+
+    no_result : (r : Returning) → r.value ≡ None → (back : CopiedBack) → with_result r.into r.value back ≡ back
+    no_result r none back = ap (λ v. with_result r.into v back) none ∙ by r.into
+      where
+        by : (into : Option Target) → with_result into None back ≡ back
+        by None = refl
+        by (Some target) = refl
+
+    procedure_left : (b : Single C) (to : Moved) (r : Returning) (o : Opened) (os : List Opened) (s : Stack) (finish : All Moved → All Moved) → IsOfProcedure r → IsInnermost (for_procedure r) o os s → b.frames ≡ q.frames → leaving b None to s finish ≡ giving b to o os (given_back r.backs o.frame q.frames) finish
+    procedure_left b to r o os s finish procedure is same =
+        let back = given_back r.backs o.frame b.frames in
+        found b None to (for_procedure r) o os s finish is
+        ∙ ap (λ (own : Own). does b to own (λ c. finish (effects.returned plan k.barrier r o.frame o.at 0 (effects.close_master plan k.barrier o.frame c)))) (procedure_closed r o os s is)
+        ∙ ap (λ f. does b to (main (outer o os)) (λ c. finish (by_function f c))) procedure.plain
+        ∙ by_copies back.raised refl
+        ∙ ap (λ (fs : List Frame). giving b to o os (given_back r.backs o.frame fs) finish) same
+      where
+        -- where it is a function, or none
+        by_function : Bool → All Moved → All Moved
+        by_function f c = effects.returned plan k.barrier (record r { is_function = f }) o.frame o.at 0 c
+
+        by_copies : (x : Option Raise) → (given_back r.backs o.frame b.frames).raised ≡ x → does b to (main (outer o os)) (λ c. finish (by_function false c)) ≡ giving b to o os (given_back r.backs o.frame b.frames) finish
+        by_copies None e =
+            let back = given_back r.backs o.frame b.frames in
+            let with_its : does b to (main (outer o os)) (λ c. finish (by_function false c)) ≡ giving b to o os (with_result r.into r.value back) finish = rw e refl in
+            with_its ∙ ap (λ z. giving b to o os z finish) (no_result r procedure.no_value back)
+        by_copies (Some raise) e = rw e (rw e refl)
+
+    -- behind the call, or at the call with the exception of a copy that failed
+    abbrev pub after_copies : Option Raise → Pos → C → C
+    after_copies None at c = k.takes 0 c
+    after_copies (Some raise) at c = c
+
+    -- with the frames after the copies, and so many loops around the call that are left besides
+    abbrev come_back : ℕ → Opened → List Opened → CopiedBack → Single C
+    come_back n o os back = record now {
+      control = after_copies back.raised o.at (k.behind q.control);
+      stage = runs (failed_at o.at back.raised);
+      stack = closed_times n (outer o os);
+      frames = back.frames;
+      steps = suc q.steps;
+    }
+
+    given_so : (n : ℕ) (o : Opened) (os : List Opened) (back : CopiedBack) → giving now (passes_end here) o os back (on_own 0 (effect.out_of n)) ≡ In (come_back n o os back)
+    given_so n o os back = by back.raised refl
+      where
+        with_own : Option Raise → Own → All C
+        with_own x own = record (In now) { tasks = record { control = after_copies x o.at (k.behind q.control); own = own } ∷ []; shared = record (In now).shared { frames = back.frames }; steps = suc q.steps }
+
+        by : (x : Option Raise) → back.raised ≡ x → giving now (passes_end here) o os back (on_own 0 (effect.out_of n)) ≡ In (come_back n o os back)
+        by None e = rw e (ap (with_own None) (times_same n (main (outer o os))))
+        by (Some raise) e = rw e (ap (with_own (Some raise)) (times_same n (own_in name (runs (failed_at o.at (Some raise))) (outer o os))))
+
+    pub procedure_ends_step : (n : ℕ) (r : Returning) (o : Opened) (os : List Opened) → IsOfProcedure r → IsInnermost (for_procedure r) o os q.stack → Asks (ends n) → Stepped now ≡ In (come_back n o os (given_back r.backs o.frame q.frames))
+    procedure_ends_step n r o os procedure is asks =
+        ap (after now) asks
+        ∙ procedure_left now (passes_end here) r o os q.stack (on_own 0 (effect.out_of n)) procedure is refl
+        ∙ given_so n o os (given_back r.backs o.frame q.frames)
+
+    -- the exception is pending at the call, and nothing is copied back
+    pub procedure_left_step : (p : Pending) (r : Returning) (o : Opened) (os : List Opened) → IsInnermost (for_procedure r) o os q.stack → AsksWith p (is_left_by p) → Stepped (with p) ≡ In (record q { control = k.left p.exception q.control; stage = runs (pending_at o.at (Some p)); stack = outer o os; steps = suc q.steps })
+    procedure_left_step p r o os is asks =
+        ap (after (with p)) asks
+        ∙ found (with p) (Some p) (out_by p.exception here) (for_procedure r) o os q.stack (λ c. c) is
+        ∙ ap (λ (own : Own). does (with p) (out_by p.exception here) own (λ c. on_own 0 (effect.pends p.exception o.at) (effects.close_master plan k.barrier o.frame c))) (procedure_closed r o os q.stack is)
+
     none_accepted : (os : List Opened) → AreOpenedAlone os → effects.accepts_under_way plan k.barrier os ≡ []
     none_accepted [] are = refl
     none_accepted (o ∷ os) (is, are) = by o.purpose is (none_accepted os are)
@@ -233,7 +325,7 @@ module _ {C : Type 0} (plan : Plan) (name : List ℕ) (k : Controls C) (limits :
         by for_body is none = none
         by for_block is none = none
         by for_loop is none = none
-        by (for_procedure r) is none = elim is [ ]
+        by (for_procedure r) is none = none
         by (for_operation n r) is none = elim is [ ]
         by (for_entry n i t b) is none = elim is [ ]
         by (for_accept i) is none = elim is [ ]

@@ -8,10 +8,12 @@ use Rattle.aud_syntax.specs.declared.tree.Ident.{Ident}
 use Rattle.aud_syntax.specs.declared.tree.Number.{Number}
 use Rattle.aud_syntax.specs.declared.tree.Sign.TheVariants as sign
 use Rattle.aud_syntax.specs.declared.tree.Highest.TheVariants as highest
+use Rattle.aud_syntax.specs.declared.tree.Mode.{Mode}
+use Rattle.aud_syntax.specs.declared.tree.Mode.TheVariants as mode
 use Rattle.aud_syntax.specs.declared.tree.Connective.{Connective}
 use Rattle.aud_syntax.specs.declared.tree.Connective.TheVariants as connective
 use Rattle.aud_syntax.specs.Plain as m
-use Rattle.aud_syntax.specs.Why.Bare.{nowhere, bare_ident, bare_number, bare_literal, bare_signed, bare_operator, bare_sign, bare_highest, bare_end, bare_expression, bare_relation, bare_relations, bare_name, bare_part, bare_parts, bare_args, bare_simple, bare_addeds, bare_added, bare_term, bare_multiplieds, bare_multiplied, bare_factor, bare_primary, bare_maybe, bare_declaration, bare_declarations, bare_statement, bare_more_statements, bare_statements, bare_body, bare_context, bare, bare_arms, bare_iteration, bare_bound, bare_choices, bare_handlers}
+use Rattle.aud_syntax.specs.Why.Bare.{nowhere, bare_ident, bare_number, bare_literal, bare_signed, bare_operator, bare_sign, bare_highest, bare_end, bare_expression, bare_relation, bare_relations, bare_name, bare_part, bare_parts, bare_args, bare_simple, bare_addeds, bare_added, bare_term, bare_multiplieds, bare_multiplied, bare_factor, bare_primary, bare_maybe, bare_mode, bare_formal, bare_declaration, bare_declarations, bare_statement, bare_more_statements, bare_statements, bare_body, bare_context, bare, bare_arms, bare_iteration, bare_bound, bare_choices, bare_handlers}
 use Rattle.aud_parse.specs.Grammar as g
 use Rattle.aud_parse.specs.Grammar.{Phrase, Symbol, T, P, N, L, Down, A, Opt, Rep, rule}
 use Rattle.aud_parse.specs.Actions as a
@@ -68,6 +70,8 @@ bare_item (a.a_bound x) = a.a_bound (bare_bound x)
 bare_item (a.an_index x y) = a.an_index (bare_bound x) (bare_bound y)
 bare_item (a.an_array x y i) = a.an_array (bare_bound x) (bare_bound y) (bare_ident i)
 bare_item a.an_exception = a.an_exception
+bare_item (a.a_mode x) = a.a_mode (bare_mode x)
+bare_item (a.a_formal x) = a.a_formal (bare_formal x)
 bare_item (a.a_declaration x) = a.a_declaration (bare_declaration x)
 bare_item (a.a_context x) = a.a_context (bare_context x)
 bare_item (a.a_unit x) = a.a_unit (bare x)
@@ -208,6 +212,25 @@ bare_the_statement _ = refl
 bare_the_declaration : (x : Item) → a.the_declaration (bare_item x) ≡ bare_declaration (a.the_declaration x)
 bare_the_declaration (a.a_declaration y) = refl
 bare_the_declaration _ = refl
+
+bare_the_mode : (x : Item) → a.the_mode (bare_item x) ≡ bare_mode (a.the_mode x)
+bare_the_mode (a.a_mode y) = refl
+bare_the_mode _ = refl
+
+bare_in : (at : Pos) (out : Bool) → a.in_mode nowhere out ≡ bare_mode (a.in_mode at out)
+bare_in at true = refl
+bare_in at false = refl
+
+bare_in_mode : (x y : Item) → a.in_mode (a.place (bare_item x)) (a.is_there (bare_item y)) ≡ bare_mode (a.in_mode (a.place x) (a.is_there y))
+bare_in_mode x y = ap (λ z. a.in_mode z (a.is_there (bare_item y))) (bare_place x) ∙ ap (λ z. a.in_mode nowhere z) (bare_is_there y) ∙ bare_in (a.place x) (a.is_there y)
+
+bare_the_formal : (x : Item) → a.the_formal (bare_item x) ≡ bare_formal (a.the_formal x)
+bare_the_formal (a.a_formal y) = refl
+bare_the_formal _ = refl
+
+bare_the_formals : (x : Item) → a.the_formals (bare_item x) ≡ map bare_formal (a.the_formals x)
+bare_the_formals (cons x y) = cc (bare_the_formal x, bare_the_formals y)
+bare_the_formals _ = refl
 
 bare_the_choices : (x : Item) → a.the_choices (bare_item x) ≡ bare_choices (a.the_choices x)
 bare_the_choices (a.some_choices y) = refl
@@ -414,7 +437,7 @@ bare_made g.Unit e = made_5 (λ v x y z w. a.a_unit (m.unit (a.the_contexts v) (
 bare_made g.WithClause e = made_2 (λ x y. a.a_context (m.with_text_io (a.place x))) (λ x y. cc (bare_place x))
 bare_made g.UseClause e = made_2 (λ x y. a.a_context (m.use_text_io (a.place x))) (λ x y. cc (bare_place x))
 bare_made g.DeclarationList e = bare_listed
-bare_made g.Declaration e = made_2 (λ x y. a.a_declaration (a.declared (a.first_name x) (a.other_names x) y)) (λ x y. cc (bare_first_name x, bare_other_names x, bare_declared (a.first_name x) (a.other_names x) y))
+bare_made g.NamedDeclaration e = made_2 (λ x y. a.a_declaration (a.declared (a.first_name x) (a.other_names x) y)) (λ x y. cc (bare_first_name x, bare_other_names x, bare_declared (a.first_name x) (a.other_names x) y))
 bare_made g.Variable e = made_2 (λ x y. a.a_variable (a.the_ident x) (a.opt_expression y)) (λ x y. cc (bare_the_ident x, bare_opt_expression y))
 bare_made g.Constant e = made_2 (λ x y. a.a_constant (a.the_ident x) (a.the_expression y)) (λ x y. cc (bare_the_ident x, bare_the_expression y))
 bare_made g.Identifiers e = made_2 (λ x y. a.some_names (a.the_ident x) (a.the_idents y)) (λ x y. cc (bare_the_ident x, bare_the_idents y))
@@ -425,6 +448,14 @@ bare_made g.Bound e =
     (λ x y. ap (λ (z : Bool). a.a_bound (record { negative = z; number = a.the_number (bare_item y) })) (bare_is_there x) ∙ ap (λ (z : Number). a.a_bound (record { negative = a.is_there x; number = z })) (bare_the_number y))
 bare_made g.Negated e = λ st. refl
 bare_made g.ExceptionRest e = λ st. refl
+bare_made g.Procedure e =
+    made_5 (λ x y f z w. a.a_declaration (m.procedure (a.place x) (a.the_ident y) (a.the_formals f) (a.the_declarations z) (a.the_body w)))
+    (λ x y f z w. cc (bare_place x, bare_the_ident y, bare_the_formals f, bare_the_declarations z, bare_the_body w))
+bare_made g.InFormals e = bare_listed
+bare_made g.Formal e = made_3 (λ x y z. a.a_formal (m.formal (a.first_name x) (a.other_names x) (a.the_mode y) (a.the_ident z))) (λ x y z. cc (bare_first_name x, bare_other_names x, bare_the_mode y, bare_the_ident z))
+bare_made g.InMode e = made_2 (λ x y. a.a_mode (a.in_mode (a.place x) (a.is_there y))) (λ x y. ap (λ (z : Mode). a.a_mode z) (bare_in_mode x y))
+bare_made g.InOut e = λ st. refl
+bare_made g.OutMode e = made_1 (λ x. a.a_mode (mode.Out (a.place x))) (λ x. ap (λ (z : Pos). a.a_mode (mode.Out z)) (bare_place x))
 bare_made g.Body e =
     made_6 (λ x y h z w s. a.a_body (m.body (a.place x) (a.the_statements y) (a.the_handlers h) (a.place z) (a.opt_ident w) (a.place s)))
     (λ x y h z w s. cc (bare_place x, bare_the_statements y, bare_the_handlers h, bare_place z, bare_opt_ident w, bare_place s))
@@ -449,6 +480,7 @@ bare_made g.Block e =
     made_2 (λ x y. a.a_statement (m.block None (a.block_place x (a.the_body y)) (a.is_declare x) (a.block_declarations x) (a.the_body y)))
     (λ x y. cc (bare_block_place x (a.the_body y), bare_is_declare x, bare_block_declarations x, bare_the_body y))
 bare_made g.Declare e = made_2 (λ x y. a.a_declare (a.place x) (a.the_declarations y)) (λ x y. cc (bare_place x, bare_the_declarations y))
+bare_made g.Return e = made_2 (λ x y. a.a_statement (m.return (a.place x) (a.opt_expression y))) (λ x y. cc (bare_place x, bare_opt_expression y))
 bare_made g.Raise e = made_2 (λ x y. a.a_statement (m.raise (a.place x) (a.opt_ident y))) (λ x y. cc (bare_place x, bare_opt_ident y))
 bare_made g.Exit e = made_3 (λ x y z. a.a_statement (m.exit (a.place x) (a.opt_ident y) (a.opt_expression z))) (λ x y z. cc (bare_place x, bare_opt_ident y, bare_opt_expression z))
 bare_made g.Expression e = made_2 (λ x y. a.an_expression (a.connected (a.the_relation x) y)) (λ x y. cc (bare_the_relation x, bare_connected (a.the_relation x) y))

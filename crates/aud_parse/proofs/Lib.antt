@@ -21,7 +21,9 @@ pub mod Bared
 pub mod Places
 pub mod Canonical
 pub mod SameWords
+pub mod Sorts
 pub mod Worded
 pub mod RoundTrip
 pub mod Rows
 pub mod ControlRows
+pub mod ProcedureRows

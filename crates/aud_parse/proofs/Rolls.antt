@@ -23,6 +23,10 @@ use Rattle.aud_syntax.specs.declared.tree.Primary as primary
 use Rattle.aud_syntax.specs.declared.tree.Primary.{Primary}
 use Rattle.aud_syntax.proofs.Opened.{chain_open, attribute_open, name_roll}
 use Rattle.aud_syntax.specs.declared.tree.Expression.TheBlock.{hidden-the_row-Multiplied-4, hidden-the_row-Added-3}
+use Rattle.aud_syntax.specs.declared.tree.Identifiers.{Identifiers}
+use Rattle.aud_syntax.specs.declared.tree.Mode.{Mode}
+use Rattle.aud_syntax.specs.declared.tree.Mode.TheVariants as mode
+use Rattle.aud_syntax.specs.declared.tree.Formal.{Formal}
 use Rattle.aud_syntax.specs.declared.tree.Declaration.{Declaration}
 use Rattle.aud_syntax.specs.declared.tree.Statement.{Statement}
 use Rattle.aud_syntax.specs.declared.tree.Statements.{Statements}
@@ -39,10 +43,10 @@ use Rattle.aud_syntax.specs.declared.tree.Choices.TheVariants as choices
 use Rattle.aud_syntax.specs.declared.tree.Handler.{Handler}
 use Rattle.aud_syntax.specs.declared.tree.Context.{Context}
 use Rattle.aud_syntax.specs.Plain as m
-use Rattle.aud_syntax.specs.Ties.View.{plain_name, plain_primary, plain_factor, plain_multiplieds, plain_term, plain_added, plain_addeds, plain_simple, plain_expression, plain_relation, relation_list, plain_chain, plain_maybe, plain_declaration, plain_declarations, plain_others, plain_statements, plain_statement, plain_context, plain_body, plain_expressions, plain_part, part_list, arm_list, plain_iteration, plain_choices, handler_list}
+use Rattle.aud_syntax.specs.Ties.View.{plain_name, plain_primary, plain_factor, plain_multiplieds, plain_term, plain_added, plain_addeds, plain_simple, plain_expression, plain_relation, relation_list, plain_chain, plain_maybe, plain_formal, plain_declaration, plain_declarations, plain_others, plain_statements, plain_statement, plain_context, plain_body, plain_expressions, plain_part, part_list, arm_list, plain_iteration, plain_choices, handler_list}
 use Rattle.aud_parse.specs.Grammar as g
-use Rattle.aud_parse.specs.Actions.{Item, made, place, an_ident, a_sign, an_operator, a_primary, a_factor, a_term, a_simple, an_expression, chained, some_names, some_statements, a_body, a_unit, the_idents, the_declarations, more_statements, opt_ident, opt_expression, opt_sign, opt_operator, the_multiplieds, the_addeds, the_relations, listed, top, pop, some_args, a_part, a_name, a_statement, the_args, the_parts, expression_args, a_variable, the_contexts, an_arm, the_arms, otherwise, the_iteration, loop_place, is_there, number_of, a_bound, an_iteration, a_declare, some_choices, begin_of, the_handlers}
-use Rattle.aud_parse.specs.Ties.Items.{list_item, opt_item, name_item, attribute_item, factor_item, multiplied_item, primary_item, term_item, added_item, simple_item, relation_item, expression_item, boxed_item, names_item, declaration_item, statement_item, statements_item, body_item, boxed_body_item, unit_item, args_of, args_item, part_item, rest_item, variable_item, context_item, boxed_statement_item, boxed_statements_item, arm_item, boxed_arm_item, scheme_item, bound_item, declare_item, choices_item, handler_item, boxed_handler_item}
+use Rattle.aud_parse.specs.Actions.{Item, made, place, an_ident, a_sign, an_operator, a_primary, a_factor, a_term, a_simple, an_expression, chained, some_names, some_statements, a_body, a_unit, the_idents, the_declarations, more_statements, opt_ident, opt_expression, opt_sign, opt_operator, the_multiplieds, the_addeds, the_relations, listed, top, pop, some_args, a_part, a_name, a_statement, the_args, the_parts, expression_args, a_variable, the_contexts, an_arm, the_arms, otherwise, the_iteration, loop_place, is_there, number_of, a_bound, an_iteration, a_declare, some_choices, begin_of, the_handlers, in_mode, the_formals, a_declaration}
+use Rattle.aud_parse.specs.Ties.Items.{list_item, opt_item, name_item, attribute_item, factor_item, multiplied_item, primary_item, term_item, added_item, simple_item, relation_item, expression_item, boxed_item, names_item, mode_item, formal_item, declaration_item, boxed_declaration_item, statement_item, statements_item, body_item, boxed_body_item, unit_item, args_of, args_item, part_item, rest_item, variable_item, context_item, boxed_statement_item, boxed_statements_item, arm_item, boxed_arm_item, scheme_item, bound_item, declare_item, choices_item, handler_item, boxed_handler_item}
 use Rattle.aud_parse.specs.Ties.Parts.{assigned_or_called, else_statements, iteration_of, begins_at, declared_in, is_declared, declares_at, behind_label, mark_item}
 
 pub multiplied_rows : (n : _) (row : Row_of-Multiplied n) → plain_multiplieds row ≡ the_multiplieds (list_item multiplied_item (items-the_row-Multiplied n row))
@@ -235,6 +239,9 @@ boxed_exit_items b at label e ds h = exit_items (place at) label e ds ∙ boxed_
 pub raise_items : (b : Box Statement Global) (at : Item) (i : Option Ident) (ds : List Item) → b.value ≡ statement.Raise (place at) i → made g.Raise (at ∷ opt_item an_ident i ∷ ds) ≡ boxed_statement_item b ∷ ds
 raise_items b at i ds h = ap (λ z. a_statement (m.raise (place at) z) ∷ ds) (opt_ident_is i) ∙ boxed_items b (statement.Raise (place at) i) ds h
 
+pub return_items : (b : Box Statement Global) (at : Item) (e : Option Expression) (ds : List Item) → b.value ≡ statement.Return (place at) e → made g.Return (at ∷ opt_item expression_item e ∷ ds) ≡ boxed_statement_item b ∷ ds
+return_items b at e ds h = ap (λ z. a_statement (m.return (place at) z) ∷ ds) (opt_expression_is e) ∙ boxed_items b (statement.Return (place at) e) ds h
+
 mark_is : (x : Bool) → is_there (mark_item x) ≡ x
 mark_is true = refl
 mark_is false = refl
@@ -295,6 +302,30 @@ pub block_items : (b : Box Statement Global) (label : Option Ident) (d : Option 
     plain_statement b.value ≡ m.block label (declares_at d (begin_of (plain_body x.value))) (is_declared d) (declared_in d) (plain_body x.value) →
     behind_label label (made g.Block (opt_item declare_item d ∷ boxed_body_item x ∷ ds)) ≡ boxed_statement_item b ∷ ds
 block_items b label d x ds h = block_is label d x ds ∙ ap (λ z. a_statement z ∷ ds) (sym h)
+
+-- procedures
+
+pub mode_items : (at : Item) (out : Bool) (x : Mode) (ds : List Item) → x ≡ in_mode (place at) out → made g.InMode (at ∷ mark_item out ∷ ds) ≡ mode_item x ∷ ds
+mode_items at true x ds h = ap (λ z. mode_item z ∷ ds) (sym h)
+mode_items at false x ds h = ap (λ z. mode_item z ∷ ds) (sym h)
+
+pub formal_items : (names : Identifiers) (how : Mode) (i : Ident) (ds : List Item) → made g.Formal (names_item names ∷ mode_item how ∷ an_ident i ∷ ds) ≡ formal_item (record { names = names; mode = how; subtype = i }) ∷ ds
+formal_items names mode.Unstated i ds = refl
+formal_items names (mode.In at) i ds = refl
+formal_items names (mode.Out at) i ds = refl
+formal_items names (mode.InOut at) i ds = refl
+
+formals_are : (xs : List Formal) → the_formals (list_item formal_item xs) ≡ map plain_formal xs
+formals_are [] = refl
+formals_are (x ∷ xs) = ap (λ z. plain_formal x ∷ z) (formals_are xs)
+
+pub procedure_items : (b : Box Declaration Global) (begin : Item) (p : Ident × Vec Formal Global) (v : Vec Declaration Global) (x : Box Body Global) (ds : List Item) →
+    plain_declaration b.value ≡ m.procedure (place begin) p.0 (map plain_formal p.1.items) (plain_declarations v.items) (plain_body x.value) →
+    made g.Procedure (begin ∷ an_ident p.0 ∷ list_item formal_item p.1.items ∷ list_item declaration_item v.items ∷ boxed_body_item x ∷ ds) ≡ boxed_declaration_item b ∷ ds
+procedure_items b begin p v x ds h =
+    ap (λ z. a_declaration (m.procedure (place begin) p.0 z (the_declarations (list_item declaration_item v.items)) (plain_body x.value)) ∷ ds) (formals_are p.1.items)
+    ∙ ap (λ z. a_declaration (m.procedure (place begin) p.0 (map plain_formal p.1.items) z (plain_body x.value)) ∷ ds) (declarations_items v.items)
+    ∙ ap (λ z. a_declaration z ∷ ds) (sym h)
 
 contexts_items : (xs : List Context) → the_contexts (list_item context_item xs) ≡ map plain_context xs
 contexts_items [] = refl

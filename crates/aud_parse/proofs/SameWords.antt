@@ -104,12 +104,19 @@ body_same us ts hs gs last h i =
     let end : List Word = word (codes "end") ∷ (last ++ (last_word (codes ";") ∷ [])) in
     ap (λ z. codes "begin" ∷ z) (same_both us ts (hs ++ end) (gs ++ end) h (same_both hs gs end end i refl))
 
--- a program behind its context clauses, whose body has these words
-abbrev pub procedure_words : Ident → m.Declarations → List Word → List Word
-procedure_words i ds us = word (codes "procedure") ∷ w.ident_word i ∷ last_word (codes "is") ∷ (w.declarations_words ds ++ us)
+-- a procedure, whose formal parameters, declarations and body have these words; a program is one behind its context clauses
+abbrev pub procedure_words : Ident → List Word → List Word → List Word → List Word
+procedure_words i fs ds us = word (codes "procedure") ∷ w.ident_word i ∷ (fs ++ (last_word (codes "is") ∷ (ds ++ us)))
 
-pub unit_same : (cs : List m.Context) (i : Ident) (ds : m.Declarations) (us ws : List Word) → Same us ws → Same (w.contexts_words cs ++ procedure_words i ds us) (w.contexts_words cs ++ procedure_words i ds ws)
-unit_same cs i ds us ws h = same_on (w.contexts_words cs) (procedure_words i ds us) (procedure_words i ds ws) (ap (λ z. codes "procedure" ∷ i.name ∷ codes "is" ∷ z) (same_on (w.declarations_words ds) us ws h))
+pub procedure_on : (i : Ident) (fs ds us ws : List Word) → procedure_words i fs ds us ++ ws ≡ word (codes "procedure") ∷ w.ident_word i ∷ (fs ++ (last_word (codes "is") ∷ (ds ++ (us ++ ws))))
+procedure_on i fs ds us ws = one_on _ _ _ (one_on _ _ _ (on fs _ _ _ (one_on _ _ _ (on ds _ _ _ refl))))
+
+pub procedure_same : (i : Ident) (fs ds es us vs : List Word) → Same ds es → Same us vs → Same (procedure_words i fs ds us) (procedure_words i fs es vs)
+procedure_same i fs ds es us vs h j =
+    ap (λ z. codes "procedure" ∷ i.name ∷ z) (same_on fs (last_word (codes "is") ∷ (ds ++ us)) (last_word (codes "is") ∷ (es ++ vs)) (ap (λ z. codes "is" ∷ z) (same_both ds es us vs h j)))
+
+pub unit_same : (cs : List m.Context) (i : Ident) (ds es us vs : List Word) → Same ds es → Same us vs → Same (w.contexts_words cs ++ procedure_words i [] ds us) (w.contexts_words cs ++ procedure_words i [] es vs)
+unit_same cs i ds es us vs h j = same_on (w.contexts_words cs) (procedure_words i [] ds us) (procedure_words i [] es vs) (procedure_same i [] ds es us vs h j)
 
 -- the words of parts of trees
 

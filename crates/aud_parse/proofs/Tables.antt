@@ -1,6 +1,6 @@
 -- What the laws need to know of each phrase. Written by tools/grammar_tables.py, and checked in Reading and Ends.
 use Rattle.std.specs.Prelude.{ℕ, List, [], ◌∷◌}
-use Rattle.aud_parse.specs.Grammar.{Phrase, Unit, Clause, WithClause, UseClause, Library, Declarations, DeclarationList, Declaration, Identifiers, MoreIdentifiers, DeclarationRest, Variable, Constant, Initial, ArrayRest, Index, InIndex, Bound, Negated, ExceptionRest, Body, Handlers, HandlerList, Handler, Choices, Others, NamedChoices, MoreChoices, Statements, StatementList, Statement, NullStatement, NameStatement, NameRest, Labelled, Labellable, NamedStatement, StatementRest, Assignment, Call, If, Elsif, ElsePart, Loop, Iteration, While, For, Reverse, Block, Declare, Exit, When, Raise, Expression, Logic, AndLogic, AndRest, AndThen, AndOnly, MoreAndThen, MoreAnd, OrLogic, OrRest, OrElse, OrOnly, MoreOrElse, MoreOr, XorLogic, MoreXor, Relation, Compared, RelationalOperator, Equal, Unequal, Less, AtMost, Greater, AtLeast, Simple, Sign, Positive, Negative, Added, AddingOperator, Plus, Minus, Join, Term, Multiplied, MultiplyingOperator, Times, Divide, Modulo, Remainder, Factor, Operator, Magnitude, Not, Primary, Integer, String, Named, Attribute, Group, Parens, InParens, Name, NamePart, Selected, Args, InArgs, MoreArgs, Identifier, Number, Literal}
+use Rattle.aud_parse.specs.Grammar.{Phrase, Unit, Clause, WithClause, UseClause, Library, Declarations, DeclarationList, Declaration, NamedDeclaration, Identifiers, MoreIdentifiers, DeclarationRest, Variable, Constant, Initial, ArrayRest, Index, InIndex, Bound, Negated, ExceptionRest, Procedure, Formals, InFormals, MoreFormals, Formal, Mode, InMode, InOut, OutMode, Body, Handlers, HandlerList, Handler, Choices, Others, NamedChoices, MoreChoices, Statements, StatementList, Statement, NullStatement, NameStatement, NameRest, Labelled, Labellable, NamedStatement, StatementRest, Assignment, Call, If, Elsif, ElsePart, Loop, Iteration, While, For, Reverse, Block, Declare, Exit, When, Return, Raise, Expression, Logic, AndLogic, AndRest, AndThen, AndOnly, MoreAndThen, MoreAnd, OrLogic, OrRest, OrElse, OrOnly, MoreOrElse, MoreOr, XorLogic, MoreXor, Relation, Compared, RelationalOperator, Equal, Unequal, Less, AtMost, Greater, AtLeast, Simple, Sign, Positive, Negative, Added, AddingOperator, Plus, Minus, Join, Term, Multiplied, MultiplyingOperator, Times, Divide, Modulo, Remainder, Factor, Operator, Magnitude, Not, Primary, Integer, String, Named, Attribute, Group, Parens, InParens, Name, NamePart, Selected, Args, InArgs, MoreArgs, Identifier, Number, Literal}
 
 -- the kinds that may come behind some phrases, as numbers; 999 is the end of the tokens
 abbrev behind_unit : List ℕ
@@ -13,7 +13,7 @@ abbrev behind_declarations : List ℕ
 behind_declarations = 10 ∷ []
 
 abbrev behind_declaration : List ℕ
-behind_declaration = 10 ∷ 100 ∷ []
+behind_declaration = 10 ∷ 48 ∷ 100 ∷ []
 
 abbrev behind_identifiers : List ℕ
 behind_identifiers = 84 ∷ []
@@ -33,8 +33,17 @@ behind_bound = 77 ∷ 91 ∷ []
 abbrev behind_negated : List ℕ
 behind_negated = 101 ∷ []
 
+abbrev behind_formals : List ℕ
+behind_formals = 32 ∷ []
+
+abbrev behind_more_formals : List ℕ
+behind_more_formals = 77 ∷ 85 ∷ []
+
+abbrev behind_mode : List ℕ
+behind_mode = 100 ∷ []
+
 abbrev behind_body : List ℕ
-behind_body = 10 ∷ 14 ∷ 19 ∷ 20 ∷ 21 ∷ 23 ∷ 24 ∷ 25 ∷ 29 ∷ 34 ∷ 38 ∷ 50 ∷ 70 ∷ 71 ∷ 100 ∷ 999 ∷ []
+behind_body = 10 ∷ 14 ∷ 19 ∷ 20 ∷ 21 ∷ 23 ∷ 24 ∷ 25 ∷ 29 ∷ 34 ∷ 38 ∷ 48 ∷ 50 ∷ 56 ∷ 70 ∷ 71 ∷ 100 ∷ 999 ∷ []
 
 abbrev behind_handlers : List ℕ
 behind_handlers = 21 ∷ []
@@ -52,7 +61,7 @@ abbrev behind_statements : List ℕ
 behind_statements = 19 ∷ 20 ∷ 21 ∷ 23 ∷ 70 ∷ []
 
 abbrev behind_statement : List ℕ
-behind_statement = 10 ∷ 14 ∷ 19 ∷ 20 ∷ 21 ∷ 23 ∷ 24 ∷ 25 ∷ 29 ∷ 34 ∷ 38 ∷ 50 ∷ 70 ∷ 71 ∷ 100 ∷ []
+behind_statement = 10 ∷ 14 ∷ 19 ∷ 20 ∷ 21 ∷ 23 ∷ 24 ∷ 25 ∷ 29 ∷ 34 ∷ 38 ∷ 50 ∷ 56 ∷ 70 ∷ 71 ∷ 100 ∷ []
 
 abbrev behind_elsif : List ℕ
 behind_elsif = 19 ∷ 20 ∷ 21 ∷ []
@@ -111,9 +120,10 @@ known Clause = (3, behind_clause)
 known WithClause = (1, behind_clause)
 known UseClause = (1, behind_clause)
 known Library = (1, behind_clause)
-known Declarations = (6, behind_declarations)
-known DeclarationList = (4, behind_declarations)
-known Declaration = (3, behind_declaration)
+known Declarations = (8, behind_declarations)
+known DeclarationList = (6, behind_declarations)
+known Declaration = (5, behind_declaration)
+known NamedDeclaration = (3, behind_declaration)
 known Identifiers = (2, behind_identifiers)
 known MoreIdentifiers = (1, behind_more_identifiers)
 known DeclarationRest = (4, behind_declaration)
@@ -126,6 +136,15 @@ known InIndex = (1, behind_index)
 known Bound = (3, behind_bound)
 known Negated = (1, behind_negated)
 known ExceptionRest = (1, behind_declaration)
+known Procedure = (1, behind_declaration)
+known Formals = (3, behind_formals)
+known InFormals = (1, behind_formals)
+known MoreFormals = (1, behind_more_formals)
+known Formal = (3, behind_more_formals)
+known Mode = (3, behind_mode)
+known InMode = (1, behind_mode)
+known InOut = (1, behind_mode)
+known OutMode = (1, behind_mode)
 known Body = (1, behind_body)
 known Handlers = (1, behind_handlers)
 known HandlerList = (2, behind_handlers)
@@ -158,6 +177,7 @@ known Block = (3, behind_statement)
 known Declare = (1, behind_declarations)
 known Exit = (1, behind_statement)
 known When = (1, behind_initial)
+known Return = (1, behind_statement)
 known Raise = (1, behind_statement)
 known Expression = (11, behind_expression)
 known Logic = (4, behind_expression)

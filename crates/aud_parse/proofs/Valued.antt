@@ -39,3 +39,6 @@ negated = record { symbols = refl; begins = refl; same = λ st. refl }
 
 pub reversed : IsMark kind.Reverse g.Reverse
 reversed = record { symbols = refl; begins = refl; same = λ st. refl }
+
+pub in_out : IsMark kind.Out g.InOut
+in_out = record { symbols = refl; begins = refl; same = λ st. refl }

@@ -19,6 +19,8 @@ use Rattle.aud_syntax.specs.declared.tree.Operator.{Operator}
 use Rattle.aud_syntax.specs.declared.tree.Relational.{Relational}
 use Rattle.aud_syntax.specs.declared.tree.Connective.{Connective}
 use Rattle.aud_syntax.specs.declared.tree.Bound.{Bound}
+use Rattle.aud_syntax.specs.declared.tree.Mode.{Mode}
+use Rattle.aud_syntax.specs.declared.tree.Mode.TheVariants as mode
 use Rattle.aud_syntax.specs.declared.tree.Sign.TheVariants as sign
 use Rattle.aud_syntax.specs.declared.tree.Adding.TheVariants as adding
 use Rattle.aud_syntax.specs.declared.tree.Multiplying.TheVariants as multiplying
@@ -38,137 +40,8 @@ use Rattle.aud_parse.proofs.Canonical.{written_as, written}
 use Rattle.aud_parse.proofs.Choosing.{heads}
 use Rattle.aud_parse.proofs.Choices.{and_in}
 use Rattle.aud_parse.proofs.Places.{is_code}
-use Rattle.aud_parse.proofs.SameWords.{attribute_words, expression_words, behind_words, library_words, variable_words, constant_words, array_words, exception_words, assigned_words, behind_words_of, texts, Same, same_both, one_on, two, three, last_two, list_between, list_first, arm, arm_same, in_if, if_words, if_same, in_loop, loop_words, loop_same, in_body, body_words, body_same, procedure_words, unit_same}
-
--- the sorts of trees
-data Sort : Type 0 where
-  s_context s_library s_declaration_rest s_index s_bound s_negated : Sort
-  s_behind s_selected s_more_arg : Sort
-  s_unit s_declarations s_declaration s_idents s_initial s_body s_statements s_statement s_rest : Sort
-  s_expression s_logic s_and_rest s_or_rest s_relation s_compared s_relational s_simple s_sign s_added s_adding s_term s_multiplied s_multiplying s_factor s_operator : Sort
-  s_primary s_attribute s_parens s_name s_part s_args s_ident s_number s_literal : Sort
-  s_arm s_else s_unlabelled s_iteration s_reverse s_when s_declare s_handlers s_handler_list s_handler s_choices : Sort
-  -- a further name behind this delimiter
-  s_more_ident : List ℕ → Sort
-  -- a further relation behind this operator
-  s_more_relation : Connective → Sort
-
-abbrev sort : Phrase → Sort
-sort g.Unit = s_unit
-sort g.Clause = s_context
-sort g.WithClause = s_context
-sort g.UseClause = s_context
-sort g.Library = s_library
-sort g.Declarations = s_declarations
-sort g.DeclarationList = s_declarations
-sort g.Declaration = s_declaration
-sort g.Identifiers = s_idents
-sort g.MoreIdentifiers = s_more_ident (codes ",")
-sort g.DeclarationRest = s_declaration_rest
-sort g.Variable = s_declaration_rest
-sort g.Constant = s_declaration_rest
-sort g.ArrayRest = s_declaration_rest
-sort g.Index = s_index
-sort g.InIndex = s_index
-sort g.Bound = s_bound
-sort g.Negated = s_negated
-sort g.ExceptionRest = s_declaration_rest
-sort g.Initial = s_initial
-sort g.Body = s_body
-sort g.Handlers = s_handlers
-sort g.HandlerList = s_handler_list
-sort g.Handler = s_handler
-sort g.Choices = s_choices
-sort g.Others = s_choices
-sort g.NamedChoices = s_choices
-sort g.MoreChoices = s_more_ident (codes "|")
-sort g.Statements = s_statements
-sort g.StatementList = s_statements
-sort g.Statement = s_statement
-sort g.NullStatement = s_statement
-sort g.NameStatement = s_statement
-sort g.NameRest = s_behind
-sort g.NamedStatement = s_behind
-sort g.StatementRest = s_rest
-sort g.Assignment = s_rest
-sort g.Call = s_rest
-sort g.Labelled = s_behind
-sort g.If = s_statement
-sort g.Elsif = s_arm
-sort g.ElsePart = s_else
-sort g.Labellable = s_unlabelled
-sort g.Loop = s_unlabelled
-sort g.Iteration = s_iteration
-sort g.While = s_iteration
-sort g.For = s_iteration
-sort g.Reverse = s_reverse
-sort g.Block = s_unlabelled
-sort g.Declare = s_declare
-sort g.Raise = s_statement
-sort g.Exit = s_statement
-sort g.When = s_when
-sort g.Expression = s_expression
-sort g.Logic = s_logic
-sort g.AndLogic = s_logic
-sort g.AndRest = s_and_rest
-sort g.AndThen = s_and_rest
-sort g.AndOnly = s_and_rest
-sort g.MoreAndThen = s_more_relation connective.AndThen
-sort g.MoreAnd = s_more_relation connective.And
-sort g.OrLogic = s_logic
-sort g.OrRest = s_or_rest
-sort g.OrElse = s_or_rest
-sort g.OrOnly = s_or_rest
-sort g.MoreOrElse = s_more_relation connective.OrElse
-sort g.MoreOr = s_more_relation connective.Or
-sort g.XorLogic = s_logic
-sort g.MoreXor = s_more_relation connective.Xor
-sort g.Relation = s_relation
-sort g.Compared = s_compared
-sort g.RelationalOperator = s_relational
-sort g.Equal = s_relational
-sort g.Unequal = s_relational
-sort g.Less = s_relational
-sort g.AtMost = s_relational
-sort g.Greater = s_relational
-sort g.AtLeast = s_relational
-sort g.Simple = s_simple
-sort g.Sign = s_sign
-sort g.Positive = s_sign
-sort g.Negative = s_sign
-sort g.Added = s_added
-sort g.AddingOperator = s_adding
-sort g.Plus = s_adding
-sort g.Minus = s_adding
-sort g.Join = s_adding
-sort g.Term = s_term
-sort g.Multiplied = s_multiplied
-sort g.MultiplyingOperator = s_multiplying
-sort g.Times = s_multiplying
-sort g.Divide = s_multiplying
-sort g.Modulo = s_multiplying
-sort g.Remainder = s_multiplying
-sort g.Factor = s_factor
-sort g.Operator = s_operator
-sort g.Magnitude = s_operator
-sort g.Not = s_operator
-sort g.Primary = s_primary
-sort g.Integer = s_primary
-sort g.String = s_primary
-sort g.Named = s_primary
-sort g.Attribute = s_attribute
-sort g.Group = s_primary
-sort g.Parens = s_parens
-sort g.InParens = s_parens
-sort g.Name = s_name
-sort g.NamePart = s_part
-sort g.Selected = s_selected
-sort g.MoreArgs = s_more_arg
-sort g.Args = s_args
-sort g.InArgs = s_args
-sort g.Identifier = s_ident
-sort g.Number = s_number
-sort g.Literal = s_literal
+use Rattle.aud_parse.proofs.Sorts.{Sort, s_context, s_library, s_declaration_rest, s_index, s_bound, s_negated, s_formals, s_formal, s_more_formal, s_mode, s_in_out, s_behind, s_selected, s_more_arg, s_unit, s_declarations, s_declaration, s_idents, s_initial, s_body, s_statements, s_statement, s_rest, s_expression, s_logic, s_and_rest, s_or_rest, s_relation, s_compared, s_relational, s_simple, s_sign, s_added, s_adding, s_term, s_multiplied, s_multiplying, s_factor, s_operator, s_primary, s_attribute, s_parens, s_name, s_part, s_args, s_ident, s_number, s_literal, s_arm, s_else, s_unlabelled, s_iteration, s_reverse, s_when, s_declare, s_handlers, s_handler_list, s_handler, s_choices, s_more_ident, s_more_relation, sort}
+use Rattle.aud_parse.proofs.SameWords.{attribute_words, expression_words, behind_words, library_words, variable_words, constant_words, array_words, exception_words, assigned_words, behind_words_of, texts, Same, same_both, one_on, two, three, last_two, list_between, list_first, arm, arm_same, in_if, if_words, if_same, in_loop, loop_words, loop_same, in_body, body_words, body_same, procedure_words, procedure_on, procedure_same, unit_same}
 
 -- a statement whose words, behind a name, are those without it
 abbrev Unlabelled : m.Statement → Type 0
@@ -186,8 +59,13 @@ data Says : Sort → Item → List Word → Type 0 where
   says_index : (low high : Bound) → Says s_index (a.an_index low high) (w.index_words low high)
   says_bound : (x : Bound) → Says s_bound (a.a_bound x) (w.bound_words x)
   says_negated : Says s_negated a.there (word (codes "-") ∷ [])
-  says_declarations : (x : Item) → Says s_declarations x (w.declarations_words (a.the_declarations x))
-  says_declaration : (d : m.Declaration) → Says s_declaration (a.a_declaration d) (w.declaration_words d)
+  says_declarations : (x : Item) (us : List Word) → Same us (w.declarations_words (a.the_declarations x)) → Says s_declarations x us
+  says_declaration : (d : m.Declaration) (us : List Word) → Same us (w.declaration_words d) → Says s_declaration (a.a_declaration d) us
+  says_formals : (x : Item) → Says s_formals x (w.formals_words (a.the_formals x))
+  says_formal : (x : m.Formal) → Says s_formal (a.a_formal x) (w.formal_words x)
+  says_more_formal : (x : m.Formal) → Says s_more_formal (a.a_formal x) (last_word (codes ";") ∷ w.formal_words x)
+  says_mode : (x : Mode) → Says s_mode (a.a_mode x) (w.mode_words x)
+  says_in_out : Says s_in_out a.there (word (codes "out") ∷ [])
   says_idents : (x : Ident) (xs : List Ident) → Says s_idents (a.some_names x xs) (w.idents_words x xs)
   says_more_ident : (delimiter : List ℕ) (i : Ident) → Says (s_more_ident delimiter) (a.an_ident i) (word delimiter ∷ w.ident_word i ∷ [])
   says_initial : (e : m.Expression) → Says s_initial (a.an_expression e) (word (codes ":=") ∷ expression_words e)
@@ -267,9 +145,13 @@ contexts_row : {x : Item} {us : List Word} → Row s_context x us → us ≡ w.c
 contexts_row row_end = refl
 contexts_row (row_more (says_context c) r) = ap (λ z. w.context_words c ++ z) (contexts_row r)
 
-declarations_row : {x : Item} {us : List Word} → Row s_declaration x us → us ≡ w.declarations_words (a.the_declarations x)
+declarations_row : {x : Item} {us : List Word} → Row s_declaration x us → Same us (w.declarations_words (a.the_declarations x))
 declarations_row row_end = refl
-declarations_row (row_more (says_declaration d) r) = ap (λ z. w.declaration_words d ++ z) (declarations_row r)
+declarations_row (row_more {xs = xs} {vs = vs} (says_declaration d us h) r) = same_both us (w.declaration_words d) vs (w.declarations_words (a.the_declarations xs)) h (declarations_row r)
+
+formals_row : {x : Item} {us : List Word} → Row s_more_formal x us → us ≡ w.more_formals_words (a.the_formals x)
+formals_row row_end = refl
+formals_row (row_more (says_more_formal y) r) = ap (λ z. last_word (codes ";") ∷ (w.formal_words y ++ z)) (formals_row r)
 
 statements_row : {x : Item} {us : List Word} → Row s_statement x us → Same us (w.more_statements_words (a.more_statements x))
 statements_row row_end = refl
@@ -315,7 +197,11 @@ of_sort : {o : Sort} {p : Phrase} {ps : List Phrase} {x : Item} {us : List Word}
 of_sort {x = x} {us} here e s = subst (λ o. Says o x us) (heads e).0 s
 of_sort (later m) e s = of_sort m (heads e).1 s
 
--- a loop and a body of their parts
+-- a procedure, a loop and a body of their parts
+
+procedure_told : (t : Element) (i : Ident) (fs : List m.Formal) (ds : m.Declarations) (b : m.Body) (es vs : List Word) → Same es (w.declarations_words ds) → Same vs (w.body_words b) →
+    Says s_declaration (a.a_declaration (m.procedure t.at i fs ds b)) (procedure_words i (w.formals_words fs) es vs)
+procedure_told t i fs ds b es vs h j = says_declaration (m.procedure t.at i fs ds b) (procedure_words i (w.formals_words fs) es vs) (procedure_same i (w.formals_words fs) es (w.declarations_words ds) vs (w.body_words b) h j)
 
 loop_told : (at : Pos) (i : m.Iteration) (x : m.Statements) (us : List Word) (last : Option Ident) (s : Element) → Same us (w.statements_words x) →
     Says s_unlabelled (a.a_statement (m.loop None at i x last s.at)) (in_loop (w.iteration_words i) us (w.end_words last) [])
@@ -329,28 +215,29 @@ body_told b x y us hs e last s h j =
 
 -- the words of a phrase are those of its symbols
 told_rule : (p : Phrase) {k : List Symbol} {ds : List Item} {ws : List Word} → Told (rule p ++ k) ds ws → Told (N p ∷ k) (made p ds) ws
-told_rule g.Unit (t_row {x = x} {us = us} row (t_token u (t_part (says_ident i) (t_word y (t_some (says_declarations d) (t_part {ws = ws} (says_body b vs h) r)))))) =
-    so (t_part (says_unit (m.unit (a.the_contexts x) u.at i (a.the_declarations d) b) (w.contexts_words (a.the_contexts x) ++ procedure_words i (a.the_declarations d) vs) (unit_same (a.the_contexts x) i (a.the_declarations d) vs (w.body_words b) h)) r)
-    (list_first (w.contexts_words (a.the_contexts x)) (procedure_words i (a.the_declarations d) vs) us ws (contexts_row row)
-    ∙ ap (λ z. us ++ (word (codes "procedure") ∷ w.ident_word i ∷ last_word (codes "is") ∷ z)) (append_assoc (w.declarations_words (a.the_declarations d)) vs ws))
+told_rule g.Unit (t_row {x = x} {us = us} row (t_token u (t_part (says_ident i) (t_word y (t_some (says_declarations d es k) (t_part {ws = ws} (says_body b vs h) r)))))) =
+    so (t_part (says_unit (m.unit (a.the_contexts x) u.at i (a.the_declarations d) b) (w.contexts_words (a.the_contexts x) ++ procedure_words i [] es vs) (unit_same (a.the_contexts x) i es (w.declarations_words (a.the_declarations d)) vs (w.body_words b) k h)) r)
+    (list_first (w.contexts_words (a.the_contexts x)) (procedure_words i [] es vs) us ws (contexts_row row)
+    ∙ ap (λ z. us ++ z) (procedure_on i [] es vs ws))
 told_rule g.Unit (t_row {x = x} {us = us} row (t_token u (t_part (says_ident i) (t_word y (t_none (t_part {ws = ws} (says_body b vs h) r)))))) =
-    so (t_part (says_unit (m.unit (a.the_contexts x) u.at i m.no_declarations b) (w.contexts_words (a.the_contexts x) ++ procedure_words i m.no_declarations vs) (unit_same (a.the_contexts x) i m.no_declarations vs (w.body_words b) h)) r)
-    (list_first (w.contexts_words (a.the_contexts x)) (procedure_words i m.no_declarations vs) us ws (contexts_row row))
+    so (t_part (says_unit (m.unit (a.the_contexts x) u.at i m.no_declarations b) (w.contexts_words (a.the_contexts x) ++ procedure_words i [] [] vs) (unit_same (a.the_contexts x) i [] [] vs (w.body_words b) refl h)) r)
+    (list_first (w.contexts_words (a.the_contexts x)) (procedure_words i [] [] vs) us ws (contexts_row row))
 told_rule g.Clause (t_one m s r) = t_part (of_sort m refl s) r
 told_rule g.WithClause (t_token t (t_part says_library r)) = t_part (says_context (m.with_text_io t.at)) r
 told_rule g.UseClause (t_token t (t_part says_library r)) = t_part (says_context (m.use_text_io t.at)) r
 told_rule g.Library (t_spelled (t_word p (t_spelled (t_word s r)))) = t_part says_library r
 told_rule g.Declarations (t_level s (t_down r)) = t_part s r
-told_rule g.DeclarationList (t_part (says_declaration d) (t_row {x = x} {us = us} {ws = ws} row r)) =
-    so (t_part (says_declarations (cons (a.a_declaration d) x)) r) (two (w.declaration_words d) (w.declarations_words (a.the_declarations x)) us ws (declarations_row row))
-told_rule g.Declaration (t_part (says_idents x xs) (t_word c (t_part {ws = ws} (says_variable i e) r))) =
-    so (t_part (says_declaration (m.object x xs i e)) r) (append_assoc (w.idents_words x xs) (word (codes ":") ∷ variable_words i e) ws)
-told_rule g.Declaration (t_part (says_idents x xs) (t_word c (t_part {ws = ws} (says_constant i e) r))) =
-    so (t_part (says_declaration (m.constant x xs i e)) r) (append_assoc (w.idents_words x xs) (word (codes ":") ∷ constant_words i e) ws)
-told_rule g.Declaration (t_part (says_idents x xs) (t_word c (t_part {ws = ws} (says_array l h i) r))) =
-    so (t_part (says_declaration (m.array x xs l h i)) r) (append_assoc (w.idents_words x xs) (word (codes ":") ∷ array_words l h i) ws)
-told_rule g.Declaration (t_part (says_idents x xs) (t_word c (t_part {ws = ws} says_exception r))) =
-    so (t_part (says_declaration (m.exception x xs)) r) (append_assoc (w.idents_words x xs) (word (codes ":") ∷ exception_words) ws)
+told_rule g.DeclarationList (t_part (says_declaration d vs h) (t_row {x = x} {us = us} {ws = ws} row r)) =
+    so (t_part (says_declarations (cons (a.a_declaration d) x) (vs ++ us) (same_both vs (w.declaration_words d) us (w.declarations_words (a.the_declarations x)) h (declarations_row row))) r) (append_assoc vs us ws)
+told_rule g.Declaration (t_one m s r) = t_part (of_sort m refl s) r
+told_rule g.NamedDeclaration (t_part (says_idents x xs) (t_word c (t_part {ws = ws} (says_variable i e) r))) =
+    so (t_part (says_declaration (m.object x xs i e) (w.object_words x xs i e) refl) r) (append_assoc (w.idents_words x xs) (word (codes ":") ∷ variable_words i e) ws)
+told_rule g.NamedDeclaration (t_part (says_idents x xs) (t_word c (t_part {ws = ws} (says_constant i e) r))) =
+    so (t_part (says_declaration (m.constant x xs i e) (w.constant_words x xs i e) refl) r) (append_assoc (w.idents_words x xs) (word (codes ":") ∷ constant_words i e) ws)
+told_rule g.NamedDeclaration (t_part (says_idents x xs) (t_word c (t_part {ws = ws} (says_array l h i) r))) =
+    so (t_part (says_declaration (m.array x xs l h i) (w.array_words x xs l h i) refl) r) (append_assoc (w.idents_words x xs) (word (codes ":") ∷ array_words l h i) ws)
+told_rule g.NamedDeclaration (t_part (says_idents x xs) (t_word c (t_part {ws = ws} says_exception r))) =
+    so (t_part (says_declaration (m.exception x xs) (w.exception_words x xs) refl) r) (append_assoc (w.idents_words x xs) (word (codes ":") ∷ exception_words) ws)
 told_rule g.DeclarationRest (t_one m s r) = t_part (of_sort m refl s) r
 told_rule g.ArrayRest (t_word c (t_part (says_index l h) (t_word o (t_part (says_ident i) (t_word {ws = ws} s r))))) =
     so (t_part (says_array l h i) r) (ap (λ z. word (codes "array") ∷ z) (append_assoc (w.index_words l h) (word (codes "of") ∷ w.ident_word i ∷ last_word (codes ";") ∷ []) ws))
@@ -371,6 +258,29 @@ told_rule g.Identifiers (t_part (says_ident i) (t_row {x = x} {us = us} {ws = ws
     so (t_part (says_idents i (a.the_idents x)) r) (ap (λ z. w.ident_word i ∷ (z ++ ws)) (sym (idents_row row)))
 told_rule g.MoreIdentifiers (t_word c (t_part (says_ident i) r)) = t_part (says_more_ident (codes ",") i) r
 told_rule g.Initial (t_word c (t_part (says_expression e) r)) = t_part (says_initial e) r
+told_rule g.Procedure (t_token t (t_part (says_ident i) (t_some (says_formals f) (t_word c (t_some (says_declarations d es h) (t_part {ws = ws} (says_body b vs j) r)))))) =
+    so (t_part (procedure_told t i (a.the_formals f) (a.the_declarations d) b es vs h j) r) (procedure_on i (w.formals_words (a.the_formals f)) es vs ws)
+told_rule g.Procedure (t_token t (t_part (says_ident i) (t_some (says_formals f) (t_word c (t_none (t_part {ws = ws} (says_body b vs j) r)))))) =
+    so (t_part (procedure_told t i (a.the_formals f) m.no_declarations b [] vs refl j) r) (procedure_on i (w.formals_words (a.the_formals f)) [] vs ws)
+told_rule g.Procedure (t_token t (t_part (says_ident i) (t_none (t_word c (t_some (says_declarations d es h) (t_part {ws = ws} (says_body b vs j) r)))))) =
+    so (t_part (procedure_told t i [] (a.the_declarations d) b es vs h j) r) (procedure_on i [] es vs ws)
+told_rule g.Procedure (t_token t (t_part (says_ident i) (t_none (t_word c (t_none (t_part {ws = ws} (says_body b vs j) r)))))) =
+    so (t_part (procedure_told t i [] m.no_declarations b [] vs refl j) r) (procedure_on i [] [] vs ws)
+told_rule g.Formals (t_level s (t_down r)) = t_part s r
+told_rule g.InFormals (t_word o (t_part (says_formal x) (t_row {x = y} {us = us} row (t_word {ws = ws} c r)))) =
+    so (t_part (says_formals (cons (a.a_formal x) y)) r)
+    (ap (λ z. word (codes "(") ∷ z) (list_between (w.formal_words x) (w.more_formals_words (a.the_formals y)) (word (codes ")") ∷ []) us ws (formals_row row)))
+told_rule g.MoreFormals (t_word c (t_part (says_formal x) r)) = t_part (says_more_formal x) r
+told_rule g.Formal (t_part (says_idents x xs) (t_word c (t_some (says_mode how) (t_part {ws = ws} (says_ident i) r)))) =
+    so (t_part (says_formal (m.formal x xs how i)) r)
+    (append_assoc (w.idents_words x xs) (word (codes ":") ∷ (w.mode_words how ++ (w.ident_word i ∷ []))) ws ∙ ap (λ z. w.idents_words x xs ++ (word (codes ":") ∷ z)) (append_assoc (w.mode_words how) (w.ident_word i ∷ []) ws))
+told_rule g.Formal (t_part (says_idents x xs) (t_word c (t_none (t_part {ws = ws} (says_ident i) r)))) =
+    so (t_part (says_formal (m.formal x xs mode.Unstated i)) r) (append_assoc (w.idents_words x xs) (word (codes ":") ∷ w.ident_word i ∷ []) ws)
+told_rule g.Mode (t_one m s r) = t_part (of_sort m refl s) r
+told_rule g.InMode (t_token t (t_some says_in_out r)) = t_part (says_mode (mode.InOut t.at)) r
+told_rule g.InMode (t_token t (t_none r)) = t_part (says_mode (mode.In t.at)) r
+told_rule g.InOut (t_word c r) = t_part says_in_out r
+told_rule g.OutMode (t_token t r) = t_part (says_mode (mode.Out t.at)) r
 told_rule g.Body (t_token b (t_part (says_statements x us h) (t_some (says_handlers y hs j) (t_token e (t_some (says_ident i) (t_token {ws = ws} s r)))))) =
     so (t_part (body_told b x y us hs e (Some i) s h j) r) (body_words us hs (w.ident_word i ∷ []) ws)
 told_rule g.Body (t_token b (t_part (says_statements x us h) (t_some (says_handlers y hs j) (t_token e (t_none (t_token {ws = ws} s r)))))) =
@@ -399,7 +309,8 @@ told_rule g.Statement (t_one (later (later (later here))) (says_unlabelled s us 
 told_rule g.Statement (t_one (later (later (later (later here)))) (says_unlabelled s us u h) r) = t_part (says_statement s us h) r
 told_rule g.Statement (t_one (later (later (later (later (later here))))) s r) = t_part s r
 told_rule g.Statement (t_one (later (later (later (later (later (later here)))))) s r) = t_part s r
-told_rule g.Statement (t_one (later (later (later (later (later (later (later h))))))) s r) = absurd (no_member h)
+told_rule g.Statement (t_one (later (later (later (later (later (later (later here))))))) s r) = t_part s r
+told_rule g.Statement (t_one (later (later (later (later (later (later (later (later h)))))))) s r) = absurd (no_member h)
 told_rule g.NullStatement (t_token n (t_word s r)) = t_part (says_statement (m.null n.at) w.null_words refl) r
 told_rule g.NameStatement (t_part (says_ident i) (t_part (says_assigns xs ps e) r)) =
     t_part (says_statement (m.assign (m.named (m.part i xs) ps) e) (w.ident_word i ∷ behind_words_of xs ps (assigned_words e)) refl) r
@@ -447,8 +358,11 @@ told_rule g.Reverse (t_word c r) = t_part says_reverse r
 told_rule g.Block (t_some (says_declare at ds us h) (t_part {ws = ws} (says_body b vs j) r)) =
     so (t_part (says_unlabelled (m.block None at true ds b) (us ++ vs) (λ i. refl) (same_both us (last_word (codes "declare") ∷ w.declarations_words ds) vs (w.body_words b) h j)) r) (append_assoc us vs ws)
 told_rule g.Block (t_none (t_part (says_body b vs j) r)) = t_part (says_unlabelled (m.block None (a.begin_of b) false m.no_declarations b) vs (λ i. refl) j) r
-told_rule g.Declare (t_token t (t_some (says_declarations x) r)) = t_part (says_declare t.at (a.the_declarations x) (word (codes "declare") ∷ w.declarations_words (a.the_declarations x)) refl) r
+told_rule g.Declare (t_token t (t_some (says_declarations x us h) r)) = t_part (says_declare t.at (a.the_declarations x) (word (codes "declare") ∷ us) (ap (λ z. codes "declare" ∷ z) h)) r
 told_rule g.Declare (t_token t (t_none r)) = t_part (says_declare t.at m.no_declarations (word (codes "declare") ∷ []) refl) r
+told_rule g.Return (t_token t (t_some (says_expression e) (t_word {ws = ws} s r))) =
+    so (t_part (says_statement (m.return t.at (m.an_expression e)) (w.return_words (m.an_expression e)) refl) r) (one_on _ _ _ (append_assoc (expression_words e) (last_word (codes ";") ∷ []) ws))
+told_rule g.Return (t_token t (t_none (t_word s r))) = t_part (says_statement (m.return t.at m.no_expression) (w.return_words m.no_expression) refl) r
 told_rule g.Raise (t_token t (t_some (says_ident i) (t_word s r))) = t_part (says_statement (m.raise t.at (Some i)) (w.raise_words (Some i)) refl) r
 told_rule g.Raise (t_token t (t_none (t_word s r))) = t_part (says_statement (m.raise t.at None) (w.raise_words None) refl) r
 told_rule g.Exit (t_token t (t_some (says_ident i) (t_some (says_when e) (t_word {ws = ws} s r)))) =

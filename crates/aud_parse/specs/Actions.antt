@@ -19,6 +19,8 @@ use Rattle.aud_syntax.specs.declared.tree.Connective.{Connective}
 use Rattle.aud_syntax.specs.declared.tree.Connective.TheVariants as connective
 use Rattle.aud_syntax.specs.declared.tree.Highest.TheVariants as highest
 use Rattle.aud_syntax.specs.declared.tree.Bound.{Bound}
+use Rattle.aud_syntax.specs.declared.tree.Mode.{Mode}
+use Rattle.aud_syntax.specs.declared.tree.Mode.TheVariants as mode
 use Rattle.aud_syntax.specs.Plain as m
 use Rattle.aud_parse.specs.Grammar as g
 use Rattle.aud_parse.specs.Values.{number_value, unquoted}
@@ -85,6 +87,9 @@ pub data Item : Type 0 where
   -- what follows the names of arrays and exceptions
   an_array : Bound → Bound → Ident → Item
   an_exception : Item
+  -- how formal parameters are passed, and those that are declared together
+  a_mode : Mode → Item
+  a_formal : m.Formal → Item
   a_declaration : m.Declaration → Item
   a_context : m.Context → Item
   a_unit : m.Unit → Item
@@ -339,6 +344,26 @@ abbrev pub high : Item → Bound
 high (an_index x y) = y
 high _ = no_bound
 
+-- where `in` stands, and whether `out` stands behind it
+abbrev pub in_mode : Pos → Bool → Mode
+in_mode at true = mode.InOut at
+in_mode at false = mode.In at
+
+abbrev pub the_mode : Item → Mode
+the_mode (a_mode x) = x
+the_mode _ = mode.Unstated
+
+abbrev no_formal : m.Formal
+no_formal = m.formal no_ident [] mode.Unstated no_ident
+
+abbrev pub the_formal : Item → m.Formal
+the_formal (a_formal x) = x
+the_formal _ = no_formal
+
+abbrev pub the_formals : Item → List m.Formal
+the_formals (cons x xs) = the_formal x ∷ the_formals xs
+the_formals _ = []
+
 abbrev no_choices : m.Choices
 no_choices = m.others no_place
 
@@ -456,7 +481,7 @@ made g.WithClause st = a_context (m.with_text_io (place (top st))) ∷ pop (pop 
 made g.UseClause st = a_context (m.use_text_io (place (top st))) ∷ pop (pop st)
 made g.Library st = none ∷ st
 made g.DeclarationList st = listed st
-made g.Declaration st = a_declaration (declared (first_name (top st)) (other_names (top st)) (top (pop st))) ∷ pop (pop st)
+made g.NamedDeclaration st = a_declaration (declared (first_name (top st)) (other_names (top st)) (top (pop st))) ∷ pop (pop st)
 made g.Variable st = a_variable (the_ident (top st)) (opt_expression (top (pop st))) ∷ pop (pop st)
 made g.Constant st = a_constant (the_ident (top st)) (the_expression (top (pop st))) ∷ pop (pop st)
 made g.Identifiers st = some_names (the_ident (top st)) (the_idents (top (pop st))) ∷ pop (pop st)
@@ -465,6 +490,12 @@ made g.InIndex st = an_index (the_bound (top st)) (the_bound (top (pop st))) ∷
 made g.Bound st = a_bound (record { negative = is_there (top st); number = the_number (top (pop st)) }) ∷ pop (pop st)
 made g.Negated st = there ∷ st
 made g.ExceptionRest st = an_exception ∷ st
+made g.Procedure st = a_declaration (m.procedure (place (top st)) (the_ident (top (pop st))) (the_formals (top (pop (pop st)))) (the_declarations (top (pop (pop (pop st))))) (the_body (top (pop (pop (pop (pop st))))))) ∷ pop (pop (pop (pop (pop st))))
+made g.InFormals st = listed st
+made g.Formal st = a_formal (m.formal (first_name (top st)) (other_names (top st)) (the_mode (top (pop st))) (the_ident (top (pop (pop st))))) ∷ pop (pop (pop st))
+made g.InMode st = a_mode (in_mode (place (top st)) (is_there (top (pop st)))) ∷ pop (pop st)
+made g.InOut st = there ∷ st
+made g.OutMode st = a_mode (mode.Out (place (top st))) ∷ pop st
 made g.Body st = a_body (m.body (place (top st)) (the_statements (top (pop st))) (the_handlers (top (pop (pop st)))) (place (top (pop (pop (pop st))))) (opt_ident (top (pop (pop (pop (pop st)))))) (place (top (pop (pop (pop (pop (pop st)))))))) ∷ pop (pop (pop (pop (pop (pop st)))))
 made g.HandlerList st = listed st
 made g.Handler st = a_handler (the_choices (top st)) (the_statements (top (pop st))) ∷ pop (pop st)
@@ -484,6 +515,7 @@ made g.For st = an_iteration (place (top st)) (m.for (the_ident (top (pop st))) 
 made g.Reverse st = there ∷ st
 made g.Block st = a_statement (m.block None (block_place (top st) (the_body (top (pop st)))) (is_declare (top st)) (block_declarations (top st)) (the_body (top (pop st)))) ∷ pop (pop st)
 made g.Declare st = a_declare (place (top st)) (the_declarations (top (pop st))) ∷ pop (pop st)
+made g.Return st = a_statement (m.return (place (top st)) (opt_expression (top (pop st)))) ∷ pop (pop st)
 made g.Raise st = a_statement (m.raise (place (top st)) (opt_ident (top (pop st)))) ∷ pop (pop st)
 made g.Exit st = a_statement (m.exit (place (top st)) (opt_ident (top (pop st))) (opt_expression (top (pop (pop st))))) ∷ pop (pop (pop st))
 made g.Expression st = an_expression (connected (the_relation (top st)) (top (pop st))) ∷ pop (pop st)

@@ -6,12 +6,13 @@ use Rattle.aud_lex.specs.declared.token.Kind.TheVariants as kind
 -- the names of the grammar's phrases
 pub data Phrase : Type 0 where
   Unit Declarations DeclarationList Declaration Identifiers MoreIdentifiers Initial Body : Phrase
-  Clause WithClause UseClause Library DeclarationRest Variable Constant : Phrase
+  Clause WithClause UseClause Library NamedDeclaration DeclarationRest Variable Constant : Phrase
+  Procedure Formals InFormals Formal MoreFormals Mode InMode InOut OutMode : Phrase
   ArrayRest Index InIndex Bound Negated ExceptionRest : Phrase
   Selected MoreArgs NamedStatement StatementRest : Phrase
   Statements StatementList Statement NullStatement NameStatement NameRest Assignment Call : Phrase
   Labelled Labellable If Elsif ElsePart Loop Iteration While For Reverse Exit When : Phrase
-  Block Declare Raise Handlers HandlerList Handler Choices Others NamedChoices MoreChoices : Phrase
+  Block Declare Return Raise Handlers HandlerList Handler Choices Others NamedChoices MoreChoices : Phrase
   Expression Logic AndLogic AndRest AndThen AndOnly MoreAndThen MoreAnd : Phrase
   OrLogic OrRest OrElse OrOnly MoreOrElse MoreOr XorLogic MoreXor : Phrase
   Relation Compared RelationalOperator Equal Unequal Less AtMost Greater AtLeast : Phrase
@@ -55,8 +56,9 @@ rule Library = W Ada ∷ T kind.Point ∷ W TextIo ∷ T kind.Semicolon ∷ []
 -- declarations lie one level deeper (RM 3.11)
 rule Declarations = L DeclarationList ∷ Down ∷ []
 rule DeclarationList = N Declaration ∷ Rep Declaration ∷ []
+rule Declaration = A (NamedDeclaration ∷ Procedure ∷ []) ∷ []
 -- variables, constants and arrays (RM 3.3.1), and exceptions (RM 11.1)
-rule Declaration = N Identifiers ∷ T kind.Colon ∷ N DeclarationRest ∷ []
+rule NamedDeclaration = N Identifiers ∷ T kind.Colon ∷ N DeclarationRest ∷ []
 rule Identifiers = N Identifier ∷ Rep MoreIdentifiers ∷ []
 rule MoreIdentifiers = T kind.Comma ∷ N Identifier ∷ []
 rule DeclarationRest = A (Variable ∷ Constant ∷ ArrayRest ∷ ExceptionRest ∷ []) ∷ []
@@ -70,6 +72,16 @@ rule InIndex = T kind.LeftParenthesis ∷ N Bound ∷ T kind.DoubleDot ∷ N Bou
 rule Bound = Opt Negated ∷ N Number ∷ []
 rule Negated = T kind.Minus ∷ []
 rule ExceptionRest = T kind.Exception ∷ T kind.Semicolon ∷ []
+-- RM 6.3, 6.1
+rule Procedure = P kind.Procedure ∷ N Identifier ∷ Opt Formals ∷ T kind.Is ∷ Opt Declarations ∷ N Body ∷ []
+rule Formals = L InFormals ∷ Down ∷ []
+rule InFormals = T kind.LeftParenthesis ∷ N Formal ∷ Rep MoreFormals ∷ T kind.RightParenthesis ∷ []
+rule MoreFormals = T kind.Semicolon ∷ N Formal ∷ []
+rule Formal = N Identifiers ∷ T kind.Colon ∷ Opt Mode ∷ N Identifier ∷ []
+rule Mode = A (InMode ∷ OutMode ∷ []) ∷ []
+rule InMode = P kind.In ∷ Opt InOut ∷ []
+rule InOut = T kind.Out ∷ []
+rule OutMode = P kind.Out ∷ []
 -- RM 6.3, 11.2
 rule Body = P kind.Begin ∷ N Statements ∷ Opt Handlers ∷ P kind.End ∷ Opt Identifier ∷ P kind.Semicolon ∷ []
 rule Handlers = T kind.Exception ∷ N HandlerList ∷ []
@@ -82,7 +94,7 @@ rule MoreChoices = T kind.Bar ∷ N Identifier ∷ []
 -- statements lie one level deeper (RM 5.1)
 rule Statements = L StatementList ∷ Down ∷ []
 rule StatementList = N Statement ∷ Rep Statement ∷ []
-rule Statement = A (NullStatement ∷ NameStatement ∷ If ∷ Loop ∷ Block ∷ Exit ∷ Raise ∷ []) ∷ []
+rule Statement = A (NullStatement ∷ NameStatement ∷ If ∷ Loop ∷ Block ∷ Exit ∷ Return ∷ Raise ∷ []) ∷ []
 rule NullStatement = P kind.Null ∷ T kind.Semicolon ∷ []
 -- a loop or a block behind its name, an assignment or a call (RM 5.5, 5.6, 5.2, 6.4)
 rule NameStatement = N Identifier ∷ N NameRest ∷ []
@@ -109,6 +121,8 @@ rule Declare = P kind.Declare ∷ Opt Declarations ∷ []
 -- RM 5.7
 rule Exit = P kind.Exit ∷ Opt Identifier ∷ Opt When ∷ T kind.Semicolon ∷ []
 rule When = T kind.When ∷ N Expression ∷ []
+-- RM 6.5
+rule Return = P kind.Return ∷ Opt Expression ∷ T kind.Semicolon ∷ []
 -- RM 11.3
 rule Raise = P kind.Raise ∷ Opt Identifier ∷ T kind.Semicolon ∷ []
 -- RM 4.4: between the relations of an expression stands the same operator

@@ -1,19 +1,18 @@
-// Statements of the parts that were read.
+// Declarations and statements of the parts that were read.
 //
 // None of these functions is inlined: what they have by value does not stand in the stack frames of
 // statements that lie in one another.
 
-ghost use Rattle.std.specs.Prelude.{◌≡◌, ◌++◌, ◌∷◌, [], IfOk, Some};
+ghost use Rattle.std.specs.Prelude.{◌≡◌, ◌++◌, ◌∷◌, [], map, IfOk, Some};
 ghost use Rattle.aud_syntax.specs.Plain as m;
-ghost use Rattle.aud_syntax.specs.Ties.View.{plain_name, plain_expression, plain_statement, plain_statements, plain_others, plain_iteration, arm_list, plain_choices, handler_list, plain_body, plain_declarations};
+ghost use Rattle.aud_syntax.specs.Ties.View.{plain_name, plain_expression, plain_statement, plain_statements, plain_others, plain_iteration, arm_list, plain_choices, handler_list, plain_body, plain_formal, plain_declaration, plain_declarations};
 ghost use Rattle.aud_parse.specs.Actions.{begin_of};
 ghost use Rattle.aud_parse.specs.Ties.Parts.{assigned_or_called, else_statements, iteration_of, begins_at, declared_in, is_declared, declares_at};
 
-use crate::declaration::Declare;
 use crate::scheme::Scheme;
 use aud_syntax::tree::{
-    Arm, BlockStatement, Body, Choices, Declaration, Expression, Handler, Ident, IfStatement,
-    Iteration, LoopStatement, Name, Statement, Statements,
+    Arm, BlockStatement, Body, Choices, Declaration, Expression, Formal, Handler, Ident,
+    IfStatement, Iteration, LoopStatement, Name, ProcedureDeclaration, Statement, Statements,
 };
 use aud_text::place::Pos;
 use std::alloc::{AllocError, Global};
@@ -23,6 +22,12 @@ pub type Guarded = (Box<Expression>, Box<Statements>);
 
 /// The name behind `end`, if there is one, and where the semicolon stands.
 pub type End = (Option<Ident>, Pos);
+
+/// The declarations of a block behind `declare`, and where that stands.
+pub type Declare = (Pos, Vec<Declaration>);
+
+/// The name of a procedure, and its formal parameters.
+pub type Specification = (Ident, Vec<Formal>);
 
 /// A list with one tree more.
 #[inline(never)]
@@ -278,5 +283,34 @@ pub fn made_block(
         },
     )?;
     let boxed = Box::new(alloc, Statement::Block(statement))?;
+    Ok(boxed)
+}
+
+/// A procedure and its body (RM 6.3).
+#[inline(never)]
+pub fn made_procedure(
+    alloc: Global,
+    at: Pos,
+    specification: Specification,
+    declarations: Vec<Declaration>,
+    inner: Box<Body>,
+) -> Result<Box<Declaration>, AllocError>
+    ensures { IfOk result (λ b. plain_declaration b.value ≡
+        m.procedure at specification.0 (map plain_formal specification.1.items)
+        (plain_declarations declarations.items) (plain_body inner.value)) }
+{
+    let (name, formals) = specification;
+    let body = Box::into_inner(inner);
+    let procedure = Box::new(
+        alloc,
+        ProcedureDeclaration {
+            at,
+            name,
+            formals,
+            declarations,
+            body,
+        },
+    )?;
+    let boxed = Box::new(alloc, Declaration::Procedure(procedure))?;
     Ok(boxed)
 }

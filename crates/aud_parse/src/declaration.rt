@@ -1,23 +1,22 @@
 // Declarations of variables, constants and arrays (RM 3.3.1), and of exceptions (RM 11.1).
 
 ghost use Rattle.aud_parse.specs.Grammar as g;
-ghost use Rattle.aud_parse.specs.Grammar.{N, Opt};
+ghost use Rattle.aud_parse.specs.Grammar.{N};
 ghost use Rattle.aud_parse.specs.Actions.{an_exception};
-ghost use Rattle.aud_parse.specs.Ties.Items.{vec_item, opt_item, names_item, variable_item, constant_item, bound_item, index_item, array_item, declaration_item, declare_item};
-ghost use Rattle.aud_parse.specs.Ties.Reads.{Reads, MayRead, ReadsFlat};
+ghost use Rattle.aud_parse.specs.Ties.Items.{names_item, variable_item, constant_item, bound_item, index_item, array_item, declaration_item, boxed_declaration_item};
+ghost use Rattle.aud_parse.specs.Ties.Reads.{Reads, ReadsFlat};
 
 use crate::behind::{both, ended};
-use crate::cursor::{Read, Rest, accept, deeper, is, token, word};
+use crate::cursor::{Read, Rest, deeper, is, token, word};
 use crate::expression::{opt_value, value};
 use crate::leaf::{ident, mark, more_idents};
 use crate::value::number_value;
 use aud_lex::token::Kind;
 use aud_syntax::tree::{Bound, Declaration, Expression, Ident, Identifiers, Number};
-use aud_text::place::Pos;
 use std::alloc::Global;
 
 /// Names (RM 3.3.1(4)).
-fn identifiers(alloc: Global, start: Rest) -> Read<Identifiers>
+pub fn identifiers(alloc: Global, start: Rest) -> Read<Identifiers>
     ensures { ReadsFlat names_item (N g.Identifiers) start.entry result }
 {
     let (first, rest) = ident(alloc, start)?;
@@ -100,8 +99,8 @@ fn exceptions(start: Rest) -> Read<()>
 }
 
 /// Variables, constants or arrays of one subtype, or exceptions.
-fn declaration(alloc: Global, start: Rest, room: u32) -> Read<Declaration>
-    ensures { Reads declaration_item (N g.Declaration) room start.entry result }
+fn named(alloc: Global, start: Rest, room: u32) -> Read<Declaration>
+    ensures { Reads declaration_item (N g.NamedDeclaration) room start.entry result }
 {
     let (names, rest) = identifiers(alloc, start)?;
     let rest = word(rest, Kind::Colon)?;
@@ -122,52 +121,12 @@ fn declaration(alloc: Global, start: Rest, room: u32) -> Read<Declaration>
     Ok((Declaration::Exception(names), rest))
 }
 
-/// Declarations, at least one.
-fn declaration_list(alloc: Global, start: Rest, room: u32) -> Read<Vec<Declaration>>
-    ensures { Reads (vec_item declaration_item) (N g.DeclarationList) room start.entry result }
-{
-    let mut all = Vec::new(alloc);
-    let mut rest = start;
-    'turns: loop {
-        let (one, after) = declaration(alloc, rest, room)?;
-        all.push(one)?;
-        if !is(after, Kind::Identifier) {
-            return Ok((all, after));
-        }
-        rest = after;
-    }
-}
-
-/// Declarations, which lie one level deeper.
-fn declarations(alloc: Global, start: Rest, room: u32) -> Read<Vec<Declaration>>
-    ensures { Reads (vec_item declaration_item) (N g.Declarations) room start.entry result }
-{
-    let inside = deeper(start, room, is(start, Kind::Identifier))?;
-    declaration_list(alloc, start, inside)
-}
-
-/// Declarations, if there are any (RM 3.11).
-pub fn opt_declarations(alloc: Global, start: Rest, room: u32) -> Read<Vec<Declaration>>
-    ensures { MayRead (vec_item declaration_item) (Opt g.Declarations) room start.entry result }
-{
-    if is(start, Kind::Identifier) {
-        return declarations(alloc, start, room);
-    }
-    let none = Vec::new(alloc);
-    Ok((none, start))
-}
-
-/// The declarations of a block behind `declare`, and where that stands.
-pub type Declare = (Pos, Vec<Declaration>);
-
-/// The same, if `declare` comes next (RM 5.6).
+/// The same in a box, since declarations lie in one another.
 #[inline(never)]
-pub fn opt_declare(alloc: Global, start: Rest, room: u32) -> Read<Option<Declare>>
-    ensures { MayRead (opt_item declare_item) (Opt g.Declare) room start.entry result }
+pub fn named_declaration(alloc: Global, start: Rest, room: u32) -> Read<Box<Declaration>>
+    ensures { Reads boxed_declaration_item (N g.NamedDeclaration) room start.entry result }
 {
-    if let Some((t, behind)) = accept(start, Kind::Declare) {
-        let (all, rest) = opt_declarations(alloc, behind, room)?;
-        return Ok((Some((t.at(), all)), rest));
-    }
-    Ok((None, start))
+    let (declaration, rest) = named(alloc, start, room)?;
+    let boxed = Box::new(alloc, declaration)?;
+    Ok((boxed, rest))
 }

@@ -19,7 +19,7 @@ use crate::assemble::{
     alone, connected, product, push_added, push_multiplied, push_relation, related, sum, unrelated,
 };
 use crate::behind::{both, ended};
-use crate::cursor::{Fault, Read, Rest, accept, chosen, deeper, is, token, word};
+use crate::cursor::{Fault, Read, Rest, accept, chosen, deeper, is, is_one_of, token, word};
 use crate::leaf::{ident, literal};
 use crate::value::number_value;
 use aud_lex::token::Kind;
@@ -29,6 +29,17 @@ use aud_syntax::tree::{
 };
 use aud_text::place::Pos;
 use std::alloc::Global;
+
+const EXPRESSIONS: [Kind; 8] = [
+    Kind::Plus,
+    Kind::Minus,
+    Kind::Abs,
+    Kind::Not,
+    Kind::Integer,
+    Kind::Text,
+    Kind::Identifier,
+    Kind::LeftParenthesis,
+];
 
 /// An expression in parentheses, which lies one level deeper, and where they open.
 #[cycle(expression)]
@@ -408,6 +419,17 @@ pub fn opt_value(alloc: Global, start: Rest, room: u32, kind: Kind) -> Read<Opti
 {
     if is(start, kind) {
         let (value, rest) = value(alloc, start, room, kind)?;
+        return Ok((Some(Box::into_inner(value)), rest));
+    }
+    Ok((None, start))
+}
+
+/// An expression, if one comes next.
+pub fn opt_expression(alloc: Global, start: Rest, room: u32) -> Read<Option<Expression>>
+    ensures { MayRead (opt_item expression_item) (Opt g.Expression) room start.entry result }
+{
+    if is_one_of(start, &EXPRESSIONS) {
+        let (value, rest) = expression(alloc, start, room)?;
         return Ok((Some(Box::into_inner(value)), rest));
     }
     Ok((None, start))

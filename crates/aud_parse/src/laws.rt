@@ -3,6 +3,7 @@
 ghost use Rattle.aud_parse.specs.Why.Laws as laws;
 ghost use Rattle.aud_parse.specs.Why.Rows as rows;
 ghost use Rattle.aud_parse.specs.Why.ControlRows as control;
+ghost use Rattle.aud_parse.specs.Why.ProcedureRows as procedures;
 
 /// The tree that is read is the tree that the tokens spell.
 pub fn spells_law()
@@ -82,4 +83,19 @@ pub fn faults_of_control()
 /// The token at which such texts open a level too many.
 pub fn levels_of_control()
     ensures { control.LevelsOfControl }
+{}
+
+/// The trees of small texts with procedures and return statements.
+pub fn trees_of_procedures()
+    ensures { procedures.TreesOfProcedures }
+{}
+
+/// The token at which such texts go wrong.
+pub fn faults_of_procedures()
+    ensures { procedures.FaultsOfProcedures }
+{}
+
+/// The token at which such texts open a level too many.
+pub fn levels_of_procedures()
+    ensures { procedures.LevelsOfProcedures }
 {}

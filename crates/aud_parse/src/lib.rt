@@ -9,6 +9,7 @@ mod clauses;
 mod cursor;
 mod declaration;
 mod expression;
+mod formals;
 pub mod laws;
 mod leaf;
 mod parser;

@@ -11,9 +11,8 @@ ghost use Rattle.aud_parse.specs.Ties.Gives.{Gives};
 
 use crate::clauses::context;
 use crate::cursor::{Fault, Read, Rest, token, word};
-use crate::declaration::opt_declarations;
 use crate::leaf::ident;
-use crate::statement::body;
+use crate::statement::{body, opt_declarations};
 use aud_lex::token::{Kind, Token};
 use aud_syntax::tree::Unit;
 use aud_text::limits::LEVELS;

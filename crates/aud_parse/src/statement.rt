@@ -1,6 +1,6 @@
-// Statements (RM 5.1) and bodies (RM 11.2).
+// Declarations (RM 3.1), statements (RM 5.1) and bodies (RM 11.2).
 //
-// Statements lie in one another, so what is called at each level has boxes in its stack frame, and no
+// They lie in one another, so what is called at each level has boxes in its stack frame, and no
 // trees. What is made of them is made by functions that are not inlined (`crate::build`).
 
 #![tactic(auto, using(crate::proofs::Passing::turns_over))]
@@ -10,28 +10,31 @@ ghost use Rattle.aud_lex.specs.declared.token.Kind.TheVariants as kind;
 ghost use Rattle.aud_parse.specs.Grammar as g;
 ghost use Rattle.aud_parse.specs.Grammar.{N, T, P, Opt, Rep};
 ghost use Rattle.aud_parse.specs.Actions.{an_ident, token, made};
-ghost use Rattle.aud_parse.specs.Ties.Items.{vec_item, opt_item, assigned_item, rest_item, expression_item, boxed_item, scheme_item, statement_item, boxed_statement_item, boxed_statements_item, arm_item, boxed_arm_item, handler_item, boxed_handler_item, boxed_body_item, guarded_items};
+ghost use Rattle.aud_parse.specs.Ties.Items.{vec_item, opt_item, assigned_item, rest_item, expression_item, boxed_item, scheme_item, statement_item, boxed_statement_item, boxed_statements_item, arm_item, boxed_arm_item, handler_item, boxed_handler_item, boxed_body_item, guarded_items, declaration_item, boxed_declaration_item, declare_item};
 ghost use Rattle.aud_parse.specs.Ties.Parts.{behind_label};
 ghost use Rattle.aud_parse.specs.Ties.Reads.{Reads, MayRead, ReadsFlat, MayReadFlat, Completes, ReadsAll};
 
 use crate::behind::{both, ended};
 use crate::build::{
-    Guarded, add, arm_of, assign_or_call, handler_of, in_order, made_block, made_body, made_if,
-    made_loop,
+    Declare, Guarded, add, arm_of, assign_or_call, handler_of, in_order, made_block, made_body,
+    made_if, made_loop, made_procedure,
 };
 use crate::choice_list::choices;
 use crate::cursor::{Read, Rest, accept, deeper, is, is_one_of, token, word};
-use crate::declaration::opt_declare;
-use crate::expression::{expression, opt_args, opt_value, selected};
+use crate::declaration::named_declaration;
+use crate::expression::{expression, opt_args, opt_expression, opt_value, selected};
+use crate::formals::specification;
 use crate::leaf::{ident, opt_ident};
 use crate::scheme::{Scheme, opt_scheme};
 use aud_lex::token::{Kind, Token};
 use aud_syntax::tree::{
-    Arm, Body, Expression, Handler, Ident, Name, NamePart, Statement, Statements,
+    Arm, Body, Declaration, Expression, Handler, Ident, Name, NamePart, Statement, Statements,
 };
 use std::alloc::Global;
 
-const STATEMENTS: [Kind; 10] = [
+const DECLARATIONS: [Kind; 2] = [Kind::Identifier, Kind::Procedure];
+
+const STATEMENTS: [Kind; 11] = [
     Kind::Null,
     Kind::Identifier,
     Kind::If,
@@ -41,6 +44,7 @@ const STATEMENTS: [Kind; 10] = [
     Kind::Declare,
     Kind::Begin,
     Kind::Exit,
+    Kind::Return,
     Kind::Raise,
 ];
 
@@ -106,6 +110,17 @@ fn exit(alloc: Global, start: Rest, room: u32) -> Read<Box<Statement>>
     ended(statement, rest, Kind::Semicolon)
 }
 
+/// A return statement (RM 6.5).
+#[inline(never)]
+fn return_statement(alloc: Global, start: Rest, room: u32) -> Read<Box<Statement>>
+    ensures { Reads boxed_statement_item (N g.Return) room start.entry result }
+{
+    let (t, rest) = token(start, Kind::Return)?;
+    let (value, rest) = opt_expression(alloc, rest, room)?;
+    let statement = Box::new(alloc, Statement::Return(t.at(), value))?;
+    ended(statement, rest, Kind::Semicolon)
+}
+
 /// A raise statement (RM 11.3).
 #[inline(never)]
 fn raise(alloc: Global, start: Rest) -> Read<Box<Statement>>
@@ -115,6 +130,82 @@ fn raise(alloc: Global, start: Rest) -> Read<Box<Statement>>
     let (exception, rest) = opt_ident(alloc, rest)?;
     let statement = Box::new(alloc, Statement::Raise(t.at(), exception))?;
     ended(statement, rest, Kind::Semicolon)
+}
+
+/// A procedure and its body (RM 6.3).
+#[cycle(statement)]
+#[inline(never)]
+fn procedure(alloc: Global, start: Rest, room: u32) -> Read<Box<Declaration>>
+    ensures { Reads boxed_declaration_item (N g.Procedure) room start.entry result }
+{
+    let (begin, rest) = token(start, Kind::Procedure)?;
+    let (parts, rest) = specification(alloc, rest, room)?;
+    let (declarations, rest) = opt_declarations(alloc, rest, room)?;
+    let (body, rest) = body(alloc, rest, room)?;
+    let declaration = made_procedure(alloc, begin.at(), parts, declarations, body)?;
+    Ok((declaration, rest))
+}
+
+/// A declaration (RM 3.1).
+#[cycle(statement)]
+fn declaration(alloc: Global, start: Rest, room: u32) -> Read<Box<Declaration>>
+    ensures { Reads boxed_declaration_item (N g.Declaration) room start.entry result }
+{
+    if is(start, Kind::Identifier) {
+        return named_declaration(alloc, start, room);
+    }
+    procedure(alloc, start, room)
+}
+
+/// Declarations, at least one.
+#[cycle(statement)]
+fn declaration_list(alloc: Global, start: Rest, room: u32) -> Read<Vec<Declaration>>
+    ensures { Reads (vec_item declaration_item) (N g.DeclarationList) room start.entry result }
+{
+    let mut all = Vec::new(alloc);
+    let mut rest = start;
+    'turns: loop {
+        let (next, after) = declaration(alloc, rest, room)?;
+        all = add(all, next)?;
+        if !is_one_of(after, &DECLARATIONS) {
+            return Ok((all, after));
+        }
+        rest = after;
+    }
+}
+
+/// Declarations, which lie one level deeper.
+#[cycle(statement)]
+fn declarations(alloc: Global, start: Rest, room: u32) -> Read<Vec<Declaration>>
+    ensures { Reads (vec_item declaration_item) (N g.Declarations) room start.entry result }
+{
+    let inside = deeper(start, room, is_one_of(start, &DECLARATIONS))?;
+    declaration_list(alloc, start, inside)
+}
+
+/// Declarations, if there are any (RM 3.11).
+#[cycle(statement)]
+pub fn opt_declarations(alloc: Global, start: Rest, room: u32) -> Read<Vec<Declaration>>
+    ensures { MayRead (vec_item declaration_item) (Opt g.Declarations) room start.entry result }
+{
+    if is_one_of(start, &DECLARATIONS) {
+        return declarations(alloc, start, room);
+    }
+    let none = Vec::new(alloc);
+    Ok((none, start))
+}
+
+/// The declarations of a block behind `declare`, if that comes next (RM 5.6).
+#[cycle(statement)]
+#[inline(never)]
+fn opt_declare(alloc: Global, start: Rest, room: u32) -> Read<Option<Declare>>
+    ensures { MayRead (opt_item declare_item) (Opt g.Declare) room start.entry result }
+{
+    if let Some((t, behind)) = accept(start, Kind::Declare) {
+        let (all, rest) = opt_declarations(alloc, behind, room)?;
+        return Ok((Some((t.at(), all)), rest));
+    }
+    Ok((None, start))
 }
 
 /// What ends a loop, and the loop of all its parts.
@@ -311,6 +402,9 @@ fn statement(alloc: Global, start: Rest, room: u32) -> Read<Box<Statement>>
     }
     if is(start, Kind::Exit) {
         return exit(alloc, start, room);
+    }
+    if is(start, Kind::Return) {
+        return return_statement(alloc, start, room);
     }
     raise(alloc, start)
 }

@@ -1,9 +1,12 @@
-// Sessions with their answers, worked out by hand from the language and the protocol and never taken from a program.
+// Sessions with their answers, never taken from this program: worked out by hand from the language and the protocol, those of procedures
+// by a model too that was written apart from it.
 
+pub mod arguments;
 pub mod arrays;
 pub mod arrays_checked;
 pub mod blocks;
 pub mod blocks_checked;
+pub mod calls_checked;
 pub mod checks;
 pub mod constructs;
 pub mod control;
@@ -18,6 +21,11 @@ pub mod lexis;
 pub mod limits;
 pub mod lines;
 pub mod logic;
+pub mod procedure_levels;
+pub mod procedures;
+pub mod procedures_checked;
+pub mod recursion;
+pub mod returns;
 pub mod rows;
 pub mod runs;
 pub mod subtypes;

@@ -73,12 +73,12 @@ not_an_accept (Does (instruction.Block r)) h k = h
 not_an_accept last h k = absurd k
 
 module _ (lines : List FlatLine) where
-  abbrev Around : List Opened → Option ℕ → Type 0
-  Around os v = AreAround lines v os
+  abbrev Around : List Opened → List ℕ → Option ℕ → Type 0
+  Around os rs v = AreAround lines rs v os
 
   -- what is around something, with what one says of it
-  abbrev There : List Opened → (Option ℕ → Type 0) → Type 0
-  There os go = (v : Option ℕ) × (go v × Around os v)
+  abbrev There : List Opened → List ℕ → (Option ℕ → Type 0) → Type 0
+  There os rs go = (v : Option ℕ) × (go v × Around os rs v)
 
   -- two facts of the step that opened a frame
   opener : (w : Option ℕ) (P Q : Last → Type 0) (go on : Option ℕ → Type 0) → frame.Opened lines w (λ l. P l.last × go l.within) → frame.Opened lines w (λ l. Q l.last × on l.within) → (last : Last) × ((P last × Q last) × ((v : Option ℕ) × (go v × on v)))
@@ -91,36 +91,36 @@ module _ (lines : List FlatLine) where
 
   -- Directly within a loop the innermost frame is that loop's, and likewise within a block.
 
-  loop_around : (p : Purpose) (w : Option ℕ) (os : List Opened) (go : Option ℕ → Type 0) → LoopAround lines w go → OpenedFor lines p w os (Around os) → There os go
-  loop_around for_body w os go h around = absurd (subst (λ v. LoopAround lines v go) around.0 h)
-  loop_around for_block w os go h around = let o = opener w OpensLoop OpensBlock go (Around os) h around in absurd (not_both o.0 o.1.0.0 o.1.0.1)
-  loop_around for_loop w os go h around = (opener w OpensLoop OpensLoop go (Around os) h around).1.1
-  loop_around (for_procedure r) w os go h around = absurd around
-  loop_around (for_operation n r) w os go h around = absurd around
-  loop_around (for_entry n i t b) w os go h around = absurd around
-  loop_around (for_accept i) w os go h around = absurd around
+  loop_around : (p : Purpose) (rs : List ℕ) (w : Option ℕ) (os : List Opened) (go : Option ℕ → Type 0) → LoopAround lines w go → OpenedFor lines p rs w os (Around os) → There os rs go
+  loop_around for_body rs w os go h around = absurd (subst (λ v. LoopAround lines v go) around.0 h)
+  loop_around for_block rs w os go h around = let o = opener w OpensLoop OpensBlock go (Around os rs) h around in absurd (not_both o.0 o.1.0.0 o.1.0.1)
+  loop_around for_loop rs w os go h around = (opener w OpensLoop OpensLoop go (Around os rs) h around).1.1
+  loop_around (for_procedure r) rs w os go h around = absurd (subst (λ v. LoopAround lines v go) around.0 h)
+  loop_around (for_operation n r) rs w os go h around = absurd around
+  loop_around (for_entry n i t b) rs w os go h around = absurd around
+  loop_around (for_accept i) rs w os go h around = absurd around
 
-  pub block_around : (p : Purpose) (w : Option ℕ) (os : List Opened) (go : Option ℕ → Type 0) → BlockAround lines w go → OpenedFor lines p w os (Around os) → (p ≡ for_block) × There os go
-  block_around for_body w os go h around = absurd (subst (λ v. BlockAround lines v go) around.0 h)
-  block_around for_block w os go h around = (refl, (opener w OpensBlock OpensBlock go (Around os) h around).1.1)
-  block_around for_loop w os go h around = let o = opener w OpensLoop OpensBlock (Around os) go around h in absurd (not_both o.0 o.1.0.0 o.1.0.1)
-  block_around (for_procedure r) w os go h around = absurd around
-  block_around (for_operation n r) w os go h around = absurd around
-  block_around (for_entry n i t b) w os go h around = absurd around
-  block_around (for_accept i) w os go h around = absurd around
+  pub block_around : (p : Purpose) (rs : List ℕ) (w : Option ℕ) (os : List Opened) (go : Option ℕ → Type 0) → BlockAround lines w go → OpenedFor lines p rs w os (Around os) → (p ≡ for_block) × There os rs go
+  block_around for_body rs w os go h around = absurd (subst (λ v. BlockAround lines v go) around.0 h)
+  block_around for_block rs w os go h around = (refl, (opener w OpensBlock OpensBlock go (Around os rs) h around).1.1)
+  block_around for_loop rs w os go h around = let o = opener w OpensLoop OpensBlock (Around os rs) go around h in absurd (not_both o.0 o.1.0.0 o.1.0.1)
+  block_around (for_procedure r) rs w os go h around = absurd (subst (λ v. BlockAround lines v go) around.0 h)
+  block_around (for_operation n r) rs w os go h around = absurd around
+  block_around (for_entry n i t b) rs w os go h around = absurd around
+  block_around (for_accept i) rs w os go h around = absurd around
 
-  no_accept : (p : Purpose) (w : Option ℕ) (os : List Opened) (go : Option ℕ → Type 0) → AcceptAround lines w go → OpenedFor lines p w os (Around os) → ⊥
-  no_accept for_body w os go h around = subst (λ v. AcceptAround lines v go) around.0 h
-  no_accept for_block w os go h around = let o = opener w OpensAccept OpensBlock go (Around os) h around in not_an_accept o.0 o.1.0.0 o.1.0.1
-  no_accept for_loop w os go h around = let o = opener w OpensAccept OpensLoop go (Around os) h around in not_of_accept o.0 o.1.0.0 o.1.0.1
-  no_accept (for_procedure r) w os go h around = around
-  no_accept (for_operation n r) w os go h around = around
-  no_accept (for_entry n i t b) w os go h around = around
-  no_accept (for_accept i) w os go h around = around
+  no_accept : (p : Purpose) (rs : List ℕ) (w : Option ℕ) (os : List Opened) (go : Option ℕ → Type 0) → AcceptAround lines w go → OpenedFor lines p rs w os (Around os) → ⊥
+  no_accept for_body rs w os go h around = subst (λ v. AcceptAround lines v go) around.0 h
+  no_accept for_block rs w os go h around = let o = opener w OpensAccept OpensBlock go (Around os rs) h around in not_an_accept o.0 o.1.0.0 o.1.0.1
+  no_accept for_loop rs w os go h around = let o = opener w OpensAccept OpensLoop go (Around os rs) h around in not_of_accept o.0 o.1.0.0 o.1.0.1
+  no_accept (for_procedure r) rs w os go h around = subst (λ v. AcceptAround lines v go) around.0 h
+  no_accept (for_operation n r) rs w os go h around = around
+  no_accept (for_entry n i t b) rs w os go h around = around
+  no_accept (for_accept i) rs w os go h around = around
 
-  pub never_accepts : (os : List Opened) (w : Option ℕ) (go : Option ℕ → Type 0) → AcceptAround lines w go → AreAround lines w os → ⊥
-  never_accepts [] w go h around = around
-  never_accepts (o ∷ os) w go h around = no_accept o.purpose w os go h around
+  pub never_accepts : (os : List Opened) (rs : List ℕ) (w : Option ℕ) (go : Option ℕ → Type 0) → AcceptAround lines w go → AreAround lines rs w os → ⊥
+  never_accepts [] rs w go h around = around
+  never_accepts (o ∷ os) rs w go h around = no_accept o.purpose rs w os go h around
 
   -- it is weakened
   pub block_so : (w : Option ℕ) (go on : Option ℕ → Type 0) → ((v : Option ℕ) → go v → on v) → BlockAround lines w go → BlockAround lines w on
@@ -132,28 +132,28 @@ module _ (lines : List FlatLine) where
       by (Some l) h = (h.0, f l.within h.1)
 
   -- out of so many loops
-  pub out_of_them : (n : ℕ) (w : Option ℕ) (go : Option ℕ → Type 0) (display : List ℕ) (os : List Opened) → OutOfLoops lines n w go → AreAround lines w os → There (closed_times n (record { display = display; opened = os })).opened go
-  out_of_them zero w go display os h around = (w, (h, around))
-  out_of_them (suc n) w go display [] h around = absurd around
-  out_of_them (suc n) w go display (o ∷ os) h around =
-      let out = loop_around o.purpose w os (λ v. OutOfLoops lines n v go) h around in
-      out_of_them n out.0 go o.saved os out.1.0 out.1.1
+  pub out_of_them : (n : ℕ) (rs : List ℕ) (w : Option ℕ) (go : Option ℕ → Type 0) (display : List ℕ) (os : List Opened) → OutOfLoops lines n w go → AreAround lines rs w os → There (closed_times n (record { display = display; opened = os })).opened rs go
+  out_of_them zero rs w go display os h around = (w, (h, around))
+  out_of_them (suc n) rs w go display [] h around = absurd around
+  out_of_them (suc n) rs w go display (o ∷ os) h around =
+      let out = loop_around o.purpose rs w os (λ v. OutOfLoops lines n v go) h around in
+      out_of_them n rs out.0 go o.saved os out.1.0 out.1.1
 
   -- what changes of the innermost frame is not what it was opened for
-  pub around_changed : (f : Opened → Opened) → ((o : Opened) → o.purpose ≡ (f o).purpose) → (w : Option ℕ) (os : List Opened) → AreAround lines w os → AreAround lines w (changed_first f os)
-  around_changed f same w [] h = absurd h
-  around_changed f same w (o ∷ os) h = subst (λ p. OpenedFor lines p w os (Around os)) (same o) h
+  pub around_changed : (f : Opened → Opened) → ((o : Opened) → o.purpose ≡ (f o).purpose) → (rs : List ℕ) (w : Option ℕ) (os : List Opened) → AreAround lines rs w os → AreAround lines rs w (changed_first f os)
+  around_changed f same rs w [] h = absurd h
+  around_changed f same rs w (o ∷ os) h = subst (λ p. OpenedFor lines p rs w os (Around os)) (same o) h
 
   -- there is a construct
-  pub has_construct : (os : List Opened) (display : List ℕ) (w : Option ℕ) → AreAround lines w os → 0 < length (out_of_loops (record { display = display; opened = os })).opened
-  has_construct [] display w h = absurd h
-  has_construct (o ∷ os) display w h = each o.purpose o h (λ v k. has_construct os o.saved v k)
+  pub has_construct : (os : List Opened) (display : List ℕ) (rs : List ℕ) (w : Option ℕ) → AreAround lines rs w os → 0 < length (out_of_loops (record { display = display; opened = os })).opened
+  has_construct [] display rs w h = absurd h
+  has_construct (o ∷ os) display rs w h = each o.purpose o h (λ v k. has_construct os o.saved rs v k)
     where
-      each : (p : Purpose) (o : Opened) → OpenedFor lines p w os (Around os) → ((v : Option ℕ) → AreAround lines v os → 0 < length (out_of_loops (record { display = o.saved; opened = os })).opened) → 0 < length (out_of_loops (record { display = display; opened = record o { purpose = p } ∷ os })).opened
+      each : (p : Purpose) (o : Opened) → OpenedFor lines p rs w os (Around os) → ((v : Option ℕ) → AreAround lines rs v os → 0 < length (out_of_loops (record { display = o.saved; opened = os })).opened) → 0 < length (out_of_loops (record { display = display; opened = record o { purpose = p } ∷ os })).opened
       each for_body o h on = omega arith
       each for_block o h on = omega arith
-      each for_loop o h on = let out = opener w OpensLoop OpensLoop (Around os) (Around os) h h in on out.1.1.0 out.1.1.1.1
-      each (for_procedure r) o h on = absurd h
+      each for_loop o h on = let out = opener w OpensLoop OpensLoop (Around os rs) (Around os rs) h h in on out.1.1.0 out.1.1.1.1
+      each (for_procedure r) o h on = omega arith
       each (for_operation n r) o h on = absurd h
       each (for_entry n i t b) o h on = absurd h
       each (for_accept i) o h on = absurd h
@@ -162,12 +162,12 @@ module _ (lines : List FlatLine) where
 
 module _ (lines : List FlatLine) (frames : (n : ℕ) → IsStart lines n → StepFits lines n) where
   -- from a statement, or from the end of a block that it left
-  pub pending_within : (l : EndLine) (last : Last) (m : ℕ) (os : List Opened) → LastFits lines last m l → PendsWithin lines last l.within os → There lines os (λ v. OutFits lines v l.out)
-  pending_within l (Does e) m os fits h = (l.within, (fits.1.1.1, h))
-  pending_within l (Ends construct.Block next) m os fits h =
-      let o = opener lines l.within OpensBlock OpensBlock (Behind lines next l.out) (Around lines os) fits h in
+  pub pending_within : (l : EndLine) (last : Last) (m : ℕ) (rs : List ℕ) (os : List Opened) → LastFits lines last m l → PendsWithin lines last rs l.within os → There lines os rs (λ v. OutFits lines v l.out)
+  pending_within l (Does e) m rs os fits h = (l.within, (fits.1.1.1, h))
+  pending_within l (Ends construct.Block next) m rs os fits h =
+      let o = opener lines l.within OpensBlock OpensBlock (Behind lines next l.out) (Around lines os rs) fits h in
       (o.1.1.0, (o.1.1.1.0.1, o.1.1.1.1))
-  pending_within l last m os fits h = absurd h
+  pending_within l last m rs os fits h = absurd h
 
   -- a loop's statements have the way of its own step
   from_loop : (last : Last) (m n out : ℕ) (l : EndLine) → OpensLoop last → OutOf lines last m l.out out → LastFits lines last n l → OutFits lines l.within out
@@ -179,39 +179,40 @@ module _ (lines : List FlatLine) (frames : (n : ℕ) → IsStart lines n → Ste
   from_block last m loops_out out opens h = absurd opens
 
   -- out of the loops in the innermost construct they go on to its own
-  abbrev GoesOn : ℕ → List Opened → Type 0
-  GoesOn out os = There lines os (λ v. GoTo lines v out)
+  abbrev GoesOn : ℕ → List ℕ → List Opened → Type 0
+  GoesOn out rs os = There lines os rs (λ v. GoTo lines v out)
 
-  abbrev On : ℕ → List Opened → Opened → Type 0
-  On out os o = (v : Option ℕ) → OutFits lines v out → AreAround lines v os → GoesOn out (out_of_loops (record { display = o.saved; opened = os })).opened
+  abbrev On : ℕ → List ℕ → List Opened → Opened → Type 0
+  On out rs os o = (v : Option ℕ) → OutFits lines v out → AreAround lines rs v os → GoesOn out rs (out_of_loops (record { display = o.saved; opened = os })).opened
 
-  pub to_construct : (os : List Opened) (display : List ℕ) (w : Option ℕ) (out : ℕ) → OutFits lines w out → AreAround lines w os → GoesOn out (out_of_loops (record { display = display; opened = os })).opened
-  to_construct [] display w out fits around = absurd around
-  to_construct (o ∷ os) display w out fits around = each o.purpose o w fits around (λ v f a. to_construct os o.saved v out f a)
+  pub to_construct : (os : List Opened) (display : List ℕ) (rs : List ℕ) (w : Option ℕ) (out : ℕ) → OutFits lines w out → AreAround lines rs w os → GoesOn out rs (out_of_loops (record { display = display; opened = os })).opened
+  to_construct [] display rs w out fits around = absurd around
+  to_construct (o ∷ os) display rs w out fits around = each o.purpose o w fits around (λ v f a. to_construct os o.saved rs v out f a)
     where
-      of_block : (m : ℕ) → OutFits lines (Some m) out → BlockAround lines (Some m) (Around lines os) → GoTo lines (Some m) out
+      of_block : (m : ℕ) → OutFits lines (Some m) out → BlockAround lines (Some m) (Around lines os rs) → GoTo lines (Some m) out
       of_block m fits around = by (found lines m) fits around
         where
-          by : (x : Option EndLine) → Found x (λ l. OutOf lines l.last m l.out out) → Found x (λ l. OpensBlock l.last × Around lines os l.within) → GoTo lines (Some m) out
+          by : (x : Option EndLine) → Found x (λ l. OutOf lines l.last m l.out out) → Found x (λ l. OpensBlock l.last × Around lines os rs l.within) → GoTo lines (Some m) out
           by None h k = absurd h
           by (Some l) h k = from_block l.last m l.out out k.0 h
 
-      of_loop : (o : Opened) (m : ℕ) → OutFits lines (Some m) out → LoopAround lines (Some m) (Around lines os) → On out os o → GoesOn out (out_of_loops (record { display = o.saved; opened = os })).opened
+      of_loop : (o : Opened) (m : ℕ) → OutFits lines (Some m) out → LoopAround lines (Some m) (Around lines os rs) → On out rs os o → GoesOn out rs (out_of_loops (record { display = o.saved; opened = os })).opened
       of_loop o m fits around on =
           let there = found_is (found lines m) (λ l. OutOf lines l.last m l.out out) fits in
           let l = there.0 in
-          let loop = found_at (found lines m) (λ l. OpensLoop l.last × Around lines os l.within) l there.1.0 around in
+          let loop = found_at (found lines m) (λ l. OpensLoop l.last × Around lines os rs l.within) l there.1.0 around in
           let step = fits_found lines frames m l there.1.0 in
           on l.within (from_loop l.last m step.0 out l loop.0 there.1.1 step.1) loop.1
 
-      each : (p : Purpose) (o : Opened) (w : Option ℕ) → OutFits lines w out → OpenedFor lines p w os (Around lines os) → On out os o → GoesOn out (out_of_loops (record { display = display; opened = record o { purpose = p } ∷ os })).opened
+      each : (p : Purpose) (o : Opened) (w : Option ℕ) → OutFits lines w out → OpenedFor lines p rs w os (Around lines os) → On out rs os o → GoesOn out rs (out_of_loops (record { display = display; opened = record o { purpose = p } ∷ os })).opened
       each for_body o None fits around on = (None, (fits, around))
       each for_body o (Some m) fits around on = absurd (cc (around.0))
       each for_block o None fits around on = absurd around
       each for_block o (Some m) fits around on = (Some m, (of_block m fits around, around))
       each for_loop o None fits around on = absurd around
       each for_loop o (Some m) fits around on = of_loop o m fits around on
-      each (for_procedure r) o w fits around on = absurd around
+      each (for_procedure r) o None fits around on = (None, (fits, around))
+      each (for_procedure r) o (Some m) fits around on = absurd (cc (around.0))
       each (for_operation n r) o w fits around on = absurd around
       each (for_entry n i t b) o w fits around on = absurd around
       each (for_accept i) o w fits around on = absurd around
@@ -278,3 +279,10 @@ module _ (code : Flat) (frames : (n : ℕ) → IsStart code.lines n → StepFits
       let o = opener code.lines l.within OpensAccept OpensBlock (Behind code.lines next l.out) go fits around in
       absurd (not_an_accept o.0 o.1.0.0 o.1.0.1)
   end_of_block l last m go fits ends around = absurd ends
+
+  -- directly in a body it is the body's
+  pub end_of_unit : (l : EndLine) (last : Last) (m : ℕ) → LastFits code.lines last m l → IsEnd last → l.within ≡ None → (next : ℕ) × (last ≡ Ends construct.Unit next)
+  end_of_unit l (Ends construct.Unit next) m fits ends none = (next, refl)
+  end_of_unit l (Ends construct.Block next) m fits ends none = absurd (subst (λ v. BlockAround code.lines v (Behind code.lines next l.out)) none fits)
+  end_of_unit l (Ends construct.Accept next) m fits ends none = absurd (subst (λ v. AcceptAround code.lines v (Behind code.lines next l.out)) none fits)
+  end_of_unit l last m fits ends none = absurd ends

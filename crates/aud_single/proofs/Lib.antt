@@ -2,6 +2,10 @@ pub mod Output
 pub mod Asked
 pub mod Steps
 pub mod Frames
+pub mod Returning
+pub mod Copies
+pub mod Planned
+pub mod Opening
 pub mod Fitting
 pub mod Moving
 pub mod Next

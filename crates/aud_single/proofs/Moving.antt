@@ -1,4 +1,4 @@
--- The moves and the state of a program that is its main procedure alone.
+-- The moves and the state of a program of one task.
 use Rattle.std.proofs.Common.{◌≡◌, ℕ, List, [], ◌∷◌, ◌++◌, Option, Some, None, Bool, true, false, refl, sym, ap, ◌∙◌}
 use Rattle.std.specs.Prelude.{replicate}
 use Rattle.aud_typed.specs.Tree.{Plan}

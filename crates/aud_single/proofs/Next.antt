@@ -1,4 +1,4 @@
--- The next step of a program that is its main procedure alone.
+-- The next step of a program of one task.
 use Rattle.std.proofs.Common.{◌≡◌, ℕ, List, [], ◌∷◌, Option, Some, None, Bool, true, false, if◌then◌else◌, refl, sym, ap, ◌∙◌, subst}
 use Rattle.aud_text.specs.declared.place.Pos.{Pos}
 use Rattle.aud_typed.specs.Tree.{Plan}
@@ -16,7 +16,7 @@ use Rattle.aud_meaning.specs.Run.{end_kind_by}
 use Rattle.aud_meaning.specs.Ties.Single.{Stage, Stack, Single, runs, completed, terminated, own_in, all_of, scene_in, out_of_loops, out_of_loops_by}
 use Rattle.aud_meaning.specs.Listings.{coming_kind, coming_step_at}
 use Rattle.aud_code.specs.declared.line.EndLine.{EndLine}
-use Rattle.aud_code.specs.declared.line.Ending.TheVariants.{Declare, DeclareArray, Null, Assign, Put, If, While, Loop, Exit, Raise, RaiseAgain, Block}
+use Rattle.aud_code.specs.declared.line.Ending.TheVariants.{Declare, DeclareArray, Null, Assign, Put, If, While, Loop, Exit, Raise, RaiseAgain, Block, Return, Call}
 use Rattle.aud_code.specs.declared.line.Last.{Last}
 use Rattle.aud_code.specs.declared.line.Last.TheVariants.{Does, Continues, Guards, Ends, Leaves}
 use Rattle.aud_code.specs.Places.{Spot, is_there}
@@ -41,6 +41,8 @@ of_kind plan stack (Does (Exit w) next) s x = refl
 of_kind plan stack (Does (Raise y) next) s x = refl
 of_kind plan stack (Does RaiseAgain next) s x = refl
 of_kind plan stack (Does (Block region inside) next) s x = refl
+of_kind plan stack (Does (Return w) next) s x = refl
+of_kind plan stack (Does (Call unit) next) s x = refl
 of_kind plan stack (Continues f behind inside) s x = refl
 of_kind plan stack (Guards gs) s x = refl
 of_kind plan stack (Ends c next) s x = refl

@@ -2,7 +2,7 @@
 use Rattle.std.proofs.Common.{◌≡◌, ℕ, zero, suc, ◌+◌, ◌-◌, ◌*◌, ◌^◌, ◌≤◌, List, length, Some, None, refl, sym, ap, ◌∙◌, arith}
 use Rattle.std.specs.Prelude.{min}
 use Rattle.aud_text.specs.declared.limits.Limits.{Limits}
-use Rattle.aud_typed.specs.Tree.{Plan}
+use Rattle.aud_typed.specs.Tree.{Plan, UnitPlan}
 use Rattle.aud_meaning.specs.Configuration.{All}
 use Rattle.aud_meaning.specs.Run.{Move, own_move, step_with, run_by, run_with}
 use Rattle.aud_meaning.specs.Ties.Single.{Stage, Single, runs, completed, terminated, all_of}
@@ -29,17 +29,17 @@ module _ (plan : Plan) (name : List ℕ) (limits : Limits) (code : Flat) where
   same_by p (terminated raised) = refl
 
   -- One step of a program that can move.
-  module _ (j : ℕ) (old new : Single Spot) (enabled : Enables code old 1) (stepped : StepsTo code old new) where
+  module _ (units : List UnitPlan) (j : ℕ) (old new : Single Spot) (enabled : Enables code old 1) (stepped : StepsTo units code old new) (has : plan.units ≡ units) where
     turn : Runs (suc j) (In old) ≡ Runs j (In new)
     turn =
         ap (λ (ms : List Move). run_by plan (flat_controls plan code) limits (Runs j) ms (In old)) (enabled plan name)
-        ∙ ap (Runs j) (sym (stepped plan name limits))
+        ∙ ap (Runs j) (sym (stepped plan name has limits))
 
     ticks_one : run_ticks plan code limits (suc j) (In old) ≡ step_ticks code old + run_ticks plan code limits j (In new)
     ticks_one =
         ap (λ (ms : List Move). moved_ticks plan code limits (run_ticks plan code limits j) ms (In old)) (enabled plan name)
         ∙ ap (λ t. t + run_ticks plan code limits j (step_with plan (flat_controls plan code) limits (In old) (own_move 0))) (same_by old old.stage)
-        ∙ ap (λ c. step_ticks code old + run_ticks plan code limits j c) (sym (stepped plan name limits))
+        ∙ ap (λ c. step_ticks code old + run_ticks plan code limits j c) (sym (stepped plan name has limits))
 
   -- no move is enabled any more
   ends : (j : ℕ) (p : Single Spot) → Enables code p 0 → Runs j (In p) ≡ In p
@@ -52,39 +52,39 @@ module _ (plan : Plan) (name : List ℕ) (limits : Limits) (code : Flat) where
 
 -- Steps one after the other.
 
-pub no_steps : (code : Flat) (p : Single Spot) → RunsOn code 0 0 p p
-no_steps code p = record {
-  run = λ plan name limits n. let none : 0 + n ≡ n = omega arith in ap (λ k. run_with plan (flat_controls plan code) limits k (all_of name p)) none;
-  counted = λ plan name limits n. let none : 0 + n ≡ n = omega arith in let same = ap (λ k. run_ticks plan code limits k (all_of name p)) none in omega (arith, same);
+pub no_steps : (units : List UnitPlan) (code : Flat) (p : Single Spot) → RunsOn units code 0 0 p p
+no_steps units code p = record {
+  run = λ plan name has limits n. let none : 0 + n ≡ n = omega arith in ap (λ k. run_with plan (flat_controls plan code) limits k (all_of name p)) none;
+  counted = λ plan name has limits n. let none : 0 + n ≡ n = omega arith in let same = ap (λ k. run_ticks plan code limits k (all_of name p)) none in omega (arith, same);
 }
 
-pub one_step : (code : Flat) (old new : Single Spot) → Enables code old 1 → StepsTo code old new → RunsOn code 1 (step_ticks code old) old new
-one_step code old new enabled stepped = record {
-  run = λ plan name limits n.
+pub one_step : (units : List UnitPlan) (code : Flat) (old new : Single Spot) → Enables code old 1 → StepsTo units code old new → RunsOn units code 1 (step_ticks code old) old new
+one_step units code old new enabled stepped = record {
+  run = λ plan name has limits n.
       let one : 1 + n ≡ suc n = omega arith in
-      ap (λ k. run_with plan (flat_controls plan code) limits k (all_of name old)) one ∙ turn plan name limits code n old new enabled stepped;
-  counted = λ plan name limits n.
+      ap (λ k. run_with plan (flat_controls plan code) limits k (all_of name old)) one ∙ turn plan name limits code units n old new enabled stepped has;
+  counted = λ plan name has limits n.
       let one : 1 + n ≡ suc n = omega arith in
-      ap (λ k. run_ticks plan code limits k (all_of name old)) one ∙ ticks_one plan name limits code n old new enabled stepped;
+      ap (λ k. run_ticks plan code limits k (all_of name old)) one ∙ ticks_one plan name limits code units n old new enabled stepped has;
 }
 
-pub then_on : (code : Flat) (k t j u : ℕ) (old there new : Single Spot) → RunsOn code k t old there → RunsOn code j u there new → RunsOn code (k + j) (t + u) old new
-then_on code k t j u old there new first second = record {
-  run = λ plan name limits n.
+pub then_on : (units : List UnitPlan) (code : Flat) (k t j u : ℕ) (old there new : Single Spot) → RunsOn units code k t old there → RunsOn units code j u there new → RunsOn units code (k + j) (t + u) old new
+then_on units code k t j u old there new first second = record {
+  run = λ plan name has limits n.
       let both : k + j + n ≡ k + (j + n) = omega arith in
       ap (λ m. run_with plan (flat_controls plan code) limits m (all_of name old)) both
-      ∙ first.run plan name limits (j + n)
-      ∙ second.run plan name limits n;
-  counted = λ plan name limits n.
+      ∙ first.run plan name has limits (j + n)
+      ∙ second.run plan name has limits n;
+  counted = λ plan name has limits n.
       let both : k + j + n ≡ k + (j + n) = omega arith in
       let all = ap (λ m. run_ticks plan code limits m (all_of name old)) both in
-      omega (arith, all, first.counted plan name limits (j + n), second.counted plan name limits n);
+      omega (arith, all, first.counted plan name has limits (j + n), second.counted plan name has limits n);
 }
 
 -- A run under way, of at most n steps.
-pub record RunsSoFar (code : Flat) (n : ℕ) (old new : Single Spot) (steps ticks : ℕ) : Type 0 where
+pub record RunsSoFar (units : List UnitPlan) (code : Flat) (n : ℕ) (old new : Single Spot) (steps ticks : ℕ) : Type 0 where
   pub total : ℕ
-  pub leads : RunsOn code steps total old new
+  pub leads : RunsOn units code steps total old new
   pub counted : ticks ≡ min total (2 ^ 64 - 1)
   pub within : steps ≤ n
   pub fits : Fits code.lines new
@@ -102,20 +102,20 @@ none_left code left p none = rw none (record { run = λ plan name limits. refl; 
 pub none_enabled : (code : Flat) (left : ℕ) (p : Single Spot) → Enables code p 0 → IsOver code left p
 none_enabled code left p none = record { run = λ plan name limits. ends plan name limits code left p none; ticks = λ plan name limits. no_ticks plan name limits code left p none }
 
-module _ (code : Flat) (n : ℕ) (old new : Single Spot) (ran : Ran) (so_far : RunsSoFar code n old new ran.steps ran.ticks) (state : IsIn code new ran.state) (over : IsOver code (n - ran.steps) new) where
+module _ (units : List UnitPlan) (code : Flat) (n : ℕ) (old new : Single Spot) (ran : Ran) (so_far : RunsSoFar units code n old new ran.steps ran.ticks) (state : IsIn code new ran.state) (over : IsOver code (n - ran.steps) new) where
   all_steps : ran.steps + (n - ran.steps) ≡ n
   all_steps = omega (arith, so_far.within)
 
-  pub runs_to : RunsTo code n old new ran
+  pub runs_to : RunsTo units code n old new ran
   runs_to = record {
-    run = λ plan name limits.
+    run = λ plan name has limits.
         sym (ap (λ k. run_with plan (flat_controls plan code) limits k (all_of name old)) (sym all_steps)
-        ∙ so_far.leads.run plan name limits (n - ran.steps)
+        ∙ so_far.leads.run plan name has limits (n - ran.steps)
         ∙ over.run plan name limits);
     steps = so_far.steps_taken;
     state = state;
-    ticks = λ plan name limits.
+    ticks = λ plan name has limits.
         let all = ap (λ k. run_ticks plan code limits k (all_of name old)) (sym all_steps) in
-        omega (arith, all, so_far.leads.counted plan name limits (n - ran.steps), over.ticks plan name limits, so_far.counted);
+        omega (arith, all, so_far.leads.counted plan name has limits (n - ran.steps), over.ticks plan name limits, so_far.counted);
     few = so_far.few;
   }

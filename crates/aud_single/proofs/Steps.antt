@@ -1,12 +1,13 @@
 -- What a statement's step of a program in memory does is the step of its code.
-use Rattle.std.proofs.Common.{◌≡◌, ℕ, suc, ℤ, List, [], ◌∷◌, Option, Some, None, Bool, true, false, if◌then◌else◌, length, replicate, nat_lt, nat_le, refl, sym, ap, ◌∙◌, subst}
+use Rattle.std.proofs.Common.{◌≡◌, ℕ, zero, suc, ℤ, List, [], ◌∷◌, ◌++◌, Option, Some, None, Bool, true, false, if◌then◌else◌, length, take, replicate, slice_index_or, nat_lt, nat_le, refl, sym, ap, ◌∙◌, subst}
 use Rattle.std.specs.Prelude.{slice_get, int_le, ◌+ℤ◌}
 use Rattle.aud_text.specs.declared.limits.Limits.{Limits}
 use Rattle.aud_text.specs.declared.limits.TheConstants.{ELEMENTS, FRAMES}
 use Rattle.aud_text.specs.declared.raise.Raise.{Raise}
 use Rattle.aud_text.specs.declared.place.Pos.{Pos}
 use Rattle.aud_typed.specs.declared.program.Subtype.{Subtype}
-use Rattle.aud_typed.specs.Tree.{Plan}
+use Rattle.aud_typed.specs.declared.program.Unit as declared
+use Rattle.aud_typed.specs.Tree.{Plan, UnitPlan}
 use Rattle.aud_meaning.specs.declared.state.Construct.{Construct}
 use Rattle.aud_meaning.specs.declared.state.Construct.TheVariants as construct
 use Rattle.aud_meaning.specs.Configuration.{Target, Pending, Purpose, for_body, for_block, for_loop, for_procedure, for_operation, for_entry, for_accept, Opened, All}
@@ -17,11 +18,12 @@ use Rattle.aud_meaning.specs.Run.{own_move, step_with}
 use Rattle.aud_meaning.specs.Effects.{assigned, put_out, elaborated_in, innermost, live_frames, is_loop}
 use Rattle.aud_meaning.specs.Step.{for_first, for_step, has_next}
 use Rattle.aud_meaning.specs.Statements.{handled_or_left}
-use Rattle.aud_meaning.specs.Ties.Single.{Stack, Single, runs, completed, all_of, scene_in, closed, closed_times, out_of_loops, out_of_loops_by, on_innermost, IsOpenedAlone, AreOpenedAlone}
-use Rattle.aud_meaning.proofs.Single.{declares_step, declares_array_step, goes_out_step, assigns_step, puts_step, raises_step, raises_here_step, raises_in_part_step, raises_again_step, enters_block_step, enters_loop_step, next_of_loop_step, handles_step, block_ends_step, block_left_step, body_ends_step, body_left_step, nothing_ends_step, nothing_left_step}
+use Rattle.aud_meaning.specs.Ties.Single.{Stack, Single, runs, completed, all_of, scene_in, closed, closed_times, out_of_loops, out_of_loops_by, on_innermost, opens_after, given_back, failed_at, IsOpenedAlone, AreOpenedAlone}
+use Rattle.aud_meaning.specs.Parts.{no_unit, unit_of}
+use Rattle.aud_meaning.proofs.Single.{declares_step, declares_array_step, goes_out_step, assigns_step, puts_step, raises_step, raises_here_step, raises_in_part_step, raises_again_step, enters_block_step, enters_loop_step, next_of_loop_step, handles_step, after_copies, calls_procedure_step, block_ends_step, block_left_step, body_ends_step, body_left_step, procedure_ends_step, procedure_left_step, nothing_ends_step, nothing_left_step}
 use Rattle.aud_code.specs.declared.line.EndLine.{EndLine}
 use Rattle.aud_code.specs.declared.line.Ending.{Ending}
-use Rattle.aud_code.specs.declared.line.Ending.TheVariants.{Declare, DeclareArray, Null, Assign, Put, If, While, Loop, Exit, RaiseAgain, Block}
+use Rattle.aud_code.specs.declared.line.Ending.TheVariants.{Declare, DeclareArray, Null, Assign, Put, If, While, Loop, Exit, RaiseAgain, Block, Return, Call}
 use Rattle.aud_code.specs.declared.line.Ending.TheVariants as ending
 use Rattle.aud_code.specs.declared.line.Last.{Last}
 use Rattle.aud_code.specs.declared.line.Last.TheVariants.{Does, Continues, Guards, Ends, Leaves}
@@ -30,14 +32,26 @@ use Rattle.aud_code.specs.declared.line.Way.{Way}
 use Rattle.aud_code.specs.Places.{Spot, goes, goes_there, loops_of, is_there}
 use Rattle.aud_code.specs.Instruction.{Operands, Ended, Reached, no_operands}
 use Rattle.aud_code.specs.Instruction as instruction
-use Rattle.aud_code.specs.Flat.{FlatLine, Flat, flat_controls, instructions_at, end_at, end_from, no_end, instructs, end, asked_last, left_by, handler_at, handler_in}
+use Rattle.aud_code.specs.Eval.{newest, passed_in}
+use Rattle.aud_code.specs.Flat.{FlatLine, Flat, flat_controls, instructions_at, end_at, end_from, no_end, instructs, end, back_to, start_at, asked_last, left_by, handler_at, handler_in}
 use Rattle.aud_code.specs.Flat as flat
 use Rattle.aud_code.specs.Sound.{Takes, LastFine, counts_of}
 use Rattle.aud_code.specs.View.{plain_last, plain_for, ways_of, exit_of}
 use Rattle.aud_store.specs.Ties.Stored.{declared, entered, innermost_cell, IsStored}
 use Rattle.aud_store.specs.Ties.Stored as store
 use Rattle.aud_single.proofs.Asked.{EndsAs, LeadsTo, takes_so, out_so, behind_so, asks_so, goes_so}
-use Rattle.aud_single.specs.Steps.{StepsTo, moved_to, stored_in, decided, continued, declared_array, does, out_of_construct, construct_left, place_behind, ends_by, raises_by, handled_at}
+use Rattle.aud_single.proofs.Returning.{way_so}
+use Rattle.aud_single.specs.Shown.{plans_of, unit_in}
+use Rattle.aud_single.specs.Steps.{back_or, EndsBack, StepsTo, moved_to, stored_in, decided, continued, declared_array, called_unit, does, out_of_construct, come_back, behind_construct, construct_left, place_behind, ends_by, raises_by, handled_at}
+
+-- No unit is a function's.
+abbrev pub ArePlain : List UnitPlan → Type 0
+ArePlain units = (n : ℕ) → (unit_in units n).is_function ≡ false
+
+pub plain_units : (us : List declared.Unit) → ArePlain (plans_of us)
+plain_units [] n = refl
+plain_units (u ∷ us) zero = refl
+plain_units (u ∷ us) (suc n) = plain_units us n
 
 -- What is open without the loops in the innermost construct is still that of one task.
 
@@ -49,7 +63,7 @@ alone_out (o ∷ os) s is are = by (is_loop o.purpose) (alone_out os (record { d
     by true outer = outer
     by false outer = subst AreOpenedAlone (sym is) are
 
-module _ (plan : Plan) (name : List ℕ) (limits : Limits) (code : Flat) (q : Single Spot) where
+module _ (units : List UnitPlan) (plan : Plan) (name : List ℕ) (has : plan.units ≡ units) (limits : Limits) (code : Flat) (q : Single Spot) where
   abbrev k : Controls Spot
   k = flat_controls plan code
 
@@ -100,10 +114,10 @@ module _ (plan : Plan) (name : List ℕ) (limits : Limits) (code : Flat) (q : Si
   one_of_two false next inside = refl
 
   -- its declarations
-  declares_so : (up_to again next : ℕ) (at : Pos) (out : ℕ) (within : Option ℕ) (o : Operands) → EndsAs code q.control.place (record { last = Does (Declare up_to again) next; at = at; out = out; within = within }) → LeadsTo code q (Reached o) → Takes (length o.integers) (λ n. Unit {0}) → In (does (Declare up_to again) at next o now) ≡ Stepped now
+  declares_so : (up_to again next : ℕ) (at : Pos) (out : ℕ) (within : Option ℕ) (o : Operands) → EndsAs code q.control.place (record { last = Does (Declare up_to again) next; at = at; out = out; within = within }) → LeadsTo code q (Reached o) → Takes (length o.integers) (λ n. Unit {0}) → In (does units code (Declare up_to again) at next o now) ≡ Stepped now
   declares_so up_to again next at out within o is_end evaluated fine = by o.integers evaluated fine
     where
-      by : (zs : List ℤ) → LeadsTo code q (Reached (record o { integers = zs })) → Takes (length zs) (λ n. Unit {0}) → In (does (Declare up_to again) at next (record o { integers = zs }) now) ≡ Stepped now
+      by : (zs : List ℤ) → LeadsTo code q (Reached (record o { integers = zs })) → Takes (length zs) (λ n. Unit {0}) → In (does units code (Declare up_to again) at next (record o { integers = zs }) now) ≡ Stepped now
       by [] evaluated fine = absurd fine
       by (z ∷ zs) evaluated fine =
           let l : EndLine = record { last = Does (Declare up_to again) next; at = at; out = out; within = within } in
@@ -125,10 +139,10 @@ module _ (plan : Plan) (name : List ℕ) (limits : Limits) (code : Flat) (q : Si
       by false x y X e = refl
 
   -- a variable's value
-  assigns_so : (next : ℕ) (at : Pos) (out : ℕ) (within : Option ℕ) (o : Operands) → EndsAs code q.control.place (record { last = Does Assign next; at = at; out = out; within = within }) → LeadsTo code q (Reached o) → Takes (length o.targets) (λ n. Takes (length o.integers) (λ m. Unit {0})) → In (does Assign at next o now) ≡ Stepped now
+  assigns_so : (next : ℕ) (at : Pos) (out : ℕ) (within : Option ℕ) (o : Operands) → EndsAs code q.control.place (record { last = Does Assign next; at = at; out = out; within = within }) → LeadsTo code q (Reached o) → Takes (length o.targets) (λ n. Takes (length o.integers) (λ m. Unit {0})) → In (does units code Assign at next o now) ≡ Stepped now
   assigns_so next at out within o is_end evaluated fine = by o.targets o.integers evaluated fine
     where
-      by : (ts : List Target) (zs : List ℤ) → LeadsTo code q (Reached (record o { targets = ts; integers = zs })) → Takes (length ts) (λ n. Takes (length zs) (λ m. Unit {0})) → In (does Assign at next (record o { targets = ts; integers = zs }) now) ≡ Stepped now
+      by : (ts : List Target) (zs : List ℤ) → LeadsTo code q (Reached (record o { targets = ts; integers = zs })) → Takes (length ts) (λ n. Takes (length zs) (λ m. Unit {0})) → In (does units code Assign at next (record o { targets = ts; integers = zs }) now) ≡ Stepped now
       by [] zs evaluated fine = absurd fine
       by (t ∷ ts) [] evaluated fine = absurd fine
       by (t ∷ ts) (z ∷ zs) evaluated fine =
@@ -136,7 +150,7 @@ module _ (plan : Plan) (name : List ℕ) (limits : Limits) (code : Flat) (q : Si
           sym (assigns_step plan name k limits q t z (asks_so plan name limits code q l is_end (Reached (record o { targets = t ∷ ts; integers = z ∷ zs })) evaluated)
           ∙ ap (λ (c : Spot). In (record now { control = c; frames = assigned t.frame t.index z q.frames; steps = suc q.steps })) (takes_so plan name limits code q l is_end 0))
 
-  puts_so : (next : ℕ) (at : Pos) (out : ℕ) (within : Option ℕ) (o : Operands) → EndsAs code q.control.place (record { last = Does Put next; at = at; out = out; within = within }) → LeadsTo code q (Reached o) → In (does Put at next o now) ≡ Stepped now
+  puts_so : (next : ℕ) (at : Pos) (out : ℕ) (within : Option ℕ) (o : Operands) → EndsAs code q.control.place (record { last = Does Put next; at = at; out = out; within = within }) → LeadsTo code q (Reached o) → In (does units code Put at next o now) ≡ Stepped now
   puts_so next at out within o is_end evaluated =
       let l : EndLine = record { last = Does Put next; at = at; out = out; within = within } in
       let shared = put_out o.text (record { frames = q.frames; output = q.output; cut = q.cut; calls = []; arrivals = 0; objects = [] }) in
@@ -144,10 +158,10 @@ module _ (plan : Plan) (name : List ℕ) (limits : Limits) (code : Flat) (q : Si
       ∙ ap (λ (t : Spot). In (record now { control = t; output = shared.output; cut = shared.cut; steps = suc q.steps })) (takes_so plan name limits code q l is_end 0))
 
   -- a loop's frame, or a block's
-  loops_so : (f : ForLoop) (inside next : ℕ) (at : Pos) (out : ℕ) (within : Option ℕ) (o : Operands) → EndsAs code q.control.place (record { last = Does (Loop f inside) next; at = at; out = out; within = within }) → LeadsTo code q (Reached o) → Takes (length o.integers) (λ n. Takes n (λ m. Unit {0})) → In (does (Loop f inside) at next o now) ≡ Stepped now
+  loops_so : (f : ForLoop) (inside next : ℕ) (at : Pos) (out : ℕ) (within : Option ℕ) (o : Operands) → EndsAs code q.control.place (record { last = Does (Loop f inside) next; at = at; out = out; within = within }) → LeadsTo code q (Reached o) → Takes (length o.integers) (λ n. Takes n (λ m. Unit {0})) → In (does units code (Loop f inside) at next o now) ≡ Stepped now
   loops_so f inside next at out within o is_end evaluated fine = by o.integers evaluated fine
     where
-      by : (zs : List ℤ) → LeadsTo code q (Reached (record o { integers = zs })) → Takes (length zs) (λ n. Takes n (λ m. Unit {0})) → In (does (Loop f inside) at next (record o { integers = zs }) now) ≡ Stepped now
+      by : (zs : List ℤ) → LeadsTo code q (Reached (record o { integers = zs })) → Takes (length zs) (λ n. Takes n (λ m. Unit {0})) → In (does units code (Loop f inside) at next (record o { integers = zs }) now) ≡ Stepped now
       by [] evaluated fine = absurd fine
       by (y ∷ []) evaluated fine = absurd fine
       by (y ∷ x ∷ zs) evaluated fine =
@@ -158,7 +172,7 @@ module _ (plan : Plan) (name : List ℕ) (limits : Limits) (code : Flat) (q : Si
           either (int_le x y) _ _ _ _ (either (nat_le (suc (live_frames q.stack.opened)) FRAMES) _ _ _ _ there refl) on
           ∙ sym (enters_loop_step plan name k limits q (plain_for f) x y (asks_so plan name limits code q l is_end (Reached (record o { integers = y ∷ x ∷ zs })) evaluated))
 
-  blocks_so : (region inside next : ℕ) (at : Pos) (out : ℕ) (within : Option ℕ) (o : Operands) → EndsAs code q.control.place (record { last = Does (Block region inside) next; at = at; out = out; within = within }) → LeadsTo code q (Reached o) → In (does (Block region inside) at next o now) ≡ Stepped now
+  blocks_so : (region inside next : ℕ) (at : Pos) (out : ℕ) (within : Option ℕ) (o : Operands) → EndsAs code q.control.place (record { last = Does (Block region inside) next; at = at; out = out; within = within }) → LeadsTo code q (Reached o) → In (does units code (Block region inside) at next o now) ≡ Stepped now
   blocks_so region inside next at out within o is_end evaluated =
       let l : EndLine = record { last = Does (Block region inside) next; at = at; out = out; within = within } in
       let s = entered for_block region at [] 0 (stored_in q) in
@@ -166,11 +180,38 @@ module _ (plan : Plan) (name : List ℕ) (limits : Limits) (code : Flat) (q : Si
       either (nat_le (suc (live_frames q.stack.opened)) FRAMES) _ _ _ _ there refl
       ∙ sym (enters_block_step plan name k limits q at region (asks_so plan name limits code q l is_end (Reached o) evaluated))
 
+  -- a procedure's frame
+  module _ (plain : ArePlain units) (n next : ℕ) (at : Pos) (out : ℕ) (within : Option ℕ) (o : Operands) where
+    -- of this unit, which is a function's or none
+    abbrev entering : UnitPlan → Bool → Single Spot
+    entering u f = record now {
+      control = record { place = start_at code n; returns = q.control.place ∷ q.control.returns };
+      stack = opens_after (for_procedure (record { is_function = f; backs = o.backs; into = newest o.targets; value = None })) (length q.frames) u.region at (length o.values) (take u.level q.stack.display) q.stack;
+      frames = q.frames ++ o.values ∷ [];
+      steps = suc q.steps;
+    }
+
+    calls_so : EndsAs code q.control.place (record { last = Does (Call n) next; at = at; out = out; within = within }) → LeadsTo code q (Reached o) → In (called_unit units code n at o now) ≡ Stepped now
+    calls_so is_end evaluated =
+        let l : EndLine = record { last = Does (Call n) next; at = at; out = out; within = within } in
+        let unit : unit_of plan n ≡ unit_in units n = ap (λ us. slice_index_or us n no_unit) has in
+        let there : In (entering (unit_in units n) false) ≡ In (entering (unit_of plan n) (unit_of plan n).is_function) =
+        ap (λ f. In (entering (unit_in units n) f)) (sym (plain n)) ∙ ap (λ (u : UnitPlan). In (entering u u.is_function)) (sym unit) in
+        either (nat_le (suc (live_frames q.stack.opened)) FRAMES) _ _ _ _ there refl
+        ∙ sym (calls_procedure_step plan name k limits q at n (passed_in o) (newest o.targets) (asks_so plan name limits code q l is_end (Reached o) evaluated))
+
+  -- to the end of a procedure
+  returns_so : (w : Way) (next : ℕ) (at : Pos) (out : ℕ) (within : Option ℕ) (o : Operands) → EndsAs code q.control.place (record { last = Does (Return w) next; at = at; out = out; within = within }) → LeadsTo code q (Reached o) → In (does units code (Return w) at next o now) ≡ Stepped now
+  returns_so w next at out within o is_end evaluated =
+      let l : EndLine = record { last = Does (Return w) next; at = at; out = out; within = within } in
+      sym (goes_out_step plan name k limits q w.loops (asks_so plan name limits code q l is_end (Reached o) evaluated)
+      ∙ ap (λ (c : Spot). In (record now { control = c; stack = closed_times w.loops q.stack; steps = suc q.steps })) (out_so plan name limits code q l is_end))
+
   -- out of loops
-  exits_so : (w : Way) (next : ℕ) (at : Pos) (out : ℕ) (within : Option ℕ) (o : Operands) → EndsAs code q.control.place (record { last = Does (Exit w) next; at = at; out = out; within = within }) → LeadsTo code q (Reached o) → Takes (length o.booleans) (λ n. Unit {0}) → In (does (Exit w) at next o now) ≡ Stepped now
+  exits_so : (w : Way) (next : ℕ) (at : Pos) (out : ℕ) (within : Option ℕ) (o : Operands) → EndsAs code q.control.place (record { last = Does (Exit w) next; at = at; out = out; within = within }) → LeadsTo code q (Reached o) → Takes (length o.booleans) (λ n. Unit {0}) → In (does units code (Exit w) at next o now) ≡ Stepped now
   exits_so w next at out within o is_end evaluated fine = by o.booleans evaluated fine
     where
-      by : (bs : List Bool) → LeadsTo code q (Reached (record o { booleans = bs })) → Takes (length bs) (λ n. Unit {0}) → In (does (Exit w) at next (record o { booleans = bs }) now) ≡ Stepped now
+      by : (bs : List Bool) → LeadsTo code q (Reached (record o { booleans = bs })) → Takes (length bs) (λ n. Unit {0}) → In (does units code (Exit w) at next (record o { booleans = bs }) now) ≡ Stepped now
       by [] evaluated fine = absurd fine
       by (true ∷ bs) evaluated fine =
           let l : EndLine = record { last = Does (Exit w) next; at = at; out = out; within = within } in
@@ -179,23 +220,25 @@ module _ (plan : Plan) (name : List ℕ) (limits : Limits) (code : Flat) (q : Si
       by (false ∷ bs) evaluated fine = on_by (Exit w) next at out within is_end (record o { booleans = false ∷ bs }) evaluated 0 refl
 
   -- each statement
-  done_by : (e : Ending) (next : ℕ) (at : Pos) (out : ℕ) (within : Option ℕ) (o : Operands) → EndsAs code q.control.place (record { last = Does e next; at = at; out = out; within = within }) → LeadsTo code q (Reached o) → LastFine (plain_last (Does e next)) (counts_of o) → In (does e at next o now) ≡ Stepped now
-  done_by (Declare up_to again) next at out within o is_end evaluated fine = declares_so up_to again next at out within o is_end evaluated fine
-  done_by (DeclareArray t n) next at out within o is_end evaluated fine = declares_array_so t n next at out within o is_end evaluated
-  done_by Null next at out within o is_end evaluated fine = on_by Null next at out within is_end o evaluated 0 refl
-  done_by Assign next at out within o is_end evaluated fine = assigns_so next at out within o is_end evaluated fine
-  done_by Put next at out within o is_end evaluated fine = puts_so next at out within o is_end evaluated
-  done_by (If inside) next at out within o is_end evaluated fine =
+  done_by : ArePlain units → (e : Ending) (next : ℕ) (at : Pos) (out : ℕ) (within : Option ℕ) (o : Operands) → EndsAs code q.control.place (record { last = Does e next; at = at; out = out; within = within }) → LeadsTo code q (Reached o) → LastFine (plain_last (Does e next)) (counts_of o) → In (does units code e at next o now) ≡ Stepped now
+  done_by plain (Declare up_to again) next at out within o is_end evaluated fine = declares_so up_to again next at out within o is_end evaluated fine
+  done_by plain (DeclareArray t n) next at out within o is_end evaluated fine = declares_array_so t n next at out within o is_end evaluated
+  done_by plain Null next at out within o is_end evaluated fine = on_by Null next at out within is_end o evaluated 0 refl
+  done_by plain Assign next at out within o is_end evaluated fine = assigns_so next at out within o is_end evaluated fine
+  done_by plain Put next at out within o is_end evaluated fine = puts_so next at out within o is_end evaluated
+  done_by plain (If inside) next at out within o is_end evaluated fine =
       decides (If inside) next at out within is_end inside o evaluated fine (λ bs e. on_by (If inside) next at out within is_end _ e 1 refl) (λ bs e. on_by (If inside) next at out within is_end _ e 0 refl)
-  done_by (While inside) next at out within o is_end evaluated fine =
+  done_by plain (While inside) next at out within o is_end evaluated fine =
       decides (While inside) next at out within is_end inside o evaluated fine (λ bs e. on_by (While inside) next at out within is_end _ e 1 refl) (λ bs e. on_by (While inside) next at out within is_end _ e 0 refl)
-  done_by (Loop f inside) next at out within o is_end evaluated fine = loops_so f inside next at out within o is_end evaluated fine
-  done_by (Exit w) next at out within o is_end evaluated fine = exits_so w next at out within o is_end evaluated fine
-  done_by (ending.Raise x) next at out within o is_end evaluated fine =
+  done_by plain (Loop f inside) next at out within o is_end evaluated fine = loops_so f inside next at out within o is_end evaluated fine
+  done_by plain (Exit w) next at out within o is_end evaluated fine = exits_so w next at out within o is_end evaluated fine
+  done_by plain (ending.Raise x) next at out within o is_end evaluated fine =
       sym (raises_step plan name k limits q x at (asks_so plan name limits code q (record { last = Does (ending.Raise x) next; at = at; out = out; within = within }) is_end (Reached o) evaluated))
-  done_by RaiseAgain next at out within o is_end evaluated fine =
+  done_by plain RaiseAgain next at out within o is_end evaluated fine =
       sym (raises_again_step plan name k limits q at (asks_so plan name limits code q (record { last = Does RaiseAgain next; at = at; out = out; within = within }) is_end (Reached o) evaluated))
-  done_by (Block region inside) next at out within o is_end evaluated fine = blocks_so region inside next at out within o is_end evaluated
+  done_by plain (Block region inside) next at out within o is_end evaluated fine = blocks_so region inside next at out within o is_end evaluated
+  done_by plain (Return w) next at out within o is_end evaluated fine = returns_so w next at out within o is_end evaluated
+  done_by plain (Call n) next at out within o is_end evaluated fine = calls_so plain n next at out within o is_end evaluated
 
   -- the parameter of the innermost loop
   continues_so : (f : ForLoop) (behind inside : ℕ) (at : Pos) (out : ℕ) (within : Option ℕ) (o : Ended) → EndsAs code q.control.place (record { last = Continues f behind inside; at = at; out = out; within = within }) → LeadsTo code q o → In (continued f behind inside now) ≡ Stepped now
@@ -215,25 +258,37 @@ module _ (plan : Plan) (name : List ℕ) (limits : Limits) (code : Flat) (q : Si
   IsAlone = AreOpenedAlone q.stack.opened
 
   -- and then so many loops around it
-  module _ (n place : ℕ) (alone : IsAlone) (asks : k.asks None scene q.control ≡ asked.ends n) (there : k.behind q.control ≡ goes place q.control) where
+  module _ (n place : ℕ) (alone : IsAlone) (asks : k.asks None scene q.control ≡ asked.ends n) (there : k.behind q.control ≡ back_or code (out_of_loops q.stack).opened place q.control) where
     -- what it comes to, where these are open
     abbrev ended : List Opened → Single Spot
-    ended os = let p = out_of_construct None os now in record (moved_to place p) { stack = closed_times n p.stack }
+    ended os = let p = out_of_construct None os now in record p { control = behind_construct code os p.stage place q.control; stack = closed_times n p.stack; steps = suc q.steps }
+
+    -- where it leads, if these are open
+    leads : (os : List Opened) → (out_of_loops q.stack).opened ≡ os → k.behind q.control ≡ back_or code os place q.control
+    leads os is = there ∙ ap (λ l. back_or code l place q.control) is
+
+    -- behind the call, or at the call
+    come_so : (at : Pos) (x : Option Raise) (c : Spot) → c ≡ back_to code q.control.returns → after_copies plan name k limits q x at c ≡ come_back code (runs (failed_at at x)) q.control
+    come_so at None c is = ap (λ s. k.takes 0 s) is ∙ way_so (slice_get (end_at code (back_to code q.control.returns).place).ways 0) (back_to code q.control.returns)
+    come_so at (Some raise) c is = is
 
     each_ends : (purpose : Purpose) (o : Opened) (os : List Opened) → IsOpenedAlone purpose → (out_of_loops q.stack).opened ≡ record o { purpose = purpose } ∷ os → In (ended (record o { purpose = purpose } ∷ os)) ≡ Stepped now
-    each_ends for_body o os one is = sym (body_ends_step plan name k limits q n o os is alone asks ∙ ap (λ (c : Spot). In (record q { control = c; stage = completed None; stack = closed_times n q.stack; steps = suc q.steps })) there)
-    each_ends for_block o os one is = sym (block_ends_step plan name k limits q n o os is asks ∙ ap (λ (c : Spot). In (record now { control = c; stack = closed_times n (record { display = o.saved; opened = os }); steps = suc q.steps })) there)
-    each_ends for_loop o os one is = sym (nothing_ends_step plan name k limits q n (record o { purpose = for_loop } ∷ os) is (λ b to finish. refl) asks ∙ ap (λ (c : Spot). In (record now { control = c; stack = closed_times n q.stack; steps = suc q.steps })) there)
-    each_ends (for_procedure r) o os one is = absurd one
+    each_ends for_body o os one is = sym (body_ends_step plan name k limits q n o os is alone asks ∙ ap (λ (c : Spot). In (record q { control = c; stage = completed None; stack = closed_times n q.stack; steps = suc q.steps })) (leads _ is))
+    each_ends for_block o os one is = sym (block_ends_step plan name k limits q n o os is asks ∙ ap (λ (c : Spot). In (record now { control = c; stack = closed_times n (record { display = o.saved; opened = os }); steps = suc q.steps })) (leads _ is))
+    each_ends for_loop o os one is = sym (nothing_ends_step plan name k limits q n (record o { purpose = for_loop } ∷ os) is (λ b to finish. refl) asks ∙ ap (λ (c : Spot). In (record now { control = c; stack = closed_times n q.stack; steps = suc q.steps })) (leads _ is))
+    each_ends (for_procedure r) o os one is =
+        let back = given_back r.backs o.frame q.frames in
+        sym (procedure_ends_step plan name k limits q n r o os one is asks
+        ∙ ap (λ (c : Spot). In (record now { control = c; stage = runs (failed_at o.at back.raised); stack = closed_times n (record { display = o.saved; opened = os }); frames = back.frames; steps = suc q.steps })) (come_so o.at back.raised (k.behind q.control) (leads _ is)))
     each_ends (for_operation m r) o os one is = absurd one
     each_ends (for_entry m i t b) o os one is = absurd one
     each_ends (for_accept i) o os one is = absurd one
 
-    ends_so : In (construct_left None n place now) ≡ Stepped now
+    ends_so : In (construct_left code None n place now) ≡ Stepped now
     ends_so = by (out_of_loops q.stack).opened refl (alone_out q.stack.opened q.stack refl alone)
       where
         by : (os : List Opened) → (out_of_loops q.stack).opened ≡ os → AreOpenedAlone os → In (ended os) ≡ Stepped now
-        by [] is are = sym (nothing_ends_step plan name k limits q n [] is (λ b to finish. refl) asks ∙ ap (λ (c : Spot). In (record now { control = c; stack = closed_times n q.stack; steps = suc q.steps })) there)
+        by [] is are = sym (nothing_ends_step plan name k limits q n [] is (λ b to finish. refl) asks ∙ ap (λ (c : Spot). In (record now { control = c; stack = closed_times n q.stack; steps = suc q.steps })) (leads [] is))
         by (o ∷ os) is are = each_ends o.purpose o os are.0 is
 
   -- with an exception pending
@@ -249,27 +304,30 @@ module _ (plan : Plan) (name : List ℕ) (limits : Limits) (code : Flat) (q : Si
         sym (handles_step plan name k limits q p (ap (λ h. handled_or_left (is_there h) p) is)
         ∙ ap (λ h. In (record q { control = goes_there h q.control; stage = runs None; stack = on_innermost (λ f. record f { handling = Some p.exception }) (out_of_loops q.stack); steps = suc q.steps })) is)
 
-    module _ (place : ℕ) (alone : IsAlone) (unhandled : handler_at code p.exception q.control ≡ None) (there : k.left p.exception q.control ≡ goes place q.control) where
+    module _ (place : ℕ) (alone : IsAlone) (unhandled : handler_at code p.exception q.control ≡ None) (there : k.left p.exception q.control ≡ back_or code (out_of_loops q.stack).opened place q.control) where
       asks : AsksWith (asked.is_left_by p)
       asks = ap (λ h. handled_or_left (is_there h) p) unhandled
 
       abbrev left : List Opened → Single Spot
-      left os = let r = out_of_construct (Some p.exception) os with in record (moved_to place r) { stack = closed_times 0 r.stack }
+      left os = let r = out_of_construct (Some p.exception) os with in record r { control = behind_construct code os r.stage place q.control; stack = closed_times 0 r.stack; steps = suc q.steps }
+
+      left_to : (os : List Opened) → (out_of_loops q.stack).opened ≡ os → k.left p.exception q.control ≡ back_or code os place q.control
+      left_to os is = there ∙ ap (λ l. back_or code l place q.control) is
 
       each_left : (purpose : Purpose) (o : Opened) (os : List Opened) → IsOpenedAlone purpose → (out_of_loops q.stack).opened ≡ record o { purpose = purpose } ∷ os → In (left (record o { purpose = purpose } ∷ os)) ≡ Stepped with
-      each_left for_body o os one is = sym (body_left_step plan name k limits q p o os is alone asks ∙ ap (λ (c : Spot). In (record q { control = c; stage = completed (Some p.exception); steps = suc q.steps })) there)
-      each_left for_block o os one is = sym (block_left_step plan name k limits q p o os is asks ∙ ap (λ (c : Spot). In (record q { control = c; stage = runs (Some (record { exception = p.exception; at = o.at })); stack = record { display = o.saved; opened = os }; steps = suc q.steps })) there)
-      each_left for_loop o os one is = sym (nothing_left_step plan name k limits q p (record o { purpose = for_loop } ∷ os) is (λ b to finish. refl) asks ∙ ap (λ (c : Spot). In (record now { control = c; steps = suc q.steps })) there)
-      each_left (for_procedure r) o os one is = absurd one
+      each_left for_body o os one is = sym (body_left_step plan name k limits q p o os is alone asks ∙ ap (λ (c : Spot). In (record q { control = c; stage = completed (Some p.exception); steps = suc q.steps })) (left_to _ is))
+      each_left for_block o os one is = sym (block_left_step plan name k limits q p o os is asks ∙ ap (λ (c : Spot). In (record q { control = c; stage = runs (Some (record { exception = p.exception; at = o.at })); stack = record { display = o.saved; opened = os }; steps = suc q.steps })) (left_to _ is))
+      each_left for_loop o os one is = sym (nothing_left_step plan name k limits q p (record o { purpose = for_loop } ∷ os) is (λ b to finish. refl) asks ∙ ap (λ (c : Spot). In (record now { control = c; steps = suc q.steps })) (left_to _ is))
+      each_left (for_procedure r) o os one is = sym (procedure_left_step plan name k limits q p r o os is asks ∙ ap (λ (c : Spot). In (record q { control = c; stage = runs (Some (record { exception = p.exception; at = o.at })); stack = record { display = o.saved; opened = os }; steps = suc q.steps })) (left_to _ is))
       each_left (for_operation m r) o os one is = absurd one
       each_left (for_entry m i t b) o os one is = absurd one
       each_left (for_accept i) o os one is = absurd one
 
-      left_so : In (construct_left (Some p.exception) 0 place with) ≡ Stepped with
+      left_so : In (construct_left code (Some p.exception) 0 place with) ≡ Stepped with
       left_so = by (out_of_loops q.stack).opened refl (alone_out q.stack.opened q.stack refl alone)
         where
           by : (os : List Opened) → (out_of_loops q.stack).opened ≡ os → AreOpenedAlone os → In (left os) ≡ Stepped with
-          by [] is are = sym (nothing_left_step plan name k limits q p [] is (λ b to finish. refl) asks ∙ ap (λ (c : Spot). In (record now { control = c; steps = suc q.steps })) there)
+          by [] is are = sym (nothing_left_step plan name k limits q p [] is (λ b to finish. refl) asks ∙ ap (λ (c : Spot). In (record now { control = c; steps = suc q.steps })) (left_to [] is))
           by (o ∷ os) is are = each_left o.purpose o os are.0 is
 
   -- Each ending.
@@ -282,61 +340,56 @@ module _ (plan : Plan) (name : List ℕ) (limits : Limits) (code : Flat) (q : Si
         ap (λ ws. In (record now { control = goes_there (slice_get ws 0) q.control; steps = suc q.steps })) (sym none)
         ∙ goes_so plan name limits code q l is_end x evaluated 0 (on x)
 
-    leaves_so : (n to : ℕ) → EndsAs code q.control.place (record { last = Leaves n to; at = at; out = out; within = within }) → In (construct_left None n to now) ≡ Stepped now
-    leaves_so n to is_end =
+    leaves_so : (n to : ℕ) → EndsAs code q.control.place (record { last = Leaves n to; at = at; out = out; within = within }) → goes to q.control ≡ back_or code (out_of_loops q.stack).opened to q.control → In (construct_left code None n to now) ≡ Stepped now
+    leaves_so n to is_end back =
         let l : EndLine = record { last = Leaves n to; at = at; out = out; within = within } in
-        ends_so n to alone (asks_so plan name limits code q l is_end x evaluated) (behind_so plan name limits code q l is_end)
+        ends_so n to alone (asks_so plan name limits code q l is_end x evaluated) (behind_so plan name limits code q l is_end ∙ back)
 
-    closes_so : (c : Construct) (next : ℕ) → EndsAs code q.control.place (record { last = Ends c next; at = at; out = out; within = within }) → q.control.returns ≡ [] → In (construct_left None 0 (place_behind c next (length code.lines)) now) ≡ Stepped now
-    closes_so c next is_end main =
+    closes_so : (c : Construct) (next : ℕ) → EndsAs code q.control.place (record { last = Ends c next; at = at; out = out; within = within }) → flat.ended_in code (flat.Ends c next) q.control ≡ back_or code (out_of_loops q.stack).opened (place_behind c next (length code.lines)) q.control → In (construct_left code None 0 (place_behind c next (length code.lines)) now) ≡ Stepped now
+    closes_so c next is_end back =
         let l : EndLine = record { last = Ends c next; at = at; out = out; within = within } in
-        ends_so 0 (place_behind c next (length code.lines)) alone (asks_so plan name limits code q l is_end x evaluated) (behind_so plan name limits code q l is_end ∙ by c)
-      where
-        by : (c : Construct) → flat.ended_in code (flat.Ends c next) q.control ≡ goes (place_behind c next (length code.lines)) q.control
-        by construct.Unit = ap (λ rs. flat.back_to code rs) main ∙ ap (λ (rs : List ℕ). record { place = length code.lines; returns = rs }) (sym main)
-        by construct.Block = refl
-        by construct.Accept = refl
+        ends_so 0 (place_behind c next (length code.lines)) alone (asks_so plan name limits code q l is_end x evaluated) (behind_so plan name limits code q l is_end ∙ back)
 
-  ended_by : (last : Last) (at : Pos) (out : ℕ) (within : Option ℕ) (o : Operands) → EndsAs code q.control.place (record { last = last; at = at; out = out; within = within }) → LeadsTo code q (Reached o) → LastFine (plain_last last) (counts_of o) → q.control.returns ≡ [] → IsAlone → In (ends_by last at (length code.lines) o now) ≡ Stepped now
-  ended_by (Does e next) at out within o is_end evaluated fine main alone = done_by e next at out within o is_end evaluated fine
-  ended_by (Continues f behind inside) at out within o is_end evaluated fine main alone = continues_so f behind inside at out within (Reached o) is_end evaluated
-  ended_by (Guards gs) at out within o is_end evaluated fine main alone = stays_so at out within (Reached o) evaluated alone (Guards gs) refl (λ o. refl) is_end
-  ended_by (Ends c next) at out within o is_end evaluated fine main alone = closes_so at out within (Reached o) evaluated alone c next is_end main
-  ended_by (Leaves n to) at out within o is_end evaluated fine main alone = leaves_so at out within (Reached o) evaluated alone n to is_end
+  ended_by : ArePlain units → (last : Last) (at : Pos) (out : ℕ) (within : Option ℕ) (o : Operands) → EndsAs code q.control.place (record { last = last; at = at; out = out; within = within }) → LeadsTo code q (Reached o) → LastFine (plain_last last) (counts_of o) → EndsBack code q last → IsAlone → In (ends_by code units last at o now) ≡ Stepped now
+  ended_by plain (Does e next) at out within o is_end evaluated fine back alone = done_by plain e next at out within o is_end evaluated fine
+  ended_by plain (Continues f behind inside) at out within o is_end evaluated fine back alone = continues_so f behind inside at out within (Reached o) is_end evaluated
+  ended_by plain (Guards gs) at out within o is_end evaluated fine back alone = stays_so at out within (Reached o) evaluated alone (Guards gs) refl (λ o. refl) is_end
+  ended_by plain (Ends c next) at out within o is_end evaluated fine back alone = closes_so at out within (Reached o) evaluated alone c next is_end back
+  ended_by plain (Leaves n to) at out within o is_end evaluated fine back alone = leaves_so at out within (Reached o) evaluated alone n to is_end back
 
   -- an evaluation that raises
-  raised_by : (last : Last) (at : Pos) (out : ℕ) (within : Option ℕ) (raise : Raise) → EndsAs code q.control.place (record { last = last; at = at; out = out; within = within }) → LeadsTo code q (instruction.Raised raise) → q.control.returns ≡ [] → IsAlone → In (raises_by last at (length code.lines) raise now) ≡ Stepped now
-  raised_by (Does (Declare up_to again) next) at out within raise is_end evaluated main alone =
+  raised_by : (last : Last) (at : Pos) (out : ℕ) (within : Option ℕ) (raise : Raise) → EndsAs code q.control.place (record { last = last; at = at; out = out; within = within }) → LeadsTo code q (instruction.Raised raise) → EndsBack code q last → IsAlone → In (raises_by code last at raise now) ≡ Stepped now
+  raised_by (Does (Declare up_to again) next) at out within raise is_end evaluated back alone =
       sym (raises_in_part_step plan name k limits q raise at (asks_so plan name limits code q (record { last = Does (Declare up_to again) next; at = at; out = out; within = within }) is_end (instruction.Raised raise) evaluated))
-  raised_by (Does e next) at out within raise is_end evaluated main alone =
+  raised_by (Does e next) at out within raise is_end evaluated back alone =
       sym (raises_here_step plan name k limits q raise at (asks_so plan name limits code q (record { last = Does e next; at = at; out = out; within = within }) is_end (instruction.Raised raise) evaluated))
-  raised_by (Continues f behind inside) at out within raise is_end evaluated main alone = continues_so f behind inside at out within (instruction.Raised raise) is_end evaluated
-  raised_by (Guards gs) at out within raise is_end evaluated main alone = stays_so at out within (instruction.Raised raise) evaluated alone (Guards gs) refl (λ o. refl) is_end
-  raised_by (Ends c next) at out within raise is_end evaluated main alone = closes_so at out within (instruction.Raised raise) evaluated alone c next is_end main
-  raised_by (Leaves n to) at out within raise is_end evaluated main alone = leaves_so at out within (instruction.Raised raise) evaluated alone n to is_end
+  raised_by (Continues f behind inside) at out within raise is_end evaluated back alone = continues_so f behind inside at out within (instruction.Raised raise) is_end evaluated
+  raised_by (Guards gs) at out within raise is_end evaluated back alone = stays_so at out within (instruction.Raised raise) evaluated alone (Guards gs) refl (λ o. refl) is_end
+  raised_by (Ends c next) at out within raise is_end evaluated back alone = closes_so at out within (instruction.Raised raise) evaluated alone c next is_end back
+  raised_by (Leaves n to) at out within raise is_end evaluated back alone = leaves_so at out within (instruction.Raised raise) evaluated alone n to is_end back
 
 -- The program as it stands, before the step and after it.
 
-module _ (code : Flat) (q new : Single Spot) where
+module _ (units : List UnitPlan) (code : Flat) (q new : Single Spot) where
   -- a pending exception is handled
-  pub handles : (p : Pending) (place : ℕ) → q.stage ≡ runs (Some p) → handler_at code p.exception q.control ≡ Some place → new ≡ handled_at p.exception place q → StepsTo code q new
-  handles p place stage handler is plan name limits =
+  pub handles : (p : Pending) (place : ℕ) → q.stage ≡ runs (Some p) → handler_at code p.exception q.control ≡ Some place → new ≡ handled_at p.exception place q → StepsTo units code q new
+  handles p place stage handler is plan name has limits =
       ap (all_of name) is
-      ∙ subst (λ s. In plan name limits code q (handled_at p.exception place (record q { stage = s })) ≡ Stepped plan name limits code q (record q { stage = s })) (sym stage) (handles_so plan name limits code q p place handler)
+      ∙ subst (λ s. In units plan name has limits code q (handled_at p.exception place (record q { stage = s })) ≡ Stepped units plan name has limits code q (record q { stage = s })) (sym stage) (handles_so units plan name has limits code q p place handler)
 
-module _ (code : Flat) (q new : Single Spot) (main : q.control.returns ≡ []) (alone : AreOpenedAlone q.stack.opened) where
-  pub acts : (l : EndLine) (o : Operands) → q.stage ≡ runs None → EndsAs code q.control.place l → LeadsTo code q (Reached o) → LastFine (plain_last l.last) (counts_of o) → new ≡ ends_by l.last l.at (length code.lines) o q → StepsTo code q new
-  acts l o stage is_end evaluated fine is plan name limits =
+module _ (units : List UnitPlan) (code : Flat) (q new : Single Spot) (alone : AreOpenedAlone q.stack.opened) where
+  pub acts : ArePlain units → (l : EndLine) (o : Operands) → EndsBack code q l.last → q.stage ≡ runs None → EndsAs code q.control.place l → LeadsTo code q (Reached o) → LastFine (plain_last l.last) (counts_of o) → new ≡ ends_by code units l.last l.at o q → StepsTo units code q new
+  acts plain l o back stage is_end evaluated fine is plan name has limits =
       ap (all_of name) is
-      ∙ subst (λ s. In plan name limits code q (ends_by l.last l.at (length code.lines) o (record q { stage = s })) ≡ Stepped plan name limits code q (record q { stage = s })) (sym stage) (ended_by plan name limits code q l.last l.at l.out l.within o is_end evaluated fine main alone)
+      ∙ subst (λ s. In units plan name has limits code q (ends_by code units l.last l.at o (record q { stage = s })) ≡ Stepped units plan name has limits code q (record q { stage = s })) (sym stage) (ended_by units plan name has limits code q plain l.last l.at l.out l.within o is_end evaluated fine back alone)
 
-  pub fails : (l : EndLine) (raise : Raise) → q.stage ≡ runs None → EndsAs code q.control.place l → LeadsTo code q (instruction.Raised raise) → new ≡ raises_by l.last l.at (length code.lines) raise q → StepsTo code q new
-  fails l raise stage is_end evaluated is plan name limits =
+  pub fails : (l : EndLine) (raise : Raise) → EndsBack code q l.last → q.stage ≡ runs None → EndsAs code q.control.place l → LeadsTo code q (instruction.Raised raise) → new ≡ raises_by code l.last l.at raise q → StepsTo units code q new
+  fails l raise back stage is_end evaluated is plan name has limits =
       ap (all_of name) is
-      ∙ subst (λ s. In plan name limits code q (raises_by l.last l.at (length code.lines) raise (record q { stage = s })) ≡ Stepped plan name limits code q (record q { stage = s })) (sym stage) (raised_by plan name limits code q l.last l.at l.out l.within raise is_end evaluated main alone)
+      ∙ subst (λ s. In units plan name has limits code q (raises_by code l.last l.at raise (record q { stage = s })) ≡ Stepped units plan name has limits code q (record q { stage = s })) (sym stage) (raised_by units plan name has limits code q l.last l.at l.out l.within raise is_end evaluated back alone)
 
   -- a pending exception leaves the innermost construct
-  pub leaves : (p : Pending) (place : ℕ) → q.stage ≡ runs (Some p) → handler_at code p.exception q.control ≡ None → left_by code (end_at code q.control.place).out q.control ≡ goes place q.control → new ≡ construct_left (Some p.exception) 0 place q → StepsTo code q new
-  leaves p place stage unhandled there is plan name limits =
+  pub leaves : (p : Pending) (place : ℕ) → q.stage ≡ runs (Some p) → handler_at code p.exception q.control ≡ None → left_by code (end_at code q.control.place).out q.control ≡ back_or code (out_of_loops q.stack).opened place q.control → new ≡ construct_left code (Some p.exception) 0 place q → StepsTo units code q new
+  leaves p place stage unhandled there is plan name has limits =
       ap (all_of name) is
-      ∙ subst (λ s. In plan name limits code q (construct_left (Some p.exception) 0 place (record q { stage = s })) ≡ Stepped plan name limits code q (record q { stage = s })) (sym stage) (left_so plan name limits code q p place alone unhandled there)
+      ∙ subst (λ s. In units plan name has limits code q (construct_left code (Some p.exception) 0 place (record q { stage = s })) ≡ Stepped units plan name has limits code q (record q { stage = s })) (sym stage) (left_so units plan name has limits code q p place alone unhandled there)

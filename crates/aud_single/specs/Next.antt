@@ -1,4 +1,4 @@
--- What comes next of a program that is its main procedure alone.
+-- What comes next of a program of one task.
 use Rattle.std.specs.Prelude.{◌≡◌, ℕ, Option, Some, None}
 use Rattle.aud_text.specs.declared.place.Pos.{Pos}
 use Rattle.aud_typed.specs.Tree.{Plan}
@@ -15,7 +15,7 @@ use Rattle.aud_meaning.specs.Ties.Single.{Stage, Stack, Single, runs, completed,
 use Rattle.aud_code.specs.Places.{Spot}
 use Rattle.aud_code.specs.Flat.{Flat, flat_controls, coming_at, end_at}
 use Rattle.aud_code.specs.declared.line.Ending.{Ending}
-use Rattle.aud_code.specs.declared.line.Ending.TheVariants.{Declare, DeclareArray, Null, Assign, Put, If, While, Loop, Exit, Raise, RaiseAgain, Block}
+use Rattle.aud_code.specs.declared.line.Ending.TheVariants.{Declare, DeclareArray, Null, Assign, Put, If, While, Loop, Exit, Raise, RaiseAgain, Block, Return, Call}
 use Rattle.aud_code.specs.declared.line.Last.{Last}
 use Rattle.aud_code.specs.declared.line.Last.TheVariants.{Does, Continues, Guards, Ends, Leaves}
 use Rattle.aud_single.specs.Shown.{InAnyProgram}
@@ -34,6 +34,8 @@ statement_kind (Exit w) = kind.Exit
 statement_kind (Raise x) = kind.Raise
 statement_kind RaiseAgain = kind.Raise
 statement_kind (Block region inside) = kind.Block
+statement_kind (Return w) = kind.Return
+statement_kind (Call unit) = kind.Proc
 
 -- the kind of a step, by how it ends, with that of the step which leaves the innermost construct
 abbrev pub step_kind : Last → StepKind → StepKind

@@ -1,9 +1,10 @@
 -- How far a program in memory is.
-use Rattle.std.specs.Prelude.{◌≡◌, ℕ, List, []}
-use Rattle.aud_text.specs.declared.place.Pos.{Pos}
-use Rattle.aud_typed.specs.Tree.{Plan}
+use Rattle.std.specs.Prelude.{◌≡◌, ℕ, List, [], map, slice_index_or}
+use Rattle.aud_typed.specs.declared.program.Unit as declared
+use Rattle.aud_typed.specs.Tree.{Plan, UnitPlan, unit_plan}
+use Rattle.aud_typed.specs.Ties.View.{plain_unit}
 use Rattle.aud_meaning.specs.Configuration.{Shared, All}
-use Rattle.aud_meaning.specs.Parts.{unit_of}
+use Rattle.aud_meaning.specs.Parts.{no_unit}
 use Rattle.aud_meaning.specs.Run.{opening_with}
 use Rattle.aud_meaning.specs.Ties.Single.{Single, runs, completed, terminated, all_of}
 use Rattle.aud_meaning.specs.Ties.Single as plain
@@ -22,19 +23,26 @@ plain_stage (Terminated raised) = terminated raised
 abbrev pub shared_in : Single Spot → Shared
 shared_in p = record { frames = p.frames; output = p.output; cut = p.cut; calls = []; arrivals = 0; objects = [] }
 
--- at a place of the main procedure, which nobody called
-abbrev pub main_at : ℕ → Spot
-main_at place = record { place = place; returns = [] }
-
 -- it holds whatever the program's plan and its name
 abbrev pub InAnyProgram : (Plan → List ℕ → Type 0) → Type 0
 InAnyProgram Holds = (plan : Plan) → (name : List ℕ) → Holds plan name
+
+-- the plans of procedures in memory, by their numbers
+abbrev pub plans_of : List declared.Unit → List UnitPlan
+plans_of units = map unit_plan (map plain_unit units)
+
+abbrev pub unit_in : List UnitPlan → ℕ → UnitPlan
+unit_in units n = slice_index_or units n no_unit
+
+-- it holds whatever the program's name, and its plan with these units
+abbrev pub WithUnits : List UnitPlan → (Plan → List ℕ → Type 0) → Type 0
+WithUnits units Holds = InAnyProgram (λ plan name. plan.units ≡ units → Holds plan name)
 
 -- what becomes of the one is the other, whatever the program's name
 abbrev pub Becomes : Single Spot → (All Spot → All Spot) → Single Spot → Type 0
 Becomes old f new = (name : List ℕ) → all_of name new ≡ f (all_of name old)
 
--- before its first step, where the main procedure stands at this place and has the first table
-abbrev pub IsOpening : Flat → Pos → Single Spot → Type 0
-IsOpening code at p =
-    InAnyProgram (λ plan name. (unit_of plan 0).region ≡ 0 → (unit_of plan 0).at ≡ at → all_of name p ≡ opening_with plan name ((flat_controls plan code).begins 0))
+-- before its first step
+abbrev pub IsOpening : Flat → List UnitPlan → Single Spot → Type 0
+IsOpening code units p =
+    WithUnits units (λ plan name. all_of name p ≡ opening_with plan name ((flat_controls plan code).begins 0))

@@ -1,4 +1,4 @@
-// What comes next of a program that is its main procedure alone.
+// What comes next of a program of one task.
 
 ghost use Rattle.std.specs.Prelude.{◌≡◌};
 ghost use Rattle.aud_meaning.specs.Run.{end_kind_by};
@@ -68,7 +68,7 @@ impl Progress {
     {
         match self.store().construct() {
             Some(open) => match open.purpose {
-                Purpose::Block => StepKind::Leave,
+                Purpose::Block | Purpose::Procedure { .. } => StepKind::Leave,
                 Purpose::Body | Purpose::Loop => StepKind::Complete,
             },
             None => StepKind::Complete,
@@ -101,5 +101,7 @@ fn statement_kind(ending: Ending) -> StepKind
         Ending::Exit(_) => StepKind::Exit,
         Ending::Raise(_) | Ending::RaiseAgain => StepKind::Raise,
         Ending::Block { .. } => StepKind::Block,
+        Ending::Return(_) => StepKind::Return,
+        Ending::Call(_) => StepKind::Proc,
     }
 }

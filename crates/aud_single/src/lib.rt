@@ -1,4 +1,4 @@
-// Machines of one procedure: compiled programs under way that are their main procedure alone.
+// Machines of one task: compiled programs under way that are their main procedure, and those that it calls.
 #![tactic(auto)]
 
 mod coming;
@@ -9,3 +9,4 @@ pub mod run;
 pub mod stage;
 mod statements;
 mod step;
+mod units;

@@ -1,4 +1,4 @@
-// What can happen next to a program that is its main procedure alone.
+// What can happen next to a program of one task.
 
 ghost use Rattle.std.specs.Prelude.{◌≡◌, ◌≤◌};
 ghost use Rattle.aud_single.specs.Moving.{Enables, IsIn, moves_of, state_of};

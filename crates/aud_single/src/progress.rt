@@ -1,40 +1,42 @@
-// How far a program is that is its main procedure alone.
+// How far a program of one task is.
 
 ghost use Rattle.std.specs.Prelude.{◌≡◌, ◌<◌, ◌≤◌, ◌+◌, ◌∷◌, [], List, ℕ, length, replicate, Some, None, false, IsTrue, OnOk, IfOk};
 ghost use Rattle.aud_meaning.specs.Run.{main_raised, supplied, advanced};
 ghost use Rattle.aud_meaning.specs.Effects.{innermost};
 ghost use Rattle.aud_meaning.specs.Ties.Single.{runs, all_of, closed, out_of_loops, AreOpenedAlone};
-ghost use Rattle.aud_code.specs.Flat.{start_at};
-ghost use Rattle.aud_code.specs.Frames.{At};
-ghost use Rattle.aud_code.specs.Sound.{IsStart};
 ghost use Rattle.aud_expr.specs.Fused.{SeesMain};
-ghost use Rattle.aud_store.specs.Ties.Stored.{declared, entered, plain_purpose, IsInnermost};
+ghost use Rattle.aud_store.specs.Ties.Stored.{declared, entered, plain_purpose, IsInner, IsInnermost};
+ghost use Rattle.aud_store.specs.Ties.Stored.{IsProcedure};
 ghost use Rattle.aud_store.specs.Ties.Stored as store;
 ghost use Rattle.aud_single.specs.Steps.{Fits, HasConstruct, moved_to, declared_to, stored, stored_in, on_stored};
 ghost use Rattle.aud_single.specs.Steps.{written, left_loops, construct_left, out_of_construct, handled_at};
-ghost use Rattle.aud_single.specs.Shown.{plain_stage, Becomes, IsOpening};
+ghost use Rattle.aud_single.specs.Shown.{plain_stage, plans_of, Becomes, IsOpening};
 ghost use Rattle.aud_single.specs.Fast.{RunsFast};
+
+mod calls;
 
 use crate::fast::{FastRun, fast_run_with};
 use crate::stage::Stage;
+use crate::units::{place_of, region_of};
 use aud_code::line::Way;
 use aud_code::sound_code::SoundCode;
 use aud_exc::raised::Raised;
-use aud_expr::target::Target;
 use aud_store::stack::{Open, Purpose};
 use aud_store::store::Store;
+use aud_store::target::Target;
 use aud_text::int32::Int32;
 use aud_text::limits::{CHOICES, CLOCK, OUTPUT, STEPS};
 use aud_text::place::Pos;
-use aud_typed::program::Exception;
+use aud_typed::program::{Exception, Unit};
 use std::alloc::{AllocError, Global};
 use std::collections::VecDeque;
 use std::marker::Model;
 
-/// Where the program stands in its code and how far it is; its frames, the output, the choices that wait, the time on its
-/// clock, and the steps taken.
+/// Where the program stands in its code, the places of the calls under way, the outermost one first, and how far it is; its
+/// frames, the output, the choices that wait, the time on its clock, and the steps taken.
 pub struct Progress {
     place: usize,
+    returns: Vec<usize>,
     stage: Stage,
     store: Store,
     output: Vec<u8>,
@@ -49,6 +51,7 @@ impl Drop for Progress {
     fn drop(self) {
         let Progress {
             place: _,
+            returns: _,
             stage: _,
             store: _,
             output: _,
@@ -61,16 +64,16 @@ impl Drop for Progress {
 }
 
 impl Model for Progress {
-    ghost use Rattle.std.specs.Prelude.{◌≤◌, length};
+    ghost use Rattle.std.specs.Prelude.{◌≤◌, length, reverse};
     ghost use Rattle.aud_text.specs.declared.limits.TheConstants.{CHOICES, CLOCK, OUTPUT, STEPS};
     ghost use Rattle.aud_meaning.specs.Ties.Single.{Single};
     ghost use Rattle.aud_code.specs.Places.{Spot};
-    ghost use Rattle.aud_single.specs.Shown.{plain_stage, main_at};
+    ghost use Rattle.aud_single.specs.Shown.{plain_stage};
 
     ghost Value = { Single Spot };
 
     ghost view = { λ p. record {
-      control = main_at p.place;
+      control = record { place = p.place; returns = reverse p.returns.items };
       stage = plain_stage p.stage;
       stack = p.store.stack;
       frames = p.store.frames;
@@ -86,15 +89,17 @@ impl Model for Progress {
 }
 
 impl Progress {
-    /// The main procedure before its first step, with the place where its text begins (RM 10.2).
-    pub fn new(code: &SoundCode, at: Pos, alloc: Global) -> Result<Self, AllocError>
-        ensures opening { IfOk result (λ p. IsOpening code.now at p) }
+    /// The main procedure before its first step, which is the first of these units (RM 10.2).
+    pub fn new(code: &SoundCode, units: &[Unit], alloc: Global) -> Result<Self, AllocError>
+        ensures opening { IfOk result (λ p. IsOpening code.now (plans_of units.now) p) }
         ensures fits { IfOk result (λ p. Fits code.now.lines p) }
     {
         let mut store = Store::new(alloc);
-        store.enter(alloc, Purpose::Body, 0, at, &[], 0)?;
+        let at = place_of(units, 0);
+        store.enter(alloc, Purpose::Body, &[], region_of(units, 0), at, &[], 0)?;
         Ok(Progress {
-            place: first_place(code),
+            place: code.start(0),
+            returns: Vec::new(alloc),
             stage: Stage::Runs(None),
             store,
             output: Vec::new(alloc),
@@ -105,10 +110,9 @@ impl Progress {
         })
     }
 
-    /// The place of its next step. No procedure is under way that it would go back to.
+    /// The place of its next step.
     pub fn place(&self) -> usize
         ensures value { result ≡ self.now.control.place }
-        ensures alone { self.now.control.returns ≡ [] }
     {
         self.place
     }
@@ -258,7 +262,7 @@ impl Progress {
         self.go(place);
     }
 
-    /// A frame is opened, and one step leads inside.
+    /// The frame of a block or loop is opened, and one step leads inside.
     pub(crate) fn enter(
         &mut self,
         purpose: Purpose,
@@ -268,14 +272,15 @@ impl Progress {
         elaborated: usize,
         inside: usize,
     ) -> Result<(), AllocError>
-        requires { self.old.steps < STEPS }
+        requires inner { IsInner purpose }
+        requires steps { self.old.steps < STEPS }
         ensures { OnOk result (self.new ≡
-            on_stored (entered (plain_purpose purpose) region at cells.now elaborated)
+            on_stored (entered (plain_purpose purpose []) region at cells.now elaborated)
             (moved_to inside self.old)) }
     {
         let alloc = *self.output.allocator();
         self.store
-            .enter(alloc, purpose, region, at, cells, elaborated)?;
+            .enter(alloc, purpose, &[], region, at, cells, elaborated)?;
         self.go(inside);
         Ok(())
     }
@@ -299,7 +304,7 @@ impl Progress {
         self.go(place);
     }
 
-    /// One step out of loops (RM 5.7).
+    /// One step out of loops, or to the end of a procedure (RM 5.7, 6.5).
     pub(crate) fn exit(&mut self, way: Way)
         requires { self.old.steps < STEPS }
         ensures { self.new ≡ left_loops way self.old }
@@ -318,32 +323,41 @@ impl Progress {
         self.turn(Stage::Runs(None), place);
     }
 
-    /// The innermost construct is left, by an exception or without one, and so many loops around it; the step leads to a place
-    /// (RM 5.6, 11.4).
+    /// The innermost construct is left, by an exception or without one, and so many loops around it; the step leads to a place, or
+    /// back from a call (RM 5.6, 6.5, 11.4).
     pub(crate) fn leave_construct(
         &mut self,
+        code: &SoundCode,
         exception: Option<Exception>,
         loops: usize,
         place: usize,
-    )
+    ) -> Result<(), AllocError>
         requires construct { HasConstruct self.old }
         requires steps { self.old.steps < STEPS }
-        ensures left { self.new ≡ construct_left exception loops place self.old }
+        ensures left { OnOk result (self.new ≡
+            construct_left code.now exception loops place self.old) }
         ensures alone { AreOpenedAlone self.old.stack.opened }
-        ensures steps { self.new.steps ≡ self.old.steps + 1 }
+        ensures steps { OnOk result (self.new.steps ≡ self.old.steps + 1) }
     {
-        let stage = match self.store.construct() {
-            Some(construct) => self.leave_open(construct, exception),
+        let construct = match self.store.construct() {
+            Some(construct) => construct,
             None => unreachable!(),
         };
+        if construct.purpose.is_procedure() {
+            return self.leave_procedure(code, construct, exception, loops);
+        }
+        let stage = self.leave_open(construct, exception);
         self.store.leave_times(loops);
         self.turn(stage, place);
+        Ok(())
     }
 
     // The frame of the innermost construct is left, but for a body's: a completed task keeps its frames. It gives how far the main
     // procedure then is.
     fn leave_open(&mut self, construct: Open, exception: Option<Exception>) -> Stage
-        requires { IsInnermost (Some construct) (out_of_loops self.old.stack).opened }
+        requires innermost { IsInnermost (Some construct)
+            (out_of_loops self.old.stack).opened }
+        requires inner { IsProcedure construct.purpose → ⊥ }
         ensures left { record self.new { stage = plain_stage result } ≡
             out_of_construct exception (out_of_loops self.old.stack).opened self.old }
         ensures steps { self.new.steps ≡ self.old.steps }
@@ -357,6 +371,7 @@ impl Progress {
                 Stage::Runs(exception.map(|exception| Raised { exception, at }))
             }
             Purpose::Loop => unreachable!(),
+            Purpose::Procedure { .. } => unreachable!(),
         }
     }
 
@@ -425,17 +440,5 @@ impl Progress {
         self.output.extend_from_slice(&text[..room])?;
         self.cut = true;
         Ok(())
-    }
-}
-
-// Where the main procedure begins.
-fn first_place(code: &SoundCode) -> usize
-    ensures place { result ≡ start_at code.now 0 }
-    ensures begins { IsStart code.now.lines result }
-    ensures framed { At code.now.lines result None }
-{
-    match code.starts().first() {
-        Some(place) => *place,
-        None => code.spare(),
     }
 }

@@ -1,36 +1,42 @@
 // What statements do.
 
-ghost use Rattle.std.specs.Prelude.{◌≡◌, ◌<◌, ◌+◌, OnOk};
-ghost use Rattle.aud_meaning.specs.Evaluation.{nearest_zero};
+ghost use Rattle.std.specs.Prelude.{◌≡◌, ◌<◌, ◌+◌, [], OnOk};
 ghost use Rattle.aud_code.specs.Sound.{counts_of, EndingFine};
 ghost use Rattle.aud_code.specs.View.{plain_ending};
-ghost use Rattle.aud_store.specs.Ties.Stored.{plain_purpose};
+ghost use Rattle.aud_store.specs.Ties.Stored.{plain_purpose, IsInner};
+ghost use Rattle.aud_single.specs.Shown.{plans_of};
 ghost use Rattle.aud_single.specs.Steps.{does, opened, looped, continued, declared_array};
 
 use crate::progress::Progress;
+use crate::units::{level_of, region_of};
 use aud_code::line::{Ending, ForLoop};
+use aud_code::sound_code::SoundCode;
 use aud_expr::operands::Operands;
+use aud_meaning::values::nearest_zero;
 use aud_store::stack::Purpose;
 use aud_text::int32::Int32;
 use aud_text::limits::{ELEMENTS, STEPS};
 use aud_text::place::Pos;
 use aud_text::raise::Raise;
-use aud_typed::program::{Exception, Subtype};
+use aud_typed::program::{Exception, Unit};
 use std::alloc::AllocError;
 
 impl Progress {
     /// What a statement does that stands at a place of the text; the next step is the one at the place `next`, unless it leads
-    /// elsewhere.
+    /// elsewhere. Procedures are called by the numbers of their units.
     pub(crate) fn act_by(
         &mut self,
         ending: Ending,
         at: Pos,
         next: usize,
+        code: &SoundCode,
+        units: &[Unit],
         operands: &mut Operands,
     ) -> Result<(), AllocError>
         requires fine { EndingFine (plain_ending ending) (counts_of operands.old) }
         requires steps { self.old.steps < STEPS }
-        ensures does { OnOk result (self.new ≡ does ending at next operands.old self.old) }
+        ensures does { OnOk result (self.new ≡
+            does (plans_of units.now) code.now ending at next operands.old self.old) }
         ensures steps { OnOk result (self.new.steps ≡ self.old.steps + 1) }
     {
         match ending {
@@ -69,6 +75,12 @@ impl Progress {
             Ending::Block { region, inside } => {
                 self.open(Purpose::Block, region, at, &[], 0, inside)?;
             }
+            Ending::Return(way) => self.exit(way),
+            Ending::Call(number) => {
+                let level = level_of(units, number);
+                let region = region_of(units, number);
+                self.call(level, region, code.start(number), at, operands)?;
+            }
         }
         Ok(())
     }
@@ -92,7 +104,7 @@ impl Progress {
         Ok(())
     }
 
-    // A frame is opened, if there is room for one more (RM 11.1(6)).
+    // The frame of a block or loop is opened, if there is room for one more (RM 11.1(6)).
     fn open(
         &mut self,
         purpose: Purpose,
@@ -102,9 +114,10 @@ impl Progress {
         elaborated: usize,
         inside: usize,
     ) -> Result<(), AllocError>
-        requires { self.old.steps < STEPS }
+        requires inner { IsInner purpose }
+        requires steps { self.old.steps < STEPS }
         ensures { OnOk result (self.new ≡
-            opened (plain_purpose purpose) region at cells.now elaborated inside self.old) }
+            opened (plain_purpose purpose []) region at cells.now elaborated inside self.old) }
     {
         if self.store().has_room() {
             self.enter(purpose, region, at, cells, elaborated, inside)?;
@@ -155,15 +168,5 @@ impl Progress {
             return;
         }
         self.leave(behind);
-    }
-}
-
-// What the elements of an array hold at first (profile choice of the value).
-fn nearest_zero(subtype: Subtype) -> Int32
-    ensures { result ≡ nearest_zero subtype }
-{
-    match subtype {
-        Subtype::Positive => Int32::new(1),
-        Subtype::Integer | Subtype::Natural | Subtype::Boolean => Int32::new(0),
     }
 }

@@ -1,13 +1,16 @@
-// The steps of a program that is its main procedure alone.
+// The steps of a program of one task.
 
-ghost use Rattle.std.specs.Prelude.{◌≡◌, ◌<◌, ◌+◌, Some, None, OnOk, IfOk, length};
+ghost use Rattle.std.specs.Prelude.{◌≡◌, ◌<◌, ◌+◌, List, Some, None, OnOk, IfOk, length};
+ghost use Rattle.aud_typed.specs.Tree.{UnitPlan};
 ghost use Rattle.aud_meaning.specs.Ties.Single.{runs};
 ghost use Rattle.aud_code.specs.Flat.{end_at};
 ghost use Rattle.aud_code.specs.Frames.{found};
 ghost use Rattle.aud_code.specs.Sound.{counts_of, LastFine};
 ghost use Rattle.aud_code.specs.View.{plain_last};
 ghost use Rattle.aud_exc.specs.View.{plain_raised};
-ghost use Rattle.aud_single.specs.Steps.{StepsTo, Fits, IsStep, EndsAt, HasConstruct};
+ghost use Rattle.aud_single.specs.Shown.{plans_of};
+ghost use Rattle.aud_single.specs.Steps.{StepsTo, Fits, IsStep, EndsAt, EndsBack};
+ghost use Rattle.aud_single.specs.Steps.{HasConstruct};
 ghost use Rattle.aud_single.specs.Steps.{ends_by, flows_by, raises_by, raised, place_behind};
 
 use crate::progress::Progress;
@@ -22,19 +25,25 @@ use aud_meaning::state::Construct;
 use aud_text::limits::STEPS;
 use aud_text::place::Pos;
 use aud_text::raise::Raise;
-use aud_typed::program::Exception;
+use aud_typed::program::{Exception, Unit};
 use std::alloc::AllocError;
 
 impl Progress {
-    /// One step. It tells how many instructions were executed, each a tick.
-    pub fn step(&mut self, code: &SoundCode, operands: &mut Operands) -> Result<u64, AllocError>
+    /// One step, in a program with these units. It tells how many instructions were executed, each a tick.
+    pub fn step(
+        &mut self,
+        code: &SoundCode,
+        units: &[Unit],
+        operands: &mut Operands,
+    ) -> Result<u64, AllocError>
         requires fits { Fits code.now.lines self.old }
         requires steps { self.old.steps < STEPS }
-        ensures { IfOk result (λ ticks. IsStep code.now self.old self.new ticks) }
+        ensures { IfOk result (λ ticks.
+            IsStep (plans_of units.now) code.now self.old self.new ticks) }
     {
         match self.stage() {
-            Stage::Runs(None) => return self.act(code, operands),
-            Stage::Runs(Some(raised)) => self.propagate(code, raised),
+            Stage::Runs(None) => return self.act(code, units, operands),
+            Stage::Runs(Some(raised)) => self.propagate(code, raised)?,
             Stage::Completed(raised) | Stage::Terminated(raised) => {
                 self.turn(Stage::Terminated(raised), self.place())
             }
@@ -43,11 +52,17 @@ impl Progress {
     }
 
     // The expressions of the step are evaluated, and its ending or the exception that they raise follows.
-    fn act(&mut self, code: &SoundCode, operands: &mut Operands) -> Result<u64, AllocError>
+    fn act(
+        &mut self,
+        code: &SoundCode,
+        units: &[Unit],
+        operands: &mut Operands,
+    ) -> Result<u64, AllocError>
         requires runs { self.old.stage ≡ runs None }
         requires fits { Fits code.now.lines self.old }
         requires steps { self.old.steps < STEPS }
-        ensures { IfOk result (λ ticks. IsStep code.now self.old self.new ticks) }
+        ensures { IfOk result (λ ticks.
+            IsStep (plans_of units.now) code.now self.old self.new ticks) }
     {
         let place = self.place();
         let store = self.store();
@@ -59,8 +74,8 @@ impl Progress {
             operands,
         )?;
         match outcome {
-            Outcome::Reaches(reached) => self.reach(code, reached, operands)?,
-            Outcome::Fails(raise) => self.fail(code, raise),
+            Outcome::Reaches(reached) => self.reach(code, units, reached, operands)?,
+            Outcome::Fails(raise) => self.fail(code, raise)?,
         }
         Ok(ticks)
     }
@@ -69,6 +84,7 @@ impl Progress {
     fn reach(
         &mut self,
         code: &SoundCode,
+        units: &[Unit],
         reached: usize,
         operands: &mut Operands,
     ) -> Result<(), AllocError>
@@ -80,76 +96,82 @@ impl Progress {
             (counts_of operands.old) }
         requires steps { self.old.steps < STEPS }
         ensures does { OnOk result (EndsAt code.now self.old.control.place (λ last at.
-            self.new ≡ ends_by last at (length code.now.lines) operands.old self.old)) }
+            EndsBack code.now self.old last ×
+            (self.new ≡ ends_by code.now (plans_of units.now) last at operands.old self.old))) }
         ensures fits { OnOk result (Fits code.now.lines self.new) }
         ensures steps { OnOk result (self.new.steps ≡ self.old.steps + 1) }
     {
         match code.ending(reached) {
-            Some(ending) => self.end(&ending.last, ending.at, code.len(), operands),
+            Some(ending) => self.end(&ending.last, ending.at, code, units, operands),
             None => unreachable!(),
         }
     }
 
-    // What the ending of a step does; `behind` is the place behind all lines.
+    // What the ending of a step does.
     fn end(
         &mut self,
         last: &Last,
         at: Pos,
-        behind: usize,
+        code: &SoundCode,
+        units: &[Unit],
         operands: &mut Operands,
     ) -> Result<(), AllocError>
         requires construct { HasConstruct self.old }
         requires fine { LastFine (plain_last last.now) (counts_of operands.old) }
         requires steps { self.old.steps < STEPS }
-        ensures does { OnOk result (self.new ≡ ends_by last.now at behind operands.old self.old) }
+        ensures does { OnOk result (self.new ≡
+            ends_by code.now (plans_of units.now) last.now at operands.old self.old) }
         ensures steps { OnOk result (self.new.steps ≡ self.old.steps + 1) }
     {
         match last {
-            Last::Does(ending, next) => self.act_by(*ending, at, *next, operands),
-            _ => {
-                self.flow(last, behind);
-                Ok(())
-            }
+            Last::Does(ending, next) => self.act_by(*ending, at, *next, code, units, operands),
+            _ => self.flow(last, code),
         }
     }
 
     // What an ending does before which nothing is evaluated.
-    fn flow(&mut self, last: &Last, behind: usize)
+    fn flow(&mut self, last: &Last, code: &SoundCode) -> Result<(), AllocError>
         requires construct { HasConstruct self.old }
         requires steps { self.old.steps < STEPS }
-        ensures does { self.new ≡ flows_by last.now behind self.old }
-        ensures steps { self.new.steps ≡ self.old.steps + 1 }
+        ensures does { OnOk result (self.new ≡ flows_by code.now last.now self.old) }
+        ensures steps { OnOk result (self.new.steps ≡ self.old.steps + 1) }
     {
         match last {
             Last::Does(_, next) => self.go(*next),
             Last::Continues {
                 control,
-                behind: out,
+                behind,
                 inside,
-            } => self.continue_loop(*control, *out, *inside),
+            } => self.continue_loop(*control, *behind, *inside),
             Last::Guards(_) => self.go(self.place()),
             Last::Ends(construct, next) => {
-                self.leave_construct(None, 0, place_behind(*construct, *next, behind));
+                let place = place_behind(*construct, *next, code.len());
+                self.leave_construct(code, None, 0, place)?;
             }
-            Last::Leaves { loops, to } => self.leave_construct(None, *loops, *to),
+            Last::Leaves { loops, to } => self.leave_construct(code, None, *loops, *to)?,
         }
+        Ok(())
     }
 
     // An exception that the evaluation of a step raises: it pends from now on. Where nothing is evaluated the ending does what it
     // does.
-    fn fail(&mut self, code: &SoundCode, raise: Raise)
+    fn fail(&mut self, code: &SoundCode, raise: Raise) -> Result<(), AllocError>
         requires runs { self.old.stage ≡ runs None }
         requires fits { Fits code.now.lines self.old }
         requires steps { self.old.steps < STEPS }
-        ensures does { EndsAt code.now self.old.control.place (λ last at.
-            self.new ≡ raises_by last at (length code.now.lines) raise self.old) }
-        ensures fits { Fits code.now.lines self.new }
-        ensures steps { self.new.steps ≡ self.old.steps + 1 }
+        ensures does { OnOk result (EndsAt code.now self.old.control.place (λ last at.
+            EndsBack code.now self.old last ×
+            (self.new ≡ raises_by code.now last at raise self.old))) }
+        ensures fits { OnOk result (Fits code.now.lines self.new) }
+        ensures steps { OnOk result (self.new.steps ≡ self.old.steps + 1) }
     {
         match code.ending(self.place()) {
             Some(ending) => match ending.last {
-                Last::Does(_, _) => self.raise(Exception::Predefined(raise), ending.at),
-                _ => self.flow(&ending.last, code.len()),
+                Last::Does(_, _) => {
+                    self.raise(Exception::Predefined(raise), ending.at);
+                    Ok(())
+                }
+                _ => self.flow(&ending.last, code),
             },
             None => unreachable!(),
         }
@@ -164,22 +186,24 @@ impl Progress {
     }
 
     // A pending exception is handled, or leaves the innermost construct (RM 11.4).
-    fn propagate(&mut self, code: &SoundCode, raised: Raised)
+    fn propagate(&mut self, code: &SoundCode, raised: Raised) -> Result<(), AllocError>
         requires runs { self.old.stage ≡ runs (Some (plain_raised raised)) }
         requires fits { Fits code.now.lines self.old }
         requires steps { self.old.steps < STEPS }
-        ensures next { StepsTo code.now self.old self.new }
-        ensures fits { Fits code.now.lines self.new }
-        ensures steps { self.new.steps ≡ self.old.steps + 1 }
+        ensures next { OnOk result ((units : List UnitPlan) →
+            StepsTo units code.now self.old self.new) }
+        ensures fits { OnOk result (Fits code.now.lines self.new) }
+        ensures steps { OnOk result (self.new.steps ≡ self.old.steps + 1) }
     {
         let behind = code.len();
         match find_handler(code, self.place(), raised.exception) {
             Some(handler) => self.handle(raised.exception, handler),
             None => {
                 let place = unwind(code, self.place()).unwrap_or(behind);
-                self.leave_construct(Some(raised.exception), 0, place);
+                self.leave_construct(code, Some(raised.exception), 0, place)?;
             }
         }
+        Ok(())
     }
 }
 

@@ -1,4 +1,5 @@
 pub mod Below
 pub mod Leaving
 pub mod Opened
+pub mod Placing
 pub mod Writes

@@ -1,6 +1,8 @@
-// What a running program keeps: its frames, and which of them are open.
+// What a running program keeps: its frames, which of them are open, and what the ends of calls copy back.
 #![tactic(auto)]
 
+pub mod display;
 pub mod frames;
 pub mod stack;
 pub mod store;
+pub mod target;

@@ -1,10 +1,14 @@
 // The open frames, which lie in one another.
 
-ghost use Rattle.std.specs.Prelude.{◌≡◌, [], None, suc, OnOk, OnErr, nat_le, length};
+ghost use Rattle.std.specs.Prelude.{◌≡◌, ◌↔◌, [], None, suc, length, nat_le, IsTrue, OnOk, OnErr};
 ghost use Rattle.aud_meaning.specs.Effects.{elaborated_in, handled, is_loop, live_frames};
-ghost use Rattle.aud_meaning.specs.Ties.Single.{closed, opens, out_of_loops, AreOpenedAlone};
-ghost use Rattle.aud_store.specs.Ties.Stored.{plain_purpose, is_in_loop, with_handling, with_elaborated, IsInnermost, IsStacked};
+ghost use Rattle.aud_meaning.specs.Ties.Single.{closed, opens_after, out_of_loops, AreOpenedAlone};
+ghost use Rattle.aud_store.specs.Ties.Stored.{copies_of, innermost_backs, is_in_loop, kept_by, kept_of};
+ghost use Rattle.aud_store.specs.Ties.Stored.{plain_purpose, with_handling, with_elaborated};
+ghost use Rattle.aud_store.specs.Ties.Stored.{IsInnermost, IsProcedure, IsStacked};
 
+use crate::display::{Display, Replaced};
+use crate::target::{Back, Target};
 use aud_text::place::Pos;
 use aud_typed::program::Exception;
 use std::alloc::{AllocError, Global};
@@ -16,10 +20,55 @@ pub enum Purpose {
     Body,
     Block,
     Loop,
+    /// A procedure's body, which sees so many frames besides its own, and at whose end so many formals are copied back; and the
+    /// target that its call found besides, where it found one.
+    Procedure {
+        level: usize,
+        backs: usize,
+        into: Option<Target>,
+    },
+}
+
+impl Purpose {
+    /// Whether it is a procedure's body.
+    pub fn is_procedure(&self) -> bool
+        ensures { IsTrue result ↔ IsProcedure self.now }
+    {
+        matches!(self, Purpose::Procedure { .. })
+    }
+
+    fn is_loop(&self) -> bool
+        ensures { result ≡ is_loop (plain_purpose self.now []) }
+    {
+        match self {
+            Purpose::Loop => true,
+            Purpose::Body | Purpose::Block | Purpose::Procedure { .. } => false,
+        }
+    }
+
+    // How many formals are copied back.
+    fn copies(&self) -> usize
+        ensures { result ≡ copies_of self.now }
+    {
+        match self {
+            Purpose::Procedure { backs, .. } => *backs,
+            Purpose::Body | Purpose::Block | Purpose::Loop => 0,
+        }
+    }
+
+    // How many frames are still seen, of so many.
+    fn kept(&self, seen: usize) -> usize
+        ensures { result ≡ kept_of self.now seen }
+    {
+        match self {
+            Purpose::Procedure { level, .. } => (*level).min(seen),
+            Purpose::Body | Purpose::Block | Purpose::Loop => seen,
+        }
+    }
 }
 
 /// An open frame: its number, the table of its variables, how many of their names are elaborated; the exception that its
-/// construct handles; the place of the statement that opened it, and what for.
+/// construct handles; the place of the statement that opened it, and what for; what its number stands in place of.
 #[derive(Clone, Copy, PartialEq, Eq, Debug)]
 pub struct Open {
     pub frame: usize,
@@ -28,39 +77,33 @@ pub struct Open {
     pub handling: Option<Exception>,
     pub at: Pos,
     pub purpose: Purpose,
+    pub replaced: Replaced,
 }
 
-impl Open {
-    fn is_loop(&self) -> bool
-        ensures { result ≡ is_loop (plain_purpose self.now.purpose) }
-    {
-        match self.purpose {
-            Purpose::Loop => true,
-            Purpose::Body | Purpose::Block => false,
-        }
-    }
-}
-
-// The open frames, the innermost one last, and the numbers of the frames that are seen, the innermost one's last.
+// The open frames, the innermost one last; the numbers of the frames that are seen; and the formals that are copied back at the
+// ends of all calls, those of the innermost call last.
 #[derive(Drop)]
 pub(crate) struct Stack {
     opened: Vec<Open>,
-    display: Vec<usize>,
+    display: Display,
+    backs: Vec<Back>,
 }
 
 impl Model for Stack {
     ghost use Rattle.std.specs.Prelude.{◌≡◌, reverse};
     ghost use Rattle.aud_meaning.specs.Ties.Single.{Stack as Plain};
-    ghost use Rattle.aud_store.specs.Ties.Stored.{seen_from, plain_opened};
+    ghost use Rattle.aud_store.specs.Ties.Display.{seen};
+    ghost use Rattle.aud_store.specs.Ties.Stored.{display_of, plain_opened, AreReplaced};
 
     ghost Value = { Plain };
 
     ghost view = { λ s. record {
-      display = s.display.items;
-      opened = plain_opened (reverse s.opened.items);
+      display = seen s.display;
+      opened = plain_opened (reverse s.opened.items) s.backs.items;
     } };
 
-    ghost invariant = { λ s. s.display.items ≡ seen_from (reverse s.opened.items) };
+    ghost invariant = { λ s. (s.display ≡ display_of (reverse s.opened.items))
+        × AreReplaced (reverse s.opened.items) };
 }
 
 impl Stack {
@@ -70,25 +113,35 @@ impl Stack {
     {
         Stack {
             opened: Vec::new(alloc),
-            display: Vec::new(alloc),
+            display: Display::new(alloc),
+            backs: Vec::new(alloc),
         }
     }
 
-    /// A frame of this number is opened, in which so many names are elaborated.
+    /// A frame of this number is opened, in which so many names are elaborated; these formals are copied back at its end.
     pub(crate) fn enter(
         &mut self,
         purpose: Purpose,
+        backs: &[Back],
         frame: usize,
         region: usize,
         at: Pos,
         elaborated: usize,
     ) -> Result<(), AllocError>
+        requires copies { copies_of purpose ≡ length backs.now }
         ensures entered { OnOk result (self.new ≡
-            opens (plain_purpose purpose) frame region at elaborated self.old) }
+            opens_after (plain_purpose purpose backs.now) frame region at elaborated
+            (kept_by purpose self.old.display) self.old) }
         ensures kept { OnErr result (self.new ≡ self.old) }
     {
         // Room first, so that nothing is half done.
-        self.display.reserve(1)?;
+        self.opened.reserve(1)?;
+        let kept = purpose.kept(self.display.len());
+        let replaced = self.display.enter(kept, frame)?;
+        if let Err(failure) = self.backs.extend_from_slice(backs) {
+            self.display.leave(replaced);
+            return Err(failure);
+        }
         self.opened.push(Open {
             frame,
             region,
@@ -96,8 +149,8 @@ impl Stack {
             handling: None,
             at,
             purpose,
+            replaced,
         })?;
-        self.display.push(frame)?;
         Ok(())
     }
 
@@ -105,8 +158,11 @@ impl Stack {
     pub(crate) fn leave(&mut self)
         ensures { self.new ≡ closed self.old }
     {
-        self.opened.pop();
-        self.display.pop();
+        if let Some(open) = self.opened.pop() {
+            self.display.leave(open.replaced);
+            let outer = self.backs.len().saturating_sub(open.purpose.copies());
+            self.backs.truncate(outer);
+        }
     }
 
     /// The innermost open frame.
@@ -124,18 +180,31 @@ impl Stack {
         self.opened
             .iter()
             .rev()
-            .find(|open| !open.is_loop())
+            .find(|open| !open.purpose.is_loop())
             .copied()
     }
 
     /// Whether the innermost one is a loop's.
+    #[tactic(auto, using(crate::proofs::Opened::same_loop))]
     pub(crate) fn is_in_loop(&self) -> bool
         ensures { result ≡ is_in_loop self.now.opened }
     {
         match self.innermost() {
-            Some(open) => open.purpose == Purpose::Loop,
+            Some(open) => open.purpose.is_loop(),
             None => false,
         }
+    }
+
+    /// The formals that are copied back at the end of the innermost one, in the order of the text.
+    pub(crate) fn backs(&self) -> &[Back]
+        ensures { result.now ≡ innermost_backs self.now.opened }
+    {
+        let copies = match self.opened.last() {
+            Some(open) => open.purpose.copies(),
+            None => 0,
+        };
+        let first = self.backs.len().saturating_sub(copies);
+        &self.backs[first..]
     }
 
     /// How many names are elaborated in the innermost one.
@@ -191,6 +260,6 @@ impl Stack {
         ensures value { result.now ≡ self.now.display }
         ensures stacked { IsStacked self.now }
     {
-        &self.display
+        self.display.numbers()
     }
 }

@@ -6,10 +6,13 @@ ghost use Rattle.aud_meaning.specs.Evaluation.{frame_at};
 ghost use Rattle.aud_meaning.specs.Effects.{innermost, elaborated_in, handled, live_frames};
 ghost use Rattle.aud_meaning.specs.Ties.Single.{closed, closed_times, out_of_loops, AreOpenedAlone};
 ghost use Rattle.aud_store.specs.Ties.Frames.{with_frame};
-ghost use Rattle.aud_store.specs.Ties.Stored.{plain_purpose, with_handling, IsInnermost, entered, declared, innermost_cell, stored, IsStored};
+ghost use Rattle.aud_store.specs.Ties.Stored.{copies_of, declared, entered_after, innermost_backs};
+ghost use Rattle.aud_store.specs.Ties.Stored.{innermost_cell, kept_by, plain_purpose, stored};
+ghost use Rattle.aud_store.specs.Ties.Stored.{with_handling, IsInnermost, IsStored};
 
 use crate::frames::Frames;
 use crate::stack::{Open, Purpose, Stack};
+use crate::target::Back;
 use aud_text::int32::Int32;
 use aud_text::limits::FRAMES;
 use aud_text::place::Pos;
@@ -47,23 +50,28 @@ impl Store {
         }
     }
 
-    /// A frame with these cells is opened, those of the names that are elaborated. It gives the frame's number.
+    /// A frame with these cells is opened, those of the names that are elaborated; these formals are copied back at its end. It
+    /// gives the frame's number.
     pub fn enter(
         &mut self,
         alloc: Global,
         purpose: Purpose,
+        backs: &[Back],
         region: usize,
         at: Pos,
         cells: &[Int32],
         elaborated: usize,
     ) -> Result<usize, AllocError>
+        requires copies { copies_of purpose ≡ length backs.now }
         ensures number { IfOk result (λ frame. frame ≡ length self.old.frames) }
         ensures entered { OnOk result (self.new ≡
-            entered (plain_purpose purpose) region at cells.now elaborated self.old) }
+            entered_after (plain_purpose purpose backs.now) region at cells.now elaborated
+            (kept_by purpose self.old.stack.display) self.old) }
         ensures kept { OnErr result (self.new ≡ self.old) }
     {
         let frame = self.frames.len();
-        self.stack.enter(purpose, frame, region, at, elaborated)?;
+        self.stack
+            .enter(purpose, backs, frame, region, at, elaborated)?;
         if let Err(failure) = self.frames.enter(alloc, cells) {
             self.stack.leave();
             return Err(failure);
@@ -130,6 +138,26 @@ impl Store {
         ensures alone { AreOpenedAlone self.now.stack.opened }
     {
         self.stack.construct()
+    }
+
+    /// The formals that are copied back at the end of the innermost frame, in the order of the text.
+    pub fn backs(&self) -> &[Back]
+        ensures { result.now ≡ innermost_backs self.now.stack.opened }
+    {
+        self.stack.backs()
+    }
+
+    /// The cells of the innermost frame; none where none is open.
+    pub fn innermost_cells(&self) -> &[Int32]
+        ensures { result.now ≡
+            slice_index_or self.now.frames (innermost self.now.stack.opened) [] }
+    {
+        let number = self.innermost_number();
+        if number < self.frames.len() {
+            self.frames.frame(number)
+        } else {
+            &[]
+        }
     }
 
     /// How many names are elaborated in the innermost frame.

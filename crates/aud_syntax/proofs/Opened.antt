@@ -1,5 +1,5 @@
 -- Trees by their parts.
-use Rattle.std.proofs.Common.{◌≡◌, Bool, List, [], ◌∷◌, refl, ap, sym, ◌∙◌}
+use Rattle.std.proofs.Common.{◌≡◌, Bool, List, [], ◌∷◌, map, refl, ap, sym, ◌∙◌}
 use Rattle.std.specs.Prelude.{Option, Some, None, Vec, Box}
 use Rattle.std.specs.Global.{Global}
 use mathlib.Core.Former.{list_count, this}
@@ -23,17 +23,19 @@ use Rattle.aud_syntax.specs.declared.tree.Name.{out-Name, roll-Name, roll-out-Na
 use Rattle.aud_syntax.specs.declared.tree.Primary as primary
 use Rattle.aud_syntax.specs.declared.tree.Statement.{Statement, Row_of-Statement, end_of-Statement, more_of-Statement, items-the_row-Statement, items_hidden-the_row-Statement-0, items_shown-the_row-Statement-0}
 use Rattle.aud_syntax.specs.declared.tree.Statement.TheVariants.{Loop}
-use Rattle.aud_syntax.specs.declared.tree.Statement.TheBlock.{hidden-the_row-Statement-0, shown-the_row-Statement-0, shown-the_row-Arm-2, shown-the_row-Handler-1}
-use Rattle.aud_syntax.specs.declared.tree.IfStatement.{IfStatement, IfStatement', out-IfStatement, roll-IfStatement, out-roll-IfStatement, Row_of-Arm, end_of-Arm, more_of-Arm, items-the_row-Arm, items_shown-the_row-Arm-2}
+use Rattle.aud_syntax.specs.declared.tree.Declaration.TheBlock.{hidden-the_row-Statement-0, shown-the_row-Statement-0, shown-the_row-Declaration-1, shown-the_row-Handler-2, shown-the_row-Arm-3}
+use Rattle.aud_syntax.specs.declared.tree.IfStatement.{IfStatement, IfStatement', out-IfStatement, roll-IfStatement, out-roll-IfStatement, Row_of-Arm, end_of-Arm, more_of-Arm, items-the_row-Arm, items_shown-the_row-Arm-3}
 use Rattle.aud_syntax.specs.declared.tree.Arm.{Arm}
 use Rattle.aud_syntax.specs.declared.tree.Handler.{Handler}
 use Rattle.aud_syntax.specs.declared.tree.Statements.{Statements}
+use Rattle.aud_syntax.specs.declared.tree.Formal.{Formal}
 use Rattle.aud_syntax.specs.declared.tree.Declaration.{Declaration}
+use Rattle.aud_syntax.specs.declared.tree.ProcedureDeclaration.{ProcedureDeclaration, ProcedureDeclaration', out-ProcedureDeclaration, roll-ProcedureDeclaration, out-roll-ProcedureDeclaration}
 use Rattle.aud_text.specs.declared.place.Pos.{Pos}
 use Rattle.aud_syntax.specs.declared.tree.LoopStatement.{LoopStatement}
-use Rattle.aud_syntax.specs.declared.tree.BlockStatement.{BlockStatement, BlockStatement', out-BlockStatement, roll-BlockStatement, out-roll-BlockStatement}
-use Rattle.aud_syntax.specs.declared.tree.Body.{Body, Body', out-Body, roll-Body, out-roll-Body, Row_of-Handler, end_of-Handler, more_of-Handler, items-the_row-Handler, items_shown-the_row-Handler-1}
-use Rattle.aud_syntax.specs.Ties.View.{plain_expression, plain_boxed, plain_expressions, plain_args, plain_name, plain_part, plain_parts, part_list, plain_primary, plain_relation, plain_relations, relation_list, plain_chain, plain_comparison, plain_simple, plain_addeds, plain_added, plain_term, plain_multiplieds, plain_multiplied, plain_factor, plain_statement, plain_row, plain_others, plain_statements, plain_if, plain_arms, arm_list, plain_iteration, plain_if_statement, plain_loop_statement, plain_choices, plain_body, plain_handlers, handler_list, plain_body_parts, plain_block, plain_block_statement, plain_declarations}
+use Rattle.aud_syntax.specs.declared.tree.BlockStatement.{BlockStatement, BlockStatement', out-BlockStatement, roll-BlockStatement, out-roll-BlockStatement, Row_of-Declaration, end_of-Declaration, more_of-Declaration, items-the_row-Declaration, items_shown-the_row-Declaration-1}
+use Rattle.aud_syntax.specs.declared.tree.Body.{Body, Body', out-Body, roll-Body, out-roll-Body, Row_of-Handler, end_of-Handler, more_of-Handler, items-the_row-Handler, items_shown-the_row-Handler-2}
+use Rattle.aud_syntax.specs.Ties.View.{plain_expression, plain_boxed, plain_expressions, plain_args, plain_name, plain_part, plain_parts, part_list, plain_primary, plain_relation, plain_relations, relation_list, plain_chain, plain_comparison, plain_simple, plain_addeds, plain_added, plain_term, plain_multiplieds, plain_multiplied, plain_factor, plain_statement, plain_row, plain_others, plain_statements, plain_if, plain_arms, arm_list, plain_iteration, plain_if_statement, plain_loop_statement, plain_choices, plain_body, plain_handlers, handler_list, plain_body_parts, plain_block, plain_block_statement, plain_formal, plain_declaration, plain_declaration_row, plain_declarations, plain_procedure, plain_procedure_parts}
 use Rattle.aud_syntax.specs.Plain as m
 
 abbrev pub multiplied_list : List Multiplied → m.Multiplieds
@@ -129,16 +131,16 @@ arm_rows n (more_of-Arm at e first shape others row) =
     ap (λ z. m.more_arms at (plain_expression e) (m.in_order (plain_statement first) z) (plain_arms row)) (statements_shown shape others)
     ∙ ap (λ z. m.more_arms at (plain_expression e) (m.in_order (plain_statement first) (plain_others (shown-the_row-Statement-0 shape others).items)) z) (arm_rows _ row)
 
-arms_shown : (shape : Vec (Unit {0}) Global) (row : Row_of-Arm (list_count (this {0}) shape.items 0)) → plain_arms row ≡ arm_list (shown-the_row-Arm-2 shape row).items
-arms_shown shape row = arm_rows _ row ∙ ap arm_list (sym (items_shown-the_row-Arm-2 shape row))
+arms_shown : (shape : Vec (Unit {0}) Global) (row : Row_of-Arm (list_count (this {0}) shape.items 0)) → plain_arms row ≡ arm_list (shown-the_row-Arm-3 shape row).items
+arms_shown shape row = arm_rows _ row ∙ ap arm_list (sym (items_shown-the_row-Arm-3 shape row))
 
 pub if_open : (x : IfStatement) → plain_if x ≡ plain_if_statement x
-unfolding out-IfStatement shown-the_row-Statement-0 shown-the_row-Arm-2 denote.Hole.Carrier.out
+unfolding out-IfStatement shown-the_row-Statement-0 shown-the_row-Arm-3 denote.Hole.Carrier.out
 if_open (IfStatement' at e first shape others arms_shape arms else_shape otherwise) =
     let statements = m.in_order (plain_statement first) (plain_others (shown-the_row-Statement-0 shape others).items) in
     ap (λ z. m.if_then at (plain_expression e) (m.in_order (plain_statement first) z) (plain_arms arms) (plain_row otherwise)) (statements_shown shape others)
     ∙ ap (λ z. m.if_then at (plain_expression e) statements z (plain_row otherwise)) (arms_shown arms_shape arms)
-    ∙ ap (λ z. m.if_then at (plain_expression e) statements (arm_list (shown-the_row-Arm-2 arms_shape arms).items) z) (statements_shown else_shape otherwise)
+    ∙ ap (λ z. m.if_then at (plain_expression e) statements (arm_list (shown-the_row-Arm-3 arms_shape arms).items) z) (statements_shown else_shape otherwise)
 
 -- an if statement as it is made of its parts
 pub if_roll : (first : Arm) (others : Vec Arm Global) (otherwise : Vec Statement Global) →
@@ -153,20 +155,31 @@ handler_rows n (more_of-Handler x first shape others row) =
     ap (λ z. m.more_handlers (plain_choices x) (m.in_order (plain_statement first) z) (plain_handlers row)) (statements_shown shape others)
     ∙ ap (λ z. m.more_handlers (plain_choices x) (m.in_order (plain_statement first) (plain_others (shown-the_row-Statement-0 shape others).items)) z) (handler_rows _ row)
 
-handlers_shown : (shape : Vec (Unit {0}) Global) (row : Row_of-Handler (list_count (this {0}) shape.items 0)) → plain_handlers row ≡ handler_list (shown-the_row-Handler-1 shape row).items
-handlers_shown shape row = handler_rows _ row ∙ ap handler_list (sym (items_shown-the_row-Handler-1 shape row))
+handlers_shown : (shape : Vec (Unit {0}) Global) (row : Row_of-Handler (list_count (this {0}) shape.items 0)) → plain_handlers row ≡ handler_list (shown-the_row-Handler-2 shape row).items
+handlers_shown shape row = handler_rows _ row ∙ ap handler_list (sym (items_shown-the_row-Handler-2 shape row))
 
 pub body_open : (x : Body) → plain_body x ≡ plain_body_parts x
-unfolding out-Body shown-the_row-Statement-0 shown-the_row-Handler-1 denote.Hole.Carrier.out
+unfolding out-Body shown-the_row-Statement-0 shown-the_row-Handler-2 denote.Hole.Carrier.out
 body_open (Body' begin first shape others handler_shape handlers end name semicolon) =
     ap (λ z. m.body begin (m.in_order (plain_statement first) z) (plain_handlers handlers) end name semicolon) (statements_shown shape others)
     ∙ ap (λ z. m.body begin (m.in_order (plain_statement first) (plain_others (shown-the_row-Statement-0 shape others).items)) z end name semicolon) (handlers_shown handler_shape handlers)
 
-pub block_open : (x : BlockStatement) → plain_block x ≡ plain_block_statement x
-unfolding out-BlockStatement denote.Hole.Carrier.out
-block_open (BlockStatement' label at declare declarations x) = refl
+declaration_rows : (n : _) (row : Row_of-Declaration n) → plain_declaration_row row ≡ plain_declarations (items-the_row-Declaration n row)
+declaration_rows n end_of-Declaration = refl
+declaration_rows n (more_of-Declaration x row) = ap (λ z. m.more_declarations (plain_declaration x) z) (declaration_rows _ row)
 
--- statements with handlers and a block as they are made of their parts
+declarations_shown : (shape : Vec (Unit {0}) Global) (row : Row_of-Declaration (list_count (this {0}) shape.items 0)) → plain_declaration_row row ≡ plain_declarations (shown-the_row-Declaration-1 shape row).items
+declarations_shown shape row = declaration_rows _ row ∙ ap plain_declarations (sym (items_shown-the_row-Declaration-1 shape row))
+
+pub block_open : (x : BlockStatement) → plain_block x ≡ plain_block_statement x
+unfolding out-BlockStatement shown-the_row-Declaration-1 denote.Hole.Carrier.out
+block_open (BlockStatement' label at declare shape declarations x) = ap (λ z. m.block label at declare z (plain_body x)) (declarations_shown shape declarations)
+
+pub procedure_open : (x : ProcedureDeclaration) → plain_procedure x ≡ plain_procedure_parts x
+unfolding out-ProcedureDeclaration shown-the_row-Declaration-1 denote.Hole.Carrier.out
+procedure_open (ProcedureDeclaration' at i formals shape declarations x) = ap (λ z. m.procedure at i (map plain_formal formals.items) z (plain_body x)) (declarations_shown shape declarations)
+
+-- statements with handlers, a block and a procedure as they are made of their parts
 
 pub body_roll : (begin : Pos) (x : Statements) (handlers : Vec Handler Global) (end : Pos) (i : Option Ident) (semicolon : Pos) →
     plain_body (roll-Body (record { begin = begin; statements = x; handlers = handlers; end = end; name = i; semicolon = semicolon })) ≡ m.body begin (plain_statements x) (handler_list handlers.items) end i semicolon
@@ -177,3 +190,9 @@ pub block_roll : (label : Option Ident) (at : Pos) (declare : Bool) (ds : Vec De
     plain_block (roll-BlockStatement (record { label = label; at = at; declare = declare; declarations = ds; body = x })) ≡ m.block label at declare (plain_declarations ds.items) (plain_body x)
 block_roll label at declare ds x =
     block_open (roll-BlockStatement (record { label = label; at = at; declare = declare; declarations = ds; body = x })) ∙ ap (λ y. m.block y.label y.at y.declare (plain_declarations y.declarations.items) (plain_body y.body)) (out-roll-BlockStatement (record { label = label; at = at; declare = declare; declarations = ds; body = x }))
+
+pub procedure_roll : (at : Pos) (i : Ident) (formals : Vec Formal Global) (ds : Vec Declaration Global) (x : Body) →
+    plain_procedure (roll-ProcedureDeclaration (record { at = at; name = i; formals = formals; declarations = ds; body = x })) ≡ m.procedure at i (map plain_formal formals.items) (plain_declarations ds.items) (plain_body x)
+procedure_roll at i formals ds x =
+    procedure_open (roll-ProcedureDeclaration (record { at = at; name = i; formals = formals; declarations = ds; body = x }))
+    ∙ ap (λ y. m.procedure y.at y.name (map plain_formal y.formals.items) (plain_declarations y.declarations.items) (plain_body y.body)) (out-roll-ProcedureDeclaration (record { at = at; name = i; formals = formals; declarations = ds; body = x }))

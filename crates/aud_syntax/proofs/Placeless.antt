@@ -4,8 +4,10 @@ use Rattle.std.specs.Prelude.{Option, Some, None, codes}
 use Rattle.aud_lex.specs.Why.Spaced.{Word, spaced}
 use Rattle.aud_syntax.specs.declared.tree.Ident.{Ident}
 use Rattle.aud_syntax.specs.declared.tree.Connective.{Connective}
+use Rattle.aud_syntax.specs.declared.tree.Mode.{Mode}
+use Rattle.aud_syntax.specs.declared.tree.Mode.TheVariants as mode
 use Rattle.aud_syntax.specs.Plain as m
-use Rattle.aud_syntax.specs.Why.Bare.{bare_ident, bare_end, bare_expression, bare_relations, bare_relation, bare_name, bare_parts, bare_part, bare_args, bare_simple, bare_addeds, bare_term, bare_multiplieds, bare_factor, bare_primary, bare_maybe, bare_declaration, bare_declarations, bare_iteration, bare_choices, bare_statement, bare_more_statements, bare_statements, bare_arms, bare_body, bare_handlers, bare_context, bare}
+use Rattle.aud_syntax.specs.Why.Bare.{bare_ident, bare_end, bare_expression, bare_relations, bare_relation, bare_name, bare_parts, bare_part, bare_args, bare_simple, bare_addeds, bare_term, bare_multiplieds, bare_factor, bare_primary, bare_maybe, bare_mode, bare_formal, bare_declaration, bare_declarations, bare_iteration, bare_choices, bare_statement, bare_more_statements, bare_statements, bare_arms, bare_body, bare_handlers, bare_context, bare}
 use Rattle.aud_syntax.specs.Why.Printed as w
 use Rattle.aud_syntax.specs.Why.Laws.{WithoutPlaces}
 
@@ -82,15 +84,26 @@ more_idents_same : (delimiter : List ℕ) (xs : List Ident) → w.more_ident_wor
 more_idents_same delimiter [] = refl
 more_idents_same delimiter (x ∷ xs) = cc (more_idents_same delimiter xs)
 
-declaration_same : (x : m.Declaration) → w.declaration_words (bare_declaration x) ≡ w.declaration_words x
-declaration_same (m.object x xs subtype value) = cc (more_idents_same (codes ",") xs, maybe_same (codes ":=") value)
-declaration_same (m.constant x xs subtype value) = cc (more_idents_same (codes ",") xs, expression_same value)
-declaration_same (m.array x xs low high subtype) = cc (more_idents_same (codes ",") xs)
-declaration_same (m.exception x xs) = cc (more_idents_same (codes ",") xs)
+value_same : (e : m.MaybeExpression) → w.value_words (bare_maybe e) ≡ w.value_words e
+value_same m.no_expression = refl
+value_same (m.an_expression e) = expression_same e
 
-declarations_same : (xs : m.Declarations) → w.declarations_words (bare_declarations xs) ≡ w.declarations_words xs
-declarations_same m.no_declarations = refl
-declarations_same (m.more_declarations x xs) = cc (declaration_same x, declarations_same xs)
+mode_same : (x : Mode) → w.mode_words (bare_mode x) ≡ w.mode_words x
+mode_same mode.Unstated = refl
+mode_same (mode.In at) = refl
+mode_same (mode.Out at) = refl
+mode_same (mode.InOut at) = refl
+
+formal_same : (x : m.Formal) → w.formal_words (bare_formal x) ≡ w.formal_words x
+formal_same (m.formal x xs how subtype) = cc (more_idents_same (codes ",") xs, mode_same how)
+
+more_formals_same : (xs : List m.Formal) → w.more_formals_words (map bare_formal xs) ≡ w.more_formals_words xs
+more_formals_same [] = refl
+more_formals_same (x ∷ xs) = cc (formal_same x, more_formals_same xs)
+
+formals_same : (xs : List m.Formal) → w.formals_words (map bare_formal xs) ≡ w.formals_words xs
+formals_same [] = refl
+formals_same (x ∷ xs) = cc (formal_same x, more_formals_same xs)
 
 label_same : (s : Option Ident) → w.label_words (bare_end s) ≡ w.label_words s
 label_same None = refl
@@ -114,6 +127,17 @@ handled_same m.no_handlers ws = refl
 handled_same (m.more_handlers x statements xs) ws = refl
 
 mutual
+  declaration_same : (x : m.Declaration) → w.declaration_words (bare_declaration x) ≡ w.declaration_words x
+  declaration_same (m.object x xs subtype value) = cc (more_idents_same (codes ",") xs, maybe_same (codes ":=") value)
+  declaration_same (m.constant x xs subtype value) = cc (more_idents_same (codes ",") xs, expression_same value)
+  declaration_same (m.array x xs low high subtype) = cc (more_idents_same (codes ",") xs)
+  declaration_same (m.exception x xs) = cc (more_idents_same (codes ",") xs)
+  declaration_same (m.procedure at x formals ds rest) = cc (formals_same formals, declarations_same ds, body_same rest)
+
+  declarations_same : (xs : m.Declarations) → w.declarations_words (bare_declarations xs) ≡ w.declarations_words xs
+  declarations_same m.no_declarations = refl
+  declarations_same (m.more_declarations x xs) = cc (declaration_same x, declarations_same xs)
+
   statement_same : (x : m.Statement) → w.statement_words (bare_statement x) ≡ w.statement_words x
   statement_same (m.null at) = refl
   statement_same (m.assign x e) = cc (name_same x, expression_same e)
@@ -122,6 +146,7 @@ mutual
   statement_same (m.loop label at i statements last semicolon) = cc (label_same label, iteration_same i, statements_same statements, end_same last)
   statement_same (m.exit at label e) = cc (end_same label, maybe_same (codes "when") e)
   statement_same (m.block label at declare ds x) = cc (label_same label, declarations_same ds, body_same x)
+  statement_same (m.return at e) = cc (value_same e)
   statement_same (m.raise at x) = cc (end_same x)
 
   more_statements_same : (xs : m.MoreStatements) → w.more_statements_words (bare_more_statements xs) ≡ w.more_statements_words xs

@@ -1,5 +1,5 @@
 -- Words that are written one after the other.
-use Rattle.std.proofs.Common.{◌≡◌, ℕ, suc, ◌+◌, ◌<◌, List, [], ◌∷◌, ◌++◌, length, drop, get_or, add-one, append_assoc, refl, ap, sym, ◌∙◌}
+use Rattle.std.proofs.Common.{◌≡◌, ℕ, suc, ◌+◌, ◌<◌, List, [], ◌∷◌, ◌++◌, map, length, drop, get_or, add-one, append_assoc, refl, ap, sym, ◌∙◌}
 use Rattle.std.proofs.Math.Seq.{drop-cons}
 use Rattle.std.specs.Prelude.{Result, Ok, Err, OnOk}
 use Rattle.std.proofs.Common.{false, ◌==◌}
@@ -21,10 +21,12 @@ use Rattle.aud_syntax.specs.declared.tree.IfStatement.{IfStatement}
 use Rattle.aud_syntax.specs.declared.tree.LoopStatement.{LoopStatement}
 use Rattle.aud_syntax.specs.declared.tree.BlockStatement.{BlockStatement}
 use Rattle.aud_syntax.specs.declared.tree.Body.{Body}
+use Rattle.aud_syntax.specs.declared.tree.Formal.{Formal}
+use Rattle.aud_syntax.specs.declared.tree.ProcedureDeclaration.{ProcedureDeclaration}
 use Rattle.aud_syntax.specs.declared.tree.Handler.{Handler}
-use Rattle.aud_syntax.specs.Ties.View.{plain_expression, plain_chain, plain_boxed, plain_expressions, plain_name, plain_primary, plain_statement, plain_others, plain_if, plain_if_statement, plain_loop_statement, plain_block, plain_block_statement, plain_body, plain_body_parts, handler_list}
-use Rattle.aud_syntax.specs.Why.Printed.{ident_word, expression_words, name_words, primary_words, argument_words, args_words, more_args_words, otherwise_words, statement_words, more_statements_words, body_words, handled_words, handlers_words}
-use Rattle.aud_syntax.proofs.Opened.{chain_open, attribute_open, if_open, loop_open, block_open, body_open}
+use Rattle.aud_syntax.specs.Ties.View.{plain_expression, plain_chain, plain_boxed, plain_expressions, plain_name, plain_primary, plain_statement, plain_others, plain_if, plain_if_statement, plain_loop_statement, plain_block, plain_block_statement, plain_body, plain_body_parts, handler_list, plain_formal, plain_procedure, plain_procedure_parts}
+use Rattle.aud_syntax.specs.Why.Printed.{ident_word, expression_words, name_words, primary_words, argument_words, args_words, more_args_words, otherwise_words, statement_words, more_statements_words, body_words, handled_words, handlers_words, formal_words, more_formals_words, formals_words, declaration_words}
+use Rattle.aud_syntax.proofs.Opened.{chain_open, attribute_open, if_open, loop_open, block_open, body_open, procedure_open}
 
 pub spaced_append : (a b : List Word) → spaced (a ++ b) ≡ spaced a ++ spaced b
 spaced_append [] b = refl
@@ -116,6 +118,10 @@ loop_written r old new x h = written_as statement_words r old new (plain_stateme
 pub block_written : {X E : Type 0} (r : Result X E) (old new : List ℕ) (x : BlockStatement) → OnOk r (new ≡ old ++ spaced (statement_words (plain_block_statement x))) → OnOk r (new ≡ old ++ spaced (statement_words (plain_block x)))
 block_written r old new x h = written_as statement_words r old new (plain_block x) (plain_block_statement x) (block_open x) h
 
+-- a procedure, as a declaration
+pub procedure_written : {X E : Type 0} (r : Result X E) (old new : List ℕ) (x : ProcedureDeclaration) → OnOk r (new ≡ old ++ spaced (declaration_words (plain_procedure_parts x))) → OnOk r (new ≡ old ++ spaced (declaration_words (plain_procedure x)))
+procedure_written r old new x h = written_as declaration_words r old new (plain_procedure x) (plain_procedure_parts x) (procedure_open x) h
+
 -- statements with handlers, by their parts
 pub body_written : {X E : Type 0} (r : Result X E) (old new : List ℕ) (x : Body) → OnOk r (new ≡ old ++ spaced (body_words (plain_body_parts x))) → OnOk r (new ≡ old ++ spaced (body_words (plain_body x)))
 body_written r old new x h = written_as body_words r old new (plain_body x) (plain_body_parts x) (body_open x) h
@@ -131,3 +137,12 @@ pub handled_written : {X E : Type 0} (r : Result X E) (old mid new : List ℕ) (
     OnOk r (new ≡ old ++ spaced (handled_words (handler_list xs) (handlers_words (handler_list xs))))
 handled_written r old mid new [] e h k = cc
 handled_written r old mid new (x ∷ xs) e h k = all_written r old mid new (last_word (codes "exception") ∷ []) (handlers_words (handler_list (x ∷ xs))) h k
+
+-- formal parameters in their parentheses
+pub formals_written : {X E : Type 0} (r : Result X E) (old a b c new : List ℕ) (x : Formal) (xs all : List Formal) → all ≡ x ∷ xs → a ≡ old ++ spaced (word (codes "(") ∷ []) → b ≡ a ++ spaced (formal_words (plain_formal x)) →
+    c ≡ b ++ spaced (more_formals_words (map plain_formal xs)) → OnOk r (new ≡ c ++ spaced (word (codes ")") ∷ [])) → OnOk r (new ≡ old ++ spaced (formals_words (map plain_formal all)))
+formals_written r old a b c new x xs all e h k l n =
+    let inner : List Word = formal_words (plain_formal x) ++ more_formals_words (map plain_formal xs) in
+    subst (λ z. OnOk r (new ≡ old ++ spaced (formals_words (map plain_formal z)))) (sym e)
+    (all_written r old a new (word (codes "(") ∷ []) (inner ++ (word (codes ")") ∷ [])) h
+    (all_written r a c new inner (word (codes ")") ∷ []) (both_written a b c (formal_words (plain_formal x)) (more_formals_words (map plain_formal xs)) k l) n))

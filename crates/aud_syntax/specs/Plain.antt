@@ -11,6 +11,7 @@ use Rattle.aud_syntax.specs.declared.tree.Operator.{Operator}
 use Rattle.aud_syntax.specs.declared.tree.Relational.{Relational}
 use Rattle.aud_syntax.specs.declared.tree.Connective.{Connective}
 use Rattle.aud_syntax.specs.declared.tree.Bound.{Bound}
+use Rattle.aud_syntax.specs.declared.tree.Mode.{Mode}
 
 -- expressions and names (RM 4.1, 4.4)
 mutual
@@ -78,19 +79,9 @@ mutual
     no_args : Args
     more_args : Expression → Args → Args
 
--- of each the first name and the others (RM 3.1)
-pub data Declaration : Type 0 where
-  -- the subtype and the value (RM 3.3.1)
-  object : Ident → List Ident → Ident → MaybeExpression → Declaration
-  constant : Ident → List Ident → Ident → Expression → Declaration
-  -- the bounds of the index, and the subtype of the elements (RM 3.3.1, 3.6)
-  array : Ident → List Ident → Bound → Bound → Ident → Declaration
-  -- RM 11.1
-  exception : Ident → List Ident → Declaration
-
-pub data Declarations : Type 0 where
-  no_declarations : Declarations
-  more_declarations : Declaration → Declarations → Declarations
+-- formal parameters: the first name, the others, how they are passed, and their subtype (RM 6.1)
+pub data Formal : Type 0 where
+  formal : Ident → List Ident → Mode → Ident → Formal
 
 -- RM 5.5(3)
 pub data Iteration : Type 0 where
@@ -104,8 +95,24 @@ pub data Choices : Type 0 where
   exceptions : Ident → List Ident → Choices
   others : Pos → Choices
 
--- RM 5.1
+-- declarations, statements and bodies (RM 3.1, 5.1, 11.2)
 mutual
+  -- of each but a procedure the first name and the others
+  pub data Declaration : Type 0 where
+    -- the subtype and the value (RM 3.3.1)
+    object : Ident → List Ident → Ident → MaybeExpression → Declaration
+    constant : Ident → List Ident → Ident → Expression → Declaration
+    -- the bounds of the index, and the subtype of the elements (RM 3.3.1, 3.6)
+    array : Ident → List Ident → Bound → Bound → Ident → Declaration
+    -- RM 11.1
+    exception : Ident → List Ident → Declaration
+    -- where `procedure` stands, the name, the formal parameters, the declarations and the body (RM 6.3)
+    procedure : Pos → Ident → List Formal → Declarations → Body → Declaration
+
+  pub data Declarations : Type 0 where
+    no_declarations : Declarations
+    more_declarations : Declaration → Declarations → Declarations
+
   pub data Statement : Type 0 where
     null : Pos → Statement
     assign : Name → Expression → Statement
@@ -119,6 +126,8 @@ mutual
     exit : Pos → Option Ident → MaybeExpression → Statement
     -- its name, where its first word behind that stands, whether that is `declare`, the declarations and the body (RM 5.6)
     block : Option Ident → Pos → Bool → Declarations → Body → Statement
+    -- where it stands, and the value, if there is one (RM 6.5)
+    return : Pos → MaybeExpression → Statement
     -- where it stands, and the exception; none is named where one is raised again (RM 11.3)
     raise : Pos → Option Ident → Statement
 

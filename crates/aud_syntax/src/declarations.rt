@@ -1,43 +1,19 @@
-// The canonical text of declarations.
+// The canonical text of declarations in which no others lie, and of formal parameters.
 
+ghost use Rattle.std.specs.Prelude.{map};
 ghost use Rattle.aud_syntax.specs.Ties.Writes.{Writes};
-ghost use Rattle.aud_syntax.specs.Ties.View.{plain_expression, plain_maybe, plain_declaration, plain_declarations};
-ghost use Rattle.aud_syntax.specs.Why.Printed.{object_words, constant_words, minus_words, bound_words, range_words, index_words, array_words, exception_words, declaration_words, declarations_words};
+ghost use Rattle.aud_syntax.specs.Ties.View.{plain_expression, plain_maybe, plain_formal};
+ghost use Rattle.aud_syntax.specs.Why.Printed.{object_words, constant_words, minus_words, bound_words, range_words, index_words, array_words, exception_words, mode_words, formal_words, more_formals_words, formals_words};
 
 use crate::expressions::{push_expression, push_maybe};
-use crate::tree::{Bound, Declaration, Expression, Ident, Identifiers};
+use crate::tree::{Bound, Expression, Formal, Ident, Identifiers, Mode};
 use crate::words::{
     push_ident, push_idents, push_last_word, push_number, push_two_words, push_word,
 };
 use std::alloc::AllocError;
 
-pub fn push_declarations(out: &mut Vec<u8>, declarations: &[Declaration]) -> Result<(), AllocError>
-    ensures { Writes result out.old out.new
-        (declarations_words (plain_declarations declarations.now)) }
-{
-    for next in declarations {
-        push_declaration(out, next)?;
-    }
-    Ok(())
-}
-
-// RM 3.1
-fn push_declaration(out: &mut Vec<u8>, declaration: &Declaration) -> Result<(), AllocError>
-    ensures { Writes result out.old out.new
-        (declaration_words (plain_declaration declaration.now)) }
-{
-    match declaration {
-        Declaration::Object(names, subtype, value) => push_object(out, names, subtype, value),
-        Declaration::Constant(names, subtype, value) => push_constant(out, names, subtype, value),
-        Declaration::Array(names, low, high, subtype) => {
-            push_array(out, names, *low, *high, subtype)
-        }
-        Declaration::Exception(names) => push_exceptions(out, names),
-    }
-}
-
 // RM 3.3.1
-fn push_object(
+pub fn push_object(
     out: &mut Vec<u8>,
     names: &Identifiers,
     subtype: &Ident,
@@ -54,7 +30,7 @@ fn push_object(
 }
 
 // RM 3.3.1
-fn push_constant(
+pub fn push_constant(
     out: &mut Vec<u8>,
     names: &Identifiers,
     subtype: &Ident,
@@ -73,7 +49,7 @@ fn push_constant(
 }
 
 // RM 3.3.1, 3.6
-fn push_array(
+pub fn push_array(
     out: &mut Vec<u8>,
     names: &Identifiers,
     low: Bound,
@@ -127,11 +103,57 @@ fn push_minus(out: &mut Vec<u8>, negative: bool) -> Result<(), AllocError>
 }
 
 // RM 11.1
-fn push_exceptions(out: &mut Vec<u8>, names: &Identifiers) -> Result<(), AllocError>
+pub fn push_exceptions(out: &mut Vec<u8>, names: &Identifiers) -> Result<(), AllocError>
     ensures { Writes result out.old out.new
         (exception_words names.now.first names.now.others.items) }
 {
     push_idents(out, b",", names)?;
     push_two_words(out, b":", b"exception")?;
     push_last_word(out, b";")
+}
+
+// RM 6.1
+pub fn push_formals(out: &mut Vec<u8>, formals: &[Formal]) -> Result<(), AllocError>
+    ensures { Writes result out.old out.new (formals_words (map plain_formal formals.now)) }
+{
+    let Some((first, others)) = formals.split_first() else {
+        return Ok(());
+    };
+    push_word(out, b"(")?;
+    push_formal(out, first)?;
+    push_more_formals(out, others)?;
+    push_word(out, b")")
+}
+
+fn push_more_formals(out: &mut Vec<u8>, formals: &[Formal]) -> Result<(), AllocError>
+    ensures { Writes result out.old out.new
+        (more_formals_words (map plain_formal formals.now)) }
+{
+    for next in formals {
+        push_last_word(out, b";")?;
+        push_formal(out, next)?;
+    }
+    Ok(())
+}
+
+// RM 6.1(15)
+fn push_formal(out: &mut Vec<u8>, formal: &Formal) -> Result<(), AllocError>
+    ensures { Writes result out.old out.new (formal_words (plain_formal formal.now)) }
+{
+    push_idents(out, b",", &formal.names)?;
+    push_word(out, b":")?;
+    push_mode(out, formal.mode)?;
+    push_ident(out, &formal.subtype)
+}
+
+// RM 6.1(16)
+fn push_mode(out: &mut Vec<u8>, mode: Mode) -> Result<(), AllocError>
+    ensures { Writes result out.old out.new (mode_words mode) }
+{
+    match mode {
+        Mode::Unstated => Ok(()),
+        Mode::In(_) => push_word(out, b"in"),
+        Mode::Out(_) => push_word(out, b"out"),
+        Mode::InOut(_) => push_two_words(out, b"in", b"out"),
+    }
 }

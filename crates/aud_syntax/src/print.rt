@@ -6,8 +6,7 @@ ghost use Rattle.aud_syntax.specs.Ties.Writes.{Writes};
 ghost use Rattle.aud_syntax.specs.Ties.View.{plain_context, plain_unit};
 ghost use Rattle.aud_syntax.specs.Why.Printed.{clause_words, context_words, contexts_words, unit_words, printed};
 
-use crate::declarations::push_declarations;
-use crate::statements::push_body;
+use crate::statements::{push_body, push_declarations};
 use crate::tree::{Context, Unit};
 use crate::words::{push_ident, push_last_word, push_two_words, push_word};
 use aud_text::text::Text;

@@ -1,14 +1,14 @@
-// The canonical text of statements.
+// The canonical text of declarations, statements and bodies, which lie in one another.
 
 ghost use Rattle.aud_syntax.specs.Ties.Writes.{Writes};
-ghost use Rattle.aud_syntax.specs.Ties.View.{plain_expression, plain_maybe, plain_name, plain_statement, plain_others, plain_statements, plain_if, arm_list, plain_iteration, plain_parameter, plain_choices, plain_loop_statement, plain_block, plain_body, handler_list};
-ghost use Rattle.aud_syntax.specs.Why.Printed.{null_words, assignment_words, call_words, label_words, reverse_words, iteration_words, exit_words, raise_words, declare_words, choices_words, expression_words, arm_words, arms_words, otherwise_words, statement_words, more_statements_words, statements_words, body_words, handler_words, handlers_words, handled_words};
+ghost use Rattle.aud_syntax.specs.Ties.View.{plain_declaration, plain_declarations, plain_procedure, plain_expression, plain_maybe, plain_name, plain_statement, plain_others, plain_statements, plain_if, arm_list, plain_iteration, plain_parameter, plain_choices, plain_loop_statement, plain_block, plain_body, handler_list};
+ghost use Rattle.aud_syntax.specs.Why.Printed.{declaration_words, declarations_words, null_words, assignment_words, call_words, label_words, reverse_words, iteration_words, exit_words, value_words, return_words, raise_words, declare_words, choices_words, expression_words, arm_words, arms_words, otherwise_words, statement_words, more_statements_words, statements_words, body_words, handler_words, handlers_words, handled_words};
 
-use crate::declarations::push_declarations;
+use crate::declarations::{push_array, push_constant, push_exceptions, push_formals, push_object};
 use crate::expressions::{push_expression, push_maybe, push_name, push_simple};
 use crate::tree::{
-    Arm, BlockStatement, Body, Choices, Expression, Handler, Ident, IfStatement, Iteration,
-    LoopParameter, LoopStatement, Name, Statement, Statements,
+    Arm, BlockStatement, Body, Choices, Declaration, Expression, Handler, Ident, IfStatement,
+    Iteration, LoopParameter, LoopStatement, Name, ProcedureDeclaration, Statement, Statements,
 };
 use crate::words::{
     push_end_name, push_ident, push_idents, push_last_word, push_two_words, push_word,
@@ -16,7 +16,49 @@ use crate::words::{
 use std::alloc::AllocError;
 
 #[cycle(statement)]
-pub fn push_statements(out: &mut Vec<u8>, statements: &Statements) -> Result<(), AllocError>
+pub fn push_declarations(out: &mut Vec<u8>, declarations: &[Declaration]) -> Result<(), AllocError>
+    ensures { Writes result out.old out.new
+        (declarations_words (plain_declarations declarations.now)) }
+{
+    for next in declarations {
+        push_declaration(out, next)?;
+    }
+    Ok(())
+}
+
+// RM 3.1
+#[cycle(statement)]
+fn push_declaration(out: &mut Vec<u8>, declaration: &Declaration) -> Result<(), AllocError>
+    ensures { Writes result out.old out.new
+        (declaration_words (plain_declaration declaration.now)) }
+{
+    match declaration {
+        Declaration::Object(names, subtype, value) => push_object(out, names, subtype, value),
+        Declaration::Constant(names, subtype, value) => push_constant(out, names, subtype, value),
+        Declaration::Array(names, low, high, subtype) => {
+            push_array(out, names, *low, *high, subtype)
+        }
+        Declaration::Exception(names) => push_exceptions(out, names),
+        Declaration::Procedure(procedure) => push_procedure(out, procedure),
+    }
+}
+
+// RM 6.3
+#[cycle(statement)]
+fn push_procedure(out: &mut Vec<u8>, procedure: &ProcedureDeclaration) -> Result<(), AllocError>
+    ensures { Writes result out.old out.new
+        (declaration_words (plain_procedure procedure.now)) }
+{
+    push_word(out, b"procedure")?;
+    push_ident(out, &procedure.name)?;
+    push_formals(out, &procedure.formals)?;
+    push_last_word(out, b"is")?;
+    push_declarations(out, &procedure.declarations)?;
+    push_body(out, &procedure.body)
+}
+
+#[cycle(statement)]
+fn push_statements(out: &mut Vec<u8>, statements: &Statements) -> Result<(), AllocError>
     ensures { Writes result out.old out.new (statements_words (plain_statements statements.now)) }
 {
     push_statement(out, &statements.first)?;
@@ -46,6 +88,7 @@ fn push_statement(out: &mut Vec<u8>, statement: &Statement) -> Result<(), AllocE
         Statement::Loop(statement) => push_loop(out, statement),
         Statement::Block(statement) => push_block(out, statement),
         Statement::Exit(_, label, condition) => push_exit(out, label, condition),
+        Statement::Return(_, value) => push_return(out, value),
         Statement::Raise(_, exception) => push_raise(out, exception),
     }
 }
@@ -254,6 +297,25 @@ fn push_exit(
     push_end_name(out, label)?;
     push_maybe(out, b"when", condition)?;
     push_last_word(out, b";")
+}
+
+// RM 6.5
+fn push_return(out: &mut Vec<u8>, value: &Option<Expression>) -> Result<(), AllocError>
+    ensures { Writes result out.old out.new (return_words (plain_maybe value.now)) }
+{
+    push_word(out, b"return")?;
+    push_value(out, value)?;
+    push_last_word(out, b";")
+}
+
+// The value that is returned, if there is one.
+fn push_value(out: &mut Vec<u8>, value: &Option<Expression>) -> Result<(), AllocError>
+    ensures { Writes result out.old out.new (value_words (plain_maybe value.now)) }
+{
+    match value {
+        None => Ok(()),
+        Some(value) => push_expression(out, value),
+    }
 }
 
 // RM 11.3

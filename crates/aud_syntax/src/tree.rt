@@ -215,7 +215,28 @@ pub struct Bound {
     pub number: Number,
 }
 
+/// How formal parameters are passed (RM 6.1), and where that is written.
+#[derive(Clone, Copy, PartialEq, Eq, Debug)]
+pub enum Mode {
+    /// It is not written, which means `in`.
+    Unstated,
+    In(Pos),
+    Out(Pos),
+    /// Where its `in` stands.
+    InOut(Pos),
+}
+
+/// Formal parameters of one mode and subtype (RM 6.1).
+#[derive(Drop)]
+pub struct Formal {
+    pub names: Identifiers,
+    pub mode: Mode,
+    pub subtype: Ident,
+}
+
 /// A declaration (RM 3.1).
+#[derive(Drop)]
+#[cycle(statement)]
 pub enum Declaration {
     /// Variables, their subtype and their initial value (RM 3.3.1).
     Object(Identifiers, Ident, Option<Expression>),
@@ -225,6 +246,18 @@ pub enum Declaration {
     Array(Identifiers, Bound, Bound, Ident),
     /// Exceptions (RM 11.1).
     Exception(Identifiers),
+    Procedure(Box<ProcedureDeclaration>),
+}
+
+/// A procedure and its body (RM 6.3): where its `procedure` stands, its name, its formal parameters, and its declarations.
+#[derive(Drop)]
+#[cycle(statement)]
+pub struct ProcedureDeclaration {
+    pub at: Pos,
+    pub name: Ident,
+    pub formals: Vec<Formal>,
+    pub declarations: Vec<Declaration>,
+    pub body: Body,
 }
 
 /// A statement (RM 5.1).
@@ -241,6 +274,8 @@ pub enum Statement {
     Block(Box<BlockStatement>),
     /// Where `exit` stands, the name of the loop that is left, and the condition (RM 5.7).
     Exit(Pos, Option<Ident>, Option<Expression>),
+    /// Where `return` stands, and the value that is returned, if there is one (RM 6.5).
+    Return(Pos, Option<Expression>),
     /// Where `raise` stands, and the exception; none is named where one is raised again (RM 11.3).
     Raise(Pos, Option<Ident>),
 }
@@ -367,17 +402,6 @@ pub struct Unit {
 }
 
 // A drop of its own is one call wherever such a tree is dropped; a derived one would be its parts' drops, each time anew.
-
-impl Drop for Declaration {
-    fn drop(self) {
-        match self {
-            Declaration::Object(_, _, _) => {}
-            Declaration::Constant(_, _, _) => {}
-            Declaration::Array(_, _, _, _) => {}
-            Declaration::Exception(_) => {}
-        }
-    }
-}
 
 impl Drop for Unit {
     fn drop(self) {

@@ -1,7 +1,7 @@
 -- The number and the words of each refusal.
 use Rattle.std.specs.Prelude.{ℕ, List, codes}
 use Rattle.aud_text.specs.declared.refusal.Refusal.{Refusal}
-use Rattle.aud_text.specs.declared.refusal.Refusal.TheVariants.{UnknownCommand, BadArgument, LineTooLong, JournalFull, NoProgram, StepBudget, NotAscii, Lexical, Syntax, SourceTooLong, TooDeep, NameNotDeclared, DeclaredTwice, WrongKindOfName, WrongType, WrongNumberOfArguments, NotAVariable, WrongNameAtEnd, ExitWithoutLoop, RaiseWithoutHandler, BadHandlerChoice, NumberTooLarge, OutOfMemory}
+use Rattle.aud_text.specs.declared.refusal.Refusal.TheVariants.{UnknownCommand, BadArgument, LineTooLong, JournalFull, NoProgram, StepBudget, NotAscii, Lexical, Syntax, SourceTooLong, TooDeep, NameNotDeclared, DeclaredTwice, WrongKindOfName, WrongType, WrongNumberOfArguments, NotAVariable, WrongNameAtEnd, ExitWithoutLoop, ReturnOutOfPlace, RaiseWithoutHandler, BadHandlerChoice, NumberTooLarge, OutOfMemory}
 
 abbrev pub told : Refusal → ℕ × List ℕ
 told UnknownCommand = (10, codes "unknown command")
@@ -23,6 +23,7 @@ told WrongNumberOfArguments = (34, codes "wrong number of arguments")
 told NotAVariable = (35, codes "not a variable")
 told WrongNameAtEnd = (36, codes "wrong name at end")
 told ExitWithoutLoop = (40, codes "exit without loop")
+told ReturnOutOfPlace = (41, codes "return out of place")
 told RaiseWithoutHandler = (42, codes "raise without handler")
 told BadHandlerChoice = (43, codes "bad handler choice")
 told NumberTooLarge = (45, codes "number too large")

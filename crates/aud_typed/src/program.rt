@@ -7,7 +7,7 @@ use aud_text::place::Pos;
 use aud_text::raise::Raise;
 use aud_text::text::Text;
 
-/// A variable: the level of its frame, the body's being 0, and its number there, by declaration.
+/// A variable: the level of its frame, the main procedure's being 0, and its number there, by declaration.
 #[derive(Clone, Copy, PartialEq, Eq, Debug)]
 pub struct Variable {
     pub level: usize,
@@ -135,6 +135,15 @@ pub enum Reference {
     Element(ArrayAt, IntegerExpression, Subtype),
 }
 
+/// An argument of a call (RM 6.4.1).
+#[derive(Drop, Debug)]
+pub enum Argument {
+    /// The value of a formal of mode in.
+    ByValue(ValueExpression),
+    /// The variable of a formal of this subtype, of mode in out where the flag holds, and else out.
+    ByCopy(bool, Subtype, Reference),
+}
+
 /// A text, which is put out.
 #[derive(Drop, Debug)]
 pub enum TextExpression {
@@ -175,6 +184,10 @@ pub enum Statement {
     /// Raises the exception again that is being handled (RM 11.3(5)).
     RaiseAgain(Pos),
     Block(Box<BlockStatement>),
+    /// The procedure is left in which it stands (RM 6.5).
+    Return(Pos),
+    /// A call of the procedure whose unit has this number, with these arguments (RM 6.4).
+    ProcedureCall(Pos, usize, Vec<Argument>),
 }
 
 /// The condition and statements behind `if`, those behind each `elsif`, and the statements behind `else`, which are none where
@@ -265,15 +278,23 @@ pub struct Named {
     pub shown: Shown,
 }
 
-/// A typed program: its main procedure, which has blocks and `for` loops.
+/// A procedure's body (RM 6.3): how many frames it sees besides its own, the number of the table of its formals and
+/// variables, and where it begins.
+#[derive(Drop, Debug)]
+pub struct Unit {
+    pub level: usize,
+    pub region: usize,
+    pub at: Pos,
+    pub body: Body,
+}
+
+/// A typed program: its procedures, which have blocks and `for` loops.
 #[derive(Debug)]
 pub struct Program {
     pub name: Name,
-    /// Where its first word stands.
-    pub at: Pos,
-    pub body: Body,
-    /// The variables and constants of each frame, in the order of their declarations, by the frames' tables: the main
-    /// procedure's first.
+    /// The bodies of the procedures, in the order of their declarations: that of the main procedure first.
+    pub units: Vec<Unit>,
+    /// The formals, variables and constants of each frame, in the order of their declarations, by the frames' tables.
     pub regions: Vec<Vec<Named>>,
     /// The names of the exceptions that are declared, by their numbers.
     pub exceptions: Vec<Name>,
@@ -284,8 +305,7 @@ impl Drop for Program {
     fn drop(self) {
         let Program {
             name: _,
-            at: _,
-            body: _,
+            units: _,
             regions: _,
             exceptions: _,
         } = self;

@@ -24,7 +24,6 @@ use Rattle.aud_typed.specs.declared.program.Unary.{Unary}
 use Rattle.aud_typed.specs.declared.program.Unary.TheVariants as unary
 use Rattle.aud_typed.specs.declared.program.Binary.{Binary}
 use Rattle.aud_typed.specs.Tree as tree
-use Rattle.aud_typed.specs.Tree.{Plan}
 use Rattle.aud_typed.specs.Why.Scoped.{Scope, IsElaborated, AreElaborated, IntegerScoped, BooleanScoped, ValueScoped, TextScoped}
 use Rattle.aud_check.specs.declared.names.Array as array
 use Rattle.aud_check.specs.declared.names.Meaning.{Meaning}
@@ -42,7 +41,7 @@ use Rattle.aud_check.specs.Expressions.{Typed, number, boolean, string, unknown,
 use Rattle.aud_check.specs.Declarations as d
 use Rattle.aud_check.specs.Conditions as q
 use Rattle.aud_check.specs.Statements as s
-use Rattle.aud_check.proofs.Scoping.Names.{MeaningScoped, VisibleScoped, Sees, resolved_scoped}
+use Rattle.aud_check.proofs.Scoping.Names.{Known, MeaningScoped, VisibleScoped, Sees, resolved_scoped}
 
 -- nothing is said of an expression whose type is unknown
 abbrev pub TypedScoped : Scope → Typed → Type 0
@@ -52,12 +51,12 @@ TypedScoped scope (string x) = TextScoped x scope
 TypedScoped scope unknown = Unit {0}
 
 -- what a name denotes may be used
-abbrev pub EntityScoped : Plan → Scope → Entity → Type 0
-EntityScoped plan scope no_entity = Unit {0}
-EntityScoped plan scope (entity m) = MeaningScoped plan scope m
-EntityScoped plan scope (element_of a index t) = AreElaborated a scope × IntegerScoped index scope
+abbrev pub EntityScoped : Known → Scope → Entity → Type 0
+EntityScoped known scope no_entity = Unit {0}
+EntityScoped known scope (entity m) = MeaningScoped known scope m
+EntityScoped known scope (element_of a index t) = AreElaborated a scope × IntegerScoped index scope
 
-module _ (plan : Plan) (scope : Scope) where
+module _ (known : Known) (scope : Scope) where
   number_scoped : (x : Option ℤ) (at : Pos) → TypedScoped scope (e.checked_number x at).typed
   number_scoped None at = tt
   number_scoped (Some x) at = tt
@@ -132,26 +131,26 @@ module _ (plan : Plan) (scope : Scope) where
   element_scoped a index (Some Positive) h = h
   element_scoped a index (Some Boolean) h = h
 
-  meaning_scoped : (m : Meaning) → MeaningScoped plan scope m → TypedScoped scope (e.meaning_read m)
+  meaning_scoped : (m : Meaning) → MeaningScoped known scope m → TypedScoped scope (e.meaning_read m)
   meaning_scoped (Object o) h = stored_scoped o.variable o.subtype h
   meaning_scoped (Literal b) h = tt
   meaning_scoped _ h = tt
 
-  read_scoped : (x : Entity) → EntityScoped plan scope x → TypedScoped scope (e.value_read x)
+  read_scoped : (x : Entity) → EntityScoped known scope x → TypedScoped scope (e.value_read x)
   read_scoped no_entity h = tt
   read_scoped (entity m) h = meaning_scoped m h
   read_scoped (element_of a index t) h = element_scoped a index t h
 
-  element_with_scoped : (a : array.Array) (t : Typed) → AreElaborated (array_at a) scope → TypedScoped scope t → EntityScoped plan scope (e.element_with a t)
+  element_with_scoped : (a : array.Array) (t : Typed) → AreElaborated (array_at a) scope → TypedScoped scope t → EntityScoped known scope (e.element_with a t)
   element_with_scoped a (number index) h i = (h, i)
   element_with_scoped a _ h i = tt
 
-  array_scoped : (a : array.Array) (xs : plain.Args) (at : Pos) (last : Typed) → AreElaborated (array_at a) scope → TypedScoped scope last → EntityScoped plan scope (e.array_indexed a xs at last).entity
+  array_scoped : (a : array.Array) (xs : plain.Args) (at : Pos) (last : Typed) → AreElaborated (array_at a) scope → TypedScoped scope last → EntityScoped known scope (e.array_indexed a xs at last).entity
   array_scoped a plain.no_args at last h i = h
   array_scoped a (plain.more_args x plain.no_args) at last h i = element_with_scoped a last h i
   array_scoped a (plain.more_args x (plain.more_args y more)) at last h i = tt
 
-  indexed_scoped : (m : Option Meaning) (xs : plain.Args) (at : Pos) (last : Typed) → VisibleScoped plan scope m → TypedScoped scope last → EntityScoped plan scope (e.indexed m xs at last).entity
+  indexed_scoped : (m : Option Meaning) (xs : plain.Args) (at : Pos) (last : Typed) → VisibleScoped known scope m → TypedScoped scope last → EntityScoped known scope (e.indexed m xs at last).entity
   indexed_scoped None xs at last h i = tt
   indexed_scoped (Some (Array a)) xs at last h i = array_scoped a xs at last h i
   indexed_scoped (Some m) xs at last h i = h
@@ -176,7 +175,7 @@ module _ (plan : Plan) (scope : Scope) where
   image_with_scoped base designator None i = tt
   image_with_scoped base designator (Some a) i = image_of_type_scoped base a.1 i
 
-  any_image_scoped : (m : Meaning) (prefix designator : Pos) (a : Option (Pos × Typed)) → MeaningScoped plan scope m → IfSome a (λ x. TypedScoped scope x.1) → TypedScoped scope (e.image m prefix designator a).typed
+  any_image_scoped : (m : Meaning) (prefix designator : Pos) (a : Option (Pos × Typed)) → MeaningScoped known scope m → IfSome a (λ x. TypedScoped scope x.1) → TypedScoped scope (e.image m prefix designator a).typed
   any_image_scoped (ScalarType t) prefix designator a h i = image_with_scoped (rules.base_of_subtype t) designator a i
   any_image_scoped (Object o) prefix designator a h i = no_argument_scoped designator a _ (image_scoped (e.stored o.variable o.subtype) (stored_scoped o.variable o.subtype h))
   any_image_scoped (Literal b) prefix designator a h i = no_argument_scoped designator a _ tt
@@ -186,7 +185,7 @@ module _ (plan : Plan) (scope : Scope) where
   bound_scoped None prefix designator a = tt
   bound_scoped (Some x) prefix designator a = no_argument_scoped designator a _ tt
 
-  attribute_of_scoped : (x : Option Attribute) (m : Meaning) (prefix designator : Pos) (a : Option (Pos × Typed)) → MeaningScoped plan scope m → IfSome a (λ x. TypedScoped scope x.1) → TypedScoped scope (e.attribute_named x m prefix designator a).typed
+  attribute_of_scoped : (x : Option Attribute) (m : Meaning) (prefix designator : Pos) (a : Option (Pos × Typed)) → MeaningScoped known scope m → IfSome a (λ x. TypedScoped scope x.1) → TypedScoped scope (e.attribute_named x m prefix designator a).typed
   attribute_of_scoped None m prefix designator a h i = tt
   attribute_of_scoped (Some Image) m prefix designator a h i = any_image_scoped m prefix designator a h i
   attribute_of_scoped (Some First) m prefix designator a h i = bound_scoped (e.first_of m) prefix designator a
@@ -199,7 +198,7 @@ module _ (plan : Plan) (scope : Scope) where
   element_attribute_scoped (Some Image) t prefix designator a h = no_argument_scoped designator a _ (image_scoped t h)
   element_attribute_scoped (Some _) t prefix designator a h = tt
 
-  attribute_scoped : (x : Entity) (prefix : Pos) (designator : Ident) (a : Option (Pos × Typed)) → EntityScoped plan scope x → IfSome a (λ x. TypedScoped scope x.1) → TypedScoped scope (e.attribute_if x prefix designator a).typed
+  attribute_scoped : (x : Entity) (prefix : Pos) (designator : Ident) (a : Option (Pos × Typed)) → EntityScoped known scope x → IfSome a (λ x. TypedScoped scope x.1) → TypedScoped scope (e.attribute_if x prefix designator a).typed
   attribute_scoped no_entity prefix designator a h i = tt
   attribute_scoped (entity m) prefix designator a h i = attribute_of_scoped (lookup (bytes_eq designator.name) e.attributes) m prefix designator.at a h i
   attribute_scoped (element_of v index t) prefix designator a h i = element_attribute_scoped (lookup (bytes_eq designator.name) e.attributes) (e.stored_at v index t) prefix designator.at a (element_scoped v index t h)
@@ -226,32 +225,32 @@ module _ (plan : Plan) (scope : Scope) where
   whole_scoped (number x) h = h
   whole_scoped _ h = tt
 
-module _ (plan : Plan) (scope : Scope) (n : Place) (sees : Sees plan scope n) where
-  pub denoting_scoped : (x : plain.Name) (last : Typed) → TypedScoped scope last → EntityScoped plan scope (e.denoting x last n).entity
-  denoting_scoped x last h = indexed_scoped plan scope (resolution.resolved x n).denoted.meaning (resolution.last_args x) (resolution.resolved x n).denoted.at last (resolved_scoped plan scope n sees x) h
+module _ (known : Known) (scope : Scope) (n : Place) (sees : Sees known scope n) where
+  pub denoting_scoped : (x : plain.Name) (last : Typed) → TypedScoped scope last → EntityScoped known scope (e.denoting x last n).entity
+  denoting_scoped x last h = indexed_scoped known scope (resolution.resolved x n).denoted.meaning (resolution.last_args x) (resolution.resolved x n).denoted.at last (resolved_scoped known scope n sees x) h
 
   mutual
     pub expression_scoped : (x : plain.Expression) → TypedScoped scope (e.checked_expression x n).typed
     expression_scoped (plain.alone x) = relation_scoped x
-    expression_scoped (plain.connected c x y xs) = relations_scoped xs c _ _ (both_scoped plan scope c _ _ (relation_scoped x) (relation_scoped y))
+    expression_scoped (plain.connected c x y xs) = relations_scoped xs c _ _ (both_scoped known scope c _ _ (relation_scoped x) (relation_scoped y))
 
     relations_scoped : (x : plain.Relations) (c : Connective) (at : Pos) (left : Typed) → TypedScoped scope left → TypedScoped scope (e.checked_relations x n c at left).typed
     relations_scoped plain.no_relations c at left h = h
-    relations_scoped (plain.more_relations x rest) c at left h = relations_scoped rest c at _ (both_scoped plan scope c left _ h (relation_scoped x))
+    relations_scoped (plain.more_relations x rest) c at left h = relations_scoped rest c at _ (both_scoped known scope c left _ h (relation_scoped x))
 
     relation_scoped : (x : plain.Relation) → TypedScoped scope (e.checked_relation x n).typed
     relation_scoped (plain.unrelated x) = simple_scoped x
-    relation_scoped (plain.related operator x y) = compared_scoped plan scope operator _ _ (simple_scoped x) (simple_scoped y)
+    relation_scoped (plain.related operator x y) = compared_scoped known scope operator _ _ (simple_scoped x) (simple_scoped y)
 
     simple_scoped : (x : plain.Simple) → TypedScoped scope (e.checked_simple x n).typed
-    simple_scoped (plain.simple x t rest) = addeds_scoped rest _ _ (signed_scoped plan scope x _ _ (term_scoped t))
+    simple_scoped (plain.simple x t rest) = addeds_scoped rest _ _ (signed_scoped known scope x _ _ (term_scoped t))
 
     addeds_scoped : (x : plain.Addeds) (at : Pos) (left : Typed) → TypedScoped scope left → TypedScoped scope (e.checked_addeds x n at left).typed
     addeds_scoped plain.no_addeds at left h = h
     addeds_scoped (plain.more_addeds x rest) at left h = addeds_scoped rest at _ (added_scoped x at left h)
 
     added_scoped : (x : plain.Added) (at : Pos) (left : Typed) → TypedScoped scope left → TypedScoped scope (e.checked_added x n at left).typed
-    added_scoped (plain.added operator t) at left h = adding_scoped plan scope operator at left _ _ h (term_scoped t)
+    added_scoped (plain.added operator t) at left h = adding_scoped known scope operator at left _ _ h (term_scoped t)
 
     term_scoped : (x : plain.Term) → TypedScoped scope (e.checked_term x n).typed
     term_scoped (plain.term f rest) = multiplieds_scoped rest _ _ (factor_scoped f)
@@ -261,22 +260,22 @@ module _ (plan : Plan) (scope : Scope) (n : Place) (sees : Sees plan scope n) wh
     multiplieds_scoped (plain.more_multiplieds x rest) at left h = multiplieds_scoped rest at _ (multiplied_scoped x at left h)
 
     multiplied_scoped : (x : plain.Multiplied) (at : Pos) (left : Typed) → TypedScoped scope left → TypedScoped scope (e.checked_multiplied x n at left).typed
-    multiplied_scoped (plain.multiplied operator f) at left h = combined_scoped plan scope _ left _ h (factor_scoped f)
+    multiplied_scoped (plain.multiplied operator f) at left h = combined_scoped known scope _ left _ h (factor_scoped f)
 
     factor_scoped : (x : plain.Factor) → TypedScoped scope (e.checked_factor x n).typed
     factor_scoped (plain.factor None p) = primary_scoped p
-    factor_scoped (plain.factor (Some operator) p) = highest_scoped plan scope operator.highest _ _ (primary_scoped p)
+    factor_scoped (plain.factor (Some operator) p) = highest_scoped known scope operator.highest _ _ (primary_scoped p)
 
     primary_scoped : (x : plain.Primary) → TypedScoped scope (e.checked_primary x n).typed
-    primary_scoped (plain.integer x) = number_scoped plan scope x.value x.at
+    primary_scoped (plain.integer x) = number_scoped known scope x.value x.at
     primary_scoped (plain.text x) = tt
-    primary_scoped (plain.name x) = read_scoped plan scope _ (denoting_scoped x _ (arguments_scoped x))
+    primary_scoped (plain.name x) = read_scoped known scope _ (denoting_scoped x _ (arguments_scoped x))
     primary_scoped (plain.attribute x designator argument) = argument_scoped argument (e.denoting x (e.checked_arguments x n).typed n) designator (denoting_scoped x _ (arguments_scoped x))
     primary_scoped (plain.group at x) = expression_scoped x
 
-    argument_scoped : (x : plain.MaybeExpression) (prefix : Denoting) (designator : Ident) → EntityScoped plan scope prefix.entity → TypedScoped scope (e.checked_image x n prefix designator).typed
-    argument_scoped plain.no_expression prefix designator h = attribute_scoped plan scope prefix.entity prefix.at designator None h tt
-    argument_scoped (plain.an_expression x) prefix designator h = attribute_scoped plan scope prefix.entity prefix.at designator (Some (e.expression_at x, (e.checked_expression x n).typed)) h (expression_scoped x)
+    argument_scoped : (x : plain.MaybeExpression) (prefix : Denoting) (designator : Ident) → EntityScoped known scope prefix.entity → TypedScoped scope (e.checked_image x n prefix designator).typed
+    argument_scoped plain.no_expression prefix designator h = attribute_scoped known scope prefix.entity prefix.at designator None h tt
+    argument_scoped (plain.an_expression x) prefix designator h = attribute_scoped known scope prefix.entity prefix.at designator (Some (e.expression_at x, (e.checked_expression x n).typed)) h (expression_scoped x)
 
     pub arguments_scoped : (x : plain.Name) → TypedScoped scope (e.checked_arguments x n).typed
     arguments_scoped (plain.named p ps) = parts_scoped ps _ (part_scoped p unknown tt)
@@ -294,11 +293,11 @@ module _ (plan : Plan) (scope : Scope) (n : Place) (sees : Sees plan scope n) wh
 
   -- the initial value of a declaration
   pub initial_scoped : (x : plain.MaybeExpression) (t : Option Subtype) → ValueScoped (d.initial_value x t n) scope
-  initial_scoped plain.no_expression t = default_scoped plan scope (d.known t)
-  initial_scoped (plain.an_expression x) t = value_scoped plan scope (d.known t) (e.checked_expression x n).typed (expression_scoped x)
+  initial_scoped plain.no_expression t = default_scoped known scope (d.known t)
+  initial_scoped (plain.an_expression x) t = value_scoped known scope (d.known t) (e.checked_expression x n).typed (expression_scoped x)
 
   pub condition_scoped : (x : plain.Expression) → BooleanScoped (q.condition x n) scope
-  condition_scoped x = truth_scoped plan scope (e.checked_expression x n).typed (expression_scoped x)
+  condition_scoped x = truth_scoped known scope (e.checked_expression x n).typed (expression_scoped x)
 
   pub maybe_condition_scoped : (x : plain.MaybeExpression) → BooleanScoped (q.maybe_condition x n) scope
   maybe_condition_scoped plain.no_expression = tt
@@ -306,4 +305,4 @@ module _ (plan : Plan) (scope : Scope) (n : Place) (sees : Sees plan scope n) wh
 
   -- a bound of a loop's parameter
   pub bound_of_scoped : (x : plain.Simple) → IntegerScoped (s.bound_of x n) scope
-  bound_of_scoped x = whole_scoped plan scope (e.checked_simple x n).typed (simple_scoped x)
+  bound_of_scoped x = whole_scoped known scope (e.checked_simple x n).typed (simple_scoped x)

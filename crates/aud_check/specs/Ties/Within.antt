@@ -7,6 +7,7 @@ use Rattle.aud_typed.specs.declared.program.Statement as memory
 use Rattle.aud_typed.specs.Ties.View.{plain_statement}
 use Rattle.aud_check.specs.declared.fault.Fault.{Fault}
 use Rattle.aud_check.specs.declared.within.Within.{Within}
+use Rattle.aud_check.specs.declared.within.Entering.{Entering}
 use Rattle.aud_check.specs.Least.{noted}
 use Rattle.aud_check.specs.Tables.{Tables, Outcome}
 use Rattle.aud_check.specs.Statements.{Around, checked_statement}
@@ -16,6 +17,9 @@ use Rattle.aud_check.specs.Ties.Typing.{in_box}
 -- the constructs around a statement
 abbrev pub around_of : Within → Around
 around_of within = record { labels = plain_labels within.labels.now; in_handler = within.in_handler }
+
+abbrev pub around_entering : Entering → Around
+around_entering entering = record { labels = plain_labels entering.labels.now; in_handler = entering.in_handler }
 
 -- the faults are noted, these are the tables, and this is made; nothing is said where memory is refused
 abbrev pub Checks : {X Y : Type 0} → (X → Y) → Result X AllocError → Option Fault → Option Fault → Tables → Outcome Y → Type 0

@@ -1,19 +1,20 @@
--- A program under way that is its main procedure alone: no task, call or object was ever created.
-use Rattle.std.specs.Prelude.{ℕ, zero, suc, List, [], ◌∷◌, ◌++◌, Option, None, Some, Bool, if◌then◌else◌}
+-- A program under way that is its main procedure alone, and those that it calls: no task, entry call or object was ever created.
+use Rattle.std.specs.Prelude.{◌≡◌, ℕ, zero, suc, List, [], ◌∷◌, ◌++◌, Option, None, Some, Bool, false, if◌then◌else◌, slice_index_or}
 use Rattle.aud_text.specs.declared.place.Pos.{Pos}
+use Rattle.aud_text.specs.declared.raise.Raise.{Raise}
 use Rattle.aud_typed.specs.declared.program.Exception.{Exception}
-use Rattle.aud_typed.specs.Tree.{Plan}
+use Rattle.aud_typed.specs.declared.program.Exception.TheVariants.{Predefined}
 use Rattle.aud_meaning.specs.declared.state.Status.TheVariants.{Running, Completed}
-use Rattle.aud_meaning.specs.Configuration.{Frame, Pending, Purpose, for_body, for_block, for_loop, Opened, Own, All}
+use Rattle.aud_meaning.specs.Configuration.{Frame, Pending, Target, Back, Returning, Purpose, for_body, for_block, for_loop, for_procedure, Opened, Own, All}
 use Rattle.aud_meaning.specs.Control.{Scene}
-use Rattle.aud_meaning.specs.Effects.{changed_first, is_loop}
+use Rattle.aud_meaning.specs.Effects.{changed_first, is_loop, CopiedBack, copied_back}
 use Rattle.aud_meaning.specs.Parts.{nobody, facts_in}
 
--- how far its main procedure is
+-- how far it is
 pub data Stage : Type 0 where
-  -- it does its declarations and statements, with this exception pending
+  -- declarations and statements are done, with this exception pending
   runs : Option Pending → Stage
-  -- its body has ended, by this exception
+  -- the main procedure's body has ended, by this exception
   completed : Option Exception → Stage
   terminated : Option Exception → Stage
 
@@ -39,11 +40,17 @@ pub record Single (C : Type 0) : Type 0 where
   pub clock : ℕ
   pub steps : ℕ
 
+-- a procedure's end gives back no value
+pub record IsOfProcedure (r : Returning) : Type 0 where
+  pub plain : r.is_function ≡ false
+  pub no_value : r.value ≡ None
+
 -- all that such a program opens
 abbrev pub IsOpenedAlone : Purpose → Type 0
 IsOpenedAlone for_body = Unit {0}
 IsOpenedAlone for_block = Unit {0}
 IsOpenedAlone for_loop = Unit {0}
+IsOpenedAlone (for_procedure r) = IsOfProcedure r
 IsOpenedAlone purpose = ⊥
 
 abbrev pub AreOpenedAlone : List Opened → Type 0
@@ -73,12 +80,29 @@ out_of_loops_by (o ∷ os) s = if is_loop o.purpose then out_of_loops_by os (rec
 abbrev pub out_of_loops : Stack → Stack
 out_of_loops s = out_of_loops_by s.opened s
 
--- a frame of this number is opened, in which so many names are elaborated
-abbrev pub opens : Purpose → ℕ → ℕ → Pos → ℕ → Stack → Stack
-opens purpose frame region at elaborated s = record {
-  display = s.display ++ frame ∷ [];
+-- a frame of this number is opened, in which so many names are elaborated, seen after those of a display
+abbrev pub opens_after : Purpose → ℕ → ℕ → Pos → ℕ → List ℕ → Stack → Stack
+opens_after purpose frame region at elaborated display s = record {
+  display = display ++ frame ∷ [];
   opened = record { frame = frame; region = region; elaborated = elaborated; handling = None; saved = s.display; at = at; purpose = purpose } ∷ s.opened;
 }
+
+-- after all that are seen
+abbrev pub opens : Purpose → ℕ → ℕ → Pos → ℕ → Stack → Stack
+opens purpose frame region at elaborated s = opens_after purpose frame region at elaborated s.display s
+
+-- what the end of a procedure does
+abbrev pub returning : List Back → Option Target → Returning
+returning backs into = record { is_function = false; backs = backs; into = into; value = None }
+
+-- formals of this frame are copied back (RM 6.4.1(17))
+abbrev pub given_back : List Back → ℕ → List Frame → CopiedBack
+given_back backs frame frames = copied_back (slice_index_or frames frame []) backs frames
+
+-- where a check fails, its exception is pending at the call
+abbrev pub failed_at : Pos → Option Raise → Option Pending
+failed_at at None = None
+failed_at at (Some raise) = Some (record { exception = Predefined raise; at = at })
 
 -- the innermost one is changed
 abbrev pub on_innermost : (Opened → Opened) → Stack → Stack

@@ -14,6 +14,9 @@ use Rattle.aud_syntax.specs.declared.tree.Relation.{Relation}
 use Rattle.aud_syntax.specs.declared.tree.Expression.{Expression}
 use Rattle.aud_syntax.specs.declared.tree.Name.{Name}
 use Rattle.aud_syntax.specs.declared.tree.NamePart.{NamePart}
+use Rattle.aud_syntax.specs.declared.tree.Mode.{Mode}
+use Rattle.aud_syntax.specs.declared.tree.Mode.TheVariants as mode
+use Rattle.aud_syntax.specs.declared.tree.Formal.{Formal}
 use Rattle.aud_syntax.specs.declared.tree.Declaration.{Declaration}
 use Rattle.aud_syntax.specs.declared.tree.Statement.{Statement}
 use Rattle.aud_syntax.specs.declared.tree.Statements.{Statements}
@@ -25,8 +28,8 @@ use Rattle.aud_syntax.specs.declared.tree.Handler.{Handler}
 use Rattle.aud_syntax.specs.declared.tree.Body.{Body}
 use Rattle.aud_syntax.specs.declared.tree.Context.{Context}
 use Rattle.aud_syntax.specs.declared.tree.Unit as declared
-use Rattle.aud_syntax.specs.Ties.View.{plain_expression, plain_boxed, plain_maybe, plain_expressions, plain_part, plain_name, plain_primary, plain_factor, plain_multiplied, plain_term, plain_added, plain_simple, plain_relation, plain_declaration, plain_declarations, plain_statement, plain_statements, plain_iteration, plain_choices, plain_body, plain_context, plain_unit}
-use Rattle.aud_parse.specs.Actions.{Item, none, cons, in_parens, an_attribute, some_args, a_part, a_name, a_primary, a_factor, a_multiplied, a_term, an_added, a_simple, a_relation, an_expression, assigned, called, some_names, a_variable, a_constant, a_declaration, a_statement, some_statements, a_body, a_context, a_unit, an_arm, an_iteration, a_bound, an_index, an_array, a_declare, some_choices, a_handler}
+use Rattle.aud_syntax.specs.Ties.View.{plain_expression, plain_boxed, plain_maybe, plain_expressions, plain_part, plain_name, plain_primary, plain_factor, plain_multiplied, plain_term, plain_added, plain_simple, plain_relation, plain_formal, plain_declaration, plain_declarations, plain_statement, plain_statements, plain_iteration, plain_choices, plain_body, plain_context, plain_unit}
+use Rattle.aud_parse.specs.Actions.{Item, none, cons, an_ident, in_parens, an_attribute, some_args, a_part, a_name, a_primary, a_factor, a_multiplied, a_term, an_added, a_simple, a_relation, an_expression, assigned, called, some_names, a_variable, a_constant, a_declaration, a_statement, some_statements, a_body, a_context, a_unit, an_arm, an_iteration, a_bound, an_index, an_array, a_mode, a_formal, a_declare, some_choices, a_handler}
 
 abbrev pub list_item : {X : Type 0} → (X → Item) → List X → Item
 list_item f [] = none
@@ -112,8 +115,25 @@ index_item x = an_index x.0.value x.1.value
 abbrev pub array_item : (Box Bound Global × Box Bound Global) × Ident → Item
 array_item x = an_array x.0.0.value x.0.1.value x.1
 
+-- how formal parameters are passed, nothing where that is not written
+abbrev pub mode_item : Mode → Item
+mode_item mode.Unstated = none
+mode_item (mode.In at) = a_mode (mode.In at)
+mode_item (mode.Out at) = a_mode (mode.Out at)
+mode_item (mode.InOut at) = a_mode (mode.InOut at)
+
+abbrev pub formal_item : Formal → Item
+formal_item x = a_formal (plain_formal x)
+
+-- the name and the formal parameters of a procedure
+abbrev pub specification_items : Ident × Vec Formal Global → List Item
+specification_items x = an_ident x.0 ∷ vec_item formal_item x.1 ∷ []
+
 abbrev pub declaration_item : Declaration → Item
 declaration_item x = a_declaration (plain_declaration x)
+
+abbrev pub boxed_declaration_item : Box Declaration Global → Item
+boxed_declaration_item b = declaration_item b.value
 
 abbrev pub statement_item : Statement → Item
 statement_item x = a_statement (plain_statement x)

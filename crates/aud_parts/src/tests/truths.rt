@@ -400,10 +400,10 @@ fn puts(
     code: &SoundCode,
     wanted: &[u8],
 ) -> Result<(), AllocError> {
-    let mut progress = Progress::new(code, Pos { line: 1, col: 1 }, alloc)?;
+    let mut progress = Progress::new(code, &[], alloc)?;
     let mut operands = Operands::new(alloc);
     let few = (STEPS - progress.steps()).min(100);
-    let ran = run(&mut progress, code, &mut operands, few)?;
+    let ran = run(&mut progress, code, &[], &mut operands, few)?;
     assert_eq!(rt; ran.steps, 4, "{name}");
     finds(rt, name, progress.output(), wanted);
     Ok(())

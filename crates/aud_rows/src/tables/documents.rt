@@ -3,7 +3,7 @@
 use crate::case::Case;
 
 /// The programs of docs/LANGUAGE.md.
-pub const PROGRAMS: [Case; 5] = [
+pub const PROGRAMS: [Case; 6] = [
     Case {
         name: "a variable and a line of output",
         sent: b"LOAD 6\n\
@@ -136,6 +136,34 @@ pub const PROGRAMS: [Case; 5] = [
             bytes 11\n\
             once\n\
             twice\n",
+    },
+    Case {
+        name: "a procedure that changes its arguments",
+        sent: b"LOAD 15\n\
+            procedure Sorted is\n\
+            \x20\x20\x20A : Integer := 3;\n\
+            \x20\x20\x20B : Integer := 1;\n\
+            \x20\x20\x20procedure Swap (X, Y : in out Integer) is\n\
+            \x20\x20\x20\x20\x20\x20Old : constant Integer := X;\n\
+            \x20\x20\x20begin\n\
+            \x20\x20\x20\x20\x20\x20X := Y;\n\
+            \x20\x20\x20\x20\x20\x20Y := Old;\n\
+            \x20\x20\x20end Swap;\n\
+            begin\n\
+            \x20\x20\x20if A > B then\n\
+            \x20\x20\x20\x20\x20\x20Swap (A, B);\n\
+            \x20\x20\x20end if;\n\
+            \x20\x20\x20Put_Line (A'Image & B'Image);\n\
+            end Sorted;\n\
+            RUN 100\n\
+            OUTPUT\n",
+        written: b"+ 1\n\
+            loaded SORTED\n\
+            + 1\n\
+            ran 11 ended\n\
+            + 2\n\
+            bytes 5\n\
+            \x201 3\n",
     },
 ];
 

@@ -361,21 +361,19 @@ pub const LOGIC: [Case; 4] = [
 /// What the language does not have so far.
 pub const LATER: [Case; 5] = [
     Case {
-        name: "no cases, and no statements of tasks and procedures",
+        name: "no cases, and no statements of tasks",
         sent: b"LOAD 1\n\
-            procedure M is begin return; end M;\n\
-            LOAD 1\n\
             procedure M is begin delay 1.0; end M;\n\
             LOAD 1\n\
             procedure M is begin case X is end case; end M;\n",
-        written: b"- E21 1:22 syntax\n- E21 1:22 syntax\n- E21 1:22 syntax\n",
+        written: b"- E21 1:22 syntax\n- E21 1:22 syntax\n",
     },
     Case {
-        name: "no declarations of tasks, procedures and types, and no ranges in others",
+        name: "no declarations of tasks, functions and types, and no ranges in others",
         sent: b"LOAD 1\n\
             procedure M is task T; begin null; end M;\n\
             LOAD 1\n\
-            procedure M is procedure P is begin null; end P; begin null; end M;\n\
+            procedure M is function F return T is begin null; end F; begin null; end M;\n\
             LOAD 1\n\
             procedure M is type T is new Integer; begin null; end M;\n\
             LOAD 1\n\
@@ -383,7 +381,7 @@ pub const LATER: [Case; 5] = [
         written: b"- E21 1:16 syntax\n- E21 1:16 syntax\n- E21 1:16 syntax\n- E21 1:28 syntax\n",
     },
     Case {
-        name: "no formal parameters",
+        name: "no formal parameters of a program",
         sent: b"LOAD 1\n\
             procedure M (X : Integer) is begin null; end M;\n",
         written: b"- E21 1:13 syntax\n",

@@ -4,13 +4,15 @@ use crate::tests::answers::says;
 use crate::tests::finds;
 use aud_bench::loading::{LoadFault, load};
 use aud_text::limits::STANDARD;
+use aud_text::place::Pos;
 use aud_typed::program::Program;
 use std::alloc::{AllocError, Global};
 use std::process::Abort;
 
 // What is told of a typed program: how many variables its main procedure has, and where its end stands.
 fn told(alloc: Global, program: &Program) -> Result<String, AllocError> {
-    let end = program.body.end;
+    let end = program.units.first().map(|unit| unit.body.end);
+    let end = end.unwrap_or(Pos { line: 0, col: 0 });
     let count = match program.regions.first() {
         Some(region) => region.len(),
         None => 0,

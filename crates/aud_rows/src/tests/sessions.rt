@@ -2,9 +2,10 @@
 
 use crate::case::{Case, LongCase, spelled};
 use crate::tables::{
-    arrays, arrays_checked, blocks, blocks_checked, checks, constructs, control, documents,
-    exceptions, exceptions_checked, frames, fused, iterations, iterations_checked, lexis, limits,
-    lines, logic, rows, runs, subtypes, syntax, types, values,
+    arguments, arrays, arrays_checked, blocks, blocks_checked, calls_checked, checks, constructs,
+    control, documents, exceptions, exceptions_checked, frames, fused, iterations,
+    iterations_checked, lexis, limits, lines, logic, procedure_levels, procedures,
+    procedures_checked, recursion, returns, rows, runs, subtypes, syntax, types, values,
 };
 use aud_server::solo::{SoloFault, solo};
 use std::alloc::Global;
@@ -86,19 +87,20 @@ fn reads_tokens(rt: HostRuntime) -> Result<(), SoloFault> {
 #[test]
 fn finds_syntax_faults(rt: HostRuntime) -> Result<(), SoloFault> {
     meets(&rt, rt.alloc(), &syntax::TABLES)?;
-    let tables: [&[Case]; 5] = [
+    let tables: [&[Case]; 6] = [
         &constructs::SYNTAX,
         &blocks_checked::SYNTAX,
         &exceptions_checked::SYNTAX,
         &iterations_checked::SYNTAX,
         &arrays_checked::SYNTAX,
+        &procedures_checked::SYNTAX,
     ];
     meets(&rt, rt.alloc(), &tables)
 }
 
 #[test]
 fn finds_broken_rules(rt: HostRuntime) -> Result<(), SoloFault> {
-    let tables: [&[Case]; 10] = [
+    let tables: [&[Case]; 13] = [
         &checks::NAMES,
         &checks::TYPES,
         &checks::SEVERAL,
@@ -109,6 +111,9 @@ fn finds_broken_rules(rt: HostRuntime) -> Result<(), SoloFault> {
         &exceptions_checked::CHECKS,
         &iterations_checked::CHECKS,
         &arrays_checked::CHECKS,
+        &procedures_checked::NAMES,
+        &calls_checked::ARGUMENTS,
+        &calls_checked::PLACES,
     ];
     meets(&rt, rt.alloc(), &tables)
 }
@@ -178,6 +183,38 @@ fn goes_through_ranges(rt: HostRuntime) -> Result<(), SoloFault> {
 fn keeps_elements(rt: HostRuntime) -> Result<(), SoloFault> {
     let tables: [&[Case]; 3] = [&arrays::ELEMENTS, &arrays::BOUNDS, &arrays::RAISED];
     meets(&rt, rt.alloc(), &tables)
+}
+
+#[test]
+fn calls_procedures(rt: HostRuntime) -> Result<(), SoloFault> {
+    meets(&rt, rt.alloc(), &[&procedures::CALLS, &procedures::FORMALS])
+}
+
+#[test]
+fn passes_arguments(rt: HostRuntime) -> Result<(), SoloFault> {
+    let tables: [&[Case]; 3] = [&arguments::RANGES, &arguments::TARGETS, &arguments::COPIES];
+    meets(&rt, rt.alloc(), &tables)
+}
+
+#[test]
+fn calls_again(rt: HostRuntime) -> Result<(), SoloFault> {
+    meets(
+        &rt,
+        rt.alloc(),
+        &[&recursion::RECURSIVE, &recursion::NESTED],
+    )?;
+    meets_long(&rt, rt.alloc(), &recursion::DEEP)
+}
+
+#[test]
+fn leaves_procedures(rt: HostRuntime) -> Result<(), SoloFault> {
+    meets(&rt, rt.alloc(), &[&returns::RETURNS, &returns::RAISED])
+}
+
+#[test]
+fn nests_procedures(rt: HostRuntime) -> Result<(), SoloFault> {
+    meets_long(&rt, rt.alloc(), &procedure_levels::LEVELS)?;
+    meets_long(&rt, rt.alloc(), &procedure_levels::WIDE)
 }
 
 #[test]

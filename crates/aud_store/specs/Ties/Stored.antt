@@ -1,14 +1,15 @@
--- What is kept of the frames of a program that is its main procedure alone.
-use Rattle.std.specs.Prelude.{◌≡◌, ◌<◌, ℕ, suc, ℤ, pos, List, [], ◌∷◌, ◌++◌, length, All, Option, Some, None, Bool, false, slice_index_or}
+-- What is kept of the frames of a program of one task.
+use Rattle.std.specs.Prelude.{◌≡◌, ◌<◌, ◌-◌, ℕ, suc, ℤ, pos, List, [], ◌∷◌, ◌++◌, length, min, take, drop, All, Option, Some, None, Bool, false, slice_index_or}
 use Rattle.aud_text.specs.declared.place.Pos.{Pos}
 use Rattle.aud_typed.specs.declared.program.Exception.{Exception}
-use Rattle.aud_meaning.specs.Configuration.{Frame, Opened, for_body, for_block, for_loop}
+use Rattle.aud_meaning.specs.Configuration.{Frame, Back, Target, Opened, for_body, for_block, for_loop, for_procedure, for_operation, for_entry, for_accept}
 use Rattle.aud_meaning.specs.Configuration as meaning
 use Rattle.aud_meaning.specs.Effects.{innermost, is_loop, assigned}
-use Rattle.aud_meaning.specs.Ties.Single.{Stack, AreOpenedAlone, on_innermost, opens}
+use Rattle.aud_meaning.specs.Ties.Single.{Stack, AreOpenedAlone, on_innermost, opens_after, returning}
 use Rattle.aud_store.specs.declared.stack.Purpose.{Purpose}
-use Rattle.aud_store.specs.declared.stack.Purpose.TheVariants.{Body, Block, Loop}
+use Rattle.aud_store.specs.declared.stack.Purpose.TheVariants.{Body, Block, Loop, Procedure}
 use Rattle.aud_store.specs.declared.stack.Open.{Open}
+use Rattle.aud_store.specs.Ties.Display.{Display, placed, stands}
 use Rattle.aud_store.specs.Ties.Frames.{with_frame}
 
 -- all frames ever made, and those that are open
@@ -16,28 +17,86 @@ pub record Stored : Type 0 where
   pub frames : List Frame
   pub stack : Stack
 
-abbrev pub plain_purpose : Purpose → meaning.Purpose
-plain_purpose Body = for_body
-plain_purpose Block = for_block
-plain_purpose Loop = for_loop
+-- a procedure's end copies these back
+abbrev pub plain_purpose : Purpose → List Back → meaning.Purpose
+plain_purpose Body backs = for_body
+plain_purpose Block backs = for_block
+plain_purpose Loop backs = for_loop
+plain_purpose (Procedure level copies into) backs = for_procedure (returning backs into)
+
+-- how many it copies back
+abbrev pub copies_of : Purpose → ℕ
+copies_of (Procedure level copies into) = copies
+copies_of purpose = 0
+
+-- of the frames that are seen, those that are seen from a frame that is opened for this, and how many they are
+abbrev pub kept_by : Purpose → List ℕ → List ℕ
+kept_by (Procedure level copies into) seen = take level seen
+kept_by purpose seen = seen
+
+abbrev pub kept_of : Purpose → ℕ → ℕ
+kept_of (Procedure level copies into) n = min level n
+kept_of purpose n = n
 
 -- the frames that are seen from the first of these, which is the innermost one
 abbrev pub seen_from : List Open → List ℕ
 seen_from [] = []
-seen_from (o ∷ os) = seen_from os ++ o.frame ∷ []
+seen_from (o ∷ os) = kept_by o.purpose (seen_from os) ++ o.frame ∷ []
 
--- with those that were seen before it was opened
-abbrev pub plain_open : Open → List ℕ → Opened
-plain_open o saved = record { frame = o.frame; region = o.region; elaborated = o.elaborated; handling = o.handling; saved = saved; at = o.at; purpose = plain_purpose o.purpose }
+-- of copies of all calls, the last of which are the innermost frame's: those, and the others
+abbrev pub own_backs : Purpose → List Back → List Back
+own_backs purpose backs = drop (length backs - copies_of purpose) backs
 
-abbrev pub plain_opened : List Open → List Opened
-plain_opened [] = []
-plain_opened (o ∷ os) = plain_open o (seen_from os) ∷ plain_opened os
+abbrev pub outer_backs : Purpose → List Back → List Back
+outer_backs purpose backs = take (length backs - copies_of purpose) backs
+
+-- with the frames that were seen before it was opened, and its copies
+abbrev pub plain_open : Open → List ℕ → List Back → Opened
+plain_open o saved backs = record { frame = o.frame; region = o.region; elaborated = o.elaborated; handling = o.handling; saved = saved; at = o.at; purpose = plain_purpose o.purpose backs }
+
+abbrev pub plain_opened : List Open → List Back → List Opened
+plain_opened [] backs = []
+plain_opened (o ∷ os) backs = plain_open o (seen_from os) (own_backs o.purpose backs) ∷ plain_opened os (outer_backs o.purpose backs)
+
+-- the numbers as these were opened one after the other
+abbrev pub display_of : List Open → Display
+display_of [] = record { numbers = []; count = 0 }
+display_of (o ∷ os) = placed (kept_of o.purpose (display_of os).count) o.frame (display_of os)
+
+-- each knows what its number stands in place of
+abbrev pub AreReplaced : List Open → Type 0
+AreReplaced [] = Unit {0}
+AreReplaced (o ∷ os) = (o.replaced ≡ stands (kept_of o.purpose (display_of os).count) (display_of os)) × AreReplaced os
 
 -- the innermost open frame
 abbrev pub IsInnermost : Option Open → List Opened → Type 0
 IsInnermost None os = os ≡ []
-IsInnermost (Some o) os = (saved : List ℕ) × ((outer : List Opened) × (os ≡ plain_open o saved ∷ outer))
+IsInnermost (Some o) os = (saved : List ℕ) × ((backs : List Back) × ((outer : List Opened) × (os ≡ plain_open o saved backs ∷ outer)))
+
+-- what the innermost one copies back
+abbrev pub purpose_backs : meaning.Purpose → List Back
+purpose_backs for_body = []
+purpose_backs for_block = []
+purpose_backs for_loop = []
+purpose_backs (for_procedure r) = r.backs
+purpose_backs (for_operation n r) = []
+purpose_backs (for_entry n i s b) = []
+purpose_backs (for_accept i) = []
+
+abbrev pub innermost_backs : List Opened → List Back
+innermost_backs [] = []
+innermost_backs (o ∷ os) = purpose_backs o.purpose
+
+-- it was opened within a body
+abbrev pub IsInner : Purpose → Type 0
+IsInner Block = Unit {0}
+IsInner Loop = Unit {0}
+IsInner purpose = ⊥
+
+-- it was opened for a procedure
+abbrev pub IsProcedure : Purpose → Type 0
+IsProcedure (Procedure level copies into) = Unit {0}
+IsProcedure purpose = ⊥
 
 -- it is a loop's
 abbrev pub is_in_loop : List Opened → Bool
@@ -50,12 +109,20 @@ with_handling exception s = on_innermost (λ o. record o { handling = Some excep
 abbrev pub with_elaborated : ℕ → Stack → Stack
 with_elaborated elaborated s = on_innermost (λ o. record o { elaborated = elaborated }) s
 
--- a frame with these cells is opened
-abbrev pub entered : meaning.Purpose → ℕ → Pos → List ℤ → ℕ → Stored → Stored
-entered purpose region at cells elaborated s = record {
+-- a frame with these cells is opened, seen after those of a display
+abbrev pub entered_after : meaning.Purpose → ℕ → Pos → List ℤ → ℕ → List ℕ → Stored → Stored
+entered_after purpose region at cells elaborated display s = record {
   frames = s.frames ++ cells ∷ [];
-  stack = opens purpose (length s.frames) region at elaborated s.stack;
+  stack = opens_after purpose (length s.frames) region at elaborated display s.stack;
 }
+
+abbrev pub entered : meaning.Purpose → ℕ → Pos → List ℤ → ℕ → Stored → Stored
+entered purpose region at cells elaborated s = entered_after purpose region at cells elaborated s.stack.display s
+
+-- that of a procedure of this level, whose first cells are its formals' values
+abbrev pub called : ℕ → List Back → Option Target → ℕ → Pos → List ℤ → Stored → Stored
+called level backs into region at values s =
+    entered_after (for_procedure (returning backs into)) region at values (length values) (take level s.stack.display) s
 
 -- one more name of the innermost frame, with these cells
 abbrev pub declared : List ℤ → Stored → Stored
@@ -73,18 +140,23 @@ stored frame index value s = record s { frames = assigned frame index value s.fr
 
 -- What holds of them at any time.
 
--- the frames that are seen from the first of these, which is the innermost one
-abbrev pub seen_in : List Opened → List ℕ
-seen_in [] = []
-seen_in (o ∷ os) = o.saved ++ o.frame ∷ []
+-- of the frames that were seen before it was opened, these are seen from a frame: all, or of a procedure those further out than some level
+abbrev pub AreKept : meaning.Purpose → List ℕ → List ℕ → Type 0
+AreKept (for_procedure r) saved kept = (level : ℕ) × (kept ≡ take level saved)
+AreKept purpose saved kept = kept ≡ saved
+
+-- these are seen from the first of the open frames, which is the innermost one
+abbrev pub AreSeen : List Opened → List ℕ → Type 0
+AreSeen [] seen = seen ≡ []
+AreSeen (o ∷ os) seen = (kept : List ℕ) × (AreKept o.purpose o.saved kept × (seen ≡ kept ++ o.frame ∷ []))
 
 -- before each was opened, those were seen that are seen from the one around it
 abbrev pub AreSaved : List Opened → Type 0
 AreSaved [] = Unit {0}
-AreSaved (o ∷ os) = (o.saved ≡ seen_in os) × AreSaved os
+AreSaved (o ∷ os) = AreSeen os o.saved × AreSaved os
 
 pub record IsStacked (s : Stack) : Type 0 where
-  pub seen : s.display ≡ seen_in s.opened
+  pub seen : AreSeen s.opened s.display
   pub saved : AreSaved s.opened
   pub alone : AreOpenedAlone s.opened
 

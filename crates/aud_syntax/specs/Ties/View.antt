@@ -14,14 +14,15 @@ use Rattle.aud_syntax.specs.declared.tree.Term.{Term, Term', Row_of-Multiplied, 
 use Rattle.aud_syntax.specs.declared.tree.Multiplied.{Multiplied}
 use Rattle.aud_syntax.specs.declared.tree.Factor.{Factor}
 use Rattle.aud_syntax.specs.declared.tree.Primary.{Primary, Integer, Text, Name', Attribute', Group', Held-Primary-Attribute-2, None', Some'}
-use Rattle.aud_syntax.specs.declared.tree.Declaration.{Declaration}
-use Rattle.aud_syntax.specs.declared.tree.Declaration.TheVariants as declaration
+use Rattle.aud_syntax.specs.declared.tree.Formal.{Formal}
+use Rattle.aud_syntax.specs.declared.tree.Declaration.{Declaration, Object, Constant, Array, Exception, Procedure'}
+use Rattle.aud_syntax.specs.declared.tree.ProcedureDeclaration.{ProcedureDeclaration, ProcedureDeclaration', out-ProcedureDeclaration}
 use Rattle.aud_syntax.specs.declared.tree.LoopParameter.{LoopParameter}
 use Rattle.aud_syntax.specs.declared.tree.Choices.{Choices}
 use Rattle.aud_syntax.specs.declared.tree.Choices.TheVariants as choices
-use Rattle.aud_syntax.specs.declared.tree.BlockStatement.{BlockStatement, BlockStatement', out-BlockStatement}
+use Rattle.aud_syntax.specs.declared.tree.BlockStatement.{BlockStatement, BlockStatement', out-BlockStatement, Row_of-Declaration, end_of-Declaration, more_of-Declaration}
 use Rattle.aud_syntax.specs.declared.tree.Handler.{Handler}
-use Rattle.aud_syntax.specs.declared.tree.Statement.{Statement, Null, Assign, Call, If', Loop', Block', Exit, Raise, Row_of-Statement, end_of-Statement, more_of-Statement}
+use Rattle.aud_syntax.specs.declared.tree.Statement.{Statement, Null, Assign, Call, If', Loop', Block', Exit, Return, Raise, Row_of-Statement, end_of-Statement, more_of-Statement}
 use Rattle.aud_syntax.specs.declared.tree.IfStatement.{IfStatement, IfStatement', out-IfStatement, Row_of-Arm, end_of-Arm, more_of-Arm}
 use Rattle.aud_syntax.specs.declared.tree.Arm.{Arm}
 use Rattle.aud_syntax.specs.declared.tree.LoopStatement.{LoopStatement}
@@ -122,16 +123,9 @@ abbrev pub plain_boxed : Option (Box Expression Global) → m.MaybeExpression
 plain_boxed None = m.no_expression
 plain_boxed (Some e) = m.an_expression (plain_expression e.value)
 
--- RM 3.1
-abbrev pub plain_declaration : Declaration → m.Declaration
-plain_declaration (declaration.Object names subtype value) = m.object names.first names.others.items subtype (plain_maybe value)
-plain_declaration (declaration.Constant names subtype value) = m.constant names.first names.others.items subtype (plain_expression value)
-plain_declaration (declaration.Array names low high subtype) = m.array names.first names.others.items low high subtype
-plain_declaration (declaration.Exception names) = m.exception names.first names.others.items
-
-abbrev pub plain_declarations : List Declaration → m.Declarations
-plain_declarations [] = m.no_declarations
-plain_declarations (x ∷ xs) = m.more_declarations (plain_declaration x) (plain_declarations xs)
+-- RM 6.1
+abbrev pub plain_formal : Formal → m.Formal
+plain_formal x = m.formal x.names.first x.names.others.items x.mode x.subtype
 
 -- RM 5.5(4)
 abbrev pub plain_parameter : LoopParameter → m.Iteration
@@ -147,8 +141,23 @@ abbrev pub plain_choices : Choices → m.Choices
 plain_choices (choices.Named names) = m.exceptions names.first names.others.items
 plain_choices (choices.Others at) = m.others at
 
--- RM 5.1
+-- declarations, statements and bodies (RM 3.1, 5.1, 11.2)
 abbrev mutual
+  pub plain_declaration : Declaration → m.Declaration
+  plain_declaration (Object names subtype value) = m.object names.first names.others.items subtype (plain_maybe value)
+  plain_declaration (Constant names subtype value) = m.constant names.first names.others.items subtype (plain_expression value)
+  plain_declaration (Array names low high subtype) = m.array names.first names.others.items low high subtype
+  plain_declaration (Exception names) = m.exception names.first names.others.items
+  plain_declaration (Procedure' _ x) = plain_procedure x
+
+  pub plain_declaration_row : {n : _} → Row_of-Declaration n → m.Declarations
+  plain_declaration_row end_of-Declaration = m.no_declarations
+  plain_declaration_row (more_of-Declaration x xs) = m.more_declarations (plain_declaration x) (plain_declaration_row xs)
+
+  -- RM 6.3
+  pub plain_procedure : ProcedureDeclaration → m.Declaration
+  plain_procedure (ProcedureDeclaration' at i formals _ declarations x) = m.procedure at i (map plain_formal formals.items) (plain_declaration_row declarations) (plain_body x)
+
   pub plain_statement : Statement → m.Statement
   plain_statement (Null at) = m.null at
   plain_statement (Assign x e) = m.assign (plain_name x) (plain_expression e)
@@ -157,6 +166,7 @@ abbrev mutual
   plain_statement (Loop' _ label at i first _ others name semicolon) = m.loop label at (plain_iteration i) (m.in_order (plain_statement first) (plain_row others)) name semicolon
   plain_statement (Block' _ s) = plain_block s
   plain_statement (Exit at label e) = m.exit at label (plain_maybe e)
+  plain_statement (Return at e) = m.return at (plain_maybe e)
   plain_statement (Raise at x) = m.raise at x
 
   pub plain_row : {n : _} → Row_of-Statement n → m.MoreStatements
@@ -173,7 +183,7 @@ abbrev mutual
 
   -- RM 5.6
   pub plain_block : BlockStatement → m.Statement
-  plain_block (BlockStatement' label at declare declarations x) = m.block label at declare (plain_declarations declarations.items) (plain_body x)
+  plain_block (BlockStatement' label at declare _ declarations x) = m.block label at declare (plain_declaration_row declarations) (plain_body x)
 
   -- RM 11.2
   pub plain_body : Body → m.Body
@@ -184,6 +194,16 @@ abbrev mutual
   plain_handlers (more_of-Handler x first _ others handlers) = m.more_handlers (plain_choices x) (m.in_order (plain_statement first) (plain_row others)) (plain_handlers handlers)
 
 -- The same by the parts of what is in memory.
+
+abbrev pub plain_declarations : List Declaration → m.Declarations
+plain_declarations [] = m.no_declarations
+plain_declarations (x ∷ xs) = m.more_declarations (plain_declaration x) (plain_declarations xs)
+
+-- RM 6.3
+abbrev pub plain_procedure_parts : ProcedureDeclaration → m.Declaration
+plain_procedure_parts s =
+    let x = out-ProcedureDeclaration s in
+    m.procedure x.at x.name (map plain_formal x.formals.items) (plain_declarations x.declarations.items) (plain_body x.body)
 
 abbrev pub plain_others : List Statement → m.MoreStatements
 plain_others [] = m.no_statements

@@ -7,7 +7,9 @@ use Rattle.aud_syntax.specs.declared.tree.Literal.{Literal}
 use Rattle.aud_syntax.specs.declared.tree.Signed.{Signed}
 use Rattle.aud_syntax.specs.declared.tree.Operator.{Operator}
 use Rattle.aud_syntax.specs.declared.tree.Bound.{Bound}
-use Rattle.aud_syntax.specs.Plain.{Expression, alone, connected, Relations, no_relations, more_relations, Relation, unrelated, related, Simple, simple, Addeds, no_addeds, more_addeds, Added, added, Term, term, Multiplieds, no_multiplieds, more_multiplieds, Multiplied, multiplied, Factor, factor, Primary, integer, text, name, attribute, group, MaybeExpression, no_expression, an_expression, Name, named, Parts, no_parts, more_parts, NamePart, part, Args, no_args, more_args, Declaration, object, constant, array, exception, Declarations, no_declarations, more_declarations, Statement, null, assign, call, if_then, loop, exit, block, raise, Arms, no_arms, more_arms, Iteration, forever, while, for, Choices, exceptions, others, Statements, in_order, MoreStatements, no_statements, more_statements, Body, body, Handlers, no_handlers, more_handlers, Context, with_text_io, use_text_io, Unit, unit}
+use Rattle.aud_syntax.specs.declared.tree.Mode.{Mode}
+use Rattle.aud_syntax.specs.declared.tree.Mode.TheVariants as mode
+use Rattle.aud_syntax.specs.Plain.{Expression, alone, connected, Relations, no_relations, more_relations, Relation, unrelated, related, Simple, simple, Addeds, no_addeds, more_addeds, Added, added, Term, term, Multiplieds, no_multiplieds, more_multiplieds, Multiplied, multiplied, Factor, factor, Primary, integer, text, name, attribute, group, MaybeExpression, no_expression, an_expression, Name, named, Parts, no_parts, more_parts, NamePart, part, Args, no_args, more_args, Formal, formal, Declaration, object, constant, array, exception, procedure, Declarations, no_declarations, more_declarations, Statement, null, assign, call, if_then, loop, exit, block, return, raise, Arms, no_arms, more_arms, Iteration, forever, while, for, Choices, exceptions, others, Statements, in_order, MoreStatements, no_statements, more_statements, Body, body, Handlers, no_handlers, more_handlers, Context, with_text_io, use_text_io, Unit, unit}
 
 abbrev pub nowhere : Pos
 nowhere = record { line = 1; col = 1 }
@@ -103,15 +105,15 @@ abbrev mutual
 abbrev pub bare_bound : Bound → Bound
 bare_bound x = record { negative = x.negative; number = bare_number x.number }
 
-abbrev pub bare_declaration : Declaration → Declaration
-bare_declaration (object x xs subtype value) = object (bare_ident x) (map bare_ident xs) (bare_ident subtype) (bare_maybe value)
-bare_declaration (constant x xs subtype value) = constant (bare_ident x) (map bare_ident xs) (bare_ident subtype) (bare_expression value)
-bare_declaration (array x xs low high subtype) = array (bare_ident x) (map bare_ident xs) (bare_bound low) (bare_bound high) (bare_ident subtype)
-bare_declaration (exception x xs) = exception (bare_ident x) (map bare_ident xs)
+-- RM 6.1
+abbrev pub bare_mode : Mode → Mode
+bare_mode mode.Unstated = mode.Unstated
+bare_mode (mode.In at) = mode.In nowhere
+bare_mode (mode.Out at) = mode.Out nowhere
+bare_mode (mode.InOut at) = mode.InOut nowhere
 
-abbrev pub bare_declarations : Declarations → Declarations
-bare_declarations no_declarations = no_declarations
-bare_declarations (more_declarations x xs) = more_declarations (bare_declaration x) (bare_declarations xs)
+abbrev pub bare_formal : Formal → Formal
+bare_formal (formal x xs how subtype) = formal (bare_ident x) (map bare_ident xs) (bare_mode how) (bare_ident subtype)
 
 abbrev pub bare_iteration : Iteration → Iteration
 bare_iteration forever = forever
@@ -123,6 +125,17 @@ bare_choices (exceptions x xs) = exceptions (bare_ident x) (map bare_ident xs)
 bare_choices (others at) = others nowhere
 
 abbrev mutual
+  pub bare_declaration : Declaration → Declaration
+  bare_declaration (object x xs subtype value) = object (bare_ident x) (map bare_ident xs) (bare_ident subtype) (bare_maybe value)
+  bare_declaration (constant x xs subtype value) = constant (bare_ident x) (map bare_ident xs) (bare_ident subtype) (bare_expression value)
+  bare_declaration (array x xs low high subtype) = array (bare_ident x) (map bare_ident xs) (bare_bound low) (bare_bound high) (bare_ident subtype)
+  bare_declaration (exception x xs) = exception (bare_ident x) (map bare_ident xs)
+  bare_declaration (procedure at x formals ds rest) = procedure nowhere (bare_ident x) (map bare_formal formals) (bare_declarations ds) (bare_body rest)
+
+  pub bare_declarations : Declarations → Declarations
+  bare_declarations no_declarations = no_declarations
+  bare_declarations (more_declarations x xs) = more_declarations (bare_declaration x) (bare_declarations xs)
+
   pub bare_statement : Statement → Statement
   bare_statement (null at) = null nowhere
   bare_statement (assign x e) = assign (bare_name x) (bare_expression e)
@@ -131,6 +144,7 @@ abbrev mutual
   bare_statement (loop label at i statements last semicolon) = loop (bare_end label) nowhere (bare_iteration i) (bare_statements statements) (bare_end last) nowhere
   bare_statement (exit at label e) = exit nowhere (bare_end label) (bare_maybe e)
   bare_statement (block label at declare ds x) = block (bare_end label) nowhere declare (bare_declarations ds) (bare_body x)
+  bare_statement (return at e) = return nowhere (bare_maybe e)
   bare_statement (raise at x) = raise nowhere (bare_end x)
 
   pub bare_more_statements : MoreStatements → MoreStatements

@@ -20,7 +20,9 @@ use Rattle.aud_syntax.specs.declared.tree.Relational.TheVariants as relational
 use Rattle.aud_syntax.specs.declared.tree.Connective.{Connective}
 use Rattle.aud_syntax.specs.declared.tree.Connective.TheVariants as connective
 use Rattle.aud_syntax.specs.declared.tree.Bound.{Bound}
-use Rattle.aud_syntax.specs.Plain.{Expression, alone, connected, Relations, no_relations, more_relations, Relation, unrelated, related, Simple, simple, Addeds, no_addeds, more_addeds, Added, added, Term, term, Multiplieds, no_multiplieds, more_multiplieds, Multiplied, multiplied, Factor, factor, Primary, integer, text, name, attribute, group, MaybeExpression, no_expression, an_expression, Name, named, Parts, no_parts, more_parts, NamePart, part, Args, no_args, more_args, Declaration, object, constant, array, exception, Declarations, no_declarations, more_declarations, Statement, null, assign, call, if_then, loop, exit, block, raise, Arms, no_arms, more_arms, Iteration, forever, while, for, Choices, exceptions, others, Statements, in_order, MoreStatements, no_statements, more_statements, Body, body, Handlers, no_handlers, more_handlers, Context, with_text_io, use_text_io, Unit, unit}
+use Rattle.aud_syntax.specs.declared.tree.Mode.{Mode}
+use Rattle.aud_syntax.specs.declared.tree.Mode.TheVariants as mode
+use Rattle.aud_syntax.specs.Plain.{Expression, alone, connected, Relations, no_relations, more_relations, Relation, unrelated, related, Simple, simple, Addeds, no_addeds, more_addeds, Added, added, Term, term, Multiplieds, no_multiplieds, more_multiplieds, Multiplied, multiplied, Factor, factor, Primary, integer, text, name, attribute, group, MaybeExpression, no_expression, an_expression, Name, named, Parts, no_parts, more_parts, NamePart, part, Args, no_args, more_args, Formal, formal, Declaration, object, constant, array, exception, procedure, Declarations, no_declarations, more_declarations, Statement, null, assign, call, if_then, loop, exit, block, return, raise, Arms, no_arms, more_arms, Iteration, forever, while, for, Choices, exceptions, others, Statements, in_order, MoreStatements, no_statements, more_statements, Body, body, Handlers, no_handlers, more_handlers, Context, with_text_io, use_text_io, Unit, unit}
 
 -- a name as the tree has it, in capitals (RM 2.3)
 abbrev pub ident_word : Ident → Word
@@ -214,15 +216,23 @@ array_words x xs low high subtype = idents_words x xs ++ (word (codes ":") ∷ w
 abbrev pub exception_words : Ident → List Ident → List Word
 exception_words x xs = idents_words x xs ++ (word (codes ":") ∷ word (codes "exception") ∷ last_word (codes ";") ∷ [])
 
-abbrev pub declaration_words : Declaration → List Word
-declaration_words (object x xs subtype value) = object_words x xs subtype value
-declaration_words (constant x xs subtype value) = constant_words x xs subtype value
-declaration_words (array x xs low high subtype) = array_words x xs low high subtype
-declaration_words (exception x xs) = exception_words x xs
+-- RM 6.1
+abbrev pub mode_words : Mode → List Word
+mode_words mode.Unstated = []
+mode_words (mode.In at) = word (codes "in") ∷ []
+mode_words (mode.Out at) = word (codes "out") ∷ []
+mode_words (mode.InOut at) = word (codes "in") ∷ word (codes "out") ∷ []
 
-abbrev pub declarations_words : Declarations → List Word
-declarations_words no_declarations = []
-declarations_words (more_declarations x xs) = declaration_words x ++ declarations_words xs
+abbrev pub formal_words : Formal → List Word
+formal_words (formal x xs how subtype) = idents_words x xs ++ (word (codes ":") ∷ (mode_words how ++ (ident_word subtype ∷ [])))
+
+abbrev pub more_formals_words : List Formal → List Word
+more_formals_words [] = []
+more_formals_words (x ∷ xs) = last_word (codes ";") ∷ (formal_words x ++ more_formals_words xs)
+
+abbrev pub formals_words : List Formal → List Word
+formals_words [] = []
+formals_words (x ∷ xs) = in_parentheses (formal_words x ++ more_formals_words xs)
 
 -- RM 5.1(6)
 abbrev pub null_words : List Word
@@ -264,6 +274,14 @@ condition_words e = maybe_words (codes "when") e
 abbrev pub exit_words : Option Ident → MaybeExpression → List Word
 exit_words label e = word (codes "exit") ∷ (end_words label ++ (condition_words e ++ (last_word (codes ";") ∷ [])))
 
+-- RM 6.5
+abbrev pub value_words : MaybeExpression → List Word
+value_words no_expression = []
+value_words (an_expression e) = expression_words e
+
+abbrev pub return_words : MaybeExpression → List Word
+return_words e = word (codes "return") ∷ (value_words e ++ (last_word (codes ";") ∷ []))
+
 -- RM 11.3
 abbrev pub raise_words : Option Ident → List Word
 raise_words x = word (codes "raise") ∷ (end_words x ++ (last_word (codes ";") ∷ []))
@@ -296,8 +314,19 @@ abbrev pub otherwise_words : MoreStatements → List Word → List Word
 otherwise_words no_statements statements = []
 otherwise_words (more_statements x xs) statements = last_word (codes "else") ∷ statements
 
--- RM 5.1
+-- declarations, statements and bodies (RM 3.1, 5.1, 11.2)
 abbrev mutual
+  pub declaration_words : Declaration → List Word
+  declaration_words (object x xs subtype value) = object_words x xs subtype value
+  declaration_words (constant x xs subtype value) = constant_words x xs subtype value
+  declaration_words (array x xs low high subtype) = array_words x xs low high subtype
+  declaration_words (exception x xs) = exception_words x xs
+  declaration_words (procedure at x formals declarations rest) = word (codes "procedure") ∷ ident_word x ∷ (formals_words formals ++ (last_word (codes "is") ∷ (declarations_words declarations ++ body_words rest)))
+
+  pub declarations_words : Declarations → List Word
+  declarations_words no_declarations = []
+  declarations_words (more_declarations x xs) = declaration_words x ++ declarations_words xs
+
   pub statement_words : Statement → List Word
   statement_words (null at) = null_words
   statement_words (assign x e) = assignment_words x e
@@ -306,6 +335,7 @@ abbrev mutual
   statement_words (loop label at i statements last semicolon) = label_words label ++ (iteration_words i ++ (last_word (codes "loop") ∷ (statements_words statements ++ (word (codes "end") ∷ word (codes "loop") ∷ (end_words last ++ (last_word (codes ";") ∷ []))))))
   statement_words (exit at label e) = exit_words label e
   statement_words (block label at declare declarations rest) = label_words label ++ (declare_words declare ++ (declarations_words declarations ++ body_words rest))
+  statement_words (return at e) = return_words e
   statement_words (raise at x) = raise_words x
 
   pub more_statements_words : MoreStatements → List Word

@@ -1,5 +1,5 @@
--- The plain program of a program in memory. It has as yet neither procedures nor anything of tasks.
-use Rattle.std.specs.Prelude.{List, [], ◌∷◌, map, Vec}
+-- The plain program of a program in memory. It has as yet nothing of tasks.
+use Rattle.std.specs.Prelude.{List, [], ◌∷◌, map, None, Vec}
 use Rattle.std.specs.Global.{Global}
 use Rattle.aud_typed.specs.declared.program.IntegerExpression.{IntegerExpression, Number, Variable, Element', Unary', Chain', Row_of-Operation, end_of-Operation, more_of-Operation}
 use Rattle.aud_typed.specs.declared.program.Connective.{Connective}
@@ -10,8 +10,10 @@ use Rattle.aud_typed.specs.declared.program.ValueExpression.{ValueExpression}
 use Rattle.aud_typed.specs.declared.program.ValueExpression.TheVariants.{Whole, Truth}
 use Rattle.aud_typed.specs.declared.program.Reference.{Reference}
 use Rattle.aud_typed.specs.declared.program.Reference.TheVariants as reference
+use Rattle.aud_typed.specs.declared.program.Argument.{Argument}
+use Rattle.aud_typed.specs.declared.program.Argument.TheVariants.{ByValue, ByCopy}
 use Rattle.aud_typed.specs.declared.program.TextExpression.{TextExpression, Literal, Image, ImageTruth, Join', NewLine, Row_of-TextExpression, end_of-TextExpression, more_of-TextExpression}
-use Rattle.aud_typed.specs.declared.program.Statement.{Statement, Declare, DeclareArray, Null, Assign, Put, If', While', Loop', For', Exit, Raise, RaiseAgain, Block', Row_of-Statement, end_of-Statement, more_of-Statement}
+use Rattle.aud_typed.specs.declared.program.Statement.{Statement, Declare, DeclareArray, Null, Assign, Put, If', While', Loop', For', Exit, Raise, RaiseAgain, Block', Return, ProcedureCall, Row_of-Statement, end_of-Statement, more_of-Statement}
 use Rattle.aud_typed.specs.declared.program.IfStatement.{IfStatement, IfStatement', out-IfStatement, Row_of-Arm, end_of-Arm, more_of-Arm}
 use Rattle.aud_typed.specs.declared.program.Arm.{Arm}
 use Rattle.aud_typed.specs.declared.program.ForStatement.{ForStatement, out-ForStatement}
@@ -23,6 +25,7 @@ use Rattle.aud_typed.specs.declared.program.Subtype.TheVariants.{Boolean}
 use Rattle.aud_typed.specs.declared.program.Shown.{Shown}
 use Rattle.aud_typed.specs.declared.program.Shown.TheVariants as shown
 use Rattle.aud_typed.specs.declared.program.Named.{Named}
+use Rattle.aud_typed.specs.declared.program.Unit as declared
 use Rattle.aud_typed.specs.declared.program.Program.{Program}
 use Rattle.aud_typed.specs.Tree as tree
 use Rattle.aud_typed.specs.Tree.{before, part_of, Part, some, Handlers, no_handlers, handler}
@@ -71,6 +74,13 @@ abbrev pub plain_reference : Reference → tree.Reference
 plain_reference (reference.Scalar v t) = tree.scalar v t
 plain_reference (reference.Element a index t) = tree.component a (plain_integer index) t
 
+abbrev pub plain_argument : Argument → tree.Argument
+plain_argument (ByValue e) = tree.by_value (plain_value e)
+plain_argument (ByCopy is_in t r) = tree.by_copy is_in t (plain_reference r)
+
+abbrev pub plain_arguments : List Argument → List tree.Argument
+plain_arguments xs = map plain_argument xs
+
 abbrev mutual
   pub plain_text : TextExpression → tree.TextExpression
   plain_text (Literal text) = tree.literal text
@@ -99,6 +109,8 @@ abbrev mutual
   plain_statement (Raise at x) = tree.raising at x
   plain_statement (RaiseAgain at) = tree.raising_again at
   plain_statement (Block' _ b) = plain_block b
+  plain_statement (Return at) = tree.return at
+  plain_statement (ProcedureCall at unit arguments) = tree.procedure_call at (record { unit = unit; arguments = plain_arguments arguments.items; into = None })
 
   pub plain_row : {n : _} → Row_of-Statement n → List tree.Statement
   plain_row end_of-Statement = []
@@ -138,11 +150,13 @@ plain_named n = record { name = n.name; shown = plain_shown n.shown }
 abbrev pub plain_region : Vec Named Global → List tree.Named
 plain_region r = map plain_named r.items
 
+abbrev pub plain_unit : declared.Unit → tree.UnitBody
+plain_unit u = record { level = u.level; region = u.region; at = u.at; body = plain_body u.body }
+
 abbrev pub plain_program : Program → tree.Program
-plain_program p = tree.program_of_main (record {
+plain_program p = tree.program_of_procedures (record {
   name = p.name;
-  at = p.at;
-  main = plain_body p.body;
+  units = map plain_unit p.units.items;
   regions = map plain_region p.regions.items;
   exceptions = p.exceptions.items;
 })

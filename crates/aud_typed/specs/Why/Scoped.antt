@@ -1,12 +1,11 @@
--- Each variable that is read or assigned has been elaborated (RM 3.3.1, 8.3), and each table and exception is there: the items that
--- a typed program names are there. As yet it is said of programs that are their main procedure alone, with the statements below,
--- and of no others.
-use Rattle.std.specs.Prelude.{◌≡◌, ℕ, zero, suc, ◌+◌, ◌-◌, max, ◌<◌, ◌≤◌, List, [], ◌∷◌, ◌++◌, length, slice_index_or}
+-- Each variable that is read or assigned has been elaborated (RM 3.3.1, 8.3), and each table, exception and procedure is there: the
+-- items that a typed program names are there. As yet it is said of programs of procedures, with the statements below, and of no others.
+use Rattle.std.specs.Prelude.{◌≡◌, ℕ, suc, ◌+◌, ◌-◌, max, ◌<◌, ◌≤◌, List, [], ◌∷◌, ◌++◌, length, slice_index_or, None}
 use Rattle.aud_typed.specs.declared.program.Variable.{Variable}
 use Rattle.aud_typed.specs.declared.program.ArrayAt.{ArrayAt}
 use Rattle.aud_typed.specs.declared.program.Exception.{Exception}
 use Rattle.aud_typed.specs.declared.program.Exception.TheVariants.{Predefined, Declared}
-use Rattle.aud_typed.specs.Tree.{IntegerExpression, number, variable, element, unary, binary, count, BooleanExpression, truth, stored, negation, relation, comparison, logical, and_then, or_else, ValueExpression, whole, boolean, Reference, scalar, component, TextExpression, literal, image, image_truth, join, new_line, Statement, sequence, declare, declare_array, null, assign, put, if_then, plain_loop, while_loop, for_loop, exit, raising, raising_again, block, Part, nothing, some, Handlers, no_handlers, handler, Body, body, Shown, as_whole, as_truth, as_wholes, as_truths, hidden, Named, Plan, Program}
+use Rattle.aud_typed.specs.Tree.{Argument, by_value, by_copy, Calling, UnitPlan, IntegerExpression, number, variable, element, unary, binary, count, BooleanExpression, truth, stored, negation, relation, comparison, logical, and_then, or_else, ValueExpression, whole, boolean, Reference, scalar, component, TextExpression, literal, image, image_truth, join, new_line, Statement, sequence, declare, declare_array, null, assign, put, if_then, plain_loop, while_loop, for_loop, exit, return, raising, raising_again, block, procedure_call, Part, nothing, some, Handlers, no_handlers, handler, Body, body, Shown, as_whole, as_truth, as_wholes, as_truths, hidden, Named, Plan, Program}
 
 -- how many names of an open frame are elaborated, and how many cells they have
 pub record Elaborated : Type 0 where
@@ -59,6 +58,14 @@ abbrev pub ValueScoped : ValueExpression → Scope → Type 0
 ValueScoped (whole subtype x) scope = IntegerScoped x scope
 ValueScoped (boolean x) scope = BooleanScoped x scope
 
+abbrev pub ArgumentScoped : Argument → Scope → Type 0
+ArgumentScoped (by_value e) scope = ValueScoped e scope
+ArgumentScoped (by_copy is_in formal r) scope = ReferenceScoped r scope
+
+abbrev pub ArgumentsScoped : List Argument → Scope → Type 0
+ArgumentsScoped [] scope = Unit {0}
+ArgumentsScoped (x ∷ xs) scope = ArgumentScoped x scope × ArgumentsScoped xs scope
+
 abbrev pub TextScoped : TextExpression → Scope → Type 0
 TextScoped (literal text) scope = Unit {0}
 TextScoped (image e) scope = IntegerScoped e scope
@@ -107,6 +114,29 @@ cells_of (n ∷ ns) = shown_cells n.shown + cells_of ns
 abbrev pub all_of_table : List Named → Elaborated
 all_of_table ns = record { names = length ns; cells = cells_of ns }
 
+-- How units are entered.
+
+-- with how many formals, and what is elaborated by then in the frames that it sees
+pub record Entry : Type 0 where
+  pub formals : ℕ
+  pub outer : Scope
+
+abbrev pub no_entry : Entry
+no_entry = record { formals = 0; outer = [] }
+
+abbrev pub entry_of : List Entry → ℕ → Entry
+entry_of entries n = slice_index_or entries n no_entry
+
+-- formals are elaborated when their unit is entered, each with one cell (RM 6.4.1)
+abbrev pub all_formals : ℕ → Elaborated
+all_formals n = record { names = n; cells = n }
+
+-- these frames are open, with as many cells as are elaborated in them
+abbrev pub AreOpen : Scope → Scope → Type 0
+AreOpen [] scope = Unit {0}
+AreOpen (e ∷ es) [] = ⊥
+AreOpen (e ∷ es) (x ∷ xs) = (e.cells ≤ x.cells) × AreOpen es xs
+
 module _ (plan : Plan) where
   abbrev pub table : ℕ → List Named
   table n = slice_index_or plan.regions n []
@@ -118,6 +148,16 @@ module _ (plan : Plan) where
   abbrev pub AllThere : List Exception → Type 0
   AllThere [] = Unit {0}
   AllThere (x ∷ xs) = IsThere x × AllThere xs
+
+module _ (plan : Plan) (entries : List Entry) where
+  -- a procedure's call: of a unit that is there, with as many arguments as it has formals, where the frames that it sees are open
+  abbrev pub CallScoped : Calling → Scope → Type 0
+  CallScoped c scope =
+      (c.unit < length entries)
+      × (length c.arguments ≡ (entry_of entries c.unit).formals)
+      × AreOpen (entry_of entries c.unit).outer scope
+      × ArgumentsScoped c.arguments scope
+      × (c.into ≡ None)
 
   abbrev mutual
     pub StatementScoped : Statement → Scope → Type 0
@@ -131,11 +171,13 @@ module _ (plan : Plan) where
     StatementScoped (if_then at c a p) scope = BooleanScoped c scope × StatementScoped a scope × PartScoped p scope
     StatementScoped (plain_loop a) scope = StatementScoped a scope
     StatementScoped (while_loop at c a) scope = BooleanScoped c scope × StatementScoped a scope
-    StatementScoped (for_loop f a b s) scope = IntegerScoped a scope × IntegerScoped b scope × (cells_of (table f.region) ≡ 1) × StatementScoped s (scope ++ all_of_table (table f.region) ∷ [])
+    StatementScoped (for_loop f a b s) scope = IntegerScoped a scope × IntegerScoped b scope × (cells_of (table plan f.region) ≡ 1) × StatementScoped s (scope ++ all_of_table (table plan f.region) ∷ [])
     StatementScoped (exit at n c) scope = BooleanScoped c scope
-    StatementScoped (raising at x) scope = IsThere x
+    StatementScoped (raising at x) scope = IsThere plan x
     StatementScoped (raising_again at) scope = Unit {0}
-    StatementScoped (block at n b) scope = BodyScoped b (table n) scope
+    StatementScoped (return at) scope = Unit {0}
+    StatementScoped (block at n b) scope = BodyScoped b none_yet (table plan n) scope
+    StatementScoped (procedure_call at c) scope = CallScoped c scope
     StatementScoped _ scope = ⊥
 
     pub PartScoped : Part → Scope → Type 0
@@ -144,20 +186,32 @@ module _ (plan : Plan) where
 
     pub HandlersScoped : Handlers → Scope → Type 0
     HandlersScoped no_handlers scope = Unit {0}
-    HandlersScoped (handler others choices s more) scope = AllThere choices × StatementScoped s scope × HandlersScoped more scope
+    HandlersScoped (handler others choices s more) scope = AllThere plan choices × StatementScoped s scope × HandlersScoped more scope
 
-    -- its own frame is open within these, at first with no variables, and behind its declarations with those of its table
-    pub BodyScoped : Body → List Named → Scope → Type 0
-    BodyScoped (body d begin s h end) names scope =
-        PartScoped d (scope ++ none_yet ∷ [])
-        × (scope_behind d (scope ++ none_yet ∷ []) ≡ scope ++ all_of_table names ∷ [])
+    -- its own frame is open within these, at first with so much, and behind its declarations with the variables of its table
+    pub BodyScoped : Body → Elaborated → List Named → Scope → Type 0
+    BodyScoped (body d begin s h end) first names scope =
+        PartScoped d (scope ++ first ∷ [])
+        × (scope_behind d (scope ++ first ∷ []) ≡ scope ++ all_of_table names ∷ [])
         × StatementScoped s (scope ++ all_of_table names ∷ [])
         × HandlersScoped h (scope ++ all_of_table names ∷ [])
 
--- a program of one body
-abbrev pub ScopedBy : Plan → List Body → Type 0
-ScopedBy plan (b ∷ []) = BodyScoped plan b (table plan 0) []
-ScopedBy _ _ = ⊥
+  -- a unit's level is how many frames it sees besides its own
+  abbrev pub UnitScoped : UnitPlan → Body → Entry → Type 0
+  UnitScoped u b e = (u.level ≡ length e.outer) × BodyScoped b (all_formals e.formals) (table plan u.region) e.outer
 
-abbrev pub IsScoped : Program → Type 0
-IsScoped program = ScopedBy program.plan program.bodies
+  abbrev pub UnitsScoped : List UnitPlan → List Body → List Entry → Type 0
+  UnitsScoped [] [] [] = Unit {0}
+  UnitsScoped (u ∷ us) (b ∷ bs) (e ∷ es) = UnitScoped u b e × UnitsScoped us bs es
+  UnitsScoped _ _ _ = ⊥
+
+-- the main procedure has no formals, and sees no frames but its own
+abbrev pub MainEntry : List Entry → Type 0
+MainEntry [] = ⊥
+MainEntry (e ∷ es) = e ≡ no_entry
+
+-- there is a way in which all units are entered
+pub record IsScoped (program : Program) : Type 0 where
+  pub entries : List Entry
+  pub main : MainEntry entries
+  pub units : UnitsScoped program.plan entries program.plan.units program.bodies entries

@@ -1,71 +1,56 @@
-use Rattle.std.proofs.Common.{◌≡◌, ℕ, List, [], ◌++◌, map, sym, ap, subst, ◌∙◌}
+use Rattle.std.specs.Prelude.{ℕ}
+use Rattle.std.proofs.Common.{◌≡◌, ap, sym, subst, ◌∙◌}
 use Rattle.aud_syntax.specs.Ties.View.{plain_declarations, plain_body}
 use Rattle.aud_syntax.proofs.Opened.{body_open}
 use Rattle.aud_typed.specs.Tree as tree
-use Rattle.aud_typed.specs.Ties.View.{plain_body as plain_typed_body, plain_statements as plain_typed_statements, plain_region as plain_named_region}
+use Rattle.aud_typed.specs.Ties.View.{plain_body as plain_typed_body, plain_unit as plain_typed_unit}
 use Rattle.aud_check.specs.Least.{noted}
-use Rattle.aud_check.specs.Names.{Place, empty_region, innermost, place_in, main_place}
+use Rattle.aud_check.specs.Names.{Place, empty_region, place_in, main_place}
 use Rattle.aud_check.specs.Rules.{right_name_at_end}
-use Rattle.aud_check.specs.Regions.{shown_names}
-use Rattle.aud_check.specs.Tables.{Tables, Outcome, with_region}
-use Rattle.aud_check.specs.Declarations.{Declared, checked_declarations}
-use Rattle.aud_check.specs.Statements.{nothing_around, TypedBody, body_with, entered, end_name, checked_body}
-use Rattle.aud_check.specs.Checked.{no_tables}
-use Rattle.aud_check.specs.Ties.Arms.{plain_parts}
+use Rattle.aud_check.specs.Tables.{Tables, Outcome, next_region, region_kept, unit_kept, with_unit}
+use Rattle.aud_check.specs.Statements.{nothing_around, end_name, checked_declarations, checked_unit}
+use Rattle.aud_check.specs.Checked.{main_tables, program_with}
+use Rattle.aud_check.specs.Ties.DeclarativePart.{Enters}
 use Rattle.aud_check.specs.Ties.Regions.{plain_regions, plain_place}
+use Rattle.aud_check.specs.Ties.Tables.{plain_tables}
 use Rattle.aud_check.specs.Ties.Typing.{plain_items}
-use Rattle.aud_check.specs.Ties.Within.{Checks}
-use Rattle.aud_check.proofs.Notes.{noted_then}
 use Rattle.aud_check.proofs.Walked.{Is}
+use Rattle.aud_check.proofs.Bodies.{entered_left, unit_left}
 use Rattle.aud_check.proofs.unit.typed_within.Goals as goal
 
 pub returns : goal.returns
 returns c =
-    let unit = c.args.unit.now in
-    let main = unit.name in
-    let source = plain_body unit.body in
+    let node = c.args.node.now in
+    let main = node.name in
     let old = c.args.faults.now in
-    let declared = c.declarations.new.faults in
-    let stated = c.body-parts.new.faults in
+    let declared = c.declared.new.faults in
+    let stated = c.body_behind.new.faults in
     let new = c.right_name_at_end.new.faults in
-    let tables = c.body-parts.new.tables in
+    let kept = plain_tables c.keep_unit.new.self in
+    let entry = plain_tables c.declared.new.tables in
+    let u = plain_tables c.body_behind.new.tables in
     let outer = c.args.outer.now in
-    let held = c.tables.inside in
     let place : Place = main_place main.name in
-    let ds = plain_declarations unit.declarations.items in
-    let d : Declared = checked_declarations ds place [] in
-    let given : Declared = checked_declarations (plain_declarations c.deref.result.now) (plain_place c.new.result outer) held.exceptions.items in
-    let held_regions : List (List tree.Named) = map plain_named_region held.regions.items in
-    let begun : record { regions = held_regions; exceptions = held.exceptions.items } ≡ no_tables = c.tables.view_is ∙ c.new-tables.ensures in
-    let placed : plain_place c.new.result outer ≡ place = ap (λ r. place_in r (plain_regions outer)) c.new.ensures ∙ ap (place_in (empty_region 0)) c.requires in
-    let same : given ≡ d =
-    ap (λ l. checked_declarations (plain_declarations l) (plain_place c.new.result outer) held.exceptions.items) c.deref.ensures.value
-    ∙ ap (λ z. checked_declarations ds z held.exceptions.items) placed
-    ∙ ap (λ (v : Tables). checked_declarations ds place v.exceptions) begun in
-    let all = c.in_ok-declarations.ensures in
-    let noted_all : declared ≡ noted old d.faults = all.0 ∙ ap (λ (g : Declared). noted old g.faults) same in
-    let among : Place = c.new-3.result in
-    let inner : among ≡ d.place = c.new-3.ensures ∙ all.1 ∙ ap (λ (g : Declared). g.place) same in
-    let entry : Tables = c.enter.new.self in
-    let table : List (List tree.Named) → List (List ℕ) → Place → Tables = λ rs xs z. with_region (shown_names (innermost z).symbols) (record { regions = rs; exceptions = xs }) in
-    let into : entry ≡ entered d no_tables =
-    c.in_ok-enter.ensures.tables ∙ ap (table held_regions c.declarations.new.exceptions.items) all.1 ∙ ap (λ xs. table held_regions xs given.place) all.3
-    ∙ ap (λ (g : Declared). table held_regions g.exceptions g.place) same ∙ ap (λ (v : Tables). table v.regions d.exceptions d.place) begun in
-    let b = c.in_ok-elaborations in
-    let made : TypedBody = plain_parts b.parts in
-    let own : Place → Tables → Outcome TypedBody = λ z w. checked_body source nothing_around z w in
-    let whole : Outcome TypedBody = own d.place (entered d no_tables) in
-    let body : Is declared stated tables made whole =
-    subst (λ z. Is declared stated tables made (own z (entered d no_tables))) inner (subst (λ w. Is declared stated tables made (own among w)) into
-    (subst (λ r. Checks plain_parts r declared stated tables (own among entry)) b.ensures.next c.body-parts.ensures)) in
+    let source = plain_body node.body in
+    let ds = plain_declarations node.declarations.items in
+    let begun : kept ≡ main_tables =
+    c.in_ok-keep_unit.ensures ∙ ap (λ p. unit_kept p (plain_tables c.new-tables.result)) c.new.ensures.items ∙ ap (unit_kept _) c.new-tables.ensures in
+    let placed : plain_place c.new-region.result outer ≡ place = ap (λ r. place_in r (plain_regions outer)) c.new-region.ensures ∙ ap (place_in (empty_region 0)) c.requires in
+    let part = c.in_ok-part.part in
+    let body = plain_typed_body c.in_ok-body.body.value in
+    let made = plain_typed_unit c.in_ok-main.main.value in
+    let whole : Outcome tree.UnitBody = checked_unit node.at main.name ds source place main_tables in
+    let enters : Enters old declared outer part (next_region main_tables) entry (checked_declarations ds place (region_kept main_tables)) =
+    subst (λ w. Enters old declared outer part (next_region w) entry (checked_declarations ds place (region_kept w))) begun
+    (subst (λ z. Enters old declared outer part (next_region kept) entry (checked_declarations ds z (region_kept kept))) placed
+    (subst (λ l. Enters old declared outer part (next_region kept) entry (checked_declarations (plain_declarations l) (plain_place c.new-region.result outer) (region_kept kept))) c.deref.ensures.value c.in_ok-part.ensures)) in
+    let entered = entered_left old declared stated main_tables entry u ds source nothing_around place (plain_place part.region outer) (plain_items part.elaborations) body enters.0 enters.1 enters.2 enters.3 c.in_ok-body.ensures in
     let named : new ≡ noted stated (right_name_at_end main.name (end_name source)) =
-    c.right_name_at_end.ensures ∙ ap (λ z. noted stated (right_name_at_end main.name (end_name z))) (sym (body_open unit.body)) in
-    let faults = noted_then old declared new d.faults (whole.faults ++ right_name_at_end main.name (end_name source)) noted_all (noted_then declared stated new whole.faults (right_name_at_end main.name (end_name source)) body.0 named) in
-    let elaborated : plain_items b.elaborations ≡ d.elaborations =
-    ap plain_items b.ensures.first ∙ all.2 ∙ ap (λ l. plain_typed_statements l ++ given.elaborations) c.new-2.ensures.items ∙ ap (λ (g : Declared). g.elaborations) same in
-    let made_body : plain_typed_body c.body_of.result ≡ body_with d.elaborations source whole.made =
-    c.body_of.ensures ∙ ap (λ l. body_with l source made) elaborated ∙ ap (body_with d.elaborations source) body.2 in
-    let final : Tables = record { regions = map plain_named_region c.tables-3.inside.regions.items; exceptions = c.tables-3.inside.exceptions.items } in
-    let ended : final ≡ whole.tables = c.tables-3.view_is ∙ body.1 in
-    let program : List ℕ → tree.Body → Tables → tree.Program = λ n x v. tree.program_of_main (record { name = n; at = unit.at; main = x; regions = v.regions; exceptions = v.exceptions }) in
-    (faults, ap (λ n. program n (plain_typed_body c.body_of.result) final) c.in_ok-name.ensures ∙ ap (λ x. program main.name x final) made_body ∙ ap (program main.name (body_with d.elaborations source whole.made)) ended)
+    c.right_name_at_end.ensures ∙ ap (λ z. noted stated (right_name_at_end main.name (end_name z))) (sym (body_open node.body)) in
+    let unit : ℕ → tree.UnitBody = λ n. record { level = 0; region = n; at = node.at; body = body } in
+    let checked : Is old new u made whole =
+    unit_left old stated new main_tables u node.at main.name ds source place body made entered named (c.in_ok-main.ensures ∙ ap unit (c.next_region-number.ensures ∙ ap next_region begun)) in
+    let final : Tables = plain_tables c.put_unit.new.self in
+    let ended : final ≡ with_unit 0 whole.made whole.tables =
+    c.put_unit.ensures ∙ ap (λ v. with_unit 0 (plain_typed_unit v) u) c.into_inner.ensures ∙ ap (λ v. with_unit 0 v u) checked.2 ∙ ap (with_unit 0 whole.made) checked.1 in
+    (checked.0, ap (λ n. program_with n final) c.in_ok-name.ensures ∙ ap (program_with main.name) ended)

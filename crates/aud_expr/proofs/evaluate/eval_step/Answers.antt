@@ -56,3 +56,12 @@ returns-in-LoadElement-clause-acts c = rw c.in-LoadElement.is c.load_element.ens
 
 pub returns-in-FindElement-clause-acts : goal.returns-in-FindElement-clause-acts
 returns-in-FindElement-clause-acts c = rw c.in-FindElement.is c.find_element.ensures
+
+pub returns-in_ok-load_found-in-LoadFound-clause-acts : goal.returns-in_ok-load_found-in-LoadFound-clause-acts
+returns-in_ok-load_found-in-LoadFound-clause-acts c = rw c.in-LoadFound.is (c.in_ok-load_found-in-LoadFound.ensures c.args.display.now)
+
+pub returns-in_ok-pass-in-Pass-clause-acts : goal.returns-in_ok-pass-in-Pass-clause-acts
+returns-in_ok-pass-in-Pass-clause-acts c = rw c.in-Pass.is (λ stops s ed ef go. c.in_ok-pass-in-Pass.ensures stops s go)
+
+pub returns-in_ok-pass_copy-in-PassCopy-clause-acts : goal.returns-in_ok-pass_copy-in-PassCopy-clause-acts
+returns-in_ok-pass_copy-in-PassCopy-clause-acts c = rw c.in-PassCopy.is (λ stops s ed ef go. c.in_ok-pass_copy-in-PassCopy.ensures stops s go)

@@ -1,16 +1,31 @@
-use Rattle.std.proofs.Common.{◌++◌, length, ap, ◌∙◌}
-use Rattle.std.specs.Prelude.{map}
+use Rattle.std.proofs.Common.{◌≡◌, ◌∷◌, ◌++◌, ◌+◌, [], drop, map, ap, sym, ◌∙◌, arith}
+use Rattle.std.proofs.lemmas.List.{drop_all}
 use Rattle.aud_typed.specs.Ties.View.{body_in}
-use Rattle.aud_meaning.specs.declared.state.Construct.TheVariants as construct
 use Rattle.aud_code.specs.View.{plain_line}
-use Rattle.aud_gen.specs.Writes.{around, body_lines}
-use Rattle.aud_gen.proofs.Constructs.{bodies_written}
+use Rattle.aud_gen.specs.Writes.{bodies_in}
+use Rattle.aud_gen.proofs.Loops.{dropped}
+use Rattle.aud_gen.proofs.Units.{with_units, with_starts, with_spare, one_unit, one_start, one_spare, units_written}
 use Rattle.aud_gen.proofs.program.write_code.Goals as goal
+
+pub loop-unit-preserved : goal.loop-unit-preserved
+loop-unit-preserved c =
+    let units = c.args.units.now in
+    let u = c.unit-item.result in
+    let b = body_in u.body in
+    let rest = bodies_in (drop (c.loop-unit.unit-index + 1) units) in
+    let first : bodies_in (drop c.loop-unit.unit-index units) ≡ b ∷ rest = ap bodies_in (dropped units c.loop-unit.unit-index u (omega arith) c.unit-item.is) in
+    let now = c.loop-unit.writer in
+    let new = c.write_unit.new.self in
+    let starts = c.loop-unit.starts.items in
+    let h = c.in_ok-write_unit.ensures in
+    let inv = c.loop-unit.invariant in (
+      one_unit b rest now new _ h (ap (with_units now) (sym first) ∙ inv.0),
+      (one_start b rest starts c.push.new.self.items _ now new h (c.in_ok-push.ensures.items ∙ ap (λ n. starts ++ n ∷ []) c.place.ensures) (ap (with_starts starts now) (sym first) ∙ inv.1.0), one_spare b rest _ now new h (ap (with_spare now) (sym first) ∙ inv.1.1)),
+    )
 
 pub returns : goal.returns
 returns c =
-    let b = body_in c.args.body.now in
-    let last = c.in_ok-last.last in
-    let a = around last c.of_body-ways.result in
-    let first = c.in_ok-write_body.ensures ∙ ap (λ w. w ++ body_lines construct.Unit b last (length w) 0 last a) c.new-writer.ensures in
-    bodies_written b last (map plain_line c.into_lines.result.items) c.write_body.new.self c.in_ok-starts.starts.items c.place-spare.result a c.in_ok-last.ensures (c.of_body-ways.ensures last) (c.in_ok-starts.ensures.items_if_clones_equal (λ y h. h)) c.place-spare.ensures first (c.into_lines.ensures ∙ c.in_ok-write_idle.ensures)
+    let units = c.args.units.now in
+    let none : bodies_in (drop c.loop-unit.unit-index units) ≡ [] = ap bodies_in (drop_all c.loop-unit.unit-index units (omega (arith, c.loop-unit-test.false))) in
+    let inv = rw none at c.loop-unit.invariant in
+    units_written (bodies_in units) c.loop-unit.writer (map plain_line c.into_lines.result.items) c.loop-unit.starts.items c.place-spare.result inv.0 inv.1.0 inv.1.1 c.place-spare.ensures (c.into_lines.ensures ∙ c.in_ok-write_idle.ensures)

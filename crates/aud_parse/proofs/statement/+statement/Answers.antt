@@ -1,19 +1,82 @@
 use Rattle.aud_parse.specs.Grammar as g
-use Rattle.aud_parse.specs.Grammar.{Symbol, N, T}
+use Rattle.aud_parse.specs.Grammar.{Symbol, N, T, Opt}
 use Rattle.aud_lex.specs.declared.token.Kind.TheVariants as kind
 use Rattle.std.proofs.Common.{List, [], ◌∷◌, ap, sym, ◌∙◌, refl, rules, arith}
 use Rattle.aud_parse.specs.Ties.Outcome.{o_rule, o_this, o_other, o_last, o_yes, o_no, o_more}
 use Rattle.aud_parse.specs.Actions.{token}
-use Rattle.aud_parse.specs.Ties.Items.{list_item, handler_item}
-use Rattle.aud_parse.proofs.Passing.{to, exit, hand_after, hand_on, level_on, no_level, word_passes, turns_push, heads_none, heads_push, heads_end}
+use Rattle.aud_parse.specs.Ties.Items.{list_item, handler_item, declaration_item}
+use Rattle.aud_parse.proofs.Passing.{to, exit, hand_after, hand_on, level_on, no_level, word_passes, token_passes, turns_push, heads_none, heads_push, heads_end}
 use Rattle.aud_parse.proofs.Joined.{exit_all, no_more_still}
 use Rattle.aud_parse.proofs.Connecting.{completes, completes_in, exit_in, exit_among}
-use Rattle.aud_parse.proofs.Rolls.{arm_items, in_order_items, handler_items, block_items}
+use Rattle.aud_parse.proofs.Rolls.{arm_items, in_order_items, handler_items, block_items, declare_items, procedure_items}
 use Rattle.aud_parse.proofs.statement.+statement.Goals as goal
 
 -- what a branch is read by, behind its first word
 abbrev guarded_symbols : List Symbol
 guarded_symbols = N g.Expression ∷ T kind.Then ∷ N g.Statements ∷ []
+
+-- what a procedure is read by, between its first word and its declarations
+abbrev specification_symbols : List Symbol
+specification_symbols = N g.Identifier ∷ Opt g.Formals ∷ T kind.Is ∷ []
+
+pub procedure-returns-in_err-begin : goal.procedure-returns-in_err-begin
+procedure-returns-in_err-begin t c = exit _ _ _ c.from_residual.ensures.1 (c.in_err-begin.ensures.reads c.args.room) (λ k ds v o. o_rule o)
+
+pub procedure-returns-in_err-parts : goal.procedure-returns-in_err-parts
+procedure-returns-in_err-parts t c = exit_all specification_symbols _ _ _ _ c.from_residual-in_err-parts.ensures.1 c.in_err-parts.ensures.reads (λ k ds v o. o_rule (c.in_ok-begin.ensures.reads _ _ _ _ o))
+
+pub procedure-returns-in_err-declarations : goal.procedure-returns-in_err-declarations
+procedure-returns-in_err-declarations t c = exit _ _ _ c.from_residual-in_err-declarations.ensures.1 c.in_err-declarations.ensures.reads (λ k ds v o. o_rule (c.in_ok-begin.ensures.reads _ _ _ _ (c.in_ok-parts.ensures.reads _ _ _ o)))
+
+pub procedure-returns-in_err-body : goal.procedure-returns-in_err-body
+procedure-returns-in_err-body t c = exit _ _ _ c.from_residual-in_err-body.ensures.1 c.in_err-body.ensures.reads (λ k ds v o. o_rule (c.in_ok-begin.ensures.reads _ _ _ _ (c.in_ok-parts.ensures.reads _ _ _ (c.in_ok-declarations.ensures.reads _ _ _ o))))
+
+pub procedure-returns : goal.procedure-returns
+procedure-returns t c = record {
+  reads = λ k ds v o.
+      to (o_rule (c.in_ok-begin.ensures.reads _ _ _ _ (c.in_ok-parts.ensures.reads _ _ _ (c.in_ok-declarations.ensures.reads _ _ _ (c.in_ok-body.ensures.reads _ _ _ o)))))
+      (procedure_items c.in_ok-declaration.declaration (token c.in_ok-begin.begin.now) c.in_ok-parts.parts c.in_ok-declarations.declarations c.in_ok-body.body ds (rw (sym c.at.ensures) c.in_ok-declaration.ensures));
+  shorter = search rules;
+}
+
+pub declaration-returns-then-is : goal.declaration-returns-then-is
+declaration-returns-then-is t c = record { reads = hand_on _ c.args.start _ c.named_declaration.ensures.reads (λ k ds v o. o_rule (o_this (sym c.is.ensures ∙ c.if-is.true) o)); shorter = search rules }
+
+pub declaration-returns : goal.declaration-returns
+declaration-returns t c = record { reads = hand_on _ c.args.start _ c.procedure.ensures.reads (λ k ds v o. o_rule (o_other (sym c.is.ensures ∙ c.if-is.false) (o_last o))); shorter = search rules }
+
+pub declaration_list-turns-init : goal.declaration_list-turns-init
+declaration_list-turns-init t c = record { turns = heads_none c.new-all.ensures.items; shorter = search rules }
+
+pub declaration_list-turns-preserved : goal.declaration_list-turns-preserved
+declaration_list-turns-preserved t c = record { turns = heads_push c.in_ok-next.next.value c.turns.invariant.turns c.in_ok-next.ensures.reads (λ k ds v o. o_more (sym c.is_one_of.ensures ∙ c.if-not-is_one_of.false) o) c.in_ok-all.ensures; shorter = search rules }
+
+pub declaration_list-returns-in_err-next : goal.declaration_list-returns-in_err-next
+declaration_list-returns-in_err-next t c = exit _ _ _ c.from_residual.ensures.1 c.in_err-next.ensures.reads (λ k ds v o. o_rule (c.turns.invariant.turns.by _ _ _ o))
+
+pub declaration_list-returns-then-not-is_one_of : goal.declaration_list-returns-then-not-is_one_of
+declaration_list-returns-then-not-is_one_of t c = record { reads = heads_end c.in_ok-next.next.value c.turns.invariant.turns c.in_ok-next.ensures.reads (sym c.is_one_of.ensures ∙ c.if-not-is_one_of.true) c.in_ok-all.ensures (λ k ds v o. o_rule o); shorter = search rules }
+
+pub declarations-returns-in_err-inside : goal.declarations-returns-in_err-inside
+declarations-returns-in_err-inside t c = no_level _ g.Declarations g.DeclarationList _ c.args.start _ _ _ refl c.from_residual.ensures.1 c.in_err-inside.ensures c.is_one_of.ensures
+
+pub declarations-returns : goal.declarations-returns
+declarations-returns t c = record { reads = level_on _ c.args.start _ _ c.in_ok-inside.ensures c.declaration_list.ensures.reads (λ k ds v o. o_rule o); shorter = search rules }
+
+pub opt_declarations-returns-then-is_one_of : goal.opt_declarations-returns-then-is_one_of
+opt_declarations-returns-then-is_one_of t c = record { reads = hand_on _ c.args.start _ c.declarations.ensures.reads (λ k ds v o. o_yes (sym c.is_one_of.ensures ∙ c.if-is_one_of.true) o); shorter = search rules }
+
+pub opt_declarations-returns : goal.opt_declarations-returns
+opt_declarations-returns t c = record { reads = λ k ds v o. to (o_no (sym c.is_one_of.ensures ∙ c.if-is_one_of.false) o) (ap (λ l. list_item declaration_item l ∷ ds) (sym c.new-none.ensures.items)); shorter = search rules }
+
+pub opt_declare-returns-in_err-all : goal.opt_declare-returns-in_err-all
+opt_declare-returns-in_err-all t c = exit _ _ _ c.from_residual.ensures.1 c.in_err-all.ensures.reads (λ k ds v o. o_yes c.in-Some.ensures.reads.0 (o_rule (token_passes c.in-Some.ensures.reads _ _ _ o)))
+
+pub opt_declare-returns-in-Some : goal.opt_declare-returns-in-Some
+opt_declare-returns-in-Some t c = record { reads = λ k ds v o. rw c.at.ensures (to (o_yes c.in-Some.ensures.reads.0 (o_rule (token_passes c.in-Some.ensures.reads _ _ _ (c.in_ok-all.ensures.reads _ _ _ o)))) (declare_items (token c.in-Some.t.now) c.in_ok-all.all ds)); shorter = search rules }
+
+pub opt_declare-returns : goal.opt_declare-returns
+opt_declare-returns t c = record { reads = λ k ds v o. o_no c.in_default.ensures.reads o; shorter = search rules }
 
 pub loop_statement-returns-in_err-scheme : goal.loop_statement-returns-in_err-scheme
 loop_statement-returns-in_err-scheme t c = exit_in _ _ _ c.from_residual.ensures.1 c.in_err-scheme.ensures.reads (λ k ds v o. o_rule o)
@@ -105,8 +168,11 @@ statement-returns-then-is_one_of-2 t c = completes _ c.args.start c.args.start _
 pub statement-returns-then-is-4 : goal.statement-returns-then-is-4
 statement-returns-then-is-4 t c = record { reads = hand_on _ c.args.start _ c.exit.ensures.reads (λ k ds v o. o_rule (o_other (sym c.is.ensures ∙ c.if-is.false) (o_other (sym c.is-2.ensures ∙ c.if-is-2.false) (o_other (sym c.is-3.ensures ∙ c.if-is-3.false) (o_other (sym c.is_one_of.ensures ∙ c.if-is_one_of.false) (o_other (sym c.is_one_of-2.ensures ∙ c.if-is_one_of-2.false) (o_this (sym c.is-4.ensures ∙ c.if-is-4.true) o))))))); shorter = search rules }
 
+pub statement-returns-then-is-5 : goal.statement-returns-then-is-5
+statement-returns-then-is-5 t c = record { reads = hand_on _ c.args.start _ c.return_statement.ensures.reads (λ k ds v o. o_rule (o_other (sym c.is.ensures ∙ c.if-is.false) (o_other (sym c.is-2.ensures ∙ c.if-is-2.false) (o_other (sym c.is-3.ensures ∙ c.if-is-3.false) (o_other (sym c.is_one_of.ensures ∙ c.if-is_one_of.false) (o_other (sym c.is_one_of-2.ensures ∙ c.if-is_one_of-2.false) (o_other (sym c.is-4.ensures ∙ c.if-is-4.false) (o_this (sym c.is-5.ensures ∙ c.if-is-5.true) o)))))))); shorter = search rules }
+
 pub statement-returns : goal.statement-returns
-statement-returns t c = record { reads = hand_on _ c.args.start _ (c.raise.ensures.reads c.args.room) (λ k ds v o. o_rule (o_other (sym c.is.ensures ∙ c.if-is.false) (o_other (sym c.is-2.ensures ∙ c.if-is-2.false) (o_other (sym c.is-3.ensures ∙ c.if-is-3.false) (o_other (sym c.is_one_of.ensures ∙ c.if-is_one_of.false) (o_other (sym c.is_one_of-2.ensures ∙ c.if-is_one_of-2.false) (o_other (sym c.is-4.ensures ∙ c.if-is-4.false) (o_last o)))))))); shorter = search rules }
+statement-returns t c = record { reads = hand_on _ c.args.start _ (c.raise.ensures.reads c.args.room) (λ k ds v o. o_rule (o_other (sym c.is.ensures ∙ c.if-is.false) (o_other (sym c.is-2.ensures ∙ c.if-is-2.false) (o_other (sym c.is-3.ensures ∙ c.if-is-3.false) (o_other (sym c.is_one_of.ensures ∙ c.if-is_one_of.false) (o_other (sym c.is_one_of-2.ensures ∙ c.if-is_one_of-2.false) (o_other (sym c.is-4.ensures ∙ c.if-is-4.false) (o_other (sym c.is-5.ensures ∙ c.if-is-5.false) (o_last o))))))))); shorter = search rules }
 
 pub more_statements-turns-preserved : goal.more_statements-turns-preserved
 more_statements-turns-preserved t c = record { turns = turns_push c.in_ok-next.next.value c.turns.invariant.turns (sym c.is_one_of.ensures ∙ c.turns-test.true) c.in_ok-next.ensures.reads c.in_ok-all.ensures; shorter = search rules }

@@ -1,11 +1,20 @@
 use Rattle.std.proofs.Common.{◌+◌, ◌*◌, ◌≤◌, length}
 use Rattle.aud_parse.specs.Grammar as g
-use Rattle.aud_parse.specs.Ties.Items.{arm_item, handler_item, statement_item}
+use Rattle.aud_parse.specs.Ties.Items.{arm_item, handler_item, statement_item, declaration_item}
 use Rattle.aud_parse.proofs.Passing.{Turns, Heads}
 use Rattle.aud_parse.proofs.statement.+statement.Given as goal
 
 abbrev pub decreases-statements : goal.decreases-statements
 decreases-statements l = 16 * l.room + 0
+
+abbrev pub decreases-declarations : goal.decreases-declarations
+decreases-declarations l = 16 * l.room + 0
+
+abbrev pub decreases-opt_declarations : goal.decreases-opt_declarations
+decreases-opt_declarations l = 16 * l.room + 1
+
+abbrev pub decreases-opt_declare : goal.decreases-opt_declare
+decreases-opt_declare l = 16 * l.room + 2
 
 abbrev pub decreases-guarded : goal.decreases-guarded
 decreases-guarded l = 16 * l.room + 1
@@ -40,6 +49,15 @@ decreases-body l = 16 * l.room + 4
 abbrev pub decreases-block : goal.decreases-block
 decreases-block l = 16 * l.room + 5
 
+abbrev pub decreases-procedure : goal.decreases-procedure
+decreases-procedure l = 16 * l.room + 5
+
+abbrev pub decreases-declaration : goal.decreases-declaration
+decreases-declaration l = 16 * l.room + 6
+
+abbrev pub decreases-declaration_list : goal.decreases-declaration_list
+decreases-declaration_list l = 16 * l.room + 7
+
 abbrev pub decreases-labelled : goal.decreases-labelled
 decreases-labelled l = 16 * l.room + 6
 
@@ -72,3 +90,9 @@ invariant-handler_list-turns l = record { turns : Heads handler_item g.Handler g
 
 abbrev pub decreases-handler_list-turns : goal.decreases-handler_list-turns
 decreases-handler_list-turns l = length l.rest.tokens.now
+
+abbrev pub invariant-declaration_list-turns : goal.invariant-declaration_list-turns
+invariant-declaration_list-turns l = record { turns : Heads declaration_item g.Declaration g.Declaration l.room l.start.tokens.now l.all.items l.rest.tokens.now; shorter : length l.rest.tokens.now ≤ length l.start.tokens.now }
+
+abbrev pub decreases-declaration_list-turns : goal.decreases-declaration_list-turns
+decreases-declaration_list-turns l = length l.rest.tokens.now

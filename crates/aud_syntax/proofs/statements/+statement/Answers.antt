@@ -1,12 +1,13 @@
-use Rattle.std.proofs.Common.{◌++◌, ◌∷◌, [], ◌∙◌, sym, refl, arith}
+use Rattle.std.proofs.Common.{◌++◌, ◌∷◌, [], map, ◌∙◌, sym, refl, arith}
 use Rattle.std.specs.Prelude.{codes}
 use Rattle.aud_lex.specs.Why.Spaced.{word, last_word}
 use Rattle.aud_syntax.specs.declared.tree.IfStatement.{out-IfStatement}
 use Rattle.aud_syntax.specs.declared.tree.BlockStatement.{out-BlockStatement}
 use Rattle.aud_syntax.specs.declared.tree.Body.{out-Body}
-use Rattle.aud_syntax.specs.Ties.View.{plain_expression, plain_statement, plain_others, plain_statements, arm_list, plain_iteration, plain_choices, plain_declarations, plain_body, handler_list}
-use Rattle.aud_syntax.specs.Why.Printed.{expression_words, label_words, iteration_words, end_words, arm_words, arms_words, otherwise_words, statement_words, more_statements_words, statements_words, declare_words, declarations_words, body_words, choices_words, handler_words, handlers_words, handled_words}
-use Rattle.aud_syntax.proofs.Written.{all_written, next_written, if_written, loop_written, else_written, block_written, body_written, handled_written}
+use Rattle.aud_syntax.specs.declared.tree.ProcedureDeclaration.{out-ProcedureDeclaration}
+use Rattle.aud_syntax.specs.Ties.View.{plain_expression, plain_statement, plain_others, plain_statements, arm_list, plain_iteration, plain_choices, plain_formal, plain_declaration, plain_declarations, plain_body, handler_list}
+use Rattle.aud_syntax.specs.Why.Printed.{ident_word, expression_words, label_words, iteration_words, end_words, arm_words, arms_words, otherwise_words, statement_words, more_statements_words, statements_words, declare_words, formals_words, declaration_words, declarations_words, body_words, choices_words, handler_words, handlers_words, handled_words}
+use Rattle.aud_syntax.proofs.Written.{all_written, next_written, if_written, loop_written, else_written, block_written, procedure_written, body_written, handled_written}
 use Rattle.aud_syntax.proofs.statements.+statement.Goals as goal
 
 pub push_arm-returns : goal.push_arm-returns
@@ -99,3 +100,20 @@ push_statement-returns-in-Loop t c = rw c.in-Loop.is (loop_written c.push_loop.r
 pub push_statements-returns : goal.push_statements-returns
 push_statements-returns t c =
     all_written c.push_more_statements.result c.args.out.now.items c.push_statement.new.out.items c.push_more_statements.new.out.items (statement_words (plain_statement c.args.statements.now.first)) (more_statements_words (plain_others c.args.statements.now.others.items)) c.in_ok-push_statement.ensures (rw c.deref.ensures.value at c.push_more_statements.ensures)
+
+pub push_declarations-loop-next-preserved : goal.push_declarations-loop-next-preserved
+push_declarations-loop-next-preserved t c =
+    next_written (λ xs. declarations_words (plain_declarations xs)) (λ x. declaration_words (plain_declaration x)) (λ x xs. refl) c.args.declarations.now c.loop-next.next-index c.next-item.result (omega arith) c.next-item.is c.loop-next.out.items c.push_declaration.new.out.items _ c.loop-next.invariant c.in_ok-push_declaration.ensures
+
+pub push_procedure-returns : goal.push_procedure-returns
+push_procedure-returns t c =
+    let x = out-ProcedureDeclaration c.args.procedure.now in
+    let formals = formals_words (map plain_formal x.formals.items) in
+    let declarations = declarations_words (plain_declarations x.declarations.items) in
+    let rest = body_words (plain_body x.body) in
+    procedure_written c.push_body.result c.args.out.now.items c.push_body.new.out.items c.args.procedure.now
+    (all_written c.push_body.result c.args.out.now.items c.push_word.new.out.items c.push_body.new.out.items (word (codes "procedure") ∷ []) (ident_word x.name ∷ [] ++ (formals ++ (last_word (codes "is") ∷ [] ++ (declarations ++ (rest))))) c.in_ok-push_word.ensures
+    (all_written c.push_body.result c.push_word.new.out.items c.push_ident.new.out.items c.push_body.new.out.items (ident_word x.name ∷ []) (formals ++ (last_word (codes "is") ∷ [] ++ (declarations ++ (rest)))) c.in_ok-push_ident.ensures
+    (all_written c.push_body.result c.push_ident.new.out.items c.push_formals.new.out.items c.push_body.new.out.items formals (last_word (codes "is") ∷ [] ++ (declarations ++ (rest))) (rw c.deref.ensures.value at c.in_ok-push_formals.ensures)
+    (all_written c.push_body.result c.push_formals.new.out.items c.push_last_word.new.out.items c.push_body.new.out.items (last_word (codes "is") ∷ []) (declarations ++ (rest)) c.in_ok-push_last_word.ensures
+    (all_written c.push_body.result c.push_last_word.new.out.items c.push_declarations.new.out.items c.push_body.new.out.items declarations rest (rw c.deref-2.ensures.value at c.in_ok-push_declarations.ensures) c.push_body.ensures)))))

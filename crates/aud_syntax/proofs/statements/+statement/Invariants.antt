@@ -1,8 +1,11 @@
 use Rattle.std.proofs.Common.{◌≡◌, ◌++◌, drop}
 use Rattle.aud_lex.specs.Why.Spaced.{spaced}
-use Rattle.aud_syntax.specs.Ties.View.{plain_others, arm_list, handler_list}
-use Rattle.aud_syntax.specs.Why.Printed.{more_statements_words, arms_words, handlers_words}
+use Rattle.aud_syntax.specs.Ties.View.{plain_declarations, plain_others, arm_list, handler_list}
+use Rattle.aud_syntax.specs.Why.Printed.{declarations_words, more_statements_words, arms_words, handlers_words}
 use Rattle.aud_syntax.proofs.statements.+statement.Given as goal
+
+abbrev pub invariant-push_declarations-loop-next : goal.invariant-push_declarations-loop-next
+invariant-push_declarations-loop-next l = l.out.items ++ spaced (declarations_words (plain_declarations (drop l.next-index l.declarations))) ≡ l.fn.out.items ++ spaced (declarations_words (plain_declarations l.fn.declarations))
 
 abbrev pub invariant-push_more_statements-loop-next : goal.invariant-push_more_statements-loop-next
 invariant-push_more_statements-loop-next l = l.out.items ++ spaced (more_statements_words (plain_others (drop l.next-index l.others))) ≡ l.fn.out.items ++ spaced (more_statements_words (plain_others l.fn.others))

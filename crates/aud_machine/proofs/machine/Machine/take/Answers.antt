@@ -1,4 +1,6 @@
-use Rattle.std.proofs.Common.{◌<◌, refl, arith}
+use Rattle.std.proofs.Common.{◌<◌, refl, subst, arith}
+use Rattle.aud_single.specs.Shown.{plans_of}
+use Rattle.aud_single.specs.Steps.{StepsTo}
 use Rattle.aud_single.specs.declared.run.Ran.{Ran}
 use Rattle.aud_machine.proofs.Bridges.{none_taken, step_shown, step_did, one_taken}
 use Rattle.aud_machine.proofs.machine.Machine.take.Goals as goal
@@ -14,9 +16,10 @@ returns-clause-takes c =
     let is = c.self.invariant.0 in
     let new = c.step.new.self in
     let stepped = c.in_ok-ticks.ensures in
+    let next = subst (λ us. StepsTo (plans_of us) inside.code inside.progress new) c.deref.ensures.value stepped.next in
     let ran : Ran = record { steps = 1; ticks = c.in_ok-ticks.ticks; state = c.state-state.result } in
     let within : c.args.nth < c.moves.result = omega (arith, c.if-moves-nth.false) in
     rw (← c.self.view_is) (λ shown h.
-    let after = step_shown inside.program inside.code is inside.limits inside.progress new ran shown stepped.next h.all in
-    let did = step_did inside.program inside.code is inside.limits inside.progress new ran shown stepped.next h.all refl stepped.steps c.state-state.ensures in
-    one_taken inside.program inside.code is inside.limits inside.progress new ran shown stepped.next h.all c.moves.result c.args.nth _ _ c.moves.ensures.enabled c.moves.ensures.one within (record { alive = refl; all = after }) did)
+    let after = step_shown inside.program inside.code is inside.limits inside.progress new ran shown next h.all in
+    let did = step_did inside.program inside.code is inside.limits inside.progress new ran shown next h.all refl stepped.steps c.state-state.ensures in
+    one_taken inside.program inside.code is inside.limits inside.progress new ran shown next h.all c.moves.result c.args.nth _ _ c.moves.ensures.enabled c.moves.ensures.one within (record { alive = refl; all = after }) did)

@@ -1,7 +1,8 @@
 use Rattle.std.proofs.Common.{sym, rules, subst}
 use Rattle.aud_code.specs.Flat as flat
 use Rattle.aud_code.specs.Sound.{LastFine, counts_of}
-use Rattle.aud_single.proofs.Steps.{acts, fails}
+use Rattle.aud_single.specs.Shown.{plans_of}
+use Rattle.aud_single.proofs.Steps.{plain_units, acts, fails}
 use Rattle.aud_single.proofs.progress.Progress.act.Goals as goal
 
 pub evaluate-requires : goal.evaluate-requires
@@ -20,28 +21,28 @@ returns-in_ok-reach-in-Reaches c =
     let there = c.in_ok-reach-in-Reaches.ensures.does in
     record {
       next =
-          acts code q c.reach.new.self c.place-place.ensures.alone (rw c.store-store.ensures at c.display.ensures.stored.stacked.alone)
-          there.0 c.evaluate.new.operands c.requires.runs there.1.0
+          acts (plans_of c.args.units.now) code q c.reach.new.self (rw c.store-store.ensures at c.display.ensures.stored.stacked.alone) (plain_units c.args.units.now)
+          there.0 c.evaluate.new.operands there.1.1.1.0 c.requires.runs there.1.0
           (rw (c.in-Reaches.is, c.place-place.ensures.value, c.display.ensures.value, c.frames.ensures, c.store-store.ensures) at c.in_ok-outcome.ensures.ends)
-          (subst (λ (e : flat.EndLine). LastFine e.last (counts_of c.evaluate.new.operands)) (sym there.1.0) (rw (c.in-Reaches.is, c.place-place.ensures.value) at c.in_ok-outcome.ensures.fits)) there.1.1.1;
+          (subst (λ (e : flat.EndLine). LastFine e.last (counts_of c.evaluate.new.operands)) (sym there.1.0) (rw (c.in-Reaches.is, c.place-place.ensures.value) at c.in_ok-outcome.ensures.fits)) there.1.1.1.1;
       fits = c.in_ok-reach-in-Reaches.ensures.fits;
       steps = c.in_ok-reach-in-Reaches.ensures.steps;
       ticks = search rules;
       few = c.in_ok-outcome.ensures.few;
     }
 
-pub returns-in-Fails : goal.returns-in-Fails
-returns-in-Fails c =
+pub returns-in_ok-fail-in-Fails : goal.returns-in_ok-fail-in-Fails
+returns-in_ok-fail-in-Fails c =
     let code = c.args.code.now in
     let q = c.args.self.now in
-    let there = c.fail.ensures.does in
+    let there = c.in_ok-fail-in-Fails.ensures.does in
     record {
       next =
-          fails code q c.fail.new.self c.place-place.ensures.alone (rw c.store-store.ensures at c.display.ensures.stored.stacked.alone) there.0 c.in-Fails.raise c.requires.runs there.1.0
+          fails (plans_of c.args.units.now) code q c.fail.new.self (rw c.store-store.ensures at c.display.ensures.stored.stacked.alone) there.0 c.in-Fails.raise there.1.1.1.0 c.requires.runs there.1.0
           (rw (c.in-Fails.is, c.place-place.ensures.value, c.display.ensures.value, c.frames.ensures, c.store-store.ensures) at c.in_ok-outcome.ensures.ends)
-          there.1.1.1;
-      fits = c.fail.ensures.fits;
-      steps = c.fail.ensures.steps;
+          there.1.1.1.1;
+      fits = c.in_ok-fail-in-Fails.ensures.fits;
+      steps = c.in_ok-fail-in-Fails.ensures.steps;
       ticks = search rules;
       few = c.in_ok-outcome.ensures.few;
     }

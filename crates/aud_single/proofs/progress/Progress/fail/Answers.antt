@@ -1,4 +1,5 @@
-use Rattle.std.proofs.Common.{◌≡◌, ℕ, Some, drop, length, refl, ap, ◌∙◌}
+use Rattle.std.proofs.Common.{◌≡◌, ℕ, Some, [], drop, refl, ◌∙◌}
+use Rattle.std.specs.Prelude.{Result, Ok, Err, OnOk}
 use Rattle.aud_text.specs.declared.place.Pos.{Pos}
 use Rattle.aud_text.specs.declared.raise.Raise.{Raise}
 use Rattle.aud_meaning.specs.Ties.Single.{Single}
@@ -6,21 +7,26 @@ use Rattle.aud_code.specs.declared.line.Ending.{Ending}
 use Rattle.aud_code.specs.declared.line.Last.{Last}
 use Rattle.aud_code.specs.declared.line.Last.TheVariants.{Does, Continues, Guards, Ends, Leaves}
 use Rattle.aud_code.specs.Places.{Spot}
+use Rattle.aud_code.specs.Flat.{Flat}
 use Rattle.aud_code.specs.Frames.{found}
 use Rattle.aud_code.specs.View.{plain_end}
 use Rattle.aud_code.proofs.Framing.{end_found}
 use Rattle.aud_single.specs.Steps.{LeadsOn, flows_by, raises_by}
-use Rattle.aud_single.proofs.Fitting.{has_frames, meets, fits_still}
+use Rattle.aud_single.proofs.Fitting.{Meets, has_frames, meets, ends_back, fits_still}
 use Rattle.aud_single.proofs.progress.Progress.fail.Goals as goal
 use Rattle.aud_single.proofs.progress.Progress.fail.Goals.{After-flow}
 
+map_ok : {A E P Q : Type 0} (r : Result A E) → (P → Q) → OnOk r P → OnOk r Q
+map_ok (Ok x) f h = f h
+map_ok (Err e) f h = h
+
 -- where nothing is evaluated, the ending does what it does
-flows : (last : Last) (at : Pos) (behind : ℕ) (raise : Raise) (p : Single Spot) → ((e : Ending) (n : ℕ) → last ≡ Does e n → ⊥) → flows_by last behind p ≡ raises_by last at behind raise p
-flows (Does e n) at behind raise p other = absurd (other e n refl)
-flows (Continues f out inside) at behind raise p other = refl
-flows (Guards gs) at behind raise p other = refl
-flows (Ends c n) at behind raise p other = refl
-flows (Leaves n to) at behind raise p other = refl
+flows : (code : Flat) (last : Last) (at : Pos) (raise : Raise) (p : Single Spot) → ((e : Ending) (n : ℕ) → last ≡ Does e n → ⊥) → flows_by code last p ≡ raises_by code last at raise p
+flows code (Does e n) at raise p other = absurd (other e n refl)
+flows code (Continues f out inside) at raise p other = refl
+flows code (Guards gs) at raise p other = refl
+flows code (Ends c n) at raise p other = refl
+flows code (Leaves n to) at raise p other = refl
 
 pub flow-requires : goal.flow-requires
 flow-requires c = record {
@@ -28,25 +34,31 @@ flow-requires c = record {
   steps = c.requires.steps;
 }
 
-raised : (c : After-flow) → c.flow.new.self ≡ raises_by c.in-Some.ending.now.last c.in-Some.ending.now.at (length c.args.code.now.lines) c.args.raise c.args.self.now
-raised c =
-    let l = c.in-Some.ending.now in
-    let q = c.args.self.now in
-    c.flow.ensures.does
-    ∙ ap (λ n. flows_by l.last n q) c.len.ensures.lines
-    ∙ flows l.last l.at (length c.args.code.now.lines) c.args.raise q c.in_default.not-Does
+there : (c : After-flow) → found c.args.code.now.lines c.args.self.now.control.place ≡ Some (plain_end c.in-Some.ending.now)
+there c = rw c.place.ensures.value at c.in-Some.ensures.found
 
-pub returns-in_default : goal.returns-in_default
-returns-in_default c =
+on : (c : After-flow) → LeadsOn c.args.code.now.lines c.in-Some.ending.now.last
+on c = let leads = c.in-Some.ensures.leads in (leads.ways, (leads.exit, leads.last))
+
+at_end : (c : After-flow) → Meets c.args.code.now.lines c.args.self.now c.in-Some.ending.now
+at_end c = meets c.args.code.now.lines c.ending.ensures.sound.frames c.args.self.now c.in-Some.ending.now c.requires.runs c.requires.fits (there c) (on c)
+
+pub returns-in_default-clause-does : goal.returns-in_default-clause-does
+returns-in_default-clause-does c =
+    let flow = (goal.at.returns-in_default-clause-does c).After-flow in
     let code = c.args.code.now in
     let q = c.args.self.now in
     let l = c.in-Some.ending.now in
-    let there : found code.lines q.control.place ≡ Some (plain_end l) = rw c.place.ensures.value at c.in-Some.ensures.found in
-    let leads = c.in-Some.ensures.leads in
-    let on : LeadsOn code.lines l.last = (leads.ways, (leads.exit, leads.last)) in
-    let at_end = meets code.lines c.len.ensures.sound.frames q l c.requires.runs c.requires.fits there on in
-    record {
-      does = (l, (end_found (drop q.control.place code.lines) q.control.place (plain_end l) there, (on, raised c)));
-      fits = fits_still code.lines q c.flow.new.self l c.args.raise at_end c.requires.runs (raised c);
-      steps = c.flow.ensures.steps;
-    }
+    map_ok c.flow.result
+    (λ is. (l, (end_found (drop q.control.place code.lines) q.control.place (plain_end l) (there flow), (on flow, (ends_back code q l (at_end flow), is ∙ flows code l.last l.at c.args.raise q c.in_default.not-Does)))))
+    c.flow.ensures.does
+
+pub returns-in_default-clause-fits : goal.returns-in_default-clause-fits
+returns-in_default-clause-fits c =
+    let flow = (goal.at.returns-in_default-clause-fits c).After-flow in
+    let code = c.args.code.now in
+    let q = c.args.self.now in
+    let l = c.in-Some.ending.now in
+    map_ok c.flow.result
+    (λ is. fits_still [] code c.ending.ensures.sound q c.flow.new.self l c.args.raise (at_end flow) c.requires.runs (is ∙ flows code l.last l.at c.args.raise q c.in_default.not-Does))
+    c.flow.ensures.does

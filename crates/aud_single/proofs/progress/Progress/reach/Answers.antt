@@ -1,12 +1,12 @@
-use Rattle.std.proofs.Common.{◌≡◌, Some, drop, length, sym, ap, ◌∙◌, subst}
+use Rattle.std.proofs.Common.{◌≡◌, Some, drop, sym, ◌∙◌, subst}
 use Rattle.std.specs.Prelude.{Result, Ok, Err, OnOk}
 use Rattle.aud_code.specs.Flat as flat
 use Rattle.aud_code.specs.Frames.{found}
 use Rattle.aud_code.specs.Sound.{LastFine, counts_of}
 use Rattle.aud_code.specs.View.{plain_end}
 use Rattle.aud_code.proofs.Framing.{end_found}
-use Rattle.aud_single.specs.Steps.{ends_by}
-use Rattle.aud_single.proofs.Fitting.{has_frames, meets, fits_on}
+use Rattle.aud_single.specs.Shown.{plans_of}
+use Rattle.aud_single.proofs.Fitting.{Meets, has_frames, meets, ends_back, fits_on}
 use Rattle.aud_single.proofs.progress.Progress.reach.Goals as goal
 use Rattle.aud_single.proofs.progress.Progress.reach.Goals.{In-Some, After-end}
 
@@ -26,29 +26,25 @@ end-requires-clause-fine c =
     let there = met (goal.at.end-requires-clause-fine c).In-Some in
     subst (λ (e : flat.EndLine). LastFine e.last (counts_of c.args.operands.now)) (sym (end_found (drop place c.args.code.now.lines) place (plain_end c.in-Some.ending.now) there)) c.requires.fine
 
--- the same, with the number of lines
-ended : (c : After-end) → c.end.new.self ≡ ends_by c.in-Some.ending.now.last c.in-Some.ending.now.at c.len.result c.args.operands.now c.args.self.now → c.end.new.self ≡ ends_by c.in-Some.ending.now.last c.in-Some.ending.now.at (length c.args.code.now.lines) c.args.operands.now c.args.self.now
-ended c is =
-    let l = c.in-Some.ending.now in
-    is ∙ ap (λ n. ends_by l.last l.at n c.args.operands.now c.args.self.now) c.len.ensures.lines
+at_end : (c : After-end) → Meets c.args.code.now.lines c.args.self.now c.in-Some.ending.now
+at_end c =
+    let leads = c.in-Some.ensures.leads in
+    meets c.args.code.now.lines c.ending.ensures.sound.frames c.args.self.now c.in-Some.ending.now c.requires.runs c.requires.fits (sym c.requires.reached ∙ c.in-Some.ensures.found) (leads.ways, (leads.exit, leads.last))
 
 pub returns-clause-does : goal.returns-clause-does
 returns-clause-does c =
-    let place = c.args.self.now.control.place in
+    let code = c.args.code.now in
+    let q = c.args.self.now in
+    let place = q.control.place in
     let l = c.in-Some.ending.now in
     let leads = c.in-Some.ensures.leads in
     let there = met (goal.at.returns-clause-does c).In-Some in
     map_ok c.end.result
-    (λ is. (l, (end_found (drop place c.args.code.now.lines) place (plain_end l) there, ((leads.ways, (leads.exit, leads.last)), ended (goal.at.returns-clause-does c).After-end is))))
+    (λ is. (l, (end_found (drop place code.lines) place (plain_end l) there, ((leads.ways, (leads.exit, leads.last)), (ends_back code q l (at_end (goal.at.returns-clause-does c).After-end), is)))))
     c.end.ensures.does
 
 pub returns-clause-fits : goal.returns-clause-fits
 returns-clause-fits c =
-    let code = c.args.code.now in
-    let q = c.args.self.now in
-    let l = c.in-Some.ending.now in
-    let leads = c.in-Some.ensures.leads in
-    let at_end = meets code.lines c.len.ensures.sound.frames q l c.requires.runs c.requires.fits (met (goal.at.returns-clause-fits c).In-Some) (leads.ways, (leads.exit, leads.last)) in
     map_ok c.end.result
-    (λ is. fits_on code.lines q c.end.new.self l c.args.operands.now at_end c.requires.runs (ended (goal.at.returns-clause-fits c).After-end is))
+    (λ is. fits_on (plans_of c.args.units.now) c.args.code.now c.ending.ensures.sound c.args.self.now c.end.new.self c.in-Some.ending.now c.args.operands.now (at_end (goal.at.returns-clause-fits c).After-end) c.requires.runs is)
     c.end.ensures.does

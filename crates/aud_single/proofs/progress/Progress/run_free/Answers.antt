@@ -1,10 +1,10 @@
-use Rattle.std.proofs.Common.{◌≡◌, ◌+◌, [], slice_set, ap, ◌∙◌, refl, subst, arith}
+use Rattle.std.proofs.Common.{◌≡◌, ◌+◌, [], slice_set, reverse, ap, ◌∙◌, refl, subst, arith}
 use Rattle.std.proofs.lemmas.List.{set-set}
 use Rattle.std.proofs.lemmas.Option.{get_or_from_slice_get}
 use Rattle.aud_meaning.specs.Ties.Single.{Single}
-use Rattle.aud_code.specs.Places.{Spot}
+use Rattle.aud_code.specs.Places.{Spot, goes}
 use Rattle.aud_store.specs.Ties.Stored.{Stored}
-use Rattle.aud_single.specs.Shown.{plain_stage, main_at}
+use Rattle.aud_single.specs.Shown.{plain_stage}
 use Rattle.aud_single.specs.Fast.{Free, led, RunsFast}
 use Rattle.aud_single.proofs.FastRuns.{runs_fast}
 use Rattle.aud_single.proofs.progress.Progress.run_free.Goals as goal
@@ -13,7 +13,7 @@ use Rattle.aud_single.proofs.progress.Progress.run_free.Goals.{After-put}
 abbrev before : (c : After-put) → Single Spot
 before c =
     let inside = c.self.inside in
-    record { control = main_at inside.place; stage = plain_stage inside.stage; stack = inside.store.stack; frames = inside.store.frames; output = inside.output.items; cut = inside.cut; choices = inside.choices.items; clock = inside.clock; steps = inside.steps }
+    record { control = record { place = inside.place; returns = reverse inside.returns.items }; stage = plain_stage inside.stage; stack = inside.store.stack; frames = inside.store.frames; output = inside.output.items; cut = inside.cut; choices = inside.choices.items; clock = inside.clock; steps = inside.steps }
 
 free : (c : After-put) → Free c.self.inside.place c.take.result.items (before c)
 free c = record {
@@ -26,7 +26,7 @@ free c = record {
 }
 
 abbrev with_store : (c : After-put) → Stored → Single Spot
-with_store c store = record (before c) { control = main_at c.fast_run_with-cells.result.0.place; stack = store.stack; frames = store.frames; steps = c.self.inside.steps + c.fast_run_with-cells.result.0.steps }
+with_store c store = record (before c) { control = goes c.fast_run_with-cells.result.0.place (before c).control; stack = store.stack; frames = store.frames; steps = c.self.inside.steps + c.fast_run_with-cells.result.0.steps }
 
 abbrev after : (c : After-put) → Single Spot
 after c = with_store c c.put.new.self

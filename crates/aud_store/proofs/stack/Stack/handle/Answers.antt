@@ -1,6 +1,7 @@
 use Rattle.std.proofs.Common.{List, Some, refl, ap, ◌∙◌}
 use Rattle.aud_meaning.specs.Configuration.{Opened}
 use Rattle.aud_meaning.specs.Ties.Single.{Stack}
+use Rattle.aud_store.specs.Ties.Display.{seen}
 use Rattle.aud_store.proofs.Opened.{IsLast, seen_turned, opened_turned, none_changed}
 use Rattle.aud_store.proofs.stack.Stack.handle.Goals as goal
 use Rattle.aud_store.proofs.stack.Stack.handle.Goals.{in-Some, in_default}
@@ -11,19 +12,19 @@ invariant_of-self c = elim c.match-last_mut.branch [
       let opened = c.self.inside.opened in
       let old = w.in-Some.open.now in
       let last : IsLast opened.items opened.len old = record { counted = opened.ok.0; some = w.in-Some.ensures.variant.0 refl; at = w.in-Some.ensures.value } in
-      c.self.invariant ∙ seen_turned opened.items opened.len old (record old { handling = Some c.args.exception }) last refl)
+      seen_turned c.self.inside.display opened.items opened.len old (record old { handling = Some c.args.exception }) last (record { frame = refl; purpose = refl; replaced = refl }) c.self.invariant)
   | in_default w ↦ rw w.self-inside-is c.self.invariant
 ]
 
 pub returns : goal.returns
 returns c =
     let opened = c.self.inside.opened in
-    let with : List Opened → Stack = λ os. record { display = c.self.inside.display.items; opened = os } in
+    let with : List Opened → Stack = λ os. record { display = seen c.self.inside.display; opened = os } in
     let changed : Opened → Opened = λ o. record o { handling = Some c.args.exception } in
     elim c.match-last_mut.branch [
       | in-Some w ↦ rw (w.self-inside-is, ← c.self.view_is) (
           let old = w.in-Some.open.now in
           let last : IsLast opened.items opened.len old = record { counted = opened.ok.0; some = w.in-Some.ensures.variant.0 refl; at = w.in-Some.ensures.value } in
-          ap with (opened_turned changed opened.items opened.len old (record old { handling = Some c.args.exception }) last (λ saved. refl)))
-      | in_default w ↦ rw (w.self-inside-is, ← c.self.view_is) (ap with (none_changed changed opened.items w.in_default.ensures.item.3))
+          ap with (opened_turned changed opened.items c.self.inside.backs.items opened.len old (record old { handling = Some c.args.exception }) last refl (λ saved own. refl)))
+      | in_default w ↦ rw (w.self-inside-is, ← c.self.view_is) (ap with (none_changed changed opened.items c.self.inside.backs.items w.in_default.ensures.item.3))
     ]

@@ -1,0 +1,30 @@
+-- The plain data of arguments in memory.
+use Rattle.std.specs.Prelude.{List, [], ◌∷◌, ◌++◌, Option, Some, None, option_map, Vec}
+use Rattle.std.specs.Global.{Global}
+use Rattle.std.specs.Borrow.{Bor}
+use Rattle.std.specs.Option.{option_copied}
+use Rattle.aud_syntax.specs.declared.tree.Name as source
+use Rattle.aud_syntax.specs.Plain.{Name}
+use Rattle.aud_syntax.specs.Ties.View.{plain_name}
+use Rattle.aud_typed.specs.declared.program.Argument as memory
+use Rattle.aud_typed.specs.declared.program.Reference as reference
+use Rattle.aud_typed.specs.Tree.{Argument, Reference}
+use Rattle.aud_typed.specs.Ties.View.{plain_argument, plain_arguments, plain_reference}
+
+-- the name that an expression is, if it is one
+abbrev pub plain_found : Option (Bor source.Name) → Option Name
+plain_found found = option_map plain_name (option_copied found)
+
+abbrev pub plain_target : Option reference.Reference → Option Reference
+plain_target r = option_map plain_reference r
+
+abbrev pub plain_passed : Option memory.Argument → Option Argument
+plain_passed a = option_map plain_argument a
+
+abbrev pub plain_all_passed : Option (Vec memory.Argument Global) → Option (List Argument)
+plain_all_passed all = option_map (λ v. plain_arguments v.items) all
+
+-- one more behind those that are there
+abbrev pub one_more_passed : Option (List Argument) → Option Argument → Option (List Argument)
+one_more_passed (Some xs) (Some x) = Some (xs ++ x ∷ [])
+one_more_passed _ _ = None

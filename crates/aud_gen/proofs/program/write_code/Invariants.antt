@@ -1,0 +1,13 @@
+use Rattle.std.proofs.Common.{◌≡◌, drop}
+use Rattle.aud_gen.specs.Layout.{units_code_by, starts_from_by, spare_from_by}
+use Rattle.aud_gen.specs.Written.{flat_step, written}
+use Rattle.aud_gen.specs.Writes.{bodies_in}
+use Rattle.aud_gen.proofs.Units.{with_units, with_starts, with_spare}
+use Rattle.aud_gen.proofs.program.write_code.Given as goal
+
+abbrev pub invariant-loop-unit : goal.invariant-loop-unit
+invariant-loop-unit l =
+    let rest = bodies_in (drop l.unit-index l.units) in
+    let all = bodies_in l.units in
+    (with_units l.writer rest ≡ written (units_code_by flat_step all 0))
+    × ((with_starts l.starts.items l.writer rest ≡ starts_from_by flat_step all 0) × (with_spare l.writer rest ≡ spare_from_by flat_step all 0))

@@ -1,0 +1,11 @@
+use Rattle.std.proofs.Common.{refl}
+use Rattle.aud_parse.specs.Grammar as g
+use Rattle.aud_parse.specs.Ties.Outcome.{o_rule}
+use Rattle.aud_parse.proofs.Passing.{level_on, no_level}
+use Rattle.aud_parse.proofs.formals.formals.Goals as goal
+
+pub returns-in_err-deeper : goal.returns-in_err-deeper
+returns-in_err-deeper c = no_level _ g.Formals g.InFormals _ c.args.start _ _ _ refl c.from_residual.ensures.1 c.in_err-deeper.ensures c.is.ensures
+
+pub returns : goal.returns
+returns c = record { reads = level_on _ c.args.start _ _ c.in_ok-deeper.ensures (c.in_formals.ensures.reads _) (λ k ds v o. o_rule o); shorter = c.in_formals.ensures.shorter }

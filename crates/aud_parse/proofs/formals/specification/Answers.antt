@@ -1,0 +1,33 @@
+use Rattle.std.proofs.Common.{◌∷◌, sym, ap, ◌∙◌, rules}
+use Rattle.std.specs.Prelude.{Vec}
+use Rattle.std.specs.Global.{Global}
+use Rattle.aud_syntax.specs.declared.tree.Ident.{Ident}
+use Rattle.aud_syntax.specs.declared.tree.Formal.{Formal}
+use Rattle.aud_parse.specs.Actions.{an_ident}
+use Rattle.aud_parse.specs.Ties.Items.{vec_item, formal_item}
+use Rattle.aud_parse.proofs.Passing.{to}
+use Rattle.aud_parse.proofs.Joined.{joined, not_joined}
+use Rattle.aud_parse.proofs.Connecting.{exit_among}
+use Rattle.aud_parse.proofs.formals.specification.Goals as goal
+
+pub returns-in_err-name : goal.returns-in_err-name
+returns-in_err-name c = exit_among _ _ _ c.from_residual.ensures.1 (c.in_err-name.ensures.reads c.args.room) (λ k ds v o. o)
+
+pub returns-in_err-name-2 : goal.returns-in_err-name-2
+returns-in_err-name-2 c = exit_among _ _ _ c.from_residual-in_err-name-2.ensures.1 (not_joined _ _ c.in_err-name-2.ensures c.opt_formals.ensures) (λ k ds v o. c.in_ok-name.ensures.reads _ _ _ _ o)
+
+pub returns-in_err-parts : goal.returns-in_err-parts
+returns-in_err-parts c =
+    let j = joined _ c.in_ok-name-2.ensures c.opt_formals.ensures in
+    exit_among _ _ _ c.from_residual-in_err-parts.ensures.1 (c.in_err-parts.ensures.reads c.args.room) (λ k ds v o. c.in_ok-name.ensures.reads _ _ _ _ (j.reads _ _ _ o))
+
+pub returns : goal.returns
+returns c =
+    let j = joined _ c.in_ok-name-2.ensures c.opt_formals.ensures in
+    record {
+      reads = λ k ds v o.
+          to (c.in_ok-name.ensures.reads _ _ _ _ (j.reads _ _ _ (c.in_ok-parts.ensures.reads.1 _ _ _ _ o)))
+          (ap (λ z. an_ident z ∷ vec_item formal_item c.in_ok-name-2.formals ∷ ds) (sym j.first)
+          ∙ ap (λ (z : Ident × Vec Formal Global). an_ident z.0 ∷ vec_item formal_item z.1 ∷ ds) (sym c.in_ok-parts.ensures.reads.0));
+      shorter = search rules;
+    }

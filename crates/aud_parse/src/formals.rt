@@ -1,0 +1,107 @@
+// Formal parameters (RM 6.1).
+
+ghost use Rattle.std.specs.Prelude.{◌≡◌, ◌∷◌, []};
+ghost use Rattle.aud_lex.specs.declared.token.Kind.TheVariants as kind;
+ghost use Rattle.aud_parse.specs.Grammar as g;
+ghost use Rattle.aud_parse.specs.Grammar.{N, T, Opt};
+ghost use Rattle.aud_parse.specs.Actions.{in_mode};
+ghost use Rattle.aud_parse.specs.Ties.Items.{vec_item, mode_item, formal_item, specification_items};
+ghost use Rattle.aud_parse.specs.Ties.Reads.{Reads, MayRead, ReadsFlat, ReadsAll, TakesAny};
+
+use crate::behind::{both, ended};
+use crate::build::Specification;
+use crate::cursor::{Read, Rest, accept, deeper, is, word};
+use crate::declaration::identifiers;
+use crate::leaf::{ident, mark};
+use aud_lex::token::Kind;
+use aud_syntax::tree::{Formal, Mode};
+use aud_text::place::Pos;
+use std::alloc::Global;
+
+// The mode that begins with `in`, by whether `out` stands behind that.
+fn in_mode(at: Pos, out: bool) -> Mode
+    ensures { result ≡ in_mode at out }
+{
+    if out {
+        return Mode::InOut(at);
+    }
+    Mode::In(at)
+}
+
+/// How formal parameters are passed, if that is written.
+fn opt_mode(start: Rest) -> (Mode, Rest)
+    ensures { TakesAny mode_item (Opt g.Mode) start.entry result }
+{
+    if let Some((t, behind)) = accept(start, Kind::In) {
+        let (out, rest) = mark(behind, Kind::Out);
+        return (in_mode(t.at(), out), rest);
+    }
+    if let Some((t, behind)) = accept(start, Kind::Out) {
+        return (Mode::Out(t.at()), behind);
+    }
+    (Mode::Unstated, start)
+}
+
+/// Formal parameters of one mode and subtype (RM 6.1(15)).
+fn formal(alloc: Global, start: Rest) -> Read<Formal>
+    ensures { ReadsFlat formal_item (N g.Formal) start.entry result }
+{
+    let (names, rest) = identifiers(alloc, start)?;
+    let rest = word(rest, Kind::Colon)?;
+    let (mode, rest) = opt_mode(rest);
+    let ((names, subtype), rest) = both(names, ident(alloc, rest))?;
+    let formal = Formal {
+        names,
+        mode,
+        subtype,
+    };
+    Ok((formal, rest))
+}
+
+/// Formal parameters in their parentheses.
+fn in_formals(alloc: Global, start: Rest) -> Read<Vec<Formal>>
+    ensures { ReadsFlat (vec_item formal_item) (N g.InFormals) start.entry result }
+{
+    let mut all = Vec::new(alloc);
+    let mut rest = word(start, Kind::LeftParenthesis)?;
+    'turns: loop {
+        let (one, after) = formal(alloc, rest)?;
+        all.push(one)?;
+        let Some((_, behind)) = accept(after, Kind::Semicolon) else {
+            let rest = word(after, Kind::RightParenthesis)?;
+            return Ok((all, rest));
+        };
+        rest = behind;
+    }
+}
+
+/// The same, one level deeper.
+fn formals(alloc: Global, start: Rest, room: u32) -> Read<Vec<Formal>>
+    ensures { Reads (vec_item formal_item) (N g.Formals) room start.entry result }
+{
+    deeper(start, room, is(start, Kind::LeftParenthesis))?;
+    in_formals(alloc, start)
+}
+
+/// Formal parameters, if there are any.
+fn opt_formals(alloc: Global, start: Rest, room: u32) -> Read<Vec<Formal>>
+    ensures { MayRead (vec_item formal_item) (Opt g.Formals) room start.entry result }
+{
+    if is(start, Kind::LeftParenthesis) {
+        return formals(alloc, start, room);
+    }
+    let none = Vec::new(alloc);
+    Ok((none, start))
+}
+
+/// The name of a procedure, its formal parameters, and the `is` behind them (RM 6.1, 6.3).
+#[inline(never)]
+pub fn specification(alloc: Global, start: Rest, room: u32) -> Read<Specification>
+    ensures { ReadsAll specification_items
+        (N g.Identifier ∷ Opt g.Formals ∷ T kind.Is ∷ []) room start.entry result }
+{
+    let (name, rest) = ident(alloc, start)?;
+    let ((name, formals), rest) = both(name, opt_formals(alloc, rest, room))?;
+    let (parts, rest) = ended((name, formals), rest, Kind::Is)?;
+    Ok((parts, rest))
+}

@@ -1,0 +1,8 @@
+#!/bin/sh
+# The program's own session, which `rt ci` runs, is the sessions of examples/ one behind the other, and a QUIT.
+# This compares them, since `rt ci` reads the folders of crates alone.
+set -eu
+cd "$(dirname "$0")/../examples"
+sessions="first loop array recursion"
+{ cat $sessions && echo QUIT; } | cmp - ../crates/aud/stdin
+{ for name in $sessions; do cat "$name.stdout"; done && echo "+ 0"; } | cmp - ../crates/aud/stdout
