@@ -1,5 +1,5 @@
-// Sessions with their answers, never taken from this program: worked out by hand from the language and the protocol, those of procedures
-// by a model too that was written apart from it.
+// Sessions with their answers, never taken from this program: worked out by hand from the language and the protocol, or, most
+// of those of procedures, by a model of the language that was written apart from it.
 
 pub mod arguments;
 pub mod arrays;
