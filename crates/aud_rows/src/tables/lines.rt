@@ -1,9 +1,9 @@
-// Lines, words and numbers of requests.
+// Lines, words and numbers of requests, with bytes that no text file has.
 
 use crate::case::Case;
 
 /// Lines and words that are read.
-pub const READ: [Case; 8] = [
+pub const READ: [Case; 4] = [
     Case {
         name: "a carriage return before each line feed",
         sent: b"LOAD 2\r\n\
@@ -34,42 +34,6 @@ pub const READ: [Case; 8] = [
         written: b"- E30 2:8 name not declared\n",
     },
     Case {
-        name: "leading zeros, ten digits at most",
-        sent: b"LOAD 0000000001\n\
-            procedure M is begin null; end M;\n\
-            RUN 01\n\
-            RUN 0000000010\n\
-            RUN 0000100000\n\
-            LOAD 00\n",
-        written: b"+ 1\nloaded M\n+ 1\nran 1 more\n+ 1\nran 2 ended\n+ 1\nran 0 ended\n- E21 1:1 syntax\n",
-    },
-    Case {
-        name: "lines of a LOAD that look like commands",
-        sent: b"LOAD 2\n\
-            QUIT\n\
-            \n\
-            LOAD 1\n\
-            LOAD 1\n\
-            QUIT\n",
-        written: b"- E21 1:1 syntax\n- E21 1:1 syntax\n+ 0\n",
-    },
-    Case {
-        name: "nothing is answered after QUIT",
-        sent: b"RUN 1\n\
-            QUIT\n\
-            RUN 1\n\
-            FOO\n\
-            QUIT\n",
-        written: b"- E14 no program\n+ 0\n",
-    },
-    Case {
-        name: "the end of the input is no QUIT",
-        sent: b"LOAD 1\n\
-            procedure M is begin null; end M;\n\
-            RUN 2\n",
-        written: b"+ 1\nloaded M\n+ 1\nran 2 more\n",
-    },
-    Case {
         name: "a line feed alone ends a line, other line ends do not",
         sent: b"RUN 1\x0bRUN 1\x0cRUN 1\rRUN 1\nRUN 1\n",
         written: b"- E11 bad argument\n- E14 no program\n",
@@ -77,7 +41,7 @@ pub const READ: [Case; 8] = [
 ];
 
 /// The end of the input.
-pub const ENDS: [Case; 6] = [
+pub const ENDS: [Case; 5] = [
     Case {
         name: "a last line without its line feed is dropped",
         sent: b"RUN 1\nRUN 1",
@@ -87,13 +51,6 @@ pub const ENDS: [Case; 6] = [
         name: "a QUIT without its line feed is dropped",
         sent: b"FOO\nQUIT",
         written: b"- E10 unknown command\n",
-    },
-    Case {
-        name: "a LOAD without all its lines is dropped",
-        sent: b"OUTPUT\n\
-            LOAD 2\n\
-            procedure M is begin null; end M;\n",
-        written: b"- E14 no program\n",
     },
     Case {
         name: "a LOAD without the line feed of its last line is dropped",
@@ -114,27 +71,11 @@ pub const ENDS: [Case; 6] = [
 ];
 
 /// Requests that are malformed.
-pub const MALFORMED: [Case; 11] = [
+pub const MALFORMED: [Case; 6] = [
     Case {
         name: "a line without words",
         sent: b"\n\x20  \n\r\n \r\n",
         written: b"- E10 unknown command\n- E10 unknown command\n- E10 unknown command\n- E10 unknown command\n",
-    },
-    Case {
-        name: "a word that is no command",
-        sent: b"FOO\n\
-            run 1\n\
-            Load 0\n\
-            RUN1\n\
-            RUNS 1\n\
-            LOAD,1\n\
-            1\n\
-            -\n\
-            LOADRUN 1 2 3\n\
-            QUI\n",
-        written: b"- E10 unknown command\n- E10 unknown command\n- E10 unknown command\n- E10 unknown command\n\
-            - E10 unknown command\n- E10 unknown command\n- E10 unknown command\n- E10 unknown command\n\
-            - E10 unknown command\n- E10 unknown command\n",
     },
     Case {
         name: "a tab is part of a word",
@@ -152,56 +93,6 @@ pub const MALFORMED: [Case; 11] = [
             QUIT\r \n\
             \rRUN 1\n",
         written: b"- E11 bad argument\n- E10 unknown command\n- E10 unknown command\n- E10 unknown command\n",
-    },
-    Case {
-        name: "a number of words that is wrong",
-        sent: b"LOAD\n\
-            LOAD 1 1\n\
-            RUN\n\
-            RUN 1 1\n\
-            RUN 1 x\n\
-            OUTPUT 1\n\
-            OUTPUT OUTPUT\n\
-            QUIT 0\n\
-            OUTPUT\n",
-        written: b"- E11 bad argument\n- E11 bad argument\n- E11 bad argument\n- E11 bad argument\n- E11 bad argument\n\
-            - E11 bad argument\n- E11 bad argument\n- E11 bad argument\n- E14 no program\n",
-    },
-    Case {
-        name: "a word that is no number",
-        sent: b"RUN x\n\
-            RUN -1\n\
-            RUN +1\n\
-            RUN 1.0\n\
-            RUN 1_0\n\
-            RUN 1x\n\
-            RUN 16#1#\n\
-            LOAD -0\n\
-            LOAD M\n",
-        written: b"- E11 bad argument\n- E11 bad argument\n- E11 bad argument\n- E11 bad argument\n- E11 bad argument\n\
-            - E11 bad argument\n- E11 bad argument\n- E11 bad argument\n- E11 bad argument\n",
-    },
-    Case {
-        name: "a number out of its range",
-        sent: b"RUN 0\n\
-            RUN 0000000000\n\
-            RUN 100001\n\
-            RUN 4294967296\n\
-            RUN 4294967297\n\
-            RUN 9999999999\n\
-            LOAD 32769\n\
-            LOAD 4294967296\n\
-            RUN 100000\n",
-        written: b"- E11 bad argument\n- E11 bad argument\n- E11 bad argument\n- E11 bad argument\n- E11 bad argument\n\
-            - E11 bad argument\n- E11 bad argument\n- E11 bad argument\n- E14 no program\n",
-    },
-    Case {
-        name: "a number of eleven digits",
-        sent: b"RUN 00000000001\n\
-            LOAD 00000000000\n\
-            RUN 10000000000\n\
-            RUN 18446744073709551617\n",
-        written: b"- E11 bad argument\n- E11 bad argument\n- E11 bad argument\n- E11 bad argument\n",
     },
     Case {
         name: "a malformed LOAD has no lines after it",
@@ -242,23 +133,3 @@ pub const MALFORMED: [Case; 11] = [
         written: b"- E19 not ASCII\n- E14 no program\n- E19 not ASCII\n- E14 no program\n- E19 not ASCII\n",
     },
 ];
-
-/// Commands that are not there so far.
-pub const LATER: [Case; 1] = [Case {
-    name: "unknown commands",
-    sent: b"RESET\n\
-            STEP 0\n\
-            CHOOSE 1\n\
-            ADVANCE 5\n\
-            CLOCK\n\
-            MOVES\n\
-            TASKS\n\
-            QUEUES\n\
-            VARS 1\n\
-            SEAT 1\n\
-            SEAT x\n\
-            STEP\n",
-    written: b"- E10 unknown command\n- E10 unknown command\n- E10 unknown command\n- E10 unknown command\n\
-            - E10 unknown command\n- E10 unknown command\n- E10 unknown command\n- E10 unknown command\n\
-            - E10 unknown command\n- E10 unknown command\n- E10 unknown command\n- E10 unknown command\n",
-}];

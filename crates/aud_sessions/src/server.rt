@@ -1,0 +1,30 @@
+// A server in memory.
+
+use aud_server::solo::{SoloFault, solo};
+use std::alloc::Global;
+use std::io;
+use std::io::Read;
+
+// Gives its bytes in pieces, none longer than `most`.
+#[derive(Drop)]
+struct Pieces<'a> {
+    rest: &'a [u8],
+    most: usize,
+}
+
+impl<'a> Read for Pieces<'a> {
+    fn read(&mut self, buf: &mut [u8]) -> io::Result<usize> {
+        let count = self.most.min(self.rest.len()).min(buf.len());
+        buf[..count].copy_from_slice(&self.rest[..count]);
+        self.rest = &self.rest[count..];
+        Ok(count)
+    }
+}
+
+/// What a server writes that reads these bytes in pieces, none longer than `most`.
+pub fn answers(alloc: Global, sent: &[u8], most: usize) -> Result<Vec<u8>, SoloFault> {
+    let mut reader = Pieces { rest: sent, most };
+    let mut written = Vec::new(alloc);
+    solo(alloc, &mut reader, &mut written)?;
+    Ok(written)
+}
