@@ -1,13 +1,1 @@
-pub mod Arms
-pub mod DeclarativePart
-pub mod Entities
 pub mod Gives
-pub mod Hidden
-pub mod Labels
-pub mod Loops
-pub mod Passed
-pub mod Regions
-pub mod Table
-pub mod Tables
-pub mod Typing
-pub mod Within

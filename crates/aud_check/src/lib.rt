@@ -1,4 +1,4 @@
-// The checker: the faults of a program, and the typed program of one without faults.
+// The checker: the typed program of a program without faults, else the first of its faults.
 #![tactic(auto)]
 
 ghost use Rattle.std.specs.Prelude.{IfOk};
@@ -8,36 +8,11 @@ ghost use Rattle.aud_typed.specs.Ties.View.{plain_program};
 ghost use Rattle.aud_check.specs.Checked.{checked};
 ghost use Rattle.aud_check.specs.Ties.Gives.{Gives};
 
-mod argument;
-mod array;
-mod assignment;
-mod attribute;
-mod behind;
-mod call;
-mod condition;
-mod declaration;
-mod entity;
-mod expression;
 pub mod fault;
-mod formal;
-mod handler;
-mod hidden;
-mod iteration;
-mod labels;
-pub mod laws;
-mod leaving;
-mod made;
-mod names;
-mod resolution;
-mod rules;
-mod statement;
-mod table;
-mod tables;
-mod typed;
-mod unit;
-mod within;
 
-use crate::fault::{CheckFault, Least};
+use crate::fault::CheckFault;
+use aud_bodies::unit::typed;
+use aud_names::fault::Least;
 use aud_syntax::tree::Unit;
 use aud_typed::program::Program;
 use std::alloc::Global;
@@ -54,7 +29,7 @@ pub fn check(alloc: Global, unit: &Unit) -> Result<Program, CheckFault>
     ensures scoped { IfOk result (λ program. IsScoped (plain_program program)) }
 {
     let mut faults = Least::new();
-    let program = unit::typed(alloc, unit, &mut faults)?;
+    let program = typed(alloc, unit, &mut faults)?;
     match faults.get() {
         None => Ok(program),
         Some(fault) => Err(CheckFault::Wrong(fault)),

@@ -1,0 +1,14 @@
+mod Rows
+mod Scalars
+mod FlowRows
+mod BlockRows
+mod ProcedureRows
+pub mod Parts
+pub mod Shown
+pub mod Declared
+pub mod Walked
+pub mod Bodies
+pub mod Scoping
+pub mod Called
+pub mod Passing
+pub mod Kept

@@ -1,0 +1,165 @@
+-- What names stand for is elaborated, or there.
+use Rattle.std.specs.Prelude.{IfSome}
+use Rattle.std.specs.List.{All, AllByRecursion}
+use Rattle.std.specs.Str.{bytes_eq}
+use Rattle.std.proofs.Common.{◌≡◌, ℕ, zero, suc, ◌+◌, ◌<◌, ◌≤◌, Bool, true, false, List, [], ◌∷◌, ◌++◌, length, slice_index_or, Option, Some, None, if◌then◌else◌, arith, ap, ◌∙◌}
+use Rattle.std.proofs.lemmas.Map.Entries.{All-lookup}
+use Rattle.std.proofs.lemmas.List.{length-append, get_or_append_left}
+use Rattle.aud_syntax.specs.Plain as plain
+use Rattle.aud_typed.specs.Tree.{Plan}
+use Rattle.aud_typed.specs.Why.Scoped.{Elaborated, Scope, cells_at, IsElaborated, AreElaborated, IsThere, Entry, entry_of, AreOpen}
+use Rattle.aud_names.specs.declared.names.Parameter.{Parameter}
+use Rattle.aud_names.specs.declared.names.Meaning.{Meaning}
+use Rattle.aud_names.specs.declared.names.Meaning.TheVariants.{ScalarType, Literal, Object, Array, Exception, Builtin, Procedure}
+use Rattle.aud_names.specs.Arrays.{array_at}
+use Rattle.aud_names.specs.Resolution as resolution
+use Rattle.aud_names.specs.Resolution.{Resolved}
+use Rattle.aud_names.specs.Names as names
+use Rattle.aud_names.specs.Names.{Symbol, Region, Place}
+
+-- of a program: its plan, how its units are entered, and the formals of those that are declared so far
+pub record Known : Type 0 where
+  pub plan : Plan
+  pub entries : List Entry
+  pub profiles : List (List Parameter)
+
+-- the procedure of a unit may be called: it is declared, and the frames that it sees are open
+pub record IsCallable (known : Known) (scope : Scope) (unit : ℕ) : Type 0 where
+  pub declared : unit < length known.profiles
+  pub entered : unit < length known.entries
+  pub formals : length (slice_index_or known.profiles unit []) ≡ (entry_of known.entries unit).formals
+  pub outer : AreOpen (entry_of known.entries unit).outer scope
+
+-- what has this meaning may be used
+abbrev pub MeaningScoped : Known → Scope → Meaning → Type 0
+MeaningScoped known scope (Object o) = IsElaborated o.variable scope
+MeaningScoped known scope (Array a) = AreElaborated (array_at a) scope
+MeaningScoped known scope (Exception x) = IsThere known.plan x
+MeaningScoped known scope (Procedure unit) = IsCallable known scope unit
+MeaningScoped known scope _ = Unit {0}
+
+abbrev pub VisibleScoped : Known → Scope → Option Meaning → Type 0
+VisibleScoped known scope m = IfSome m (MeaningScoped known scope)
+
+abbrev pub SymbolsScoped : Known → Scope → List Symbol → Type 0
+SymbolsScoped known scope xs = All (λ x. MeaningScoped known scope x.1) xs
+
+abbrev pub RegionsScoped : Known → Scope → List Region → Type 0
+RegionsScoped known scope rs = AllByRecursion (λ r. SymbolsScoped known scope r.symbols) rs
+
+-- all that is visible may be used
+abbrev pub Sees : Known → Scope → Place → Type 0
+Sees known scope n = (name : List ℕ) → VisibleScoped known scope (names.visible name n)
+
+-- a place whose innermost region has the innermost frame
+pub record Fits (known : Known) (scope : Scope) (n : Place) : Type 0 where
+  pub regions : RegionsScoped known scope n.regions
+  pub level : (names.innermost n).level + 1 ≡ length scope
+
+pub either : {X : Type 0} (P : X → Type 0) (b : Bool) (x y : X) → P x → P y → P (if b then x else y)
+either P true x y h i = h
+either P false x y h i = i
+
+-- one frame more
+
+cells_more : (level : ℕ) (scope : Scope) (e : Elaborated) → cells_at level scope ≤ cells_at level (scope ++ e ∷ [])
+cells_more level [] e = omega arith
+cells_more zero (x ∷ xs) e = omega arith
+cells_more (suc n) (x ∷ xs) e = cells_more n xs e
+
+pub open_more : (outer scope : Scope) (e : Elaborated) → AreOpen outer scope → AreOpen outer (scope ++ e ∷ [])
+open_more [] scope e h = tt
+open_more (x ∷ xs) [] e h = absurd h
+open_more (x ∷ xs) (y ∷ ys) e h = (h.0, open_more xs ys e h.1)
+
+-- the innermost frame has more
+pub open_further : (outer : Scope) (e f : Elaborated) → e.cells ≤ f.cells → AreOpen (outer ++ e ∷ []) (outer ++ f ∷ [])
+open_further [] e f h = (h, tt)
+open_further (x ∷ xs) e f h = (omega arith, open_further xs e f h)
+
+module _ (known : Known) (scope : Scope) (e : Elaborated) where
+  meaning_more : (m : Meaning) → MeaningScoped known scope m → MeaningScoped known (scope ++ e ∷ []) m
+  meaning_more (Object o) h = omega (arith, h, cells_more o.variable.level scope e)
+  meaning_more (Array a) h = omega (arith, h, cells_more a.first.level scope e)
+  meaning_more (Exception x) h = h
+  meaning_more (ScalarType t) h = tt
+  meaning_more (Literal b) h = tt
+  meaning_more (Builtin b) h = tt
+  meaning_more (Procedure unit) h = record { declared = h.declared; entered = h.entered; formals = h.formals; outer = open_more (entry_of known.entries unit).outer scope e h.outer }
+
+  -- what is further out is elaborated still
+  pub regions_more : (rs : List Region) → RegionsScoped known scope rs → RegionsScoped known (scope ++ e ∷ []) rs
+  regions_more [] h = tt
+  regions_more (r ∷ rs) h = ((λ k d l. meaning_more _ (h.0 k d l)), regions_more rs h.1)
+
+module _ (known : Known) (scope : Scope) where
+  or_scoped : (x y : Option Meaning) → VisibleScoped known scope x → VisibleScoped known scope y → VisibleScoped known scope (names.or_outside x y)
+  or_scoped None y h i = i
+  or_scoped (Some m) y h i = h
+
+  declared_scoped : (name : List ℕ) (rs : List Region) → RegionsScoped known scope rs → VisibleScoped known scope (names.declared name rs)
+  declared_scoped name [] h = tt
+  declared_scoped name (r ∷ rs) h = or_scoped (names.named_in name r.symbols) _ (All-lookup (MeaningScoped known scope) (bytes_eq name) r.symbols h.0) (declared_scoped name rs h.1)
+
+  pub regions_see : (n : Place) → RegionsScoped known scope n.regions → Sees known scope n
+  regions_see n h name = either (VisibleScoped known scope) (names.is_hidden name n.hidden) _ _ tt (declared_scoped name n.regions h)
+
+  -- the regions of a place, of which the innermost one is by itself
+  pub regions_scoped : (rs : List Region) → SymbolsScoped known scope (names.innermost_of rs).symbols → RegionsScoped known scope (names.others_of rs) → RegionsScoped known scope rs
+  regions_scoped [] h i = tt
+  regions_scoped (r ∷ rs) h i = (h, i)
+
+  -- what names denote
+
+  denoted_scoped : (m : Meaning) (p : plain.NamePart) (ps : plain.Parts) → MeaningScoped known scope m → VisibleScoped known scope (resolution.denoted_by m p ps).denoted.meaning
+  denoted_scoped m p ps h = either (λ (x : Resolved). VisibleScoped known scope x.denoted.meaning) (resolution.may_stand m p ps) _ _ h tt
+
+  text_io_scoped : (m : Option Meaning) (p : plain.NamePart) (ps : plain.Parts) → VisibleScoped known scope (resolution.in_text_io m p ps).denoted.meaning
+  text_io_scoped (Some (Builtin b)) p ps = denoted_scoped (Builtin b) p ps tt
+  text_io_scoped _ p ps = tt
+
+  library_scoped : (p : plain.NamePart) (ps : plain.Parts) (n : Place) → VisibleScoped known scope (resolution.in_library p ps n).denoted.meaning
+  library_scoped p (plain.more_parts q (plain.more_parts r rest)) n =
+      either (λ (x : Resolved). VisibleScoped known scope x.denoted.meaning) (resolution.is_text_io p q n) _ _ (text_io_scoped (names.named_in (resolution.part_ident r).name names.predefined) r rest) tt
+  library_scoped p (plain.more_parts q plain.no_parts) n = tt
+  library_scoped p plain.no_parts n = tt
+
+  or_library_scoped : (m : Option Meaning) (p : plain.NamePart) (ps : plain.Parts) (n : Place) → VisibleScoped known scope m → VisibleScoped known scope (resolution.or_in_library m p ps n).denoted.meaning
+  or_library_scoped (Some m) p ps n h = denoted_scoped m p ps h
+  or_library_scoped None p ps n h = library_scoped p ps n
+
+  pub resolved_scoped : (n : Place) → Sees known scope n → (x : plain.Name) → VisibleScoped known scope (resolution.resolved x n).denoted.meaning
+  resolved_scoped n sees (plain.named p ps) = or_library_scoped (names.visible (resolution.part_ident p).name n) p ps n (sees (resolution.part_ident p).name)
+
+-- More procedures are declared.
+
+abbrev pub later : List (List Parameter) → Known → Known
+later more known = record { plan = known.plan; entries = known.entries; profiles = known.profiles ++ more }
+
+module _ (known : Known) (scope : Scope) (more : List (List Parameter)) where
+  callable_later : (unit : ℕ) → IsCallable known scope unit → IsCallable (later more known) scope unit
+  callable_later unit h = record {
+    declared = omega (arith, h.declared, length-append known.profiles more);
+    entered = h.entered;
+    formals = ap length (get_or_append_left known.profiles more [] unit h.declared) ∙ h.formals;
+    outer = h.outer;
+  }
+
+  meaning_later : (m : Meaning) → MeaningScoped known scope m → MeaningScoped (later more known) scope m
+  meaning_later (Object o) h = h
+  meaning_later (Array a) h = h
+  meaning_later (Exception x) h = h
+  meaning_later (Procedure unit) h = callable_later unit h
+  meaning_later (ScalarType t) h = tt
+  meaning_later (Literal b) h = tt
+  meaning_later (Builtin b) h = tt
+
+  pub symbols_later : (xs : List Symbol) → SymbolsScoped known scope xs → SymbolsScoped (later more known) scope xs
+  symbols_later xs h = λ k d l. meaning_later _ (h k d l)
+
+  pub regions_later : (rs : List Region) → RegionsScoped known scope rs → RegionsScoped (later more known) scope rs
+  regions_later [] h = tt
+  regions_later (r ∷ rs) h = (symbols_later r.symbols h.0, regions_later rs h.1)
+
+  pub fits_later : (n : Place) → Fits known scope n → Fits (later more known) scope n
+  fits_later n h = record { regions = regions_later n.regions h.regions; level = h.level }

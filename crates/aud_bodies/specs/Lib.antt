@@ -1,0 +1,12 @@
+pub mod Tables
+pub mod Declarations
+pub mod Formals
+pub mod Assignments
+pub mod Arguments
+pub mod Calls
+pub mod Labels
+pub mod Regions
+pub mod Handlers
+pub mod Statements
+pub mod Programs
+pub mod Ties

@@ -1,0 +1,70 @@
+-- What stands in a typed program's tables, as a check of the text makes them, and what such a check gives.
+use Rattle.std.specs.Prelude.{ℕ, List, [], ◌∷◌, ◌++◌, length, slice_index_or, slice_set}
+use Rattle.aud_text.specs.declared.place.Pos.{Pos}
+use Rattle.aud_typed.specs.Tree as tree
+use Rattle.aud_names.specs.declared.fault.Fault.{Fault}
+use Rattle.aud_names.specs.declared.names.Parameter.{Parameter}
+
+-- the variables and constants of each region that has been entered, by the regions' numbers, and the names of the exceptions, by theirs;
+-- of each procedure that has been declared its formals, as calls see them (RM 6.1), and its body, by the number of its unit
+pub record Tables : Type 0 where
+  pub regions : List (List tree.Named)
+  pub exceptions : List (List ℕ)
+  pub profiles : List (List Parameter)
+  pub units : List tree.UnitBody
+
+abbrev pub no_tables : Tables
+no_tables = record { regions = []; exceptions = []; profiles = []; units = [] }
+
+-- what checking a construct gives: its faults, the tables after it, and what is made of it
+pub record Outcome (A : Type 0) : Type 0 where
+  pub faults : List Fault
+  pub tables : Tables
+  pub made : A
+
+abbrev pub fine : {A : Type 0} → A → Tables → Outcome A
+fine x t = record { faults = []; tables = t; made = x }
+
+abbrev pub after : {A : Type 0} → List Fault → Outcome A → Outcome A
+after faults o = record { faults = faults ++ o.faults; tables = o.tables; made = o.made }
+
+-- one after the other
+abbrev pub and_then : {A B : Type 0} → Outcome A → (A → Tables → Outcome B) → Outcome B
+and_then o next = after o.faults (next o.made o.tables)
+
+-- Regions: one that is entered has the next number. What its declarations enter comes behind it, so its place is kept until its names
+-- are all there.
+
+abbrev pub next_region : Tables → ℕ
+next_region t = length t.regions
+
+abbrev pub with_region : List tree.Named → Tables → Tables
+with_region names t = record t { regions = t.regions ++ names ∷ [] }
+
+abbrev pub region_kept : Tables → Tables
+region_kept t = with_region [] t
+
+abbrev pub region_named : ℕ → List tree.Named → Tables → Tables
+region_named number names t = record t { regions = slice_set t.regions number names }
+
+-- Units: a procedure that is declared has the next number, and its place is kept until its body is checked.
+
+abbrev pub next_unit : Tables → ℕ
+next_unit t = length t.units
+
+-- what stands there until then
+abbrev pub nowhere : Pos
+nowhere = record { line = 0; col = 0 }
+
+abbrev pub no_body : tree.UnitBody
+no_body = record { level = 0; region = 0; at = nowhere; body = tree.body tree.nothing nowhere (tree.null nowhere) tree.no_handlers nowhere }
+
+abbrev pub unit_kept : List Parameter → Tables → Tables
+unit_kept profile t = record t { profiles = t.profiles ++ profile ∷ []; units = t.units ++ no_body ∷ [] }
+
+abbrev pub with_unit : ℕ → tree.UnitBody → Tables → Tables
+with_unit number u t = record t { units = slice_set t.units number u }
+
+-- the formals of a unit
+abbrev pub profile_of : ℕ → Tables → List Parameter
+profile_of number t = slice_index_or t.profiles number []

@@ -1,0 +1,7 @@
+pub mod Arms
+pub mod DeclarativePart
+pub mod Labels
+pub mod Loops
+pub mod Passed
+pub mod Tables
+pub mod Within

@@ -1,5 +1,0 @@
-use Rattle.std.proofs.Common.{length}
-use Rattle.aud_check.proofs.names.+declared.Given as goal
-
-abbrev pub decreases-declared : goal.decreases-declared
-decreases-declared l = length l.regions.now

@@ -1,0 +1,6 @@
+pub mod Least
+pub mod Names
+pub mod Rules
+pub mod Arrays
+pub mod Resolution
+pub mod Ties

@@ -1,0 +1,120 @@
+-- What names stand for, where they are visible, and what a construct knows of its place (RM 8.1, 8.2, 8.3).
+use Rattle.std.specs.Prelude.{ℕ, ◌+◌, Bool, true, false, ◌||◌, List, [], ◌∷◌, Option, Some, None, is_some, codes, if◌then◌else◌}
+use Rattle.std.specs.Str.{bytes_eq}
+use Rattle.std.specs.List.{list_any}
+use Rattle.std.specs.Map.{lookup}
+use Rattle.aud_syntax.specs.declared.tree.Ident.{Ident}
+use Rattle.aud_text.specs.declared.raise.Raise.TheVariants.{Constraint, Program, Storage, Tasking}
+use Rattle.aud_typed.specs.declared.program.Exception.TheVariants.{Predefined}
+use Rattle.aud_names.specs.declared.names.Meaning.{Meaning}
+use Rattle.aud_names.specs.declared.names.Meaning.TheVariants.{ScalarType, Literal, Exception, Builtin, Procedure}
+use Rattle.aud_names.specs.declared.names.Builtin.TheVariants.{Put, PutLine, NewLine}
+use Rattle.aud_typed.specs.declared.program.Subtype.TheVariants.{Integer, Natural, Positive, Boolean}
+
+-- a name that a region declares, and what it stands for
+abbrev pub Symbol : Type 0
+Symbol = List ℕ × Meaning
+
+-- a region of declarations (RM 8.1): its names in the order of their declarations, how many frames are further out than its own, and the
+-- cells and names of variables and constants in that
+pub record Region : Type 0 where
+  pub symbols : List Symbol
+  pub level : ℕ
+  pub cells : ℕ
+  pub names : ℕ
+
+-- a region with no names yet, at a level
+abbrev pub empty_region : ℕ → Region
+empty_region level = record { symbols = []; level = level; cells = 0; names = 0 }
+
+-- what a region declares a name to be: the first symbol of that name decides
+abbrev pub named_in : List ℕ → List Symbol → Option Meaning
+named_in name symbols = lookup (bytes_eq name) symbols
+
+abbrev pub or_outside : Option Meaning → Option Meaning → Option Meaning
+or_outside (Some m) other = Some m
+or_outside None other = other
+
+-- an inner declaration hides those of its name further out (RM 8.3(15))
+abbrev pub declared : List ℕ → List Region → Option Meaning
+declared name [] = None
+declared name (r ∷ rs) = or_outside (named_in name r.symbols) (declared name rs)
+
+-- what a construct knows of its place: the regions around it, innermost first, and the names of the declaration that lasts
+pub record Place : Type 0 where
+  pub regions : List Region
+  pub hidden : List Ident
+
+abbrev pub innermost_of : List Region → Region
+innermost_of [] = empty_region 0
+innermost_of (r ∷ rs) = r
+
+abbrev pub innermost : Place → Region
+innermost place = innermost_of place.regions
+
+abbrev pub others_of : List Region → List Region
+others_of [] = []
+others_of (r ∷ rs) = rs
+
+-- the place with another innermost region
+abbrev pub in_region : Region → Place → Place
+in_region r place = record place { regions = r ∷ others_of place.regions }
+
+-- a place behind the declarations of a region, and of those around it
+abbrev pub place_in : Region → List Region → Place
+place_in r rs = record { regions = r ∷ rs; hidden = [] }
+
+-- the place in one more region, whose frame lies within the innermost one (RM 8.1)
+abbrev pub next_frame : Place → Region
+next_frame place = empty_region ((innermost place).level + 1)
+
+abbrev pub in_frame : Place → Place
+in_frame place = place_in (next_frame place) place.regions
+
+-- the place within a declaration of these names
+abbrev pub hiding : List Ident → Place → Place
+hiding identifiers place = record place { hidden = identifiers }
+
+-- a declaration is hidden from all visibility until it ends (RM 8.3(16, 17))
+abbrev pub is_hidden : List ℕ → List Ident → Bool
+is_hidden name hidden = list_any (λ i. bytes_eq name i.name) hidden
+
+-- what a name stands for, where it is visible (RM 4.1, 8.3)
+abbrev pub visible : List ℕ → Place → Option Meaning
+visible name place = if is_hidden name place.hidden then None else declared name place.regions
+
+-- whether a declaration has taken a name, also one that has not ended: nothing further out is meant by it
+abbrev pub is_taken : List ℕ → Place → Bool
+is_taken name place = is_hidden name place.hidden || is_some (declared name place.regions)
+
+-- whether a region has declared a name (RM 8.3(26): no two homographs in one region)
+abbrev pub is_declared : List ℕ → List Symbol → Bool
+is_declared name symbols = is_some (named_in name symbols)
+
+-- within the formals of a procedure its own name is hidden besides theirs, but where a formal before them has that (RM 8.3(15, 16))
+abbrev pub own_hidden : Ident → Region → Option Ident
+own_hidden own r = if is_declared own.name r.symbols then None else Some own
+
+abbrev pub with_own : Option Ident → List Ident → List Ident
+with_own None names = names
+with_own (Some own) names = own ∷ names
+
+-- the predefined names (RM 8.6(2), A.1, A.10.1)
+abbrev pub predefined : List Symbol
+predefined =
+    (codes "INTEGER", ScalarType Integer) ∷ (codes "NATURAL", ScalarType Natural) ∷ (codes "POSITIVE", ScalarType Positive) ∷ (codes "BOOLEAN", ScalarType Boolean)
+    ∷ (codes "FALSE", Literal false) ∷ (codes "TRUE", Literal true)
+    ∷ (codes "CONSTRAINT_ERROR", Exception (Predefined Constraint)) ∷ (codes "PROGRAM_ERROR", Exception (Predefined Program)) ∷ (codes "STORAGE_ERROR", Exception (Predefined Storage)) ∷ (codes "TASKING_ERROR", Exception (Predefined Tasking))
+    ∷ (codes "PUT", Builtin Put) ∷ (codes "PUT_LINE", Builtin PutLine) ∷ (codes "NEW_LINE", Builtin NewLine) ∷ []
+
+-- the outermost region
+abbrev pub outermost : List Region
+outermost = (record { symbols = predefined; level = 0; cells = 0; names = 0 }) ∷ []
+
+-- the library's region, in which the main procedure is declared, whose unit is the first (RM 10.1.1)
+abbrev pub library : List ℕ → Region
+library name = record { symbols = (name, Procedure 0) ∷ []; level = 0; cells = 0; names = 0 }
+
+-- the place of a main procedure's declarations: its body's region, that of the library, and the predefined one (RM 10.1.1)
+abbrev pub main_place : List ℕ → Place
+main_place name = place_in (empty_region 0) (library name ∷ outermost)

@@ -1,0 +1,95 @@
+-- What a name denotes that may have several parts and arguments (RM 4.1).
+use Rattle.std.specs.Prelude.{ℕ, Bool, true, false, not, ◌&&◌, ◌||◌, List, [], Option, Some, None, codes, if◌then◌else◌}
+use Rattle.std.specs.Str.{bytes_eq}
+use Rattle.aud_text.specs.declared.place.Pos.{Pos}
+use Rattle.aud_syntax.specs.declared.tree.Ident.{Ident}
+use Rattle.aud_syntax.specs.Plain.{Name, named, NamePart, part, Parts, no_parts, more_parts, Args, no_args, more_args}
+use Rattle.aud_names.specs.declared.fault.Fault.{Fault}
+use Rattle.aud_names.specs.declared.names.Meaning.{Meaning}
+use Rattle.aud_names.specs.declared.names.Meaning.TheVariants.{ScalarType, Literal, Object, Array, Exception, Builtin, Procedure}
+use Rattle.aud_names.specs.declared.resolution.Denoted.{Denoted}
+use Rattle.aud_names.specs.Names.{Place, visible, is_taken, named_in, predefined}
+use Rattle.aud_names.specs.Rules.{name_not_declared, wrong_kind_of_name}
+
+-- the faults in a name, and what it denotes with the place of the identifier that decides: nothing where it is faulty
+pub record Resolved : Type 0 where
+  pub faults : List Fault
+  pub denoted : Denoted
+
+abbrev pub denotes : Meaning → Pos → Resolved
+denotes m at = record { faults = []; denoted = record { meaning = Some m; at = at } }
+
+abbrev pub denotes_nothing : List Fault → Pos → Resolved
+denotes_nothing faults at = record { faults = faults; denoted = record { meaning = None; at = at } }
+
+-- the identifier of a part, and its arguments
+abbrev pub part_ident : NamePart → Ident
+part_ident (part i xs) = i
+
+abbrev pub part_args : NamePart → Args
+part_args (part i xs) = xs
+
+abbrev pub are_none : Args → Bool
+are_none no_args = true
+are_none (more_args e es) = false
+
+-- the identifier with which a name begins
+abbrev pub name_ident : Name → Ident
+name_ident (named p ps) = part_ident p
+
+-- the arguments of its last part
+abbrev pub last_of : NamePart → Parts → Args
+last_of p no_parts = part_args p
+last_of p (more_parts q qs) = last_of q qs
+
+abbrev pub last_args : Name → Args
+last_args (named p ps) = last_of p ps
+
+-- procedures have arguments, and arrays an index (RM 4.1.1)
+abbrev pub takes_arguments : Meaning → Bool
+takes_arguments (Builtin b) = true
+takes_arguments (Procedure n) = true
+takes_arguments (Array a) = true
+takes_arguments (ScalarType s) = false
+takes_arguments (Literal b) = false
+takes_arguments (Exception x) = false
+takes_arguments (Object o) = false
+
+-- as yet there is nothing whose name stands before a point (RM 4.1.3)
+abbrev pub is_last : Parts → Bool
+is_last no_parts = true
+is_last (more_parts q qs) = false
+
+abbrev pub may_stand : Meaning → NamePart → Parts → Bool
+may_stand m p ps = is_last ps && (takes_arguments m || are_none (part_args p))
+
+abbrev pub denoted_by : Meaning → NamePart → Parts → Resolved
+denoted_by m p ps = if may_stand m p ps then denotes m (part_ident p).at else denotes_nothing (wrong_kind_of_name (part_ident p).at) (part_ident p).at
+
+abbrev pub not_declared : NamePart → Resolved
+not_declared p = denotes_nothing (name_not_declared (part_ident p).at) (part_ident p).at
+
+-- a procedure of Ada.Text_IO (RM A.10.1)
+abbrev pub in_text_io : Option Meaning → NamePart → Parts → Resolved
+in_text_io (Some (Builtin b)) r rest = denoted_by (Builtin b) r rest
+in_text_io _ r rest = not_declared r
+
+abbrev pub is_plainly : List ℕ → NamePart → Bool
+is_plainly name p = bytes_eq (part_ident p).name name && are_none (part_args p)
+
+-- the name of the library that it is in may stand before it, where no declaration has taken the name Ada
+abbrev pub is_text_io : NamePart → NamePart → Place → Bool
+is_text_io p q place = is_plainly (codes "ADA") p && is_plainly (codes "TEXT_IO") q && not (is_taken (part_ident p).name place)
+
+abbrev pub in_library : NamePart → Parts → Place → Resolved
+in_library p (more_parts q (more_parts r rest)) place = if is_text_io p q place then in_text_io (named_in (part_ident r).name predefined) r rest else not_declared p
+in_library p (more_parts q no_parts) place = not_declared p
+in_library p no_parts place = not_declared p
+
+abbrev pub or_in_library : Option Meaning → NamePart → Parts → Place → Resolved
+or_in_library (Some m) p ps place = denoted_by m p ps
+or_in_library None p ps place = in_library p ps place
+
+-- RM 4.1, 8.3
+abbrev pub resolved : Name → Place → Resolved
+resolved (named p ps) place = or_in_library (visible (part_ident p).name place) p ps place

@@ -1,0 +1,92 @@
+-- The rules of the language that a program may break, each with its refusal, and where a breach stands.
+use Rattle.std.specs.Prelude.{Bool, true, false, not, List, [], ◌∷◌, Option, Some, None, if◌then◌else◌, ℕ}
+use Rattle.std.specs.Str.{bytes_eq}
+use Rattle.aud_text.specs.declared.place.Pos.{Pos}
+use Rattle.aud_text.specs.declared.refusal.Refusal.TheVariants.{NameNotDeclared, DeclaredTwice, WrongKindOfName, WrongType, WrongNumberOfArguments, NotAVariable, WrongNameAtEnd, ExitWithoutLoop, ReturnOutOfPlace, RaiseWithoutHandler, BadHandlerChoice, NumberTooLarge}
+use Rattle.aud_syntax.specs.declared.tree.Ident.{Ident}
+use Rattle.aud_names.specs.declared.fault.Fault.{Fault}
+use Rattle.aud_names.specs.declared.rules.Base.{Base}
+use Rattle.aud_names.specs.declared.rules.Base.TheVariants.{Whole, Truth, Text}
+use Rattle.aud_names.specs.Names.{Symbol, is_declared}
+use Rattle.aud_typed.specs.declared.program.Subtype.{Subtype}
+use Rattle.aud_typed.specs.declared.program.Subtype.TheVariants.{Integer, Natural, Positive, Boolean}
+
+abbrev pub unless : Bool → Fault → List Fault
+unless good f = if good then [] else f ∷ []
+
+-- a name is visible (RM 8.3); at the name
+abbrev pub name_not_declared : Pos → List Fault
+name_not_declared at = record { at = at; refusal = NameNotDeclared } ∷ []
+
+-- a region declares a name once (RM 8.3(26)); at the second declaration
+abbrev pub declared_once : List ℕ → Pos → List Symbol → List Fault
+declared_once name at symbols = unless (not (is_declared name symbols)) (record { at = at; refusal = DeclaredTwice })
+
+-- a name is of the kind that its place asks; at the name
+abbrev pub wrong_kind_of_name : Pos → List Fault
+wrong_kind_of_name at = record { at = at; refusal = WrongKindOfName } ∷ []
+
+-- the type of a subtype (RM 3.2), where that is known
+abbrev pub base_of_subtype : Subtype → Base
+base_of_subtype Integer = Whole
+base_of_subtype Natural = Whole
+base_of_subtype Positive = Whole
+base_of_subtype Boolean = Truth
+
+abbrev pub base_asked : Option Subtype → Option Base
+base_asked None = None
+base_asked (Some s) = Some (base_of_subtype s)
+
+abbrev pub same_base : Base → Base → Bool
+same_base Whole Whole = true
+same_base Truth Truth = true
+same_base Text Text = true
+same_base _ _ = false
+
+abbrev pub fits : Option Base → Option Base → Bool
+fits (Some asked) (Some given) = same_base asked given
+fits _ _ = true
+
+-- an expression has the type that its place asks, where both are known (RM 8.6); at its first token
+abbrev pub right_type : Option Base → Pos → Option Base → List Fault
+right_type asked at given = unless (fits asked given) (record { at = at; refusal = WrongType })
+
+-- as many arguments as formals (RM 6.4.1), one for Image of a type and none for other attributes (RM 3.5(35), 4.10(40), 3.5(12)); at the name
+abbrev pub wrong_number_of_arguments : Pos → List Fault
+wrong_number_of_arguments at = record { at = at; refusal = WrongNumberOfArguments } ∷ []
+
+-- a target, and an argument of mode out or in out, is a variable (RM 5.2(5), 6.4.1(5)), and no constant (RM 3.3.1(5)); at its first token
+abbrev pub not_a_variable : Pos → List Fault
+not_a_variable at = record { at = at; refusal = NotAVariable } ∷ []
+
+-- the name after `end` is the procedure's (RM 6.3(4)); at the name
+abbrev pub right_name_at_end : List ℕ → Option Ident → List Fault
+right_name_at_end name None = []
+right_name_at_end name (Some last) = unless (bytes_eq last.name name) (record { at = last.at; refusal = WrongNameAtEnd })
+
+-- a labelled loop or block has its label after its end, another has no name there (RM 5.5(5), 5.6(3)); at the name, or the semicolon
+abbrev pub right_label_at_end : Option Ident → Option Ident → Pos → List Fault
+right_label_at_end None None semicolon = []
+right_label_at_end None (Some last) semicolon = record { at = last.at; refusal = WrongNameAtEnd } ∷ []
+right_label_at_end (Some label) None semicolon = record { at = semicolon; refusal = WrongNameAtEnd } ∷ []
+right_label_at_end (Some label) (Some last) semicolon = right_name_at_end label.name (Some last)
+
+-- an exit leaves a loop that encloses it (RM 5.7(4)); at `exit`
+abbrev pub exit_in_loop : Bool → Pos → List Fault
+exit_in_loop good at = unless good (record { at = at; refusal = ExitWithoutLoop })
+
+-- a return has a value exactly in a function (RM 6.5(5)); at `return`
+abbrev pub return_in_place : Bool → Pos → List Fault
+return_in_place good at = unless good (record { at = at; refusal = ReturnOutOfPlace })
+
+-- a raise without a name stands in a handler (RM 11.3(3)); at `raise`
+abbrev pub raise_in_handler : Bool → Pos → List Fault
+raise_in_handler good at = unless good (record { at = at; refusal = RaiseWithoutHandler })
+
+-- no exception is chosen twice by the handlers of a body, and `others` is chosen last (RM 11.2(7, 8)); at the choice
+abbrev pub good_choice : Bool → Pos → List Fault
+good_choice good at = unless good (record { at = at; refusal = BadHandlerChoice })
+
+-- a number is at most the last Integer (RM 3.5.4); at the number
+abbrev pub number_too_large : Pos → List Fault
+number_too_large at = record { at = at; refusal = NumberTooLarge } ∷ []

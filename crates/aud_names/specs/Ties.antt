@@ -1,0 +1,3 @@
+pub mod Hidden
+pub mod Regions
+pub mod Table

@@ -1,0 +1,328 @@
+// Names, and what they stand for.
+
+ghost use Rattle.std.specs.Prelude.{◌≡◌, ◌+◌, ◌∷◌, [], IfOk};
+ghost use Rattle.std.specs.Option.{option_copied};
+ghost use Rattle.aud_names.specs.Names.{Place as Plain, empty_region, named_in, predefined, declared, hiding, is_hidden, is_taken, own_hidden, with_own, visible, library, outermost, innermost, next_frame};
+ghost use Rattle.aud_names.specs.Ties.Regions.{plain_region, plain_regions, plain_place, names_in, hidden_names};
+
+use crate::behind::Made;
+use crate::hidden::Hidden;
+use crate::table::listed;
+use aud_syntax::tree::{Ident, Identifiers, Mode};
+use aud_text::name::Name;
+use aud_text::raise::Raise;
+use aud_typed::program::{Exception, Subtype, Variable};
+use indexmap::IndexMap;
+use std::alloc::{AllocError, Global};
+use std::marker::Model;
+
+/// What a visible name stands for (RM 8.3).
+#[derive(Clone, Copy, PartialEq, Eq, Debug)]
+pub enum Meaning {
+    /// Integer, Natural, Positive or Boolean (RM 3.5.3, 3.5.4).
+    ScalarType(Subtype),
+    /// False or True (RM 3.5.3).
+    Literal(bool),
+    Object(Object),
+    Array(Array),
+    /// RM 11.1.
+    Exception(Exception),
+    Builtin(Builtin),
+    /// A procedure, by the number of its unit (RM 6.1): the main procedure's is 0.
+    Procedure(usize),
+}
+
+/// A variable or constant (RM 3.3.1): its subtype, which is not known where its declaration is faulty.
+#[derive(Clone, Copy, PartialEq, Eq, Debug)]
+pub struct Object {
+    pub variable: Variable,
+    pub subtype: Option<Subtype>,
+    pub constant: bool,
+}
+
+/// An array (RM 3.6): the cell of its first element, its bounds, and the subtype of its elements, which is not
+/// known where its declaration is faulty.
+#[derive(Clone, Copy, PartialEq, Eq, Debug)]
+pub struct Array {
+    pub first: Variable,
+    pub low: i32,
+    pub high: i32,
+    pub subtype: Option<Subtype>,
+}
+
+/// A formal parameter as calls see it (RM 6.1): its subtype is not known where its declaration is faulty.
+#[derive(Clone, Copy, PartialEq, Eq, Debug)]
+pub struct Parameter {
+    pub mode: Mode,
+    pub subtype: Option<Subtype>,
+}
+
+/// The procedures that put out texts (RM A.10).
+#[derive(Clone, Copy, PartialEq, Eq, Debug)]
+pub enum Builtin {
+    Put,
+    PutLine,
+    NewLine,
+}
+
+/// The names that a region declares, in the order of their declarations, and what they stand for.
+pub type Symbols = IndexMap<Name, Meaning>;
+
+/// A region of declarations (RM 8.1): its names, how many frames are further out than its own, the cells
+/// and the names of variables and constants that its frame has so far, and what allocates them.
+#[derive(Drop)]
+pub struct Region {
+    pub alloc: Global,
+    pub symbols: Symbols,
+    pub level: usize,
+    pub cells: usize,
+    pub names: usize,
+}
+
+impl Region {
+    /// A region with no names yet.
+    pub fn new(alloc: Global, level: usize) -> Self
+        ensures { plain_region result ≡ empty_region level }
+    {
+        Region {
+            alloc,
+            symbols: Symbols::new(alloc),
+            level,
+            cells: 0,
+            names: 0,
+        }
+    }
+
+    /// The region of the library, which has this main procedure (RM 10.1.1).
+    pub fn library(alloc: Global, main: &Name) -> Made<Self>
+        ensures { IfOk result (λ region. plain_region region ≡ library main.now) }
+    {
+        let mut library = Region::new(alloc, 0);
+        let name = main.try_clone(alloc)?;
+        library.symbols.insert(name, Meaning::Procedure(0))?;
+        Ok(library)
+    }
+}
+
+/// The regions around those of a program's frames: that of the library, and the predefined names further out.
+pub fn regions_of_library<'a>(library: &'a Region) -> Made<Vec<&'a Region>>
+    ensures { IfOk result (λ regions. plain_regions regions.items
+        ≡ plain_region library.now ∷ outermost) }
+{
+    let mut regions = Vec::new(library.alloc);
+    regions.push(library)?;
+    Ok(regions)
+}
+
+/// What is visible at a place, which may stand within a declaration: the innermost region, and those further
+/// out, the next one first. The predefined names are further out still.
+#[derive(Drop)]
+pub struct Scope<'a> {
+    innermost: &'a Region,
+    outer: &'a [&'a Region],
+    hidden: Option<Hidden<'a>>,
+}
+
+impl<'a> Model for Scope<'a> {
+    ghost Value = { Plain };
+
+    ghost view = { λ scope. hiding (hidden_names scope.hidden)
+        (plain_place scope.innermost.now scope.outer.now) };
+}
+
+impl<'a> Scope<'a> {
+    /// A place behind the declarations of a region.
+    pub fn new(innermost: &'a Region, outer: &'a [&'a Region]) -> Self
+        ensures { result ≡ plain_place innermost.now outer.now }
+    {
+        Scope {
+            innermost,
+            outer,
+            hidden: None,
+        }
+    }
+
+    /// The place within the declaration of these names in a region.
+    pub fn within(
+        innermost: &'a Region,
+        outer: &'a [&'a Region],
+        names: &'a Identifiers,
+    ) -> Made<Self>
+        ensures { IfOk result (λ scope.
+            scope ≡ hiding (names_in names.now) (plain_place innermost.now outer.now)) }
+    {
+        let hidden = Hidden::new(innermost.alloc, None, &names.first, &names.others)?;
+        Ok(Scope {
+            innermost,
+            outer,
+            hidden: Some(hidden),
+        })
+    }
+
+    /// The place within the declaration of these formals of a procedure in its region.
+    pub fn within_formal(
+        own: &'a Ident,
+        innermost: &'a Region,
+        outer: &'a [&'a Region],
+        names: &'a Identifiers,
+    ) -> Made<Self>
+        ensures { IfOk result (λ scope. scope
+            ≡ hiding (with_own (own_hidden own.now (plain_region innermost.now))
+            (names_in names.now)) (plain_place innermost.now outer.now)) }
+    {
+        let own = own_hidden(own, innermost);
+        let hidden = Hidden::new(innermost.alloc, own, &names.first, &names.others)?;
+        Ok(Scope {
+            innermost,
+            outer,
+            hidden: Some(hidden),
+        })
+    }
+
+    /// The place within the declaration of this name alone.
+    pub fn within_one(&self, name: &'a Ident) -> Made<Self>
+        ensures { IfOk result (λ scope. scope ≡ hiding (name.now ∷ []) self.now) }
+    {
+        let hidden = Hidden::new(self.alloc(), None, name, &[])?;
+        Ok(Scope {
+            innermost: self.innermost,
+            outer: self.outer,
+            hidden: Some(hidden),
+        })
+    }
+
+    /// The region of a frame within the innermost one (RM 5.6, 8.1).
+    pub fn frame(&self) -> Made<Region>
+        ensures { IfOk result (λ region. plain_region region
+            ≡ empty_region ((innermost self.now).level + 1)) }
+    {
+        let level = self.innermost.level.checked_add(1).ok_or(AllocError)?;
+        Ok(Region::new(self.alloc(), level))
+    }
+
+    /// The regions around such a frame.
+    pub fn regions(&self) -> Made<Vec<&'a Region>>
+        ensures { IfOk result (λ regions. plain_regions regions.items ≡ self.now.regions) }
+    {
+        let mut regions = Vec::with_capacity(self.alloc(), self.outer.len())?;
+        regions.push(self.innermost)?;
+        regions.extend_from_slice(self.outer)?;
+        Ok(regions)
+    }
+
+    /// What is made for the place is allocated by this.
+    pub fn alloc(&self) -> Global {
+        self.innermost.alloc
+    }
+
+    // What the regions around the place declare a name to be.
+    fn declared(&self, name: &Name) -> Option<Meaning>
+        ensures { result ≡ declared name.now self.now.regions }
+    {
+        match self.innermost.symbols.get(name) {
+            Some(meaning) => Some(*meaning),
+            None => declared(self.outer, name),
+        }
+    }
+
+    /// Whether a declaration around the place has taken a name, also the one that lasts there, or it is predefined.
+    pub fn is_taken(&self, name: &Name) -> bool
+        ensures { result ≡ is_taken name.now self.now }
+    {
+        is_hidden(name, &self.hidden) || self.declared(name).is_some()
+    }
+
+    /// What a name stands for, none where no declaration of it is visible (RM 8.3).
+    pub fn visible(&self, name: &Name) -> Option<Meaning>
+        ensures { result ≡ visible name.now self.now }
+    {
+        if is_hidden(name, &self.hidden) {
+            return None;
+        }
+        self.declared(name)
+    }
+}
+
+/// The regions around a frame within this region, which lies in those, and the frame's own (RM 6.1, 8.1).
+pub fn frame_within<'a>(
+    innermost: &'a Region,
+    outer: &'a [&'a Region],
+) -> Made<(Vec<&'a Region>, Region)>
+    ensures regions { IfOk result (λ frame. plain_regions frame.0.items
+        ≡ (plain_place innermost.now outer.now).regions) }
+    ensures own { IfOk result (λ frame. plain_region frame.1
+        ≡ next_frame (plain_place innermost.now outer.now)) }
+{
+    let scope = Scope::new(innermost, outer);
+    let regions = scope.regions()?;
+    let region = scope.frame()?;
+    Ok((regions, region))
+}
+
+// The name of a procedure within its formals, where none of those before has it.
+fn own_hidden<'a>(own: &'a Ident, region: &Region) -> Option<&'a Ident>
+    ensures { option_copied result ≡ own_hidden own.now (plain_region region.now) }
+{
+    if region.symbols.contains_key(&own.name) {
+        None
+    } else {
+        Some(own)
+    }
+}
+
+fn is_hidden(name: &Name, hidden: &Option<Hidden<'_>>) -> bool
+    ensures { result ≡ is_hidden name.now (hidden_names hidden.now) }
+{
+    match hidden {
+        None => false,
+        Some(names) => names.has(name),
+    }
+}
+
+// What regions declare a name to be.
+fn declared(regions: &[&Region], name: &Name) -> Option<Meaning>
+    ensures { result ≡ declared name.now (plain_regions regions.now) }
+{
+    match regions.split_first() {
+        None => predefined(name),
+        Some((region, further_out)) => match region.symbols.get(name) {
+            Some(meaning) => Some(*meaning),
+            None => declared(further_out, name),
+        },
+    }
+}
+
+const PREDEFINED: [(&[u8], Meaning); 13] = [
+    (b"INTEGER", Meaning::ScalarType(Subtype::Integer)),
+    (b"NATURAL", Meaning::ScalarType(Subtype::Natural)),
+    (b"POSITIVE", Meaning::ScalarType(Subtype::Positive)),
+    (b"BOOLEAN", Meaning::ScalarType(Subtype::Boolean)),
+    (b"FALSE", Meaning::Literal(false)),
+    (b"TRUE", Meaning::Literal(true)),
+    (
+        b"CONSTRAINT_ERROR",
+        Meaning::Exception(Exception::Predefined(Raise::Constraint)),
+    ),
+    (
+        b"PROGRAM_ERROR",
+        Meaning::Exception(Exception::Predefined(Raise::Program)),
+    ),
+    (
+        b"STORAGE_ERROR",
+        Meaning::Exception(Exception::Predefined(Raise::Storage)),
+    ),
+    (
+        b"TASKING_ERROR",
+        Meaning::Exception(Exception::Predefined(Raise::Tasking)),
+    ),
+    (b"PUT", Meaning::Builtin(Builtin::Put)),
+    (b"PUT_LINE", Meaning::Builtin(Builtin::PutLine)),
+    (b"NEW_LINE", Meaning::Builtin(Builtin::NewLine)),
+];
+
+/// What the outermost region declares a name to be.
+pub fn predefined(name: &Name) -> Option<Meaning>
+    ensures { result ≡ named_in name.now predefined }
+{
+    listed(&PREDEFINED, name)
+}

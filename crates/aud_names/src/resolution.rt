@@ -1,0 +1,193 @@
+// What names with several parts and arguments denote.
+
+ghost use Rattle.std.specs.Prelude.{◌≡◌, None};
+ghost use Rattle.aud_syntax.specs.Plain.{more_parts};
+ghost use Rattle.aud_syntax.specs.Ties.View.{plain_name, plain_part, part_list, plain_expressions};
+ghost use Rattle.aud_names.specs.Least.{noted};
+ghost use Rattle.aud_names.specs.Names.{named_in, predefined};
+ghost use Rattle.aud_names.specs.Rules.{name_not_declared};
+ghost use Rattle.aud_names.specs.Resolution.{resolved, or_in_library, in_library, in_text_io, denoted_by, takes_arguments, is_plainly, is_text_io, is_last, may_stand, are_none, last_of, last_args};
+
+use crate::fault::Least;
+use crate::names::{Meaning, Scope, predefined};
+use crate::rules::{name_not_declared, wrong_kind_of_name};
+use aud_syntax::tree::{Expression, Name, NamePart};
+use aud_text::place::Pos;
+
+const ADA: &[u8] = b"ADA";
+
+const TEXT_IO: &[u8] = b"TEXT_IO";
+
+/// What a name denotes, nothing where it is faulty, and where the identifier stands that decides.
+#[derive(Clone, Copy, PartialEq, Eq, Debug)]
+pub struct Denoted {
+    pub meaning: Option<Meaning>,
+    pub at: Pos,
+}
+
+/// The arguments of a name's last part.
+pub fn last_args(name: &Name) -> &[Expression]
+    ensures { plain_expressions result.now ≡ last_args (plain_name name.now) }
+{
+    last_of(&name.first, &name.others)
+}
+
+fn last_of<'a>(part: &'a NamePart, others: &'a [NamePart]) -> &'a [Expression]
+    ensures { plain_expressions result.now
+        ≡ last_of (plain_part part.now) (part_list others.now) }
+{
+    match others.split_first() {
+        None => &part.args,
+        Some((next, rest)) => last_of(next, rest),
+    }
+}
+
+/// Whether there are no arguments.
+pub fn are_none(args: &[Expression]) -> bool
+    ensures { result ≡ are_none (plain_expressions args.now) }
+{
+    match args.first() {
+        None => true,
+        Some(_) => false,
+    }
+}
+
+fn is_last(others: &[NamePart]) -> bool
+    ensures { result ≡ is_last (part_list others.now) }
+{
+    match others.first() {
+        None => true,
+        Some(_) => false,
+    }
+}
+
+fn takes_arguments(meaning: Meaning) -> bool
+    ensures { result ≡ takes_arguments meaning }
+{
+    match meaning {
+        Meaning::Array(_) | Meaning::Builtin(_) | Meaning::Procedure(_) => true,
+        Meaning::ScalarType(_) | Meaning::Literal(_) | Meaning::Object(_) | Meaning::Exception(_) =>
+            false,
+    }
+}
+
+fn may_stand(meaning: Meaning, part: &NamePart, others: &[NamePart]) -> bool
+    ensures { result ≡ may_stand meaning (plain_part part.now) (part_list others.now) }
+{
+    is_last(others) && (takes_arguments(meaning) || are_none(&part.args))
+}
+
+// What a name denotes whose first identifier has this meaning.
+fn denoted_by(
+    meaning: Meaning,
+    first: &NamePart,
+    others: &[NamePart],
+    faults: &mut Least,
+) -> Denoted
+    ensures denoted { result
+        ≡ (denoted_by meaning (plain_part first.now) (part_list others.now)).denoted }
+    ensures noted { faults.new ≡ noted faults.old
+        (denoted_by meaning (plain_part first.now) (part_list others.now)).faults }
+{
+    let at = first.ident.at;
+    if may_stand(meaning, first, others) {
+        return Denoted {
+            meaning: Some(meaning),
+            at,
+        };
+    }
+    wrong_kind_of_name(at, faults);
+    Denoted { meaning: None, at }
+}
+
+// What a name of Ada.Text_IO denotes.
+fn in_text_io(first: &NamePart, others: &[NamePart], faults: &mut Least) -> Denoted
+    ensures denoted { result ≡ (in_text_io (named_in first.now.ident.name predefined)
+        (plain_part first.now) (part_list others.now)).denoted }
+    ensures noted { faults.new ≡ noted faults.old (in_text_io
+        (named_in first.now.ident.name predefined)
+        (plain_part first.now) (part_list others.now)).faults }
+{
+    match predefined(&first.ident.name) {
+        Some(Meaning::Builtin(builtin)) => {
+            denoted_by(Meaning::Builtin(builtin), first, others, faults)
+        }
+        _ => not_declared(first.ident.at, faults),
+    }
+}
+
+fn not_declared(at: Pos, faults: &mut Least) -> Denoted
+    ensures denoted { result ≡ record { meaning = None; at = at } }
+    ensures noted { faults.new ≡ noted faults.old (name_not_declared at) }
+{
+    name_not_declared(at, faults);
+    Denoted { meaning: None, at }
+}
+
+// Whether a part is this name without arguments.
+fn is_plainly(name: &[u8], part: &NamePart) -> bool
+    ensures { result ≡ is_plainly name.now (plain_part part.now) }
+{
+    part.ident.name.as_bytes() == name && are_none(&part.args)
+}
+
+fn is_text_io(first: &NamePart, second: &NamePart, scope: &Scope<'_>) -> bool
+    ensures { result ≡ is_text_io (plain_part first.now) (plain_part second.now) scope.now }
+{
+    is_plainly(ADA, first) && is_plainly(TEXT_IO, second) && !scope.is_taken(&first.ident.name)
+}
+
+// What a name of at least two parts denotes whose first identifier is not visible.
+fn in_package(
+    first: &NamePart,
+    second: &NamePart,
+    others: &[NamePart],
+    scope: &Scope<'_>,
+    faults: &mut Least,
+) -> Denoted
+    ensures denoted { result ≡ (in_library (plain_part first.now)
+        (more_parts (plain_part second.now) (part_list others.now)) scope.now).denoted }
+    ensures noted { faults.new ≡ noted faults.old (in_library (plain_part first.now)
+        (more_parts (plain_part second.now) (part_list others.now)) scope.now).faults }
+{
+    match others.split_first() {
+        None => not_declared(first.ident.at, faults),
+        Some((third, rest)) => {
+            if is_text_io(first, second, scope) {
+                in_text_io(third, rest, faults)
+            } else {
+                not_declared(first.ident.at, faults)
+            }
+        }
+    }
+}
+
+// What a name denotes whose first identifier is not visible.
+fn in_library(
+    first: &NamePart,
+    others: &[NamePart],
+    scope: &Scope<'_>,
+    faults: &mut Least,
+) -> Denoted
+    ensures denoted { result
+        ≡ (in_library (plain_part first.now) (part_list others.now) scope.now).denoted }
+    ensures noted { faults.new ≡ noted faults.old
+        (in_library (plain_part first.now) (part_list others.now) scope.now).faults }
+{
+    match others.split_first() {
+        None => not_declared(first.ident.at, faults),
+        Some((second, rest)) => in_package(first, second, rest, scope, faults),
+    }
+}
+
+/// What a name denotes (RM 4.1, 8.3): notes its faults, but not those in its arguments.
+pub fn resolve(name: &Name, scope: &Scope<'_>, faults: &mut Least) -> Denoted
+    ensures denoted { result ≡ (resolved (plain_name name.now) scope.now).denoted }
+    ensures noted { faults.new
+        ≡ noted faults.old (resolved (plain_name name.now) scope.now).faults }
+{
+    match scope.visible(&name.first.ident.name) {
+        Some(meaning) => denoted_by(meaning, &name.first, &name.others, faults),
+        None => in_library(&name.first, &name.others, scope, faults),
+    }
+}

@@ -1,0 +1,177 @@
+// The rules of the language that a program may break: each function notes a breach of one of them.
+
+ghost use Rattle.std.specs.Prelude.{◌≡◌, not};
+ghost use Rattle.aud_names.specs.Least.{noted};
+ghost use Rattle.aud_names.specs.Names.{is_declared};
+ghost use Rattle.aud_names.specs.Rules.{base_of_subtype, base_asked, name_not_declared, declared_once, wrong_kind_of_name, fits, right_type, wrong_number_of_arguments, not_a_variable, right_name_at_end, right_label_at_end, exit_in_loop, return_in_place, raise_in_handler, good_choice, number_too_large};
+
+use crate::fault::Least;
+use crate::names::Symbols;
+use aud_syntax::tree::Ident;
+use aud_text::name::Name;
+use aud_text::place::Pos;
+use aud_text::refusal::Refusal;
+use aud_typed::program::Subtype;
+
+/// The types that places ask.
+#[derive(Clone, Copy, PartialEq, Eq, Debug)]
+pub enum Base {
+    /// Integer (RM 3.5.4).
+    Whole,
+    /// Boolean (RM 3.5.3).
+    Truth,
+    /// A text, which is put out.
+    Text,
+}
+
+/// The type of a subtype (RM 3.2).
+pub fn base_of_subtype(subtype: Subtype) -> Base
+    ensures { result ≡ base_of_subtype subtype }
+{
+    match subtype {
+        Subtype::Integer | Subtype::Natural | Subtype::Positive => Base::Whole,
+        Subtype::Boolean => Base::Truth,
+    }
+}
+
+/// The type of a subtype, where that is known.
+pub fn base_asked(subtype: Option<Subtype>) -> Option<Base>
+    ensures { result ≡ base_asked subtype }
+{
+    match subtype {
+        None => None,
+        Some(subtype) => Some(base_of_subtype(subtype)),
+    }
+}
+
+/// A name is visible (RM 8.3).
+pub fn name_not_declared(at: Pos, faults: &mut Least)
+    ensures { faults.new ≡ noted faults.old (name_not_declared at) }
+{
+    faults.note(at, Refusal::NameNotDeclared);
+}
+
+/// A region declares a name once (RM 8.3(26)): whether this declaration of it is the first.
+pub fn declared_once(ident: &Ident, symbols: &Symbols, faults: &mut Least) -> bool
+    ensures first { result ≡ not (is_declared ident.now.name symbols.now.entries) }
+    ensures noted { faults.new ≡ noted faults.old
+        (declared_once ident.now.name ident.now.at symbols.now.entries) }
+{
+    if symbols.contains_key(&ident.name) {
+        faults.note(ident.at, Refusal::DeclaredTwice);
+        return false;
+    }
+    true
+}
+
+/// A name is of the kind that its place asks.
+pub fn wrong_kind_of_name(at: Pos, faults: &mut Least)
+    ensures { faults.new ≡ noted faults.old (wrong_kind_of_name at) }
+{
+    faults.note(at, Refusal::WrongKindOfName);
+}
+
+fn fits(asked: Option<Base>, given: Option<Base>) -> bool
+    ensures { result ≡ fits asked given }
+{
+    match (asked, given) {
+        (Some(asked), Some(given)) => asked == given,
+        _ => true,
+    }
+}
+
+/// An expression has the type that its place asks, where both are known (RM 8.6).
+pub fn right_type(asked: Option<Base>, at: Pos, given: Option<Base>, faults: &mut Least)
+    ensures { faults.new ≡ noted faults.old (right_type asked at given) }
+{
+    if !fits(asked, given) {
+        faults.note(at, Refusal::WrongType);
+    }
+}
+
+/// As many arguments as formals (RM 6.4.1), one for Image of a type and none for other attributes
+/// (RM 3.5(35), 4.10(40), 3.5(12)).
+pub fn wrong_number_of_arguments(at: Pos, faults: &mut Least)
+    ensures { faults.new ≡ noted faults.old (wrong_number_of_arguments at) }
+{
+    faults.note(at, Refusal::WrongNumberOfArguments);
+}
+
+/// A target, and an argument of mode out or in out, is a variable (RM 5.2(5), 6.4.1(5)), and no constant (RM 3.3.1(5)).
+pub fn not_a_variable(at: Pos, faults: &mut Least)
+    ensures { faults.new ≡ noted faults.old (not_a_variable at) }
+{
+    faults.note(at, Refusal::NotAVariable);
+}
+
+/// The name after `end` is the procedure's (RM 6.3(4)).
+pub fn right_name_at_end(name: &Name, last: &Option<Ident>, faults: &mut Least)
+    ensures { faults.new ≡ noted faults.old (right_name_at_end name.now last.now) }
+{
+    if let Some(last) = last {
+        if last.name != *name {
+            faults.note(last.at, Refusal::WrongNameAtEnd);
+        }
+    }
+}
+
+/// A labelled loop or block has its label after its end, another has no name there (RM 5.5(5), 5.6(3)).
+pub fn right_label_at_end(
+    label: &Option<Ident>,
+    last: &Option<Ident>,
+    semicolon: Pos,
+    faults: &mut Least,
+)
+    ensures { faults.new
+        ≡ noted faults.old (right_label_at_end label.now last.now semicolon) }
+{
+    match (label, last) {
+        (None, None) => {}
+        (None, Some(last)) => faults.note(last.at, Refusal::WrongNameAtEnd),
+        (Some(_), None) => faults.note(semicolon, Refusal::WrongNameAtEnd),
+        (Some(label), Some(_)) => right_name_at_end(&label.name, last, faults),
+    }
+}
+
+/// An exit leaves a loop that encloses it (RM 5.7(4)).
+pub fn exit_in_loop(good: bool, at: Pos, faults: &mut Least)
+    ensures { faults.new ≡ noted faults.old (exit_in_loop good at) }
+{
+    if !good {
+        faults.note(at, Refusal::ExitWithoutLoop);
+    }
+}
+
+/// A return has a value exactly in a function (RM 6.5(5)).
+pub fn return_in_place(good: bool, at: Pos, faults: &mut Least)
+    ensures { faults.new ≡ noted faults.old (return_in_place good at) }
+{
+    if !good {
+        faults.note(at, Refusal::ReturnOutOfPlace);
+    }
+}
+
+/// A raise without a name stands in a handler (RM 11.3(3)).
+pub fn raise_in_handler(good: bool, at: Pos, faults: &mut Least)
+    ensures { faults.new ≡ noted faults.old (raise_in_handler good at) }
+{
+    if !good {
+        faults.note(at, Refusal::RaiseWithoutHandler);
+    }
+}
+
+/// No exception is chosen twice by the handlers of a body, and `others` is chosen last (RM 11.2(7, 8)).
+pub fn good_choice(good: bool, at: Pos, faults: &mut Least)
+    ensures { faults.new ≡ noted faults.old (good_choice good at) }
+{
+    if !good {
+        faults.note(at, Refusal::BadHandlerChoice);
+    }
+}
+
+/// A number is at most the last Integer (RM 3.5.4).
+pub fn number_too_large(at: Pos, faults: &mut Least)
+    ensures { faults.new ≡ noted faults.old (number_too_large at) }
+{
+    faults.note(at, Refusal::NumberTooLarge);
+}

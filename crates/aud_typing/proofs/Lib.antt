@@ -1,0 +1,3 @@
+pub mod Notes
+pub mod Opened
+pub mod Chains

@@ -1,0 +1,3 @@
+pub mod Expressions
+pub mod Conditions
+pub mod Ties

@@ -1,0 +1,2 @@
+pub mod Entities
+pub mod Typing

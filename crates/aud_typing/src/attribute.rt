@@ -1,0 +1,320 @@
+// Attributes (RM 4.1.4, K.2).
+
+ghost use Rattle.std.specs.Prelude.{◌≡◌};
+ghost use Rattle.std.specs.Str.{bytes_eq};
+ghost use Rattle.std.specs.Map.{lookup};
+ghost use Rattle.aud_names.specs.Rules.{wrong_kind_of_name};
+ghost use Rattle.aud_typing.specs.Expressions.{unknown, attributes, without_argument, image_of, image_of_type, image_with, image, first_of, last_of, at_most_last, length_of, bound, attribute_of, entity, element_attribute, attribute_if};
+ghost use Rattle.aud_names.specs.Least.{noted};
+ghost use Rattle.aud_typing.specs.Ties.Typing.{plain_typed, plain_argument, Leaves};
+ghost use Rattle.aud_typing.specs.Ties.Entities.{plain_entity};
+
+use crate::entity::{Denoting, Entity, stored_at};
+use crate::typed::{Operand, Typed, stored, wants};
+use aud_names::array::length_between;
+use aud_names::behind::Made;
+use aud_names::fault::Least;
+use aud_names::names::Meaning;
+use aud_names::rules::{Base, base_of_subtype, wrong_kind_of_name, wrong_number_of_arguments};
+use aud_names::table::listed;
+use aud_syntax::tree::Ident;
+use aud_text::int32::Int32;
+use aud_text::name::Name;
+use aud_text::place::Pos;
+use aud_typed::program::{BooleanExpression, IntegerExpression, Subtype, TextExpression};
+use std::alloc::Global;
+
+/// An attribute of the language.
+#[derive(Clone, Copy, PartialEq, Eq, Debug)]
+pub enum Attribute {
+    Image,
+    First,
+    Last,
+    Length,
+    /// One of what no program has as yet: an entry or a task.
+    Other,
+}
+
+/// Where an attribute's prefix and its designator stand.
+#[derive(Clone, Copy)]
+struct Places {
+    prefix: Pos,
+    designator: Pos,
+}
+
+const ATTRIBUTES: [(&[u8], Attribute); 7] = [
+    (b"IMAGE", Attribute::Image),
+    (b"FIRST", Attribute::First),
+    (b"LAST", Attribute::Last),
+    (b"LENGTH", Attribute::Length),
+    (b"COUNT", Attribute::Other),
+    (b"CALLABLE", Attribute::Other),
+    (b"TERMINATED", Attribute::Other),
+];
+
+// The attribute of this name.
+fn attribute_named(name: &Name) -> Option<Attribute>
+    ensures { result ≡ lookup (bytes_eq name.now) attributes }
+{
+    listed(&ATTRIBUTES, name)
+}
+
+// The value of an attribute that has no argument.
+fn without_argument(
+    designator: Pos,
+    argument: Option<Operand>,
+    value: Typed,
+    faults: &mut Least,
+) -> Typed
+    ensures typed { plain_typed result
+        ≡ (without_argument designator (plain_argument argument) (plain_typed value)).typed }
+    ensures noted { faults.new ≡ noted faults.old
+        (without_argument designator (plain_argument argument) (plain_typed value)).faults }
+{
+    match argument {
+        None => value,
+        Some(argument) => {
+            drop((argument, value));
+            wrong_number_of_arguments(designator, faults);
+            Typed::Unknown
+        }
+    }
+}
+
+fn image_of(value: Typed) -> Typed
+    ensures { plain_typed result ≡ image_of (plain_typed value) }
+{
+    match value {
+        Typed::Number(x) => Typed::Text(TextExpression::Image(x)),
+        Typed::Truth(x) => Typed::Text(TextExpression::ImageTruth(x)),
+        _ => Typed::Unknown,
+    }
+}
+
+fn image_of_type(base: Base, value: Typed) -> Typed
+    ensures { plain_typed result ≡ image_of_type base (plain_typed value) }
+{
+    match base {
+        Base::Whole => match value {
+            Typed::Number(x) => Typed::Text(TextExpression::Image(x)),
+            _ => Typed::Unknown,
+        },
+        Base::Truth => match value {
+            Typed::Truth(x) => Typed::Text(TextExpression::ImageTruth(x)),
+            _ => Typed::Unknown,
+        },
+        Base::Text => Typed::Unknown,
+    }
+}
+
+// Image of a type.
+fn image_with(base: Base, designator: Pos, argument: Option<Operand>, faults: &mut Least) -> Typed
+    ensures typed { plain_typed result
+        ≡ (image_with base designator (plain_argument argument)).typed }
+    ensures noted { faults.new
+        ≡ noted faults.old (image_with base designator (plain_argument argument)).faults }
+{
+    let Some(argument) = argument else {
+        wrong_number_of_arguments(designator, faults);
+        return Typed::Unknown;
+    };
+    wants(base, argument.at, &argument.typed, faults);
+    image_of_type(base, argument.opened())
+}
+
+// What an attribute is that its prefix has not, or that is none: nothing.
+fn wrong_kind(at: Pos, argument: Option<Operand>, faults: &mut Least) -> Typed
+    ensures typed { plain_typed result ≡ unknown }
+    ensures noted { faults.new ≡ noted faults.old (wrong_kind_of_name at) }
+{
+    drop(argument);
+    wrong_kind_of_name(at, faults);
+    Typed::Unknown
+}
+
+fn image(meaning: Meaning, at: Places, argument: Option<Operand>, faults: &mut Least) -> Typed
+    ensures typed { plain_typed result
+        ≡ (image meaning at.prefix at.designator (plain_argument argument)).typed }
+    ensures noted { faults.new ≡ noted faults.old
+        (image meaning at.prefix at.designator (plain_argument argument)).faults }
+{
+    let designator = at.designator;
+    match meaning {
+        Meaning::ScalarType(subtype) => {
+            image_with(base_of_subtype(subtype), designator, argument, faults)
+        }
+        Meaning::Object(object) => {
+            let value = image_of(stored(object.variable, object.subtype));
+            without_argument(designator, argument, value, faults)
+        }
+        Meaning::Literal(value) => {
+            let text = TextExpression::ImageTruth(BooleanExpression::Truth(value));
+            without_argument(designator, argument, Typed::Text(text), faults)
+        }
+        Meaning::Array(_) | Meaning::Exception(_) | Meaning::Builtin(_) | Meaning::Procedure(_) =>
+            wrong_kind(at.prefix, argument, faults),
+    }
+}
+
+fn first_of(meaning: Meaning) -> Option<Int32>
+    ensures { result ≡ first_of meaning }
+{
+    match meaning {
+        Meaning::ScalarType(Subtype::Integer) => Some(Int32::new(i32::MIN)),
+        Meaning::ScalarType(Subtype::Natural) => Some(Int32::new(0)),
+        Meaning::ScalarType(Subtype::Positive) => Some(Int32::new(1)),
+        Meaning::Array(array) => Some(Int32::new(array.low)),
+        _ => None,
+    }
+}
+
+fn last_of(meaning: Meaning) -> Option<Int32>
+    ensures { result ≡ last_of meaning }
+{
+    match meaning {
+        Meaning::ScalarType(Subtype::Integer | Subtype::Natural | Subtype::Positive) => {
+            Some(Int32::new(i32::MAX))
+        }
+        Meaning::Array(array) => Some(Int32::new(array.high)),
+        _ => None,
+    }
+}
+
+// A number, or the last Integer where that is less.
+fn at_most_last(number: usize) -> Int32
+    ensures { result ≡ at_most_last number }
+{
+    match i32::try_from(number) {
+        Ok(value) => Int32::new(value),
+        Err(_) => Int32::new(i32::MAX),
+    }
+}
+
+fn length_of(meaning: Meaning) -> Option<Int32>
+    ensures { result ≡ length_of meaning }
+{
+    match meaning {
+        Meaning::Array(array) => Some(at_most_last(length_between(array.low, array.high))),
+        _ => None,
+    }
+}
+
+// A bound of a subtype or array, or an array's length, if it has one.
+fn bound(value: Option<Int32>, at: Places, argument: Option<Operand>, faults: &mut Least) -> Typed
+    ensures typed { plain_typed result
+        ≡ (bound value at.prefix at.designator (plain_argument argument)).typed }
+    ensures noted { faults.new ≡ noted faults.old
+        (bound value at.prefix at.designator (plain_argument argument)).faults }
+{
+    match value {
+        None => wrong_kind(at.prefix, argument, faults),
+        Some(value) => {
+            let number = Typed::Number(IntegerExpression::Number(value));
+            without_argument(at.designator, argument, number, faults)
+        }
+    }
+}
+
+fn attribute_of(
+    attribute: Attribute,
+    meaning: Meaning,
+    at: Places,
+    argument: Option<Operand>,
+    faults: &mut Least,
+) -> Typed
+    ensures typed { plain_typed result ≡ (attribute_of attribute meaning
+        at.prefix at.designator (plain_argument argument)).typed }
+    ensures noted { faults.new ≡ noted faults.old (attribute_of attribute meaning
+        at.prefix at.designator (plain_argument argument)).faults }
+{
+    match attribute {
+        Attribute::Image => image(meaning, at, argument, faults),
+        Attribute::First => bound(first_of(meaning), at, argument, faults),
+        Attribute::Last => bound(last_of(meaning), at, argument, faults),
+        Attribute::Length => bound(length_of(meaning), at, argument, faults),
+        Attribute::Other => wrong_kind(at.prefix, argument, faults),
+    }
+}
+
+// An attribute of this name of what has a meaning.
+fn meaning_attribute(
+    meaning: Meaning,
+    prefix: Pos,
+    designator: &Ident,
+    argument: Option<Operand>,
+    faults: &mut Least,
+) -> Typed
+    ensures typed { plain_typed result ≡ (attribute_if (entity meaning) prefix
+        designator.now (plain_argument argument)).typed }
+    ensures noted { faults.new ≡ noted faults.old (attribute_if (entity meaning) prefix
+        designator.now (plain_argument argument)).faults }
+{
+    match attribute_named(&designator.name) {
+        None => wrong_kind(designator.at, argument, faults),
+        Some(attribute) => {
+            let at = Places {
+                prefix,
+                designator: designator.at,
+            };
+            attribute_of(attribute, meaning, at, argument, faults)
+        }
+    }
+}
+
+// An attribute of this name of an element with this value (RM 4.10(40)).
+fn element_attribute(
+    value: Typed,
+    prefix: Pos,
+    designator: &Ident,
+    argument: Option<Operand>,
+    faults: &mut Least,
+) -> Typed
+    ensures typed { plain_typed result
+        ≡ (element_attribute (lookup (bytes_eq designator.now.name) attributes)
+        (plain_typed value) prefix designator.now.at (plain_argument argument)).typed }
+    ensures noted { faults.new ≡ noted faults.old
+        (element_attribute (lookup (bytes_eq designator.now.name) attributes)
+        (plain_typed value) prefix designator.now.at (plain_argument argument)).faults }
+{
+    match attribute_named(&designator.name) {
+        None => {
+            drop(value);
+            wrong_kind(designator.at, argument, faults)
+        }
+        Some(Attribute::Image) => {
+            without_argument(designator.at, argument, image_of(value), faults)
+        }
+        Some(_) => {
+            drop(value);
+            wrong_kind(prefix, argument, faults)
+        }
+    }
+}
+
+/// An attribute of what a name denotes, with its argument, if it has one.
+pub fn attribute_value(
+    alloc: Global,
+    prefix: Denoting,
+    designator: &Ident,
+    argument: Option<Operand>,
+    faults: &mut Least,
+) -> Made<Typed>
+    ensures { Leaves plain_typed result faults.old faults.new
+        (attribute_if (plain_entity prefix.entity) prefix.at designator.now
+        (plain_argument argument)).faults
+        (attribute_if (plain_entity prefix.entity) prefix.at designator.now
+        (plain_argument argument)).typed }
+{
+    let at = prefix.at;
+    match prefix.entity {
+        Entity::Nothing => {
+            drop(argument);
+            Ok(Typed::Unknown)
+        }
+        Entity::Whole(meaning) => Ok(meaning_attribute(meaning, at, designator, argument, faults)),
+        Entity::Element(element) => {
+            let value = stored_at(alloc, element)?;
+            Ok(element_attribute(value, at, designator, argument, faults))
+        }
+    }
+}

@@ -1,0 +1,207 @@
+// What names denote with the arguments of their last parts.
+
+ghost use Rattle.std.specs.Prelude.{◌≡◌, IfOk};
+ghost use Rattle.aud_syntax.specs.Ties.View.{plain_name, plain_expressions};
+ghost use Rattle.aud_typed.specs.Ties.View.{plain_integer};
+ghost use Rattle.aud_names.specs.Least.{noted};
+ghost use Rattle.aud_typing.specs.Expressions.{element_with, array_indexed, indexed, denoting, read_faults, name_faults, stored_at, meaning_read, value_read};
+ghost use Rattle.aud_typing.specs.Ties.Typing.{plain_typed};
+ghost use Rattle.aud_typing.specs.Ties.Entities.{plain_entity};
+
+use crate::expression::expression_at;
+use crate::typed::{Typed, stored, wants};
+use aud_names::array::array_at;
+use aud_names::behind::Made;
+use aud_names::fault::Least;
+use aud_names::names::{Array, Meaning, Scope};
+use aud_names::resolution::{last_args, resolve};
+use aud_names::rules::{Base, wrong_kind_of_name, wrong_number_of_arguments};
+use aud_syntax::tree::{Expression, Name};
+use aud_text::place::Pos;
+use aud_typed::program::{ArrayAt, BooleanExpression, IntegerExpression, Subtype};
+use std::alloc::Global;
+
+/// An element of an array: its index, and its subtype, where that is known (RM 4.1.1).
+#[derive(Drop, Debug)]
+pub struct Element {
+    pub array: ArrayAt,
+    pub index: IntegerExpression,
+    pub subtype: Option<Subtype>,
+}
+
+/// What a name denotes.
+#[derive(Drop, Debug)]
+pub enum Entity {
+    /// The name is faulty.
+    Nothing,
+    Whole(Meaning),
+    Element(Element),
+}
+
+/// What a name denotes, and where the identifier stands that decides.
+#[derive(Drop, Debug)]
+pub struct Denoting {
+    pub entity: Entity,
+    pub at: Pos,
+}
+
+fn element_with(array: Array, index: Typed) -> Entity
+    ensures { plain_entity result ≡ element_with array (plain_typed index) }
+{
+    match index {
+        Typed::Number(index) => Entity::Element(Element {
+            array: array_at(array),
+            index,
+            subtype: array.subtype,
+        }),
+        _ => Entity::Nothing,
+    }
+}
+
+// An array with these arguments, of which the last is typed.
+fn array_indexed(
+    array: Array,
+    args: &[Expression],
+    at: Pos,
+    last: Typed,
+    faults: &mut Least,
+) -> Entity
+    ensures entity { plain_entity result
+        ≡ (array_indexed array (plain_expressions args.now) at (plain_typed last)).entity }
+    ensures noted { faults.new ≡ noted faults.old
+        (array_indexed array (plain_expressions args.now) at (plain_typed last)).faults }
+{
+    match args.split_first() {
+        None => {
+            drop(last);
+            Entity::Whole(Meaning::Array(array))
+        }
+        Some((index, others)) => match others.split_first() {
+            None => {
+                wants(Base::Whole, expression_at(index), &last, faults);
+                element_with(array, last)
+            }
+            Some(_) => {
+                drop(last);
+                wrong_number_of_arguments(at, faults);
+                Entity::Nothing
+            }
+        },
+    }
+}
+
+// What has a meaning, with these arguments.
+fn indexed(
+    meaning: Option<Meaning>,
+    args: &[Expression],
+    at: Pos,
+    last: Typed,
+    faults: &mut Least,
+) -> Entity
+    ensures entity { plain_entity result
+        ≡ (indexed meaning (plain_expressions args.now) at (plain_typed last)).entity }
+    ensures noted { faults.new ≡ noted faults.old
+        (indexed meaning (plain_expressions args.now) at (plain_typed last)).faults }
+{
+    match meaning {
+        None => {
+            drop(last);
+            Entity::Nothing
+        }
+        Some(Meaning::Array(array)) => array_indexed(array, args, at, last, faults),
+        Some(meaning) => {
+            drop(last);
+            Entity::Whole(meaning)
+        }
+    }
+}
+
+/// What a name denotes whose last argument is typed (RM 4.1): notes its faults, but not those in its arguments.
+#[tactic(auto, using(crate::proofs::Notes::noted_append))]
+#[inline(never)]
+pub fn name_denotes(
+    name: &Name,
+    last: Box<Typed>,
+    scope: &Scope<'_>,
+    faults: &mut Least,
+) -> Denoting
+    ensures entity { plain_entity result.entity
+        ≡ (denoting (plain_name name.now) (plain_typed last.value) scope.now).entity }
+    ensures at { result.at
+        ≡ (denoting (plain_name name.now) (plain_typed last.value) scope.now).at }
+    ensures noted { faults.new ≡ noted faults.old
+        (denoting (plain_name name.now) (plain_typed last.value) scope.now).faults }
+{
+    let denoted = resolve(name, scope, faults);
+    let last = Box::into_inner(last);
+    let entity = indexed(denoted.meaning, last_args(name), denoted.at, last, faults);
+    Denoting {
+        entity,
+        at: denoted.at,
+    }
+}
+
+// Notes where what is read has no value (RM 4.1, 4.4).
+fn check_read(meaning: Meaning, at: Pos, faults: &mut Least)
+    ensures { faults.new ≡ noted faults.old (read_faults meaning at) }
+{
+    match meaning {
+        Meaning::Object(_) | Meaning::Literal(_) => {}
+        Meaning::ScalarType(_)
+        | Meaning::Array(_)
+        | Meaning::Exception(_)
+        | Meaning::Builtin(_)
+        | Meaning::Procedure(_) => wrong_kind_of_name(at, faults),
+    }
+}
+
+/// Notes where what a name denotes has no value.
+pub fn check_name(entity: &Entity, at: Pos, faults: &mut Least)
+    ensures { faults.new ≡ noted faults.old (name_faults (plain_entity entity.now) at) }
+{
+    match entity {
+        Entity::Whole(meaning) => check_read(*meaning, at, faults),
+        Entity::Nothing | Entity::Element(_) => {}
+    }
+}
+
+/// The value of an element.
+pub fn stored_at(alloc: Global, element: Element) -> Made<Typed>
+    ensures { IfOk result (λ typed. plain_typed typed
+        ≡ stored_at element.array (plain_integer element.index) element.subtype) }
+{
+    let Element {
+        array,
+        index,
+        subtype,
+    } = element;
+    match subtype {
+        None => Ok(Typed::Unknown),
+        Some(Subtype::Integer | Subtype::Natural | Subtype::Positive) => {
+            let index = Box::new(alloc, index)?;
+            Ok(Typed::Number(IntegerExpression::Element(array, index)))
+        }
+        Some(Subtype::Boolean) => Ok(Typed::Truth(BooleanExpression::Element(array, index))),
+    }
+}
+
+fn meaning_read(meaning: Meaning) -> Typed
+    ensures { plain_typed result ≡ meaning_read meaning }
+{
+    match meaning {
+        Meaning::Object(object) => stored(object.variable, object.subtype),
+        Meaning::Literal(value) => Typed::Truth(BooleanExpression::Truth(value)),
+        _ => Typed::Unknown,
+    }
+}
+
+/// The value of what a name denotes.
+pub fn value_read(alloc: Global, entity: Entity) -> Made<Typed>
+    ensures { IfOk result (λ typed. plain_typed typed ≡ value_read (plain_entity entity)) }
+{
+    match entity {
+        Entity::Nothing => Ok(Typed::Unknown),
+        Entity::Whole(meaning) => Ok(meaning_read(meaning)),
+        Entity::Element(element) => stored_at(alloc, element),
+    }
+}
