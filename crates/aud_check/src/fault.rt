@@ -1,5 +1,7 @@
 // Why a program is not accepted.
 
+ghost use Rattle.std.specs.Prelude.{◌≡◌};
+
 use aud_names::fault::Fault;
 use std::alloc::{AllocError, AllocFailed};
 use thiserror::Error;
