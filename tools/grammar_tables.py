@@ -1,5 +1,5 @@
 #!/usr/bin/env python3
-"""Writes crates/aud_parse/proofs/Tables.antt from crates/aud_parse/specs/Grammar.antt.
+"""Writes crates/aud_grammar/proofs/Tables.antt from crates/aud_grammar/specs/Grammar.antt.
 
 For each phrase of the grammar: `rank`, how many rules may be entered before a token of it is
 passed, and `follow`, the numbers of the kinds of tokens that may come behind it (999 is the end
@@ -24,7 +24,7 @@ def read_codes():
 
 
 def read_rules():
-    text = (CRATES / "aud_parse/specs/Grammar.antt").read_text()
+    text = (CRATES / "aud_grammar/specs/Grammar.antt").read_text()
     rules = {}
     for name, body in re.findall(r"^rule (\w+) = (.*) ∷ \[\]$", text, re.M):
         symbols = []
@@ -125,7 +125,7 @@ def main():
     lines = [
         "-- What the laws need to know of each phrase. Written by tools/grammar_tables.py, and checked in Reading and Ends.",
         "use Rattle.std.specs.Prelude.{ℕ, List, [], ◌∷◌}",
-        "use Rattle.aud_parse.specs.Grammar.{Phrase, " + ", ".join(rules) + "}",
+        "use Rattle.aud_grammar.specs.Grammar.{Phrase, " + ", ".join(rules) + "}",
         "",
         "-- the kinds that may come behind some phrases, as numbers; 999 is the end of the tokens",
         *(f"abbrev {name} : List ℕ\n{name} = {kinds}\n" for kinds, name in behind.items()),
@@ -140,7 +140,7 @@ def main():
         "abbrev pub follow : Phrase → List ℕ",
         "follow p = (known p).1",
     ]
-    (CRATES / "aud_parse/proofs/Tables.antt").write_text("\n".join(lines) + "\n")
+    (CRATES / "aud_grammar/proofs/Tables.antt").write_text("\n".join(lines) + "\n")
     print(f"{len(rules)} parts, highest rank {max(ranks.values())}")
 
 

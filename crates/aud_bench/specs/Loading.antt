@@ -6,7 +6,7 @@ use Rattle.aud_text.specs.declared.refusal.Refusal.TheVariants as refusal
 use Rattle.aud_text.specs.declared.limits.Limits.{Limits}
 use Rattle.aud_lex.specs.Element.{Element}
 use Rattle.aud_lex.specs.Lexed.{lexed}
-use Rattle.aud_parse.specs.Parsed as syntax
+use Rattle.aud_grammar.specs.Parsed as syntax
 use Rattle.aud_syntax.specs.Plain as plain
 use Rattle.aud_typed.specs.Tree as tree
 use Rattle.aud_names.specs.declared.fault.Fault.{Fault}

@@ -10,7 +10,7 @@ ghost use Rattle.aud_bench.specs.Ties.Loads.{Gives};
 ghost use Rattle.aud_bench.specs.Size.{line_count};
 ghost use Rattle.aud_check.specs.Checked as rules;
 ghost use Rattle.aud_parse.specs.Ties.Gives as parses;
-ghost use Rattle.aud_parse.specs.Parsed as syntax;
+ghost use Rattle.aud_grammar.specs.Parsed as syntax;
 ghost use Rattle.aud_syntax.specs.Plain as plain;
 ghost use Rattle.aud_bench.specs.declared.loading.LoadFault.TheVariants as fault;
 ghost use Rattle.aud_bench.specs.declared.request.Answer.TheVariants as answer;

@@ -1,28 +1,14 @@
--- The items of trees that are built from their phrases.
+-- The items of declarations and statements that are built from their phrases.
 use Rattle.std.proofs.Common.{◌≡◌, Bool, true, false, List, [], ◌∷◌, map, refl, sym, ap, ◌∙◌}
 use Rattle.std.specs.Prelude.{Option, Some, None, Vec}
 use Rattle.std.specs.Global.{Global}
 use Rattle.std.specs.Prelude.{Box}
 use Rattle.aud_syntax.specs.declared.tree.Ident.{Ident}
-use Rattle.aud_syntax.specs.declared.tree.Signed.{Signed}
-use Rattle.aud_syntax.specs.declared.tree.Adding.{Adding}
-use Rattle.aud_syntax.specs.declared.tree.Operator.{Operator}
-use Rattle.aud_syntax.specs.declared.tree.Simple.{Simple, roll-Simple, rolls-Simple', Row_of-Added, end_of-Added, more_of-Added, items-the_row-Added, items_hidden-the_row-Added-3}
-use Rattle.aud_syntax.specs.declared.tree.Added.{Added, roll-Added, rolls-Added'}
-use Rattle.aud_syntax.specs.declared.tree.Term.{Term, roll-Term, rolls-Term', Row_of-Multiplied, end_of-Multiplied, more_of-Multiplied, items-the_row-Multiplied, items_hidden-the_row-Multiplied-4}
-use Rattle.aud_syntax.specs.declared.tree.Multiplied.{Multiplied}
-use Rattle.aud_syntax.specs.declared.tree.Factor.{Factor}
+use Rattle.aud_syntax.specs.declared.tree.Simple.{Simple}
 use Rattle.aud_syntax.specs.declared.tree.Expression.{Expression}
-use Rattle.aud_syntax.specs.declared.tree.Expression.TheVariants.{Connected}
-use Rattle.aud_syntax.specs.declared.tree.Connective.{Connective}
-use Rattle.aud_syntax.specs.declared.tree.Chain.{Chain}
-use Rattle.aud_syntax.specs.declared.tree.Relation.{Relation}
 use Rattle.aud_syntax.specs.declared.tree.Name.{Name, roll-Name}
 use Rattle.aud_syntax.specs.declared.tree.NamePart.{NamePart}
-use Rattle.aud_syntax.specs.declared.tree.Primary as primary
-use Rattle.aud_syntax.specs.declared.tree.Primary.{Primary}
-use Rattle.aud_syntax.proofs.Opened.{chain_open, attribute_open, name_roll}
-use Rattle.aud_syntax.specs.declared.tree.Expression.TheBlock.{hidden-the_row-Multiplied-4, hidden-the_row-Added-3}
+use Rattle.aud_syntax.proofs.Opened.{name_roll}
 use Rattle.aud_syntax.specs.declared.tree.Identifiers.{Identifiers}
 use Rattle.aud_syntax.specs.declared.tree.Mode.{Mode}
 use Rattle.aud_syntax.specs.declared.tree.Mode.TheVariants as mode
@@ -39,93 +25,17 @@ use Rattle.aud_syntax.specs.declared.tree.Bound.{Bound}
 use Rattle.aud_syntax.specs.declared.tree.Iteration.{Iteration}
 use Rattle.aud_syntax.specs.declared.tree.Iteration.TheVariants as iteration
 use Rattle.aud_syntax.specs.declared.tree.Choices.{Choices}
-use Rattle.aud_syntax.specs.declared.tree.Choices.TheVariants as choices
 use Rattle.aud_syntax.specs.declared.tree.Handler.{Handler}
 use Rattle.aud_syntax.specs.declared.tree.Context.{Context}
 use Rattle.aud_syntax.specs.Plain as m
-use Rattle.aud_syntax.specs.Ties.View.{plain_name, plain_primary, plain_factor, plain_multiplieds, plain_term, plain_added, plain_addeds, plain_simple, plain_expression, plain_relation, relation_list, plain_chain, plain_maybe, plain_formal, plain_declaration, plain_declarations, plain_others, plain_statements, plain_statement, plain_context, plain_body, plain_expressions, plain_part, part_list, arm_list, plain_iteration, plain_choices, handler_list}
-use Rattle.aud_parse.specs.Grammar as g
-use Rattle.aud_parse.specs.Actions.{Item, made, place, an_ident, a_sign, an_operator, a_primary, a_factor, a_term, a_simple, an_expression, chained, some_names, some_statements, a_body, a_unit, the_idents, the_declarations, more_statements, opt_ident, opt_expression, opt_sign, opt_operator, the_multiplieds, the_addeds, the_relations, listed, top, pop, some_args, a_part, a_name, a_statement, the_args, the_parts, expression_args, a_variable, the_contexts, an_arm, the_arms, otherwise, the_iteration, loop_place, is_there, number_of, a_bound, an_iteration, a_declare, some_choices, begin_of, the_handlers, in_mode, the_formals, a_declaration}
-use Rattle.aud_parse.specs.Ties.Items.{list_item, opt_item, name_item, attribute_item, factor_item, multiplied_item, primary_item, term_item, added_item, simple_item, relation_item, expression_item, boxed_item, names_item, mode_item, formal_item, declaration_item, boxed_declaration_item, statement_item, statements_item, body_item, boxed_body_item, unit_item, args_of, args_item, part_item, rest_item, variable_item, context_item, boxed_statement_item, boxed_statements_item, arm_item, boxed_arm_item, scheme_item, bound_item, declare_item, choices_item, handler_item, boxed_handler_item}
-use Rattle.aud_parse.specs.Ties.Parts.{assigned_or_called, else_statements, iteration_of, begins_at, declared_in, is_declared, declares_at, behind_label, mark_item}
-
-pub multiplied_rows : (n : _) (row : Row_of-Multiplied n) → plain_multiplieds row ≡ the_multiplieds (list_item multiplied_item (items-the_row-Multiplied n row))
-multiplied_rows n end_of-Multiplied = refl
-multiplied_rows n (more_of-Multiplied by operator primary row) = ap (λ z. m.more_multiplieds (m.multiplied by (m.factor operator (plain_primary primary))) z) (multiplied_rows _ row)
-
-pub added_rows : (n : _) (row : Row_of-Added n) → plain_addeds row ≡ the_addeds (list_item added_item (items-the_row-Added n row))
-added_rows n end_of-Added = refl
-added_rows n (more_of-Added x row) = ap (λ z. m.more_addeds (plain_added x) z) (added_rows _ row)
-
-pub added_roll : (s : Adding) (t : Term) → plain_added (roll-Added (record { operator = s; term = t })) ≡ m.added s (plain_term t)
-added_roll s t = ap plain_added (rolls-Added' _)
-
-term_roll : (f : Factor) (v : Vec Multiplied Global) → plain_term (roll-Term (record { first = f; rest = v })) ≡ m.term (plain_factor f) (the_multiplieds (list_item multiplied_item v.items))
-term_roll f v = ap plain_term (rolls-Term' _) ∙ ap (λ z. m.term (plain_factor f) z) (multiplied_rows _ (hidden-the_row-Multiplied-4 v) ∙ ap (λ l. the_multiplieds (list_item multiplied_item l)) (items_hidden-the_row-Multiplied-4 v))
-
-opt_sign_is : (s : Option Signed) → s ≡ opt_sign (opt_item a_sign s)
-opt_sign_is None = refl
-opt_sign_is (Some x) = refl
-
-simple_roll : (s : Option Signed) (t : Term) (v : Vec Added Global) → plain_simple (roll-Simple (record { sign = s; first = t; rest = v })) ≡ m.simple (opt_sign (opt_item a_sign s)) (plain_term t) (the_addeds (list_item added_item v.items))
-simple_roll s t v = ap plain_simple (rolls-Simple' _) ∙ ap (λ z. m.simple s (plain_term t) z) (added_rows _ (hidden-the_row-Added-3 v) ∙ ap (λ l. the_addeds (list_item added_item l)) (items_hidden-the_row-Added-3 v)) ∙ ap (λ z. m.simple z (plain_term t) (the_addeds (list_item added_item v.items))) (opt_sign_is s)
-
-opt_operator_is : (s : Option Operator) → opt_operator (opt_item an_operator s) ≡ s
-opt_operator_is None = refl
-opt_operator_is (Some x) = refl
-
-pub factor_items : (s : Option Operator) (p : Primary) (ds : List Item) → made g.Factor (opt_item an_operator s ∷ primary_item p ∷ ds) ≡ factor_item (record { operator = s; primary = p }) ∷ ds
-factor_items s p ds = ap (λ z. a_factor (m.factor z (plain_primary p)) ∷ ds) (opt_operator_is s)
-
-relations_items : (xs : List Relation) → the_relations (list_item relation_item xs) ≡ relation_list xs
-relations_items [] = refl
-relations_items (x ∷ xs) = ap (λ z. m.more_relations (plain_relation x) z) (relations_items xs)
-
-pub term_items : (b : Box Term Global) (f : Box Factor Global) (x : Factor) (v : Vec Multiplied Global) (ds : List Item) → b.value ≡ roll-Term (record { first = x; rest = v }) → x ≡ f.value →
-    made g.Term (boxed_item factor_item f ∷ list_item multiplied_item v.items ∷ ds) ≡ boxed_item term_item b ∷ ds
-term_items b f x v ds h i =
-    ap (λ z. a_term (m.term (plain_factor z) (the_multiplieds (list_item multiplied_item v.items))) ∷ ds) (sym i) ∙ ap (λ z. a_term z ∷ ds) (sym (term_roll x v)) ∙ ap (λ z. a_term (plain_term z) ∷ ds) (sym h)
-
-pub sum_items : (b : Box Simple Global) (s : Option Signed) (f : Box Term Global) (x : Term) (v : Vec Added Global) (ds : List Item) → b.value ≡ roll-Simple (record { sign = s; first = x; rest = v }) → x ≡ f.value →
-    made g.Simple (opt_item a_sign s ∷ boxed_item term_item f ∷ list_item added_item v.items ∷ ds) ≡ boxed_item simple_item b ∷ ds
-sum_items b s f x v ds h i =
-    ap (λ z. a_simple (m.simple (opt_sign (opt_item a_sign s)) (plain_term z) (the_addeds (list_item added_item v.items))) ∷ ds) (sym i)
-    ∙ ap (λ z. a_simple z ∷ ds) (sym (simple_roll s x v))
-    ∙ ap (λ z. a_simple (plain_simple z) ∷ ds) (sym h)
-
-pub chain_items : (b : Box Expression Global) (x : Box Chain Global) (operator : Connective) (f s : Box Relation Global) (first second : Relation) (v : Vec Relation Global) (ds : List Item) → b.value ≡ Connected x →
-    x.value ≡ record { connective = operator; first = first; second = second; others = v } → first ≡ f.value → second ≡ s.value →
-    made g.Expression (boxed_item relation_item f ∷ chained operator (boxed_item relation_item s ∷ list_item relation_item v.items ∷ ds)) ≡ boxed_item expression_item b ∷ ds
-chain_items b x operator f s first second v ds h i j k =
-    ap (λ z. an_expression (m.connected operator (plain_relation z) (plain_relation s.value) (the_relations (list_item relation_item v.items))) ∷ ds) (sym j)
-    ∙ ap (λ z. an_expression (m.connected operator (plain_relation first) (plain_relation z) (the_relations (list_item relation_item v.items))) ∷ ds) (sym k)
-    ∙ ap (λ z. an_expression (m.connected operator (plain_relation first) (plain_relation second) z) ∷ ds) (relations_items v.items)
-    ∙ ap (λ (z : Chain). an_expression (plain_chain z) ∷ ds) (sym i)
-    ∙ ap (λ z. an_expression z ∷ ds) (sym (chain_open x))
-    ∙ ap (λ z. an_expression (plain_expression z) ∷ ds) (sym h)
-
-args_are : (xs : List Expression) → expression_args (list_item expression_item xs) ≡ plain_expressions xs
-args_are [] = refl
-args_are (x ∷ xs) = ap (λ z. m.more_args (plain_expression x) z) (args_are xs)
-
-the_args_are : (xs : List Expression) → the_args (args_of xs) ≡ plain_expressions xs
-the_args_are [] = refl
-the_args_are (x ∷ xs) = refl
-
-parts_are : (xs : List NamePart) → the_parts (list_item part_item xs) ≡ part_list xs
-parts_are [] = refl
-parts_are (x ∷ xs) = ap (λ z. m.more_parts (plain_part x) z) (parts_are xs)
-
-pub args_items : (es ds : List Item) (xs : List Expression) → listed es ≡ list_item expression_item xs ∷ ds → made g.InArgs es ≡ args_of xs ∷ ds
-args_items es ds [] e = cc
-args_items es ds (x ∷ xs) e = ap (λ z. some_args (expression_args (top z)) ∷ pop z) e ∙ ap (λ z. some_args (m.more_args (plain_expression x) z) ∷ ds) (args_are xs)
-
-pub part_items : (i : Ident) (v : Vec Expression Global) (ds : List Item) → made g.NamePart (an_ident i ∷ args_item v ∷ ds) ≡ part_item (record { ident = i; args = v }) ∷ ds
-part_items i v ds = ap (λ z. a_part (m.part i z) ∷ ds) (the_args_are v.items)
-
--- a name is made of its parts
-pub parts_items : (b : Box Name Global) (first : NamePart) (v : Vec NamePart Global) (ds : List Item) → b.value ≡ roll-Name (record { first = first; others = v }) → made g.Name (part_item first ∷ list_item part_item v.items ∷ ds) ≡ name_item b ∷ ds
-parts_items b first v ds h = ap (λ z. a_name (m.named (plain_part first) z) ∷ ds) (parts_are v.items) ∙ ap (λ z. a_name z ∷ ds) (sym (name_roll first v)) ∙ ap (λ z. a_name (plain_name z) ∷ ds) (sym h)
+use Rattle.aud_syntax.specs.Ties.View.{plain_name, plain_simple, plain_expression, plain_maybe, plain_formal, plain_declaration, plain_declarations, plain_others, plain_statements, plain_statement, plain_context, plain_body, plain_expressions, arm_list, plain_iteration, plain_choices, handler_list}
+use Rattle.aud_grammar.specs.Grammar as g
+use Rattle.aud_grammar.specs.Actions.{Item, made, place, an_ident, some_names, some_statements, a_body, a_unit, the_declarations, more_statements, opt_ident, opt_expression, a_statement, the_args, the_parts, a_variable, the_contexts, an_arm, the_arms, otherwise, the_iteration, loop_place, is_there, number_of, a_bound, an_iteration, a_declare, begin_of, the_handlers, the_formals, a_declaration}
+use Rattle.aud_phrase.specs.Ties.Items.{list_item, opt_item, simple_item, expression_item, boxed_item, mode_item, args_item, part_item, context_item, choices_item}
+use Rattle.aud_parse.specs.Ties.Items.{names_item, formal_item, declaration_item, boxed_declaration_item, statement_item, statements_item, body_item, boxed_body_item, unit_item, rest_item, variable_item, boxed_statement_item, boxed_statements_item, arm_item, boxed_arm_item, scheme_item, bound_item, declare_item, handler_item, boxed_handler_item}
+use Rattle.aud_phrase.specs.Ties.Parts.{mark_item}
+use Rattle.aud_parse.specs.Ties.Parts.{assigned_or_called, else_statements, iteration_of, begins_at, declared_in, is_declared, declares_at, behind_label}
+use Rattle.aud_phrase.proofs.Rolls.{the_args_are, parts_are, idents_items}
 
 name_is : (x : Name) (i : Ident) (args : Vec Expression Global) (v : Vec NamePart Global) → x ≡ roll-Name (record { first = record { ident = i; args = args }; others = v }) → m.named (m.part i (the_args (args_item args))) (the_parts (list_item part_item v.items)) ≡ plain_name x
 name_is x i args v h =
@@ -146,13 +56,6 @@ begun_items b x i args v value ds h e =
     begun_is i (args_item args) (list_item part_item v.items) value ds
     ∙ ap (λ z. a_statement (assigned_or_called z value) ∷ ds) (name_is x i args v e)
     ∙ ap (λ z. a_statement z ∷ ds) (sym h)
-
-pub named_items : (b : Box Name Global) (j : Ident) (e : Option (Box Expression Global)) (ds : List Item) → made g.Named (name_item b ∷ attribute_item (j, e) ∷ ds) ≡ primary_item (primary.Attribute b j e) ∷ ds
-named_items b j e ds = ap (λ z. a_primary z ∷ ds) (sym (attribute_open b j e))
-
-idents_items : (xs : List Ident) → the_idents (list_item an_ident xs) ≡ xs
-idents_items [] = refl
-idents_items (x ∷ xs) = ap (λ z. x ∷ z) (idents_items xs)
 
 opt_ident_is : (s : Option Ident) → opt_ident (opt_item an_ident s) ≡ s
 opt_ident_is None = refl
@@ -270,12 +173,6 @@ for_items b at i reverse low high x y ds h j k =
 
 -- handlers
 
-pub others_items_of : (b : Box Choices Global) (at : Item) (ds : List Item) → b.value ≡ choices.Others (place at) → made g.Others (at ∷ ds) ≡ choices_item b ∷ ds
-others_items_of b at ds h = ap (λ z. some_choices (plain_choices z) ∷ ds) (sym h)
-
-pub choices_items : (b : Box Choices Global) (x : Ident) (v : Vec Ident Global) (ds : List Item) → b.value ≡ choices.Named (record { first = x; others = v }) → made g.NamedChoices (an_ident x ∷ list_item an_ident v.items ∷ ds) ≡ choices_item b ∷ ds
-choices_items b x v ds h = ap (λ z. some_choices (m.exceptions x z) ∷ ds) (idents_items v.items) ∙ ap (λ z. some_choices (plain_choices z) ∷ ds) (sym h)
-
 pub handler_items : (b : Box Handler Global) (c : Box Choices Global) (x : Box Statements Global) (ds : List Item) → b.value ≡ record { choices = c.value; statements = x.value } → made g.Handler (choices_item c ∷ boxed_statements_item x ∷ ds) ≡ boxed_handler_item b ∷ ds
 handler_items b c x ds h = ap (λ (z : Handler). handler_item z ∷ ds) (sym h)
 
@@ -304,10 +201,6 @@ pub block_items : (b : Box Statement Global) (label : Option Ident) (d : Option 
 block_items b label d x ds h = block_is label d x ds ∙ ap (λ z. a_statement z ∷ ds) (sym h)
 
 -- procedures
-
-pub mode_items : (at : Item) (out : Bool) (x : Mode) (ds : List Item) → x ≡ in_mode (place at) out → made g.InMode (at ∷ mark_item out ∷ ds) ≡ mode_item x ∷ ds
-mode_items at true x ds h = ap (λ z. mode_item z ∷ ds) (sym h)
-mode_items at false x ds h = ap (λ z. mode_item z ∷ ds) (sym h)
 
 pub formal_items : (names : Identifiers) (how : Mode) (i : Ident) (ds : List Item) → made g.Formal (names_item names ∷ mode_item how ∷ an_ident i ∷ ds) ≡ formal_item (record { names = names; mode = how; subtype = i }) ∷ ds
 formal_items names mode.Unstated i ds = refl

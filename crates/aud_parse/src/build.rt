@@ -6,7 +6,7 @@
 ghost use Rattle.std.specs.Prelude.{◌≡◌, ◌++◌, ◌∷◌, [], map, IfOk, Some};
 ghost use Rattle.aud_syntax.specs.Plain as m;
 ghost use Rattle.aud_syntax.specs.Ties.View.{plain_name, plain_expression, plain_statement, plain_statements, plain_others, plain_iteration, arm_list, plain_choices, handler_list, plain_body, plain_formal, plain_declaration, plain_declarations};
-ghost use Rattle.aud_parse.specs.Actions.{begin_of};
+ghost use Rattle.aud_grammar.specs.Actions.{begin_of};
 ghost use Rattle.aud_parse.specs.Ties.Parts.{assigned_or_called, else_statements, iteration_of, begins_at, declared_in, is_declared, declares_at};
 
 use crate::scheme::Scheme;

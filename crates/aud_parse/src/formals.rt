@@ -1,46 +1,22 @@
 // Formal parameters (RM 6.1).
 
-ghost use Rattle.std.specs.Prelude.{◌≡◌, ◌∷◌, []};
+ghost use Rattle.std.specs.Prelude.{◌∷◌, []};
 ghost use Rattle.aud_lex.specs.declared.token.Kind.TheVariants as kind;
-ghost use Rattle.aud_parse.specs.Grammar as g;
-ghost use Rattle.aud_parse.specs.Grammar.{N, T, Opt};
-ghost use Rattle.aud_parse.specs.Actions.{in_mode};
-ghost use Rattle.aud_parse.specs.Ties.Items.{vec_item, mode_item, formal_item, specification_items};
-ghost use Rattle.aud_parse.specs.Ties.Reads.{Reads, MayRead, ReadsFlat, ReadsAll, TakesAny};
+ghost use Rattle.aud_grammar.specs.Grammar as g;
+ghost use Rattle.aud_grammar.specs.Grammar.{N, T, Opt};
+ghost use Rattle.aud_phrase.specs.Ties.Items.{vec_item};
+ghost use Rattle.aud_parse.specs.Ties.Items.{formal_item, specification_items};
+ghost use Rattle.aud_phrase.specs.Ties.Reads.{Reads, MayRead, ReadsFlat, ReadsAll};
 
-use crate::behind::{both, ended};
 use crate::build::Specification;
-use crate::cursor::{Read, Rest, accept, deeper, is, word};
 use crate::declaration::identifiers;
-use crate::leaf::{ident, mark};
 use aud_lex::token::Kind;
-use aud_syntax::tree::{Formal, Mode};
-use aud_text::place::Pos;
+use aud_phrase::behind::{both, ended};
+use aud_phrase::cursor::{Read, Rest, accept, deeper, is, word};
+use aud_phrase::leaf::ident;
+use aud_phrase::mode::opt_mode;
+use aud_syntax::tree::Formal;
 use std::alloc::Global;
-
-// The mode that begins with `in`, by whether `out` stands behind that.
-fn in_mode(at: Pos, out: bool) -> Mode
-    ensures { result ≡ in_mode at out }
-{
-    if out {
-        return Mode::InOut(at);
-    }
-    Mode::In(at)
-}
-
-/// How formal parameters are passed, if that is written.
-fn opt_mode(start: Rest) -> (Mode, Rest)
-    ensures { TakesAny mode_item (Opt g.Mode) start.entry result }
-{
-    if let Some((t, behind)) = accept(start, Kind::In) {
-        let (out, rest) = mark(behind, Kind::Out);
-        return (in_mode(t.at(), out), rest);
-    }
-    if let Some((t, behind)) = accept(start, Kind::Out) {
-        return (Mode::Out(t.at()), behind);
-    }
-    (Mode::Unstated, start)
-}
 
 /// Formal parameters of one mode and subtype (RM 6.1(15)).
 fn formal(alloc: Global, start: Rest) -> Read<Formal>

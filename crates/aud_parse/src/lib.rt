@@ -1,20 +1,11 @@
-// The parser.
+// The parser: declarations, statements and programs.
 #![tactic(auto)]
 
-mod assemble;
-mod behind;
 mod build;
-mod choice_list;
-mod clauses;
-mod cursor;
 mod declaration;
-mod expression;
 mod formals;
-pub mod laws;
-mod leaf;
 mod parser;
 mod scheme;
 mod statement;
-mod value;
 
 pub use crate::parser::{SyntaxFault, parse};

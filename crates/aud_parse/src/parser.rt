@@ -1,19 +1,18 @@
 // Programs (RM 10.1.1).
 
-ghost use Rattle.std.specs.Prelude.{◌≡◌, ◌-◌, length};
 ghost use Rattle.aud_syntax.specs.Ties.View.{plain_unit};
-ghost use Rattle.aud_parse.specs.Grammar as g;
-ghost use Rattle.aud_parse.specs.Grammar.{N};
-ghost use Rattle.aud_parse.specs.Parsed.{parsed};
+ghost use Rattle.aud_grammar.specs.Grammar as g;
+ghost use Rattle.aud_grammar.specs.Grammar.{N};
+ghost use Rattle.aud_grammar.specs.Parsed.{parsed};
 ghost use Rattle.aud_parse.specs.Ties.Items.{unit_item};
-ghost use Rattle.aud_parse.specs.Ties.Reads.{Reads};
+ghost use Rattle.aud_phrase.specs.Ties.Reads.{Reads};
 ghost use Rattle.aud_parse.specs.Ties.Gives.{Gives};
 
-use crate::clauses::context;
-use crate::cursor::{Fault, Read, Rest, token, word};
-use crate::leaf::ident;
 use crate::statement::{body, opt_declarations};
 use aud_lex::token::{Kind, Token};
+use aud_phrase::clauses::context;
+use aud_phrase::cursor::{Fault, Read, Rest, token, word};
+use aud_phrase::leaf::ident;
 use aud_syntax::tree::Unit;
 use aud_text::limits::LEVELS;
 use std::alloc::Global;
@@ -76,11 +75,4 @@ pub fn parse(alloc: Global, tokens: &[Token]) -> Result<Unit, SyntaxFault>
         Err(Fault::Wrong(rest)) => Err(SyntaxFault::Syntax(place(tokens, rest))),
         Err(Fault::Deep(rest)) => Err(SyntaxFault::TooDeep(place(tokens, rest))),
     }
-}
-
-// How many tokens come before the rest.
-fn place(tokens: &[Token], rest: Rest) -> usize
-    ensures { result ≡ length tokens.now - length rest.entry.tokens.now }
-{
-    tokens.len().saturating_sub(rest.tokens.len())
 }

@@ -1,6 +1,6 @@
 -- What the parser promises.
 use Rattle.std.specs.Prelude.{◌≡◌, Result, Ok, Err}
-use Rattle.aud_parse.specs.Parsed.{Fault, wrong_at, deep_at}
+use Rattle.aud_grammar.specs.Parsed.{Fault, wrong_at, deep_at}
 use Rattle.aud_parse.specs.declared.parser.SyntaxFault.{SyntaxFault}
 use Rattle.aud_parse.specs.declared.parser.SyntaxFault.TheVariants as fault
 

@@ -1,8 +1,7 @@
 -- Statements of the parts that were read.
-use Rattle.std.specs.Prelude.{◌≡◌, List, [], ◌∷◌, Bool, true, false, Option, Some, None, Box, Vec}
+use Rattle.std.specs.Prelude.{List, [], ◌∷◌, Bool, true, false, Option, Some, None, Box, Vec}
 use Rattle.std.specs.Global.{Global}
 use Rattle.aud_text.specs.declared.place.Pos.{Pos}
-use Rattle.aud_lex.specs.declared.token.Kind.{Kind}
 use Rattle.aud_syntax.specs.declared.tree.Ident.{Ident}
 use Rattle.aud_syntax.specs.declared.tree.Expression.{Expression}
 use Rattle.aud_syntax.specs.declared.tree.Statement.{Statement}
@@ -11,10 +10,8 @@ use Rattle.aud_syntax.specs.declared.tree.Declaration.{Declaration}
 use Rattle.aud_syntax.specs.declared.tree.Iteration.{Iteration}
 use Rattle.aud_syntax.specs.Plain as m
 use Rattle.aud_syntax.specs.Ties.View.{plain_expression, plain_iteration, plain_declarations}
-use Rattle.aud_parse.specs.Grammar as g
-use Rattle.aud_parse.specs.Grammar.{Phrase, T, N, rule}
-use Rattle.aud_parse.specs.First.{firsts}
-use Rattle.aud_parse.specs.Actions.{Item, there, none, an_ident, made}
+use Rattle.aud_grammar.specs.Grammar as g
+use Rattle.aud_grammar.specs.Actions.{Item, an_ident, made}
 
 -- an assignment of a value to a name, or a call where there is none
 abbrev pub assigned_or_called : m.Name → Option Expression → m.Statement
@@ -54,23 +51,3 @@ declares_at (Some x) begin = x.0
 abbrev pub behind_label : Option Ident → List Item → List Item
 behind_label None st = st
 behind_label (Some i) st = made g.NameStatement (an_ident i ∷ st)
-
--- a phrase that is this word and another phrase, whose tree it has
-pub record IsBehind (c : Kind) (q p : Phrase) : Type 0 where
-  pub symbols : rule p ≡ T c ∷ N q ∷ []
-  pub begins : firsts p ≡ c ∷ []
-  pub same : (st : List Item) → made p st ≡ st
-
--- the same of an expression
-abbrev pub IsValue : Kind → Phrase → Type 0
-IsValue c p = IsBehind c g.Expression p
-
--- a phrase that is this word, of which the tree keeps whether it is there
-pub record IsMark (c : Kind) (p : Phrase) : Type 0 where
-  pub symbols : rule p ≡ T c ∷ []
-  pub begins : firsts p ≡ c ∷ []
-  pub same : (st : List Item) → made p st ≡ there ∷ st
-
-abbrev pub mark_item : Bool → Item
-mark_item true = there
-mark_item false = none

@@ -1,5 +1,5 @@
 use Rattle.std.proofs.Common.{sym, subst}
-use Rattle.aud_parse.specs.Parsed as syntax
+use Rattle.aud_grammar.specs.Parsed as syntax
 use Rattle.aud_bench.specs.Loading.{after_lexing, after_parsing}
 use Rattle.aud_bench.specs.Ties.Loads.{Gives}
 use Rattle.aud_bench.proofs.loading.read.Goals as goal

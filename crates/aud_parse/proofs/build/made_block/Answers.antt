@@ -3,7 +3,7 @@ use Rattle.aud_syntax.specs.declared.tree.Body.{Body}
 use Rattle.aud_syntax.specs.Plain as m
 use Rattle.aud_syntax.specs.Ties.View.{plain_statement, plain_block, plain_body, plain_declarations}
 use Rattle.aud_syntax.proofs.Opened.{block_roll, body_open}
-use Rattle.aud_parse.specs.Actions.{begin_of}
+use Rattle.aud_grammar.specs.Actions.{begin_of}
 use Rattle.aud_parse.specs.Ties.Parts.{declares_at, is_declared, declared_in}
 use Rattle.aud_parse.proofs.build.made_block.Goals as goal
 

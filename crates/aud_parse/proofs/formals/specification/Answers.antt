@@ -3,11 +3,12 @@ use Rattle.std.specs.Prelude.{Vec}
 use Rattle.std.specs.Global.{Global}
 use Rattle.aud_syntax.specs.declared.tree.Ident.{Ident}
 use Rattle.aud_syntax.specs.declared.tree.Formal.{Formal}
-use Rattle.aud_parse.specs.Actions.{an_ident}
-use Rattle.aud_parse.specs.Ties.Items.{vec_item, formal_item}
-use Rattle.aud_parse.proofs.Passing.{to}
-use Rattle.aud_parse.proofs.Joined.{joined, not_joined}
-use Rattle.aud_parse.proofs.Connecting.{exit_among}
+use Rattle.aud_grammar.specs.Actions.{an_ident}
+use Rattle.aud_phrase.specs.Ties.Items.{vec_item}
+use Rattle.aud_parse.specs.Ties.Items.{formal_item}
+use Rattle.aud_phrase.proofs.Passing.{to}
+use Rattle.aud_phrase.proofs.Joined.{joined, not_joined}
+use Rattle.aud_parse.proofs.Completing.{exit_among}
 use Rattle.aud_parse.proofs.formals.specification.Goals as goal
 
 pub returns-in_err-name : goal.returns-in_err-name

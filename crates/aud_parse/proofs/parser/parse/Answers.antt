@@ -1,8 +1,8 @@
 use Rattle.std.proofs.Common.{[], sym, ◌∙◌}
-use Rattle.aud_parse.specs.Grammar as g
-use Rattle.aud_parse.specs.Parsed.{Good}
-use Rattle.aud_parse.specs.Actions.{the_unit}
-use Rattle.aud_parse.proofs.Verdicts.{parsed_is, parsed_fails, all_read, some_left}
+use Rattle.aud_grammar.specs.Grammar as g
+use Rattle.aud_grammar.specs.Parsed.{Good}
+use Rattle.aud_grammar.specs.Actions.{the_unit}
+use Rattle.aud_grammar.proofs.Verdicts.{parsed_is, parsed_fails, all_read, some_left}
 use Rattle.aud_parse.proofs.parser.parse.Goals as goal
 
 pub returns-then-is_empty : goal.returns-then-is_empty

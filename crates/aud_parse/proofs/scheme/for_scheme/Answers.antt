@@ -1,12 +1,12 @@
 use Rattle.std.proofs.Common.{[], ◌∷◌, arith}
 use Rattle.aud_lex.specs.declared.token.Kind.TheVariants as kind
-use Rattle.aud_parse.specs.Grammar as g
-use Rattle.aud_parse.specs.Grammar.{Symbol, N, T}
-use Rattle.aud_parse.specs.Actions.{token}
-use Rattle.aud_parse.specs.Ties.Outcome.{o_rule}
-use Rattle.aud_parse.proofs.Passing.{to, exit}
-use Rattle.aud_parse.proofs.Joined.{exit_all}
-use Rattle.aud_parse.proofs.Valued.{reversed}
+use Rattle.aud_grammar.specs.Grammar as g
+use Rattle.aud_grammar.specs.Grammar.{Symbol, N, T}
+use Rattle.aud_grammar.specs.Actions.{token}
+use Rattle.aud_grammar.specs.Ties.Outcome.{o_rule}
+use Rattle.aud_phrase.proofs.Passing.{to, exit}
+use Rattle.aud_phrase.proofs.Joined.{exit_all}
+use Rattle.aud_phrase.proofs.Valued.{reversed}
 use Rattle.aud_parse.proofs.Rolls.{for_items}
 use Rattle.aud_parse.proofs.scheme.for_scheme.Goals as goal
 

@@ -1,5 +1,5 @@
 use Rattle.std.proofs.Common.{rules}
-use Rattle.aud_parse.proofs.Connecting.{exit_among}
+use Rattle.aud_parse.proofs.Completing.{exit_among}
 use Rattle.aud_parse.proofs.scheme.range.Goals as goal
 
 pub returns-in_err-low : goal.returns-in_err-low

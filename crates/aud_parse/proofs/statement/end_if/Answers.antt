@@ -4,10 +4,11 @@ use Rattle.std.specs.Global.{Global}
 use Rattle.aud_syntax.specs.declared.tree.Arm.{Arm}
 use Rattle.aud_syntax.specs.declared.tree.Expression.{Expression}
 use Rattle.aud_syntax.specs.declared.tree.Statements.{Statements}
-use Rattle.aud_parse.specs.Grammar as g
-use Rattle.aud_parse.specs.Actions.{token, made}
-use Rattle.aud_parse.specs.Ties.Items.{vec_item, opt_item, arm_item, boxed_item, expression_item, boxed_statements_item}
-use Rattle.aud_parse.proofs.Connecting.{exit_in}
+use Rattle.aud_grammar.specs.Grammar as g
+use Rattle.aud_grammar.specs.Actions.{token, made}
+use Rattle.aud_phrase.specs.Ties.Items.{vec_item, opt_item, boxed_item, expression_item}
+use Rattle.aud_parse.specs.Ties.Items.{arm_item, boxed_statements_item}
+use Rattle.aud_parse.proofs.Completing.{exit_in}
 use Rattle.aud_parse.proofs.Rolls.{if_items}
 use Rattle.aud_parse.proofs.statement.end_if.Goals as goal
 

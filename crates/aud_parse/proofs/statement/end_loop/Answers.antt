@@ -5,12 +5,13 @@ use Rattle.aud_text.specs.declared.place.Pos.{Pos}
 use Rattle.aud_syntax.specs.declared.tree.Ident.{Ident}
 use Rattle.aud_syntax.specs.declared.tree.Iteration.{Iteration}
 use Rattle.aud_syntax.specs.declared.tree.Statements.{Statements}
-use Rattle.aud_parse.specs.Grammar as g
-use Rattle.aud_parse.specs.Actions.{an_ident, token, made}
-use Rattle.aud_parse.specs.Ties.Items.{opt_item, scheme_item, boxed_statements_item}
+use Rattle.aud_grammar.specs.Grammar as g
+use Rattle.aud_grammar.specs.Actions.{an_ident, token, made}
+use Rattle.aud_phrase.specs.Ties.Items.{opt_item}
+use Rattle.aud_parse.specs.Ties.Items.{scheme_item, boxed_statements_item}
 use Rattle.aud_parse.specs.Ties.Parts.{behind_label}
-use Rattle.aud_parse.proofs.Joined.{at_room, joined, not_joined}
-use Rattle.aud_parse.proofs.Connecting.{exit_in}
+use Rattle.aud_phrase.proofs.Joined.{at_room, joined, not_joined}
+use Rattle.aud_parse.proofs.Completing.{exit_in}
 use Rattle.aud_parse.proofs.Rolls.{loop_items}
 use Rattle.aud_parse.proofs.statement.end_loop.Goals as goal
 

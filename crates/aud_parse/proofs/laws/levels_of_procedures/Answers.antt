@@ -1,5 +1,0 @@
-use Rattle.aud_parse.proofs.ProcedureRows.{levels_of_procedures}
-use Rattle.aud_parse.proofs.laws.levels_of_procedures.Goals as goal
-
-pub returns : goal.returns
-returns c = levels_of_procedures

@@ -1,5 +1,0 @@
-use Rattle.aud_parse.proofs.Rows.{few_levels, all_levels}
-use Rattle.aud_parse.proofs.laws.levels_of_texts.Goals as goal
-
-pub returns : goal.returns
-returns c = (few_levels, all_levels)

@@ -1,5 +1,0 @@
-use Rattle.aud_parse.proofs.Answered.{one_parser}
-use Rattle.aud_parse.proofs.laws.one_parser_law.Goals as goal
-
-pub returns : goal.returns
-returns c = one_parser

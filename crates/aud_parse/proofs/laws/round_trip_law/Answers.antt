@@ -1,5 +1,0 @@
-use Rattle.aud_parse.proofs.RoundTrip.{round_trip}
-use Rattle.aud_parse.proofs.laws.round_trip_law.Goals as goal
-
-pub returns : goal.returns
-returns c = round_trip

@@ -1,5 +1,0 @@
-use Rattle.aud_parse.proofs.ControlRows.{declarations, blocks, exceptions, for_loops}
-use Rattle.aud_parse.proofs.laws.trees_of_control.Goals as goal
-
-pub returns : goal.returns
-returns c = (declarations, blocks, exceptions, for_loops)

@@ -1,5 +1,0 @@
-use Rattle.aud_parse.proofs.Rows.{programs, clauses, declarations, sequences, control_flow, primaries, operators, comparisons, logic}
-use Rattle.aud_parse.proofs.laws.trees_of_texts.Goals as goal
-
-pub returns : goal.returns
-returns c = (programs, clauses, declarations, sequences, control_flow, primaries, operators, comparisons, logic)

@@ -1,0 +1,6 @@
+pub mod Behind
+pub mod Connects
+pub mod Items
+pub mod Makes
+pub mod Parts
+pub mod Reads
