@@ -29,7 +29,8 @@ pub fn find_handler(code: &SoundCode, place: usize, exception: Exception) -> Opt
 /// from which it goes back.
 pub fn unwind(code: &SoundCode, place: usize) -> Option<usize>
     ensures value { (returns : List ℕ) → unwound code.now result returns
-        ≡ left_by code.now (end_at code.now place).out (record { place = place; returns = returns }) }
+        ≡ left_by code.now (end_at code.now place).out
+        (record { place = place; returns = returns }) }
     ensures begins { IsStart code.now.lines place →
         IfSome result (λ to. IsStart code.now.lines to) }
 {

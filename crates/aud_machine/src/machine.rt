@@ -58,9 +58,16 @@ impl Model for Machine {
 
     ghost coded = { Prim.hlevel (codes, body.the_row.coded) };
 
-    ghost view = { λ m. record { program = m.program; code = m.code; limits = m.limits; all = all_of m.program.name m.progress; spent = m.spent } };
+    ghost view = { λ m. record {
+      program = m.program;
+      code = m.code;
+      limits = m.limits;
+      all = all_of m.program.name m.progress;
+      spent = m.spent;
+    } };
 
-    ghost invariant = { λ m. (m.code ≡ flat_program (plain_program m.program)) × (m.spent ≡ false → Fits m.code.lines m.progress) };
+    ghost invariant = { λ m. (m.code ≡ flat_program (plain_program m.program))
+        × (m.spent ≡ false → Fits m.code.lines m.progress) };
 }
 
 impl Machine {
