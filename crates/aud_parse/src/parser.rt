@@ -11,7 +11,7 @@ ghost use Rattle.aud_parse.specs.Ties.Gives.{Gives};
 use crate::statement::{body, opt_declarations};
 use aud_lex::token::{Kind, Token};
 use aud_phrase::clauses::context;
-use aud_phrase::cursor::{Fault, Read, Rest, token, word};
+use aud_phrase::cursor::{Fault, Read, Rest, place, token, word};
 use aud_phrase::leaf::ident;
 use aud_syntax::tree::Unit;
 use aud_text::limits::LEVELS;
