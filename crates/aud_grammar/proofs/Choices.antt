@@ -307,6 +307,6 @@ starts (d_no {p} {k} {ts = ts} d) = mem_right (fs p) (first_seq k fin) (next_cod
 starts (d_more {p} {k} {ts = ts} d) = mem_left (fs p) (first_seq k fin) (next_code ts) (starts d)
 starts (d_stop {p} {k} {ts = ts} d) = mem_right (fs p) (first_seq k fin) (next_code ts) (starts d)
 
--- two lists are the same where their first elements are, and the others
+-- of two lists that are the same, the first elements are, and the others
 pub heads : {A : Type 0} {x y : A} {xs ys : List A} → x ∷ xs ≡ y ∷ ys → (x ≡ y) × (xs ≡ ys)
 heads e = (cc, cc)
