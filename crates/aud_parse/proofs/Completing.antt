@@ -7,11 +7,11 @@ use Rattle.aud_grammar.specs.Grammar.{Symbol}
 use Rattle.aud_grammar.specs.Parsed.{Verdict}
 use Rattle.aud_grammar.specs.Actions.{Item}
 use Rattle.aud_grammar.specs.Ties.Outcome.{Out}
-use Rattle.aud_phrase.specs.Ties.Reads.{FailsAt, Fewer, FailsIn, Comes, Reading, Completing, Completes, ReadsAll, NoMore}
-use Rattle.aud_phrase.specs.declared.cursor.Rest.{Rest}
-use Rattle.aud_phrase.specs.declared.cursor.Fault.{Fault}
-use Rattle.aud_phrase.specs.declared.cursor.Fault.TheVariants as fault
-use Rattle.aud_phrase.proofs.Passing.{to}
+use Rattle.aud_cursor.specs.Ties.Reads.{FailsAt, Fewer, FailsIn, Comes, Reading, Completing, Completes, ReadsAll, NoMore}
+use Rattle.aud_cursor.specs.declared.cursor.Rest.{Rest}
+use Rattle.aud_cursor.specs.declared.cursor.Fault.{Fault}
+use Rattle.aud_cursor.specs.declared.cursor.Fault.TheVariants as fault
+use Rattle.aud_cursor.proofs.Passing.{to}
 use Rattle.aud_phrase.proofs.Joined.{fewer_still}
 
 -- a tree that is completed behind what was read

@@ -4,14 +4,14 @@ ghost use Rattle.aud_grammar.specs.Grammar as g;
 ghost use Rattle.aud_grammar.specs.Grammar.{N};
 ghost use Rattle.aud_grammar.specs.Actions.{an_exception};
 ghost use Rattle.aud_parse.specs.Ties.Items.{names_item, variable_item, constant_item, bound_item, index_item, array_item, declaration_item, boxed_declaration_item};
-ghost use Rattle.aud_phrase.specs.Ties.Reads.{Reads, ReadsFlat};
+ghost use Rattle.aud_cursor.specs.Ties.Reads.{Reads, ReadsFlat};
 
+use aud_cursor::behind::{both, ended};
+use aud_cursor::cursor::{Read, Rest, deeper, is, token, word};
+use aud_cursor::leaf::{ident, mark, more_idents};
+use aud_cursor::value::number_value;
 use aud_lex::token::Kind;
-use aud_phrase::behind::{both, ended};
-use aud_phrase::cursor::{Read, Rest, deeper, is, token, word};
 use aud_phrase::expression::{opt_value, value};
-use aud_phrase::leaf::{ident, mark, more_idents};
-use aud_phrase::value::number_value;
 use aud_syntax::tree::{Bound, Declaration, Expression, Ident, Identifiers, Number};
 use std::alloc::Global;
 

@@ -4,17 +4,17 @@ ghost use Rattle.std.specs.Prelude.{◌∷◌, []};
 ghost use Rattle.aud_lex.specs.declared.token.Kind.TheVariants as kind;
 ghost use Rattle.aud_grammar.specs.Grammar as g;
 ghost use Rattle.aud_grammar.specs.Grammar.{N, T, Opt};
-ghost use Rattle.aud_phrase.specs.Ties.Items.{vec_item};
+ghost use Rattle.aud_cursor.specs.Ties.Items.{vec_item};
 ghost use Rattle.aud_parse.specs.Ties.Items.{formal_item, specification_items};
-ghost use Rattle.aud_phrase.specs.Ties.Reads.{Reads, MayRead, ReadsFlat, ReadsAll};
+ghost use Rattle.aud_cursor.specs.Ties.Reads.{Reads, MayRead, ReadsFlat, ReadsAll};
 
 use crate::build::Specification;
 use crate::declaration::identifiers;
+use aud_cursor::behind::{both, ended};
+use aud_cursor::cursor::{Read, Rest, accept, deeper, is, word};
+use aud_cursor::leaf::ident;
+use aud_cursor::mode::opt_mode;
 use aud_lex::token::Kind;
-use aud_phrase::behind::{both, ended};
-use aud_phrase::cursor::{Read, Rest, accept, deeper, is, word};
-use aud_phrase::leaf::ident;
-use aud_phrase::mode::opt_mode;
 use aud_syntax::tree::Formal;
 use std::alloc::Global;
 

@@ -5,14 +5,14 @@ ghost use Rattle.aud_grammar.specs.Grammar as g;
 ghost use Rattle.aud_grammar.specs.Grammar.{N};
 ghost use Rattle.aud_grammar.specs.Parsed.{parsed};
 ghost use Rattle.aud_parse.specs.Ties.Items.{unit_item};
-ghost use Rattle.aud_phrase.specs.Ties.Reads.{Reads};
+ghost use Rattle.aud_cursor.specs.Ties.Reads.{Reads};
 ghost use Rattle.aud_parse.specs.Ties.Gives.{Gives};
 
 use crate::statement::{body, opt_declarations};
+use aud_cursor::clauses::context;
+use aud_cursor::cursor::{Fault, Read, Rest, place, token, word};
+use aud_cursor::leaf::ident;
 use aud_lex::token::{Kind, Token};
-use aud_phrase::clauses::context;
-use aud_phrase::cursor::{Fault, Read, Rest, place, token, word};
-use aud_phrase::leaf::ident;
 use aud_syntax::tree::Unit;
 use aud_text::limits::LEVELS;
 use std::alloc::Global;

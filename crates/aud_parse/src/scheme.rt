@@ -7,14 +7,14 @@ ghost use Rattle.aud_lex.specs.declared.token.Kind.TheVariants as kind;
 ghost use Rattle.std.specs.Prelude.{◌∷◌, []};
 ghost use Rattle.aud_grammar.specs.Grammar as g;
 ghost use Rattle.aud_grammar.specs.Grammar.{N, T, Opt};
-ghost use Rattle.aud_phrase.specs.Ties.Items.{opt_item};
+ghost use Rattle.aud_cursor.specs.Ties.Items.{opt_item};
 ghost use Rattle.aud_parse.specs.Ties.Items.{scheme_item, range_items};
-ghost use Rattle.aud_phrase.specs.Ties.Reads.{Reads, MayRead, ReadsAll};
+ghost use Rattle.aud_cursor.specs.Ties.Reads.{Reads, MayRead, ReadsAll};
 
+use aud_cursor::cursor::{Read, Rest, is, token, word};
+use aud_cursor::leaf::{ident, mark};
 use aud_lex::token::Kind;
-use aud_phrase::cursor::{Read, Rest, is, token, word};
 use aud_phrase::expression::{expression, simple};
-use aud_phrase::leaf::{ident, mark};
 use aud_syntax::tree::{Iteration, LoopParameter, Simple};
 use aud_text::place::Pos;
 use std::alloc::Global;

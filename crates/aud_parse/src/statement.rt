@@ -3,17 +3,18 @@
 // They lie in one another, so what is called at each level has boxes in its stack frame, and no
 // trees. What is made of them is made by functions that are not inlined (`crate::build`).
 
-#![tactic(auto, using(aud_phrase::proofs::Passing::turns_over))]
+#![tactic(auto, using(aud_cursor::proofs::Passing::turns_over))]
 
 ghost use Rattle.std.specs.Prelude.{◌≡◌, ◌∷◌, [], ℕ};
 ghost use Rattle.aud_lex.specs.declared.token.Kind.TheVariants as kind;
 ghost use Rattle.aud_grammar.specs.Grammar as g;
 ghost use Rattle.aud_grammar.specs.Grammar.{N, T, P, Opt, Rep};
 ghost use Rattle.aud_grammar.specs.Actions.{an_ident, token, made};
-ghost use Rattle.aud_phrase.specs.Ties.Items.{vec_item, opt_item, expression_item, boxed_item};
+ghost use Rattle.aud_cursor.specs.Ties.Items.{vec_item, opt_item, boxed_item};
+ghost use Rattle.aud_phrase.specs.Ties.Items.{expression_item};
 ghost use Rattle.aud_parse.specs.Ties.Items.{assigned_item, rest_item, scheme_item, statement_item, boxed_statement_item, boxed_statements_item, arm_item, boxed_arm_item, handler_item, boxed_handler_item, boxed_body_item, guarded_items, declaration_item, boxed_declaration_item, declare_item};
 ghost use Rattle.aud_parse.specs.Ties.Parts.{behind_label};
-ghost use Rattle.aud_phrase.specs.Ties.Reads.{Reads, MayRead, ReadsFlat, MayReadFlat, Completes, ReadsAll};
+ghost use Rattle.aud_cursor.specs.Ties.Reads.{Reads, MayRead, ReadsFlat, MayReadFlat, Completes, ReadsAll};
 
 use crate::build::{
     Declare, Guarded, add, arm_of, assign_or_call, handler_of, in_order, made_block, made_body,
@@ -22,12 +23,12 @@ use crate::build::{
 use crate::declaration::named_declaration;
 use crate::formals::specification;
 use crate::scheme::{Scheme, opt_scheme};
+use aud_cursor::behind::{both, ended};
+use aud_cursor::choice_list::choices;
+use aud_cursor::cursor::{Read, Rest, accept, deeper, is, is_one_of, token, word};
+use aud_cursor::leaf::{ident, opt_ident};
 use aud_lex::token::{Kind, Token};
-use aud_phrase::behind::{both, ended};
-use aud_phrase::choice_list::choices;
-use aud_phrase::cursor::{Read, Rest, accept, deeper, is, is_one_of, token, word};
 use aud_phrase::expression::{expression, opt_args, opt_expression, opt_value, selected};
-use aud_phrase::leaf::{ident, opt_ident};
 use aud_syntax::tree::{
     Arm, Body, Declaration, Expression, Handler, Ident, Name, NamePart, Statement, Statements,
 };

@@ -8,12 +8,12 @@ use Rattle.aud_grammar.specs.Grammar.{Symbol, T}
 use Rattle.aud_grammar.specs.Parsed.{Verdict}
 use Rattle.aud_grammar.specs.Actions.{Item}
 use Rattle.aud_grammar.specs.Ties.Outcome.{Out}
-use Rattle.aud_phrase.specs.declared.cursor.Rest.{Rest}
-use Rattle.aud_phrase.specs.declared.cursor.Fault.{Fault}
-use Rattle.aud_phrase.specs.declared.cursor.Fault.TheVariants as fault
-use Rattle.aud_phrase.specs.Ties.Reads.{Passes, FailsAt, FailsIn, Comes, Fewer, NoMore, Reading, FlatReading}
-use Rattle.aud_phrase.specs.Ties.Behind.{Ends, both}
-use Rattle.aud_phrase.proofs.Passing.{to, fails_through}
+use Rattle.aud_cursor.specs.declared.cursor.Rest.{Rest}
+use Rattle.aud_cursor.specs.declared.cursor.Fault.{Fault}
+use Rattle.aud_cursor.specs.declared.cursor.Fault.TheVariants as fault
+use Rattle.aud_cursor.specs.Ties.Reads.{Passes, FailsAt, FailsIn, Comes, Fewer, NoMore, Reading, FlatReading}
+use Rattle.aud_cursor.specs.Ties.Behind.{Ends, both}
+use Rattle.aud_cursor.proofs.Passing.{to, fails_through}
 
 -- what has passed the word is what has passed the phrase
 comes_with : {s0 : Symbol} {c : Kind} {r : ℕ} (start mid : Rest) {f : List Item → List Item} {X : Type 0} (x : X → Item) {tree : X} (res : Result (X × Rest) Fault) →

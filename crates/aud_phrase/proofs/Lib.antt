@@ -1,6 +1,2 @@
-pub mod Passing
 pub mod Joined
-pub mod Choosing
-pub mod Connecting
-pub mod Valued
 pub mod Rolls

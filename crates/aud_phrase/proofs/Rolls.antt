@@ -1,5 +1,5 @@
 -- The items of names, expressions and of what stands alone, which are built from their phrases.
-use Rattle.std.proofs.Common.{◌≡◌, Bool, true, false, List, [], ◌∷◌, refl, sym, ap, ◌∙◌}
+use Rattle.std.proofs.Common.{◌≡◌, List, [], ◌∷◌, refl, sym, ap, ◌∙◌}
 use Rattle.std.specs.Prelude.{Option, Some, None, Vec}
 use Rattle.std.specs.Global.{Global}
 use Rattle.std.specs.Prelude.{Box}
@@ -23,15 +23,12 @@ use Rattle.aud_syntax.specs.declared.tree.Primary as primary
 use Rattle.aud_syntax.specs.declared.tree.Primary.{Primary}
 use Rattle.aud_syntax.proofs.Opened.{chain_open, attribute_open, name_roll}
 use Rattle.aud_syntax.specs.declared.tree.Expression.TheBlock.{hidden-the_row-Multiplied-4, hidden-the_row-Added-3}
-use Rattle.aud_syntax.specs.declared.tree.Mode.{Mode}
-use Rattle.aud_syntax.specs.declared.tree.Choices.{Choices}
-use Rattle.aud_syntax.specs.declared.tree.Choices.TheVariants as choices
 use Rattle.aud_syntax.specs.Plain as m
-use Rattle.aud_syntax.specs.Ties.View.{plain_name, plain_primary, plain_factor, plain_multiplieds, plain_term, plain_added, plain_addeds, plain_simple, plain_expression, plain_relation, relation_list, plain_chain, plain_expressions, plain_part, part_list, plain_choices}
+use Rattle.aud_syntax.specs.Ties.View.{plain_name, plain_primary, plain_factor, plain_multiplieds, plain_term, plain_added, plain_addeds, plain_simple, plain_expression, plain_relation, relation_list, plain_chain, plain_expressions, plain_part, part_list}
 use Rattle.aud_grammar.specs.Grammar as g
-use Rattle.aud_grammar.specs.Actions.{Item, made, place, an_ident, a_sign, an_operator, a_primary, a_factor, a_term, a_simple, an_expression, chained, the_idents, opt_sign, opt_operator, the_multiplieds, the_addeds, the_relations, listed, top, pop, some_args, a_part, a_name, the_args, the_parts, expression_args, some_choices, in_mode}
-use Rattle.aud_phrase.specs.Ties.Items.{list_item, opt_item, name_item, attribute_item, factor_item, multiplied_item, primary_item, term_item, added_item, simple_item, relation_item, expression_item, boxed_item, mode_item, args_of, args_item, part_item, choices_item}
-use Rattle.aud_phrase.specs.Ties.Parts.{mark_item}
+use Rattle.aud_grammar.specs.Actions.{Item, made, an_ident, a_sign, an_operator, a_primary, a_factor, a_term, a_simple, an_expression, chained, opt_sign, opt_operator, the_multiplieds, the_addeds, the_relations, listed, top, pop, some_args, a_part, a_name, the_args, the_parts, expression_args}
+use Rattle.aud_cursor.specs.Ties.Items.{list_item, opt_item, boxed_item}
+use Rattle.aud_phrase.specs.Ties.Items.{name_item, attribute_item, factor_item, multiplied_item, primary_item, term_item, added_item, simple_item, relation_item, expression_item, args_of, args_item, part_item}
 
 pub multiplied_rows : (n : _) (row : Row_of-Multiplied n) → plain_multiplieds row ≡ the_multiplieds (list_item multiplied_item (items-the_row-Multiplied n row))
 multiplied_rows n end_of-Multiplied = refl
@@ -113,17 +110,3 @@ parts_items b first v ds h = ap (λ z. a_name (m.named (plain_part first) z) ∷
 
 pub named_items : (b : Box Name Global) (j : Ident) (e : Option (Box Expression Global)) (ds : List Item) → made g.Named (name_item b ∷ attribute_item (j, e) ∷ ds) ≡ primary_item (primary.Attribute b j e) ∷ ds
 named_items b j e ds = ap (λ z. a_primary z ∷ ds) (sym (attribute_open b j e))
-
-pub idents_items : (xs : List Ident) → the_idents (list_item an_ident xs) ≡ xs
-idents_items [] = refl
-idents_items (x ∷ xs) = ap (λ z. x ∷ z) (idents_items xs)
-
-pub others_items_of : (b : Box Choices Global) (at : Item) (ds : List Item) → b.value ≡ choices.Others (place at) → made g.Others (at ∷ ds) ≡ choices_item b ∷ ds
-others_items_of b at ds h = ap (λ z. some_choices (plain_choices z) ∷ ds) (sym h)
-
-pub choices_items : (b : Box Choices Global) (x : Ident) (v : Vec Ident Global) (ds : List Item) → b.value ≡ choices.Named (record { first = x; others = v }) → made g.NamedChoices (an_ident x ∷ list_item an_ident v.items ∷ ds) ≡ choices_item b ∷ ds
-choices_items b x v ds h = ap (λ z. some_choices (m.exceptions x z) ∷ ds) (idents_items v.items) ∙ ap (λ z. some_choices (plain_choices z) ∷ ds) (sym h)
-
-pub mode_items : (at : Item) (out : Bool) (x : Mode) (ds : List Item) → x ≡ in_mode (place at) out → made g.InMode (at ∷ mark_item out ∷ ds) ≡ mode_item x ∷ ds
-mode_items at true x ds h = ap (λ z. mode_item z ∷ ds) (sym h)
-mode_items at false x ds h = ap (λ z. mode_item z ∷ ds) (sym h)

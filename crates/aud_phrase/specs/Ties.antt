@@ -1,6 +1,2 @@
-pub mod Behind
-pub mod Connects
 pub mod Items
 pub mod Makes
-pub mod Parts
-pub mod Reads

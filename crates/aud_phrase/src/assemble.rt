@@ -8,7 +8,8 @@ ghost use Rattle.aud_syntax.specs.Plain as m;
 ghost use Rattle.aud_syntax.specs.Ties.View.{plain_factor, plain_term};
 ghost use Rattle.aud_grammar.specs.Grammar as g;
 ghost use Rattle.aud_grammar.specs.Actions.{none, a_sign, a_relational, a_multiplied, an_added, chained, made};
-ghost use Rattle.aud_phrase.specs.Ties.Items.{vec_item, opt_item, boxed_item, factor_item, multiplied_item, term_item, added_item, simple_item, relation_item, expression_item};
+ghost use Rattle.aud_cursor.specs.Ties.Items.{vec_item, opt_item, boxed_item};
+ghost use Rattle.aud_phrase.specs.Ties.Items.{factor_item, multiplied_item, term_item, added_item, simple_item, relation_item, expression_item};
 ghost use Rattle.aud_phrase.specs.Ties.Makes.{Makes, Pushes};
 
 use aud_syntax::tree::{

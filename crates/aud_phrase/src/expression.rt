@@ -3,25 +3,25 @@
 // Trees are handed on in boxes, and what is not called at each level of parentheses is not inlined, so
 // that little stands in the stack frames of each level.
 
-#![tactic(auto, using(crate::proofs::Passing::turns_over))]
+#![tactic(auto, using(aud_cursor::proofs::Passing::turns_over))]
 
-ghost use Rattle.std.specs.Prelude.{◌≡◌, ◌∷◌, []};
 ghost use Rattle.aud_grammar.specs.Grammar as g;
 ghost use Rattle.aud_grammar.specs.Grammar.{Phrase, N, Opt, Rep};
-ghost use Rattle.aud_grammar.specs.First.{firsts};
 ghost use Rattle.aud_grammar.specs.Actions.{a_sign, an_adding, a_multiplying, an_operator, a_relational};
-ghost use Rattle.aud_phrase.specs.Ties.Items.{vec_item, opt_item, parens_item, part_item, name_item, args_item, attribute_item, primary_item, factor_item, multiplied_item, term_item, added_item, simple_item, relation_item, expression_item, boxed_item};
-ghost use Rattle.aud_phrase.specs.Ties.Reads.{Reads, MayRead, Takes, TakesAny};
-ghost use Rattle.aud_phrase.specs.Ties.Parts.{IsValue};
-ghost use Rattle.aud_phrase.specs.Ties.Connects.{further, Connects, Reconnects};
+ghost use Rattle.aud_cursor.specs.Ties.Items.{vec_item, opt_item, boxed_item};
+ghost use Rattle.aud_cursor.specs.Ties.Reads.{Reads, MayRead, Takes, TakesAny};
+ghost use Rattle.aud_cursor.specs.Ties.Parts.{IsValue};
+ghost use Rattle.aud_cursor.specs.Ties.Connects.{further};
+ghost use Rattle.aud_phrase.specs.Ties.Items.{parens_item, part_item, name_item, args_item, attribute_item, primary_item, factor_item, multiplied_item, term_item, added_item, simple_item, relation_item, expression_item};
 
 use crate::assemble::{
     alone, connected, product, push_added, push_multiplied, push_relation, related, sum, unrelated,
 };
-use crate::behind::{both, ended};
-use crate::cursor::{Fault, Read, Rest, accept, chosen, deeper, is, is_one_of, token, word};
-use crate::leaf::{ident, literal};
-use crate::value::number_value;
+use aud_cursor::behind::{both, ended};
+use aud_cursor::connective::{again, comes_again, logical};
+use aud_cursor::cursor::{Read, Rest, accept, chosen, deeper, is, is_one_of, token, word};
+use aud_cursor::leaf::{ident, literal};
+use aud_cursor::value::number_value;
 use aud_lex::token::Kind;
 use aud_syntax::tree::{
     Added, Adding, Connective, Expression, Factor, Highest, Ident, Multiplied, Multiplying, Name,
@@ -326,51 +326,6 @@ fn relation(alloc: Global, start: Rest, room: u32) -> Read<Box<Relation>>
     Ok((unrelated(alloc, left)?, rest))
 }
 
-/// A logical operator or short-circuit control form, if one comes next (RM 4.5.1).
-fn logical(start: Rest) -> Option<(Connective, Rest)>
-    ensures { Connects start.entry result }
-{
-    if let Some((_, rest)) = accept(start, Kind::And) {
-        if let Some((_, behind)) = accept(rest, Kind::Then) {
-            return Some((Connective::AndThen, behind));
-        }
-        return Some((Connective::And, rest));
-    }
-    if let Some((_, rest)) = accept(start, Kind::Or) {
-        if let Some((_, behind)) = accept(rest, Kind::Else) {
-            return Some((Connective::OrElse, behind));
-        }
-        return Some((Connective::Or, rest));
-    }
-    if let Some((_, rest)) = accept(start, Kind::Xor) {
-        return Some((Connective::Xor, rest));
-    }
-    None
-}
-
-/// The word with which a logical operator or short-circuit control form begins.
-fn first_word(operator: Connective) -> Kind
-    ensures { firsts (further operator) ≡ result ∷ [] }
-{
-    match operator {
-        Connective::And | Connective::AndThen => Kind::And,
-        Connective::Or | Connective::OrElse => Kind::Or,
-        Connective::Xor => Kind::Xor,
-    }
-}
-
-/// Passes the same operator once more.
-fn again(operator: Connective, start: Rest) -> Result<Rest, Fault>
-    ensures { Reconnects operator start.entry result }
-{
-    let rest = word(start, first_word(operator))?;
-    match operator {
-        Connective::AndThen => word(rest, Kind::Then),
-        Connective::OrElse => word(rest, Kind::Else),
-        Connective::And | Connective::Or | Connective::Xor => Ok(rest),
-    }
-}
-
 /// The further relations, each behind the same operator: without parentheses no two are mixed.
 #[cycle(expression)]
 #[inline(never)]
@@ -379,7 +334,7 @@ fn relations(alloc: Global, operator: Connective, start: Rest, room: u32) -> Rea
 {
     let mut all = Vec::new(alloc);
     let mut rest = start;
-    'turns: while is(rest, first_word(operator)) {
+    'turns: while comes_again(operator, rest) {
         let behind = again(operator, rest)?;
         let (relation, after) = relation(alloc, behind, room)?;
         push_relation(&mut all, relation)?;

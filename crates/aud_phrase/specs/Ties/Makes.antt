@@ -4,7 +4,7 @@ use Rattle.std.specs.Global.{Global}
 use Rattle.std.specs.declared.alloc.AllocError.{AllocError}
 use Rattle.aud_grammar.specs.Grammar.{Phrase}
 use Rattle.aud_grammar.specs.Actions.{Item, made}
-use Rattle.aud_phrase.specs.Ties.Items.{boxed_item}
+use Rattle.aud_cursor.specs.Ties.Items.{boxed_item}
 
 -- the tree of the phrase from these items; where memory is refused, nothing is said
 abbrev pub Makes : {X : Type 0} → (X → Item) → Phrase → List Item → Result (Box X Global) AllocError → Type 0

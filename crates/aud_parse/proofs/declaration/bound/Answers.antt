@@ -2,8 +2,8 @@ use Rattle.std.proofs.Common.{refl, arith}
 use Rattle.aud_grammar.specs.Grammar as g
 use Rattle.aud_grammar.specs.Actions.{token}
 use Rattle.aud_grammar.specs.Ties.Outcome.{o_rule}
-use Rattle.aud_phrase.proofs.Passing.{to, exit_flat}
-use Rattle.aud_phrase.proofs.Valued.{negated}
+use Rattle.aud_cursor.proofs.Passing.{to, exit_flat}
+use Rattle.aud_cursor.proofs.Valued.{negated}
 use Rattle.aud_parse.proofs.Rolls.{bound_items}
 use Rattle.aud_parse.proofs.declaration.bound.Goals as goal
 

@@ -1,9 +1,9 @@
 use Rattle.std.proofs.Common.{arith}
 use Rattle.aud_grammar.specs.Ties.Outcome.{o_rule}
-use Rattle.aud_phrase.proofs.Passing.{to, exit_flat}
+use Rattle.aud_cursor.proofs.Passing.{to, exit_flat}
 use Rattle.aud_parse.proofs.Rolls.{names_items}
 use Rattle.aud_grammar.specs.Grammar as g
-use Rattle.aud_phrase.proofs.Valued.{more_identifier}
+use Rattle.aud_cursor.proofs.Valued.{more_identifier}
 use Rattle.aud_parse.proofs.declaration.identifiers.Goals as goal
 
 pub returns-in_err-first : goal.returns-in_err-first

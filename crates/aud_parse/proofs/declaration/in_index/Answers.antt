@@ -1,6 +1,6 @@
 use Rattle.std.proofs.Common.{rules}
 use Rattle.aud_grammar.specs.Ties.Outcome.{o_rule}
-use Rattle.aud_phrase.proofs.Passing.{exit_flat}
+use Rattle.aud_cursor.proofs.Passing.{exit_flat}
 use Rattle.aud_parse.proofs.declaration.in_index.Goals as goal
 
 pub returns-in_err-rest : goal.returns-in_err-rest

@@ -1,7 +1,7 @@
 use Rattle.std.proofs.Common.{refl}
 use Rattle.aud_grammar.specs.Grammar as g
 use Rattle.aud_grammar.specs.Ties.Outcome.{o_rule}
-use Rattle.aud_phrase.proofs.Passing.{level_on, no_level}
+use Rattle.aud_cursor.proofs.Passing.{level_on, no_level}
 use Rattle.aud_parse.proofs.declaration.index.Goals as goal
 
 pub returns-in_err-deeper : goal.returns-in_err-deeper

@@ -1,6 +1,6 @@
 use Rattle.std.proofs.Common.{sym, ◌∙◌, rules}
 use Rattle.aud_grammar.specs.Ties.Outcome.{o_rule, o_this, o_other, o_last}
-use Rattle.aud_phrase.proofs.Passing.{exit}
+use Rattle.aud_cursor.proofs.Passing.{exit}
 use Rattle.aud_phrase.proofs.Joined.{at_room, joined, not_joined}
 use Rattle.aud_parse.proofs.declaration.named.Goals as goal
 

@@ -1,6 +1,6 @@
 use Rattle.std.proofs.Common.{◌∷◌, sym, ap, rules}
 use Rattle.aud_parse.specs.Ties.Items.{declaration_item}
-use Rattle.aud_phrase.proofs.Passing.{to, exit}
+use Rattle.aud_cursor.proofs.Passing.{to, exit}
 use Rattle.aud_parse.proofs.declaration.named_declaration.Goals as goal
 
 pub returns-in_err-declaration : goal.returns-in_err-declaration

@@ -1,8 +1,8 @@
 use Rattle.std.proofs.Common.{◌∷◌, sym, ap, ◌∙◌, rules}
 use Rattle.aud_grammar.specs.Ties.Outcome.{o_rule, o_more}
-use Rattle.aud_phrase.specs.Ties.Items.{list_item}
+use Rattle.aud_cursor.specs.Ties.Items.{list_item}
 use Rattle.aud_parse.specs.Ties.Items.{formal_item}
-use Rattle.aud_phrase.proofs.Passing.{to, exit_flat, word_passes, heads_none, heads_push, heads_on, headed_items}
+use Rattle.aud_cursor.proofs.Passing.{to, exit_flat, word_passes, heads_none, heads_push, heads_on, headed_items}
 use Rattle.aud_parse.proofs.formals.in_formals.Goals as goal
 
 pub returns-in_err-rest : goal.returns-in_err-rest

@@ -4,8 +4,8 @@ use Rattle.aud_lex.specs.declared.token.Kind.TheVariants as kind
 use Rattle.aud_grammar.specs.Grammar as g
 use Rattle.aud_grammar.specs.Grammar.{T}
 use Rattle.aud_parse.specs.Ties.Items.{formal_item}
-use Rattle.aud_phrase.specs.Ties.Reads.{Passes}
-use Rattle.aud_phrase.proofs.Passing.{Heads}
+use Rattle.aud_cursor.specs.Ties.Reads.{Passes}
+use Rattle.aud_cursor.proofs.Passing.{Heads}
 use Rattle.aud_parse.proofs.formals.in_formals.Given as goal
 
 abbrev pub invariant-turns : goal.invariant-turns

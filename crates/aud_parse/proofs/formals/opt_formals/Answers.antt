@@ -1,8 +1,8 @@
 use Rattle.std.proofs.Common.{sym, ap, ◌∙◌, ◌∷◌, rules}
 use Rattle.aud_grammar.specs.Ties.Outcome.{o_yes, o_no}
-use Rattle.aud_phrase.specs.Ties.Items.{list_item}
+use Rattle.aud_cursor.specs.Ties.Items.{list_item}
 use Rattle.aud_parse.specs.Ties.Items.{formal_item}
-use Rattle.aud_phrase.proofs.Passing.{to, hand_on}
+use Rattle.aud_cursor.proofs.Passing.{to, hand_on}
 use Rattle.aud_parse.proofs.formals.opt_formals.Goals as goal
 
 pub returns-then-is : goal.returns-then-is

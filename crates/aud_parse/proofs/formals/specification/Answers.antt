@@ -4,9 +4,9 @@ use Rattle.std.specs.Global.{Global}
 use Rattle.aud_syntax.specs.declared.tree.Ident.{Ident}
 use Rattle.aud_syntax.specs.declared.tree.Formal.{Formal}
 use Rattle.aud_grammar.specs.Actions.{an_ident}
-use Rattle.aud_phrase.specs.Ties.Items.{vec_item}
+use Rattle.aud_cursor.specs.Ties.Items.{vec_item}
 use Rattle.aud_parse.specs.Ties.Items.{formal_item}
-use Rattle.aud_phrase.proofs.Passing.{to}
+use Rattle.aud_cursor.proofs.Passing.{to}
 use Rattle.aud_phrase.proofs.Joined.{joined, not_joined}
 use Rattle.aud_parse.proofs.Completing.{exit_among}
 use Rattle.aud_parse.proofs.formals.specification.Goals as goal

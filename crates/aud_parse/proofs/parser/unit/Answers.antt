@@ -1,7 +1,7 @@
 use Rattle.std.proofs.Common.{rules}
 use Rattle.aud_grammar.specs.Ties.Outcome.{o_rule}
 use Rattle.aud_grammar.specs.Actions.{token}
-use Rattle.aud_phrase.proofs.Passing.{to, exit}
+use Rattle.aud_cursor.proofs.Passing.{to, exit}
 use Rattle.aud_parse.proofs.Rolls.{unit_items}
 use Rattle.aud_parse.proofs.parser.unit.Goals as goal
 

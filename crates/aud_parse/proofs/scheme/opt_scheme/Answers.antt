@@ -1,7 +1,7 @@
 use Rattle.std.proofs.Common.{[], ◌∷◌, sym, ◌∙◌, rules}
 use Rattle.aud_lex.specs.declared.token.Kind.TheVariants as kind
 use Rattle.aud_grammar.specs.Ties.Outcome.{o_rule, o_this, o_other, o_last, o_yes, o_no}
-use Rattle.aud_phrase.proofs.Passing.{exit, in_this, in_others, in_none}
+use Rattle.aud_cursor.proofs.Passing.{exit, in_this, in_others, in_none}
 use Rattle.aud_parse.proofs.scheme.opt_scheme.Goals as goal
 
 pub returns-in_err-scheme : goal.returns-in_err-scheme

@@ -1,7 +1,7 @@
 use Rattle.std.proofs.Common.{◌+◌, ◌*◌, ◌≤◌, length}
 use Rattle.aud_grammar.specs.Grammar as g
 use Rattle.aud_parse.specs.Ties.Items.{arm_item, handler_item, statement_item, declaration_item}
-use Rattle.aud_phrase.proofs.Passing.{Turns, Heads}
+use Rattle.aud_cursor.proofs.Passing.{Turns, Heads}
 use Rattle.aud_parse.proofs.statement.+statement.Given as goal
 
 abbrev pub decreases-statements : goal.decreases-statements

@@ -1,6 +1,6 @@
 use Rattle.std.proofs.Common.{refl, rules}
 use Rattle.aud_grammar.specs.Ties.Outcome.{o_rule}
-use Rattle.aud_phrase.proofs.Passing.{exit}
+use Rattle.aud_cursor.proofs.Passing.{exit}
 use Rattle.aud_phrase.proofs.Joined.{ends}
 use Rattle.aud_parse.proofs.statement.assignment.Goals as goal
 

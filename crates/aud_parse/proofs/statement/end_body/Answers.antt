@@ -5,7 +5,7 @@ use Rattle.aud_syntax.specs.declared.tree.Statements.{Statements}
 use Rattle.aud_syntax.specs.declared.tree.Handler.{Handler}
 use Rattle.aud_grammar.specs.Grammar as g
 use Rattle.aud_grammar.specs.Actions.{an_ident, token, made}
-use Rattle.aud_phrase.specs.Ties.Items.{vec_item, opt_item}
+use Rattle.aud_cursor.specs.Ties.Items.{vec_item, opt_item}
 use Rattle.aud_parse.specs.Ties.Items.{boxed_statements_item, handler_item}
 use Rattle.aud_phrase.proofs.Joined.{at_room, joined, not_joined}
 use Rattle.aud_parse.proofs.Completing.{exit_in}

@@ -7,7 +7,7 @@ use Rattle.aud_syntax.specs.declared.tree.Iteration.{Iteration}
 use Rattle.aud_syntax.specs.declared.tree.Statements.{Statements}
 use Rattle.aud_grammar.specs.Grammar as g
 use Rattle.aud_grammar.specs.Actions.{an_ident, token, made}
-use Rattle.aud_phrase.specs.Ties.Items.{opt_item}
+use Rattle.aud_cursor.specs.Ties.Items.{opt_item}
 use Rattle.aud_parse.specs.Ties.Items.{scheme_item, boxed_statements_item}
 use Rattle.aud_parse.specs.Ties.Parts.{behind_label}
 use Rattle.aud_phrase.proofs.Joined.{at_room, joined, not_joined}

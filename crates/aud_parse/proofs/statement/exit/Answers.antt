@@ -3,9 +3,9 @@ use Rattle.aud_grammar.specs.Grammar as g
 use Rattle.aud_syntax.specs.declared.tree.Statement.TheVariants as statement
 use Rattle.aud_grammar.specs.Actions.{token}
 use Rattle.aud_grammar.specs.Ties.Outcome.{o_rule}
-use Rattle.aud_phrase.proofs.Passing.{exit}
+use Rattle.aud_cursor.proofs.Passing.{exit}
+use Rattle.aud_cursor.proofs.Valued.{when}
 use Rattle.aud_phrase.proofs.Joined.{ends}
-use Rattle.aud_phrase.proofs.Valued.{when}
 use Rattle.aud_parse.proofs.Rolls.{boxed_exit_items}
 use Rattle.aud_parse.proofs.statement.exit.Goals as goal
 

@@ -1,6 +1,6 @@
 use Rattle.std.proofs.Common.{rules}
 use Rattle.aud_grammar.specs.Ties.Outcome.{o_rule}
-use Rattle.aud_phrase.proofs.Passing.{exit_flat}
+use Rattle.aud_cursor.proofs.Passing.{exit_flat}
 use Rattle.aud_phrase.proofs.Joined.{ends_flat}
 use Rattle.aud_parse.proofs.Rolls.{boxed_items}
 use Rattle.aud_parse.proofs.statement.null.Goals as goal

@@ -1,12 +1,13 @@
 use Rattle.aud_grammar.specs.Grammar as g
 use Rattle.std.proofs.Common.{sym, ◌∙◌, refl, rules, ap, ◌∷◌}
 use Rattle.aud_grammar.specs.Ties.Outcome.{o_rule, o_this, o_other, o_last, o_yes, o_no, o_more}
-use Rattle.aud_phrase.proofs.Passing.{to, exit, hand_on, level_in, level_out, turns_push, turns_pushed, turns_end, no_level, word_passes, level_on, heads_none, heads_push, heads_on, headed, headed_items}
+use Rattle.aud_cursor.proofs.Passing.{to, exit, hand_on, level_in, level_out, turns_push, turns_pushed, turns_end, no_level, word_passes, level_on, heads_none, heads_push, heads_on, headed, headed_items}
+use Rattle.aud_cursor.proofs.Connecting.{comes_so}
 use Rattle.aud_phrase.proofs.Joined.{joined, not_joined, joined_twice, not_joined_twice}
 use Rattle.aud_phrase.proofs.Rolls.{factor_items, args_items, part_items, parts_items, named_items}
-use Rattle.aud_phrase.proofs.Connecting.{next_so}
 use Rattle.aud_grammar.specs.Actions.{none}
-use Rattle.aud_phrase.specs.Ties.Items.{list_item, args_of, expression_item}
+use Rattle.aud_cursor.specs.Ties.Items.{list_item}
+use Rattle.aud_phrase.specs.Ties.Items.{args_of, expression_item}
 use Rattle.aud_phrase.proofs.expression.+expression.Goals as goal
 
 pub parens-returns-in_err-inside : goal.parens-returns-in_err-inside
@@ -212,14 +213,14 @@ pub addeds-turns-preserved : goal.addeds-turns-preserved
 addeds-turns-preserved t c = record { turns = turns_pushed c.in_ok-push_added.ensures c.turns.invariant.turns c.in-Some.ensures.reads.0 (λ k ds v o. o_rule (c.in-Some.ensures.reads.1 _ _ _ _ (c.in_ok-term.ensures.reads _ _ _ o))); shorter = search rules }
 
 pub relations-returns-in_err-behind : goal.relations-returns-in_err-behind
-relations-returns-in_err-behind t c = exit _ _ _ c.from_residual.ensures.1 (c.in_err-behind.ensures.reads c.args.room) (λ k ds v o. c.turns.invariant.turns.by _ _ _ (o_more (next_so c.turns.rest.tokens.now c.first_word.ensures c.is.ensures c.turns-test.true) o))
+relations-returns-in_err-behind t c = exit _ _ _ c.from_residual.ensures.1 (c.in_err-behind.ensures.reads c.args.room) (λ k ds v o. c.turns.invariant.turns.by _ _ _ (o_more (comes_so c.args.operator c.turns.rest.tokens.now c.comes_again.ensures c.turns-test.true) o))
 
 pub relations-returns-in_err-relation : goal.relations-returns-in_err-relation
 relations-returns-in_err-relation t c = exit _ _ _ c.from_residual-in_err-relation.ensures.1 c.in_err-relation.ensures.reads
-    (λ k ds v o. c.turns.invariant.turns.by _ _ _ (o_more (next_so c.turns.rest.tokens.now c.first_word.ensures c.is.ensures c.turns-test.true) (c.in_ok-behind.ensures.reads _ _ _ _ o)))
+    (λ k ds v o. c.turns.invariant.turns.by _ _ _ (o_more (comes_so c.args.operator c.turns.rest.tokens.now c.comes_again.ensures c.turns-test.true) (c.in_ok-behind.ensures.reads _ _ _ _ o)))
 
 pub relations-turns-preserved : goal.relations-turns-preserved
-relations-turns-preserved t c = record { turns = turns_pushed c.in_ok-push_relation.ensures c.turns.invariant.turns (next_so c.turns.rest.tokens.now c.first_word.ensures c.is.ensures c.turns-test.true) (λ k ds v o. c.in_ok-behind.ensures.reads _ _ _ _ (c.in_ok-relation.ensures.reads _ _ _ o)); shorter = search rules }
+relations-turns-preserved t c = record { turns = turns_pushed c.in_ok-push_relation.ensures c.turns.invariant.turns (comes_so c.args.operator c.turns.rest.tokens.now c.comes_again.ensures c.turns-test.true) (λ k ds v o. c.in_ok-behind.ensures.reads _ _ _ _ (c.in_ok-relation.ensures.reads _ _ _ o)); shorter = search rules }
 
 pub relations-returns : goal.relations-returns
-relations-returns t c = record { reads = turns_end c.turns.invariant.turns (next_so c.turns.rest.tokens.now c.first_word.ensures c.is.ensures c.turns-test.false); shorter = search rules }
+relations-returns t c = record { reads = turns_end c.turns.invariant.turns (comes_so c.args.operator c.turns.rest.tokens.now c.comes_again.ensures c.turns-test.false); shorter = search rules }

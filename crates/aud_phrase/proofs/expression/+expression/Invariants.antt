@@ -3,10 +3,10 @@ use Rattle.aud_lex.specs.Element.{Element}
 use Rattle.aud_lex.specs.declared.token.Kind.TheVariants as kind
 use Rattle.aud_grammar.specs.Grammar as g
 use Rattle.aud_grammar.specs.Grammar.{T}
+use Rattle.aud_cursor.specs.Ties.Reads.{Passes}
+use Rattle.aud_cursor.specs.Ties.Connects.{further}
 use Rattle.aud_phrase.specs.Ties.Items.{expression_item, part_item, multiplied_item, added_item, relation_item}
-use Rattle.aud_phrase.specs.Ties.Reads.{Passes}
-use Rattle.aud_phrase.specs.Ties.Connects.{further}
-use Rattle.aud_phrase.proofs.Passing.{Turns, Heads}
+use Rattle.aud_cursor.proofs.Passing.{Turns, Heads}
 use Rattle.aud_phrase.proofs.expression.+expression.Given as goal
 
 abbrev pub decreases-parens : goal.decreases-parens

@@ -1,7 +1,7 @@
 use Rattle.std.proofs.Common.{refl}
 use Rattle.aud_grammar.specs.Actions.{a_multiplying}
 use Rattle.aud_grammar.specs.Ties.Outcome.{o_rule}
-use Rattle.aud_phrase.proofs.Choosing.{words, choice, chosen_next, not_chosen}
+use Rattle.aud_cursor.proofs.Choosing.{words, choice, chosen_next, not_chosen}
 use Rattle.aud_phrase.proofs.expression.multiplying.Goals as goal
 
 pub returns-in_err-operator : goal.returns-in_err-operator

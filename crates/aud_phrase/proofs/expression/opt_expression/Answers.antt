@@ -1,6 +1,6 @@
 use Rattle.std.proofs.Common.{sym, ◌∙◌, rules}
 use Rattle.aud_grammar.specs.Ties.Outcome.{o_yes, o_no}
-use Rattle.aud_phrase.proofs.Passing.{exit}
+use Rattle.aud_cursor.proofs.Passing.{exit}
 use Rattle.aud_phrase.proofs.expression.opt_expression.Goals as goal
 
 pub returns-in_err-value : goal.returns-in_err-value

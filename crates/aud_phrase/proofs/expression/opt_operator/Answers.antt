@@ -1,7 +1,7 @@
 use Rattle.std.proofs.Common.{refl, arith, rules}
 use Rattle.aud_grammar.specs.Actions.{an_operator}
 use Rattle.aud_grammar.specs.Ties.Outcome.{o_rule, o_yes, o_no}
-use Rattle.aud_phrase.proofs.Choosing.{tokens, choice, chosen_next, not_chosen}
+use Rattle.aud_cursor.proofs.Choosing.{tokens, choice, chosen_next, not_chosen}
 use Rattle.aud_phrase.proofs.expression.opt_operator.Goals as goal
 
 pub returns-in-Some : goal.returns-in-Some

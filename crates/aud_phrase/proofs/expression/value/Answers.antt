@@ -1,7 +1,7 @@
 use Rattle.std.proofs.Common.{rules}
-use Rattle.aud_phrase.proofs.Passing.{exit, hand_after}
+use Rattle.aud_cursor.proofs.Passing.{exit, hand_after}
+use Rattle.aud_cursor.proofs.Valued.{valued}
 use Rattle.aud_phrase.proofs.Joined.{fewer_still}
-use Rattle.aud_phrase.proofs.Valued.{valued}
 use Rattle.aud_phrase.proofs.expression.value.Goals as goal
 
 pub returns-in_err-rest : goal.returns-in_err-rest

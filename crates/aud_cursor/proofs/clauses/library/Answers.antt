@@ -1,0 +1,20 @@
+use Rattle.std.proofs.Common.{refl, arith}
+use Rattle.aud_grammar.specs.Grammar.{Ada, TextIo}
+use Rattle.aud_grammar.specs.Ties.Outcome.{o_rule}
+use Rattle.aud_cursor.proofs.Passing.{exit_flat}
+use Rattle.aud_cursor.proofs.clauses.library.Goals as goal
+
+pub returns-in_err-rest : goal.returns-in_err-rest
+returns-in_err-rest c = exit_flat _ _ _ c.from_residual.ensures.1 (λ room. (c.in_err-rest.ensures Ada refl).reads room) (λ room k ds v o. o_rule o)
+
+pub returns-in_err-rest-2 : goal.returns-in_err-rest-2
+returns-in_err-rest-2 c = exit_flat _ _ _ c.from_residual-in_err-rest-2.ensures.1 (λ room. c.in_err-rest-2.ensures.reads room) (λ room k ds v o. o_rule ((c.in_ok-rest.ensures Ada refl).reads _ _ _ _ o))
+
+pub returns-in_err-rest-3 : goal.returns-in_err-rest-3
+returns-in_err-rest-3 c = exit_flat _ _ _ c.from_residual-in_err-rest-3.ensures.1 (λ room. (c.in_err-rest-3.ensures TextIo refl).reads room) (λ room k ds v o. o_rule ((c.in_ok-rest.ensures Ada refl).reads _ _ _ _ (c.in_ok-rest-2.ensures.reads _ _ _ _ o)))
+
+pub returns-in_err-rest-4 : goal.returns-in_err-rest-4
+returns-in_err-rest-4 c = exit_flat _ _ _ c.from_residual-in_err-rest-4.ensures.1 (λ room. c.in_err-rest-4.ensures.reads room) (λ room k ds v o. o_rule ((c.in_ok-rest.ensures Ada refl).reads _ _ _ _ (c.in_ok-rest-2.ensures.reads _ _ _ _ ((c.in_ok-rest-3.ensures TextIo refl).reads _ _ _ _ o))))
+
+pub returns : goal.returns
+returns c = record { reads = λ room k ds v o. o_rule ((c.in_ok-rest.ensures Ada refl).reads _ _ _ _ (c.in_ok-rest-2.ensures.reads _ _ _ _ ((c.in_ok-rest-3.ensures TextIo refl).reads _ _ _ _ (c.in_ok-rest-4.ensures.reads _ _ _ _ o)))); shorter = omega (arith, (c.in_ok-rest.ensures Ada refl).shorter, c.in_ok-rest-2.ensures.shorter, (c.in_ok-rest-3.ensures TextIo refl).shorter, c.in_ok-rest-4.ensures.shorter) }

@@ -1,0 +1,5 @@
+pub mod Behind
+pub mod Connects
+pub mod Items
+pub mod Parts
+pub mod Reads

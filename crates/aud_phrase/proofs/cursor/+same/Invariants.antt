@@ -1,5 +1,0 @@
-use Rattle.std.proofs.Common.{length}
-use Rattle.aud_phrase.proofs.cursor.+same.Given as goal
-
-abbrev pub decreases-same : goal.decreases-same
-decreases-same l = length l.text.now
