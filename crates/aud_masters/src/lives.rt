@@ -1,0 +1,201 @@
+// All tasks, by their numbers.
+
+ghost use Rattle.std.specs.Prelude.{◌≡◌, ◌∷◌, [], ℕ, IfOk, not, count_by};
+ghost use Rattle.std.specs.List.{list_any};
+ghost use Rattle.aud_meaning.specs.Parts.{changed, numbers};
+ghost use Rattle.aud_masters.specs.Lives.{activating, after_activation, begun_by, blocked};
+ghost use Rattle.aud_masters.specs.Lives.{changed_each, is_awake, is_created_in, is_free};
+ghost use Rattle.aud_masters.specs.Lives.{life_at, life_awaits, life_depends, not_awaited};
+ghost use Rattle.aud_masters.specs.Lives.{plain_life, plain_lives, resumed_by, status_of};
+ghost use Rattle.aud_masters.specs.Lives.{with_failure, with_status, without_master};
+ghost use Rattle.aud_masters.specs.Lives.{without_parts};
+
+use crate::life::Life;
+use crate::phase::Phase;
+use std::alloc::{AllocError, Global};
+
+// How far a task is; where there is none of this number, it is terminated.
+pub(crate) fn phase_of(lives: &[Life], n: usize) -> Phase
+    ensures { status_of result ≡ (life_at n (plain_lives lives.now)).status }
+{
+    match lives.get(n) {
+        Some(life) => life.phase,
+        None => Phase::Terminated,
+    }
+}
+
+// The task that waits for a task's activation.
+fn activator_of(lives: &[Life], n: usize) -> Option<usize>
+    ensures { result ≡ (life_at n (plain_lives lives.now)).activator }
+{
+    lives.get(n)?.activator
+}
+
+// The masters that a task depends on; none where there is none of this number.
+pub(crate) fn masters_of(lives: &[Life], n: usize) -> &[usize]
+    ensures { result.now ≡ (life_at n (plain_lives lives.now)).masters }
+{
+    match lives.get(n) {
+        Some(life) => &life.masters,
+        None => &[],
+    }
+}
+
+// Whether an activation that the task waited for failed.
+pub(crate) fn has_failed(lives: &[Life], n: usize) -> bool
+    ensures { result ≡ (life_at n (plain_lives lives.now)).failed }
+{
+    match lives.get(n) {
+        Some(life) => life.failed,
+        None => false,
+    }
+}
+
+// Whether all that depends on a master is terminated (RM 9.3(5)).
+pub(crate) fn is_closable(lives: &[Life], master: usize) -> bool
+    ensures { result ≡ not (list_any (λ l. life_depends master (plain_life l)) lives.now) }
+{
+    !lives.iter().any(|life| life.depends_on(master))
+}
+
+// How many may have a move.
+pub(crate) fn count_awake(lives: &[Life]) -> usize
+    ensures { result ≡ count_by (λ l. is_awake (plain_life l).status) lives.now }
+{
+    lives.iter().filter(|life| life.is_awake()).count()
+}
+
+// A task is this far.
+pub(crate) fn set_phase(lives: &mut [Life], n: usize, phase: Phase)
+    ensures { plain_lives lives.new ≡
+        changed n (with_status (status_of phase)) (plain_lives lives.old) }
+{
+    if n < lives.len() {
+        lives[n].phase = phase;
+    }
+}
+
+// A task waits for activations, of which none has failed yet.
+fn block(lives: &mut [Life], n: usize)
+    ensures { plain_lives lives.new ≡ changed n blocked (plain_lives lives.old) }
+{
+    if n < lives.len() {
+        let life = &mut lives[n];
+        life.phase = Phase::Activating;
+        life.failed = false;
+    }
+}
+
+// A task's activation begins, and another one waits for it.
+fn begin(lives: &mut [Life], n: usize, activator: usize)
+    ensures { plain_lives lives.new ≡ changed n (begun_by activator) (plain_lives lives.old) }
+{
+    if n < lives.len() {
+        let life = &mut lives[n];
+        life.phase = Phase::UnderWay;
+        life.activator = Some(activator);
+    }
+}
+
+// Nobody waits for a task's activation any more.
+fn release(lives: &mut [Life], n: usize)
+    ensures { plain_lives lives.new ≡ changed n not_awaited (plain_lives lives.old) }
+{
+    if n < lives.len() {
+        lives[n].activator = None;
+    }
+}
+
+// An activation that the task waits for has ended, and perhaps failed.
+fn note(lives: &mut [Life], n: usize, failed: bool)
+    ensures { plain_lives lives.new ≡ changed n (with_failure failed) (plain_lives lives.old) }
+{
+    if n < lives.len() && failed {
+        lives[n].failed = true;
+    }
+}
+
+// Whether a task waits for activations, and there is none left that it waits for.
+fn is_free(lives: &[Life], n: usize) -> bool
+    ensures { result ≡ is_free n (plain_lives lives.now) }
+{
+    phase_of(lives, n) == Phase::Activating && !is_awaiting(lives, n)
+}
+
+// Whether a task waits for an activation that goes on.
+fn is_awaiting(lives: &[Life], n: usize) -> bool
+    ensures { result ≡ list_any (λ l. life_awaits n (plain_life l)) lives.now }
+{
+    lives.iter().any(|life| life.is_awaited_by(n))
+}
+
+// What depends on a master ends with it.
+pub(crate) fn end_dependents(lives: &mut [Life], master: usize)
+    ensures { plain_lives lives.new ≡ without_master master (plain_lives lives.old) }
+{
+    for life in lives.iter_mut() {
+        life.leave(master);
+    }
+}
+
+// What these declarative parts have created and not activated ends with them.
+pub(crate) fn end_created(lives: &mut [Life], parts: &[usize])
+    ensures { plain_lives lives.new ≡ without_parts parts.now (plain_lives lives.old) }
+{
+    for life in lives.iter_mut() {
+        life.drop_from(parts);
+    }
+}
+
+// The numbers of the tasks that a declarative part has created and not activated.
+pub(crate) fn created_in(
+    alloc: Global,
+    lives: &[Life],
+    part: usize,
+) -> Result<Vec<usize>, AllocError>
+    ensures { IfOk result (λ ns.
+        ns.items ≡ numbers (is_created_in (part ∷ [])) 0 (plain_lives lives.now)) }
+{
+    let mut found = Vec::new(alloc);
+    for (n, life) in lives.iter().enumerate() {
+        if life.is_created_in(&[part]) {
+            found.push(n)?;
+        }
+    }
+    Ok(found)
+}
+
+// A task activates those of the numbers (RM 9.2(3)); where there are none, nothing changes.
+pub(crate) fn begin_activation(lives: &mut [Life], activator: usize, numbers: &[usize])
+    ensures { plain_lives lives.new ≡ activating activator numbers.now (plain_lives lives.old) }
+{
+    if numbers.is_empty() {
+        return;
+    }
+    block(lives, activator);
+    begin_all(lives, activator, numbers);
+}
+
+fn begin_all(lives: &mut [Life], activator: usize, numbers: &[usize])
+    ensures { plain_lives lives.new ≡
+        changed_each numbers.now (begun_by activator) (plain_lives lives.old) }
+{
+    for n in numbers {
+        begin(lives, *n, activator);
+    }
+}
+
+// A task's activation has ended (RM 9.2(5)). It gives the activator, if that goes on now.
+pub(crate) fn end_activation(lives: &mut [Life], n: usize, failed: bool) -> Option<usize>
+    ensures resumed { result ≡ resumed_by failed n (plain_lives lives.old) }
+    ensures after { plain_lives lives.new ≡ after_activation failed n (plain_lives lives.old) }
+{
+    let activator = activator_of(lives, n)?;
+    release(lives, n);
+    note(lives, activator, failed);
+    if !is_free(lives, activator) {
+        return None;
+    }
+    set_phase(lives, activator, Phase::UnderWay);
+    Some(activator)
+}
