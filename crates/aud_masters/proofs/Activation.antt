@@ -14,7 +14,7 @@ use Rattle.aud_meaning.specs.Effects.{opens, pends}
 use Rattle.aud_meaning.specs.Parts.{alone, any, blocks, changed, is_created, is_terminated, no_waits, numbers, on_own, on_task, own_of, owns, runs, unit_of}
 use Rattle.aud_meaning.specs.Tasks as effect
 use Rattle.aud_masters.specs.Lives.{Life, activating, after_activation, awaits, begun_by, blocked, changed_each, ended, ended_where, going_on, is_activating, is_created_in, is_free, life_at, life_awaits, life_of, lives_in, lives_of, not_awaited, noted, released, resumed, resumed_by, with_failure, with_status, without_parts}
-use Rattle.aud_masters.specs.Changes.{Activates, AreNotActivated, Barriers, BeforeCalls, Completes, CompletesAlone, EndsActivation, EndsAlone, IsIn, all_with_lives, completed_by, emptied_where, gone_on, with_life, with_lives}
+use Rattle.aud_masters.specs.Changes.{Activates, AreNotActivated, Barriers, BeforeCalls, Completes, CompletesAlone, EndsActivation, EndsAlone, IsIn, all_with_lives, completed_by, emptied_where, gone_on, taken, with_life, with_lives}
 use Rattle.aud_masters.proofs.Lists.{any-map, numbers_changed, numbers_same}
 use Rattle.aud_masters.proofs.Tasks.{at_task, emptied_task, lives_alone, lives_changed, lives_kept, lives_swept, one_swept, own_lives, refuses_none, same_swept, swept, sweeps}
 use Rattle.aud_masters.proofs.Ending.{created_in_live, not_activated_same}
@@ -142,7 +142,7 @@ ends_activation failed n old new is plan barriers c anywhere seen =
 abbrev Fit : List Life → List (TaskAt Moved) → Type 0
 Fit ls ts = lives_of (owns (all_with_lives ls ts)) ≡ ls
 
-behind : List Life → List Life
+abbrev behind : List Life → List Life
 behind [] = []
 behind (l ∷ ls) = ls
 
@@ -180,8 +180,7 @@ with_resumed m [] ts waits = cc
 with_resumed zero (l ∷ ls) [] waits = refl
 with_resumed (suc m) (l ∷ ls) [] waits = refl
 with_resumed zero (l ∷ ls) (t ∷ ts) waits =
-    let all : Own = record t.own { status = l.status; masters = l.masters; part = l.part; activator = l.activator; failed = l.failed; abnormal = l.abnormal } in
-    ap (λ b. goes (record t { own = emptied_where (b && not (is_terminated t.own.status)) all }) ∷ all_with_lives ls ts) (activating_live l.status waits)
+    ap (λ b. goes (record t { own = emptied_where (b && not (is_terminated t.own.status)) (taken l t.own) }) ∷ all_with_lives ls ts) (activating_live l.status waits)
 with_resumed (suc m) (l ∷ ls) (t ∷ ts) waits = ap (λ us. record t { own = with_life l t.own } ∷ us) (with_resumed m ls ts waits)
 
 module _ (plan : Plan) (barriers : Barriers) where
@@ -190,7 +189,7 @@ module _ (plan : Plan) (barriers : Barriers) where
       with_released : with_lives (changed n not_awaited ls) c ≡ on_own n (λ own. record own { activator = None }) (with_lives ls c)
       with_released =
           ap (λ ts. record c { tasks = ts })
-          (with_changed not_awaited (λ own. record own { activator = None }) (λ l own. no_activator _ _) n ls c.tasks fit)
+          (with_changed not_awaited (λ own. record own { activator = None }) (λ l own. no_activator (is_terminated l.status && not (is_terminated own.status)) (taken l own)) n ls c.tasks fit)
 
       fit_released : lives_in (with_lives (changed n not_awaited ls) c) ≡ changed n not_awaited ls
       fit_released =
@@ -200,7 +199,7 @@ module _ (plan : Plan) (barriers : Barriers) where
       with_noted : with_lives (noted (Some m) failed n ls) c ≡ noted_tasks plan barriers failed n m (with_lives ls c)
       with_noted =
           ap (λ ts. record c { tasks = ts })
-          (with_changed (with_failure failed) (λ own. record own { failed = own.failed || failed }) (λ l own. one_failure failed _ _) m (changed n not_awaited ls) c.tasks fit_released)
+          (with_changed (with_failure failed) (λ own. record own { failed = own.failed || failed }) (λ l own. one_failure failed (is_terminated l.status && not (is_terminated own.status)) (taken l own)) m (changed n not_awaited ls) c.tasks fit_released)
           ∙ ap (on_own m (λ own. record own { failed = own.failed || failed })) with_released
 
       fit_noted : lives_in (with_lives (noted (Some m) failed n ls) c) ≡ noted (Some m) failed n ls

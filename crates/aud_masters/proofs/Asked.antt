@@ -46,11 +46,11 @@ more false m n is = is
 
 count_own : (os : List Own) → count_by (λ (own : Own). is_awake own.status) os ≡ count_by (λ (l : Life). is_awake l.status) (lives_of os)
 count_own [] = refl
-count_own (o ∷ os) = rw count_own os refl
+count_own (o ∷ os) = more (is_awake o.status) _ _ (count_own os)
 
 count_plain : (xs : List kept.Life) → count_by (λ (x : kept.Life). is_awake (plain_life x).status) xs ≡ count_by (λ (l : Life). is_awake l.status) (plain_lives xs)
 count_plain [] = refl
-count_plain (x ∷ xs) = rw count_plain xs refl
+count_plain (x ∷ xs) = more (is_awake (plain_life x).status) _ _ (count_plain xs)
 
 pub awake_in : (xs : List kept.Life) (n : ℕ) → n ≡ count_by (λ (x : kept.Life). is_awake (plain_life x).status) xs → Owning (plain_lives xs) (λ os. n ≡ count_by (λ (own : Own). is_awake own.status) os)
 awake_in xs n is os seen =
@@ -65,11 +65,11 @@ not_accepting UnderWay = refl
 not_accepting Completed = refl
 not_accepting Terminated = refl
 
-first_or : Life → List Life → Life
+abbrev first_or : Life → List Life → Life
 first_or l [] = l
 first_or l (m ∷ ms) = m
 
-behind : List Life → List Life
+abbrev behind : List Life → List Life
 behind [] = []
 behind (l ∷ ls) = ls
 
@@ -87,6 +87,6 @@ all_block master (t ∷ ts) (x ∷ xs) seen =
     ap (λ b. b || any (λ (u : TaskAt Seen). depends master u.own && not (may_terminate u.own)) ts) (blocks_by master t.own x head ∙ ap (life_depends master) head)
     ∙ ap (λ b. life_depends master (plain_life x) || b) (all_block master ts xs (ap behind seen))
 
-pub closable_in : (master : ℕ) (xs : List kept.Life) (b : Bool) → b ≡ not (list_any (λ x. life_depends master (plain_life x)) xs) → IsClosable master (plain_lives xs) b
+pub closable_in : (master : ℕ) (xs : List kept.Life) (b : Bool) → b ≡ list_any (λ x. life_depends master (plain_life x)) xs → IsClosable master (plain_lives xs) (not b)
 closable_in master xs b is c seen =
-    is ∙ ap not (sym (any_plain (life_depends master) xs) ∙ sym (all_block master c.tasks xs seen))
+    ap not (is ∙ sym (any_plain (life_depends master) xs) ∙ sym (all_block master c.tasks xs seen))

@@ -28,8 +28,11 @@ module _ (plan : Plan) (barriers : Barriers) where
     abbrev grown : All Moved
     grown = record c { tasks = c.tasks ++ effect.all_created plan barriers (own_of n c) ts 0 ts.length }
 
+    abbrev numbered : Acting Moved → Acting Moved
+    numbered t = declares (effect.counted_from plan barriers (length c.tasks) ts.length) t
+
     abbrev declared : All Moved
-    declared = on_control n (takes_part 0) (alone (λ t. declares (effect.counted_from plan barriers (length c.tasks) ts.length) t) n grown)
+    declared = on_control n (takes_part 0) (alone numbered n grown)
 
     abbrev otherwise : All Moved
     otherwise = effect.raises_in_part plan barriers Storage at n c
@@ -41,8 +44,8 @@ module _ (plan : Plan) (barriers : Barriers) where
 
     lives_declared : lives_in declared ≡ lives_in c ++ replicate ts.length (created_life (masters_under_way (own_of n c)) (innermost (own_of n c).opened))
     lives_declared =
-        lives_kept _ (λ t. refl) n _
-        ∙ lives_alone _ (λ a. refl) n grown
+        lives_kept (λ t. record t { control = takes_part 0 t.control }) (λ t. refl) n (alone numbered n grown).tasks
+        ∙ lives_alone numbered (λ a. refl) n grown
         ∙ lives-append c.tasks (effect.all_created plan barriers (own_of n c) ts 0 ts.length)
         ∙ ap (λ ls. lives_in c ++ ls) (lives_created (own_of n c) ts 0 ts.length)
 

@@ -1,24 +1,17 @@
 -- Numbers of those that pass, and what is changed of them.
-use Rattle.std.proofs.Common.{◌≡◌, ℕ, zero, suc, List, [], ◌∷◌, ◌++◌, map, Bool, true, false, if◌then◌else◌, Option, Some, slice_get, refl, ap, sym, ◌∙◌}
+use Rattle.std.proofs.Common.{◌≡◌, ℕ, zero, suc, List, [], ◌∷◌, ◌++◌, map, Bool, true, false, if◌then◌else◌, ◌||◌, Option, Some, slice_get, refl, ap, sym, ◌∙◌}
 use Rattle.aud_meaning.specs.Parts.{any, changed, numbers}
 use Rattle.aud_masters.specs.Lives.{changed_each}
 
-pub map-map : {A B C : Type 0} (g : B → C) (f : A → B) (xs : List A) → map g (map f xs) ≡ map (λ x. g (f x)) xs
-map-map g f [] = refl
-map-map g f (x ∷ xs) = ap (λ ys. g (f x) ∷ ys) (map-map g f xs)
-
 pub any-map : {A B : Type 0} (p : B → Bool) (f : A → B) (xs : List A) → any p (map f xs) ≡ any (λ x. p (f x)) xs
 any-map p f [] = refl
-any-map p f (x ∷ xs) = rw any-map p f xs refl
+any-map p f (x ∷ xs) = ap (λ b. p (f x) || b) (any-map p f xs)
 
 pub numbers_same : {A : Type 0} (p q : A → Bool) (k : ℕ) (xs : List A) → ((x : A) → p x ≡ q x) → numbers p k xs ≡ numbers q k xs
 numbers_same p q k [] same = refl
 numbers_same p q k (x ∷ xs) same =
-    rw (same x, numbers_same p q (suc k) xs same) refl
-
-pub numbers-map : {A B : Type 0} (p : B → Bool) (f : A → B) (k : ℕ) (xs : List A) → numbers p k (map f xs) ≡ numbers (λ x. p (f x)) k xs
-numbers-map p f k [] = refl
-numbers-map p f k (x ∷ xs) = rw numbers-map p f (suc k) xs refl
+    ap (λ b. if b then k ∷ numbers p (suc k) xs else numbers p (suc k) xs) (same x)
+    ∙ ap (λ ns. if q x then k ∷ ns else ns) (numbers_same p q (suc k) xs same)
 
 with_first : (b : Bool) (k : ℕ) (ms ns : List ℕ) → ms ≡ map suc ns → (if b then suc k ∷ ms else ms) ≡ map suc (if b then k ∷ ns else ns)
 with_first true k ms ns h = ap (λ xs. suc k ∷ xs) h

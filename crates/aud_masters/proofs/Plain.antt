@@ -1,5 +1,7 @@
 -- Lives in memory, and one of them changed.
-use Rattle.std.proofs.Common.{◌≡◌, ◌+◌, ◌<◌, ◌≤◌, ℕ, zero, suc, List, [], ◌∷◌, ◌++◌, length, take, drop, map, get_or, set, Bool, true, false, not, ◌||◌, nat_eq, refl, ap, sym, ◌∙◌, arith}
+use Rattle.std.proofs.Common.{◌≡◌, ◌+◌, ◌<◌, ◌≤◌, ℕ, zero, suc, List, [], ◌∷◌, ◌++◌, length, take, drop, map, get_or, set, Bool, true, false, not, ◌||◌, nat_eq, if◌then◌else◌, replicate, add-one, refl, ap, sym, ◌∙◌, arith}
+use Rattle.std.proofs.lemmas.List.{replicate_more}
+use Rattle.std.proofs.lemmas.Cmp.{nat_eq_equiv}
 use Rattle.std.specs.List.{list_any}
 use Rattle.aud_meaning.specs.Parts.{any, changed, contains, nobody, numbers}
 use Rattle.aud_masters.specs.declared.life.Life as kept
@@ -22,10 +24,10 @@ changed_at g [] n x y within is new = absurd (omega (arith, within))
 changed_at g (z ∷ zs) zero x y within is new = ap (λ l. l ∷ plain_lives zs) (new ∙ ap (λ w. g (plain_life w)) is)
 changed_at g (z ∷ zs) (suc n) x y within is new = ap (λ ls. plain_life z ∷ ls) (changed_at g zs n x y (omega (arith, within)) is new)
 
-pub changed_past : {A : Type 0} (g : A → A) (xs : List A) (n : ℕ) → length xs ≤ n → changed n g xs ≡ xs
-changed_past g [] n past = refl
-changed_past g (z ∷ zs) zero past = absurd (omega (arith, past))
-changed_past g (z ∷ zs) (suc n) past = ap (λ ls. z ∷ ls) (changed_past g zs n (omega (arith, past)))
+pub unchanged_past : (g : Life → Life) (xs : List kept.Life) (n : ℕ) → length xs ≤ n → plain_lives xs ≡ changed n g (plain_lives xs)
+unchanged_past g [] n past = refl
+unchanged_past g (z ∷ zs) zero past = absurd (omega (arith, past))
+unchanged_past g (z ∷ zs) (suc n) past = ap (λ ls. plain_life z ∷ ls) (unchanged_past g zs n (omega (arith, past)))
 
 -- one where the change is nothing
 pub changed_same : (g : Life → Life) (xs : List kept.Life) (n : ℕ) → ((l : Life) → g l ≡ l) → changed n g (plain_lives xs) ≡ plain_lives xs
@@ -33,27 +35,64 @@ changed_same g [] n same = refl
 changed_same g (z ∷ zs) zero same = ap (λ l. l ∷ plain_lives zs) (same (plain_life z))
 changed_same g (z ∷ zs) (suc n) same = ap (λ ls. plain_life z ∷ ls) (changed_same g zs n same)
 
+pub plain-append : (xs ys : List kept.Life) → plain_lives (xs ++ ys) ≡ plain_lives xs ++ plain_lives ys
+plain-append [] ys = refl
+plain-append (x ∷ xs) ys = ap (λ ls. plain_life x ∷ ls) (plain-append xs ys)
+
 -- tests of one
 pub any_plain : (p : Life → Bool) (xs : List kept.Life) → any p (plain_lives xs) ≡ list_any (λ x. p (plain_life x)) xs
 any_plain p [] = refl
 any_plain p (x ∷ xs) = ap (λ b. p (plain_life x) || b) (any_plain p xs)
 
-eq_sym : (m n : ℕ) → nat_eq m n ≡ nat_eq n m
-eq_sym zero zero = refl
-eq_sym zero (suc n) = refl
-eq_sym (suc m) zero = refl
-eq_sym (suc m) (suc n) = eq_sym m n
+pub eq_sym : (m n : ℕ) → nat_eq m n ≡ nat_eq n m
+eq_sym m n = nat_eq_equiv.symm m n
 
 -- a list that contains a number, in the words of a slice
 pub contains_same : (n : ℕ) (ms : List ℕ) → list_any (λ m. nat_eq m n) ms ≡ contains n ms
 contains_same n [] = refl
-contains_same n (m ∷ ms) = rw eq_sym m n (ap (λ b. nat_eq n m || b) (contains_same n ms))
+contains_same n (m ∷ ms) = ap (λ b. b || list_any (λ k. nat_eq k n) ms) (eq_sym m n) ∙ ap (λ b. nat_eq n m || b) (contains_same n ms)
 
-pub any_same : (n : ℕ) (ms : List ℕ) → list_any (λ m. nat_eq m n) ms ≡ any (λ m. nat_eq m n) ms
-any_same n [] = refl
-any_same n (m ∷ ms) = ap (λ b. nat_eq m n || b) (any_same n ms)
+-- those before a place are changed, and the others are as they were
+abbrev pub ChangedUpTo : (Life → Life) → ℕ → List kept.Life → List kept.Life → Type 0
+ChangedUpTo f zero old now = now ≡ old
+ChangedUpTo f (suc i) [] [] = Unit {0}
+ChangedUpTo f (suc i) [] (z ∷ zs) = ⊥
+ChangedUpTo f (suc i) (o ∷ os) [] = ⊥
+ChangedUpTo f (suc i) (o ∷ os) (z ∷ zs) = (plain_life z ≡ f (plain_life o)) × ChangedUpTo f i os zs
 
--- each of them is changed: those before the place are, the others are as they were
-pub record IsChangedBefore (f : Life → Life) (i : ℕ) (old now : List kept.Life) : Type 0 where
-  pub before : plain_lives (take i now) ≡ map f (plain_lives (take i old))
-  pub behind : drop i now ≡ drop i old
+abbrev first_or : kept.Life → List kept.Life → kept.Life
+first_or x [] = x
+first_or x (z ∷ zs) = z
+
+abbrev behind : List kept.Life → List kept.Life
+behind [] = []
+behind (z ∷ zs) = zs
+
+changed_suc : (f : Life → Life) (i : ℕ) (old now : List kept.Life) (x y : kept.Life) → i < length now → x ≡ get_or now i x → plain_life y ≡ f (plain_life x) → ChangedUpTo f i old now → ChangedUpTo f (suc i) old (set now i y)
+changed_suc f i old [] x y within is new before = absurd (omega (arith, within))
+changed_suc f zero [] (z ∷ zs) x y within is new before = cc
+changed_suc f zero (o ∷ os) (z ∷ zs) x y within is new before =
+    (new ∙ ap (λ w. f (plain_life w)) (is ∙ ap (first_or x) before), ap behind before)
+changed_suc f (suc i) [] (z ∷ zs) x y within is new before = before
+changed_suc f (suc i) (o ∷ os) (z ∷ zs) x y within is new before = (before.0, changed_suc f i os zs x y (omega (arith, within)) is new before.1)
+
+pub changed_more : (f : Life → Life) (i : ℕ) (old now : List kept.Life) (x y : kept.Life) → i < length now → x ≡ get_or now i x → plain_life y ≡ f (plain_life x) → ChangedUpTo f i old now → ChangedUpTo f (i + 1) old (set now i y)
+changed_more f i old now x y within is new before = rw add-one (changed_suc f i old now x y within is new before)
+
+pub changed_all : (f : Life → Life) (i : ℕ) (old now : List kept.Life) → length now ≤ i → ChangedUpTo f i old now → plain_lives now ≡ map f (plain_lives old)
+changed_all f zero old [] all before = ap (λ xs. map f (plain_lives xs)) before
+changed_all f zero old (z ∷ zs) all before = absurd (omega (arith, all))
+changed_all f (suc i) [] [] all before = refl
+changed_all f (suc i) [] (z ∷ zs) all before = absurd before
+changed_all f (suc i) (o ∷ os) [] all before = absurd before
+changed_all f (suc i) (o ∷ os) (z ∷ zs) all before =
+    ap (λ l. l ∷ plain_lives zs) before.0 ∙ ap (λ ls. f (plain_life o) ∷ ls) (changed_all f i os zs (omega (arith, all)) before.1)
+
+-- numbers of lives in memory
+pub numbers_plain : (p : Life → Bool) (k : ℕ) (xs : List kept.Life) → numbers p k (plain_lives xs) ≡ numbers (λ (x : kept.Life). p (plain_life x)) k xs
+numbers_plain p k [] = refl
+numbers_plain p k (x ∷ xs) = ap (λ ns. if p (plain_life x) then k ∷ ns else ns) (numbers_plain p (suc k) xs)
+
+pub replicated : (l : Life) (xs : List kept.Life) (x : kept.Life) (k : ℕ) → plain_lives xs ≡ replicate k l → plain_life x ≡ l → plain_lives (xs ++ x ∷ []) ≡ replicate (k + 1) l
+replicated l xs x k before is =
+    plain-append xs (x ∷ []) ∙ ap (λ ls. ls ++ plain_life x ∷ []) before ∙ ap (λ m. replicate k l ++ m ∷ []) is ∙ replicate_more k l

@@ -44,10 +44,11 @@ abbrev pub emptied_where : Bool → Own → Own
 emptied_where true own = emptied own
 emptied_where false own = own
 
+abbrev pub taken : Life → Own → Own
+taken l own = record own { status = l.status; masters = l.masters; part = l.part; activator = l.activator; failed = l.failed; abnormal = l.abnormal }
+
 abbrev pub with_life : Life → Own → Own
-with_life l own =
-    emptied_where (is_terminated l.status && not (is_terminated own.status))
-    (record own { status = l.status; masters = l.masters; part = l.part; activator = l.activator; failed = l.failed; abnormal = l.abnormal })
+with_life l own = emptied_where (is_terminated l.status && not (is_terminated own.status)) (taken l own)
 
 abbrev pub all_with_lives : List Life → List (TaskAt Moved) → List (TaskAt Moved)
 all_with_lives [] ts = ts

@@ -51,11 +51,11 @@ pub(crate) fn has_failed(lives: &[Life], n: usize) -> bool
     }
 }
 
-// Whether all that depends on a master is terminated (RM 9.3(5)).
-pub(crate) fn is_closable(lives: &[Life], master: usize) -> bool
-    ensures { result ≡ not (list_any (λ l. life_depends master (plain_life l)) lives.now) }
+// Whether a task that isn't terminated depends on a master.
+pub(crate) fn has_dependents(lives: &[Life], master: usize) -> bool
+    ensures { result ≡ list_any (λ l. life_depends master (plain_life l)) lives.now }
 {
-    !lives.iter().any(|life| life.depends_on(master))
+    lives.iter().any(|life| life.depends_on(master))
 }
 
 // How many may have a move.

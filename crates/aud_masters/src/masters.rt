@@ -96,7 +96,7 @@ impl Masters {
     pub fn closable(&self, master: usize) -> bool
         ensures { IsClosable master self.now result }
     {
-        lives::is_closable(&self.lives, master)
+        !lives::has_dependents(&self.lives, master)
     }
 
     /// The declaration of so many tasks in the declarative part with the frame `part`, by a task whose own masters under way have
