@@ -13,7 +13,7 @@ use Rattle.aud_meaning.specs.Control.{Moved, takes_part}
 use Rattle.aud_meaning.specs.Effects.{opens, pends}
 use Rattle.aud_meaning.specs.Parts.{alone, any, blocks, changed, is_created, is_terminated, no_waits, numbers, on_own, on_task, own_of, owns, runs, unit_of}
 use Rattle.aud_meaning.specs.Tasks as effect
-use Rattle.aud_masters.specs.Lives.{Life, activating, after_activation, awaits, begun_by, blocked, changed_each, ended, ended_where, going_on, is_activating, is_created_in, is_free, life_at, life_awaits, life_of, lives_in, lives_of, not_awaited, noted, released, resumed, resumed_by, with_failure, with_status, without_parts}
+use Rattle.aud_masters.specs.Lives.{Life, activating, after_activation, awaits, begun_by, blocked, changed_each, completing, ended, ended_where, going_on, is_activating, is_created_in, is_free, life_at, life_awaits, life_of, lives_in, lives_of, not_awaited, noted, released, resumed, resumed_by, with_failure, with_status, without_parts}
 use Rattle.aud_masters.specs.Changes.{Activates, AreNotActivated, Barriers, BeforeCalls, Completes, CompletesAlone, EndsActivation, EndsAlone, IsIn, all_with_lives, completed_by, emptied_where, gone_on, taken, with_life, with_lives}
 use Rattle.aud_masters.proofs.Lists.{any-map, numbers_changed, numbers_same}
 use Rattle.aud_masters.proofs.Tasks.{at_task, emptied_task, lives_alone, lives_changed, lives_kept, lives_swept, one_swept, own_lives, refuses_none, same_swept, swept, sweeps}
@@ -265,9 +265,6 @@ not_created status.Delaying h = refl
 not_created status.Calling h = refl
 not_created status.Completed h = refl
 not_created status.Terminated h = refl
-
-abbrev completing : ℕ → List ℕ → List Life → List Life
-completing n parts lives = without_parts parts (changed n (with_status status.Completed) lives)
 
 module _ (raised : Option Exception) (n : ℕ) (parts : List ℕ) (plan : Plan) (barriers : Barriers) (c : All Moved) where
   abbrev opened : List Opened

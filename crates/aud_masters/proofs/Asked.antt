@@ -1,6 +1,7 @@
 -- What is asked of all tasks, by their lives in memory.
-use Rattle.std.proofs.Common.{◌≡◌, ◌+◌, ℕ, zero, suc, List, [], ◌∷◌, map, Bool, true, false, not, ◌&&◌, ◌||◌, if◌then◌else◌, count_by, refl, ap, sym, ◌∙◌}
+use Rattle.std.proofs.Common.{◌≡◌, ◌+◌, ℕ, zero, suc, List, [], ◌∷◌, map, Bool, true, false, not, ◌&&◌, ◌||◌, if◌then◌else◌, cond, count_by, refl, ap, sym, ◌∙◌}
 use Rattle.std.proofs.Math.Bool.{and-true}
+use Rattle.std.proofs.lemmas.List.Folds.{fold-map}
 use Rattle.std.specs.List.{list_any}
 use Rattle.aud_meaning.specs.declared.state.Status.{Status}
 use Rattle.aud_meaning.specs.Configuration.{Own, Call, TaskAt, All}
@@ -40,17 +41,11 @@ callable_in n xs b is os seen calls =
 
 -- of all of them
 
-more : (b : Bool) (m n : ℕ) → m ≡ n → (if b then suc m else m) ≡ (if b then suc n else n)
-more true m n is = ap suc is
-more false m n is = is
-
 count_own : (os : List Own) → count_by (λ (own : Own). is_awake own.status) os ≡ count_by (λ (l : Life). is_awake l.status) (lives_of os)
-count_own [] = refl
-count_own (o ∷ os) = more (is_awake o.status) _ _ (count_own os)
+count_own os = sym (fold-map (λ n (l : Life). n + cond (is_awake l.status) 1 0) life_of 0 os)
 
 count_plain : (xs : List kept.Life) → count_by (λ (x : kept.Life). is_awake (plain_life x).status) xs ≡ count_by (λ (l : Life). is_awake l.status) (plain_lives xs)
-count_plain [] = refl
-count_plain (x ∷ xs) = more (is_awake (plain_life x).status) _ _ (count_plain xs)
+count_plain xs = sym (fold-map (λ n (l : Life). n + cond (is_awake l.status) 1 0) plain_life 0 xs)
 
 pub awake_in : (xs : List kept.Life) (n : ℕ) → n ≡ count_by (λ (x : kept.Life). is_awake (plain_life x).status) xs → Owning (plain_lives xs) (λ os. n ≡ count_by (λ (own : Own). is_awake own.status) os)
 awake_in xs n is os seen =

@@ -11,7 +11,7 @@ use Rattle.aud_meaning.specs.Control.{Moved}
 use Rattle.aud_meaning.specs.Effects.{innermost}
 use Rattle.aud_meaning.specs.Parts.{any, body_master, changed, depends, is_created, is_terminated, numbers, on_task, own_of, owns, raised_at}
 use Rattle.aud_meaning.specs.Tasks as effect
-use Rattle.aud_masters.specs.Lives.{Life, ended, ended_where, is_created_in, life_at, life_depends, life_of, lives_in, lives_of, with_status, without_master, without_parts}
+use Rattle.aud_masters.specs.Lives.{Life, closed, ended, ended_where, is_created_in, life_at, life_depends, life_of, lives_in, lives_of, with_status, without_master, without_parts}
 use Rattle.aud_masters.specs.Changes.{Barriers, BeforeCalls, IsBodyOf, InPart, Leaves, LeavesAlone, Closes, ClosesAlone, RaisesInPart, RaisesAlone, all_with_lives, emptied_where, with_life, with_lives}
 use Rattle.aud_masters.proofs.Lists.{numbers_same}
 use Rattle.aud_masters.proofs.Plain.{eq_sym}
@@ -68,28 +68,25 @@ closed_task n master plan barriers c body =
     ∙ ap (effect.terminate plan barriers n) (closed_master master plan barriers c body.0)
     ∙ one_ends plan barriers n (record c { tasks = swept (life_depends master) c.tasks }) body.0.calls
 
-abbrev closed_lives : ℕ → ℕ → List Life → List Life
-closed_lives n master lives = changed n (with_status status.Terminated) (without_master master lives)
-
-pub closes : (n master : ℕ) (old new : List Life) → new ≡ closed_lives n master old → Closes n master old new
+pub closes : (n master : ℕ) (old new : List Life) → new ≡ closed n master old → Closes n master old new
 closes n master old new is plan barriers c body seen =
     ap lives_in (closed_task n master plan barriers c body)
     ∙ lives_changed emptied_task ended (λ t. refl) n (swept (life_depends master) c.tasks)
     ∙ ap (changed n ended) (lives_swept (life_depends master) c.tasks)
-    ∙ ap (closed_lives n master) seen ∙ sym is
+    ∙ ap (closed n master) seen ∙ sym is
 
 -- the task itself is one that is not terminated
 ended_anyway : (b : Bool) (t : TaskAt Moved) → is_terminated t.own.status ≡ false → record t { own = with_life (ended (if b then ended (life_of t.own) else life_of t.own)) t.own } ≡ emptied_task (if b then emptied_task t else t)
 ended_anyway true t live = ap (λ b. record t { own = emptied_where (not b) (record t.own { status = status.Terminated }) }) live
 ended_anyway false t live = ap (λ b. record t { own = emptied_where (not b) (record t.own { status = status.Terminated }) }) live
 
-same_closed : (master n : ℕ) (ts : List (TaskAt Moved)) → is_terminated (life_at n (lives_of (owns ts))).status ≡ false → all_with_lives (closed_lives n master (lives_of (owns ts))) ts ≡ changed n emptied_task (swept (life_depends master) ts)
+same_closed : (master n : ℕ) (ts : List (TaskAt Moved)) → is_terminated (life_at n (lives_of (owns ts))).status ≡ false → all_with_lives (closed n master (lives_of (owns ts))) ts ≡ changed n emptied_task (swept (life_depends master) ts)
 same_closed master n [] live = refl
 same_closed master zero (t ∷ ts) live =
     ap (λ u. u ∷ all_with_lives (without_master master (lives_of (owns ts))) ts) (ended_anyway (life_depends master (life_of t.own)) t live)
     ∙ ap (λ us. emptied_task (if life_depends master (life_of t.own) then emptied_task t else t) ∷ us) (same_swept (life_depends master) (depends_live master) ts)
 same_closed master (suc n) (t ∷ ts) live =
-    ap (λ u. u ∷ all_with_lives (closed_lives n master (lives_of (owns ts))) ts) (one_swept (life_depends master) (depends_live master) (life_depends master (life_of t.own)) t refl)
+    ap (λ u. u ∷ all_with_lives (closed n master (lives_of (owns ts))) ts) (one_swept (life_depends master) (depends_live master) (life_depends master (life_of t.own)) t refl)
     ∙ ap (λ us. (if life_depends master (life_of t.own) then emptied_task t else t) ∷ us) (same_closed master n ts live)
 
 live_from : (s : Status) → s ≢ status.Terminated → is_terminated s ≡ false
@@ -102,12 +99,12 @@ live_from status.Calling h = refl
 live_from status.Completed h = refl
 live_from status.Terminated h = absurd (h refl)
 
-pub closes_alone : (n master : ℕ) (old new : List Life) → (life_at n old).status ≢ status.Terminated → new ≡ closed_lives n master old → ClosesAlone n master old new
+pub closes_alone : (n master : ℕ) (old new : List Life) → (life_at n old).status ≢ status.Terminated → new ≡ closed n master old → ClosesAlone n master old new
 closes_alone n master old new live is plan barriers c body seen =
     let here = ap (λ ls. is_terminated (life_at n ls).status) seen ∙ live_from (life_at n old).status live in
     closed_task n master plan barriers c body
     ∙ ap (λ ts. record c { tasks = ts }) (sym (same_closed master n c.tasks here))
-    ∙ ap (λ ls. with_lives (closed_lives n master ls) c) seen
+    ∙ ap (λ ls. with_lives (closed n master ls) c) seen
     ∙ ap (λ ls. with_lives ls c) (sym is)
 
 -- What a declarative part has created.

@@ -1,6 +1,8 @@
 -- Lives in memory, and one of them changed.
 use Rattle.std.proofs.Common.{◌≡◌, ◌+◌, ◌<◌, ◌≤◌, ℕ, zero, suc, List, [], ◌∷◌, ◌++◌, length, take, drop, map, get_or, set, Bool, true, false, not, ◌||◌, nat_eq, if◌then◌else◌, replicate, add-one, refl, ap, sym, ◌∙◌, arith}
-use Rattle.std.proofs.lemmas.List.{replicate_more}
+use Rattle.std.proofs.Common.{Vec, Global}
+use Rattle.std.specs.Vec.{with_items}
+use Rattle.std.proofs.lemmas.List.{replicate_more, with_items_is}
 use Rattle.std.proofs.lemmas.Cmp.{nat_eq_equiv}
 use Rattle.std.specs.List.{list_any}
 use Rattle.aud_meaning.specs.Parts.{any, changed, contains, nobody, numbers}
@@ -19,10 +21,10 @@ plain_past (y ∷ ys) zero past = absurd (omega (arith, past))
 plain_past (y ∷ ys) (suc n) past = plain_past ys n (omega (arith, past))
 
 -- one is changed
-pub changed_at : (g : Life → Life) (xs : List kept.Life) (n : ℕ) (x y : kept.Life) → n < length xs → x ≡ get_or xs n x → plain_life y ≡ g (plain_life x) → plain_lives (set xs n y) ≡ changed n g (plain_lives xs)
-changed_at g [] n x y within is new = absurd (omega (arith, within))
-changed_at g (z ∷ zs) zero x y within is new = ap (λ l. l ∷ plain_lives zs) (new ∙ ap (λ w. g (plain_life w)) is)
-changed_at g (z ∷ zs) (suc n) x y within is new = ap (λ ls. plain_life z ∷ ls) (changed_at g zs n x y (omega (arith, within)) is new)
+pub changed_at : (g : Life → Life) (xs : List kept.Life) (n : ℕ) (x y : kept.Life) → n < length xs → plain_life y ≡ g (plain_life (get_or xs n x)) → plain_lives (set xs n y) ≡ changed n g (plain_lives xs)
+changed_at g [] n x y within new = absurd (omega (arith, within))
+changed_at g (z ∷ zs) zero x y within new = ap (λ l. l ∷ plain_lives zs) new
+changed_at g (z ∷ zs) (suc n) x y within new = ap (λ ls. plain_life z ∷ ls) (changed_at g zs n x y (omega (arith, within)) new)
 
 pub unchanged_past : (g : Life → Life) (xs : List kept.Life) (n : ℕ) → length xs ≤ n → plain_lives xs ≡ changed n g (plain_lives xs)
 unchanged_past g [] n past = refl
@@ -68,16 +70,15 @@ abbrev behind : List kept.Life → List kept.Life
 behind [] = []
 behind (z ∷ zs) = zs
 
-changed_suc : (f : Life → Life) (i : ℕ) (old now : List kept.Life) (x y : kept.Life) → i < length now → x ≡ get_or now i x → plain_life y ≡ f (plain_life x) → ChangedUpTo f i old now → ChangedUpTo f (suc i) old (set now i y)
-changed_suc f i old [] x y within is new before = absurd (omega (arith, within))
-changed_suc f zero [] (z ∷ zs) x y within is new before = cc
-changed_suc f zero (o ∷ os) (z ∷ zs) x y within is new before =
-    (new ∙ ap (λ w. f (plain_life w)) (is ∙ ap (first_or x) before), ap behind before)
-changed_suc f (suc i) [] (z ∷ zs) x y within is new before = before
-changed_suc f (suc i) (o ∷ os) (z ∷ zs) x y within is new before = (before.0, changed_suc f i os zs x y (omega (arith, within)) is new before.1)
+changed_suc : (f : Life → Life) (i : ℕ) (old now : List kept.Life) (x y : kept.Life) → i < length now → plain_life y ≡ f (plain_life (get_or now i x)) → ChangedUpTo f i old now → ChangedUpTo f (suc i) old (set now i y)
+changed_suc f i old [] x y within new before = absurd (omega (arith, within))
+changed_suc f zero [] (z ∷ zs) x y within new before = cc
+changed_suc f zero (o ∷ os) (z ∷ zs) x y within new before = (new ∙ ap (λ ws. f (plain_life (first_or x ws))) before, ap behind before)
+changed_suc f (suc i) [] (z ∷ zs) x y within new before = before
+changed_suc f (suc i) (o ∷ os) (z ∷ zs) x y within new before = (before.0, changed_suc f i os zs x y (omega (arith, within)) new before.1)
 
-pub changed_more : (f : Life → Life) (i : ℕ) (old now : List kept.Life) (x y : kept.Life) → i < length now → x ≡ get_or now i x → plain_life y ≡ f (plain_life x) → ChangedUpTo f i old now → ChangedUpTo f (i + 1) old (set now i y)
-changed_more f i old now x y within is new before = rw add-one (changed_suc f i old now x y within is new before)
+pub changed_more : (f : Life → Life) (i : ℕ) (old now : List kept.Life) (x y : kept.Life) → i < length now → plain_life y ≡ f (plain_life (get_or now i x)) → ChangedUpTo f i old now → ChangedUpTo f (i + 1) old (set now i y)
+changed_more f i old now x y within new before = rw add-one (changed_suc f i old now x y within new before)
 
 pub changed_all : (f : Life → Life) (i : ℕ) (old now : List kept.Life) → length now ≤ i → ChangedUpTo f i old now → plain_lives now ≡ map f (plain_lives old)
 changed_all f zero old [] all before = ap (λ xs. map f (plain_lives xs)) before
@@ -96,3 +97,8 @@ numbers_plain p k (x ∷ xs) = ap (λ ns. if p (plain_life x) then k ∷ ns else
 pub replicated : (l : Life) (xs : List kept.Life) (x : kept.Life) (k : ℕ) → plain_lives xs ≡ replicate k l → plain_life x ≡ l → plain_lives (xs ++ x ∷ []) ≡ replicate (k + 1) l
 replicated l xs x k before is =
     plain-append xs (x ∷ []) ∙ ap (λ ls. ls ++ plain_life x ∷ []) before ∙ ap (λ m. replicate k l ++ m ∷ []) is ∙ replicate_more k l
+
+-- lives in memory that were written
+pub written : (F : List Life → List Life) (v : Vec kept.Life Global) (xs ws : List kept.Life) (old : List Life) → length ws ≡ v.len → plain_lives ws ≡ F (plain_lives xs) → xs ≡ v.items → plain_lives v.items ≡ old → plain_lives (with_items v ws).items ≡ F old
+written F v xs ws old many is was seen =
+    ap plain_lives (with_items_is v ws many) ∙ is ∙ ap (λ ys. F (plain_lives ys)) was ∙ ap F seen

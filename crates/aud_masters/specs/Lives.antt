@@ -113,6 +113,14 @@ without_master master lives = map (ended_where (life_depends master)) lives
 abbrev pub without_parts : List ℕ → List Life → List Life
 without_parts parts lives = map (ended_where (is_created_in parts)) lives
 
+-- a task ends, and before it what depends on the master
+abbrev pub closed : ℕ → ℕ → List Life → List Life
+closed n master lives = changed n ended (without_master master lives)
+
+-- a task's body is completed, and what these declarative parts have created ends
+abbrev pub completing : ℕ → List ℕ → List Life → List Life
+completing n parts lives = without_parts parts (changed n (with_status status.Completed) lives)
+
 -- a task activates those of the numbers; none is nothing
 abbrev pub activating : ℕ → List ℕ → List Life → List Life
 activating n [] lives = lives

@@ -59,7 +59,7 @@ impl Life {
     pub(crate) fn depends_on(&self, master: usize) -> bool
         ensures { result ≡ life_depends master (plain_life self.now) }
     {
-        self.phase != Phase::Terminated && self.masters.contains(&master)
+        !self.phase.is_terminated() && self.masters.contains(&master)
     }
 
     /// Whether one of these declarative parts has created it, and not activated it.
@@ -99,9 +99,6 @@ impl Life {
     pub(crate) fn is_awake(&self) -> bool
         ensures { result ≡ is_awake (plain_life self.now).status }
     {
-        match self.phase {
-            Phase::Created | Phase::Activating | Phase::Terminated => false,
-            Phase::UnderWay | Phase::Completed => true,
-        }
+        self.phase.is_awake()
     }
 }

@@ -1,10 +1,10 @@
 // All tasks, by their numbers.
 
-ghost use Rattle.std.specs.Prelude.{◌≡◌, ◌∷◌, [], ℕ, IfOk, not, count_by};
+ghost use Rattle.std.specs.Prelude.{◌≡◌, ◌∷◌, ◌++◌, [], IfOk, count_by, replicate};
 ghost use Rattle.std.specs.List.{list_any};
 ghost use Rattle.aud_meaning.specs.Parts.{changed, numbers};
 ghost use Rattle.aud_masters.specs.Lives.{activating, after_activation, begun_by, blocked};
-ghost use Rattle.aud_masters.specs.Lives.{changed_each, is_awake, is_created_in, is_free};
+ghost use Rattle.aud_masters.specs.Lives.{changed_each, closed, completing, created_life, is_awake, is_created_in, is_free};
 ghost use Rattle.aud_masters.specs.Lives.{life_at, life_awaits, life_depends, not_awaited};
 ghost use Rattle.aud_masters.specs.Lives.{plain_life, plain_lives, resumed_by, status_of};
 ghost use Rattle.aud_masters.specs.Lives.{with_failure, with_status, without_master};
@@ -66,7 +66,7 @@ pub(crate) fn count_awake(lives: &[Life]) -> usize
 }
 
 // A task is this far.
-pub(crate) fn set_phase(lives: &mut [Life], n: usize, phase: Phase)
+fn set_phase(lives: &mut [Life], n: usize, phase: Phase)
     ensures { plain_lives lives.new ≡
         changed n (with_status (status_of phase)) (plain_lives lives.old) }
 {
@@ -119,7 +119,10 @@ fn note(lives: &mut [Life], n: usize, failed: bool)
 fn is_free(lives: &[Life], n: usize) -> bool
     ensures { result ≡ is_free n (plain_lives lives.now) }
 {
-    phase_of(lives, n) == Phase::Activating && !is_awaiting(lives, n)
+    match phase_of(lives, n) {
+        Phase::Activating => !is_awaiting(lives, n),
+        Phase::Created | Phase::UnderWay | Phase::Completed | Phase::Terminated => false,
+    }
 }
 
 // Whether a task waits for an activation that goes on.
@@ -138,6 +141,14 @@ pub(crate) fn end_dependents(lives: &mut [Life], master: usize)
     }
 }
 
+// A task ends, and before it what depends on a master (RM 9.3(5)).
+pub(crate) fn close(lives: &mut [Life], n: usize, master: usize)
+    ensures { plain_lives lives.new ≡ closed n master (plain_lives lives.old) }
+{
+    end_dependents(lives, master);
+    set_phase(lives, n, Phase::Terminated);
+}
+
 // What these declarative parts have created and not activated ends with them.
 pub(crate) fn end_created(lives: &mut [Life], parts: &[usize])
     ensures { plain_lives lives.new ≡ without_parts parts.now (plain_lives lives.old) }
@@ -145,6 +156,24 @@ pub(crate) fn end_created(lives: &mut [Life], parts: &[usize])
     for life in lives.iter_mut() {
         life.drop_from(parts);
     }
+}
+
+// So many tasks that depend on the masters `inner` and `outer`, created by a declarative part (RM 9.3).
+pub(crate) fn created(
+    alloc: Global,
+    inner: &[usize],
+    outer: &[usize],
+    part: usize,
+    count: usize,
+) -> Result<Vec<Life>, AllocError>
+    ensures { IfOk result (λ lives. plain_lives lives.items
+        ≡ replicate count (created_life (inner.now ++ outer.now) part)) }
+{
+    let mut lives = Vec::new(alloc);
+    for _ in 0..count {
+        lives.push(Life::created(alloc, inner, outer, part)?)?;
+    }
+    Ok(lives)
 }
 
 // The numbers of the tasks that a declarative part has created and not activated.
@@ -198,4 +227,20 @@ pub(crate) fn end_activation(lives: &mut [Life], n: usize, failed: bool) -> Opti
     }
     set_phase(lives, activator, Phase::UnderWay);
     Some(activator)
+}
+
+// A task's body is completed, while these declarative parts are under way (RM 9.3(5)). It gives the activator, if that goes on now.
+pub(crate) fn complete(
+    lives: &mut [Life],
+    n: usize,
+    parts: &[usize],
+    failed: bool,
+) -> Option<usize>
+    ensures resumed { result ≡ resumed_by failed n (completing n parts.now (plain_lives lives.old)) }
+    ensures after { plain_lives lives.new ≡
+        after_activation failed n (completing n parts.now (plain_lives lives.old)) }
+{
+    set_phase(lives, n, Phase::Completed);
+    end_created(lives, parts);
+    end_activation(lives, n, failed)
 }

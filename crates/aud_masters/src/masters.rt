@@ -71,10 +71,7 @@ impl Masters {
         ensures { Owning self.now (λ tasks.
             (calls : List Call) → result ≡ (facts_in tasks calls).callable task) }
     {
-        !matches!(
-            lives::phase_of(&self.lives, task),
-            Phase::Completed | Phase::Terminated
-        )
+        !lives::phase_of(&self.lives, task).is_over()
     }
 
     /// The attribute Terminated of a task (RM 9.9(3)).
@@ -82,7 +79,7 @@ impl Masters {
         ensures { Owning self.now (λ tasks.
             (calls : List Call) → result ≡ (facts_in tasks calls).terminated task) }
     {
-        lives::phase_of(&self.lives, task) == Phase::Terminated
+        lives::phase_of(&self.lives, task).is_terminated()
     }
 
     /// Whether an activation failed that the task has waited for since it began to activate (RM 9.2(5)).
@@ -115,11 +112,8 @@ impl Masters {
         ensures kept { OnErr result (self.new ≡ self.old) }
     {
         let first = self.lives.len();
-        let mut created = Vec::new(alloc);
         let outer = lives::masters_of(&self.lives, creator);
-        for _ in 0..count {
-            created.push(Life::created(alloc, masters, outer, part)?)?;
-        }
+        let mut created = lives::created(alloc, masters, outer, part, count)?;
         self.lives.append(&mut created)?;
         self.awake = lives::count_awake(&self.lives);
         Ok(first)
@@ -171,9 +165,7 @@ impl Masters {
         ensures lives { Completes failed task parts.now self.old self.new }
         ensures alone { CompletesAlone failed task parts.now result self.old self.new }
     {
-        lives::set_phase(&mut self.lives, task, Phase::Completed);
-        lives::end_created(&mut self.lives, parts);
-        let activator = lives::end_activation(&mut self.lives, task, failed);
+        let activator = lives::complete(&mut self.lives, task, parts, failed);
         self.awake = lives::count_awake(&self.lives);
         activator
     }
@@ -193,8 +185,7 @@ impl Masters {
         ensures lives { Closes task master self.old self.new }
         ensures alone { ClosesAlone task master self.old self.new }
     {
-        lives::end_dependents(&mut self.lives, master);
-        lives::set_phase(&mut self.lives, task, Phase::Terminated);
+        lives::close(&mut self.lives, task, master);
         self.awake = lives::count_awake(&self.lives);
     }
 }

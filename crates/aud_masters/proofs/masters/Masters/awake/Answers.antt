@@ -1,6 +1,5 @@
-use Rattle.std.proofs.Common.{◌≡◌, ◌+◌, ◌<◌, ◌≤◌, length, refl, ap, sym, ◌∙◌, arith}
-use Rattle.aud_masters.proofs.Asked.{awake_in, phase_in, callable_in, terminated_in, failed_in, closable_in}
+use Rattle.aud_masters.proofs.Asked.{awake_in}
 use Rattle.aud_masters.proofs.masters.Masters.awake.Goals as goal
 
 pub returns : goal.returns
-returns c = ?
+returns c = rw (← c.self.view_is) (awake_in c.self.inside.lives.items c.self.inside.awake c.self.invariant)

@@ -1,6 +1,5 @@
-use Rattle.std.proofs.Common.{◌≡◌, ◌+◌, ◌<◌, ◌≤◌, length, refl, ap, sym, ◌∙◌, arith}
-use Rattle.aud_masters.proofs.Asked.{awake_in, phase_in, callable_in, terminated_in, failed_in, closable_in}
+use Rattle.aud_masters.proofs.Asked.{closable_in}
 use Rattle.aud_masters.proofs.masters.Masters.closable.Goals as goal
 
 pub returns : goal.returns
-returns c = ?
+returns c = rw (← c.self.view_is) (closable_in c.args.master c.self.inside.lives.items c.has_dependents.result (rw c.deref.ensures.value at c.has_dependents.ensures))

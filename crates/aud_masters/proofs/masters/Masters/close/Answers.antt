@@ -1,8 +1,11 @@
-use Rattle.std.proofs.Common.{◌≡◌, ◌+◌, ◌<◌, ◌≤◌, length, refl, ap, sym, ◌∙◌, arith}
-use Rattle.aud_masters.proofs.Ending.{leaves, leaves_alone, closes, closes_alone, raises_in_part, raises_alone}
-use Rattle.aud_masters.proofs.Activation.{not_activated, activates, ends_activation, ends_alone, completes, completes_alone}
-use Rattle.aud_masters.proofs.Creation.{creates}
+use Rattle.std.proofs.Common.{◌∙◌, [], ◌∷◌, ap}
+use Rattle.aud_masters.specs.Lives.{closed}
+use Rattle.aud_masters.proofs.Plain.{written}
+use Rattle.aud_masters.proofs.Ending.{closes, closes_alone}
 use Rattle.aud_masters.proofs.masters.Masters.close.Goals as goal
 
 pub returns : goal.returns
-returns c = ?
+returns c =
+    let v = c.self.inside.lives in
+    let told = written (closed c.args.task c.args.master) v c.deref_mut.result.now c.close.new.lives c.args.self.now (c.close.auto.lives ∙ c.deref_mut.ensures.len) c.close.ensures c.deref_mut.ensures.value c.self.view_is in
+    record { lives = closes c.args.task c.args.master c.args.self.now _ told; alone = closes_alone c.args.task c.args.master c.args.self.now _ c.requires told }

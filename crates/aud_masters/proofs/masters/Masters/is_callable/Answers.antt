@@ -1,6 +1,7 @@
-use Rattle.std.proofs.Common.{◌≡◌, ◌+◌, ◌<◌, ◌≤◌, length, refl, ap, sym, ◌∙◌, arith}
-use Rattle.aud_masters.proofs.Asked.{awake_in, phase_in, callable_in, terminated_in, failed_in, closable_in}
+use Rattle.std.proofs.Common.{ap, ◌∙◌, not}
+use Rattle.aud_meaning.specs.Parts.{is_over, is_terminated}
+use Rattle.aud_masters.proofs.Asked.{callable_in}
 use Rattle.aud_masters.proofs.masters.Masters.is_callable.Goals as goal
 
 pub returns : goal.returns
-returns c = ?
+returns c = rw (← c.self.view_is) (callable_in c.args.task c.self.inside.lives.items (not c.is_over.result) (ap not (c.is_over.ensures ∙ ap is_over (rw c.deref.ensures.value at c.phase_of.ensures))))

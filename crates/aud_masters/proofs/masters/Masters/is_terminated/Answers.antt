@@ -1,6 +1,7 @@
-use Rattle.std.proofs.Common.{◌≡◌, ◌+◌, ◌<◌, ◌≤◌, length, refl, ap, sym, ◌∙◌, arith}
-use Rattle.aud_masters.proofs.Asked.{awake_in, phase_in, callable_in, terminated_in, failed_in, closable_in}
+use Rattle.std.proofs.Common.{ap, ◌∙◌, not}
+use Rattle.aud_meaning.specs.Parts.{is_over, is_terminated}
+use Rattle.aud_masters.proofs.Asked.{terminated_in}
 use Rattle.aud_masters.proofs.masters.Masters.is_terminated.Goals as goal
 
 pub returns : goal.returns
-returns c = ?
+returns c = rw (← c.self.view_is) (terminated_in c.args.task c.self.inside.lives.items c.is_terminated.result (c.is_terminated.ensures ∙ ap is_terminated (rw c.deref.ensures.value at c.phase_of.ensures)))
