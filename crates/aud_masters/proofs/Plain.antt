@@ -1,8 +1,8 @@
 -- Lives in memory, and one of them changed.
-use Rattle.std.proofs.Common.{◌≡◌, ◌+◌, ◌<◌, ◌≤◌, ℕ, zero, suc, List, [], ◌∷◌, ◌++◌, length, take, drop, map, get_or, set, Bool, true, false, not, ◌||◌, nat_eq, if◌then◌else◌, replicate, add-one, refl, ap, sym, ◌∙◌, arith}
+use Rattle.std.proofs.Common.{◌≡◌, ◌+◌, ◌<◌, ◌≤◌, ℕ, zero, suc, List, [], ◌∷◌, ◌++◌, length, take, drop, map, get_or, set, Bool, true, false, not, ◌||◌, nat_eq, if◌then◌else◌, replicate, add-one, append_assoc, refl, ap, sym, ◌∙◌, arith}
 use Rattle.std.proofs.Common.{Vec, Global}
 use Rattle.std.specs.Vec.{with_items}
-use Rattle.std.proofs.lemmas.List.{replicate_more, with_items_is}
+use Rattle.std.proofs.lemmas.List.{at_drop_more, replicate_more, with_items_is}
 use Rattle.std.proofs.lemmas.Cmp.{nat_eq_equiv}
 use Rattle.std.specs.List.{list_any}
 use Rattle.aud_meaning.specs.Parts.{any, changed, contains, nobody, numbers}
@@ -93,6 +93,20 @@ changed_all f (suc i) (o ∷ os) (z ∷ zs) all before =
 pub numbers_plain : (p : Life → Bool) (k : ℕ) (xs : List kept.Life) → numbers p k (plain_lives xs) ≡ numbers (λ (x : kept.Life). p (plain_life x)) k xs
 numbers_plain p k [] = refl
 numbers_plain p k (x ∷ xs) = ap (λ ns. if p (plain_life x) then k ∷ ns else ns) (numbers_plain p (suc k) xs)
+
+-- one more is looked at
+pub found_more : (p : kept.Life → Bool) (found : List ℕ) (xs : List kept.Life) (n : ℕ) (x : kept.Life) (b : Bool) → n < length xs → b ≡ p (get_or xs n x) → (if b then found ++ n ∷ [] else found) ++ numbers p (n + 1) (drop (n + 1) xs) ≡ found ++ numbers p n (drop n xs)
+found_more p found xs n x b within is =
+    by b
+    ∙ ap (λ d. found ++ (if d then n ∷ numbers p (suc n) rest else numbers p (suc n) rest)) is
+    ∙ sym (at_drop_more (λ ys. found ++ numbers p n ys) xs n x within)
+  where
+    rest : List kept.Life
+    rest = drop (n + 1) xs
+
+    by : (d : Bool) → (if d then found ++ n ∷ [] else found) ++ numbers p (n + 1) rest ≡ found ++ (if d then n ∷ numbers p (suc n) rest else numbers p (suc n) rest)
+    by true = append_assoc found (n ∷ []) (numbers p (n + 1) rest) ∙ ap (λ k. found ++ (n ∷ numbers p k rest)) (add-one n)
+    by false = ap (λ k. found ++ numbers p k rest) (add-one n)
 
 pub replicated : (l : Life) (xs : List kept.Life) (x : kept.Life) (k : ℕ) → plain_lives xs ≡ replicate k l → plain_life x ≡ l → plain_lives (xs ++ x ∷ []) ≡ replicate (k + 1) l
 replicated l xs x k before is =

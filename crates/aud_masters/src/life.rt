@@ -55,7 +55,6 @@ impl Life {
     }
 
     /// Whether it depends on the master and isn't terminated.
-    #[tactic(auto, using(crate::proofs::Plain::contains_same))]
     pub(crate) fn depends_on(&self, master: usize) -> bool
         ensures { result ≡ life_depends master (plain_life self.now) }
     {
