@@ -1,5 +1,5 @@
 -- Activation, its end, and the end of a body, which ends it too.
-use Rattle.std.proofs.Common.{◌≡◌, ◌≢◌, ℕ, zero, suc, pos, List, [], ◌∷◌, map, Option, Some, None, Bool, true, false, not, ◌&&◌, ◌||◌, nat_eq, if◌then◌else◌, slice_get, refl, ap, sym, ◌∙◌}
+use Rattle.std.proofs.Common.{◌≡◌, ◌≢◌, ℕ, zero, suc, pos, List, [], ◌∷◌, Option, Some, None, Bool, true, false, not, ◌&&◌, ◌||◌, nat_eq, if◌then◌else◌, slice_get, refl, ap, sym, ◌∙◌}
 use Rattle.std.specs.Option.{is_some}
 use Rattle.aud_text.specs.declared.place.Pos.{Pos}
 use Rattle.aud_text.specs.declared.raise.Raise.TheVariants.{Tasking}
@@ -8,13 +8,13 @@ use Rattle.aud_typed.specs.declared.program.Exception.TheVariants.{Predefined}
 use Rattle.aud_typed.specs.Tree.{Plan}
 use Rattle.aud_meaning.specs.declared.state.Status.{Status}
 use Rattle.aud_meaning.specs.declared.state.Status.TheVariants as status
-use Rattle.aud_meaning.specs.Configuration.{Opened, Own, TaskAt, All, Acting, for_body}
+use Rattle.aud_meaning.specs.Configuration.{Opened, Own, TaskAt, All, for_body}
 use Rattle.aud_meaning.specs.Control.{Moved, takes_part}
 use Rattle.aud_meaning.specs.Effects.{opens, pends}
-use Rattle.aud_meaning.specs.Parts.{alone, any, blocks, changed, is_created, is_terminated, no_waits, numbers, on_own, on_task, own_of, owns, runs, unit_of}
+use Rattle.aud_meaning.specs.Parts.{any, blocks, changed, is_created, is_terminated, no_waits, numbers, on_own, on_task, own_of, owns, runs, unit_of}
 use Rattle.aud_meaning.specs.Tasks as effect
-use Rattle.aud_masters.specs.Lives.{Life, activating, after_activation, awaits, begun_by, blocked, changed_each, completing, ended, ended_where, going_on, is_activating, is_created_in, is_free, life_at, life_awaits, life_of, lives_in, lives_of, not_awaited, noted, released, resumed, resumed_by, with_failure, with_status, without_parts}
-use Rattle.aud_masters.specs.Changes.{Activates, AreNotActivated, Barriers, BeforeCalls, Completes, CompletesAlone, EndsActivation, EndsAlone, IsIn, all_with_lives, completed_by, emptied_where, gone_on, taken, with_life, with_lives}
+use Rattle.aud_masters.specs.Lives.{Life, activating, after_activation, begun_by, blocked, changed_each, completing, going_on, is_activating, is_created_in, is_free, life_at, life_awaits, life_of, lives_in, lives_of, not_awaited, noted, resumed, resumed_by, with_failure, with_status, without_parts}
+use Rattle.aud_masters.specs.Changes.{Activates, AreNotActivated, Barriers, Completes, CompletesAlone, EndsActivation, EndsAlone, IsIn, all_with_lives, completed_by, emptied_where, gone_on, taken, with_life, with_lives}
 use Rattle.aud_masters.proofs.Lists.{any-map, numbers_changed, numbers_same}
 use Rattle.aud_masters.proofs.Tasks.{at_task, emptied_task, lives_alone, lives_changed, lives_kept, lives_swept, one_swept, own_lives, refuses_none, same_swept, swept, sweeps}
 use Rattle.aud_masters.proofs.Ending.{created_in_live, not_activated_same}

@@ -1,10 +1,9 @@
 -- What is asked of all tasks, by their lives in memory.
-use Rattle.std.proofs.Common.{◌≡◌, ◌+◌, ℕ, zero, suc, List, [], ◌∷◌, map, Bool, true, false, not, ◌&&◌, ◌||◌, if◌then◌else◌, cond, count_by, refl, ap, sym, ◌∙◌}
+use Rattle.std.proofs.Common.{◌≡◌, ◌+◌, ℕ, zero, suc, List, [], ◌∷◌, Bool, false, not, ◌&&◌, ◌||◌, cond, count_by, refl, ap, sym, ◌∙◌}
 use Rattle.std.proofs.Math.Bool.{and-true}
 use Rattle.std.proofs.lemmas.List.Folds.{fold-map}
 use Rattle.std.specs.List.{list_any}
-use Rattle.aud_meaning.specs.declared.state.Status.{Status}
-use Rattle.aud_meaning.specs.Configuration.{Own, Call, TaskAt, All}
+use Rattle.aud_meaning.specs.Configuration.{Own, Call, TaskAt}
 use Rattle.aud_meaning.specs.Control.{Seen}
 use Rattle.aud_meaning.specs.Parts.{any, depends, facts_in, is_accepting, is_over, is_terminated, may_terminate, owns}
 use Rattle.aud_masters.specs.declared.phase.Phase.{Phase}

@@ -1,18 +1,17 @@
 -- The beginning of a program, tasks that are declared, and what is asked of all.
-use Rattle.std.proofs.Common.{◌≡◌, ◌+◌, ℕ, zero, suc, List, [], ◌∷◌, ◌++◌, length, map, filter, replicate, Option, Some, None, Bool, true, false, not, ◌&&◌, ◌||◌, nat_eq, nat_le, if◌then◌else◌, refl, ap, sym, ◌∙◌}
+use Rattle.std.proofs.Common.{◌≡◌, ◌+◌, ℕ, zero, suc, List, [], ◌∷◌, ◌++◌, length, replicate, ◌&&◌, nat_le, if◌then◌else◌, refl, ap, sym, ◌∙◌}
 use Rattle.aud_text.specs.declared.place.Pos.{Pos}
 use Rattle.aud_text.specs.declared.raise.Raise.TheVariants.{Program, Storage}
 use Rattle.aud_text.specs.declared.limits.Limits.{Limits}
 use Rattle.aud_text.specs.declared.limits.TheConstants.{ELEMENTS}
 use Rattle.aud_typed.specs.Tree.{Plan, Tasks}
-use Rattle.aud_meaning.specs.declared.state.Status.TheVariants as status
-use Rattle.aud_meaning.specs.Configuration.{Opened, Own, TaskAt, All, Acting}
+use Rattle.aud_meaning.specs.Configuration.{Own, TaskAt, All, Acting}
 use Rattle.aud_meaning.specs.Control.{Moved, takes_part}
 use Rattle.aud_meaning.specs.Effects.{declares, innermost}
-use Rattle.aud_meaning.specs.Parts.{alone, in_action, masters_under_way, on_control, own_of, owns}
+use Rattle.aud_meaning.specs.Parts.{alone, masters_under_way, on_control, own_of, owns}
 use Rattle.aud_meaning.specs.Tasks as effect
 use Rattle.aud_masters.specs.Lives.{Life, created_life, life_at, life_of, lives_in, lives_of}
-use Rattle.aud_masters.specs.Changes.{Barriers, Creates, IsDeclaring, MayDeclare}
+use Rattle.aud_masters.specs.Changes.{Barriers, Creates, MayDeclare}
 use Rattle.aud_masters.proofs.Tasks.{at_task, lives_alone, lives_kept}
 
 lives-append : (ts us : List (TaskAt Moved)) → lives_of (owns (ts ++ us)) ≡ lives_of (owns ts) ++ lives_of (owns us)

@@ -1,21 +1,19 @@
 -- Masters that are left, declarative parts that raise, and bodies that end.
-use Rattle.std.proofs.Common.{◌≡◌, ◌≢◌, ℕ, zero, suc, List, [], ◌∷◌, map, Option, Some, None, Bool, true, false, not, ◌&&◌, ◌||◌, nat_eq, if◌then◌else◌, slice_get, refl, ap, sym, ◌∙◌}
+use Rattle.std.proofs.Common.{◌≡◌, ◌≢◌, ℕ, zero, suc, List, [], ◌∷◌, Bool, true, false, not, ◌&&◌, ◌||◌, nat_eq, if◌then◌else◌, refl, ap, sym, ◌∙◌}
 use Rattle.std.proofs.Math.Bool.{or-false}
 use Rattle.aud_text.specs.declared.place.Pos.{Pos}
 use Rattle.aud_text.specs.declared.raise.Raise.{Raise}
 use Rattle.aud_typed.specs.Tree.{Plan}
 use Rattle.aud_meaning.specs.declared.state.Status.{Status}
 use Rattle.aud_meaning.specs.declared.state.Status.TheVariants as status
-use Rattle.aud_meaning.specs.Configuration.{Opened, Own, TaskAt, All}
+use Rattle.aud_meaning.specs.Configuration.{TaskAt, All}
 use Rattle.aud_meaning.specs.Control.{Moved}
-use Rattle.aud_meaning.specs.Effects.{innermost}
-use Rattle.aud_meaning.specs.Parts.{any, body_master, changed, depends, is_created, is_terminated, numbers, on_task, own_of, owns, raised_at}
+use Rattle.aud_meaning.specs.Parts.{changed, depends, is_created, is_terminated, owns, raised_at}
 use Rattle.aud_meaning.specs.Tasks as effect
-use Rattle.aud_masters.specs.Lives.{Life, closed, ended, ended_where, is_created_in, life_at, life_depends, life_of, lives_in, lives_of, with_status, without_master, without_parts}
+use Rattle.aud_masters.specs.Lives.{Life, closed, ended, is_created_in, life_at, life_depends, life_of, lives_in, lives_of, without_master, without_parts}
 use Rattle.aud_masters.specs.Changes.{Barriers, BeforeCalls, IsBodyOf, InPart, Leaves, LeavesAlone, Closes, ClosesAlone, RaisesInPart, RaisesAlone, all_with_lives, emptied_where, with_life, with_lives}
-use Rattle.aud_masters.proofs.Lists.{numbers_same}
 use Rattle.aud_masters.proofs.Plain.{eq_sym}
-use Rattle.aud_masters.proofs.Tasks.{at_task, emptied_task, lives_changed, lives_kept, lives_swept, one_ends, one_swept, own_life, own_lives, same_swept, swept, sweeps}
+use Rattle.aud_masters.proofs.Tasks.{emptied_task, lives_changed, lives_kept, lives_swept, one_ends, one_swept, same_swept, swept, sweeps}
 
 -- What ends is not terminated before.
 

@@ -1,5 +1,5 @@
 -- Numbers of those that pass, and what is changed of them.
-use Rattle.std.proofs.Common.{◌≡◌, ℕ, zero, suc, List, [], ◌∷◌, ◌++◌, map, Bool, true, false, if◌then◌else◌, ◌||◌, Option, Some, slice_get, refl, ap, sym, ◌∙◌}
+use Rattle.std.proofs.Common.{◌≡◌, ℕ, zero, suc, List, [], ◌∷◌, map, Bool, true, false, if◌then◌else◌, ◌||◌, Some, slice_get, refl, ap, ◌∙◌}
 use Rattle.aud_meaning.specs.Parts.{any, changed, numbers}
 use Rattle.aud_masters.specs.Lives.{changed_each}
 

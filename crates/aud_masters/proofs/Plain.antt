@@ -1,5 +1,5 @@
 -- Lives in memory, and one of them changed.
-use Rattle.std.proofs.Common.{◌≡◌, ◌+◌, ◌<◌, ◌≤◌, ℕ, zero, suc, List, [], ◌∷◌, ◌++◌, length, take, drop, map, get_or, set, Bool, true, false, not, ◌||◌, nat_eq, if◌then◌else◌, replicate, add-one, append_assoc, refl, ap, sym, ◌∙◌, arith}
+use Rattle.std.proofs.Common.{◌≡◌, ◌+◌, ◌<◌, ◌≤◌, ℕ, zero, suc, List, [], ◌∷◌, ◌++◌, length, drop, map, get_or, set, Bool, true, false, ◌||◌, nat_eq, if◌then◌else◌, replicate, add-one, append_assoc, refl, ap, sym, ◌∙◌, arith}
 use Rattle.std.proofs.Common.{Vec, Global}
 use Rattle.std.specs.Vec.{with_items}
 use Rattle.std.proofs.lemmas.List.{at_drop_more, replicate_more, with_items_is}
@@ -7,7 +7,7 @@ use Rattle.std.proofs.lemmas.Cmp.{nat_eq_equiv}
 use Rattle.std.specs.List.{list_any}
 use Rattle.aud_meaning.specs.Parts.{any, changed, contains, nobody, numbers}
 use Rattle.aud_masters.specs.declared.life.Life as kept
-use Rattle.aud_masters.specs.Lives.{Life, life_at, life_of, plain_life, plain_lives, changed_each}
+use Rattle.aud_masters.specs.Lives.{Life, life_at, life_of, plain_life, plain_lives}
 
 -- what is asked of the life of a number
 pub plain_at : (xs : List kept.Life) (n : ℕ) (x : kept.Life) → n < length xs → x ≡ get_or xs n x → life_at n (plain_lives xs) ≡ plain_life x

@@ -1,20 +1,14 @@
 -- What is done to tasks, and to their lives.
-use Rattle.std.proofs.Common.{◌≡◌, ◌<◌, ℕ, zero, suc, ℤ, List, [], ◌∷◌, ◌++◌, length, map, filter, replicate, Option, Some, None, Result, Bool, true, false, not, ◌&&◌, ◌||◌, nat_eq, nat_le, if◌then◌else◌, slice_get, slice_index_or, refl, ap, sym, ◌∙◌, append_assoc}
-use Rattle.std.specs.Option.{is_some}
-use Rattle.aud_text.specs.declared.place.Pos.{Pos}
-use Rattle.aud_text.specs.declared.raise.Raise.{Raise}
+use Rattle.std.proofs.Common.{◌≡◌, ℕ, zero, suc, List, [], ◌∷◌, map, Option, Some, None, Bool, true, false, not, ◌&&◌, if◌then◌else◌, slice_get, slice_index_or, refl, ap, sym, ◌∙◌}
 use Rattle.aud_text.specs.declared.raise.Raise.TheVariants.{Tasking}
-use Rattle.aud_text.specs.declared.limits.Limits.{Limits}
-use Rattle.aud_typed.specs.declared.program.Exception.{Exception}
-use Rattle.aud_typed.specs.Tree.{Plan, Tasks}
-use Rattle.aud_meaning.specs.declared.state.Status.{Status}
+use Rattle.aud_typed.specs.Tree.{Plan}
 use Rattle.aud_meaning.specs.declared.state.Status.TheVariants as status
-use Rattle.aud_meaning.specs.Configuration.{Opened, Own, Call, TaskAt, Shared, All, Acting}
+use Rattle.aud_meaning.specs.Configuration.{Own, Call, TaskAt, All, Acting}
 use Rattle.aud_meaning.specs.Control.{Moved}
-use Rattle.aud_meaning.specs.Parts.{acting, alone, alone_by, any, calls_on_task, changed, is_terminated, masters_under_way, no_waits, nobody, numbers, on_own, on_task, own_of, owns}
+use Rattle.aud_meaning.specs.Parts.{acting, alone, alone_by, calls_on_task, changed, is_terminated, no_waits, nobody, numbers, on_task, own_of, owns}
 use Rattle.aud_meaning.specs.Tasks as effect
 use Rattle.aud_masters.specs.Lives.{Life, changed_each, ended, ended_where, life_at, life_of, lives_in, lives_of}
-use Rattle.aud_masters.specs.Changes.{Barriers, all_with_lives, emptied_where, with_life, with_lives}
+use Rattle.aud_masters.specs.Changes.{Barriers, all_with_lives, emptied_where, with_life}
 use Rattle.aud_masters.proofs.Lists.{changed_where, each_passing, numbers_same}
 
 -- What lives of what is asked.

@@ -1,14 +1,12 @@
 -- What is known of every configuration whose tasks live so, and what the steps that concern several tasks do to it.
-use Rattle.std.specs.Prelude.{◌≡◌, ◌≢◌, ◌+◌, ℕ, List, [], ◌∷◌, length, map, filter, Option, Some, None, Result, Bool, true, false, not, ◌&&◌, nat_eq, nat_le, is_some, if◌then◌else◌, slice_index_or}
+use Rattle.std.specs.Prelude.{◌≡◌, ◌+◌, ℕ, List, [], ◌∷◌, length, map, filter, Option, Some, None, Result, Bool, true, false, not, ◌&&◌, nat_eq, nat_le, is_some, slice_index_or}
 use Rattle.aud_text.specs.declared.place.Pos.{Pos}
 use Rattle.aud_text.specs.declared.raise.Raise.{Raise}
 use Rattle.aud_text.specs.declared.limits.Limits.{Limits}
 use Rattle.aud_text.specs.declared.limits.TheConstants.{ELEMENTS}
 use Rattle.aud_typed.specs.declared.program.Exception.{Exception}
 use Rattle.aud_typed.specs.Tree.{Plan, Tasks}
-use Rattle.aud_meaning.specs.declared.state.Status.{Status}
-use Rattle.aud_meaning.specs.declared.state.Status.TheVariants as status
-use Rattle.aud_meaning.specs.Configuration.{Opened, Own, Call, TaskAt, All}
+use Rattle.aud_meaning.specs.Configuration.{Opened, Own, TaskAt, All}
 use Rattle.aud_meaning.specs.Evaluation.{Sight}
 use Rattle.aud_meaning.specs.Effects.{innermost}
 use Rattle.aud_meaning.specs.Control.{Moved, Seen}

@@ -230,12 +230,7 @@ pub(crate) fn end_activation(lives: &mut [Life], n: usize, failed: bool) -> Opti
 }
 
 // A task's body is completed, while these declarative parts are under way (RM 9.3(5)). It gives the activator, if that goes on now.
-pub(crate) fn complete(
-    lives: &mut [Life],
-    n: usize,
-    parts: &[usize],
-    failed: bool,
-) -> Option<usize>
+pub(crate) fn complete(lives: &mut [Life], n: usize, parts: &[usize], failed: bool) -> Option<usize>
     ensures resumed { result ≡ resumed_by failed n (completing n parts.now (plain_lives lives.old)) }
     ensures after { plain_lives lives.new ≡
         after_activation failed n (completing n parts.now (plain_lives lives.old)) }

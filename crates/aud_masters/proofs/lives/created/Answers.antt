@@ -1,4 +1,4 @@
-use Rattle.std.proofs.Common.{◌≡◌, ℕ, ◌++◌, replicate, ap, ◌∙◌, arith}
+use Rattle.std.proofs.Common.{◌≡◌, ◌++◌, replicate, ap, ◌∙◌, arith}
 use Rattle.aud_masters.specs.Lives.{created_life, plain_lives}
 use Rattle.aud_masters.proofs.Plain.{replicated}
 use Rattle.aud_masters.proofs.lives.created.Goals as goal

@@ -1,5 +1,5 @@
-use Rattle.std.proofs.Common.{◌≡◌, ℕ, Bool, true, false, List, [], ◌∷◌, ◌++◌, ◌+◌, drop, get_or, if◌then◌else◌, refl, ap, sym, ◌∙◌, append_assoc, append-nil, arith}
-use Rattle.std.proofs.lemmas.List.{at_drop_all, at_drop_more}
+use Rattle.std.proofs.Common.{◌≡◌, Bool, true, false, [], ◌∷◌, ◌++◌, ◌+◌, drop, if◌then◌else◌, ap, sym, ◌∙◌, append-nil, arith}
+use Rattle.std.proofs.lemmas.List.{at_drop_all}
 use Rattle.aud_meaning.specs.Parts.{numbers}
 use Rattle.aud_masters.specs.declared.life.Life as kept
 use Rattle.aud_masters.specs.Lives.{is_created_in, plain_life}

@@ -1,4 +1,4 @@
-use Rattle.aud_masters.specs.Lives.{ended_where, is_created_in, life_depends}
+use Rattle.aud_masters.specs.Lives.{ended_where, is_created_in}
 use Rattle.aud_masters.proofs.Plain.{ChangedUpTo}
 use Rattle.aud_masters.proofs.lives.end_created.Given as goal
 

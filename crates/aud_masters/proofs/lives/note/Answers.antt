@@ -1,4 +1,4 @@
-use Rattle.std.proofs.Common.{true, get_or, refl, ap, sym, ◌∙◌, ◌||◌, arith}
+use Rattle.std.proofs.Common.{true, get_or, ap, sym, ◌∙◌, ◌||◌, arith}
 use Rattle.std.proofs.Math.Bool.{or-true, or-false}
 use Rattle.aud_masters.specs.Lives.{plain_life, with_failure}
 use Rattle.aud_masters.proofs.Plain.{changed_at, changed_same, unchanged_past}

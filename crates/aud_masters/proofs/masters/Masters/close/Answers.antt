@@ -1,4 +1,4 @@
-use Rattle.std.proofs.Common.{◌∙◌, [], ◌∷◌, ap}
+use Rattle.std.proofs.Common.{◌∙◌}
 use Rattle.aud_masters.specs.Lives.{closed}
 use Rattle.aud_masters.proofs.Plain.{written}
 use Rattle.aud_masters.proofs.Ending.{closes, closes_alone}

@@ -1,4 +1,4 @@
-use Rattle.std.proofs.Common.{◌∙◌, [], ◌∷◌, ap}
+use Rattle.std.proofs.Common.{◌∙◌, ap}
 use Rattle.aud_masters.specs.Lives.{after_activation, completing, plain_lives, resumed_by}
 use Rattle.aud_masters.proofs.Plain.{written}
 use Rattle.aud_masters.proofs.Activation.{completes, completes_alone}

@@ -1,5 +1,5 @@
-use Rattle.std.proofs.Common.{ap, ◌∙◌, not}
-use Rattle.aud_meaning.specs.Parts.{is_over, is_terminated}
+use Rattle.std.proofs.Common.{ap, ◌∙◌}
+use Rattle.aud_meaning.specs.Parts.{is_terminated}
 use Rattle.aud_masters.proofs.Asked.{terminated_in}
 use Rattle.aud_masters.proofs.masters.Masters.is_terminated.Goals as goal
 

@@ -1,4 +1,4 @@
-use Rattle.std.proofs.Common.{◌∙◌, [], ◌∷◌, ap}
+use Rattle.std.proofs.Common.{◌∙◌}
 use Rattle.aud_masters.specs.Lives.{without_master}
 use Rattle.aud_masters.proofs.Plain.{written}
 use Rattle.aud_masters.proofs.Ending.{leaves, leaves_alone}
