@@ -14,7 +14,7 @@ use Rattle.aud_meaning.specs.Effects.{opens, pends}
 use Rattle.aud_meaning.specs.Parts.{any, blocks, changed, is_created, is_terminated, no_waits, numbers, on_own, on_task, own_of, owns, runs, unit_of}
 use Rattle.aud_meaning.specs.Tasks as effect
 use Rattle.aud_masters.specs.Lives.{Life, activating, after_activation, begun_by, blocked, changed_each, completing, going_on, is_activating, is_created_in, is_free, life_at, life_awaits, life_of, lives_in, lives_of, not_awaited, noted, resumed, resumed_by, with_failure, with_status, without_parts}
-use Rattle.aud_masters.specs.Changes.{Activates, AreNotActivated, Barriers, Completes, CompletesAlone, EndsActivation, EndsAlone, IsIn, all_with_lives, completed_by, emptied_where, gone_on, taken, with_life, with_lives}
+use Rattle.aud_masters.specs.Changes.{Activates, AreNotActivated, Barriers, Completes, CompletesTo, EndsActivation, EndsActivationTo, IsIn, all_with_lives, completed_by, emptied_where, gone_on, taken, with_life, with_lives}
 use Rattle.aud_masters.proofs.Lists.{any-map, numbers_changed, numbers_same}
 use Rattle.aud_masters.proofs.Tasks.{at_task, emptied_task, lives_alone, lives_changed, lives_kept, lives_swept, one_swept, own_lives, refuses_none, same_swept, swept, sweeps}
 use Rattle.aud_masters.proofs.Ending.{created_in_live, not_activated_same}
@@ -233,8 +233,8 @@ module _ (plan : Plan) (barriers : Barriers) where
 with_own : (c : All Moved) → with_lives (lives_in c) c ≡ c
 with_own c = ap (λ ts. record c { tasks = ts }) (own_lives c.tasks)
 
-pub ends_alone : (failed : Bool) (n : ℕ) (activator : Option ℕ) (old new : List Life) → activator ≡ resumed_by failed n old → new ≡ after_activation failed n old → EndsAlone failed n activator old new
-ends_alone failed n activator old new who is plan barriers c anywhere seen =
+pub ends_to : (failed : Bool) (n : ℕ) (activator : Option ℕ) (old new : List Life) → activator ≡ resumed_by failed n old → new ≡ after_activation failed n old → EndsActivationTo failed n activator old new
+ends_to failed n activator old new who is plan barriers c anywhere seen =
     ap (effect.activation_ended plan barriers failed n) (sym (with_own c))
     ∙ activation_ended_with plan barriers failed n (lives_in c) c (ap lives_in (with_own c))
     ∙ ap (λ ls. gone_on (resumed_by failed n ls) plan barriers (with_lives (after_activation failed n ls) c)) seen
@@ -300,8 +300,8 @@ module _ (raised : Option Exception) (n : ℕ) (parts : List ℕ) (plan : Plan) 
     abbrev ended_body : All Moved
     ended_body = record completed { tasks = swept (is_created_in parts) completed.tasks }
 
-    pub completes_to : effect.completes plan barriers raised n c ≡ effect.activation_ended plan barriers (is_some raised) n ended_body
-    completes_to =
+    pub body_ends : effect.completes plan barriers raised n c ≡ effect.activation_ended plan barriers (is_some raised) n ended_body
+    body_ends =
         ap (λ d. effect.activation_ended plan barriers (is_some raised) n (effect.terminate_all plan barriers (numbers (effect.created_in plan barriers opened) 0 c.tasks) d)) none_refused
         ∙ ap (λ ns. effect.activation_ended plan barriers (is_some raised) n (effect.terminate_all plan barriers ns completed)) same_numbers
         ∙ ap (effect.activation_ended plan barriers (is_some raised) n) (sweeps (is_created_in parts) plan barriers passes completed within.0.calls (λ t. refl))
@@ -321,19 +321,19 @@ completed_same raised parts (suc n) (t ∷ ts) =
 pub completes : (failed : Bool) (n : ℕ) (parts : List ℕ) (old new : List Life) → (life_at n old).status ≢ status.Created → new ≡ after_activation failed n (completing n parts old) → Completes failed n parts old new
 completes failed n parts old new started is raised by plan barriers c within seen =
     let here = ap (λ ls. is_created (life_at n ls).status) seen ∙ not_created (life_at n old).status started in
-    ap lives_in (completes_to raised n parts plan barriers c within here)
+    ap lives_in (body_ends raised n parts plan barriers c within here)
     ∙ lives_ended plan barriers (is_some raised) n (ended_body raised n parts plan barriers c within here)
     ∙ ap (after_activation (is_some raised) n) (lives_ended_body raised n parts plan barriers c within here ∙ ap (completing n parts) seen)
     ∙ ap (λ b. after_activation b n (completing n parts old)) by
     ∙ sym is
 
-pub completes_alone : (failed : Bool) (n : ℕ) (parts : List ℕ) (activator : Option ℕ) (old new : List Life) → (life_at n old).status ≢ status.Created → activator ≡ resumed_by failed n (completing n parts old) → new ≡ after_activation failed n (completing n parts old) → CompletesAlone failed n parts activator old new
-completes_alone failed n parts activator old new started who is raised by plan barriers c within seen =
+pub completes_to : (failed : Bool) (n : ℕ) (parts : List ℕ) (activator : Option ℕ) (old new : List Life) → (life_at n old).status ≢ status.Created → activator ≡ resumed_by failed n (completing n parts old) → new ≡ after_activation failed n (completing n parts old) → CompletesTo failed n parts activator old new
+completes_to failed n parts activator old new started who is raised by plan barriers c within seen =
     let here = ap (λ ls. is_created (life_at n ls).status) seen ∙ not_created (life_at n old).status started in
     let d : All Moved = on_own n (completed_by raised) c in
     let lives = completing n parts (lives_in c) in
     let with : with_lives lives d ≡ ended_body raised n parts plan barriers c within here = ap (λ ts. record c { tasks = ts }) (completed_same raised parts n c.tasks) in
-    completes_to raised n parts plan barriers c within here
+    body_ends raised n parts plan barriers c within here
     ∙ ap (effect.activation_ended plan barriers (is_some raised) n) (sym with)
     ∙ activation_ended_with plan barriers (is_some raised) n lives d (ap lives_in with ∙ lives_ended_body raised n parts plan barriers c within here)
     ∙ ap (λ b. gone_on (resumed_by b n lives) plan barriers (with_lives (after_activation b n lives) d)) by

@@ -1,8 +1,11 @@
 -- What is asked of all tasks, by their lives in memory.
-use Rattle.std.proofs.Common.{◌≡◌, ◌+◌, ℕ, zero, suc, List, [], ◌∷◌, Bool, false, not, ◌&&◌, ◌||◌, cond, count_by, refl, ap, sym, ◌∙◌}
+use Rattle.std.proofs.Common.{◌≡◌, ◌+◌, ℕ, zero, suc, List, [], ◌∷◌, None, Bool, false, not, ◌&&◌, ◌||◌, cond, count_by, refl, ap, sym, ◌∙◌}
 use Rattle.std.proofs.Math.Bool.{and-true}
 use Rattle.std.proofs.lemmas.List.Folds.{fold-map}
 use Rattle.std.specs.List.{list_any}
+use Rattle.aud_meaning.specs.declared.state.Status.{Status}
+use Rattle.aud_meaning.specs.declared.state.Status.TheVariants as status
+use Rattle.aud_meaning.specs.Run.{turn_by, turn_moves, under_way, usual}
 use Rattle.aud_meaning.specs.Configuration.{Own, Call, TaskAt}
 use Rattle.aud_meaning.specs.Control.{Seen}
 use Rattle.aud_meaning.specs.Parts.{any, depends, facts_in, is_accepting, is_over, is_terminated, may_terminate, owns}
@@ -10,7 +13,7 @@ use Rattle.aud_masters.specs.declared.phase.Phase.{Phase}
 use Rattle.aud_masters.specs.declared.phase.Phase.TheVariants.{Created, Activating, UnderWay, Completed, Terminated}
 use Rattle.aud_masters.specs.declared.life.Life as kept
 use Rattle.aud_masters.specs.Lives.{Life, is_awake, life_at, life_depends, life_of, lives_of, plain_life, plain_lives, status_of}
-use Rattle.aud_masters.specs.Changes.{own_in, Owning, IsClosable}
+use Rattle.aud_masters.specs.Changes.{own_in, AsleepLaw, Owning, IsClosable}
 use Rattle.aud_masters.proofs.Plain.{any_plain}
 use Rattle.aud_masters.proofs.Tasks.{at_owns}
 
@@ -84,3 +87,24 @@ all_block master (t ∷ ts) (x ∷ xs) seen =
 pub closable_in : (master : ℕ) (xs : List kept.Life) (b : Bool) → b ≡ list_any (λ x. life_depends master (plain_life x)) xs → IsClosable master (plain_lives xs) (not b)
 closable_in master xs b is c seen =
     ap not (is ∙ sym (any_plain (life_depends master) xs) ∙ sym (all_block master c.tasks xs seen))
+
+-- Moves.
+
+pub asleep : AsleepLaw
+asleep plan barriers n t c sleeps well free = by t.own.status refl sleeps
+  where
+    waits : t.own.status ≡ status.Activating → turn_moves plan barriers (under_way plan barriers t.own.abnormal n t c) n c ≡ []
+    waits is =
+        ap (λ a. turn_moves plan barriers (under_way plan barriers a n t c) n c) well
+        ∙ ap (λ s. turn_moves plan barriers (usual plan barriers s t.own.status n t c) n c) free
+        ∙ ap (λ s. turn_moves plan barriers (usual plan barriers None s n t c) n c) is
+
+    by : (s : Status) → t.own.status ≡ s → is_awake s ≡ false → turn_moves plan barriers (turn_by plan barriers s n t c) n c ≡ []
+    by status.Created is h = refl
+    by status.Running is h = cc
+    by status.Activating is h = waits is
+    by status.Accepting is h = cc
+    by status.Delaying is h = cc
+    by status.Calling is h = cc
+    by status.Completed is h = cc
+    by status.Terminated is h = refl

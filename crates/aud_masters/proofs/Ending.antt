@@ -11,7 +11,7 @@ use Rattle.aud_meaning.specs.Control.{Moved}
 use Rattle.aud_meaning.specs.Parts.{changed, depends, is_created, is_terminated, owns, raised_at}
 use Rattle.aud_meaning.specs.Tasks as effect
 use Rattle.aud_masters.specs.Lives.{Life, closed, ended, is_created_in, life_at, life_depends, life_of, lives_in, lives_of, without_master, without_parts}
-use Rattle.aud_masters.specs.Changes.{Barriers, BeforeCalls, IsBodyOf, InPart, Leaves, LeavesAlone, Closes, ClosesAlone, RaisesInPart, RaisesAlone, all_with_lives, emptied_where, with_life, with_lives}
+use Rattle.aud_masters.specs.Changes.{Barriers, BeforeCalls, IsBodyOf, InPart, Leaves, LeavesTo, Closes, ClosesTo, RaisesInPart, RaisesTo, all_with_lives, emptied_where, with_life, with_lives}
 use Rattle.aud_masters.proofs.Plain.{eq_sym}
 use Rattle.aud_masters.proofs.Tasks.{emptied_task, lives_changed, lives_kept, lives_swept, one_ends, one_swept, same_swept, swept, sweeps}
 
@@ -51,8 +51,8 @@ leaves master old new is plan barriers c before seen =
     ap lives_in (closed_master master plan barriers c before)
     ∙ lives_swept (life_depends master) c.tasks ∙ ap (without_master master) seen ∙ sym is
 
-pub leaves_alone : (master : ℕ) (old new : List Life) → new ≡ without_master master old → LeavesAlone master old new
-leaves_alone master old new is plan barriers c before seen =
+pub leaves_to : (master : ℕ) (old new : List Life) → new ≡ without_master master old → LeavesTo master old new
+leaves_to master old new is plan barriers c before seen =
     closed_master master plan barriers c before
     ∙ ap (λ ts. record c { tasks = ts }) (sym (same_swept (life_depends master) (depends_live master) c.tasks))
     ∙ ap (λ ls. with_lives (without_master master ls) c) seen
@@ -97,8 +97,8 @@ live_from status.Calling h = refl
 live_from status.Completed h = refl
 live_from status.Terminated h = absurd (h refl)
 
-pub closes_alone : (n master : ℕ) (old new : List Life) → (life_at n old).status ≢ status.Terminated → new ≡ closed n master old → ClosesAlone n master old new
-closes_alone n master old new live is plan barriers c body seen =
+pub closes_to : (n master : ℕ) (old new : List Life) → (life_at n old).status ≢ status.Terminated → new ≡ closed n master old → ClosesTo n master old new
+closes_to n master old new live is plan barriers c body seen =
     let here = ap (λ ls. is_terminated (life_at n ls).status) seen ∙ live_from (life_at n old).status live in
     closed_task n master plan barriers c body
     ∙ ap (λ ts. record c { tasks = ts }) (sym (same_closed master n c.tasks here))
@@ -128,8 +128,8 @@ raises_in_part part old new is raise at n plan barriers c within seen =
     ∙ lives_kept _ (λ t. refl) n (swept (is_created_in (part ∷ [])) c.tasks)
     ∙ lives_swept (is_created_in (part ∷ [])) c.tasks ∙ ap (without_parts (part ∷ [])) seen ∙ sym is
 
-pub raises_alone : (part : ℕ) (old new : List Life) → new ≡ without_parts (part ∷ []) old → RaisesAlone part old new
-raises_alone part old new is raise at n plan barriers c within seen =
+pub raises_to : (part : ℕ) (old new : List Life) → new ≡ without_parts (part ∷ []) old → RaisesTo part old new
+raises_to part old new is raise at n plan barriers c within seen =
     raised_in part raise at n plan barriers c within
     ∙ ap (λ ts. raised_at raise at n (record c { tasks = ts })) (sym (same_swept (is_created_in (part ∷ [])) (created_in_live (part ∷ [])) c.tasks))
     ∙ ap (λ ls. raised_at raise at n (with_lives (without_parts (part ∷ []) ls) c)) seen

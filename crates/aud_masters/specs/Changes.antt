@@ -12,8 +12,11 @@ use Rattle.aud_meaning.specs.Effects.{innermost}
 use Rattle.aud_meaning.specs.Control.{Moved, Seen}
 use Rattle.aud_meaning.specs.Parts.{body_master, in_action, is_master, is_terminated, nobody, no_waits, on_own, own_of, raised_at, Closable}
 use Rattle.aud_meaning.specs.Tasks as effect
-use Rattle.aud_meaning.specs.Run.{opening_with}
-use Rattle.aud_masters.specs.Lives.{Life, lives_of, lives_in}
+use Rattle.aud_meaning.specs.Run.{opening_with, turn, turn_moves}
+use Rattle.aud_masters.specs.Lives.{Life, is_awake, lives_of, lives_in}
+
+abbrev pub Barriers : Type 0
+Barriers = ℕ → Sight → Result Bool Raise
 
 -- What is known.
 
@@ -31,6 +34,12 @@ IsOpening lives = (plan : Plan) → (name : List ℕ) → (left : Moved) → liv
 -- whether a master can be left
 abbrev pub IsClosable : ℕ → List Life → Bool → Type 0
 IsClosable master lives closable = (c : All Seen) → lives_in c ≡ lives → closable ≡ Closable master c
+
+-- no turn is that of a task which is not awake, neither abnormal nor servicing an object: so it has no moves
+abbrev pub AsleepLaw : Type 0
+AsleepLaw =
+    (plan : Plan) → (barriers : Barriers) → (n : ℕ) → (t : TaskAt Seen) → (c : All Seen) →
+    is_awake t.own.status ≡ false → t.own.abnormal ≡ false → t.own.serving ≡ None → turn_moves plan barriers (turn plan barriers n t c) n c ≡ []
 
 -- What is done.
 
@@ -55,9 +64,6 @@ all_with_lives (l ∷ ls) (t ∷ ts) = record t { own = with_life l t.own } ∷ 
 
 abbrev pub with_lives : List Life → All Moved → All Moved
 with_lives lives c = record c { tasks = all_with_lives lives c.tasks }
-
-abbrev pub Barriers : Type 0
-Barriers = ℕ → Sight → Result Bool Raise
 
 -- a step's work, and where it is done: whatever the program's plan and its barriers
 abbrev pub Effect : Type 0
@@ -106,8 +112,8 @@ abbrev pub RaisesInPart : ℕ → List Life → List Life → Type 0
 RaisesInPart part old new =
     (raise : Raise) → (at : Pos) → (n : ℕ) → Leads (InPart n part) (λ plan barriers. effect.raises_in_part plan barriers raise at n) old new
 
-abbrev pub RaisesAlone : ℕ → List Life → List Life → Type 0
-RaisesAlone part old new =
+abbrev pub RaisesTo : ℕ → List Life → List Life → Type 0
+RaisesTo part old new =
     (raise : Raise) → (at : Pos) → (n : ℕ) →
     Comes (InPart n part) (λ plan barriers. effect.raises_in_part plan barriers raise at n) old (λ plan barriers c. raised_at raise at n (with_lives new c))
 
@@ -132,8 +138,8 @@ abbrev pub gone_on : Option ℕ → Effect
 gone_on None plan barriers c = c
 gone_on (Some m) plan barriers c = effect.activator_goes_on plan barriers m c
 
-abbrev pub EndsAlone : Bool → ℕ → Option ℕ → List Life → List Life → Type 0
-EndsAlone failed n activator old new =
+abbrev pub EndsActivationTo : Bool → ℕ → Option ℕ → List Life → List Life → Type 0
+EndsActivationTo failed n activator old new =
     Comes Anywhere (λ plan barriers. effect.activation_ended plan barriers failed n) old (λ plan barriers c. gone_on activator plan barriers (with_lives new c))
 
 -- The end of a body, of which these declarative parts are under way; by an exception, or without one.
@@ -149,8 +155,8 @@ Completes failed n parts old new =
 abbrev pub completed_by : Option Exception → Own → Own
 completed_by raised own = record own { pending = None; raised = raised; waits = no_waits }
 
-abbrev pub CompletesAlone : Bool → ℕ → List ℕ → Option ℕ → List Life → List Life → Type 0
-CompletesAlone failed n parts activator old new =
+abbrev pub CompletesTo : Bool → ℕ → List ℕ → Option ℕ → List Life → List Life → Type 0
+CompletesTo failed n parts activator old new =
     (raised : Option Exception) → is_some raised ≡ failed →
     Comes (IsIn n parts) (λ plan barriers. effect.completes plan barriers raised n) old
     (λ plan barriers c. gone_on activator plan barriers (with_lives new (on_own n (completed_by raised) c)))
@@ -160,8 +166,8 @@ CompletesAlone failed n parts activator old new =
 abbrev pub Leaves : ℕ → List Life → List Life → Type 0
 Leaves master old new = Leads BeforeCalls (λ plan barriers. effect.close_master plan barriers master) old new
 
-abbrev pub LeavesAlone : ℕ → List Life → List Life → Type 0
-LeavesAlone master old new = Comes BeforeCalls (λ plan barriers. effect.close_master plan barriers master) old (λ plan barriers. with_lives new)
+abbrev pub LeavesTo : ℕ → List Life → List Life → Type 0
+LeavesTo master old new = Comes BeforeCalls (λ plan barriers. effect.close_master plan barriers master) old (λ plan barriers. with_lives new)
 
 abbrev pub IsBodyOf : ℕ → ℕ → Premise
 IsBodyOf n master plan barriers c = BeforeCalls plan barriers c × (body_master (own_of n c) ≡ master)
@@ -169,5 +175,5 @@ IsBodyOf n master plan barriers c = BeforeCalls plan barriers c × (body_master 
 abbrev pub Closes : ℕ → ℕ → List Life → List Life → Type 0
 Closes n master old new = Leads (IsBodyOf n master) (λ plan barriers. effect.closes plan barriers n) old new
 
-abbrev pub ClosesAlone : ℕ → ℕ → List Life → List Life → Type 0
-ClosesAlone n master old new = Comes (IsBodyOf n master) (λ plan barriers. effect.closes plan barriers n) old (λ plan barriers. with_lives new)
+abbrev pub ClosesTo : ℕ → ℕ → List Life → List Life → Type 0
+ClosesTo n master old new = Comes (IsBodyOf n master) (λ plan barriers. effect.closes plan barriers n) old (λ plan barriers. with_lives new)

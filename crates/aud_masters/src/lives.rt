@@ -4,7 +4,8 @@ ghost use Rattle.std.specs.Prelude.{◌≡◌, ◌∷◌, ◌++◌, [], IfOk, co
 ghost use Rattle.std.specs.List.{list_any};
 ghost use Rattle.aud_meaning.specs.Parts.{changed, numbers};
 ghost use Rattle.aud_masters.specs.Lives.{activating, after_activation, begun_by, blocked};
-ghost use Rattle.aud_masters.specs.Lives.{changed_each, closed, completing, created_life, is_awake, is_created_in, is_free};
+ghost use Rattle.aud_masters.specs.Lives.{changed_each, closed, completing, created_life};
+ghost use Rattle.aud_masters.specs.Lives.{is_awake, is_created_in, is_free};
 ghost use Rattle.aud_masters.specs.Lives.{life_at, life_awaits, life_depends, not_awaited};
 ghost use Rattle.aud_masters.specs.Lives.{plain_life, plain_lives, resumed_by, status_of};
 ghost use Rattle.aud_masters.specs.Lives.{with_failure, with_status, without_master};
@@ -231,7 +232,8 @@ pub(crate) fn end_activation(lives: &mut [Life], n: usize, failed: bool) -> Opti
 
 // A task's body is completed, while these declarative parts are under way (RM 9.3(5)). It gives the activator, if that goes on now.
 pub(crate) fn complete(lives: &mut [Life], n: usize, parts: &[usize], failed: bool) -> Option<usize>
-    ensures resumed { result ≡ resumed_by failed n (completing n parts.now (plain_lives lives.old)) }
+    ensures resumed { result ≡
+        resumed_by failed n (completing n parts.now (plain_lives lives.old)) }
     ensures after { plain_lives lives.new ≡
         after_activation failed n (completing n parts.now (plain_lives lives.old)) }
 {

@@ -6,9 +6,9 @@ ghost use Rattle.aud_meaning.specs.Configuration.{Call};
 ghost use Rattle.aud_meaning.specs.Parts.{facts_in};
 ghost use Rattle.aud_masters.specs.Lives.{life_at, is_awake, status_of};
 ghost use Rattle.aud_masters.specs.Changes.{own_in, Owning, IsClosable, IsOpening, Creates};
-ghost use Rattle.aud_masters.specs.Changes.{RaisesInPart, RaisesAlone, AreNotActivated, Activates};
-ghost use Rattle.aud_masters.specs.Changes.{EndsActivation, EndsAlone, Completes, CompletesAlone};
-ghost use Rattle.aud_masters.specs.Changes.{Leaves, LeavesAlone, Closes, ClosesAlone};
+ghost use Rattle.aud_masters.specs.Changes.{RaisesInPart, RaisesTo, AreNotActivated, Activates};
+ghost use Rattle.aud_masters.specs.Changes.{EndsActivation, EndsActivationTo, Completes, CompletesTo};
+ghost use Rattle.aud_masters.specs.Changes.{Leaves, LeavesTo, Closes, ClosesTo};
 
 use crate::life::Life;
 use crate::lives;
@@ -52,7 +52,8 @@ impl Masters {
         self.lives.len()
     }
 
-    /// How many tasks may have a move: those that are neither created alone, nor waiting for an activation, nor terminated.
+    /// How many tasks may have a move (`laws::asleep_law`): those that are neither waiting to be activated, nor for an activation, nor
+    /// terminated.
     pub fn awake(&self) -> usize
         ensures { Owning self.now (λ tasks. result ≡ count_by (λ own. is_awake own.status) tasks) }
     {
@@ -61,7 +62,9 @@ impl Masters {
 
     /// How far a task is; where there is none of this number, it is terminated.
     pub fn phase(&self, task: usize) -> Phase
-        ensures { Owning self.now (λ tasks. status_of result ≡ (own_in task tasks).status) }
+        ensures value { status_of result ≡ (life_at task self.now).status }
+        ensures owning { Owning self.now (λ tasks.
+            status_of result ≡ (own_in task tasks).status) }
     {
         lives::phase_of(&self.lives, task)
     }
@@ -122,7 +125,7 @@ impl Masters {
     /// An exception is raised in the declarative part with this frame: what it has created is terminated (RM 9.2(5)).
     pub fn raise_in_part(&mut self, part: usize)
         ensures lives { RaisesInPart part self.old self.new }
-        ensures alone { RaisesAlone part self.old self.new }
+        ensures comes_to { RaisesTo part self.old self.new }
     {
         lives::end_created(&mut self.lives, &[part]);
         self.awake = lives::count_awake(&self.lives);
@@ -150,7 +153,7 @@ impl Masters {
     /// Tasking_Error, if an activation has failed (`has_failed`).
     pub fn end_activation(&mut self, task: usize, failed: bool) -> Option<usize>
         ensures lives { EndsActivation failed task self.old self.new }
-        ensures alone { EndsAlone failed task result self.old self.new }
+        ensures comes_to { EndsActivationTo failed task result self.old self.new }
     {
         let activator = lives::end_activation(&mut self.lives, task, failed);
         self.awake = lives::count_awake(&self.lives);
@@ -163,7 +166,7 @@ impl Masters {
     pub fn complete(&mut self, task: usize, parts: &[usize], failed: bool) -> Option<usize>
         requires { (life_at task self.old).status ≢ status.Created }
         ensures lives { Completes failed task parts.now self.old self.new }
-        ensures alone { CompletesAlone failed task parts.now result self.old self.new }
+        ensures comes_to { CompletesTo failed task parts.now result self.old self.new }
     {
         let activator = lives::complete(&mut self.lives, task, parts, failed);
         self.awake = lives::count_awake(&self.lives);
@@ -173,7 +176,7 @@ impl Masters {
     /// A block or procedure with this frame is left: what depends on it is terminated (RM 9.7.1(16)).
     pub fn leave(&mut self, master: usize)
         ensures lives { Leaves master self.old self.new }
-        ensures alone { LeavesAlone master self.old self.new }
+        ensures comes_to { LeavesTo master self.old self.new }
     {
         lives::end_dependents(&mut self.lives, master);
         self.awake = lives::count_awake(&self.lives);
@@ -183,7 +186,7 @@ impl Masters {
     pub fn close(&mut self, task: usize, master: usize)
         requires { (life_at task self.old).status ≢ status.Terminated }
         ensures lives { Closes task master self.old self.new }
-        ensures alone { ClosesAlone task master self.old self.new }
+        ensures comes_to { ClosesTo task master self.old self.new }
     {
         lives::close(&mut self.lives, task, master);
         self.awake = lives::count_awake(&self.lives);

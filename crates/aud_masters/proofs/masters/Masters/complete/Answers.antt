@@ -1,7 +1,7 @@
 use Rattle.std.proofs.Common.{◌∙◌, ap}
 use Rattle.aud_masters.specs.Lives.{after_activation, completing, plain_lives, resumed_by}
 use Rattle.aud_masters.proofs.Plain.{written}
-use Rattle.aud_masters.proofs.Activation.{completes, completes_alone}
+use Rattle.aud_masters.proofs.Activation.{completes, completes_to}
 use Rattle.aud_masters.proofs.masters.Masters.complete.Goals as goal
 
 pub returns : goal.returns
@@ -11,5 +11,5 @@ returns c =
     let who = c.complete-activator.ensures.resumed ∙ ap (λ ls. resumed_by c.args.failed c.args.task (completing c.args.task c.args.parts.now ls)) (ap plain_lives c.deref_mut.ensures.value ∙ c.self.view_is) in
     record {
       lives = completes c.args.failed c.args.task c.args.parts.now c.args.self.now _ c.requires told;
-      alone = completes_alone c.args.failed c.args.task c.args.parts.now c.complete-activator.result c.args.self.now _ c.requires who told;
+      comes_to = completes_to c.args.failed c.args.task c.args.parts.now c.complete-activator.result c.args.self.now _ c.requires who told;
     }
