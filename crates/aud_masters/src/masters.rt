@@ -17,6 +17,7 @@ use std::alloc::{AllocError, Global};
 use std::marker::Model;
 
 /// All tasks ever created, by their numbers, which count from 0 in the order of their creation; the main procedure is the first.
+/// So it is before the first entry call: a task that ends would refuse the calls of its entries.
 #[derive(Drop)]
 pub struct Masters {
     lives: Vec<Life>,
@@ -160,9 +161,9 @@ impl Masters {
         activator
     }
 
-    /// A task's body is completed, by an exception or without one, while declarative parts with these frames are under way: what
-    /// they have created and not activated is terminated, and its own activation ends if it goes on (RM 9.3(5), 9.2(5)). It
-    /// gives the activator, if that goes on now.
+    /// A task's body, which has begun, is completed, by an exception or without one, while declarative parts with these frames are
+    /// under way: what they have created and not activated is terminated, and the task's own activation ends, if another task
+    /// waits for it (RM 9.3(5), 9.2(5)). It gives that activator, if it goes on now.
     pub fn complete(&mut self, task: usize, parts: &[usize], failed: bool) -> Option<usize>
         requires { (life_at task self.old).status ≢ status.Created }
         ensures lives { Completes failed task parts.now self.old self.new }
