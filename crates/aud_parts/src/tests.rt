@@ -4,7 +4,6 @@
 mod fusing;
 mod lines;
 mod machines;
-mod masters;
 mod texts;
 mod tokens;
 mod trees;
