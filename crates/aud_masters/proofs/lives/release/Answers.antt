@@ -1,0 +1,13 @@
+use Rattle.std.proofs.Common.{None, get_or, refl, arith}
+use Rattle.aud_masters.specs.Lives.{not_awaited}
+use Rattle.aud_masters.proofs.Plain.{changed_at, unchanged_past}
+use Rattle.aud_masters.proofs.lives.release.Goals as goal
+
+pub returns-then-n-lives : goal.returns-then-n-lives
+returns-then-n-lives c =
+    let x = c.index-lives-n.result in
+    let old = get_or c.args.lives.now c.args.n x in
+    changed_at not_awaited c.args.lives.now c.args.n x (record old { activator = None }) (omega arith) refl
+
+pub returns-else-n-lives : goal.returns-else-n-lives
+returns-else-n-lives c = unchanged_past not_awaited c.args.lives.now c.args.n (omega arith)
