@@ -1,0 +1,3 @@
+pub mod Places
+pub mod Acts
+pub mod Kept

@@ -1,0 +1,3 @@
+pub mod Among
+pub mod Alone
+pub mod Law

@@ -1,0 +1,55 @@
+// The laws that tie a task among others to the program of one task, where what is left to do is said by statements and where it is
+// said by places of code. Each function does nothing: its contract is the law.
+
+ghost use Rattle.std.specs.Prelude.{List};
+ghost use Rattle.aud_meaning.specs.Configuration.{Item};
+ghost use Rattle.aud_code.specs.Places.{Spot};
+ghost use Rattle.aud_among.specs.Law.{AskedLaw, ComingLaw, AmongLaw, UnawareLaw, MovesLaw, MoveLaw, RestLaw, ClosableLaw};
+
+/// What a task asks among others is what it asks alone with the facts of the others handed to it.
+pub fn asked_law()
+    ensures statements { AskedLaw (List Item) }
+    ensures code { AskedLaw Spot }
+{}
+
+/// And so is what comes next of it.
+pub fn coming_law()
+    ensures statements { ComingLaw (List Item) }
+    ensures code { ComingLaw Spot }
+{}
+
+/// Where the next step of a task concerns it alone, it leads among the others where it leads alone, with the facts of the others.
+pub fn among_law()
+    ensures statements { AmongLaw (List Item) }
+    ensures code { AmongLaw Spot }
+{}
+
+/// Where a task asks the same without those facts, its step leads there without them.
+pub fn unaware_law()
+    ensures statements { UnawareLaw (List Item) }
+    ensures code { UnawareLaw Spot }
+{}
+
+/// The enabled moves are those of the tasks in order of their numbers.
+pub fn moves_law()
+    ensures statements { MovesLaw (List Item) }
+    ensures code { MovesLaw Spot }
+{}
+
+/// A task has among the others the moves that it has alone, but none while it waits for the tasks that depend on it (RM 9.3).
+pub fn move_law()
+    ensures statements { MoveLaw (List Item) }
+    ensures code { MoveLaw Spot }
+{}
+
+/// A task that isn't activated yet, waits for those that it activates, or is terminated has no move.
+pub fn rest_law()
+    ensures statements { RestLaw (List Item) }
+    ensures code { RestLaw Spot }
+{}
+
+/// Where no task waits at a terminate alternative, nothing depends on a master that can be left (RM 9.7.1(16)).
+pub fn closable_law()
+    ensures statements { ClosableLaw (List Item) }
+    ensures code { ClosableLaw Spot }
+{}
