@@ -1,3 +1,6 @@
 pub mod Places
 pub mod Acts
 pub mod Kept
+pub mod Seen
+pub mod Steps
+pub mod Moving
