@@ -32,11 +32,11 @@ length_map f (x ∷ xs) = ap suc (length_map f xs)
 
 -- Tests of all tasks.
 
-first_false : (x y : Bool) → (x || y) ≡ false → x ≡ false
+pub first_false : (x y : Bool) → (x || y) ≡ false → x ≡ false
 first_false true y h = h
 first_false false y h = refl
 
-second_false : (x y : Bool) → (x || y) ≡ false → y ≡ false
+pub second_false : (x y : Bool) → (x || y) ≡ false → y ≡ false
 second_false x true h = other x h
   where
     other : (b : Bool) → (b || true) ≡ false → true ≡ false
