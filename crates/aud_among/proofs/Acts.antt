@@ -138,6 +138,7 @@ module _ (plan : Plan) (barrier : ℕ → Sight → Result Bool Raise) (limits :
   stands t = record {
     tasks = owns (tasks_with t);
     number = n;
+    masters = t.own.masters;
     activator = t.own.activator;
     opened = t.own.opened;
     left = construct_left t.own;
@@ -148,19 +149,19 @@ module _ (plan : Plan) (barrier : ℕ → Sight → Result Bool Raise) (limits :
   abbrev with_tasks : Acting Moved → List (TaskAt Moved) → All Moved
   with_tasks t ts = record { tasks = ts; shared = t.shared; choices = choices; clock = clock; steps = steps }
 
-  on_task_at : (f : TaskAt Moved → TaskAt Moved) (t : Acting Moved) → on_task n f (whole t) ≡ with_tasks t (before ++ f (record { control = t.control; own = t.own }) ∷ behind)
+  pub on_task_at : (f : TaskAt Moved → TaskAt Moved) (t : Acting Moved) → on_task n f (whole t) ≡ with_tasks t (before ++ f (record { control = t.control; own = t.own }) ∷ behind)
   on_task_at f t = ap (with_tasks t) (changed_there before behind (record { control = t.control; own = t.own }) n is f)
 
-  on_own_at : (f : Own → Own) (t : Acting Moved) → on_own n f (whole t) ≡ whole (on_its f t)
+  pub on_own_at : (f : Own → Own) (t : Acting Moved) → on_own n f (whole t) ≡ whole (on_its f t)
   on_own_at f t = on_task_at (λ (x : TaskAt Moved). record x { own = f x.own }) t
 
-  on_control_at : (f : Moved → Moved) (t : Acting Moved) → on_control n f (whole t) ≡ whole (record t { control = f t.control })
+  pub on_control_at : (f : Moved → Moved) (t : Acting Moved) → on_control n f (whole t) ≡ whole (record t { control = f t.control })
   on_control_at f t = on_task_at (λ (x : TaskAt Moved). record x { control = f x.control }) t
 
-  own_of_at : (t : Acting Moved) → own_of n (whole t) ≡ t.own
+  pub own_of_at : (t : Acting Moved) → own_of n (whole t) ≡ t.own
   own_of_at t = own_there before behind (record { control = t.control; own = t.own }) n is
 
-  alone_at : (f : Acting Moved → Acting Moved) (t : Acting Moved) → alone f n (whole t) ≡ whole (f t)
+  pub alone_at : (f : Acting Moved → Acting Moved) (t : Acting Moved) → alone f n (whole t) ≡ whole (f t)
   alone_at f t =
       ap (λ o. alone_by f o n (whole t)) (got_there before behind (record { control = t.control; own = t.own }) n is)
       ∙ ap (with_tasks (f t)) (changed_there before behind (record { control = t.control; own = t.own }) n is (λ old. record { control = (f t).control; own = (f t).own }))
@@ -212,7 +213,7 @@ module _ (plan : Plan) (barrier : ℕ → Sight → Result Bool Raise) (limits :
 
   -- Constructs that are left.
 
-  given_at : (back : CopiedBack) (at : Pos) (t : Acting Moved) → effect.given_back plan barrier back at n (whole t) ≡ whole (given back at t)
+  pub given_at : (back : CopiedBack) (at : Pos) (t : Acting Moved) → effect.given_back plan barrier back at n (whole t) ≡ whole (given back at t)
   given_at back at t = by back.raised refl
     where
       by : (x : Option Raise) → back.raised ≡ x → effect.given_back plan barrier back at n (whole t) ≡ whole (given back at t)
@@ -227,19 +228,19 @@ module _ (plan : Plan) (barrier : ℕ → Sight → Result Bool Raise) (limits :
       by false e None e' = rw e (rw e' (given_at (with_result r.into r.value (back_of r frame t)) at t))
       by false e (Some raise) e' = rw e (rw e' (given_at (back_of r frame t) at t))
 
-  returned_or_at : (p : Option Pending) (r : Returning) (frame : ℕ) (at : Pos) (t : Acting Moved) → effect.returned_or plan barrier p r frame at n (whole t) ≡ whole (returned_or p r frame at t)
+  pub returned_or_at : (p : Option Pending) (r : Returning) (frame : ℕ) (at : Pos) (t : Acting Moved) → effect.returned_or plan barrier p r frame at n (whole t) ≡ whole (returned_or p r frame at t)
   returned_or_at None r frame at t = returned_at r frame at t
   returned_or_at (Some p) r frame at t = on_own_at (pends p.exception at) t
 
   -- what leaves frames keeps what the tests of other tasks ask
-  closed_same : (f : Own → Bool) → ((o : Own) (display : List ℕ) (opened : List Opened) → f (record o { display = display; opened = opened }) ≡ f o) → (o : Own) → f (closed o) ≡ f o
+  pub closed_same : (f : Own → Bool) → ((o : Own) (display : List ℕ) (opened : List Opened) → f (record o { display = display; opened = opened }) ≡ f o) → (o : Own) → f (closed o) ≡ f o
   closed_same f keeps o = by o.opened o
     where
       by : (os : List Opened) (x : Own) → f (own.closed_by os x) ≡ f x
       by [] x = refl
       by (w ∷ os) x = keeps x w.saved os
 
-  loops_same : (f : Own → Bool) → ((o : Own) (display : List ℕ) (opened : List Opened) → f (record o { display = display; opened = opened }) ≡ f o) → (o : Own) → f (out_of_loops o) ≡ f o
+  pub loops_same : (f : Own → Bool) → ((o : Own) (display : List ℕ) (opened : List Opened) → f (record o { display = display; opened = opened }) ≡ f o) → (o : Own) → f (out_of_loops o) ≡ f o
   loops_same f keeps o = by o.opened o
     where
       either : (b : Bool) (x y : Own) → f x ≡ f y → f (if b then x else y) ≡ f y
@@ -250,7 +251,7 @@ module _ (plan : Plan) (barrier : ℕ → Sight → Result Bool Raise) (limits :
       by [] x = refl
       by (w ∷ os) x = either (own.is_loop w.purpose) (own.out_of_loops_by os (record x { display = w.saved; opened = os })) x (by os (record x { display = w.saved; opened = os }) ∙ keeps x w.saved os)
 
-  left_same : (master : ℕ) (o : Own) → depends master (closed (out_of_loops o)) ≡ depends master o
+  pub left_same : (master : ℕ) (o : Own) → depends master (closed (out_of_loops o)) ≡ depends master o
   left_same master o = closed_same (depends master) (λ x d os. refl) (out_of_loops o) ∙ loops_same (depends master) (λ x d os. refl) o
 
   master_at : (master : ℕ) (f : Own → Own) (t : Acting Moved) → depends master (f t.own) ≡ depends master t.own → MasterAlone master (stands t) → effect.close_master plan barrier master (whole (on_its f t)) ≡ whole (on_its f t)
@@ -313,7 +314,7 @@ module _ (plan : Plan) (barrier : ℕ → Sight → Result Bool Raise) (limits :
       ∙ ends_at (construct_left u.own) p u h
 
   -- what is pending doesn't matter
-  left_same_opened : (os : List Opened) (x y : Own) → x.opened ≡ y.opened → (own.out_of_loops_by os x).opened ≡ (own.out_of_loops_by os y).opened
+  pub left_same_opened : (os : List Opened) (x y : Own) → x.opened ≡ y.opened → (own.out_of_loops_by os x).opened ≡ (own.out_of_loops_by os y).opened
   left_same_opened [] x y h = h
   left_same_opened (o ∷ os) x y h = either (own.is_loop o.purpose) (left_same_opened os (record x { display = o.saved; opened = os }) (record y { display = o.saved; opened = os }) refl)
     where
@@ -322,7 +323,7 @@ module _ (plan : Plan) (barrier : ℕ → Sight → Result Bool Raise) (limits :
       either false inner = h
 
   -- nothing pending, and it goes on so
-  abbrev cleared : Moved → Acting Moved → Acting Moved
+  abbrev pub cleared : Moved → Acting Moved → Acting Moved
   cleared to t = record t { control = to; own = record t.own { pending = None } }
 
   passes_same : (f : Own → Bool) (to : Moved) (t : Acting Moved) → f (record t.own { pending = None }) ≡ f t.own → any f (owns (tasks_with t)) ≡ false → any f (owns (tasks_with (cleared to t))) ≡ false

@@ -4,7 +4,7 @@ use Rattle.std.specs.Prelude.{if◌then◌else◌}
 use Rattle.aud_meaning.specs.Configuration.{Own, TaskAt}
 use Rattle.aud_meaning.specs.Parts.{changed, numbers, any, nobody, owns}
 
-changed_at : {A : Type 0} (before behind : List A) (x : A) (f : A → A) → changed (length before) f (before ++ x ∷ behind) ≡ before ++ f x ∷ behind
+pub changed_at : {A : Type 0} (before behind : List A) (x : A) (f : A → A) → changed (length before) f (before ++ x ∷ behind) ≡ before ++ f x ∷ behind
 changed_at [] behind x f = refl
 changed_at (b ∷ before) behind x f = ap (λ xs. b ∷ xs) (changed_at before behind x f)
 

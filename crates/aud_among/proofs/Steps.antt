@@ -108,7 +108,7 @@ module _ {C : Type 0} (plan : Plan) (k : Controls C) (limits : Limits) (name : L
 
   -- it stands among them as the step finds it
   abbrev standing_with : Single C → Single C → List Own → List Opened → Standing
-  standing_with p q os left = record { tasks = os; number = n; activator = a.own.activator; opened = p.stack.opened; left = left; calls = a.calls; objects = a.objects }
+  standing_with p q os left = record { tasks = os; number = n; masters = a.own.masters; activator = a.own.activator; opened = p.stack.opened; left = left; calls = a.calls; objects = a.objects }
 
   running_same : (p : Single C) (pending : Option Pending) → standing a (record p { stage = runs pending }) ≡ stands_among (record p { stage = runs pending }) (selves (self (record p { stage = runs pending })))
   running_same p pending =

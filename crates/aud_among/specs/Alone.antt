@@ -13,11 +13,12 @@ use Rattle.aud_meaning.specs.Run.{scene_of}
 use Rattle.aud_meaning.specs.Ties.Single.{Stage, runs, completed, terminated, Single, out_of_loops}
 use Rattle.aud_among.specs.Among.{Around, number, among}
 
--- A task among all tasks: its number, who waits for its activation, its open frames, and those from the construct on that its
--- leaving step leaves; the calls and the objects.
+-- A task among all tasks: its number, the masters that it depends on, who waits for its activation, its open frames, and those from
+-- the construct on that its leaving step leaves; the calls and the objects.
 pub record Standing : Type 0 where
   pub tasks : List Own
   pub number : ℕ
+  pub masters : List ℕ
   pub activator : Option ℕ
   pub opened : List Opened
   pub left : List Opened
@@ -120,6 +121,7 @@ abbrev pub standing : {C : Type 0} → Around C → Single C → Standing
 standing a p = record {
   tasks = owns (among a p).tasks;
   number = number a;
+  masters = a.own.masters;
   activator = a.own.activator;
   opened = p.stack.opened;
   left = (out_of_loops p.stack).opened;

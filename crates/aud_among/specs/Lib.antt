@@ -1,3 +1,4 @@
 pub mod Among
 pub mod Alone
+pub mod Apart
 pub mod Law
