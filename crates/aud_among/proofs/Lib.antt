@@ -3,6 +3,7 @@ pub mod Acts
 pub mod Kept
 pub mod Elsewhere
 pub mod Others
+pub mod Apart
 pub mod Seen
 pub mod Steps
 pub mod Moving

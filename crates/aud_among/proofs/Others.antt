@@ -8,7 +8,7 @@ use Rattle.aud_text.specs.declared.limits.Limits.{Limits}
 use Rattle.aud_typed.specs.declared.program.Exception.{Exception}
 use Rattle.aud_typed.specs.declared.program.Exception.TheVariants.{Predefined}
 use Rattle.aud_typed.specs.Tree.{Plan}
-use Rattle.aud_meaning.specs.Configuration.{Own, Shared, TaskAt, All, Acting}
+use Rattle.aud_meaning.specs.Configuration.{Opened, Own, Shared, TaskAt, All, Acting}
 use Rattle.aud_meaning.specs.Evaluation.{Sight}
 use Rattle.aud_meaning.specs.Control.{Moved, here, takes_part}
 use Rattle.aud_meaning.specs.Effects.{innermost, pends}
@@ -149,7 +149,7 @@ module _ (plan : Plan) (barrier : ℕ → Sight → Result Bool Raise) (limits :
       ∙ ap (λ d. ending raised (numbers (effect.created_in plan barrier t.own.opened) 0 c.tasks) (effect.refuse_queues plan barrier n (effect.refuse plan barrier Tasking (effect.accepts_under_way plan barrier t.own.opened) d))) (on_own_at plan barrier limits before behind choices clock steps n is (completed_by raised) t)
       ∙ ap (λ calls. ending raised (numbers (effect.created_in plan barrier t.own.opened) 0 c.tasks) (effect.refuse_queues plan barrier n (effect.refuse plan barrier Tasking calls (with_others before behind (completing raised t))))) accepts
       ∙ ap (λ calls. ending raised (numbers (effect.created_in plan barrier t.own.opened) 0 c.tasks) (effect.refuse plan barrier Tasking calls (with_others before behind (completing raised t)))) (none n)
-      ∙ ap (λ ns. ending raised ns (with_others before behind (completing raised t))) (numbers_between f 0 before behind x y (ap (λ b. b && _) created))
+      ∙ ap (λ ns. ending raised ns (with_others before behind (completing raised t))) (numbers_between f 0 before behind x y (ap (λ b. b && any (λ (p : Opened). nat_eq p.frame t.own.part) t.own.opened) created))
       ∙ ap (effect.activation_ended plan barrier (is_some raised) n) (ends_between plan barrier choices clock steps f before behind (completing raised t) refl none)
 
   -- What leaves the task itself as it is: where the others are led to, and its own part.

@@ -5,13 +5,14 @@ use Rattle.aud_typed.specs.Tree.{Plan}
 use Rattle.aud_meaning.specs.declared.state.Status.{Status}
 use Rattle.aud_meaning.specs.declared.state.Status.TheVariants.{Created, Running, Activating, Accepting, Delaying, Calling, Completed, Terminated}
 use Rattle.aud_meaning.specs.Configuration.{Pending, Opened, Own, TaskAt, All}
-use Rattle.aud_meaning.specs.Control.{Coming, simply, ending, selecting, calling, starting, Seen, Controls}
+use Rattle.aud_meaning.specs.Control.{Coming, simply, ending, selecting, calling, starting, Seen, Controls, ordered}
 use Rattle.aud_meaning.specs.Effects.{outermost}
 use Rattle.aud_meaning.specs.Parts.{owns, own_of, any, depends, may_terminate, is_terminated, Closable, sight_of}
 use Rattle.aud_meaning.specs.Run.{Move, own_move, turn, turn_moves, has_queue, master_left_by, seen, moves_at, scene_of, step_with}
 use Rattle.aud_meaning.specs.Ties.Single.{Stage, runs, completed, terminated, Single, all_of, scene_in, out_of_loops}
 use Rattle.aud_among.specs.Among.{Around, number, among, knowing}
 use Rattle.aud_among.specs.Alone.{IsUndisturbed, StepsAlone, asked_among}
+use Rattle.aud_among.specs.Apart.{StepsApart, after}
 
 -- What a task asks among others, and what comes next of it, is what it asks alone with the facts of the others.
 abbrev pub AskedLaw : (C : Type 0) → Type 0
@@ -29,6 +30,11 @@ ComingLaw C =
 abbrev pub AmongLaw : (C : Type 0) → Type 0
 AmongLaw C =
     (plan : Plan) (k : Controls C) (limits : Limits) (name : List ℕ) (a : Around C) (p q : Single C) → StepsAlone plan k a p → all_of name q ≡ step_with plan (knowing a p k) limits (all_of name p) (own_move 0) → among a q ≡ step_with plan k limits (among a p) (own_move (number a))
+
+-- Where it concerns others as well, what it does alone comes first, and then what it does to the others.
+abbrev pub ApartLaw : (C : Type 0) → Type 0
+ApartLaw C =
+    (plan : Plan) (k : Controls C) (limits : Limits) (name : List ℕ) (a : Around C) (p q : Single C) → StepsApart plan k a p p.stage → all_of name q ≡ step_with plan (knowing a p k) limits (all_of name p) (own_move 0) → ordered k (among a q) (after plan k a p p.stage) ≡ step_with plan k limits (among a p) (own_move (number a))
 
 -- Where it asks the same without those facts, it leads there without them.
 abbrev pub UnawareLaw : (C : Type 0) → Type 0

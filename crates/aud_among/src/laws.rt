@@ -4,7 +4,7 @@
 ghost use Rattle.std.specs.Prelude.{List};
 ghost use Rattle.aud_meaning.specs.Configuration.{Item};
 ghost use Rattle.aud_code.specs.Places.{Spot};
-ghost use Rattle.aud_among.specs.Law.{AskedLaw, ComingLaw, AmongLaw, UnawareLaw, MovesLaw, MoveLaw, RestLaw, ClosableLaw};
+ghost use Rattle.aud_among.specs.Law.{AskedLaw, ComingLaw, AmongLaw, ApartLaw, UnawareLaw, MovesLaw, MoveLaw, RestLaw, ClosableLaw};
 
 /// What a task asks among others is what it asks alone with the facts of the others handed to it.
 pub fn asked_law()
@@ -22,6 +22,12 @@ pub fn coming_law()
 pub fn among_law()
     ensures statements { AmongLaw (List Item) }
     ensures code { AmongLaw Spot }
+{}
+
+/// Where it concerns other tasks as well, what it does alone comes first, and then what it does to the others.
+pub fn apart_law()
+    ensures statements { ApartLaw (List Item) }
+    ensures code { ApartLaw Spot }
 {}
 
 /// Where a task asks the same without those facts, its step leads there without them.

@@ -1,4 +1,4 @@
-use Rattle.aud_among.proofs.Others.{not_depending}
+use Rattle.aud_among.proofs.Apart.{done_apart}
 use Rattle.aud_among.proofs.Moving.{closable_law}
 use Rattle.aud_among.proofs.laws.closable_law.Goals as goal
 
