@@ -1,20 +1,31 @@
 -- A step that concerns one task leads among the others where it leads alone.
-use Rattle.std.proofs.Common.{◌≡◌, ℕ, zero, suc, List, [], ◌∷◌, ◌++◌, map, length, slice_get, Option, Some, None, Bool, true, false, refl, sym, ap, ◌∙◌, subst}
+use Rattle.std.proofs.Common.{◌≡◌, ℕ, zero, suc, List, [], ◌∷◌, ◌++◌, map, length, slice_get, Option, Some, None, Bool, true, false, refl, sym, ap, ◌∙◌, subst, arith, nat_le}
+use Rattle.std.specs.Prelude.{if◌then◌else◌, replicate}
+use Rattle.aud_text.specs.declared.place.Pos.{Pos}
+use Rattle.aud_text.specs.declared.raise.Raise.TheVariants.{Storage}
+use Rattle.aud_text.specs.declared.limits.TheConstants.{ELEMENTS}
+use Rattle.aud_typed.specs.declared.program.Exception.TheVariants.{Predefined}
+use Rattle.aud_meaning.specs.Evaluation.{nearest_zero}
 use Rattle.aud_text.specs.declared.limits.Limits.{Limits}
 use Rattle.aud_typed.specs.declared.program.Exception.{Exception}
 use Rattle.aud_typed.specs.Tree.{Plan}
 use Rattle.aud_meaning.specs.declared.state.Status.TheVariants.{Running}
 use Rattle.aud_meaning.specs.Configuration.{Pending, Purpose, for_body, for_block, for_loop, for_procedure, for_operation, for_entry, for_accept, Opened, Own, Shared, TaskAt, All, Acting}
-use Rattle.aud_meaning.specs.Control.{Asked, raises_here, raises_in_part, declares, declares_array, declares_tasks, declares_object, ends_activation, activates, goes_on, assigns, puts, enters_loop, next_of_loop, goes_out, raises, raises_again, enters_block, calls_procedure, calls_operation, calls_own_entry, calls_entry, delays, accepts, selects, aborts, ends, handles, is_left_by, Seen, Controls, Moved, here, moved, all_moved}
-use Rattle.aud_meaning.specs.Parts.{owns, any, depends}
-use Rattle.aud_meaning.specs.Effects.{outermost}
+use Rattle.aud_meaning.specs.Control.{Asked, ordered, takes_part, passes_end, out_by, raises_here, raises_in_part, declares, declares_array, declares_tasks, declares_object, ends_activation, activates, goes_on, assigns, puts, enters_loop, next_of_loop, goes_out, raises, raises_again, enters_block, calls_procedure, calls_operation, calls_own_entry, calls_entry, delays, accepts, selects, aborts, ends, handles, is_left_by, Seen, Controls, Moved, here, moved, all_moved}
+use Rattle.aud_meaning.specs.Parts.{owns, any, depends, exception_of}
+use Rattle.aud_meaning.specs.Effects.{outermost, out_of}
+use Rattle.aud_meaning.specs.Effects as own
+use Rattle.aud_meaning.specs.Tasks as effect
 use Rattle.aud_meaning.specs.Step.{done}
 use Rattle.aud_meaning.specs.Run.{own_move, usual, under_way, turn, turn_taken, turn_at, seen, scene_of, step_of, step_with, construct_left}
 use Rattle.aud_meaning.specs.Ties.Single.{Stage, runs, completed, terminated, Stack, Single, own_in, all_of, scene_in, out_of_loops}
 use Rattle.aud_among.specs.Among.{Around, number, own_among, task_among, among, knowing}
 use Rattle.aud_among.specs.Alone.{Standing, standing, IsUndisturbed, AskedAlone, LeavesAlone, CompletesAlone, ClosesAlone, StepsAlone, asked_among}
 use Rattle.aud_among.proofs.Places.{get_at, length_map}
-use Rattle.aud_among.proofs.Acts.{act, on_its, closed_out, whole, stands, done_at, closes_at}
+use Rattle.aud_among.specs.Apart.{NoneQueued, MasterApart, CompletesApart, LeavesApart, AskedApart, left_after, asked_after, StepsApart, after}
+use Rattle.aud_among.proofs.Acts.{act, on_its, raising, going, closed_out, left_for, left_by, whole, stands, done_at, closes_at}
+use Rattle.aud_among.proofs.Others.{not_depending, Outside, nothing_outside, close_outside, raise_outside, activation_outside, complete_outside}
+use Rattle.aud_among.proofs.Apart.{done_apart, closes_apart}
 use Rattle.aud_among.proofs.Kept.{placed, joined, into, act_kept}
 use Rattle.aud_among.proofs.Seen.{bare, bare_joined, owns_bare_at, left_same, all_moved_at, seen_task, seen_there, asked_same}
 
@@ -197,12 +208,12 @@ module _ {C : Type 0} (plan : Plan) (k : Controls C) (limits : Limits) (name : L
   asks_alone p pending (handles e) h = tt
   asks_alone p pending (is_left_by e) h = leaves_alone p pending h
 
-  alone_running : (p : Single C) (pending : Option Pending) → AskedAlone plan k.barrier (standing a (record p { stage = runs pending })) (asked_among plan k a (record p { stage = runs pending }) pending) → step_with plan (knowing a (record p { stage = runs pending }) k) limits (all_of name (record p { stage = runs pending })) (own_move 0) ≡ alone_then p (act plan k.barrier (asked_among plan k a (record p { stage = runs pending }) pending) (self (record p { stage = runs pending })))
+  alone_running : (p : Single C) (pending : Option Pending) → AskedAlone plan k.barrier (alone_stands p (self (record p { stage = runs pending }))) (asked_among plan k a (record p { stage = runs pending }) pending) → step_with plan (knowing a (record p { stage = runs pending }) k) limits (all_of name (record p { stage = runs pending })) (own_move 0) ≡ alone_then p (act plan k.barrier (asked_among plan k a (record p { stage = runs pending }) pending) (self (record p { stage = runs pending })))
   alone_running p pending h =
       let q : Single C = record p { stage = runs pending } in
       let ask = asked_among plan k a q pending in
       ap (λ e. carried_alone q (done plan k.barrier limits None e 0 (whole plan k.barrier limits [] [] p.choices p.clock (suc p.steps) 0 refl (self q)))) (sym (asked_same k plan name a p pending))
-      ∙ ap (carried_alone q) (done_at plan k.barrier limits [] [] p.choices p.clock (suc p.steps) 0 refl ask (self q) (asks_alone p pending ask h))
+      ∙ ap (carried_alone q) (done_at plan k.barrier limits [] [] p.choices p.clock (suc p.steps) 0 refl ask (self q) h)
 
   alone_closing : (p : Single C) (raised : Option Exception) → step_with plan (knowing a (record p { stage = completed raised }) k) limits (all_of name (record p { stage = completed raised })) (own_move 0) ≡ alone_then p (on_its closed_out (self (record p { stage = completed raised })))
   alone_closing p raised =
@@ -216,9 +227,140 @@ module _ {C : Type 0} (plan : Plan) (k : Controls C) (limits : Limits) (name : L
     where
       by : (stage : Stage) → StepsAlone plan k a (record p { stage = stage }) → all_of name q ≡ step_with plan (knowing a (record p { stage = stage }) k) limits (all_of name (record p { stage = stage })) (own_move 0) → among a q ≡ step_with plan k limits (among a (record p { stage = stage })) (own_move n)
       by (runs pending) h leads =
-          both p q (act plan k.barrier (asked_among plan k a (record p { stage = runs pending }) pending) (self (record p { stage = runs pending }))) (leads ∙ alone_running p pending h.1)
+          both p q (act plan k.barrier (asked_among plan k a (record p { stage = runs pending }) pending) (self (record p { stage = runs pending }))) (leads ∙ alone_running p pending (asks_alone p pending (asked_among plan k a (record p { stage = runs pending }) pending) h.1))
           ∙ sym (among_running p pending h.0 h.1)
       by (completed raised) h leads =
           both p q (on_its closed_out (self (record p { stage = completed raised }))) (leads ∙ alone_closing p raised)
           ∙ sym (among_closing p raised h)
       by (terminated raised) h leads = both p q (self (record p { stage = terminated raised })) leads ∙ sym (among_resting p raised)
+
+  -- Steps that concern others as well.
+
+  all_moved_apart : (before : List (TaskAt C)) (bs : List (TaskAt Moved)) → length bs ≡ length before → (behind : List (TaskAt C)) (hs : List (TaskAt Moved)) (t : TaskAt C) (m : TaskAt Moved) → all_moved k (before ++ t ∷ behind) (bs ++ m ∷ hs) ≡ all_moved k before bs ++ record { control = moved k t.control m.control; own = m.own } ∷ all_moved k behind hs
+  all_moved_apart [] [] same behind hs t m = refl
+  all_moved_apart [] (b ∷ bs) same behind hs t m = absurd (omega (arith, same))
+  all_moved_apart (t' ∷ before) [] same behind hs t m = absurd (omega (arith, same))
+  all_moved_apart (t' ∷ before) (b ∷ bs) same behind hs t m = ap (λ ts. record { control = moved k t'.control b.control; own = b.own } ∷ ts) (all_moved_apart before bs (omega (arith, same)) behind hs t m)
+
+  abbrev Beside : Single C → (All Moved → All Moved) → Acting Moved → Type 0
+  Beside p f u = Outside plan k.barrier limits p.choices p.clock (suc p.steps) n f (bares a.before) (bares a.behind) u
+
+  -- what leaves the task as it is may come after the step
+  comes_after : (p : Single C) (f : All Moved → All Moved) (u : Acting Moved) → Beside p f u → carried p (f (others p u)) ≡ ordered k (among_then p u) f
+  comes_after p f u o =
+      let y : TaskAt C = record { control = moved k p.control u.control; own = u.own } in
+      let all : List (TaskAt C) → All C = λ ts. record (among a p) { steps = suc p.steps; tasks = ts; shared = u.shared } in
+      let orders : All Moved → All C = λ d. record (among_then p u) { tasks = all_moved k (a.before ++ y ∷ a.behind) d.tasks; shared = d.shared } in
+      let fits : length o.before_then ≡ length a.before = o.same ∙ length_map (λ (t : TaskAt C). bare t) a.before in
+      ap (carried p) (o.leads u.control)
+      ∙ ap all (all_moved_apart a.before o.before_then fits a.behind o.behind_then (x p) (record { control = u.control; own = o.own_then }))
+      ∙ sym (ap all (all_moved_apart a.before o.before_then fits a.behind o.behind_then y (record { control = here; own = o.own_then })))
+      ∙ sym (ap orders (o.leads here))
+      ∙ sym (ap (λ ts. orders (f (record { tasks = ts; shared = u.shared; choices = p.choices; clock = p.clock; steps = suc p.steps }))) (bare_joined a.before a.behind y))
+
+  -- the task at the end of a construct, alone
+  abbrev leaver : Single C → Option Pending → Moved → Acting Moved
+  leaver p pending to = record (self (record p { stage = runs pending })) { control = to; own = record (own_in name (runs pending) p.stack) { pending = None } }
+
+  left_beside : (p : Single C) (pending raised : Option Pending) (os : List Opened) (loops : ℕ) (to : Moved) → LeavesApart plan k.barrier os loops (standing a (record p { stage = runs pending })) → Beside p (left_after plan k.barrier os raised n) (selves (on_its (out_of loops) (left_by os raised (leaver p pending to))))
+  left_beside p pending raised [] loops to h = nothing_outside plan k.barrier limits p.choices p.clock (suc p.steps) n (bares a.before) (bares a.behind) (selves (on_its (out_of loops) (leaver p pending to)))
+  left_beside p pending raised (o ∷ os) loops to h = by o.purpose h
+    where
+      by : (purpose : Purpose) → LeavesApart plan k.barrier (record o { purpose = purpose } ∷ os) loops (standing a (record p { stage = runs pending })) → Beside p (left_after plan k.barrier (record o { purpose = purpose } ∷ os) raised n) (selves (on_its (out_of loops) (left_for purpose raised (record o { purpose = purpose }) (leaver p pending to))))
+      by for_body h =
+          subst (λ l. Beside p (left_after plan k.barrier (record o { purpose = for_body } ∷ os) raised n) (selves (on_its (out_of l) (left_for for_body raised (record o { purpose = for_body }) (leaver p pending to))))) (sym h.no_loop)
+          (complete_outside plan k.barrier limits p.choices p.clock (suc p.steps) n (exception_of raised) (bares a.before) (bares a.behind) (length_map (λ (t : TaskAt C). bare t) a.before) (selves (left_for for_body raised (record o { purpose = for_body }) (leaver p pending to))) refl h.no_accept h.no_call h.not_itself)
+      by for_block h = close_outside plan k.barrier limits p.choices p.clock (suc p.steps) n o.frame (bares a.before) (bares a.behind) (selves (on_its (out_of loops) (left_for for_block raised (record o { purpose = for_block }) (leaver p pending to)))) (not_depending o.frame (selves (on_its (out_of loops) (left_for for_block raised (record o { purpose = for_block }) (leaver p pending to)))).own h.not_its) h.no_call
+      by for_loop h = nothing_outside plan k.barrier limits p.choices p.clock (suc p.steps) n (bares a.before) (bares a.behind) (selves (on_its (out_of loops) (leaver p pending to)))
+      by (for_procedure r) h = close_outside plan k.barrier limits p.choices p.clock (suc p.steps) n o.frame (bares a.before) (bares a.behind) (selves (on_its (out_of loops) (left_for (for_procedure r) raised (record o { purpose = for_procedure r }) (leaver p pending to)))) (not_depending o.frame (selves (on_its (out_of loops) (left_for (for_procedure r) raised (record o { purpose = for_procedure r }) (leaver p pending to)))).own h.not_its) h.no_call
+      by (for_operation m r) h = absurd h
+      by (for_entry m i s b) h = absurd h
+      by (for_accept i) h = absurd h
+
+  array_beside : (p : Single C) (pending : Option Pending) (b : Bool) (at : Pos) (u : Acting Moved) → NoneQueued (standing a (record p { stage = runs pending })) → Beside p (λ c. if b then c else effect.raises_in_part plan k.barrier Storage at n c) (selves (if b then u else raising (Predefined Storage) at (self (record p { stage = runs pending }))))
+  array_beside p pending true at u h = nothing_outside plan k.barrier limits p.choices p.clock (suc p.steps) n (bares a.before) (bares a.behind) (selves u)
+  array_beside p pending false at u h = raise_outside plan k.barrier limits p.choices p.clock (suc p.steps) n Storage at (bares a.before) (bares a.behind) (length_map (λ (t : TaskAt C). bare t) a.before) (selves (raising (Predefined Storage) at (self (record p { stage = runs pending })))) refl h
+
+  leaves_beside : (p : Single C) (pending raised : Option Pending) (loops : ℕ) (to : Moved) → LeavesApart plan k.barrier (out_of_loops p.stack).opened loops (standing a (record p { stage = runs pending })) → Beside p (left_after plan k.barrier (out_of_loops p.stack).opened raised n) (selves (on_its (out_of loops) (left_by (construct_left (leaver p pending to).own) raised (leaver p pending to))))
+  leaves_beside p pending raised loops to h =
+      subst (λ os. Beside p (left_after plan k.barrier (out_of_loops p.stack).opened raised n) (selves (on_its (out_of loops) (left_by os raised (leaver p pending to))))) (sym (left_same (leaver p pending to).own))
+      (left_beside p pending raised (out_of_loops p.stack).opened loops to h)
+
+  asked_beside : (p : Single C) (pending : Option Pending) (ask : Asked) → AskedApart plan k.barrier (standing a (record p { stage = runs pending })) ask → Beside p (asked_after plan k.barrier (standing a (record p { stage = runs pending })) ask) (selves (act plan k.barrier ask (self (record p { stage = runs pending }))))
+  asked_beside p pending (raises_in_part raise at) h = raise_outside plan k.barrier limits p.choices p.clock (suc p.steps) n raise at (bares a.before) (bares a.behind) (length_map (λ (t : TaskAt C). bare t) a.before) (selves (raising (Predefined raise) at (self (record p { stage = runs pending })))) refl h
+  asked_beside p pending (declares_array at s count) h = array_beside p pending (nat_le count ELEMENTS) at (going 0 (own.declares (replicate count (nearest_zero s)) (self (record p { stage = runs pending })))) h
+  asked_beside p pending ends_activation h = activation_outside plan k.barrier limits p.choices p.clock (suc p.steps) n false (bares a.before) (bares a.behind) (length_map (λ (t : TaskAt C). bare t) a.before) (selves (going 0 (self (record p { stage = runs pending })))) h
+  asked_beside p pending (ends loops) h = leaves_beside p pending None loops (passes_end here) h
+  asked_beside p pending (is_left_by e) h = leaves_beside p pending (Some e) 0 (out_by e.exception here) h
+  asked_beside p pending ask h = nothing_outside plan k.barrier limits p.choices p.clock (suc p.steps) n (bares a.before) (bares a.behind) (selves (act plan k.barrier ask (self (record p { stage = runs pending }))))
+
+  leaves_apart_alone : (p : Single C) (pending : Option Pending) (loops : ℕ) (os : List Opened) → LeavesApart plan k.barrier os loops (standing a (record p { stage = runs pending })) → LeavesAlone plan k.barrier os (alone_stands p (self (record p { stage = runs pending })))
+  leaves_apart_alone p pending loops [] h = tt
+  leaves_apart_alone p pending loops (o ∷ os) h = by o.purpose h
+    where
+      by : (purpose : Purpose) → LeavesApart plan k.barrier (record o { purpose = purpose } ∷ os) loops (standing a (record p { stage = runs pending })) → LeavesAlone plan k.barrier (record o { purpose = purpose } ∷ os) (alone_stands p (self (record p { stage = runs pending })))
+      by for_body h = record { activated = refl; no_task = refl; no_accept = h.no_accept; no_call = refl }
+      by for_block h = refl
+      by for_loop h = tt
+      by (for_procedure r) h = refl
+      by (for_operation m r) h = h
+      by (for_entry m i s b) h = h
+      by (for_accept i) h = h
+
+  ends_apart_alone : (p : Single C) (pending : Option Pending) (loops : ℕ) → LeavesApart plan k.barrier (out_of_loops p.stack).opened loops (standing a (record p { stage = runs pending })) → LeavesAlone plan k.barrier (construct_left (own_in name (runs pending) p.stack)) (alone_stands p (self (record p { stage = runs pending })))
+  ends_apart_alone p pending loops h =
+      subst (λ os. LeavesAlone plan k.barrier os (alone_stands p (self (record p { stage = runs pending })))) (sym (left_same (own_in name (runs pending) p.stack)))
+      (leaves_apart_alone p pending loops (out_of_loops p.stack).opened h)
+
+  asks_apart_alone : (p : Single C) (pending : Option Pending) (ask : Asked) → AskedApart plan k.barrier (standing a (record p { stage = runs pending })) ask → AskedAlone plan k.barrier (alone_stands p (self (record p { stage = runs pending }))) ask
+  asks_apart_alone p pending (raises_in_part raise at) h = refl
+  asks_apart_alone p pending (declares_array at s count) h = λ e. refl
+  asks_apart_alone p pending ends_activation h = refl
+  asks_apart_alone p pending (ends loops) h = ends_apart_alone p pending loops h
+  asks_apart_alone p pending (is_left_by e) h = ends_apart_alone p pending 0 h
+  asks_apart_alone p pending ask h = asks_alone p pending ask h
+
+  apart_running : (p : Single C) (pending : Option Pending) → IsUndisturbed a.own → AskedApart plan k.barrier (standing a (record p { stage = runs pending })) (asked_among plan k a (record p { stage = runs pending }) pending) → step_with plan k limits (among a (record p { stage = runs pending })) (own_move n) ≡ ordered k (among_then p (selves (act plan k.barrier (asked_among plan k a (record p { stage = runs pending }) pending) (self (record p { stage = runs pending }))))) (asked_after plan k.barrier (standing a (record p { stage = runs pending })) (asked_among plan k a (record p { stage = runs pending }) pending))
+  apart_running p pending undisturbed h =
+      let q : Single C = record p { stage = runs pending } in
+      let ask = asked_among plan k a q pending in
+      let s = seen plan k (among a q) in
+      let m = mine q in
+      let d = begin q (bares a.before ++ bare (x q) ∷ bares a.behind) in
+      stepped q
+      ∙ ap (λ b. carried q (turn_taken plan k.barrier limits (under_way plan k.barrier b n m s) ask (own_move n) d)) undisturbed.not_abnormal
+      ∙ ap (λ o. carried q (turn_taken plan k.barrier limits (usual plan k.barrier o Running n m s) ask (own_move n) d)) undisturbed.serves_none
+      ∙ ap (carried q) (done_apart plan k.barrier limits p.choices p.clock (suc p.steps) n (bares a.before) (bares a.behind) (length_map (λ (t : TaskAt C). bare t) a.before) ask (selves (self q)) refl (subst (λ st. AskedApart plan k.barrier st ask) (running_same p pending) h))
+      ∙ ap (λ st. carried q (asked_after plan k.barrier st ask (others q (act plan k.barrier ask (selves (self q)))))) (sym (running_same p pending))
+      ∙ ap (λ u. carried q (asked_after plan k.barrier (standing a q) ask (others q u))) (act_kept a.own a.calls a.arrivals a.objects plan k.barrier ask (self q))
+      ∙ comes_after q (asked_after plan k.barrier (standing a q) ask) (selves (act plan k.barrier ask (self q))) (asked_beside p pending ask h)
+
+  apart_closing : (p : Single C) (raised : Option Exception) → MasterApart (outermost p.stack.opened) (standing a (record p { stage = completed raised })) → step_with plan k limits (among a (record p { stage = completed raised })) (own_move n) ≡ ordered k (among_then p (selves (on_its closed_out (self (record p { stage = completed raised }))))) (effect.close_master plan k.barrier (outermost p.stack.opened))
+  apart_closing p raised h =
+      let q : Single C = record p { stage = completed raised } in
+      stepped q
+      ∙ ap (carried q) (closes_apart plan k.barrier limits p.choices p.clock (suc p.steps) n (bares a.before) (bares a.behind) (length_map (λ (t : TaskAt C). bare t) a.before) (selves (self q)) (record { not_its = h.not_its; no_call = h.no_call }))
+      ∙ comes_after q (effect.close_master plan k.barrier (outermost p.stack.opened)) (selves (on_its closed_out (self q)))
+      (close_outside plan k.barrier limits p.choices p.clock (suc p.steps) n (outermost p.stack.opened) (bares a.before) (bares a.behind) (selves (on_its closed_out (self q))) refl h.no_call)
+
+  apart_resting : (p : Single C) (raised : Option Exception) → step_with plan k limits (among a (record p { stage = terminated raised })) (own_move n) ≡ ordered k (among_then p (selves (self (record p { stage = terminated raised })))) (λ c. c)
+  apart_resting p raised =
+      let q : Single C = record p { stage = terminated raised } in
+      stepped q
+      ∙ comes_after q (λ c. c) (selves (self q)) (nothing_outside plan k.barrier limits p.choices p.clock (suc p.steps) n (bares a.before) (bares a.behind) (selves (self q)))
+
+  pub apart_law : (p q : Single C) → StepsApart plan k a p p.stage → all_of name q ≡ step_with plan (knowing a p k) limits (all_of name p) (own_move 0) → ordered k (among a q) (after plan k a p p.stage) ≡ step_with plan k limits (among a p) (own_move n)
+  apart_law p q h leads = by p.stage h leads
+    where
+      by : (stage : Stage) → StepsApart plan k a (record p { stage = stage }) stage → all_of name q ≡ step_with plan (knowing a (record p { stage = stage }) k) limits (all_of name (record p { stage = stage })) (own_move 0) → ordered k (among a q) (after plan k a (record p { stage = stage }) stage) ≡ step_with plan k limits (among a (record p { stage = stage })) (own_move n)
+      by (runs pending) h leads =
+          ap (λ c. ordered k c (after plan k a (record p { stage = runs pending }) (runs pending)))
+          (both p q (act plan k.barrier (asked_among plan k a (record p { stage = runs pending }) pending) (self (record p { stage = runs pending }))) (leads ∙ alone_running p pending (asks_apart_alone p pending (asked_among plan k a (record p { stage = runs pending }) pending) h.1)))
+          ∙ sym (apart_running p pending h.0 h.1)
+      by (completed raised) h leads =
+          ap (λ c. ordered k c (after plan k a (record p { stage = completed raised }) (completed raised)))
+          (both p q (on_its closed_out (self (record p { stage = completed raised }))) (leads ∙ alone_closing p raised))
+          ∙ sym (apart_closing p raised h)
+      by (terminated raised) h leads =
+          ap (λ c. ordered k c (λ d. d)) (both p q (self (record p { stage = terminated raised })) leads)
+          ∙ sym (apart_resting p raised)

@@ -1,4 +1,3 @@
-use Rattle.aud_among.proofs.Apart.{done_apart}
 use Rattle.aud_among.proofs.Moving.{closable_law}
 use Rattle.aud_among.proofs.laws.closable_law.Goals as goal
 
