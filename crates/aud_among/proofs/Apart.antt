@@ -51,7 +51,7 @@ module _ (plan : Plan) (barrier : ℕ → Sight → Result Bool Raise) (limits :
     abbrev standing_of : Acting Moved → Standing
     standing_of t = stands plan barrier limits before behind choices clock steps n is t
 
-    raise_twice : (raise : Raise) (at : Pos) (t : Acting Moved) → is_created t.own.status ≡ false → NoneQueued (standing_of t) → effect.raises_in_part plan barrier raise at n (W before behind t) ≡ effect.raises_in_part plan barrier raise at n (W before behind (raising (Predefined raise) at t))
+    pub raise_twice : (raise : Raise) (at : Pos) (t : Acting Moved) → is_created t.own.status ≡ false → NoneQueued (standing_of t) → effect.raises_in_part plan barrier raise at n (W before behind t) ≡ effect.raises_in_part plan barrier raise at n (W before behind (raising (Predefined raise) at t))
     raise_twice raise at t created none =
         raise_others plan barrier limits choices clock steps n raise at before behind is t created none
         ∙ sym (raise_others plan barrier limits choices clock steps n raise at before behind is (raising (Predefined raise) at t) created none)

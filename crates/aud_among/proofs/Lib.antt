@@ -7,3 +7,4 @@ pub mod Apart
 pub mod Seen
 pub mod Steps
 pub mod Moving
+pub mod Creating

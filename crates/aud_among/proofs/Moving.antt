@@ -1,21 +1,23 @@
 -- The moves of tasks, one by one and of one among the others.
-use Rattle.std.proofs.Common.{◌≡◌, ℕ, zero, suc, ◌+◌, List, [], ◌∷◌, ◌++◌, map, length, slice_get, slice_index_or, Option, Some, None, Bool, true, false, ◌||◌, refl, sym, ap, ◌∙◌, subst, arith, Result}
+use Rattle.std.proofs.Common.{◌≡◌, ℕ, zero, suc, ◌+◌, ◌<◌, ◌≤◌, List, [], ◌∷◌, ◌++◌, map, length, slice_get, slice_index_or, Option, Some, None, Bool, true, false, ◌||◌, refl, sym, ap, ◌∙◌, subst, arith, Result}
 use Rattle.std.specs.Prelude.{not, ◌&&◌, if◌then◌else◌, filter}
 use Rattle.aud_text.specs.declared.raise.Raise.{Raise}
 use Rattle.aud_typed.specs.declared.program.Exception.{Exception}
 use Rattle.aud_typed.specs.Tree.{Plan}
 use Rattle.aud_meaning.specs.declared.state.Status.{Status}
 use Rattle.aud_meaning.specs.declared.state.Status.TheVariants.{Created, Running, Activating, Accepting, Delaying, Calling, Completed, Terminated}
+use Rattle.aud_meaning.specs.declared.state.State.{State}
+use Rattle.aud_meaning.specs.declared.state.State.TheVariants as state
 use Rattle.aud_meaning.specs.Configuration.{Pending, Opened, OpenAccept, Own, Shared, TaskAt, All}
 use Rattle.aud_meaning.specs.Evaluation.{Sight}
 use Rattle.aud_meaning.specs.Control.{Coming, simply, ending, selecting, calling, starting, Seen, Controls}
 use Rattle.aud_meaning.specs.Effects.{outermost}
 use Rattle.aud_meaning.specs.Parts.{nobody, owns, own_of, any, depends, may_terminate, is_terminated, Closable}
-use Rattle.aud_meaning.specs.Run.{Move, own_move, usual, under_way, turn, turn_moves, acting_moves, end_moves, each_or_one, alternatives_of, only, has_queue, has_ended, moves_by, moves_from, moves_at, seen, seen_from, master_left_by, construct_left}
+use Rattle.aud_meaning.specs.Run.{Move, own_move, usual, under_way, turn, turn_moves, acting_moves, end_moves, each_or_one, alternatives_of, only, has_queue, has_ended, moves_by, moves_from, moves_at, turn_times, times_from, waiting_by, some_move, state_by, state_at, seen, seen_from, master_left_by, construct_left}
 use Rattle.aud_meaning.specs.Ties.Single.{Stage, runs, completed, terminated, Single, own_in, all_of, scene_in, out_of_loops}
 use Rattle.aud_among.specs.Among.{Around, number, own_among, task_among, among, knowing}
 use Rattle.aud_among.specs.Alone.{IsUndisturbed}
-use Rattle.aud_among.specs.Law.{moves_by_turn, task_moves, tasks_moves, ComesAlone, MovesAlone, coming_among, master_by, closable_or_none, may_move, as_task, Rests}
+use Rattle.aud_among.specs.Law.{moves_by_turn, task_moves, tasks_moves, ComesAlone, MovesAlone, coming_among, master_by, closable_or_none, may_move, as_task, Rests, IsUntimed, more_or_stuck}
 use Rattle.aud_among.proofs.Places.{own_at, first_false, second_false}
 use Rattle.aud_among.proofs.Seen.{left_same, seen_task, seen_there, coming_same}
 
@@ -110,6 +112,76 @@ module _ {C : Type 0} (plan : Plan) (k : Controls C) where
 
   pub rest_law : (n : ℕ) (c : All C) → Rests (own_of n c) → task_moves plan k n c ≡ []
   rest_law n c h = rests_at n c 0 n c.tasks (owns c.tasks) c.shared h
+
+  -- All but one at rest.
+
+  none_from : (i count : ℕ) (c : All C) → ((m : ℕ) → i ≤ m → task_moves plan k m c ≡ []) → tasks_moves plan k i count c ≡ []
+  none_from i zero c none = refl
+  none_from i (suc count) c none =
+      ap (λ ms. ms ++ tasks_moves plan k (suc i) count c) (none i (omega arith))
+      ∙ none_from (suc i) count c (λ m h. none m (omega (arith, h)))
+
+  with_nothing : (ms : List Move) → ms ++ [] ≡ ms
+  with_nothing [] = refl
+  with_nothing (m ∷ ms) = ap (λ xs. m ∷ xs) (with_nothing ms)
+
+  only_from : (d i count : ℕ) (c : All C) → d < count → ((m : ℕ) → ¬ (m ≡ i + d) → task_moves plan k m c ≡ []) → tasks_moves plan k i count c ≡ task_moves plan k (i + d) c
+  only_from d i zero c below none = absurd (omega (arith, below))
+  only_from zero i (suc count) c below none =
+      let e : i ≡ i + 0 = omega arith in
+      ap (λ ms. task_moves plan k i c ++ ms) (none_from (suc i) count c (λ m h. none m (λ same. omega (arith, h, same))))
+      ∙ with_nothing (task_moves plan k i c)
+      ∙ ap (λ m. task_moves plan k m c) e
+  only_from (suc d) i (suc count) c below none =
+      let e : suc i + d ≡ i + suc d = omega arith in
+      ap (λ ms. ms ++ tasks_moves plan k (suc i) count c) (none i (λ same. omega (arith, same)))
+      ∙ only_from d (suc i) count c (omega (arith, below)) (λ m other. none m (λ same. other (omega (arith, same))))
+      ∙ ap (λ m. task_moves plan k m c) e
+
+  pub only_law : (n : ℕ) (c : All C) → n < length c.tasks → ((m : ℕ) → ¬ (m ≡ n) → Rests (own_of m c)) → moves_at plan k c ≡ (if is_terminated (own_of 0 c).status || c.shared.cut then [] else task_moves plan k n c)
+  only_law n c there rest =
+      let e : 0 + n ≡ n = omega arith in
+      moves_law c
+      ∙ ap (λ ms. if is_terminated (own_of 0 c).status || c.shared.cut then [] else ms)
+      (only_from n 0 (length c.tasks) c there (λ m other. rest_law m c (rest m (λ same. other (omega (arith, same))))) ∙ ap (λ m. task_moves plan k m c) e)
+
+  -- The state.
+
+  untimed : (n : ℕ) (s : All Seen) (status : Status) (t : TaskAt Seen) (o : Own) → IsUntimed (record o { status = status }) → turn_times plan k.barrier (turn plan k.barrier n (record t { own = record o { status = status } }) s) s ≡ []
+  untimed n s Created t o h = refl
+  untimed n s Running t o h =
+      let u : TaskAt Seen = record t { own = record o { status = Running } } in
+      ap (λ b. turn_times plan k.barrier (under_way plan k.barrier b n u s) s) h.not_abnormal
+      ∙ ap (λ x. turn_times plan k.barrier (usual plan k.barrier x Running n u s) s) h.serves_none
+  untimed n s Activating t o h =
+      let u : TaskAt Seen = record t { own = record o { status = Activating } } in
+      ap (λ b. turn_times plan k.barrier (under_way plan k.barrier b n u s) s) h.not_abnormal
+      ∙ ap (λ x. turn_times plan k.barrier (usual plan k.barrier x Activating n u s) s) h.serves_none
+  untimed n s Accepting t o h = absurd h
+  untimed n s Delaying t o h = absurd h
+  untimed n s Calling t o h = absurd h
+  untimed n s Completed t o h = refl
+  untimed n s Terminated t o h = refl
+
+  no_times : (s : All Seen) (i : ℕ) (ts : List (TaskAt C)) (os : List Own) (shared : Shared) → ((n : ℕ) → IsUntimed (slice_index_or (owns ts) n nobody)) → times_from plan k.barrier i (seen_from plan k i ts os shared) s ≡ []
+  no_times s i [] os shared h = refl
+  no_times s i (t ∷ ts) os shared h =
+      ap (λ xs. xs ++ times_from plan k.barrier (suc i) (seen_from plan k (suc i) ts os shared) s) (untimed i s t.own.status (seen_task k plan i t os shared) t.own (h 0))
+      ∙ no_times s (suc i) ts os shared (λ n. h (suc n))
+
+  pub state_law : (c : All C) → ((n : ℕ) → IsUntimed (own_of n c)) → state_at plan k c ≡ (if is_terminated (own_of 0 c).status then state.Ended else if c.shared.cut then state.OutputFull else more_or_stuck (moves_at plan k c))
+  state_law c h =
+      ap (λ b. state_by plan k.barrier b c.shared.cut (seen plan k c)) (ended_same c.tasks (owns c.tasks) c.shared)
+      ∙ by (is_terminated (own_of 0 c).status) c.shared.cut
+    where
+      some : (ms : List Move) → some_move plan k.barrier ms (seen plan k c) ≡ more_or_stuck ms
+      some [] = ap (waiting_by plan k.barrier) (no_times (seen plan k c) 0 c.tasks (owns c.tasks) c.shared h)
+      some (m ∷ ms) = refl
+
+      by : (ended cut : Bool) → state_by plan k.barrier ended cut (seen plan k c) ≡ (if ended then state.Ended else if cut then state.OutputFull else more_or_stuck (moves_at plan k c))
+      by true cut = refl
+      by false true = refl
+      by false false = some (moves_at plan k c)
 
   -- A task among the others.
 

@@ -43,7 +43,7 @@ pub left_same : (o : Own) → construct_left o ≡ (out_of_loops (record { displ
 left_same o = loops_by o.opened o
 
 module _ {C : Type 0} (k : Controls C) where
-  all_bare : (ts : List (TaskAt C)) → all_moved k ts (map (λ (t : TaskAt C). bare t) ts) ≡ ts
+  pub all_bare : (ts : List (TaskAt C)) → all_moved k ts (map (λ (t : TaskAt C). bare t) ts) ≡ ts
   all_bare [] = refl
   all_bare (t ∷ ts) = ap (λ us. t ∷ us) (all_bare ts)
 

@@ -34,14 +34,14 @@ module _ {C : Type 0} (plan : Plan) (k : Controls C) (limits : Limits) (name : L
   n = number a
 
   -- the other tasks, before anything is ordered
-  abbrev bares : List (TaskAt C) → List (TaskAt Moved)
+  abbrev pub bares : List (TaskAt C) → List (TaskAt Moved)
   bares ts = map (λ (t : TaskAt C). bare t) ts
 
   -- the task as a program of its own
-  abbrev self : Single C → Acting Moved
+  abbrev pub self : Single C → Acting Moved
   self p = record { control = here; own = own_in name p.stage p.stack; shared = (all_of name p).shared }
 
-  abbrev selves : Acting Moved → Acting Moved
+  abbrev pub selves : Acting Moved → Acting Moved
   selves t = into a.own a.calls a.arrivals a.objects t
 
   -- so it is after a step, alone and among the others
@@ -54,7 +54,7 @@ module _ {C : Type 0} (plan : Plan) (k : Controls C) (limits : Limits) (name : L
     steps = suc p.steps;
   }
 
-  abbrev among_then : Single C → Acting Moved → All C
+  abbrev pub among_then : Single C → Acting Moved → All C
   among_then p u = record {
     tasks = a.before ++ record { control = moved k p.control u.control; own = u.own } ∷ a.behind;
     shared = u.shared;
@@ -92,10 +92,10 @@ module _ {C : Type 0} (plan : Plan) (k : Controls C) (limits : Limits) (name : L
     asked = k.asks x.own.pending (scene_of plan k n c) p.control
 
     -- where the orders are carried out
-    abbrev carried : All Moved → All C
+    abbrev pub carried : All Moved → All C
     carried d = record c { steps = suc p.steps; tasks = all_moved k c.tasks d.tasks; shared = d.shared }
 
-    abbrev begin : List (TaskAt Moved) → All Moved
+    abbrev pub begin : List (TaskAt Moved) → All Moved
     begin ts = record { tasks = ts; shared = c.shared; choices = p.choices; clock = p.clock; steps = suc p.steps }
 
     abbrev mine : TaskAt Seen
@@ -107,7 +107,7 @@ module _ {C : Type 0} (plan : Plan) (k : Controls C) (limits : Limits) (name : L
         ∙ ap (λ o. carried (turn_taken plan k.barrier limits (turn_at plan k.barrier limits o n (seen plan k c)) asked (own_move n) (begin (bares c.tasks)))) (seen_there k plan a.before a.behind x (owns c.tasks) c.shared)
         ∙ ap (λ ts. carried (turn_taken plan k.barrier limits (turn plan k.barrier n mine (seen plan k c)) asked (own_move n) (begin ts))) (bare_joined a.before a.behind x)
 
-    abbrev others : Acting Moved → All Moved
+    abbrev pub others : Acting Moved → All Moved
     others u = whole plan k.barrier limits (bares a.before) (bares a.behind) p.choices p.clock (suc p.steps) n (length_map (λ (t : TaskAt C). bare t) a.before) u
 
     carried_out : (u : Acting Moved) → carried (others u) ≡ among_then p u
@@ -236,7 +236,7 @@ module _ {C : Type 0} (plan : Plan) (k : Controls C) (limits : Limits) (name : L
 
   -- Steps that concern others as well.
 
-  all_moved_apart : (before : List (TaskAt C)) (bs : List (TaskAt Moved)) → length bs ≡ length before → (behind : List (TaskAt C)) (hs : List (TaskAt Moved)) (t : TaskAt C) (m : TaskAt Moved) → all_moved k (before ++ t ∷ behind) (bs ++ m ∷ hs) ≡ all_moved k before bs ++ record { control = moved k t.control m.control; own = m.own } ∷ all_moved k behind hs
+  pub all_moved_apart : (before : List (TaskAt C)) (bs : List (TaskAt Moved)) → length bs ≡ length before → (behind : List (TaskAt C)) (hs : List (TaskAt Moved)) (t : TaskAt C) (m : TaskAt Moved) → all_moved k (before ++ t ∷ behind) (bs ++ m ∷ hs) ≡ all_moved k before bs ++ record { control = moved k t.control m.control; own = m.own } ∷ all_moved k behind hs
   all_moved_apart [] [] same behind hs t m = refl
   all_moved_apart [] (b ∷ bs) same behind hs t m = absurd (omega (arith, same))
   all_moved_apart (t' ∷ before) [] same behind hs t m = absurd (omega (arith, same))
@@ -246,7 +246,7 @@ module _ {C : Type 0} (plan : Plan) (k : Controls C) (limits : Limits) (name : L
   Beside p f u = Outside plan k.barrier limits p.choices p.clock (suc p.steps) n f (bares a.before) (bares a.behind) u
 
   -- what leaves the task as it is may come after the step
-  comes_after : (p : Single C) (f : All Moved → All Moved) (u : Acting Moved) → Beside p f u → carried p (f (others p u)) ≡ ordered k (among_then p u) f
+  pub comes_after : (p : Single C) (f : All Moved → All Moved) (u : Acting Moved) → Beside p f u → carried p (f (others p u)) ≡ ordered k (among_then p u) f
   comes_after p f u o =
       let y : TaskAt C = record { control = moved k p.control u.control; own = u.own } in
       let all : List (TaskAt C) → All C = λ ts. record (among a p) { steps = suc p.steps; tasks = ts; shared = u.shared } in

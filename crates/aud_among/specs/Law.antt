@@ -1,18 +1,27 @@
 -- What is true of a task among others, by what it does alone.
-use Rattle.std.specs.Prelude.{◌≡◌, ℕ, zero, suc, List, [], ◌∷◌, ◌++◌, length, map, filter, Option, None, Some, Bool, true, false, ◌||◌, if◌then◌else◌, slice_get}
+use Rattle.std.specs.Prelude.{◌≡◌, ◌<◌, ◌+◌, ℕ, zero, suc, List, [], ◌∷◌, ◌++◌, length, map, filter, Option, None, Some, Bool, true, false, not, ◌&&◌, ◌||◌, nat_eq, nat_le, if◌then◌else◌, slice_get, slice_index_or, slice_set}
+use Rattle.aud_text.specs.declared.place.Pos.{Pos}
+use Rattle.aud_text.specs.declared.raise.Raise.{Raise}
+use Rattle.aud_text.specs.declared.raise.Raise.TheVariants.{Program, Storage}
+use Rattle.aud_text.specs.declared.limits.TheConstants.{ELEMENTS}
+use Rattle.aud_typed.specs.declared.program.Exception.TheVariants.{Predefined}
 use Rattle.aud_text.specs.declared.limits.Limits.{Limits}
-use Rattle.aud_typed.specs.Tree.{Plan}
+use Rattle.aud_typed.specs.Tree.{Plan, Tasks}
+use Rattle.aud_meaning.specs.declared.state.State.{State}
+use Rattle.aud_meaning.specs.declared.state.State.TheVariants as state
 use Rattle.aud_meaning.specs.declared.state.Status.{Status}
 use Rattle.aud_meaning.specs.declared.state.Status.TheVariants.{Created, Running, Activating, Accepting, Delaying, Calling, Completed, Terminated}
 use Rattle.aud_meaning.specs.Configuration.{Pending, Opened, Own, TaskAt, All}
-use Rattle.aud_meaning.specs.Control.{Coming, simply, ending, selecting, calling, starting, Seen, Controls, ordered}
-use Rattle.aud_meaning.specs.Effects.{outermost}
-use Rattle.aud_meaning.specs.Parts.{owns, own_of, any, depends, may_terminate, is_terminated, Closable, sight_of}
-use Rattle.aud_meaning.specs.Run.{Move, own_move, turn, turn_moves, has_queue, master_left_by, seen, moves_at, scene_of, step_with}
-use Rattle.aud_meaning.specs.Ties.Single.{Stage, runs, completed, terminated, Single, all_of, scene_in, out_of_loops}
-use Rattle.aud_among.specs.Among.{Around, number, among, knowing}
-use Rattle.aud_among.specs.Alone.{IsUndisturbed, StepsAlone, asked_among}
-use Rattle.aud_among.specs.Apart.{StepsApart, after}
+use Rattle.aud_meaning.specs.Control.{Coming, simply, ending, selecting, calling, starting, Seen, declares_tasks, Controls, all_moved, ordered}
+use Rattle.aud_meaning.specs.Effects.{innermost, outermost}
+use Rattle.aud_meaning.specs.Parts.{owns, own_of, any, depends, may_terminate, is_terminated, in_action, Closable, facts_of, sight_of}
+use Rattle.aud_meaning.specs.Tasks as effect
+use Rattle.aud_meaning.specs.Step.{done}
+use Rattle.aud_meaning.specs.Run.{Move, own_move, turn, turn_moves, has_queue, master_left_by, seen, moves_at, state_at, scene_of, step_with}
+use Rattle.aud_meaning.specs.Ties.Single.{Stage, runs, completed, terminated, Single, all_of, scene_in, out_of_loops, on_innermost}
+use Rattle.aud_among.specs.Among.{Around, number, own_among, among, knowing}
+use Rattle.aud_among.specs.Alone.{standing, IsUndisturbed, StepsAlone, asked_among}
+use Rattle.aud_among.specs.Apart.{NoneQueued, StepsApart, after}
 
 -- What a task asks among others, and what comes next of it, is what it asks alone with the facts of the others.
 abbrev pub AskedLaw : (C : Type 0) → Type 0
@@ -36,10 +45,59 @@ abbrev pub ApartLaw : (C : Type 0) → Type 0
 ApartLaw C =
     (plan : Plan) (k : Controls C) (limits : Limits) (name : List ℕ) (a : Around C) (p q : Single C) → StepsApart plan k a p p.stage → all_of name q ≡ step_with plan (knowing a p k) limits (all_of name p) (own_move 0) → ordered k (among a q) (after plan k a p p.stage) ≡ step_with plan k limits (among a p) (own_move (number a))
 
+-- Whatever it asks, the step is what is done then: with calls and protected objects too, and whichever alternative the move picks.
+abbrev pub ActsLaw : (C : Type 0) → Type 0
+ActsLaw C =
+    (plan : Plan) (k : Controls C) (limits : Limits) (a : Around C) (p : Single C) (pending : Option Pending) (alternative : Option ℕ) → p.stage ≡ runs pending → IsUndisturbed a.own → step_with plan k limits (among a p) (record { task = number a; alternative = alternative }) ≡ ordered k (record (among a p) { steps = suc p.steps }) (done plan k.barrier limits alternative (asked_among plan k a p pending) (number a))
+
 -- Where it asks the same without those facts, it leads there without them.
 abbrev pub UnawareLaw : (C : Type 0) → Type 0
 UnawareLaw C =
     (plan : Plan) (k : Controls C) (limits : Limits) (name : List ℕ) (a : Around C) (p : Single C) → ((pending : Option Pending) → p.stage ≡ runs pending → k.asks pending (scene_in name p) p.control ≡ (knowing a p k).asks pending (scene_in name p) p.control) → step_with plan k limits (all_of name p) (own_move 0) ≡ step_with plan (knowing a p k) limits (all_of name p) (own_move 0)
+
+-- The facts that it sees of all tasks stay the same while it runs.
+abbrev pub FactsLaw : (C : Type 0) → Type 0
+FactsLaw C =
+    (a : Around C) (p q : Single C) (x y : Option Pending) → p.stage ≡ runs x → q.stage ≡ runs y → facts_of (among a p) ≡ facts_of (among a q)
+
+-- Tasks that are declared.
+
+module _ {C : Type 0} (plan : Plan) (k : Controls C) (a : Around C) where
+  -- what is declared, each before its body
+  abbrev pub with_created : Single C → Tasks → Around C
+  with_created p ts = record a { behind = a.behind ++ all_moved k [] (effect.all_created plan k.barrier (own_among a.own p.stage p.stack) ts 0 ts.length) }
+
+  -- their numbers in the cells of one more name
+  abbrev pub naming : Single C → ℕ → Single C
+  naming p count =
+      let frame = innermost p.stack.opened in
+      record p {
+        control = k.takes 0 p.control;
+        stack = on_innermost (λ o. record o { elaborated = suc o.elaborated }) p.stack;
+        frames = slice_set p.frames frame (slice_index_or p.frames frame [] ++ effect.counted_from plan k.barrier (length (among a p).tasks) count);
+        steps = suc p.steps;
+      }
+
+-- the exception that such a declaration raises, if it raises one
+abbrev pub refusal : {C : Type 0} → Limits → Tasks → ℕ → All C → Option Raise
+refusal limits ts n c =
+    if not (nat_eq ts.length 0) && in_action n c
+    then Some Program
+    else if nat_le ts.length ELEMENTS && nat_le (length c.tasks + ts.length) limits.tasks then None else Some Storage
+
+-- Where it raises none, the tasks stand behind all others then, and who declares them has their numbers (RM 9.2).
+abbrev pub CreateLaw : (C : Type 0) → Type 0
+CreateLaw C =
+    (plan : Plan) (k : Controls C) (limits : Limits) (a : Around C) (p : Single C) (at : Pos) (ts : Tasks) → p.stage ≡ runs None → IsUndisturbed a.own → asked_among plan k a p None ≡ declares_tasks at ts → refusal limits ts (number a) (among a p) ≡ None → among (with_created plan k a p ts) (naming plan k a p ts.length) ≡ step_with plan k limits (among a p) (own_move (number a))
+
+-- it has an exception pending
+abbrev pub raising : {C : Type 0} → Raise → Pos → Single C → Single C
+raising raise at p = record p { stage = runs (Some (record { exception = Predefined raise; at = at })); steps = suc p.steps }
+
+-- Where it raises one, what the declarative part has created ends.
+abbrev pub RefuseLaw : (C : Type 0) → Type 0
+RefuseLaw C =
+    (plan : Plan) (k : Controls C) (limits : Limits) (a : Around C) (p : Single C) (at : Pos) (ts : Tasks) (raise : Raise) → p.stage ≡ runs None → IsUndisturbed a.own → NoneQueued (standing a p) → asked_among plan k a p None ≡ declares_tasks at ts → refusal limits ts (number a) (among a p) ≡ Some raise → ordered k (among a (raising raise at p)) (effect.raises_in_part plan k.barrier raise at (number a)) ≡ step_with plan k limits (among a p) (own_move (number a))
 
 -- Moves.
 
@@ -126,3 +184,33 @@ RestLaw C = (plan : Plan) (k : Controls C) (n : ℕ) (c : All C) → Rests (own_
 abbrev pub ClosableLaw : (C : Type 0) → Type 0
 ClosableLaw C =
     (c : All C) (master : ℕ) → any may_terminate (owns c.tasks) ≡ false → Closable master c ≡ true → any (depends master) (owns c.tasks) ≡ false
+
+-- Where all other tasks rest, the enabled moves are those of the one.
+abbrev pub OnlyLaw : (C : Type 0) → Type 0
+OnlyLaw C =
+    (plan : Plan) (k : Controls C) (n : ℕ) (c : All C) → n < length c.tasks → ((m : ℕ) → ¬ (m ≡ n) → Rests (own_of m c)) → moves_at plan k c ≡ (if is_terminated (own_of 0 c).status || c.shared.cut then [] else task_moves plan k n c)
+
+-- The state.
+
+-- it waits for no time
+abbrev pub IsUntimed : Own → Type 0
+IsUntimed own = by own.status
+  where
+    by : Status → Type 0
+    by Created = Unit {0}
+    by Running = IsUndisturbed own
+    by Activating = IsUndisturbed own
+    by Accepting = ⊥
+    by Delaying = ⊥
+    by Calling = ⊥
+    by Completed = Unit {0}
+    by Terminated = Unit {0}
+
+abbrev pub more_or_stuck : List Move → State
+more_or_stuck [] = state.Stuck
+more_or_stuck (m ∷ ms) = state.More
+
+-- Where no task waits for a time, the program is stuck when no move is enabled, and neither at its end nor at the output's limit.
+abbrev pub StateLaw : (C : Type 0) → Type 0
+StateLaw C =
+    (plan : Plan) (k : Controls C) (c : All C) → ((n : ℕ) → IsUntimed (own_of n c)) → state_at plan k c ≡ (if is_terminated (own_of 0 c).status then state.Ended else if c.shared.cut then state.OutputFull else more_or_stuck (moves_at plan k c))

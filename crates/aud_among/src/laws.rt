@@ -4,7 +4,8 @@
 ghost use Rattle.std.specs.Prelude.{List};
 ghost use Rattle.aud_meaning.specs.Configuration.{Item};
 ghost use Rattle.aud_code.specs.Places.{Spot};
-ghost use Rattle.aud_among.specs.Law.{AskedLaw, ComingLaw, AmongLaw, ApartLaw, UnawareLaw, MovesLaw, MoveLaw, RestLaw, ClosableLaw};
+ghost use Rattle.aud_among.specs.Law.{AskedLaw, ComingLaw, AmongLaw, ApartLaw, ActsLaw, CreateLaw, RefuseLaw, FactsLaw, UnawareLaw};
+ghost use Rattle.aud_among.specs.Law.{MovesLaw, MoveLaw, RestLaw, ClosableLaw, OnlyLaw, StateLaw};
 
 /// What a task asks among others is what it asks alone with the facts of the others handed to it.
 pub fn asked_law()
@@ -28,6 +29,27 @@ pub fn among_law()
 pub fn apart_law()
     ensures statements { ApartLaw (List Item) }
     ensures code { ApartLaw Spot }
+{}
+
+/// Whatever a task asks, its step is what is done then.
+pub fn acts_law()
+    ensures statements { ActsLaw (List Item) }
+    ensures code { ActsLaw Spot }
+{}
+
+/// Tasks that are declared stand behind all others, and who declares them has their numbers (RM 9.2). Where that raises, what the
+/// declarative part has created ends.
+pub fn create_law()
+    ensures statements { CreateLaw (List Item) }
+    ensures code { CreateLaw Spot }
+    ensures statements_raise { RefuseLaw (List Item) }
+    ensures code_raise { RefuseLaw Spot }
+{}
+
+/// The facts that a task sees stay the same while it runs.
+pub fn facts_law()
+    ensures statements { FactsLaw (List Item) }
+    ensures code { FactsLaw Spot }
 {}
 
 /// Where a task asks the same without those facts, its step leads there without them.
@@ -58,4 +80,16 @@ pub fn rest_law()
 pub fn closable_law()
     ensures statements { ClosableLaw (List Item) }
     ensures code { ClosableLaw Spot }
+{}
+
+/// Where all other tasks rest, the enabled moves are those of the one.
+pub fn only_law()
+    ensures statements { OnlyLaw (List Item) }
+    ensures code { OnlyLaw Spot }
+{}
+
+/// Where no task waits for a time, the program is stuck when no move is enabled, and neither at its end nor at the output's limit.
+pub fn state_law()
+    ensures statements { StateLaw (List Item) }
+    ensures code { StateLaw Spot }
 {}
