@@ -1,5 +1,5 @@
 -- What a step does that concerns one task alone, wherever the task stands.
-use Rattle.std.proofs.Common.{◌≡◌, ℕ, zero, suc, ℤ, pos, List, [], ◌∷◌, ◌++◌, Some, None, Option, Bool, true, false, refl, sym, ap, ◌∙◌, subst, slice_index_or, slice_get, nat_le, nat_eq, if◌then◌else◌, length, replicate, take, Result}
+use Rattle.std.proofs.Common.{◌≡◌, ℕ, List, [], ◌∷◌, ◌++◌, Some, None, Option, Bool, true, false, refl, ap, ◌∙◌, subst, slice_index_or, nat_le, if◌then◌else◌, length, replicate, take, Result}
 use Rattle.std.specs.Prelude.{◌&&◌, is_some, is_none}
 use Rattle.aud_text.specs.declared.place.Pos.{Pos}
 use Rattle.aud_text.specs.declared.raise.Raise.{Raise}
@@ -11,17 +11,17 @@ use Rattle.aud_typed.specs.declared.program.Exception.TheVariants.{Predefined}
 use Rattle.aud_typed.specs.declared.program.Subtype.{Subtype}
 use Rattle.aud_typed.specs.Tree.{Plan}
 use Rattle.aud_meaning.specs.declared.state.Status.TheVariants.{Completed, Terminated}
-use Rattle.aud_meaning.specs.Configuration.{Pending, Returning, Purpose, for_body, for_block, for_loop, for_procedure, for_operation, for_entry, for_accept, Opened, Own, Shared, Waits, TaskAt, All, Acting, Target}
+use Rattle.aud_meaning.specs.Configuration.{Pending, Returning, Purpose, for_body, for_block, for_loop, for_procedure, for_operation, for_entry, for_accept, Opened, Own, Waits, TaskAt, All, Acting, Target}
 use Rattle.aud_meaning.specs.Evaluation.{Sight, nearest_zero, Passed}
-use Rattle.aud_meaning.specs.Control.{Asked, raises_here, raises_in_part, declares, declares_array, declares_tasks, declares_object, ends_activation, activates, goes_on, assigns, puts, enters_loop, next_of_loop, goes_out, raises, raises_again, enters_block, calls_procedure, calls_operation, calls_own_entry, calls_entry, delays, accepts, selects, aborts, ends, handles, is_left_by, Moved, here, takes_part, enters_body, gets_out, passes_end, to_handler, out_by}
+use Rattle.aud_meaning.specs.Control.{Asked, raises_here, raises_in_part, declares, declares_array, declares_tasks, declares_object, ends_activation, activates, goes_on, assigns, puts, enters_loop, next_of_loop, goes_out, raises, raises_again, enters_block, calls_procedure, calls_operation, calls_own_entry, calls_entry, delays, accepts, selects, aborts, ends, handles, is_left_by, Moved, here, takes_part, enters_body, passes_end, to_handler, out_by}
 use Rattle.aud_meaning.specs.Effects.{innermost, outermost, handled, CopiedBack, copied_back, with_result, pends, closed, out_of, out_of_loops, has_room}
 use Rattle.aud_meaning.specs.Effects as own
-use Rattle.aud_meaning.specs.Parts.{any, numbers, nobody, owns, own_of, on_task, on_own, on_control, alone, alone_by, put_back, raised_at, depends, exception_of, no_waits, unit_of, in_action, acts_on, calls_on_task, is_created}
+use Rattle.aud_meaning.specs.Parts.{any, numbers, owns, own_of, on_task, on_own, on_control, alone, alone_by, raised_at, depends, exception_of, no_waits, unit_of, acts_on}
 use Rattle.aud_meaning.specs.Tasks as effect
 use Rattle.aud_meaning.specs.Step.{done, leaves, not_handled}
 use Rattle.aud_meaning.specs.Step as step
 use Rattle.aud_meaning.specs.Run.{construct_left}
-use Rattle.aud_among.specs.Alone.{Standing, AskedAlone, LeavesAlone, PartAlone, MasterAlone, CompletesAlone, ClosesAlone, SelectsAlone, none_open, waits_in, waits_in_any}
+use Rattle.aud_among.specs.Alone.{Standing, AskedAlone, LeavesAlone, PartAlone, MasterAlone, CompletesAlone, ClosesAlone, SelectsAlone, waits_in, waits_in_any}
 use Rattle.aud_among.proofs.Places.{changed_there, got_there, own_there, none_numbered, any_same}
 
 -- its own part, and the exception

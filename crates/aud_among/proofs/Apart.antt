@@ -1,5 +1,5 @@
 -- Steps that concern others as well: what the task does alone, and then what it does to the others.
-use Rattle.std.proofs.Common.{◌≡◌, ℕ, zero, suc, List, [], ◌∷◌, ◌++◌, length, Option, Some, None, Bool, true, false, refl, sym, ap, ◌∙◌, subst, nat_le, Result}
+use Rattle.std.proofs.Common.{◌≡◌, ℕ, zero, suc, List, [], ◌∷◌, length, Option, Some, None, Bool, true, false, refl, sym, ap, ◌∙◌, subst, nat_le, Result}
 use Rattle.std.specs.Prelude.{◌&&◌, if◌then◌else◌, is_none, replicate}
 use Rattle.aud_text.specs.declared.place.Pos.{Pos}
 use Rattle.aud_text.specs.declared.raise.Raise.{Raise}
@@ -15,13 +15,13 @@ use Rattle.aud_meaning.specs.Evaluation.{Sight, nearest_zero}
 use Rattle.aud_meaning.specs.Control.{Asked, raises_in_part, declares_array, ends_activation, ends, is_left_by, Moved, here, takes_part, passes_end, out_by}
 use Rattle.aud_meaning.specs.Effects.{outermost, pends, closed, out_of, out_of_loops}
 use Rattle.aud_meaning.specs.Effects as own
-use Rattle.aud_meaning.specs.Parts.{on_own, on_control, on_task, depends, is_created, exception_of, calls_on_task, raised_at, alone}
+use Rattle.aud_meaning.specs.Parts.{on_own, on_control, depends, is_created, exception_of, alone}
 use Rattle.aud_meaning.specs.Tasks as effect
 use Rattle.aud_meaning.specs.Step.{done, leaves}
 use Rattle.aud_meaning.specs.Run.{construct_left}
 use Rattle.aud_among.specs.Alone.{Standing}
-use Rattle.aud_among.specs.Apart.{NoneQueued, MasterApart, CompletesApart, LeavesApart, AskedApart, left_after, asked_after}
-use Rattle.aud_among.proofs.Acts.{on_its, raising, going, given_by, given, with_its, back_of, returned, returned_or, block_left, completed_by, closed_out, left_for, left_by, leaving, act, stands, on_task_at, on_own_at, on_control_at, own_of_at, alone_at, returned_or_at, left_same, left_same_opened, cleared, closed_same, done_at}
+use Rattle.aud_among.specs.Apart.{NoneQueued, MasterApart, LeavesApart, AskedApart, left_after, asked_after}
+use Rattle.aud_among.proofs.Acts.{on_its, raising, going, given_by, given, with_its, back_of, returned_or, completed_by, closed_out, left_for, left_by, leaving, act, stands, on_task_at, on_own_at, on_control_at, own_of_at, alone_at, returned_or_at, left_same, left_same_opened, closed_same, done_at}
 use Rattle.aud_among.proofs.Elsewhere.{ended, ended_length, changed_not}
 use Rattle.aud_among.proofs.Others.{with_others, not_depending, close_others, raise_others, complete_others, Outside, activation_outside}
 

@@ -1,5 +1,5 @@
 -- Any step of a task, tasks that are declared, and what a task sees of others.
-use Rattle.std.proofs.Common.{◌≡◌, ℕ, zero, suc, ◌+◌, List, [], ◌∷◌, ◌++◌, map, length, slice_index_or, slice_set, Option, Some, None, Bool, true, false, refl, sym, ap, ◌∙◌, subst, nat_le, nat_eq}
+use Rattle.std.proofs.Common.{◌≡◌, ℕ, zero, suc, ◌+◌, List, [], ◌∷◌, ◌++◌, map, length, slice_index_or, Option, Some, None, Bool, true, false, refl, sym, ap, ◌∙◌, subst, nat_le, nat_eq}
 use Rattle.std.specs.Prelude.{not, ◌&&◌, if◌then◌else◌}
 use Rattle.aud_text.specs.declared.place.Pos.{Pos}
 use Rattle.aud_text.specs.declared.raise.Raise.{Raise}
@@ -9,16 +9,16 @@ use Rattle.aud_text.specs.declared.limits.TheConstants.{ELEMENTS}
 use Rattle.aud_typed.specs.declared.program.Exception.TheVariants.{Predefined}
 use Rattle.aud_typed.specs.Tree.{Plan, Tasks}
 use Rattle.aud_meaning.specs.declared.state.Status.TheVariants.{Running}
-use Rattle.aud_meaning.specs.Configuration.{Pending, Own, Call, Shared, TaskAt, All, Acting}
+use Rattle.aud_meaning.specs.Configuration.{Pending, Own, TaskAt, All, Acting}
 use Rattle.aud_meaning.specs.Evaluation.{Facts}
-use Rattle.aud_meaning.specs.Control.{Asked, declares_tasks, Seen, Controls, Moved, here, takes_part, moved, all_moved, ordered}
+use Rattle.aud_meaning.specs.Control.{declares_tasks, Seen, Controls, Moved, here, takes_part, all_moved, ordered}
 use Rattle.aud_meaning.specs.Effects as own
 use Rattle.aud_meaning.specs.Parts.{nobody, owns, own_of, on_control, alone, in_action, queue, is_callable, is_terminated, facts_of}
 use Rattle.aud_meaning.specs.Tasks as effect
 use Rattle.aud_meaning.specs.Step.{done}
-use Rattle.aud_meaning.specs.Run.{Move, own_move, usual, under_way, turn, turn_taken, turn_at, seen, scene_of, step_of, step_with}
-use Rattle.aud_meaning.specs.Ties.Single.{Stage, runs, Single, own_in, all_of}
-use Rattle.aud_among.specs.Among.{Around, number, own_among, task_among, among}
+use Rattle.aud_meaning.specs.Run.{Move, own_move, usual, under_way, turn_taken, turn_at, seen, step_of, step_with}
+use Rattle.aud_meaning.specs.Ties.Single.{runs, Single}
+use Rattle.aud_among.specs.Among.{Around, number, task_among, among}
 use Rattle.aud_among.specs.Alone.{standing, IsUndisturbed, asked_among}
 use Rattle.aud_among.specs.Apart.{NoneQueued}
 use Rattle.aud_among.specs.Law.{with_created, naming, refusal, raising}
@@ -27,7 +27,7 @@ use Rattle.aud_among.proofs.Acts as alone
 use Rattle.aud_among.proofs.Others.{raise_outside}
 use Rattle.aud_among.proofs.Apart.{raise_twice}
 use Rattle.aud_among.proofs.Seen.{bare, bare_joined, all_bare, seen_task, seen_there}
-use Rattle.aud_among.proofs.Steps.{bares, self, selves, among_then, others, all_moved_apart, comes_after}
+use Rattle.aud_among.proofs.Steps.{bares, self, selves, all_moved_apart, comes_after}
 
 funext : {A B : Type 0} {f g : A → B} → ((x : A) → f x ≡ g x) → f ≡ g
 funext h = λ i x. h x i
@@ -175,9 +175,9 @@ module _ {C : Type 0} (plan : Plan) (k : Controls C) (limits : Limits) (a : Arou
         ∙ ap (λ d. carried (on_control n (takes_part 0) d)) (alone.alone_at plan k.barrier limits bs (hs ++ new) p.choices p.clock (suc p.steps) n is (λ x. own.declares cells x) u)
         ∙ ap carried (alone.on_control_at plan k.barrier limits bs (hs ++ new) p.choices p.clock (suc p.steps) n is (takes_part 0) v)
         ∙ ap (λ us. record c { steps = suc p.steps; tasks = us; shared = v.shared }) (
-            all_moved_apart plan k limits a.own.name a a.before bs is a.behind (hs ++ new) t (record { control = takes_part 0 here; own = v.own })
-            ∙ ap (λ us. us ++ record { control = k.takes 0 p.control; own = v.own } ∷ all_moved k a.behind (hs ++ new)) (all_bare k a.before)
-            ∙ ap (λ us. a.before ++ record { control = k.takes 0 p.control; own = v.own } ∷ us) (moved_behind a.behind new))
+        all_moved_apart plan k limits a.own.name a a.before bs is a.behind (hs ++ new) t (record { control = takes_part 0 here; own = v.own })
+        ∙ ap (λ us. us ++ record { control = k.takes 0 p.control; own = v.own } ∷ all_moved k a.behind (hs ++ new)) (all_bare k a.before)
+        ∙ ap (λ us. a.before ++ record { control = k.takes 0 p.control; own = v.own } ∷ us) (moved_behind a.behind new))
 
     raises : (raise : Raise) → NoneQueued (standing a q) → raised raise ≡ ordered k (among a (raising raise at q)) (effect.raises_in_part plan k.barrier raise at n)
     raises raise none =

@@ -1,15 +1,13 @@
 -- What is done to other tasks, wherever they stand.
-use Rattle.std.proofs.Common.{◌≡◌, ℕ, zero, suc, ◌+◌, List, [], ◌∷◌, ◌++◌, map, length, slice_index_or, Option, Some, None, Bool, true, false, ◌||◌, refl, sym, ap, ◌∙◌, subst, arith, Result}
-use Rattle.std.specs.Prelude.{not, ◌&&◌, if◌then◌else◌, is_some}
+use Rattle.std.proofs.Common.{◌≡◌, ℕ, zero, suc, List, [], ◌∷◌, ◌++◌, map, length, Bool, true, false, refl, sym, ap, ◌∙◌, Result}
+use Rattle.std.specs.Prelude.{if◌then◌else◌}
 use Rattle.aud_text.specs.declared.raise.Raise.{Raise}
 use Rattle.aud_text.specs.declared.raise.Raise.TheVariants.{Tasking}
-use Rattle.aud_text.specs.declared.limits.Limits.{Limits}
-use Rattle.aud_typed.specs.declared.program.Exception.{Exception}
 use Rattle.aud_typed.specs.Tree.{Plan}
 use Rattle.aud_meaning.specs.Configuration.{Own, Shared, TaskAt, All, Acting}
 use Rattle.aud_meaning.specs.Evaluation.{Sight}
-use Rattle.aud_meaning.specs.Control.{Moved, takes_part}
-use Rattle.aud_meaning.specs.Parts.{any, changed, numbers, nobody, owns, own_of, on_own, on_task, runs, calls_on_task}
+use Rattle.aud_meaning.specs.Control.{Moved}
+use Rattle.aud_meaning.specs.Parts.{changed, numbers, owns, on_own, calls_on_task}
 use Rattle.aud_meaning.specs.Tasks as effect
 use Rattle.aud_among.proofs.Places.{changed_at, length_map}
 use Rattle.aud_among.proofs.Acts.{closed_out}

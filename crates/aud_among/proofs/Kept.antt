@@ -1,5 +1,5 @@
 -- What a step does to a task alone, it does to that task whatever else it has, and whatever calls and objects there are.
-use Rattle.std.proofs.Common.{◌≡◌, ℕ, zero, suc, ℤ, List, [], ◌∷◌, ◌++◌, Some, None, Option, Bool, true, false, refl, sym, ap, ◌∙◌, nat_le, if◌then◌else◌, length, replicate, Result}
+use Rattle.std.proofs.Common.{◌≡◌, ℕ, zero, suc, ℤ, List, [], ◌∷◌, ◌++◌, Some, None, Option, Bool, true, false, refl, ap, ◌∙◌, nat_le, if◌then◌else◌, length, replicate, Result}
 use Rattle.std.specs.Prelude.{◌&&◌, int_le, ◌+ℤ◌, is_none}
 use Rattle.aud_text.specs.declared.place.Pos.{Pos}
 use Rattle.aud_text.specs.declared.raise.Raise.{Raise}

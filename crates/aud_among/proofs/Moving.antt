@@ -1,20 +1,17 @@
 -- The moves of tasks, one by one and of one among the others.
-use Rattle.std.proofs.Common.{◌≡◌, ℕ, zero, suc, ◌+◌, ◌<◌, ◌≤◌, List, [], ◌∷◌, ◌++◌, map, length, slice_get, slice_index_or, Option, Some, None, Bool, true, false, ◌||◌, refl, sym, ap, ◌∙◌, subst, arith, Result}
+use Rattle.std.proofs.Common.{◌≡◌, ℕ, zero, suc, ◌+◌, ◌<◌, ◌≤◌, List, [], ◌∷◌, ◌++◌, map, length, slice_get, slice_index_or, Option, Some, None, Bool, true, false, ◌||◌, refl, sym, ap, ◌∙◌, arith}
 use Rattle.std.specs.Prelude.{not, ◌&&◌, if◌then◌else◌, filter}
-use Rattle.aud_text.specs.declared.raise.Raise.{Raise}
 use Rattle.aud_typed.specs.declared.program.Exception.{Exception}
 use Rattle.aud_typed.specs.Tree.{Plan}
 use Rattle.aud_meaning.specs.declared.state.Status.{Status}
 use Rattle.aud_meaning.specs.declared.state.Status.TheVariants.{Created, Running, Activating, Accepting, Delaying, Calling, Completed, Terminated}
-use Rattle.aud_meaning.specs.declared.state.State.{State}
 use Rattle.aud_meaning.specs.declared.state.State.TheVariants as state
-use Rattle.aud_meaning.specs.Configuration.{Pending, Opened, OpenAccept, Own, Shared, TaskAt, All}
-use Rattle.aud_meaning.specs.Evaluation.{Sight}
+use Rattle.aud_meaning.specs.Configuration.{Pending, OpenAccept, Own, Shared, TaskAt, All}
 use Rattle.aud_meaning.specs.Control.{Coming, simply, ending, selecting, calling, starting, Seen, Controls}
 use Rattle.aud_meaning.specs.Effects.{outermost}
 use Rattle.aud_meaning.specs.Parts.{nobody, owns, own_of, any, depends, may_terminate, is_terminated, Closable}
 use Rattle.aud_meaning.specs.Run.{Move, own_move, usual, under_way, turn, turn_moves, acting_moves, end_moves, each_or_one, alternatives_of, only, has_queue, has_ended, moves_by, moves_from, moves_at, turn_times, times_from, waiting_by, some_move, state_by, state_at, seen, seen_from, master_left_by, construct_left}
-use Rattle.aud_meaning.specs.Ties.Single.{Stage, runs, completed, terminated, Single, own_in, all_of, scene_in, out_of_loops}
+use Rattle.aud_meaning.specs.Ties.Single.{Stage, runs, completed, terminated, Single, own_in, all_of, out_of_loops}
 use Rattle.aud_among.specs.Among.{Around, number, own_among, task_among, among, knowing}
 use Rattle.aud_among.specs.Alone.{IsUndisturbed}
 use Rattle.aud_among.specs.Law.{moves_by_turn, task_moves, tasks_moves, ComesAlone, MovesAlone, coming_among, master_by, closable_or_none, may_move, as_task, Rests, IsUntimed, more_or_stuck}

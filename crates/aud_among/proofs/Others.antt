@@ -1,5 +1,5 @@
 -- What steps do to other tasks, and the task itself left as it is.
-use Rattle.std.proofs.Common.{◌≡◌, ℕ, zero, suc, List, [], ◌∷◌, ◌++◌, length, slice_index_or, Option, Some, None, Bool, true, false, ◌||◌, refl, sym, ap, ◌∙◌, Result}
+use Rattle.std.proofs.Common.{◌≡◌, ℕ, List, [], ◌∷◌, ◌++◌, length, slice_index_or, Option, Some, None, Bool, true, false, ◌||◌, refl, ap, ◌∙◌, Result}
 use Rattle.std.specs.Prelude.{not, ◌&&◌, if◌then◌else◌, is_some, nat_eq}
 use Rattle.aud_text.specs.declared.place.Pos.{Pos}
 use Rattle.aud_text.specs.declared.raise.Raise.{Raise}
@@ -8,14 +8,14 @@ use Rattle.aud_text.specs.declared.limits.Limits.{Limits}
 use Rattle.aud_typed.specs.declared.program.Exception.{Exception}
 use Rattle.aud_typed.specs.declared.program.Exception.TheVariants.{Predefined}
 use Rattle.aud_typed.specs.Tree.{Plan}
-use Rattle.aud_meaning.specs.Configuration.{Opened, Own, Shared, TaskAt, All, Acting}
+use Rattle.aud_meaning.specs.Configuration.{Opened, Own, TaskAt, All, Acting}
 use Rattle.aud_meaning.specs.Evaluation.{Sight}
 use Rattle.aud_meaning.specs.Control.{Moved, here, takes_part}
 use Rattle.aud_meaning.specs.Effects.{innermost, pends}
-use Rattle.aud_meaning.specs.Parts.{any, changed, numbers, nobody, owns, own_of, on_own, on_task, raised_at, runs, depends, contains, calls_on_task, is_created, is_terminated}
+use Rattle.aud_meaning.specs.Parts.{any, numbers, nobody, owns, own_of, on_own, raised_at, runs, depends, contains, calls_on_task, is_created, is_terminated}
 use Rattle.aud_meaning.specs.Tasks as effect
 use Rattle.aud_among.specs.Alone.{waits_in, waits_in_any}
-use Rattle.aud_among.proofs.Acts.{on_its, raising, completed_by, closed_out, on_own_at, own_of_at}
+use Rattle.aud_among.proofs.Acts.{on_its, raising, completed_by, on_own_at, own_of_at}
 use Rattle.aud_among.proofs.Elsewhere.{ended, ended_length, elsewhere, elsewhere_length, changed_elsewhere, owns_between, numbers_between, between, ends_between}
 
 and_false : (b : Bool) → (b && false) ≡ false

@@ -1,6 +1,5 @@
 -- A task at its place among the others.
-use Rattle.std.proofs.Common.{◌≡◌, ℕ, zero, suc, ◌+◌, List, [], ◌∷◌, ◌++◌, map, length, slice_get, slice_index_or, Option, Some, Bool, true, false, ◌||◌, refl, sym, ap, ◌∙◌, subst, arith}
-use Rattle.std.specs.Prelude.{if◌then◌else◌}
+use Rattle.std.proofs.Common.{◌≡◌, ℕ, suc, List, [], ◌∷◌, ◌++◌, map, length, slice_get, slice_index_or, Some, Bool, true, false, ◌||◌, refl, sym, ap, ◌∙◌}
 use Rattle.aud_meaning.specs.Configuration.{Own, TaskAt}
 use Rattle.aud_meaning.specs.Parts.{changed, numbers, any, nobody, owns}
 

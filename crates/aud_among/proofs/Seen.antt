@@ -1,15 +1,14 @@
 -- What is seen and ordered of a task among the others.
-use Rattle.std.proofs.Common.{◌≡◌, ℕ, zero, suc, ◌+◌, List, [], ◌∷◌, ◌++◌, map, length, slice_get, slice_index_or, Option, Some, None, Bool, true, false, refl, sym, ap, ◌∙◌, subst, arith}
+use Rattle.std.proofs.Common.{◌≡◌, ℕ, suc, ◌+◌, List, [], ◌∷◌, ◌++◌, map, length, slice_get, Option, Some, Bool, true, false, refl, sym, ap, subst, arith}
 use Rattle.std.specs.Prelude.{if◌then◌else◌}
-use Rattle.aud_text.specs.declared.limits.Limits.{Limits}
 use Rattle.aud_typed.specs.Tree.{Plan}
-use Rattle.aud_meaning.specs.Configuration.{Pending, Opened, Own, Shared, TaskAt, All, Acting}
-use Rattle.aud_meaning.specs.Control.{Coming, Asked, Scene, Seen, Controls, Moved, here, takes_part, does_accept, enters_body, begins_body, gets_out, passes_end, to_handler, out_by, moved, all_moved}
+use Rattle.aud_meaning.specs.Configuration.{Pending, Opened, Own, Shared, TaskAt, All}
+use Rattle.aud_meaning.specs.Control.{Seen, Controls, Moved, here, moved, all_moved}
 use Rattle.aud_meaning.specs.Effects as own
 use Rattle.aud_meaning.specs.Parts.{owns, sight_in, facts_of}
-use Rattle.aud_meaning.specs.Run.{shown_place, seen_from, construct_left, scene_of}
-use Rattle.aud_meaning.specs.Ties.Single.{Stage, runs, completed, terminated, Stack, Single, own_in, scene_in, all_of, out_of_loops, out_of_loops_by}
-use Rattle.aud_among.specs.Among.{Around, number, own_among, task_among, among, with_facts, knowing}
+use Rattle.aud_meaning.specs.Run.{shown_place, seen_from, construct_left}
+use Rattle.aud_meaning.specs.Ties.Single.{runs, Single, scene_in, out_of_loops, out_of_loops_by}
+use Rattle.aud_among.specs.Among.{Around, task_among, among, knowing}
 use Rattle.aud_among.specs.Alone.{asked_among}
 use Rattle.aud_among.specs.Law.{coming_among}
 use Rattle.aud_among.proofs.Places.{own_at}

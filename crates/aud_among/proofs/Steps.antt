@@ -1,5 +1,5 @@
 -- A step that concerns one task leads among the others where it leads alone.
-use Rattle.std.proofs.Common.{◌≡◌, ℕ, zero, suc, List, [], ◌∷◌, ◌++◌, map, length, slice_get, Option, Some, None, Bool, true, false, refl, sym, ap, ◌∙◌, subst, arith, nat_le}
+use Rattle.std.proofs.Common.{◌≡◌, ℕ, suc, List, [], ◌∷◌, ◌++◌, map, length, Option, Some, None, Bool, true, false, refl, sym, ap, ◌∙◌, subst, arith, nat_le}
 use Rattle.std.specs.Prelude.{if◌then◌else◌, replicate}
 use Rattle.aud_text.specs.declared.place.Pos.{Pos}
 use Rattle.aud_text.specs.declared.raise.Raise.TheVariants.{Storage}
@@ -10,19 +10,19 @@ use Rattle.aud_text.specs.declared.limits.Limits.{Limits}
 use Rattle.aud_typed.specs.declared.program.Exception.{Exception}
 use Rattle.aud_typed.specs.Tree.{Plan}
 use Rattle.aud_meaning.specs.declared.state.Status.TheVariants.{Running}
-use Rattle.aud_meaning.specs.Configuration.{Pending, Purpose, for_body, for_block, for_loop, for_procedure, for_operation, for_entry, for_accept, Opened, Own, Shared, TaskAt, All, Acting}
-use Rattle.aud_meaning.specs.Control.{Asked, ordered, takes_part, passes_end, out_by, raises_here, raises_in_part, declares, declares_array, declares_tasks, declares_object, ends_activation, activates, goes_on, assigns, puts, enters_loop, next_of_loop, goes_out, raises, raises_again, enters_block, calls_procedure, calls_operation, calls_own_entry, calls_entry, delays, accepts, selects, aborts, ends, handles, is_left_by, Seen, Controls, Moved, here, moved, all_moved}
+use Rattle.aud_meaning.specs.Configuration.{Pending, Purpose, for_body, for_block, for_loop, for_procedure, for_operation, for_entry, for_accept, Opened, Own, TaskAt, All, Acting}
+use Rattle.aud_meaning.specs.Control.{Asked, ordered, passes_end, out_by, raises_here, raises_in_part, declares, declares_array, declares_tasks, declares_object, ends_activation, activates, goes_on, assigns, puts, enters_loop, next_of_loop, goes_out, raises, raises_again, enters_block, calls_procedure, calls_operation, calls_own_entry, calls_entry, delays, accepts, selects, aborts, ends, handles, is_left_by, Seen, Controls, Moved, here, moved, all_moved}
 use Rattle.aud_meaning.specs.Parts.{owns, any, depends, exception_of}
 use Rattle.aud_meaning.specs.Effects.{outermost, out_of}
 use Rattle.aud_meaning.specs.Effects as own
 use Rattle.aud_meaning.specs.Tasks as effect
 use Rattle.aud_meaning.specs.Step.{done}
 use Rattle.aud_meaning.specs.Run.{own_move, usual, under_way, turn, turn_taken, turn_at, seen, scene_of, step_of, step_with, construct_left}
-use Rattle.aud_meaning.specs.Ties.Single.{Stage, runs, completed, terminated, Stack, Single, own_in, all_of, scene_in, out_of_loops}
-use Rattle.aud_among.specs.Among.{Around, number, own_among, task_among, among, knowing}
-use Rattle.aud_among.specs.Alone.{Standing, standing, IsUndisturbed, AskedAlone, LeavesAlone, CompletesAlone, ClosesAlone, StepsAlone, asked_among}
+use Rattle.aud_meaning.specs.Ties.Single.{Stage, runs, completed, terminated, Single, own_in, all_of, out_of_loops}
+use Rattle.aud_among.specs.Among.{Around, number, task_among, among, knowing}
+use Rattle.aud_among.specs.Alone.{Standing, standing, IsUndisturbed, AskedAlone, LeavesAlone, ClosesAlone, StepsAlone, asked_among}
 use Rattle.aud_among.proofs.Places.{get_at, length_map}
-use Rattle.aud_among.specs.Apart.{NoneQueued, MasterApart, CompletesApart, LeavesApart, AskedApart, left_after, asked_after, StepsApart, after}
+use Rattle.aud_among.specs.Apart.{NoneQueued, MasterApart, LeavesApart, AskedApart, left_after, asked_after, StepsApart, after}
 use Rattle.aud_among.proofs.Acts.{act, on_its, raising, going, closed_out, left_for, left_by, whole, stands, done_at, closes_at}
 use Rattle.aud_among.proofs.Others.{not_depending, Outside, nothing_outside, close_outside, raise_outside, activation_outside, complete_outside}
 use Rattle.aud_among.proofs.Apart.{done_apart, closes_apart}

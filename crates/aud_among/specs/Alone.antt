@@ -1,9 +1,9 @@
 -- Which steps of a task among others concern the task alone, and what all share: no other task, no call and no object.
-use Rattle.std.specs.Prelude.{◌≡◌, ℕ, ◌+◌, List, [], ◌∷◌, length, Option, None, Some, Bool, true, false, not, ◌&&◌, nat_eq, nat_le, Result}
+use Rattle.std.specs.Prelude.{◌≡◌, ℕ, ◌+◌, List, [], ◌∷◌, length, Option, None, Bool, true, false, not, ◌&&◌, nat_eq, nat_le, Result}
 use Rattle.aud_text.specs.declared.raise.Raise.{Raise}
 use Rattle.aud_text.specs.declared.limits.TheConstants.{ELEMENTS}
 use Rattle.aud_typed.specs.Tree.{Plan}
-use Rattle.aud_meaning.specs.Configuration.{Pending, Purpose, for_body, for_block, for_loop, for_procedure, for_operation, for_entry, for_accept, Opened, Waits, Own, Call, Object, All}
+use Rattle.aud_meaning.specs.Configuration.{Pending, Purpose, for_body, for_block, for_loop, for_procedure, for_operation, for_entry, for_accept, Opened, Waits, Own, Call, Object}
 use Rattle.aud_meaning.specs.Evaluation.{Sight}
 use Rattle.aud_meaning.specs.Control.{Asked, raises_here, raises_in_part, declares, declares_array, declares_tasks, declares_object, ends_activation, activates, goes_on, assigns, puts, enters_loop, next_of_loop, goes_out, raises, raises_again, enters_block, calls_procedure, calls_operation, calls_own_entry, calls_entry, delays, accepts, selects, aborts, ends, handles, is_left_by, Controls}
 use Rattle.aud_meaning.specs.Effects.{innermost, outermost}

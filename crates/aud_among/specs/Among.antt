@@ -1,5 +1,5 @@
 -- A task of a program among the others: what it has by itself is what a program of one task has.
-use Rattle.std.specs.Prelude.{ℕ, List, [], ◌∷◌, ◌++◌, length, Option, None}
+use Rattle.std.specs.Prelude.{ℕ, List, [], ◌∷◌, ◌++◌, length, None}
 use Rattle.aud_meaning.specs.declared.state.Status.TheVariants.{Running, Completed, Terminated}
 use Rattle.aud_meaning.specs.Configuration.{Own, Call, Object, TaskAt, All}
 use Rattle.aud_meaning.specs.Evaluation.{Facts}

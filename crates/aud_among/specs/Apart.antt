@@ -1,5 +1,5 @@
 -- Steps of a task that concern others as well: what the task does alone, and then what it does to the others.
-use Rattle.std.specs.Prelude.{◌≡◌, ℕ, List, [], ◌∷◌, Option, None, Some, Bool, true, false, if◌then◌else◌, nat_le, Result}
+use Rattle.std.specs.Prelude.{◌≡◌, ℕ, List, [], ◌∷◌, Option, None, Some, Bool, false, if◌then◌else◌, nat_le, Result}
 use Rattle.aud_text.specs.declared.raise.Raise.{Raise}
 use Rattle.aud_text.specs.declared.raise.Raise.TheVariants.{Storage}
 use Rattle.aud_text.specs.declared.limits.TheConstants.{ELEMENTS}
@@ -12,7 +12,7 @@ use Rattle.aud_meaning.specs.Parts.{contains, calls_on_task, exception_of}
 use Rattle.aud_meaning.specs.Tasks as effect
 use Rattle.aud_meaning.specs.Tasks.{accepts_under_way}
 use Rattle.aud_meaning.specs.Ties.Single.{Stage, runs, completed, terminated, Single}
-use Rattle.aud_among.specs.Among.{Around, number}
+use Rattle.aud_among.specs.Among.{Around}
 use Rattle.aud_among.specs.Alone.{Standing, standing, IsUndisturbed, AskedAlone, asked_among}
 
 -- no call waits on an entry of a task

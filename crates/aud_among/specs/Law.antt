@@ -17,7 +17,7 @@ use Rattle.aud_meaning.specs.Effects.{innermost, outermost}
 use Rattle.aud_meaning.specs.Parts.{owns, own_of, any, depends, may_terminate, is_terminated, in_action, Closable, facts_of, sight_of}
 use Rattle.aud_meaning.specs.Tasks as effect
 use Rattle.aud_meaning.specs.Step.{done}
-use Rattle.aud_meaning.specs.Run.{Move, own_move, turn, turn_moves, has_queue, master_left_by, seen, moves_at, state_at, scene_of, step_with}
+use Rattle.aud_meaning.specs.Run.{Move, own_move, turn, turn_moves, has_queue, master_left_by, seen, moves_at, state_at, step_with}
 use Rattle.aud_meaning.specs.Ties.Single.{Stage, runs, completed, terminated, Single, all_of, scene_in, out_of_loops, on_innermost}
 use Rattle.aud_among.specs.Among.{Around, number, own_among, among, knowing}
 use Rattle.aud_among.specs.Alone.{standing, IsUndisturbed, StepsAlone, asked_among}
