@@ -62,7 +62,7 @@ module _ {C : Type 0} (plan : Plan) (k : Controls C) (limits : Limits) (a : Arou
   abbrev n : ℕ
   n = number a
 
-  acts_running : (p : Single C) (pending : Option Pending) (alternative : Option ℕ) → IsUndisturbed a.own → step_with plan k limits (among a (record p { stage = runs pending })) (record { task = n; alternative = alternative }) ≡ ordered k (record (among a (record p { stage = runs pending })) { steps = suc p.steps }) (done plan k.barrier limits alternative (asked_among plan k a (record p { stage = runs pending }) pending) n)
+  pub acts_running : (p : Single C) (pending : Option Pending) (alternative : Option ℕ) → IsUndisturbed a.own → step_with plan k limits (among a (record p { stage = runs pending })) (record { task = n; alternative = alternative }) ≡ ordered k (record (among a (record p { stage = runs pending })) { steps = suc p.steps }) (done plan k.barrier limits alternative (asked_among plan k a (record p { stage = runs pending }) pending) n)
   acts_running p pending alternative undisturbed =
       let c = among a (record p { stage = runs pending }) in
       let s = seen plan k c in

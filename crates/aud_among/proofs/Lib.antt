@@ -8,3 +8,4 @@ pub mod Seen
 pub mod Steps
 pub mod Moving
 pub mod Creating
+pub mod Activating

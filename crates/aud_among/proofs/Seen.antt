@@ -21,7 +21,7 @@ pub bare_joined : {C : Type 0} (before behind : List (TaskAt C)) (x : TaskAt C) 
 bare_joined [] behind x = refl
 bare_joined (b ∷ before) behind x = ap (λ ts. bare b ∷ ts) (bare_joined before behind x)
 
-owns_bare : {C : Type 0} (ts : List (TaskAt C)) → owns (map (λ (t : TaskAt C). bare t) ts) ≡ owns ts
+pub owns_bare : {C : Type 0} (ts : List (TaskAt C)) → owns (map (λ (t : TaskAt C). bare t) ts) ≡ owns ts
 owns_bare [] = refl
 owns_bare (t ∷ ts) = ap (λ os. t.own ∷ os) (owns_bare ts)
 

@@ -5,6 +5,7 @@ ghost use Rattle.std.specs.Prelude.{List};
 ghost use Rattle.aud_meaning.specs.Configuration.{Item};
 ghost use Rattle.aud_code.specs.Places.{Spot};
 ghost use Rattle.aud_among.specs.Law.{AskedLaw, ComingLaw, AmongLaw, ApartLaw, ActsLaw, CreateLaw, RefuseLaw, FactsLaw, UnawareLaw};
+ghost use Rattle.aud_among.specs.Activation.{ActivateLaw, BeginLaw, GoesOnLaw};
 ghost use Rattle.aud_among.specs.Law.{MovesLaw, MoveLaw, RestLaw, ClosableLaw, OnlyLaw, StateLaw};
 
 /// What a task asks among others is what it asks alone with the facts of the others handed to it.
@@ -44,6 +45,21 @@ pub fn create_law()
     ensures code { CreateLaw Spot }
     ensures statements_raise { RefuseLaw (List Item) }
     ensures code_raise { RefuseLaw Spot }
+{}
+
+/// Where there is something to activate, the task that activates waits, and each of the others begins, which is then a task under
+/// way (RM 9.2).
+pub fn activate_law()
+    ensures statements { ActivateLaw (List Item) }
+    ensures code { ActivateLaw Spot }
+    ensures statements_begin { BeginLaw (List Item) }
+    ensures code_begin { BeginLaw Spot }
+{}
+
+/// Where the last activation that a task waits for has ended, the task goes on, with Tasking_Error where one failed (RM 9.2(5)).
+pub fn goes_on_law()
+    ensures statements { GoesOnLaw (List Item) }
+    ensures code { GoesOnLaw Spot }
 {}
 
 /// The facts that a task sees stay the same while it runs.
