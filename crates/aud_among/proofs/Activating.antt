@@ -19,15 +19,13 @@ use Rattle.aud_meaning.specs.Ties.Single as single
 use Rattle.aud_meaning.specs.Ties.Single.{Single}
 use Rattle.aud_among.specs.Among.{Around, number, own_among, task_among, among}
 use Rattle.aud_among.specs.Alone.{IsUndisturbed, waits_in, asked_among}
+use Rattle.aud_among.specs.Law.{unordered, controls}
 use Rattle.aud_among.specs.Activation.{own_waiting, among_waiting, awaited_by, waits_at, begun, begun_all, beginning, failure}
 use Rattle.aud_among.proofs.Places.{changed_at, changed_there, get_at, own_at, length_map}
 use Rattle.aud_among.proofs.Seen.{bare, bare_joined, owns_bare, all_moved_at}
 use Rattle.aud_among.proofs.Creating.{acts_running}
 
 -- What is done to tasks and leaves what they have left to do.
-
-abbrev controls : {C : Type 0} → List (TaskAt C) → List C
-controls ts = map (λ t. t.control) ts
 
 map_changed : {A B : Type 0} (g : A → B) (f : A → A) (f' : B → B) → ((x : A) → g (f x) ≡ f' (g x)) → (n : ℕ) (xs : List A) → map g (changed n f xs) ≡ changed n f' (map g xs)
 map_changed g f f' same n [] = refl
@@ -52,7 +50,7 @@ abbrev bares : {C : Type 0} → List (TaskAt C) → List (TaskAt Moved)
 bares {C} ts = map (λ (t : TaskAt C). bare t) ts
 
 abbrev start : {C : Type 0} → All C → All Moved
-start c = record { tasks = bares c.tasks; shared = c.shared; choices = c.choices; clock = c.clock; steps = c.steps }
+start c = unordered c
 
 abbrev bare_or_none : {C : Type 0} → Option (TaskAt C) → Option (TaskAt Moved)
 bare_or_none None = None
@@ -100,6 +98,22 @@ begin_law {C} plan a p activator =
         ∙ ap (λ ts. record c { tasks = ts; shared = u.shared }) (changed_at a.before a.behind y (λ old. record { control = u.control; own = u.own })))
 
 module _ {C : Type 0} (k : Controls C) where
+  moved_alike : (ts us : List (TaskAt C)) (ms : List (TaskAt Moved)) → controls ts ≡ controls us → all_moved k ts ms ≡ all_moved k us ms
+  moved_alike ts us [] same = refl
+  moved_alike [] [] (m ∷ ms) same = refl
+  moved_alike [] (u ∷ us) (m ∷ ms) same = absurd (subst HasOne (sym same) tt)
+  moved_alike (t ∷ ts) [] (m ∷ ms) same = absurd (subst HasOne same tt)
+  moved_alike (t ∷ ts) (u ∷ us) (m ∷ ms) same =
+      ap (λ c. record { control = moved k c m.control; own = m.own } ∷ all_moved k ts ms) (ap (first_or t.control) same)
+      ∙ ap (λ xs. record { control = moved k u.control m.control; own = m.own } ∷ xs) (moved_alike ts us ms (ap behind_first same))
+
+  pub orders_law : (c : All C) (ts : List (TaskAt C)) (shared : Shared) (f g : All Moved → All Moved) → f (unordered c) ≡ unordered (record c { tasks = ts; shared = shared }) → controls ts ≡ controls c.tasks → ordered k (record c { tasks = ts; shared = shared }) g ≡ ordered k c (λ d. g (f d))
+  orders_law c ts shared f g so same =
+      let order : All Moved → All C = λ d. record c { tasks = all_moved k c.tasks d.tasks; shared = d.shared } in
+      let d = g (unordered (record c { tasks = ts; shared = shared })) in
+      ap (λ us. record c { tasks = us; shared = d.shared }) (moved_alike ts c.tasks d.tasks same)
+      ∙ sym (ap (λ e. order (g e)) so)
+
   moved_so : (ts us : List (TaskAt C)) → controls ts ≡ controls us → all_moved k ts (bares us) ≡ us
   moved_so [] [] same = refl
   moved_so [] (u ∷ us) same = absurd (subst HasOne (sym same) tt)

@@ -11,8 +11,8 @@ use Rattle.aud_meaning.specs.declared.state.State.{State}
 use Rattle.aud_meaning.specs.declared.state.State.TheVariants as state
 use Rattle.aud_meaning.specs.declared.state.Status.{Status}
 use Rattle.aud_meaning.specs.declared.state.Status.TheVariants.{Created, Running, Activating, Accepting, Delaying, Calling, Completed, Terminated}
-use Rattle.aud_meaning.specs.Configuration.{Pending, Opened, Own, TaskAt, All}
-use Rattle.aud_meaning.specs.Control.{Coming, simply, ending, selecting, calling, starting, Seen, declares_tasks, Controls, all_moved, ordered}
+use Rattle.aud_meaning.specs.Configuration.{Pending, Opened, Own, Shared, TaskAt, All}
+use Rattle.aud_meaning.specs.Control.{Coming, simply, ending, selecting, calling, starting, Seen, declares_tasks, Moved, here, Controls, all_moved, ordered}
 use Rattle.aud_meaning.specs.Effects.{innermost, outermost}
 use Rattle.aud_meaning.specs.Parts.{owns, own_of, any, depends, may_terminate, is_terminated, in_action, Closable, facts_of, sight_of}
 use Rattle.aud_meaning.specs.Tasks as effect
@@ -49,6 +49,24 @@ ApartLaw C =
 abbrev pub ActsLaw : (C : Type 0) → Type 0
 ActsLaw C =
     (plan : Plan) (k : Controls C) (limits : Limits) (a : Around C) (p : Single C) (pending : Option Pending) (alternative : Option ℕ) → p.stage ≡ runs pending → IsUndisturbed a.own → step_with plan k limits (among a p) (record { task = number a; alternative = alternative }) ≡ ordered k (record (among a p) { steps = suc p.steps }) (done plan k.barrier limits alternative (asked_among plan k a p pending) (number a))
+
+-- before anything is ordered
+abbrev pub unordered : {C : Type 0} → All C → All Moved
+unordered {C} c = record {
+  tasks = map (λ (t : TaskAt C). record { control = here; own = t.own }) c.tasks;
+  shared = c.shared;
+  choices = c.choices;
+  clock = c.clock;
+  steps = c.steps;
+}
+
+abbrev pub controls : {C : Type 0} → List (TaskAt C) → List C
+controls {C} ts = map (λ (t : TaskAt C). t.control) ts
+
+-- What leaves all that tasks have left to do may be done first, and the rest behind it.
+abbrev pub OrdersLaw : (C : Type 0) → Type 0
+OrdersLaw C =
+    (k : Controls C) (c : All C) (ts : List (TaskAt C)) (shared : Shared) (f g : All Moved → All Moved) → f (unordered c) ≡ unordered (record c { tasks = ts; shared = shared }) → controls ts ≡ controls c.tasks → ordered k (record c { tasks = ts; shared = shared }) g ≡ ordered k c (λ d. g (f d))
 
 -- Where it asks the same without those facts, it leads there without them.
 abbrev pub UnawareLaw : (C : Type 0) → Type 0

@@ -4,7 +4,7 @@
 ghost use Rattle.std.specs.Prelude.{List};
 ghost use Rattle.aud_meaning.specs.Configuration.{Item};
 ghost use Rattle.aud_code.specs.Places.{Spot};
-ghost use Rattle.aud_among.specs.Law.{AskedLaw, ComingLaw, AmongLaw, ApartLaw, ActsLaw, CreateLaw, RefuseLaw, FactsLaw, UnawareLaw};
+ghost use Rattle.aud_among.specs.Law.{AskedLaw, ComingLaw, AmongLaw, ApartLaw, ActsLaw, CreateLaw, RefuseLaw, FactsLaw, OrdersLaw, UnawareLaw};
 ghost use Rattle.aud_among.specs.Activation.{ActivateLaw, BeginLaw, GoesOnLaw};
 ghost use Rattle.aud_among.specs.Law.{MovesLaw, MoveLaw, RestLaw, ClosableLaw, OnlyLaw, StateLaw};
 
@@ -66,6 +66,12 @@ pub fn goes_on_law()
 pub fn facts_law()
     ensures statements { FactsLaw (List Item) }
     ensures code { FactsLaw Spot }
+{}
+
+/// What leaves all that tasks have left to do may be done first, and the rest of a step behind it.
+pub fn orders_law()
+    ensures statements { OrdersLaw (List Item) }
+    ensures code { OrdersLaw Spot }
 {}
 
 /// Where a task asks the same without those facts, its step leads there without them.
