@@ -55,7 +55,7 @@ module _ (plan : Plan) (barrier : ℕ → Sight → Result Bool Raise) where
   AskedApart s (is_left_by p) = LeavesApart s.left 0 s
   AskedApart s a = AskedAlone plan barrier s a
 
-  -- What it does to the others. Where that is the whole effect of the step, the task itself is changed as it is already.
+  -- What it does to the others. Some of these functions change the task too, but in what is so already.
 
   abbrev pub left_after : List Opened → Option Pending → ℕ → All Moved → All Moved
   left_after [] p n c = c

@@ -40,7 +40,7 @@ abbrev pub AmongLaw : (C : Type 0) → Type 0
 AmongLaw C =
     (plan : Plan) (k : Controls C) (limits : Limits) (name : List ℕ) (a : Around C) (p q : Single C) → StepsAlone plan k a p → all_of name q ≡ step_with plan (knowing a p k) limits (all_of name p) (own_move 0) → among a q ≡ step_with plan k limits (among a p) (own_move (number a))
 
--- Where it concerns others as well, what it does alone comes first, and then what it does to the others.
+-- Where it concerns others as well, it leads where what it does alone leads and then what it does to the others.
 abbrev pub ApartLaw : (C : Type 0) → Type 0
 ApartLaw C =
     (plan : Plan) (k : Controls C) (limits : Limits) (name : List ℕ) (a : Around C) (p q : Single C) → StepsApart plan k a p p.stage → all_of name q ≡ step_with plan (knowing a p k) limits (all_of name p) (own_move 0) → ordered k (among a q) (after plan k a p p.stage) ≡ step_with plan k limits (among a p) (own_move (number a))
@@ -165,7 +165,7 @@ module _ {C : Type 0} (plan : Plan) (k : Controls C) (a : Around C) (p : Single 
   MovesAlone (completed raised) = Unit {0}
   MovesAlone (terminated raised) = Unit {0}
 
-  -- nothing that its next step waits for depends on the master that it leaves
+  -- it does not wait for tasks that depend on the master that it leaves
   abbrev pub may_move : Stage → Bool
   may_move (runs pending) = closable_or_none (master_by (coming_among k a p pending) (out_of_loops p.stack).opened) (among a p)
   may_move (completed raised) = Closable (outermost p.stack.opened) (among a p)
