@@ -1,5 +1,5 @@
 -- Tasks that begin, and those that wait for it.
-use Rattle.std.proofs.Common.{◌≡◌, ℕ, zero, suc, pos, List, [], ◌∷◌, ◌++◌, map, length, slice_get, slice_index_or, Option, Some, None, Bool, true, false, refl, sym, ap, ◌∙◌, subst}
+use Rattle.std.proofs.Common.{◌≡◌, ℕ, zero, suc, pos, List, [], ◌∷◌, ◌++◌, map, slice_get, slice_index_or, Option, Some, None, Bool, true, false, refl, sym, ap, ◌∙◌, subst}
 use Rattle.std.specs.Prelude.{if◌then◌else◌}
 use Rattle.aud_text.specs.declared.place.Pos.{Pos}
 use Rattle.aud_text.specs.declared.raise.Raise.TheVariants.{Tasking}
@@ -7,7 +7,7 @@ use Rattle.aud_text.specs.declared.limits.Limits.{Limits}
 use Rattle.aud_typed.specs.declared.program.Exception.TheVariants.{Predefined}
 use Rattle.aud_typed.specs.Tree.{Plan}
 use Rattle.aud_meaning.specs.declared.state.Status.TheVariants.{Created, Running, Activating}
-use Rattle.aud_meaning.specs.Configuration.{Pending, for_body, Own, Shared, TaskAt, All, Acting}
+use Rattle.aud_meaning.specs.Configuration.{for_body, Own, Shared, TaskAt, All, Acting}
 use Rattle.aud_meaning.specs.Control.{activates, Controls, Moved, here, takes_part, moved, all_moved, ordered}
 use Rattle.aud_meaning.specs.Effects.{innermost, opens, pends}
 use Rattle.aud_meaning.specs.Parts.{changed, numbers, nobody, owns, own_of, on_own, on_task, alone, alone_by, no_waits, blocks, runs, unit_of}
@@ -92,10 +92,10 @@ begin_law {C} plan a p activator =
     let d : All C = record c { tasks = a.before ++ y ∷ a.behind } in
     let u = opening plan (number a) x.own (parts.acting y c.shared) in
     sym (
-        ap (λ (o : Own). alone (λ t. opening plan (number a) o t) (number a) (woken activator (number a) c)) (own_at a.before a.behind x)
-        ∙ ap (λ ts. alone (λ t. opening plan (number a) x.own t) (number a) (record c { tasks = ts })) (changed_at a.before a.behind x (λ (t : TaskAt C). record t { own = wakes activator t.own }))
-        ∙ ap (λ t. alone_by (λ v. opening plan (number a) x.own v) t (number a) d) (get_at a.before a.behind y)
-        ∙ ap (λ ts. record c { tasks = ts; shared = u.shared }) (changed_at a.before a.behind y (λ old. record { control = u.control; own = u.own })))
+    ap (λ (o : Own). alone (λ t. opening plan (number a) o t) (number a) (woken activator (number a) c)) (own_at a.before a.behind x)
+    ∙ ap (λ ts. alone (λ t. opening plan (number a) x.own t) (number a) (record c { tasks = ts })) (changed_at a.before a.behind x (λ (t : TaskAt C). record t { own = wakes activator t.own }))
+    ∙ ap (λ t. alone_by (λ v. opening plan (number a) x.own v) t (number a) d) (get_at a.before a.behind y)
+    ∙ ap (λ ts. record c { tasks = ts; shared = u.shared }) (changed_at a.before a.behind y (λ old. record { control = u.control; own = u.own })))
 
 module _ {C : Type 0} (k : Controls C) where
   moved_alike : (ts us : List (TaskAt C)) (ms : List (TaskAt Moved)) → controls ts ≡ controls us → all_moved k ts ms ≡ all_moved k us ms
@@ -182,10 +182,10 @@ module _ {C : Type 0} (k : Controls C) where
         let c : All C = among_waiting Activating a p in
         let order : List (TaskAt Moved) → All C = λ ts. record c { tasks = all_moved k c.tasks ts } in
         sym (
-            ap (λ ts. order (changed (number a) gone_on ts)) (bare_joined a.before a.behind x)
-            ∙ ap order (changed_there (bares a.before) (bares a.behind) (bare x) (number a) (length_map (λ (t : TaskAt C). bare t) a.before) gone_on)
-            ∙ ap (λ ts. record c { tasks = ts }) (all_moved_at k a.before a.behind x (gone_on (bare x)))
-            ∙ ap (λ (o : Own). record c { tasks = a.before ++ record { control = k.takes 0 p.control; own = o } ∷ a.behind }) (by a.own.failed))
+        ap (λ ts. order (changed (number a) gone_on ts)) (bare_joined a.before a.behind x)
+        ∙ ap order (changed_there (bares a.before) (bares a.behind) (bare x) (number a) (length_map (λ (t : TaskAt C). bare t) a.before) gone_on)
+        ∙ ap (λ ts. record c { tasks = ts }) (all_moved_at k a.before a.behind x (gone_on (bare x)))
+        ∙ ap (λ (o : Own). record c { tasks = a.before ++ record { control = k.takes 0 p.control; own = o } ∷ a.behind }) (by a.own.failed))
       where
         by : (b : Bool) → (if b then pends (Predefined Tasking) a.own.at (runs (own_waiting Activating a.own p.stack)) else runs (own_waiting Activating a.own p.stack)) ≡ own_among a.own (single.runs (if b then Some (record { exception = Predefined Tasking; at = a.own.at }) else None)) p.stack
         by true = refl
@@ -207,15 +207,15 @@ module _ {C : Type 0} (k : Controls C) where
         let order : All Moved → All C = λ e. record c' { tasks = all_moved k c.tasks e.tasks; shared = e.shared } in
         let in_part : ℕ → List ℕ = λ part. effect.not_activated plan k.barrier part (start c') in
         sym (
-            acts_running plan k limits a p None None undisturbed
-            ∙ ap (λ ask. ordered k c' (done plan k.barrier limits None ask n)) asks
-            ∙ ap (λ (o : Own). order (effect.activates plan k.barrier at n (in_part (innermost o.opened)) (start c'))) (ap (λ os. slice_index_or os n nobody) (owns_bare c.tasks) ∙ own_at a.before a.behind x)
-            ∙ ap (λ ns. order (effect.activates plan k.barrier at n ns (start c'))) (numbers_bare (waits_in (innermost p.stack.opened)) 0 c.tasks ∙ waiting)
-            ∙ ap (λ ts. order (effect.begin_all plan k.barrier n (m ∷ ms) (record (start c') { tasks = ts }))) (sym (map_changed (λ (t : TaskAt C). bare t) (λ (t : TaskAt C). record t { own = blocked t.own }) (λ (t : TaskAt Moved). record t { own = blocked t.own }) (λ t. refl) n c.tasks))
-            ∙ ap order (all_begin_bare n (m ∷ ms) d)
-            ∙ ap (λ ts. record c' { tasks = ts; shared = b.shared }) (moved_so c.tasks b.tasks (sym (all_begun_kept n (m ∷ ms) d ∙ kept_by (λ (t : TaskAt C). t.control) (λ (t : TaskAt C). record t { own = blocked t.own }) (λ t. refl) n c.tasks)))
-            ∙ rest_kept n (m ∷ ms) d
-            ∙ ap (λ ts. begun_all plan n (m ∷ ms) (record c' { tasks = ts })) (changed_at a.before a.behind x (λ (t : TaskAt C). record t { own = blocked t.own })))
+        acts_running plan k limits a p None None undisturbed
+        ∙ ap (λ ask. ordered k c' (done plan k.barrier limits None ask n)) asks
+        ∙ ap (λ (o : Own). order (effect.activates plan k.barrier at n (in_part (innermost o.opened)) (start c'))) (ap (λ os. slice_index_or os n nobody) (owns_bare c.tasks) ∙ own_at a.before a.behind x)
+        ∙ ap (λ ns. order (effect.activates plan k.barrier at n ns (start c'))) (numbers_bare (waits_in (innermost p.stack.opened)) 0 c.tasks ∙ waiting)
+        ∙ ap (λ ts. order (effect.begin_all plan k.barrier n (m ∷ ms) (record (start c') { tasks = ts }))) (sym (map_changed (λ (t : TaskAt C). bare t) (λ (t : TaskAt C). record t { own = blocked t.own }) (λ (t : TaskAt Moved). record t { own = blocked t.own }) (λ t. refl) n c.tasks))
+        ∙ ap order (all_begin_bare n (m ∷ ms) d)
+        ∙ ap (λ ts. record c' { tasks = ts; shared = b.shared }) (moved_so c.tasks b.tasks (sym (all_begun_kept n (m ∷ ms) d ∙ kept_by (λ (t : TaskAt C). t.control) (λ (t : TaskAt C). record t { own = blocked t.own }) (λ t. refl) n c.tasks)))
+        ∙ rest_kept n (m ∷ ms) d
+        ∙ ap (λ ts. begun_all plan n (m ∷ ms) (record c' { tasks = ts })) (changed_at a.before a.behind x (λ (t : TaskAt C). record t { own = blocked t.own })))
 
     pub activate_law : (limits : Limits) (a : Around C) (p : Single C) (at : Pos) (m : ℕ) (ms : List ℕ) → p.stage ≡ single.runs None → IsUndisturbed a.own → asked_among plan k a p None ≡ activates at → numbers (λ (t : TaskAt C). waits_in (innermost p.stack.opened) t.own) 0 (among a p).tasks ≡ m ∷ ms → begun_all plan (number a) (m ∷ ms) (among_waiting Activating (waits_at at a) (record p { steps = suc p.steps })) ≡ step_with plan k limits (among a p) (own_move (number a))
     activate_law limits a p at m ms is undisturbed =

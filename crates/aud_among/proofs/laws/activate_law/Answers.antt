@@ -1,5 +1,3 @@
-use Rattle.aud_meaning.specs.Configuration.{Item}
-use Rattle.aud_meaning.specs.Control.{Controls}
 use Rattle.aud_among.proofs.Activating.{activate_law, begin_law}
 use Rattle.aud_among.proofs.laws.activate_law.Goals as goal
 
