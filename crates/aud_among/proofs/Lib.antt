@@ -1,0 +1,11 @@
+pub mod Places
+pub mod Acts
+pub mod Kept
+pub mod Elsewhere
+pub mod Others
+pub mod Apart
+pub mod Seen
+pub mod Steps
+pub mod Moving
+pub mod Creating
+pub mod Activating
