@@ -2,10 +2,9 @@
 
 The unit is the user time of `rt selftest`, so that machines can be compared. Processes are looked at
 ten times a second, so what one does in its last tenth is not counted for its crate; the sum is exact.
-price.sh calls it.
+Only those that this gate has started are counted, whatever else runs on the machine. price.sh calls it.
 """
 import os
-import re
 import resource
 import subprocess
 import sys
@@ -39,18 +38,42 @@ def what_it_does(pid):
     return crate, "tests" if "--test" in words else "proof"
 
 
+def processes():
+    """Of each process on the machine, by its id, the fields of its stat that stand behind its name."""
+    found = {}
+    for pid in filter(str.isdigit, os.listdir("/proc")):
+        try:
+            with open(f"/proc/{pid}/stat", encoding="utf-8", errors="replace") as it:
+                found[pid] = it.read().rpartition(") ")[2].split()
+        except OSError:
+            continue
+    return found
+
+
+def started():
+    """Those of them that this process has started, or that one of these has."""
+    everything = processes()
+    children = defaultdict(list)
+    for pid, (_, parent, *_) in everything.items():
+        children[parent].append(pid)
+    found, ahead = {}, [str(os.getpid())]
+    while ahead:
+        for pid in children[ahead.pop()]:
+            found[pid] = everything[pid]
+            ahead.append(pid)
+    return found
+
+
 def watch(seen, ended):
-    """Notes the user time of each such process, until it has ended."""
+    """Notes the user time of each process of the prover that this one has started, until the gate has ended."""
     while not ended.is_set():
-        for pid in filter(str.isdigit, os.listdir("/proc")):
+        for pid, fields in started().items():
             try:
                 what = what_it_does(pid)
-                if what:
-                    with open(f"/proc/{pid}/stat", encoding="utf-8") as it:
-                        fields = re.sub(r"^.*\) ", "", it.read()).split()
-                    seen[pid, fields[19], what] = int(fields[11]) / TICK
             except OSError:
                 continue
+            if what:
+                seen[pid, fields[19], what] = int(fields[11]) / TICK
         time.sleep(0.1)
 
 

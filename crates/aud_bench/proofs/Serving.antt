@@ -1,29 +1,29 @@
 -- A RUN that is cut into slices comes to what it comes to at once.
-use Rattle.std.specs.Prelude.{min, max, ◌==◌, if◌then◌else◌, ◌⊎◌}
-use Rattle.std.proofs.Common.{◌≡◌, ℕ, ◌+◌, ◌-◌, ◌<◌, ◌≤◌, List, [], Option, Some, None, Result, Ok, Err, Bool, true, false, inl, inr, refl, sym, ap, ◌∙◌, subst, arith}
+use Rattle.std.specs.Prelude.{min, max, ◌==◌, nat_lt, if◌then◌else◌, ◌⊎◌}
+use Rattle.std.proofs.Common.{◌≡◌, ℕ, ◌+◌, ◌-◌, ◌<◌, ◌≤◌, List, [], length, Option, Some, None, Result, Ok, Err, Bool, true, false, inl, inr, refl, sym, ap, ◌∙◌, subst, arith}
 use Rattle.aud_text.specs.declared.refusal.Refusal.TheVariants as refusal
 use Rattle.aud_text.specs.declared.limits.Limits.{Limits}
-use Rattle.aud_text.specs.declared.limits.TheConstants.{STEPS}
+use Rattle.aud_text.specs.declared.limits.TheConstants.{STEPS, CHOICES}
 use Rattle.aud_typed.specs.Tree as tree
 use Rattle.aud_typed.specs.Ties.View.{plain_program}
 use Rattle.aud_meaning.specs.declared.state.State.TheVariants as state
 use Rattle.aud_meaning.specs.Configuration.{Item, Configuration}
 use Rattle.aud_meaning.specs.Control.{Controls}
 use Rattle.aud_meaning.specs.Statements.{controls}
-use Rattle.aud_meaning.specs.Run.{moves_in, run, main_raised}
+use Rattle.aud_meaning.specs.Run.{moves_in, run, main_raised, supplied}
 use Rattle.aud_meaning.proofs.Counts.{run_moves, run_stays, run_full, run_cut, more_moves, no_moves}
 use Rattle.aud_single.specs.declared.run.Ran.{Ran}
 use Rattle.aud_machine.specs.Shown.{Shown, program_in}
-use Rattle.aud_machine.specs.Shows.{RunsFrom}
+use Rattle.aud_machine.specs.Shows.{Shows, RunsFrom}
 use Rattle.aud_bench.specs.declared.request.Request.{Request}
 use Rattle.aud_bench.specs.declared.request.Request.TheVariants as request
 use Rattle.aud_bench.specs.declared.request.Answer.{Answer}
 use Rattle.aud_bench.specs.declared.request.Answer.TheVariants as answer
 use Rattle.aud_bench.specs.declared.request.Raised.{Raised}
 use Rattle.aud_bench.specs.declared.service.Served.{Served}
-use Rattle.aud_bench.specs.Alone.{Loaded, answers_only, named_if, ended_by, report, ran_reply, steps_left, run_reply, load_reply, output_reply, replied}
+use Rattle.aud_bench.specs.Alone.{Loaded, answers_only, named_if, ended_by, report, ran_reply, steps_left, run_reply, load_reply, chosen_reply, choose_reply, output_reply, replied}
 use Rattle.aud_bench.specs.Loading.{program_of}
-use Rattle.aud_bench.specs.Ties.Serving.{Holds, Replies, UnderWay, ServesBy, Serves, GoesOn}
+use Rattle.aud_bench.specs.Ties.Serving.{Holds, Replies, RepliesAs, UnderWay, ServesBy, Serves, GoesOn}
 
 is_none : (n : ℕ) → n ≡ 0 → (n == 0) ≡ true
 is_none n e = ap (λ k. k == 0) e
@@ -45,6 +45,14 @@ pub load_costs : (loaded : Option Loaded) (x : Result tree.Program Answer) → (
 load_costs loaded (Ok program) = refl
 load_costs loaded (Err refusal) = refl
 
+choice_costs : (b : Bool) (full : Answer) (l : Loaded) (after : Configuration) → (if b then answers_only full (Some l) else chosen_reply l after).cost ≡ 1
+choice_costs true full l after = refl
+choice_costs false full l after = refl
+
+pub choose_costs : (choices : List ℕ) (loaded : Option Loaded) → (choose_reply choices loaded).cost ≡ 1
+choose_costs choices None = refl
+choose_costs choices (Some l) = choice_costs (nat_lt CHOICES (length l.now.choices + length choices)) _ l (supplied choices l.now)
+
 pub output_costs : (loaded : Option Loaded) → (output_reply loaded).cost ≡ 1
 output_costs None = refl
 output_costs (Some l) = refl
@@ -58,6 +66,7 @@ costs_some limits (request.Run n) (Some l) = by (steps_left l.now == 0)
     by : (b : Bool) → 1 ≤ (if b then answers_only (answer.Refused refusal.StepBudget) (Some l) else ran_reply l (run limits l.program (min n (steps_left l.now)) l.now)).cost
     by true = omega arith
     by false = omega arith
+costs_some limits (request.Choose choices) loaded = omega (arith, choose_costs choices loaded)
 costs_some limits request.Output loaded = omega (arith, output_costs loaded)
 costs_some limits request.Quit loaded = omega arith
 costs_some limits (request.Bad why) loaded = omega arith
@@ -72,6 +81,33 @@ of_program limits n p units old served after each (Some l) under = each l under
 -- a request that is answered at once
 pub at_once : (limits : Limits) (r : Request) (loaded : Option Loaded) (done units : ℕ) (machine : Option Shown) (a : Answer) → (replied limits loaded r).cost ≡ 1 → done < (replied limits loaded r).cost → Replies limits a machine (replied limits loaded r) → ServesBy (Some a) limits r loaded done units 1 0 machine
 at_once limits r loaded done units machine a one unanswered replies = (replies, omega (arith, one, unanswered), refl)
+
+-- choices for which there is no room, and those that are supplied; so many wait before
+module _ (choices : List ℕ) (old : Shown) (waiting : ℕ) (before : (c : Configuration) → Shows old c → waiting ≡ length c.choices) where
+  pub no_room : CHOICES < waiting + length choices → (limits : Limits) → RepliesAs (choose_reply choices) limits (Some old) (answer.Refused refusal.ChoicesFull) (Some old)
+  no_room full limits None holds = absurd holds
+  no_room full limits (Some l) holds =
+      let is : nat_lt CHOICES (length l.now.choices + length choices) ≡ true = grind (arith, full, before l.now holds.shows) in
+      subst (λ reply. Replies limits (answer.Refused refusal.ChoicesFull) (Some old) reply)
+      (sym (ap (λ b. if b then answers_only (answer.Refused refusal.ChoicesFull) (Some l) else chosen_reply l (supplied choices l.now)) is))
+      (record { answer_is = refl; loaded = holds })
+
+  module _ (new : Shown) (after : ℕ) (kept : (new.limits ≡ old.limits) × (new.program ≡ old.program)) (supplies : (c : Configuration) → Shows old c → Shows new (supplied choices c)) (shown : (c : Configuration) → Shows new c → after ≡ length c.choices) where
+    pub is_supplied : waiting + length choices ≤ CHOICES → (limits : Limits) → RepliesAs (choose_reply choices) limits (Some old) (answer.Choices after) (Some new)
+    is_supplied room limits None holds = absurd holds
+    is_supplied room limits (Some l) holds =
+        let is : nat_lt CHOICES (length l.now.choices + length choices) ≡ false = grind (arith, room, before l.now holds.shows) in
+        let shows : Shows new (supplied choices l.now) = supplies l.now holds.shows in
+        subst (λ reply. Replies limits (answer.Choices after) (Some new) reply)
+        (sym (ap (λ b. if b then answers_only (answer.Refused refusal.ChoicesFull) (Some l) else chosen_reply l (supplied choices l.now)) is))
+        (record {
+          answer_is = ap answer.Choices (shown (supplied choices l.now) shows);
+          loaded = record {
+            limits_are = kept.0 ∙ holds.limits_are;
+            program_is = ap plain_program kept.1 ∙ holds.program_is;
+            shows = shows;
+          };
+        })
 
 module _ (limits : Limits) (n p : ℕ) (l : Loaded) (old : Shown) (under : UnderWay limits (request.Run n) (Some l) p (Some old)) where
   abbrev plan : tree.Plan

@@ -1,16 +1,16 @@
 -- A private server, of one user alone: what it answers to a list of requests, and how many units each costs.
-use Rattle.std.specs.Prelude.{ℕ, ◌+◌, ◌-◌, min, max, List, [], ◌∷◌, Option, Some, None, Result, Ok, Err, Bool, true, false, ◌==◌, nat_lt, nat_le, ◌&&◌, ◌||◌, if◌then◌else◌, slice_index_or}
+use Rattle.std.specs.Prelude.{ℕ, ◌+◌, ◌-◌, min, max, List, [], ◌∷◌, length, Option, Some, None, Result, Ok, Err, Bool, true, false, ◌==◌, nat_lt, nat_le, ◌&&◌, ◌||◌, if◌then◌else◌, slice_index_or}
 use Rattle.aud_text.specs.declared.refusal.Refusal.{Refusal}
 use Rattle.aud_text.specs.declared.refusal.Refusal.TheVariants as refusal
 use Rattle.aud_text.specs.declared.limits.Limits.{Limits}
-use Rattle.aud_text.specs.declared.limits.TheConstants.{STEPS, REQUESTS, REQUEST_BYTES}
+use Rattle.aud_text.specs.declared.limits.TheConstants.{STEPS, CHOICES, REQUESTS, REQUEST_BYTES}
 use Rattle.aud_typed.specs.declared.program.Exception.{Exception}
 use Rattle.aud_typed.specs.declared.program.Exception.TheVariants as exception
 use Rattle.aud_typed.specs.Tree as tree
 use Rattle.aud_meaning.specs.declared.state.State.{State}
 use Rattle.aud_meaning.specs.declared.state.State.TheVariants as state
 use Rattle.aud_meaning.specs.Configuration.{Configuration}
-use Rattle.aud_meaning.specs.Run.{opening, run, state_in, main_raised}
+use Rattle.aud_meaning.specs.Run.{opening, run, state_in, main_raised, supplied}
 use Rattle.aud_bench.specs.declared.request.Raised.{Raised}
 use Rattle.aud_bench.specs.declared.request.Raised.TheVariants.{Predefined, Declared}
 use Rattle.aud_bench.specs.declared.request.Report.{Report}
@@ -89,6 +89,16 @@ run_reply limits n (Some loaded) =
     if steps_left loaded.now == 0 then answers_only (answer.Refused refusal.StepBudget) (Some loaded)
     else ran_reply loaded (run limits loaded.program (min n (steps_left loaded.now)) loaded.now)
 
+abbrev pub chosen_reply : Loaded → Configuration → Reply
+chosen_reply loaded after = answers_only (answer.Choices (length after.choices)) (Some (record loaded { now = after }))
+
+-- choices are supplied all together, where there is room for them behind those that wait
+abbrev pub choose_reply : List ℕ → Option Loaded → Reply
+choose_reply choices None = answers_only (answer.Refused refusal.NoProgram) None
+choose_reply choices (Some loaded) =
+    if nat_lt CHOICES (length loaded.now.choices + length choices) then answers_only (answer.Refused refusal.ChoicesFull) (Some loaded)
+    else chosen_reply loaded (supplied choices loaded.now)
+
 abbrev pub output_reply : Option Loaded → Reply
 output_reply None = answers_only (answer.Refused refusal.NoProgram) None
 output_reply (Some loaded) = answers_only (answer.Output loaded.now.shared.output) (Some loaded)
@@ -103,6 +113,7 @@ refusal_of bad.NotAscii = refusal.NotAscii
 abbrev pub replied : Limits → Option Loaded → Request → Reply
 replied limits loaded (request.Load source) = load_reply (program_of limits source) loaded
 replied limits loaded (request.Run n) = run_reply limits n loaded
+replied limits loaded (request.Choose choices) = choose_reply choices loaded
 replied limits loaded request.Output = output_reply loaded
 replied limits loaded request.Quit = answers_only answer.Done loaded
 replied limits loaded (request.Bad why) = answers_only (answer.Refused (refusal_of why)) loaded
@@ -111,6 +122,7 @@ abbrev pub is_quit : Request → Bool
 is_quit request.Quit = true
 is_quit (request.Load source) = false
 is_quit (request.Run n) = false
+is_quit (request.Choose choices) = false
 is_quit request.Output = false
 is_quit (request.Bad why) = false
 

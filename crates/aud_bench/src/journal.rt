@@ -1,9 +1,10 @@
 // The size of requests, and the room for them.
 
-ghost use Rattle.std.specs.Prelude.{◌≡◌, ◌+◌, ◌<◌, ◌≤◌, length, true, false};
+ghost use Rattle.std.specs.Prelude.{◌≡◌, ◌+◌, ◌*◌, ◌<◌, ◌≤◌, length, All, true, false};
 ghost use Rattle.std.specs.Fmt.{decimal};
 ghost use Rattle.aud_bench.specs.Alone.{is_quit, has_room, fits};
-ghost use Rattle.aud_bench.specs.Size.{size};
+ghost use Rattle.aud_bench.specs.Size.{numbers_size, size};
+ghost use Rattle.aud_text.specs.declared.limits.TheConstants.{CHOICE};
 
 use crate::loading::line_count;
 use crate::request::Request;
@@ -20,6 +21,7 @@ pub fn size(request: &Request) -> usize
             6 + digit_count(line_count(source) as u64) + source.len()
         }
         Request::Run(steps) => 5 + digit_count(u64::from(*steps)),
+        Request::Choose(choices) => 7 + numbers_size(choices.as_slice()),
         Request::Output => 7,
         Request::Quit => 5,
         Request::Bad(_) => 1,
@@ -52,10 +54,24 @@ fn has_room(requests: usize, bytes: usize, size: usize) -> bool
         && bytes <= REQUEST_BYTES as usize - size
 }
 
+// The bytes of the numbers of choices, with a space before each.
+fn numbers_size(numbers: &[u32]) -> usize
+    requires { All (λ n. n ≤ CHOICE) numbers.now }
+    ensures size { result ≡ numbers_size numbers.now }
+    ensures few { result ≤ 5 * length numbers.now }
+{
+    let mut size = 0;
+    for number in numbers {
+        size += 1 + digit_count(u64::from(*number));
+    }
+    size
+}
+
 // How many decimal digits a number has.
 fn digit_count(number: u64) -> usize
     ensures count { result ≡ length (decimal number) }
     ensures few { result ≤ 20 }
+    ensures of_choice { number ≤ CHOICE → result ≤ 4 }
 {
     itoa::Buffer::new().format(number).len()
 }

@@ -2,6 +2,7 @@
 #![tactic(auto)]
 
 pub mod bench;
+pub mod choices;
 mod journal;
 pub mod laws;
 pub mod loading;

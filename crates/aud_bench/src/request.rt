@@ -3,6 +3,7 @@
 ghost use Rattle.std.specs.Prelude.{◌≡◌};
 ghost use Rattle.aud_bench.specs.Alone.{refusal_of};
 
+use crate::choices::Choices;
 use aud_meaning::state::State;
 use aud_text::name::Name;
 use aud_text::place::Pos;
@@ -17,6 +18,8 @@ pub enum Request {
     Load(Text),
     /// Do this many steps, or as many as can be done.
     Run(u32),
+    /// Let these choices wait behind those that wait already.
+    Choose(Choices),
     /// Tell what the program has put out.
     Output,
     /// End the session.
@@ -73,6 +76,8 @@ pub enum Answer {
     /// The program of this name is loaded.
     Loaded(Name),
     Ran(Report),
+    /// How many choices wait.
+    Choices(usize),
     /// What the program has put out.
     Output(Text),
     Done,

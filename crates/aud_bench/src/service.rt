@@ -7,14 +7,14 @@ ghost use Rattle.aud_meaning.specs.declared.state.State.TheVariants as states;
 ghost use Rattle.aud_text.specs.declared.limits.Limits.{Limits as Bounds};
 ghost use Rattle.aud_bench.specs.declared.request.Request.TheVariants as asked;
 ghost use Rattle.aud_bench.specs.Loading.{program_of};
-ghost use Rattle.aud_bench.specs.Alone.{Loaded, named, named_if, ended_by, load_reply, output_reply, replied};
+ghost use Rattle.aud_bench.specs.Alone.{Loaded, named, named_if, ended_by, load_reply, choose_reply, output_reply, replied};
 ghost use Rattle.aud_bench.specs.Ties.Serving.{IsLoaded, RepliesAs, GoesOn};
 
 use crate::loading::{LoadFault, load};
 use crate::request::{Answer, Raised, Report, Request};
 use aud_machine::machine::Machine;
 use aud_meaning::state::State;
-use aud_text::limits::{Limits, STEPS};
+use aud_text::limits::{CHOICES, Limits, STEPS};
 use aud_text::name::Name;
 use aud_text::refusal::Refusal;
 use aud_text::text::Text;
@@ -53,6 +53,7 @@ pub fn serve(
             None => Ok(answered(Answer::Refused(Refusal::NoProgram))),
             Some(machine) => run(alloc, machine, *steps, progress, units),
         },
+        Request::Choose(choices) => Ok(answered(choose(machine, choices.as_slice())?)),
         Request::Output => Ok(answered(output(alloc, machine)?)),
         Request::Quit => Ok(answered(Answer::Done)),
         Request::Bad(why) => Ok(answered(Answer::Refused(why.refusal()))),
@@ -128,6 +129,29 @@ fn replace(machine: &mut Option<Machine>, new: Option<Machine>)
     ensures { machine.new ≡ new }
 {
     *machine = new;
+}
+
+fn choose(machine: &mut Option<Machine>, choices: &[u32]) -> Result<Answer, AllocError>
+    ensures { IfOk result (λ answer. (bounds : Bounds) →
+        RepliesAs (choose_reply choices.now) bounds machine.old answer machine.new) }
+{
+    match machine {
+        None => Ok(Answer::Refused(Refusal::NoProgram)),
+        Some(machine) => supply(machine, choices),
+    }
+}
+
+// All of the choices wait, or none of them where there is no room for all.
+fn supply(machine: &mut Machine, choices: &[u32]) -> Result<Answer, AllocError>
+    ensures { IfOk result (λ answer. (bounds : Bounds) →
+        RepliesAs (choose_reply choices.now) bounds (Some machine.old) answer (Some machine.new)) }
+{
+    let waiting = machine.choices() + choices.len();
+    if waiting > CHOICES as usize {
+        return Ok(Answer::Refused(Refusal::ChoicesFull));
+    }
+    machine.choose(choices)?;
+    Ok(Answer::Choices(machine.choices()))
 }
 
 fn output(alloc: Global, machine: &Option<Machine>) -> Result<Answer, AllocError>

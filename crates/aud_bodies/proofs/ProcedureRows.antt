@@ -79,12 +79,13 @@ abbrev sets : Unit
 sets = main (a_v ∷ p_with (n_of (InOut (at 2 18)) ∷ []) [] (assign (var_at (codes "N") (at 3 7)) (only (num 1 (at 3 12)))) ∷ []) (call_p (named_arg (codes "V") 4 ∷ []))
 
 abbrev sets_program : tree.Program
-sets_program = tree.program_of_procedures (record {
+sets_program = tree.program_of_units (record {
   name = codes "M";
   units =
       (record { level = 0; region = 0; at = at 1 1; body = tree.body (tree.some v_starts) (at 5 1) (procedure_call 1 (tree.by_copy true Integer (scalar_at 0) ∷ [])) tree.no_handlers (at 9 1) })
       ∷ (record { level = 1; region = 1; at = at 2 1; body = tree.body tree.nothing (at 3 1) (tree.assign (at 3 7) (scalar_at 1) (tree.whole Integer (tree.number (pos 1)))) tree.no_handlers (at 3 70) })
       ∷ [];
+  tasks = [];
   regions = (shown_whole (codes "V") ∷ []) ∷ (shown_whole (codes "N") ∷ []) ∷ [];
   exceptions = [];
 })

@@ -41,7 +41,7 @@ abbrev shown_as : List ℕ → tree.Shown → tree.Named
 shown_as spelling shown = record { name = spelling; shown = shown }
 
 abbrev program_of_four : tree.Statement → tree.Program
-program_of_four s = tree.program_of_procedures (record {
+program_of_four s = tree.program_of_units (record {
   name = codes "M";
   units = (record {
     level = 0;
@@ -53,6 +53,7 @@ program_of_four s = tree.program_of_procedures (record {
         tree.declare (at 4 1) 3 (tree.boolean (tree.truth false)) ∷
         tree.declare (at 5 1) 4 (tree.whole Integer (tree.number (pos 3))) ∷ [])) (at 6 1) s tree.no_handlers (at 9 1);
   }) ∷ [];
+  tasks = [];
   regions = (shown_as (codes "N") tree.as_whole ∷ shown_as (codes "P") tree.as_whole ∷ shown_as (codes "B") tree.as_truth ∷ shown_as (codes "C") tree.as_whole ∷ []) ∷ [];
   exceptions = [];
 })

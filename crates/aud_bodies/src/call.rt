@@ -12,6 +12,7 @@ ghost use Rattle.aud_bodies.specs.Calls.{one_text, no_argument, element_called, 
 ghost use Rattle.aud_bodies.specs.Ties.Passed.{plain_all_passed};
 ghost use Rattle.aud_bodies.specs.Ties.Tables.{plain_tables};
 ghost use Rattle.aud_typing.specs.Ties.Typing.{plain_typed, in_box, Leaves};
+ghost use Rattle.aud_names.specs.declared.names.Builtin.TheVariants as builtin;
 
 use crate::argument::{all_passed, are_as_many};
 use crate::tables::Tables;
@@ -100,14 +101,32 @@ fn put_out(alloc: Global, builtin: Builtin, at: Pos, last: Typed) -> Made<TypedS
     ensures { IfOk result (λ typed. plain_typed_statement typed
         ≡ put_out builtin at (plain_typed last)) }
 {
-    match (builtin, last) {
-        (Builtin::Put, Typed::Text(text)) => Ok(TypedStatement::Put(at, text)),
-        (Builtin::PutLine, Typed::Text(text)) => {
+    match builtin {
+        Builtin::Put => Ok(put(at, last)),
+        Builtin::PutLine => put_line(alloc, at, last),
+        Builtin::NewLine => Ok(TypedStatement::Put(at, TextExpression::NewLine)),
+    }
+}
+
+fn put(at: Pos, last: Typed) -> TypedStatement
+    ensures { plain_typed_statement result ≡ put_out builtin.Put at (plain_typed last) }
+{
+    match last {
+        Typed::Text(text) => TypedStatement::Put(at, text),
+        Typed::Number(_) | Typed::Truth(_) | Typed::Unknown => TypedStatement::Null(at),
+    }
+}
+
+fn put_line(alloc: Global, at: Pos, last: Typed) -> Made<TypedStatement>
+    ensures { IfOk result (λ typed. plain_typed_statement typed
+        ≡ put_out builtin.PutLine at (plain_typed last)) }
+{
+    match last {
+        Typed::Text(text) => {
             let line = with_text(alloc, text, TextExpression::NewLine)?;
             Ok(TypedStatement::Put(at, line))
         }
-        (Builtin::NewLine, _) => Ok(TypedStatement::Put(at, TextExpression::NewLine)),
-        _ => Ok(TypedStatement::Null(at)),
+        Typed::Number(_) | Typed::Truth(_) | Typed::Unknown => Ok(TypedStatement::Null(at)),
     }
 }
 

@@ -56,6 +56,7 @@ fn typed_within<'a>(
     Ok(Program {
         name,
         units,
+        tasks: Vec::new(alloc),
         regions,
         exceptions,
     })

@@ -112,7 +112,9 @@ pub fn need_before(instruction: &Instruction, next: Counts, over: Counts) -> Cou
         Instruction::OnTwo(_) => next.before(integers(2), integers(1)),
         Instruction::Cell => next.before(booleans(1), integers(1)),
         Instruction::PushTruth(_) => next.before(NOTHING, booleans(1)),
-        Instruction::Truth => next.before(integers(1), booleans(1)),
+        Instruction::Truth | Instruction::IsCallable | Instruction::IsTerminated => {
+            next.before(integers(1), booleans(1))
+        }
         Instruction::Negate => next.before(booleans(1), booleans(1)),
         Instruction::Relate(_) => next.before(integers(2), booleans(1)),
         Instruction::Compare(_) | Instruction::Combine(_) => next.before(booleans(2), booleans(1)),
@@ -136,9 +138,13 @@ pub fn need_of_last(last: &Last) -> Counts
 {
     match last {
         Last::Does(ending, _) => need_of_ending(*ending),
-        Last::Continues { .. } | Last::Guards(_) | Last::Ends(_, _) | Last::Leaves { .. } => {
-            NOTHING
-        }
+        Last::DeclaresTasks(_, _)
+        | Last::Activates(_)
+        | Last::EndsActivation(_)
+        | Last::Continues { .. }
+        | Last::Guards(_)
+        | Last::Ends(_, _)
+        | Last::Leaves { .. } => NOTHING,
     }
 }
 

@@ -59,6 +59,9 @@ fn fits(lines: &[Line], place: usize, end: &EndLine) -> bool
                 && ending_fits(lines, place, within, *ending)
                 && out_fits(lines, within, end.out)
         }
+        Last::DeclaresTasks(_, next) | Last::Activates(next) | Last::EndsActivation(next) => {
+            is_within(lines, *next, within) && out_fits(lines, within, end.out)
+        }
         Last::Continues { behind, inside, .. } => continues_fit(lines, within, *behind, *inside),
         Last::Guards(guards) => {
             guards_within(lines, guards, within) && goes_to_end(lines, within, end.out)

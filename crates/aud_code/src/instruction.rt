@@ -35,6 +35,10 @@ pub enum Instruction {
     Compare(Relation),
     /// An operator in place of the two newest truth values; the newest is its right operand.
     Combine(Logical),
+    /// Takes the newest Integer, a task's number; whether that task is callable, as one more truth value (RM 9.9(2)).
+    IsCallable,
+    /// The same; whether that task is terminated (RM 9.9(3)).
+    IsTerminated,
     /// Takes the newest truth value where it is true. A false one stays, and this number of instructions is passed.
     PassIfFalse(usize),
     /// Takes the newest truth value where it is false. A true one stays, and this number of instructions is passed.

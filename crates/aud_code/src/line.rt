@@ -3,7 +3,7 @@
 use crate::instruction::Instruction;
 use aud_meaning::state::Construct;
 use aud_text::place::Pos;
-use aud_typed::program::{Exception, Subtype};
+use aud_typed::program::{Exception, Subtype, Tasks};
 
 /// A way out of loops or a body: the place, and how many loops' frames are left at once.
 #[derive(Clone, Copy, PartialEq, Eq, Debug)]
@@ -69,6 +69,12 @@ pub struct Guard {
 pub enum Last {
     /// A statement's step, and the place where the next one begins, unless it leads elsewhere.
     Does(Ending, usize),
+    /// The next variable of the innermost frame is these tasks, which are created (RM 9.1); and the place where the next step begins.
+    DeclaresTasks(Tasks, usize),
+    /// The tasks are activated that the declarative part has created (RM 9.2(3)); and the place where the next step begins.
+    Activates(usize),
+    /// The activation of the task ends (RM 9.2(5)); and the place where the next step begins.
+    EndsActivation(usize),
     /// The parameter of a `for` loop has its next value, and the step leads inside, or the loop is left, and it leads behind it.
     Continues {
         control: ForLoop,

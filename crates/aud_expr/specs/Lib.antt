@@ -1,4 +1,5 @@
 pub mod Operands
+pub mod Facts
 pub mod Flow
 pub mod Ticks
 pub mod Found

@@ -4,7 +4,7 @@ ghost use Rattle.std.specs.Prelude.{List, ℕ, OnOk};
 ghost use Rattle.aud_code.specs.Instruction.{LoadFound, Pass, PassCopy};
 ghost use Rattle.aud_code.specs.Sound.{counts_of};
 ghost use Rattle.aud_expr.specs.declared.flow.Flow.TheVariants.{Passes};
-ghost use Rattle.aud_expr.specs.Flow.{FindsOperands, Acts, Does};
+ghost use Rattle.aud_expr.specs.Flow.{FindsOperands, Reads, Does};
 
 use crate::operands::Operands;
 use crate::variables::held;
@@ -15,7 +15,7 @@ use std::alloc::AllocError;
 pub fn load_found(frames: &Frames, operands: &mut Operands) -> Result<(), AllocError>
     requires { FindsOperands LoadFound (counts_of operands.old) }
     ensures { OnOk result ((display : List ℕ) →
-        Acts display frames.now LoadFound (Passes 0) operands.old operands.new) }
+        Reads display frames.now LoadFound (Passes 0) operands.old operands.new) }
 {
     let target = operands.pop_target();
     operands.push_target(target)?;

@@ -4,7 +4,7 @@ ghost use Rattle.std.specs.Prelude.{◌≡◌, IfOk};
 ghost use Rattle.aud_meaning.specs.Evaluation.{element_at};
 ghost use Rattle.aud_code.specs.Instruction.{LoadElement, FindElement};
 ghost use Rattle.aud_code.specs.Sound.{counts_of};
-ghost use Rattle.aud_expr.specs.Flow.{FindsOperands, Acts};
+ghost use Rattle.aud_expr.specs.Flow.{FindsOperands, Reads};
 
 use crate::flow::Flow;
 use crate::operands::Operands;
@@ -23,7 +23,7 @@ pub fn load_element(
 ) -> Result<Flow, AllocError>
     requires { FindsOperands (LoadElement array) (counts_of operands.old) }
     ensures { IfOk result (λ flow.
-        Acts display.now frames.now (LoadElement array) flow operands.old operands.new) }
+        Reads display.now frames.now (LoadElement array) flow operands.old operands.new) }
 {
     match element_at(array, operands.pop())? {
         Ok(variable) => {
@@ -43,7 +43,7 @@ pub fn find_element(
 ) -> Result<Flow, AllocError>
     requires { FindsOperands (FindElement array subtype) (counts_of operands.old) }
     ensures { IfOk result (λ flow.
-        Acts display.now frames.now (FindElement array subtype) flow operands.old operands.new) }
+        Reads display.now frames.now (FindElement array subtype) flow operands.old operands.new) }
 {
     match element_at(array, operands.pop())? {
         Ok(variable) => {

@@ -4,6 +4,7 @@
 mod arguments;
 mod elements;
 pub mod evaluate;
+pub mod facts;
 mod few;
 pub mod flow;
 pub mod fused;

@@ -3,7 +3,7 @@
 ghost use Rattle.std.specs.Prelude.{◌≡◌, [], pos, slice_index, slice_index_or};
 ghost use Rattle.aud_meaning.specs.Evaluation.{cell};
 ghost use Rattle.aud_code.specs.Eval.{held};
-ghost use Rattle.aud_expr.specs.Flow.{InSight};
+ghost use Rattle.aud_expr.specs.Flow.{InFrames};
 
 use aud_store::frames::Frames;
 use aud_store::target::Target;
@@ -12,7 +12,7 @@ use aud_typed::program::{Subtype, Variable};
 
 /// What a variable's cell holds, or 0 where there is none.
 pub fn value_of(variable: Variable, display: &[usize], frames: &Frames) -> Int32
-    ensures { InSight display.now frames.now (λ s. result ≡ cell variable s.sight) }
+    ensures { InFrames display.now frames.now (λ s. result ≡ cell variable s.sight) }
 {
     load(frames, frame_of(display, variable.level), variable.index)
 }

@@ -2,10 +2,10 @@
 
 ghost use Rattle.std.specs.Prelude.{map};
 ghost use Rattle.aud_typed.specs.Ties.View.{plain_argument, plain_arguments};
-ghost use Rattle.aud_typed.specs.Ties.View.{plain_integer, plain_boolean, plain_value, plain_reference, plain_text};
+ghost use Rattle.aud_typed.specs.Ties.View.{plain_integer, plain_task, plain_boolean, plain_value, plain_reference, plain_text};
 ghost use Rattle.aud_code.specs.Flat.{instructs};
 ghost use Rattle.aud_gen.specs.Instructions.{argument_code, arguments_code, copied_code};
-ghost use Rattle.aud_gen.specs.Instructions.{integer_code, condition_code, value_code, reference_code, text_code};
+ghost use Rattle.aud_gen.specs.Instructions.{integer_code, task_code, condition_code, value_code, reference_code, text_code};
 ghost use Rattle.aud_gen.specs.Writes.{right_code, Writes};
 
 use crate::lengths::boolean_length;
@@ -13,8 +13,8 @@ use crate::writer::{Writer, Written};
 use aud_code::instruction::Instruction;
 use aud_meaning::values::nearest_zero;
 use aud_typed::program::{
-    Argument, BooleanExpression, Connective, IntegerExpression, Reference, Subtype, TextExpression,
-    ValueExpression,
+    Argument, BooleanExpression, Connective, IntegerExpression, Reference, Subtype, TaskName,
+    TextExpression, ValueExpression,
 };
 
 impl Writer {
@@ -41,6 +41,19 @@ impl Writer {
                     self.instruct(Instruction::OnTwo(next.operator))?;
                 }
                 Ok(())
+            }
+        }
+    }
+
+    // The number of a task.
+    fn write_task(&mut self, t: &TaskName) -> Written
+        ensures { Writes result self.old self.new (map instructs (task_code (plain_task t.now))) }
+    {
+        match t {
+            TaskName::Single(v) => self.instruct(Instruction::Load(*v)),
+            TaskName::Element(array, index) => {
+                self.write_integer(index)?;
+                self.instruct(Instruction::LoadElement(*array))
             }
         }
     }
@@ -82,6 +95,14 @@ impl Writer {
                     self.write_right(*connective, next)?;
                 }
                 Ok(())
+            }
+            BooleanExpression::Callable(task) => {
+                self.write_task(task)?;
+                self.instruct(Instruction::IsCallable)
+            }
+            BooleanExpression::Terminated(task) => {
+                self.write_task(task)?;
+                self.instruct(Instruction::IsTerminated)
             }
         }
     }

@@ -3,17 +3,17 @@
 ghost use Rattle.std.specs.Prelude.{◌≡◌, ◌+◌, ℕ, length, IfOk};
 ghost use Rattle.aud_typed.specs.Tree.{part_of};
 ghost use Rattle.aud_typed.specs.Ties.View.{plain_argument, plain_arguments};
-ghost use Rattle.aud_typed.specs.Ties.View.{plain_integer, plain_boolean, plain_value, plain_reference, plain_text, plain_statement, plain_statements, statements_in, if_in, for_in, handlers_in, body_in, block_in};
+ghost use Rattle.aud_typed.specs.Ties.View.{plain_integer, plain_task, plain_boolean, plain_value, plain_reference, plain_text, plain_statement, plain_statements, statements_in, if_in, for_in, handlers_in, body_in, block_in};
 ghost use Rattle.aud_typed.specs.declared.program.Subtype.{Subtype};
 ghost use Rattle.aud_gen.specs.Instructions.{argument_code, arguments_code, copied_code};
-ghost use Rattle.aud_gen.specs.Instructions.{integer_code, condition_code, value_code, reference_code, text_code};
+ghost use Rattle.aud_gen.specs.Instructions.{integer_code, task_code, condition_code, value_code, reference_code, text_code};
 ghost use Rattle.aud_gen.specs.Layout.{statement_size_by, part_size_by, handlers_size_by, body_size_by, end_place_by};
 ghost use Rattle.aud_gen.specs.Written.{flat_step};
 ghost use Rattle.aud_gen.specs.Writes.{arm_length};
 
 use aud_typed::program::{
     Argument, Arm, BlockStatement, Body, BooleanExpression, ForStatement, Handler, IfStatement,
-    IntegerExpression, Reference, Statement, Statements, TextExpression, ValueExpression,
+    IntegerExpression, Reference, Statement, Statements, TaskName, TextExpression, ValueExpression,
 };
 use std::alloc::AllocError;
 
@@ -43,6 +43,16 @@ pub fn integer_length(e: &IntegerExpression) -> Result<usize, AllocError>
     }
 }
 
+/// Of the name of a task.
+fn task_length(t: &TaskName) -> Result<usize, AllocError>
+    ensures { IfOk result (λ n. n ≡ length (task_code (plain_task t.now))) }
+{
+    match t {
+        TaskName::Single(_) => Ok(1),
+        TaskName::Element(_, index) => sum(integer_length(index)?, 1),
+    }
+}
+
 /// Of an expression of type Boolean.
 pub fn boolean_length(e: &BooleanExpression) -> Result<usize, AllocError>
     ensures { IfOk result (λ n. n ≡ length (condition_code (plain_boolean e.now))) }
@@ -65,6 +75,8 @@ pub fn boolean_length(e: &BooleanExpression) -> Result<usize, AllocError>
             }
             Ok(total)
         }
+        BooleanExpression::Callable(task) => sum(task_length(task)?, 1),
+        BooleanExpression::Terminated(task) => sum(task_length(task)?, 1),
     }
 }
 
@@ -167,6 +179,9 @@ pub fn statement_length(s: &Statement, ways: usize) -> Result<usize, AllocError>
         Statement::Block(block) => block_length(block, ways),
         Statement::Return(_) => Ok(1),
         Statement::ProcedureCall(_, _, arguments) => sum(arguments_length(arguments)?, 1),
+        Statement::DeclareTasks(..) => Ok(1),
+        Statement::Activated(_) => Ok(1),
+        Statement::Activate(_) => Ok(1),
     }
 }
 

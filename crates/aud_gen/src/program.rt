@@ -16,7 +16,7 @@ use aud_typed::program::{Body, Program, Unit};
 use std::alloc::{AllocError, Global};
 
 impl Writer {
-    // The body of a procedure.
+    // The body of a procedure or task.
     fn write_unit(&mut self, body: &Body) -> Written
         ensures { Writes result self.old self.new
             (unit_lines (body_in body.now) (length self.old)) }

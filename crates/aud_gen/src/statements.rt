@@ -94,6 +94,14 @@ impl Writer {
                 self.write_arguments(arguments)?;
                 self.end_statement(Ending::Call(*unit), next, *at, out, ways.within)
             }
+            Statement::DeclareTasks(at, tasks) => {
+                let tasks = tasks.try_clone(self.alloc())?;
+                self.end(Last::DeclaresTasks(tasks, next), *at, out, ways.within)
+            }
+            Statement::Activated(at) => {
+                self.end(Last::EndsActivation(next), *at, out, ways.within)
+            }
+            Statement::Activate(at) => self.end(Last::Activates(next), *at, out, ways.within),
         }
     }
 

@@ -1,12 +1,11 @@
-// Whole sessions, and what no contract says of the server and the private server: each call once where it succeeds. They stand
-// here for every crate that a session goes through, since a crate that has tests of its own is proved twice.
+// What no contract says of the server and the private server: each call once where it succeeds. The tests stand here for every
+// crate that a request goes through, since a crate that has tests of its own is proved twice.
 
 mod answers;
 mod benches;
 mod checks;
 mod requests;
 mod serving;
-mod sessions;
 
 use std::process::Abort;
 

@@ -1,7 +1,7 @@
 -- The requests of a stream of bytes.
 use Rattle.std.specs.Prelude.{ℕ, zero, suc, List, [], ◌∷◌, ◌++◌, length, Option, Some, None, Bool, true, false, nat_le, nat_lt, ◌&&◌, if◌then◌else◌, codes}
 use Rattle.std.specs.Str.{bytes_eq}
-use Rattle.aud_text.specs.declared.limits.TheConstants.{LINE, LINES, RUN}
+use Rattle.aud_text.specs.declared.limits.TheConstants.{CHOICE, LINE, LINES, RUN}
 use Rattle.aud_bench.specs.declared.request.BadRequest.{BadRequest}
 use Rattle.aud_bench.specs.declared.request.BadRequest.TheVariants as bad
 use Rattle.aud_bench.specs.declared.request.Request.{Request}
@@ -36,6 +36,16 @@ one_number low high [] use_of = wrong_argument
 one_number low high (word ∷ []) use_of = ranged low high (number_of word) use_of
 one_number low high (word ∷ other ∷ others) use_of = wrong_argument
 
+-- numbers in a range, each word one, behind others
+abbrev pub numbers_behind : ℕ → ℕ → List ℕ → List (List ℕ) → (List ℕ → Command) → Command
+numbers_behind low high numbers [] use_of = use_of numbers
+numbers_behind low high numbers (word ∷ words) use_of = ranged low high (number_of word) (λ n. numbers_behind low high (numbers ++ n ∷ []) words use_of)
+
+-- numbers in a range, of which there is one at least
+abbrev pub some_numbers : ℕ → ℕ → List (List ℕ) → (List ℕ → Command) → Command
+some_numbers low high [] use_of = wrong_argument
+some_numbers low high (word ∷ words) use_of = numbers_behind low high [] (word ∷ words) use_of
+
 abbrev pub no_argument : List (List ℕ) → Request → Command
 no_argument [] r = Whole r
 no_argument (word ∷ words) r = wrong_argument
@@ -45,6 +55,7 @@ command_of [] = Whole (request.Bad bad.UnknownCommand)
 command_of (word ∷ arguments) =
     if bytes_eq word (codes "LOAD") then one_number 0 LINES arguments (λ n. Loads n)
     else if bytes_eq word (codes "RUN") then one_number 1 RUN arguments (λ n. Whole (request.Run n))
+    else if bytes_eq word (codes "CHOOSE") then some_numbers 0 CHOICE arguments (λ choices. Whole (request.Choose choices))
     else if bytes_eq word (codes "OUTPUT") then no_argument arguments request.Output
     else if bytes_eq word (codes "QUIT") then no_argument arguments request.Quit
     else Whole (request.Bad bad.UnknownCommand)

@@ -34,6 +34,9 @@ abbrev pub report_text : Report → Option Raised → List ℕ
 report_text r None = head 1 ++ ran_line r
 report_text r (Some raised) = head 2 ++ ran_line r ++ codes "main raised " ++ raised_name raised ++ line_end
 
+abbrev pub choices_text : ℕ → List ℕ
+choices_text waiting = head 1 ++ codes "choices " ++ decimal waiting ++ line_end
+
 -- whether the text goes on behind its last line feed
 abbrev pub is_open : List ℕ → Bool
 is_open [] = false
@@ -61,6 +64,7 @@ refused_at_text why at = refusal why ++ decimal at.line ++ codes ":" ++ decimal 
 abbrev pub answer_text : Answer → List ℕ
 answer_text (answer.Loaded name) = loaded_text name
 answer_text (answer.Ran r) = report_text r r.raised
+answer_text (answer.Choices waiting) = choices_text waiting
 answer_text (answer.Output bytes) = output_text bytes
 answer_text answer.Done = head 0
 answer_text (answer.Refused why) = refused_text why

@@ -3,7 +3,7 @@
 ghost use Rattle.std.specs.Prelude.{◌≡◌, IfOk, Some, None};
 ghost use Rattle.aud_meaning.specs.Listings.{state_words};
 ghost use Rattle.aud_server.specs.Ties.Adds.{Adds};
-ghost use Rattle.aud_server.specs.Text.{line_end, head, loaded_text, ran_line, raised_name, report_text, is_open, output_lines, output_text, refusal, refused_text, refused_at_text, answer_text};
+ghost use Rattle.aud_server.specs.Text.{line_end, head, loaded_text, ran_line, raised_name, report_text, choices_text, is_open, output_lines, output_text, refusal, refused_text, refused_at_text, answer_text};
 
 use aud_bench::request::{Answer, Raised, Report};
 use aud_meaning::state::State;
@@ -28,6 +28,7 @@ fn push_answer(out: &mut Vec<u8>, answer: &Answer) -> Result<(), AllocError>
     match answer {
         Answer::Loaded(name) => push_loaded(out, name.as_bytes()),
         Answer::Ran(report) => push_report(out, report),
+        Answer::Choices(waiting) => push_choices(out, *waiting),
         Answer::Output(bytes) => push_output(out, bytes.as_bytes()),
         Answer::Done => push_head(out, 0),
         Answer::Refused(why) => push_refusal(out, *why),
@@ -118,6 +119,15 @@ fn push_state(out: &mut Vec<u8>, state: State) -> Result<(), AllocError>
         }
         State::Stuck => out.extend_from_slice(b"stuck"),
     }
+}
+
+fn push_choices(out: &mut Vec<u8>, waiting: usize) -> Result<(), AllocError>
+    ensures { Adds result out.old out.new (choices_text waiting) }
+{
+    push_head(out, 1)?;
+    out.extend_from_slice(b"choices ")?;
+    push_decimal(out, waiting as u64)?;
+    push_line_end(out)
 }
 
 fn push_output(out: &mut Vec<u8>, bytes: &[u8]) -> Result<(), AllocError>

@@ -32,7 +32,7 @@ fn first_request(alloc: Global, bytes: &[u8]) -> Result<Option<(Request, &[u8])>
     let Some((line, behind)) = first_line(bytes) else {
         return Ok(None);
     };
-    match read_command(line) {
+    match read_command(alloc, line)? {
         Command::Whole(request) => Ok(Some((request, behind))),
         Command::Loads(lines) => load(alloc, lines, behind),
     }

@@ -1,22 +1,31 @@
 // Sessions as files have them. A line that begins with `=` names the session that follows, one that begins with `>` is sent,
-// and one that begins with `<` must be written for what is sent. Empty lines, and those that begin with `#`, are for the reader.
+// and one that begins with `<` must be written for what is sent. Behind these two signs stands
+//
+// - a space and the line, as it is;
+// - `* 127 ` and a line that is sent or written so many times, itself a text as `repeated` has it;
+// - `- ` and such a text, which no line feed ends.
+//
+// Empty lines, and those that begin with `#`, are for the reader.
 
+use crate::repeated::{TextFault, push_lines, push_text};
 use std::alloc::{AllocError, Global};
 
 /// What is sent, and what must be written for it.
 #[derive(Debug, Drop)]
 pub struct Session {
     pub name: String,
-    pub sent: String,
-    pub written: String,
+    pub sent: Vec<u8>,
+    pub written: Vec<u8>,
 }
 
-/// Why a text has no sessions.
+/// Why a text has no sessions. Its lines are counted from 1.
 #[derive(Clone, Copy, PartialEq, Eq, Debug)]
 pub enum LineFault {
     Memory,
-    /// The line of this number, counted from 1, begins with none of these signs, or no session was named before it.
+    /// The line of this number begins with none of these signs, or no session was named before it.
     Line(usize),
+    /// What stands behind the sign of this line has none of these forms.
+    Form(usize),
 }
 
 impl From<AllocError> for LineFault {
@@ -29,7 +38,7 @@ impl From<AllocError> for LineFault {
 ///
 /// # Errors
 ///
-/// `Line` with the first line that is none of a session; `Memory` where memory is refused.
+/// `Line` or `Form` with the first line that is none of a session; `Memory` where memory is refused.
 pub fn sessions(alloc: Global, text: &str) -> Result<Vec<Session>, LineFault> {
     let mut sessions = Vec::new(alloc);
     let mut number = 0usize;
@@ -39,23 +48,30 @@ pub fn sessions(alloc: Global, text: &str) -> Result<Vec<Session>, LineFault> {
             sessions
                 .push(named(alloc, name)?)
                 .map_err(|_| LineFault::Memory)?;
-        } else if !adds(sessions.last_mut(), line)? {
+        } else if !adds(alloc, sessions.last_mut(), line).map_err(|fault| at(number, fault))? {
             return Err(LineFault::Line(number));
         }
     }
     Ok(sessions)
 }
 
+fn at(number: usize, fault: TextFault) -> LineFault {
+    match fault {
+        TextFault::Memory => LineFault::Memory,
+        TextFault::Form => LineFault::Form(number),
+    }
+}
+
 fn named(alloc: Global, name: &str) -> Result<Session, AllocError> {
     Ok(Session {
         name: String::from_str(alloc, name)?,
-        sent: String::new(alloc),
-        written: String::new(alloc),
+        sent: Vec::new(alloc),
+        written: Vec::new(alloc),
     })
 }
 
 // Adds a line to the session, or tells that it is none of a session.
-fn adds(session: Option<&mut Session>, line: &str) -> Result<bool, AllocError> {
+fn adds(alloc: Global, session: Option<&mut Session>, line: &str) -> Result<bool, TextFault> {
     if line.is_empty() || line.starts_with('#') {
         return Ok(true);
     }
@@ -63,18 +79,28 @@ fn adds(session: Option<&mut Session>, line: &str) -> Result<bool, AllocError> {
         return Ok(false);
     };
     if let Some(sent) = line.strip_prefix('>') {
-        push_line(&mut session.sent, sent)?;
+        push_line(alloc, &mut session.sent, sent)?;
         return Ok(true);
     }
     if let Some(written) = line.strip_prefix('<') {
-        push_line(&mut session.written, written)?;
+        push_line(alloc, &mut session.written, written)?;
         return Ok(true);
     }
     Ok(false)
 }
 
-// A line, which a space parts from the sign before it, and its end.
-fn push_line(text: &mut String, line: &str) -> Result<(), AllocError> {
-    text.push_str(line.strip_prefix(' ').unwrap_or(line))?;
-    text.push('\n')
+// Appends what stands behind the sign of a line.
+fn push_line(alloc: Global, out: &mut Vec<u8>, line: &str) -> Result<(), TextFault> {
+    if let Some(repeated) = line.strip_prefix("* ") {
+        return push_lines(alloc, out, repeated);
+    }
+    if let Some(text) = line.strip_prefix("- ") {
+        return push_text(out, text);
+    }
+    if !line.is_empty() {
+        let plain = line.strip_prefix(' ').ok_or(TextFault::Form)?;
+        out.extend_from_slice(plain.as_bytes())?;
+    }
+    out.extend_from_slice(b"\n")?;
+    Ok(())
 }

@@ -7,6 +7,7 @@ use Rattle.aud_text.specs.declared.raise.Raise.{Raise}
 use Rattle.aud_text.specs.declared.place.Pos.{Pos}
 use Rattle.aud_typed.specs.declared.program.Exception.{Exception}
 use Rattle.aud_typed.specs.Tree.{UnitPlan}
+use Rattle.aud_typed.specs.Ties.View.{plain_tasks}
 use Rattle.aud_meaning.specs.declared.state.Construct.TheVariants as construct
 use Rattle.aud_meaning.specs.Configuration.{Pending, Purpose, for_body, for_block, for_loop, for_procedure, for_operation, for_entry, for_accept, Opened}
 use Rattle.aud_meaning.specs.Effects.{live_frames, is_loop, changed_first}
@@ -17,16 +18,17 @@ use Rattle.aud_code.specs.declared.line.Ending.{Ending}
 use Rattle.aud_code.specs.declared.line.Ending.TheVariants.{Declare, DeclareArray, Null, Assign, Put, If, While, Loop, Exit, RaiseAgain, Block, Return, Call}
 use Rattle.aud_code.specs.declared.line.Ending.TheVariants as ending
 use Rattle.aud_code.specs.declared.line.Last.{Last}
-use Rattle.aud_code.specs.declared.line.Last.TheVariants.{Does, Continues, Guards, Ends, Leaves}
+use Rattle.aud_code.specs.declared.line.Last.TheVariants.{Does, DeclaresTasks, Activates, EndsActivation, Continues, Guards, Ends, Leaves}
 use Rattle.aud_code.specs.Places.{Spot, goes}
 use Rattle.aud_code.specs.Instruction.{Operands}
+use Rattle.aud_code.specs.Instruction as instruction
 use Rattle.aud_code.specs.Eval.{newest as newest_target}
 use Rattle.aud_code.specs.declared.line.Way.{Way}
 use Rattle.aud_code.specs.Flat.{FlatLine, Flat, end_at, back_to, left_by, out_of_end, handler_at, handler_in}
 use Rattle.aud_code.specs.Flat as flat
 use Rattle.aud_code.specs.Frames.{found, FitsBy, At, OpensLoop, OpensBlock, LoopAround, BlockAround, OutOfLoops, WaysAt, Behind, TakesExceptions, GoTo, OutFits, LastFits, StepFits}
 use Rattle.aud_code.specs.Sound.{IsStart, IsSound}
-use Rattle.aud_code.specs.View.{plain_end, plain_last}
+use Rattle.aud_code.specs.View.{plain_end, plain_ending, plain_last}
 use Rattle.aud_code.proofs.Framing.{end_found}
 use Rattle.aud_exc.specs.Unwound.{unwound}
 use Rattle.aud_store.specs.declared.stack.Open.{Open}
@@ -148,12 +150,15 @@ module _ (units : List UnitPlan) (code : Flat) (sound : IsSound code) (q : Singl
     newest_two (y ∷ x ∷ xs) go h = h x y
 
     -- an exception is raised
-    raises : (e : Ending) (next : ℕ) → l.last ≡ Does e next → PendsAt lines q.control q.stack.opened
-    raises e next is = (
+    raises_at : (e : instruction.Ending) → plain_last l.last ≡ flat.Does e → PendsAt lines q.control q.stack.opened
+    raises_at e is = (
       at_end.begins,
       found_so (found lines q.control.place) (λ x. PendsWithin lines x.last rs x.within q.stack.opened) (plain_end l) at_end.met
-          (subst (λ last. PendsWithin lines (plain_last last) rs l.within q.stack.opened) (sym is) at_end.around),
+          (subst (λ (last : flat.Last). PendsWithin lines last rs l.within q.stack.opened) (sym is) at_end.around),
     )
+
+    raises : (e : Ending) (next : ℕ) → l.last ≡ Does e next → PendsAt lines q.control q.stack.opened
+    raises e next is = raises_at (plain_ending e) (ap plain_last is)
 
     -- a frame is opened, if there is room
     opens : (e : Ending) (next : ℕ) → l.last ≡ Does e next → (purpose : Purpose) (region : ℕ) (at : Pos) (cells : List ℤ) (elaborated inside : ℕ) → IsStart lines inside → At lines inside (Some q.control.place) → OpenedFor lines purpose rs (Some q.control.place) q.stack.opened (λ qs v. AreAround lines qs v q.stack.opened) → Fits lines (opened purpose region at cells elaborated inside now)
@@ -226,6 +231,9 @@ module _ (units : List UnitPlan) (code : Flat) (sound : IsSound code) (q : Singl
   -- what an ending does before which nothing is evaluated
   fits_flowed : (last : Last) (at : Pos) (out : ℕ) (within : Option ℕ) → Meets lines q (ends_in last at out within) → Fits lines (flows_by code last now)
   fits_flowed (Does e next) at out within m = goes_to (ends_in (Does e next) at out within) m next m.leads.0.0 m.fits.0.0
+  fits_flowed (DeclaresTasks ts next) at out within m = goes_to (ends_in (DeclaresTasks ts next) at out within) m next m.leads.0.0 m.fits.0.0
+  fits_flowed (Activates next) at out within m = goes_to (ends_in (Activates next) at out within) m next m.leads.0.0 m.fits.0.0
+  fits_flowed (EndsActivation next) at out within m = goes_to (ends_in (EndsActivation next) at out within) m next m.leads.0.0 m.fits.0.0
   fits_flowed (Continues f behind inside) at out within m =
       let left = out_of_them lines 1 rs within (λ v. WaysAt lines v within (behind ∷ inside ∷ [])) q.stack.display q.stack.opened m.fits m.around in
       chosen (has_next f.backward _ _) _ _
@@ -241,6 +249,9 @@ module _ (units : List UnitPlan) (code : Flat) (sound : IsSound code) (q : Singl
 
   fits_ended : (last : Last) (at : Pos) (out : ℕ) (within : Option ℕ) (o : Operands) → Meets lines q (ends_in last at out within) → Fits lines (ends_by code units last at o now)
   fits_ended (Does e next) at out within o m = fits_done e next at out within o m
+  fits_ended (DeclaresTasks ts next) at out within o m = fits_flowed (DeclaresTasks ts next) at out within m
+  fits_ended (Activates next) at out within o m = fits_flowed (Activates next) at out within m
+  fits_ended (EndsActivation next) at out within o m = fits_flowed (EndsActivation next) at out within m
   fits_ended (Continues f behind inside) at out within o m = fits_flowed (Continues f behind inside) at out within m
   fits_ended (Guards gs) at out within o m = fits_flowed (Guards gs) at out within m
   fits_ended (Ends c next) at out within o m = fits_flowed (Ends c next) at out within m
@@ -248,6 +259,9 @@ module _ (units : List UnitPlan) (code : Flat) (sound : IsSound code) (q : Singl
 
   fits_raised : (last : Last) (at : Pos) (out : ℕ) (within : Option ℕ) (raise : Raise) → Meets lines q (ends_in last at out within) → Fits lines (raises_by code last at raise now)
   fits_raised (Does e next) at out within raise m = raises (ends_in (Does e next) at out within) m e next refl
+  fits_raised (DeclaresTasks ts next) at out within raise m = raises_at (ends_in (DeclaresTasks ts next) at out within) m (instruction.DeclareTasks (plain_tasks ts)) refl
+  fits_raised (Activates next) at out within raise m = raises_at (ends_in (Activates next) at out within) m instruction.Activate refl
+  fits_raised (EndsActivation next) at out within raise m = raises_at (ends_in (EndsActivation next) at out within) m instruction.Activated refl
   fits_raised (Continues f behind inside) at out within raise m = fits_flowed (Continues f behind inside) at out within m
   fits_raised (Guards gs) at out within raise m = fits_flowed (Guards gs) at out within m
   fits_raised (Ends c next) at out within raise m = fits_flowed (Ends c next) at out within m
@@ -444,6 +458,9 @@ module _ (code : Flat) (q : Single Spot) (l : EndLine) (at_end : Meets code.line
     where
       by : (last : Last) → l.last ≡ last → EndsBack code q last
       by (Does e next) is = tt
+      by (DeclaresTasks ts next) is = tt
+      by (Activates next) is = tt
+      by (EndsActivation next) is = tt
       by (Continues f behind inside) is = tt
       by (Guards gs) is = tt
       by (Ends construct.Unit next) is = unit_ends next q.stack.display q.stack.opened is (subst (λ v. AreAround code.lines q.control.returns v q.stack.opened) (subst (λ last. LastFits code.lines (plain_last last) q.control.place (plain_end l)) is at_end.fits) at_end.around)

@@ -1,4 +1,5 @@
 pub mod Output
+pub mod Knowing
 pub mod Asked
 pub mod Steps
 pub mod Frames
@@ -9,6 +10,9 @@ pub mod Opening
 pub mod Fitting
 pub mod Moving
 pub mod Next
+pub mod Leaving
+pub mod Numbers
 pub mod Running
 pub mod FastSteps
 pub mod FastRuns
+pub mod Growing

@@ -18,11 +18,11 @@ use Rattle.aud_meaning.specs.Listings.{coming_kind, coming_step_at}
 use Rattle.aud_code.specs.declared.line.EndLine.{EndLine}
 use Rattle.aud_code.specs.declared.line.Ending.TheVariants.{Declare, DeclareArray, Null, Assign, Put, If, While, Loop, Exit, Raise, RaiseAgain, Block, Return, Call}
 use Rattle.aud_code.specs.declared.line.Last.{Last}
-use Rattle.aud_code.specs.declared.line.Last.TheVariants.{Does, Continues, Guards, Ends, Leaves}
+use Rattle.aud_code.specs.declared.line.Last.TheVariants.{Does, DeclaresTasks, Activates, EndsActivation, Continues, Guards, Ends, Leaves}
 use Rattle.aud_code.specs.Places.{Spot, is_there}
 use Rattle.aud_code.specs.Instruction.{Ended, no_operands}
 use Rattle.aud_code.specs.Eval.{eval}
-use Rattle.aud_code.specs.Flat.{Flat, flat_controls, instructions_at, end_at, no_scene, coming_last, handler_at}
+use Rattle.aud_code.specs.Flat.{Flat, flat_controls, instructions_at, end_at, no_end, no_scene, coming_last, handler_at}
 use Rattle.aud_code.specs.Flat as flat
 use Rattle.aud_code.specs.View.{plain_end, plain_last}
 use Rattle.aud_single.specs.Next.{step_kind, IsOfKind, IsKindIn, IsNextKind, ComesNext, place_in}
@@ -43,6 +43,9 @@ of_kind plan stack (Does RaiseAgain next) s x = refl
 of_kind plan stack (Does (Block region inside) next) s x = refl
 of_kind plan stack (Does (Return w) next) s x = refl
 of_kind plan stack (Does (Call unit) next) s x = refl
+of_kind plan stack (DeclaresTasks ts next) s x = refl
+of_kind plan stack (Activates next) s x = refl
+of_kind plan stack (EndsActivation next) s x = refl
 of_kind plan stack (Continues f behind inside) s x = refl
 of_kind plan stack (Guards gs) s x = refl
 of_kind plan stack (Ends c next) s x = refl
@@ -58,6 +61,13 @@ module _ (code : Flat) (q : Single Spot) (k : StepKind) where
       let x = eval true (no_scene s) (instructions_at code q.control.place) 0 no_operands in
       subst (λ (e : flat.EndLine). IsOfKind q.stack k (coming_last plan e.last s x)) is_end
       (subst (λ j. IsOfKind q.stack j (coming_last plan (plain_last l.last) s x)) (sym is) (of_kind plan q.stack l.last s x)))
+
+  -- behind all lines
+  pub end_next : (place : ℕ) → q.stage ≡ runs None → end_at code q.control.place ≡ no_end place → k ≡ leaving → IsNextKind code q (Some k)
+  end_next place stage is_end is =
+      subst (λ s. IsKindIn code q s (Some k)) (sym stage) (λ plan s.
+      let x = eval true (no_scene s) (instructions_at code q.control.place) 0 no_operands in
+      subst (λ (e : flat.EndLine). IsOfKind q.stack k (coming_last plan e.last s x)) (sym is_end) is)
 
   -- with an exception pending
   pub handler_next : (p : Pending) (h : Option ℕ) → q.stage ≡ runs (Some p) → h ≡ handler_at code p.exception q.control → IsOfKind q.stack k (coming_raised (is_there h)) → IsNextKind code q (Some k)

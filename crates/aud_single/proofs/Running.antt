@@ -22,7 +22,7 @@ module _ (plan : Plan) (name : List ℕ) (limits : Limits) (code : Flat) where
   Runs n c = run_with plan (flat_controls plan code) limits n c
 
   -- its ticks are those of the task
-  same_by : (p : Single Spot) (s : Stage) → ticks_in code (In (record p { stage = s })).tasks (In (record p { stage = s })) ≡ step_ticks code (record p { stage = s })
+  pub same_by : (p : Single Spot) (s : Stage) → ticks_in code (In (record p { stage = s })).tasks (In (record p { stage = s })) ≡ step_ticks name code (record p { stage = s })
   same_by p (runs None) = refl
   same_by p (runs (Some pending)) = refl
   same_by p (completed raised) = refl
@@ -35,11 +35,11 @@ module _ (plan : Plan) (name : List ℕ) (limits : Limits) (code : Flat) where
         ap (λ (ms : List Move). run_by plan (flat_controls plan code) limits (Runs j) ms (In old)) (enabled plan name)
         ∙ ap (Runs j) (sym (stepped plan name has limits))
 
-    ticks_one : run_ticks plan code limits (suc j) (In old) ≡ step_ticks code old + run_ticks plan code limits j (In new)
+    ticks_one : run_ticks plan code limits (suc j) (In old) ≡ step_ticks name code old + run_ticks plan code limits j (In new)
     ticks_one =
         ap (λ (ms : List Move). moved_ticks plan code limits (run_ticks plan code limits j) ms (In old)) (enabled plan name)
         ∙ ap (λ t. t + run_ticks plan code limits j (step_with plan (flat_controls plan code) limits (In old) (own_move 0))) (same_by old old.stage)
-        ∙ ap (λ c. step_ticks code old + run_ticks plan code limits j c) (sym (stepped plan name has limits))
+        ∙ ap (λ c. step_ticks name code old + run_ticks plan code limits j c) (sym (stepped plan name has limits))
 
   -- no move is enabled any more
   ends : (j : ℕ) (p : Single Spot) → Enables code p 0 → Runs j (In p) ≡ In p
@@ -58,14 +58,15 @@ no_steps units code p = record {
   counted = λ plan name has limits n. let none : 0 + n ≡ n = omega arith in let same = ap (λ k. run_ticks plan code limits k (all_of name p)) none in omega (arith, same);
 }
 
-pub one_step : (units : List UnitPlan) (code : Flat) (old new : Single Spot) → Enables code old 1 → StepsTo units code old new → RunsOn units code 1 (step_ticks code old) old new
-one_step units code old new enabled stepped = record {
+pub one_step : (units : List UnitPlan) (code : Flat) (old new : Single Spot) (executed : ℕ) → Enables code old 1 → StepsTo units code old new → ((name : List ℕ) → executed ≡ step_ticks name code old) → RunsOn units code 1 executed old new
+one_step units code old new executed enabled stepped counted = record {
   run = λ plan name has limits n.
       let one : 1 + n ≡ suc n = omega arith in
       ap (λ k. run_with plan (flat_controls plan code) limits k (all_of name old)) one ∙ turn plan name limits code units n old new enabled stepped has;
   counted = λ plan name has limits n.
       let one : 1 + n ≡ suc n = omega arith in
-      ap (λ k. run_ticks plan code limits k (all_of name old)) one ∙ ticks_one plan name limits code units n old new enabled stepped has;
+      ap (λ k. run_ticks plan code limits k (all_of name old)) one ∙ ticks_one plan name limits code units n old new enabled stepped has
+      ∙ ap (λ t. t + run_ticks plan code limits n (all_of name new)) (sym (counted name));
 }
 
 pub then_on : (units : List UnitPlan) (code : Flat) (k t j u : ℕ) (old there new : Single Spot) → RunsOn units code k t old there → RunsOn units code j u there new → RunsOn units code (k + j) (t + u) old new

@@ -1,7 +1,10 @@
 pub mod Shown
 pub mod Steps
+pub mod Parked
 pub mod Ticks
+pub mod Knowing
 pub mod Moving
 pub mod Next
+pub mod Standing
 pub mod Running
 pub mod Fast

@@ -17,7 +17,7 @@ use Rattle.aud_code.specs.Flat.{Flat, flat_controls, coming_at, end_at}
 use Rattle.aud_code.specs.declared.line.Ending.{Ending}
 use Rattle.aud_code.specs.declared.line.Ending.TheVariants.{Declare, DeclareArray, Null, Assign, Put, If, While, Loop, Exit, Raise, RaiseAgain, Block, Return, Call}
 use Rattle.aud_code.specs.declared.line.Last.{Last}
-use Rattle.aud_code.specs.declared.line.Last.TheVariants.{Does, Continues, Guards, Ends, Leaves}
+use Rattle.aud_code.specs.declared.line.Last.TheVariants.{Does, DeclaresTasks, Activates, EndsActivation, Continues, Guards, Ends, Leaves}
 use Rattle.aud_single.specs.Shown.{InAnyProgram}
 
 -- the kind of a statement's step
@@ -40,6 +40,9 @@ statement_kind (Call unit) = kind.Proc
 -- the kind of a step, by how it ends, with that of the step which leaves the innermost construct
 abbrev pub step_kind : Last → StepKind → StepKind
 step_kind (Does e next) leaving = statement_kind e
+step_kind (DeclaresTasks ts next) leaving = kind.Declaration
+step_kind (Activates next) leaving = kind.Activate
+step_kind (EndsActivation next) leaving = kind.Activated
 step_kind (Continues f behind inside) leaving = kind.Next
 step_kind (Guards gs) leaving = leaving
 step_kind (Ends c next) leaving = leaving

@@ -1,9 +1,10 @@
 -- How far a program in memory is.
-use Rattle.std.specs.Prelude.{◌≡◌, ℕ, List, [], map, slice_index_or}
+use Rattle.std.specs.Prelude.{◌≡◌, ℕ, List, [], map, Option, None, slice_index_or}
+use Rattle.aud_typed.specs.declared.program.Exception.{Exception}
 use Rattle.aud_typed.specs.declared.program.Unit as declared
 use Rattle.aud_typed.specs.Tree.{Plan, UnitPlan, unit_plan}
 use Rattle.aud_typed.specs.Ties.View.{plain_unit}
-use Rattle.aud_meaning.specs.Configuration.{Shared, All}
+use Rattle.aud_meaning.specs.Configuration.{Pending, Shared, All}
 use Rattle.aud_meaning.specs.Parts.{no_unit}
 use Rattle.aud_meaning.specs.Run.{opening_with}
 use Rattle.aud_meaning.specs.Ties.Single.{Single, runs, completed, terminated, all_of}
@@ -18,6 +19,17 @@ abbrev pub plain_stage : Stage → plain.Stage
 plain_stage (Runs pending) = runs (plain_pending pending)
 plain_stage (Completed raised) = completed raised
 plain_stage (Terminated raised) = terminated raised
+
+-- what is pending in it, and by which exception its body has ended
+abbrev pub pending_in : plain.Stage → Option Pending
+pending_in (runs pending) = pending
+pending_in (completed raised) = None
+pending_in (terminated raised) = None
+
+abbrev pub raised_in : plain.Stage → Option Exception
+raised_in (runs pending) = None
+raised_in (completed raised) = raised
+raised_in (terminated raised) = raised
 
 -- what would be shared with other tasks
 abbrev pub shared_in : Single Spot → Shared

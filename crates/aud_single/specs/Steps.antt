@@ -12,7 +12,7 @@ use Rattle.aud_typed.specs.Tree.{UnitPlan}
 use Rattle.aud_meaning.specs.declared.state.Construct.{Construct}
 use Rattle.aud_meaning.specs.declared.state.Construct.TheVariants as construct
 use Rattle.aud_meaning.specs.Configuration.{Pending, Target, Returning, Purpose, for_body, for_block, for_loop, for_procedure, for_operation, for_entry, for_accept, Opened}
-use Rattle.aud_meaning.specs.Evaluation.{nearest_zero}
+use Rattle.aud_meaning.specs.Evaluation.{Facts, nearest_zero}
 use Rattle.aud_meaning.specs.Step.{for_first, for_step, has_next, not_handled}
 use Rattle.aud_meaning.specs.Run.{own_move, step_with}
 use Rattle.aud_meaning.specs.Effects.{put_out, elaborated_in, innermost, live_frames, handled}
@@ -21,28 +21,39 @@ use Rattle.aud_code.specs.declared.line.Ending.{Ending}
 use Rattle.aud_code.specs.declared.line.Ending.TheVariants.{Declare, DeclareArray, Null, Assign, Put, If, While, Loop, Exit, RaiseAgain, Block, Return, Call}
 use Rattle.aud_code.specs.declared.line.Ending.TheVariants as ending
 use Rattle.aud_code.specs.declared.line.Last.{Last}
-use Rattle.aud_code.specs.declared.line.Last.TheVariants.{Does, Continues, Guards, Ends, Leaves}
+use Rattle.aud_code.specs.declared.line.Last.TheVariants.{Does, DeclaresTasks, Activates, EndsActivation, Continues, Guards, Ends, Leaves}
 use Rattle.aud_code.specs.declared.line.EndLine.{EndLine}
 use Rattle.aud_code.specs.declared.line.ForLoop.{ForLoop}
 use Rattle.aud_code.specs.declared.line.Way.{Way}
 use Rattle.aud_code.specs.Places.{Spot, goes}
-use Rattle.aud_code.specs.Instruction.{Operands}
+use Rattle.aud_code.specs.Instruction.{Operands, Reached, no_operands}
 use Rattle.aud_code.specs.Instruction as instruction
 use Rattle.aud_code.specs.Eval.{newest}
-use Rattle.aud_code.specs.Flat.{FlatLine, Flat, flat_controls, end_at, back_to, start_at}
+use Rattle.aud_code.specs.Flat.{FlatLine, Flat, flat_controls, end_at, back_to, start_at, asked_at, asked_last}
 use Rattle.aud_code.specs.Flat as flat
 use Rattle.aud_code.specs.Frames.{found, Found, LoopAround, BlockAround}
 use Rattle.aud_code.specs.Sound.{IsStart, EachStart, WayStart, LastLeads}
 use Rattle.aud_code.specs.View.{plain_end, plain_last, ways_of, exit_of}
+use Rattle.aud_expr.specs.declared.facts.Known.{Known}
+use Rattle.aud_expr.specs.Facts.{Knows}
+use Rattle.aud_expr.specs.Flow.{InSight}
 use Rattle.aud_store.specs.Ties.Stored.{Stored, entered, declared, innermost_backs, innermost_cell}
 use Rattle.aud_store.specs.Ties.Stored as store
+use Rattle.aud_single.specs.declared.step.Step.{Step}
+use Rattle.aud_single.specs.declared.step.Step.TheVariants.{Taken, OfTasks}
 use Rattle.aud_single.specs.Shown.{shared_in, unit_in, WithUnits}
-use Rattle.aud_single.specs.Ticks.{step_ticks}
+use Rattle.aud_single.specs.Knowing.{with_facts}
+use Rattle.aud_single.specs.Ticks.{step_ticks, ticks_by}
 
 -- a step of the code leads there, in a program with these units
 abbrev pub StepsTo : List UnitPlan → Flat → Single Spot → Single Spot → Type 0
 StepsTo units code old new =
     WithUnits units (λ plan name. (limits : Limits) → all_of name new ≡ step_with plan (flat_controls plan code) limits (all_of name old) (own_move 0))
+
+-- and likewise among tasks of which this is known, whatever else there is
+abbrev pub StepsAmong : List Known → List UnitPlan → Flat → Single Spot → Single Spot → Type 0
+StepsAmong known units code old new =
+    WithUnits units (λ plan name. (limits : Limits) (facts : Facts) (objects : ℕ) → Knows known facts → all_of name new ≡ step_with plan (with_facts facts objects (flat_controls plan code)) limits (all_of name old) (own_move 0))
 
 -- what holds of what is around something, with the places of the callers
 abbrev pub AroundIt : Type 1
@@ -100,8 +111,26 @@ pub record IsStep (units : List UnitPlan) (code : Flat) (old new : Single Spot) 
   pub next : StepsTo units code old new
   pub fits : Fits code.lines new
   pub steps : new.steps ≡ old.steps + 1
-  pub ticks : executed ≡ step_ticks code old
+  pub ticks : (name : List ℕ) → executed ≡ step_ticks name code old
   pub few : executed ≤ length code.lines
+  -- no frame is taken away
+  pub grows : length old.frames ≤ length new.frames
+
+-- and likewise among tasks of which this is known
+pub record IsStepAmong (known : List Known) (units : List UnitPlan) (code : Flat) (old new : Single Spot) (executed : ℕ) : Type 0 where
+  pub next : StepsAmong known units code old new
+  pub fits : Fits code.lines new
+  pub steps : new.steps ≡ old.steps + 1
+  pub ticks : InSight known old.stack.display old.frames (λ s. executed ≡ ticks_by code old.stage s old.control)
+  pub few : executed ≤ length code.lines
+  pub grows : length old.frames ≤ length new.frames
+
+-- endings of steps on other tasks: they are created, they are activated, the activation ends for which another one waits
+abbrev pub IsOfTasks : flat.Last → Type 0
+IsOfTasks (flat.Does (instruction.DeclareTasks ts)) = Unit {0}
+IsOfTasks (flat.Does instruction.Activate) = Unit {0}
+IsOfTasks (flat.Does instruction.Activated) = Unit {0}
+IsOfTasks last = ⊥
 
 -- with the newest operand; with the two newest ones, of which the older comes first
 abbrev pub with_newest : {A : Type 0} → List A → Single Spot → (A → Single Spot) → Single Spot
@@ -275,6 +304,9 @@ module _ (code : Flat) where
   -- what an ending does before which nothing is evaluated
   abbrev pub flows_by : Last → Single Spot → Single Spot
   flows_by (Does e next) p = moved_to next p
+  flows_by (DeclaresTasks ts next) p = moved_to next p
+  flows_by (Activates next) p = moved_to next p
+  flows_by (EndsActivation next) p = moved_to next p
   flows_by (Continues f out inside) p = continued f out inside p
   flows_by (Guards gs) p = record p { steps = suc p.steps }
   flows_by (Ends c next) p = construct_left None 0 (place_behind c next (length code.lines)) p
@@ -288,6 +320,9 @@ module _ (code : Flat) where
   -- an evaluation that raises, before an ending
   abbrev pub raises_by : Last → Pos → Raise → Single Spot → Single Spot
   raises_by (Does e next) at raise p = raised (Predefined raise) at p
+  raises_by (DeclaresTasks ts next) at raise p = raised (Predefined raise) at p
+  raises_by (Activates next) at raise p = raised (Predefined raise) at p
+  raises_by (EndsActivation next) at raise p = raised (Predefined raise) at p
   raises_by last at raise p = flows_by last p
 
 -- the places that an ending leads to by itself begin steps
@@ -297,6 +332,21 @@ LeadsOn lines last = EachStart lines (ways_of last) × (WayStart lines (exit_of 
 -- it holds of the ending of the step that begins at a place
 abbrev pub EndsAt : Flat → ℕ → (Last → Pos → Type 0) → Type 0
 EndsAt code place Holds = (l : EndLine) × ((plain_end l ≡ end_at code place) × (LeadsOn code.lines l.last × Holds l.last l.at))
+
+-- The step is one on other tasks, and is left to be done: its instructions were executed, and nothing is changed. What it asks is what
+-- its ending asks, whatever its operands.
+pub record IsLeft (known : List Known) (code : Flat) (old new : Single Spot) (executed : ℕ) : Type 0 where
+  pub stage : old.stage ≡ runs None
+  pub same : new ≡ old
+  pub of_tasks : IsOfTasks (end_at code old.control.place).last
+  pub asks : InSight known old.stack.display old.frames (λ s. asked_at code None s old.control ≡ asked_last (end_at code old.control.place).last 0 (end_at code old.control.place).at s (Reached no_operands))
+  pub ticks : InSight known old.stack.display old.frames (λ s. executed ≡ ticks_by code old.stage s old.control)
+  pub few : executed ≤ length code.lines
+
+-- what a step comes to
+abbrev pub ComesTo : List Known → List UnitPlan → Flat → Single Spot → Single Spot → Step → Type 0
+ComesTo known units code old new (Taken ticks) = IsStepAmong known units code old new ticks
+ComesTo known units code old new (OfTasks ticks) = IsLeft known code old new ticks
 
 -- where what leaves the innermost construct leads: back to the call where that is a procedure, or else to a place
 abbrev pub back_or : Flat → List Opened → ℕ → Spot → Spot
@@ -315,6 +365,9 @@ back_or code (o ∷ os) place s = by o.purpose
 -- so it is at the ends of constructs
 abbrev pub EndsBack : Flat → Single Spot → Last → Type 0
 EndsBack code p (Does e next) = Unit {0}
+EndsBack code p (DeclaresTasks ts next) = Unit {0}
+EndsBack code p (Activates next) = Unit {0}
+EndsBack code p (EndsActivation next) = Unit {0}
 EndsBack code p (Continues f behind inside) = Unit {0}
 EndsBack code p (Guards gs) = Unit {0}
 EndsBack code p (Ends c next) =

@@ -2,11 +2,12 @@
 #![tactic(auto)]
 
 mod coming;
-mod fast;
+pub mod fast;
 mod moves;
 pub mod progress;
 pub mod run;
 pub mod stage;
+pub mod standing;
 mod statements;
-mod step;
-mod units;
+pub mod step;
+pub mod units;

@@ -14,6 +14,8 @@ ghost use Rattle.aud_single.specs.Shown.{plain_stage, plans_of, Becomes, IsOpeni
 ghost use Rattle.aud_single.specs.Fast.{RunsFast};
 
 mod calls;
+pub mod parked;
+mod tasks;
 
 use crate::fast::{FastRun, fast_run_with};
 use crate::stage::Stage;
@@ -173,10 +175,7 @@ impl Progress {
     pub fn raised(&self) -> Option<Exception>
         ensures { (name : List ℕ) → result ≡ main_raised (all_of name self.now).tasks }
     {
-        match self.stage {
-            Stage::Runs(_) => None,
-            Stage::Completed(raised) | Stage::Terminated(raised) => raised,
-        }
+        self.stage.raised()
     }
 
     /// Choices, which wait behind those that wait already.
@@ -210,7 +209,7 @@ impl Progress {
     }
 
     /// One step to a place, where nothing else changes.
-    pub(crate) fn go(&mut self, place: usize)
+    pub fn go(&mut self, place: usize)
         requires { self.old.steps < STEPS }
         ensures { self.new ≡ moved_to place self.old }
     {
@@ -385,7 +384,7 @@ impl Progress {
 
     /// The next steps, at most n, for as long as each is done by fused instructions. It tells where they led, how many they were,
     /// and how many instructions they executed.
-    pub(crate) fn run_fast(&mut self, code: &SoundCode, n: u32) -> FastRun
+    pub fn run_fast(&mut self, code: &SoundCode, n: u32) -> FastRun
         requires fits { Fits code.now.lines self.old }
         requires budget { self.old.steps + n ≤ STEPS }
         ensures runs { RunsFast code.now n self.old self.new result }

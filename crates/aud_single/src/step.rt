@@ -1,6 +1,6 @@
 // The steps of a program of one task.
 
-ghost use Rattle.std.specs.Prelude.{◌≡◌, ◌<◌, ◌+◌, List, Some, None, OnOk, IfOk, length};
+ghost use Rattle.std.specs.Prelude.{◌≡◌, ◌↔◌, ◌<◌, ◌≤◌, ◌+◌, List, Some, None, IsTrue, OnOk, IfOk, length};
 ghost use Rattle.aud_typed.specs.Tree.{UnitPlan};
 ghost use Rattle.aud_meaning.specs.Ties.Single.{runs};
 ghost use Rattle.aud_code.specs.Flat.{end_at};
@@ -9,7 +9,8 @@ ghost use Rattle.aud_code.specs.Sound.{counts_of, LastFine};
 ghost use Rattle.aud_code.specs.View.{plain_last};
 ghost use Rattle.aud_exc.specs.View.{plain_raised};
 ghost use Rattle.aud_single.specs.Shown.{plans_of};
-ghost use Rattle.aud_single.specs.Steps.{StepsTo, Fits, IsStep, EndsAt, EndsBack};
+ghost use Rattle.aud_expr.specs.declared.facts.Known.{Known as KnownOf};
+ghost use Rattle.aud_single.specs.Steps.{StepsAmong, Fits, IsStep, ComesTo, IsOfTasks, EndsAt, EndsBack};
 ghost use Rattle.aud_single.specs.Steps.{HasConstruct};
 ghost use Rattle.aud_single.specs.Steps.{ends_by, flows_by, raises_by, raised, place_behind};
 
@@ -20,6 +21,7 @@ use aud_code::sound_code::SoundCode;
 use aud_exc::propagation::{find_handler, unwind};
 use aud_exc::raised::Raised;
 use aud_expr::evaluate::{Evaluation, Outcome, evaluate};
+use aud_expr::facts::Known;
 use aud_expr::operands::Operands;
 use aud_meaning::state::Construct;
 use aud_text::limits::STEPS;
@@ -28,8 +30,27 @@ use aud_text::raise::Raise;
 use aud_typed::program::{Exception, Unit};
 use std::alloc::AllocError;
 
+/// What a step came to, and how many instructions were executed, each a tick.
+#[derive(Clone, Copy, PartialEq, Eq, Debug)]
+pub enum Step {
+    Taken(u64),
+    /// It is one on other tasks, and is left to be done: nothing is changed.
+    OfTasks(u64),
+}
+
+// What is known of a task that is under way alone.
+const RUNNING: Known = Known {
+    is_callable: true,
+    is_terminated: false,
+};
+
 impl Progress {
-    /// One step, in a program with these units. It tells how many instructions were executed, each a tick.
+    /// One step of a task that is under way alone, in a program with these units. It tells how many instructions were executed, each a
+    /// tick.
+    ///
+    /// # Errors
+    ///
+    /// Where memory is refused. As yet a step on other tasks is not taken either: there is no room for them.
     pub fn step(
         &mut self,
         code: &SoundCode,
@@ -41,14 +62,34 @@ impl Progress {
         ensures { IfOk result (λ ticks.
             IsStep (plans_of units.now) code.now self.old self.new ticks) }
     {
+        match self.step_among(code, units, &[RUNNING], operands)? {
+            Step::Taken(ticks) => Ok(ticks),
+            Step::OfTasks(_) => Err(AllocError),
+        }
+    }
+
+    /// One step, in a program with these units, among tasks of which this is known, by their numbers. A step on other tasks is left to
+    /// be done by whoever has them: only its instructions are executed.
+    pub fn step_among(
+        &mut self,
+        code: &SoundCode,
+        units: &[Unit],
+        known: &[Known],
+        operands: &mut Operands,
+    ) -> Result<Step, AllocError>
+        requires fits { Fits code.now.lines self.old }
+        requires steps { self.old.steps < STEPS }
+        ensures { IfOk result (λ step.
+            ComesTo known.now (plans_of units.now) code.now self.old self.new step) }
+    {
         match self.stage() {
-            Stage::Runs(None) => return self.act(code, units, operands),
+            Stage::Runs(None) => return self.act(code, units, known, operands),
             Stage::Runs(Some(raised)) => self.propagate(code, raised)?,
             Stage::Completed(raised) | Stage::Terminated(raised) => {
                 self.turn(Stage::Terminated(raised), self.place())
             }
         }
-        Ok(0)
+        Ok(Step::Taken(0))
     }
 
     // The expressions of the step are evaluated, and its ending or the exception that they raise follows.
@@ -56,28 +97,35 @@ impl Progress {
         &mut self,
         code: &SoundCode,
         units: &[Unit],
+        known: &[Known],
         operands: &mut Operands,
-    ) -> Result<u64, AllocError>
+    ) -> Result<Step, AllocError>
         requires runs { self.old.stage ≡ runs None }
         requires fits { Fits code.now.lines self.old }
         requires steps { self.old.steps < STEPS }
-        ensures { IfOk result (λ ticks.
-            IsStep (plans_of units.now) code.now self.old self.new ticks) }
+        ensures { IfOk result (λ step.
+            ComesTo known.now (plans_of units.now) code.now self.old self.new step) }
     {
         let place = self.place();
         let store = self.store();
         let Evaluation { outcome, ticks } = evaluate(
             code,
             place,
+            known,
             store.display(),
             store.frames(),
             operands,
         )?;
         match outcome {
-            Outcome::Reaches(reached) => self.reach(code, units, reached, operands)?,
+            Outcome::Reaches(reached) => {
+                if is_of_tasks(code, place) {
+                    return Ok(Step::OfTasks(ticks));
+                }
+                self.reach(code, units, reached, operands)?
+            }
             Outcome::Fails(raise) => self.fail(code, raise)?,
         }
-        Ok(ticks)
+        Ok(Step::Taken(ticks))
     }
 
     // What the ending at a place does, which is that of the step from it on.
@@ -100,6 +148,7 @@ impl Progress {
             (self.new ≡ ends_by code.now (plans_of units.now) last at operands.old self.old))) }
         ensures fits { OnOk result (Fits code.now.lines self.new) }
         ensures steps { OnOk result (self.new.steps ≡ self.old.steps + 1) }
+        ensures grows { OnOk result (length self.old.frames ≤ length self.new.frames) }
     {
         match code.ending(reached) {
             Some(ending) => self.end(&ending.last, ending.at, code, units, operands),
@@ -137,7 +186,10 @@ impl Progress {
         ensures steps { OnOk result (self.new.steps ≡ self.old.steps + 1) }
     {
         match last {
-            Last::Does(_, next) => self.go(*next),
+            Last::Does(_, next)
+            | Last::DeclaresTasks(_, next)
+            | Last::Activates(next)
+            | Last::EndsActivation(next) => self.go(*next),
             Last::Continues {
                 control,
                 behind,
@@ -164,10 +216,14 @@ impl Progress {
             (self.new ≡ raises_by code.now last at raise self.old))) }
         ensures fits { OnOk result (Fits code.now.lines self.new) }
         ensures steps { OnOk result (self.new.steps ≡ self.old.steps + 1) }
+        ensures grows { OnOk result (length self.old.frames ≤ length self.new.frames) }
     {
         match code.ending(self.place()) {
             Some(ending) => match ending.last {
-                Last::Does(_, _) => {
+                Last::Does(_, _)
+                | Last::DeclaresTasks(_, _)
+                | Last::Activates(_)
+                | Last::EndsActivation(_) => {
                     self.raise(Exception::Predefined(raise), ending.at);
                     Ok(())
                 }
@@ -178,7 +234,7 @@ impl Progress {
     }
 
     /// One step, which raises where the program stands (RM 11.3).
-    pub(crate) fn raise(&mut self, exception: Exception, at: Pos)
+    pub fn raise(&mut self, exception: Exception, at: Pos)
         requires steps { self.old.steps < STEPS }
         ensures { self.new ≡ raised exception at self.old }
     {
@@ -190,10 +246,11 @@ impl Progress {
         requires runs { self.old.stage ≡ runs (Some (plain_raised raised)) }
         requires fits { Fits code.now.lines self.old }
         requires steps { self.old.steps < STEPS }
-        ensures next { OnOk result ((units : List UnitPlan) →
-            StepsTo units code.now self.old self.new) }
+        ensures next { OnOk result ((known : List KnownOf) → (units : List UnitPlan) →
+            StepsAmong known units code.now self.old self.new) }
         ensures fits { OnOk result (Fits code.now.lines self.new) }
         ensures steps { OnOk result (self.new.steps ≡ self.old.steps + 1) }
+        ensures grows { OnOk result (length self.old.frames ≤ length self.new.frames) }
     {
         let behind = code.len();
         match find_handler(code, self.place(), raised.exception) {
@@ -205,6 +262,25 @@ impl Progress {
         }
         Ok(())
     }
+}
+
+// Whether the step that begins at a place ends as one on other tasks.
+fn is_of_tasks(code: &SoundCode, place: usize) -> bool
+    ensures { IsTrue result ↔ IsOfTasks (end_at code.now place).last }
+{
+    match code.ending(place) {
+        Some(ending) => concerns_tasks(&ending.last),
+        None => false,
+    }
+}
+
+fn concerns_tasks(last: &Last) -> bool
+    ensures { IsTrue result ↔ IsOfTasks (plain_last last.now) }
+{
+    matches!(
+        last,
+        Last::DeclaresTasks(_, _) | Last::Activates(_) | Last::EndsActivation(_)
+    )
 }
 
 // Where the end of a construct leads; a body's leads behind all lines.

@@ -35,3 +35,13 @@ pub(crate) fn place_of(units: &[Unit], number: usize) -> Pos
         None => Pos { line: 0, col: 0 },
     }
 }
+
+/// Where the `end` of its body stands.
+pub fn end_of(units: &[Unit], number: usize) -> Pos
+    ensures { result ≡ (unit_in (plans_of units.now) number).end }
+{
+    match units.get(number) {
+        Some(unit) => unit.body.end,
+        None => Pos { line: 0, col: 0 },
+    }
+}

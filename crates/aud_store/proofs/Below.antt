@@ -1,6 +1,6 @@
--- Open frames whose numbers are below the number of frames.
-use Rattle.std.proofs.Common.{◌≡◌, ◌<◌, refl, ℕ, Some, List, [], ◌∷◌, All}
-use Rattle.std.proofs.lemmas.List.Elements.{All-cons, All-head, All-tail}
+-- Open frames whose numbers are below the number of frames: each of them was made.
+use Rattle.std.proofs.Common.{◌≡◌, ◌<◌, ◌≤◌, refl, ℕ, Some, List, [], ◌∷◌, All, arith}
+use Rattle.std.proofs.lemmas.List.Elements.{All-cons, All-head, All-nil, All-tail}
 use Rattle.aud_typed.specs.declared.program.Exception.{Exception}
 use Rattle.aud_meaning.specs.Configuration.{Opened}
 use Rattle.aud_meaning.specs.Effects.{changed_first}
@@ -24,3 +24,10 @@ below_handling n e s a = below_changed n (λ o. record o { handling = Some e }) 
 
 pub below_elaborated : (n k : ℕ) (s : Stack) → All (λ o. o.frame < n) s.opened → All (λ o. o.frame < n) (with_elaborated k s).opened
 below_elaborated n k s a = below_changed n (λ o. record o { elaborated = k }) s.opened (λ o. refl) a
+
+-- those that were made are made still when there are more frames
+pub below_more : (n m : ℕ) (os : List Opened) → n ≤ m → All (λ o. o.frame < n) os → All (λ o. o.frame < m) os
+below_more n m [] more a = All-nil (λ o. o.frame < m)
+below_more n m (o ∷ os) more a =
+    let first : o.frame < n = All-head (λ o. o.frame < n) o os a in
+    All-cons (λ o. o.frame < m) o os (omega (arith, first, more)) (below_more n m os more (All-tail (λ o. o.frame < n) o os a))

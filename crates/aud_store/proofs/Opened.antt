@@ -1,8 +1,8 @@
 -- Open frames in memory, of which the innermost one is the last.
-use Rattle.std.proofs.Common.{◌≡◌, Option, Some, None, Bool, cond, not, ℕ, zero, suc, ◌-◌, ◌<◌, ◌≤◌, true, List, [], ◌∷◌, ◌++◌, length, take, drop, reverse, slice_index_or, slice_set, refl, ap, sym, subst, ◌∙◌, arith, length-append}
+use Rattle.std.proofs.Common.{◌≡◌, Option, Some, None, Bool, cond, not, ℕ, zero, suc, ◌-◌, ◌<◌, ◌≤◌, true, List, [], ◌∷◌, ◌++◌, length, drop, reverse, slice_index_or, slice_set, refl, ap, sym, subst, ◌∙◌, arith, length-append}
 use Rattle.std.specs.Option.{is_some, option_and_then}
 use Rattle.std.specs.List.{find}
-use Rattle.std.proofs.lemmas.List.{drop_all, drop_at, length-reverse, reverse-append, take_at}
+use Rattle.std.proofs.lemmas.List.{drop_all, drop_at, length-reverse, length-take, reverse-append, take_at}
 use Rattle.aud_typed.specs.declared.program.Exception.{Exception}
 use Rattle.aud_meaning.specs.Configuration.{Back, Opened}
 use Rattle.aud_meaning.specs.Effects.{changed_first, handled, is_counted, is_loop, live_frames}
@@ -11,7 +11,7 @@ use Rattle.aud_store.specs.declared.stack.Purpose.TheVariants.{Body, Block, Loop
 use Rattle.aud_store.specs.declared.display.Replaced.{Replaced}
 use Rattle.aud_store.specs.declared.stack.Open.{Open}
 use Rattle.aud_store.specs.Ties.Display.{Display, seen, placed, stands, put_back}
-use Rattle.aud_store.specs.Ties.Stored.{copies_of, kept_by, kept_of, seen_from, purpose_backs, innermost_backs, own_backs, outer_backs, plain_open, plain_opened, plain_purpose, display_of, AreReplaced, IsInnermost, AreKept, AreSeen, AreSaved, IsStacked}
+use Rattle.aud_store.specs.Ties.Stored.{copies_of, kept_by, kept_of, purpose_backs, innermost_backs, own_backs, outer_backs, outside_by, plain_open, plain_opened, plain_purpose, ArePlaced, IsPlaced, IsInnermost, AreKept, AreSeen, AreSaved, IsStacked}
 use Rattle.aud_store.proofs.Placing.{back_again, seen_placed, within}
 use Rattle.aud_meaning.specs.Ties.Single.{Stack, closed, out_of_loops_by, IsOpenedAlone, AreOpenedAlone}
 
@@ -22,12 +22,12 @@ counted Block bs = refl
 counted Loop bs = refl
 counted (Procedure level n into) bs = refl
 
-pub live_plain : (os : List Open) (bs : List Back) → live_frames (plain_opened os bs) ≡ length os
-live_plain [] bs = refl
-live_plain (o ∷ os) bs = rw (counted o.purpose (own_backs o.purpose bs)) (ap suc (live_plain os (outer_backs o.purpose bs)))
+pub live_plain : (d : Display) (os : List Open) (bs : List Back) → live_frames (plain_opened d os bs) ≡ length os
+live_plain d [] bs = refl
+live_plain d (o ∷ os) bs = rw (counted o.purpose (own_backs o.purpose bs)) (ap suc (live_plain (put_back o.replaced d) os (outer_backs o.purpose bs)))
 
-pub live_reversed : (os : List Open) (bs : List Back) → live_frames (plain_opened (reverse os) bs) ≡ length os
-live_reversed os bs = live_plain (reverse os) bs ∙ length-reverse os
+pub live_reversed : (d : Display) (os : List Open) (bs : List Back) → live_frames (plain_opened d (reverse os) bs) ≡ length os
+live_reversed d os bs = live_plain d (reverse os) bs ∙ length-reverse os
 
 -- xs with their last one, x, and with y in its place, innermost first
 record IsTurned (xs : List Open) (k : ℕ) (x y : Open) : Type 0 where
@@ -60,49 +60,49 @@ pub record IsSame (x y : Open) : Type 0 where
   pub purpose : x.purpose ≡ y.purpose
   pub replaced : x.replaced ≡ y.replaced
 
--- then what is seen stays, and what stands in place of what
-abbrev pub Shows : Display → List Open → Type 0
-Shows display os = (display ≡ display_of os) × AreReplaced os
+-- placed where it is, of this number, for this, and in place of this
+abbrev Placed : Display → List Open → ℕ → Purpose → Replaced → Type 0
+Placed d os frame p r = ((d ≡ placed (kept_of p (put_back r d).count) frame (put_back r d)) × (r ≡ stands (kept_of p (put_back r d).count) (put_back r d))) × ArePlaced (put_back r d) os
 
-pub seen_turned : (display : Display) (xs : List Open) (n : ℕ) (x y : Open) → IsLast xs n x → IsSame x y → Shows display (reverse xs) → Shows display (reverse (slice_set xs (n - 1) y))
-seen_turned display xs n x y h same shows = by (turned_last xs n x y h)
+-- then it is placed as the other one was
+pub placed_turned : (d : Display) (xs : List Open) (n : ℕ) (x y : Open) → IsLast xs n x → IsSame x y → ArePlaced d (reverse xs) → ArePlaced d (reverse (slice_set xs (n - 1) y))
+placed_turned d xs n x y h same are = by (turned_last xs n x y h)
   where
-    by : IsTurned xs (n - 1) x y → Shows display (reverse (slice_set xs (n - 1) y))
+    by : IsTurned xs (n - 1) x y → ArePlaced d (reverse (slice_set xs (n - 1) y))
     by t =
-        let before = subst (λ os. Shows display os) t.was shows in
-        let d = display_of t.outer in
-        subst (λ os. Shows display os) (sym t.is) (
-          before.0 ∙ ap (λ p. placed (kept_of p d.count) x.frame d) same.purpose ∙ ap (λ f. placed (kept_of y.purpose d.count) f d) same.frame,
-          (sym same.replaced ∙ before.1.0 ∙ ap (λ p. stands (kept_of p d.count) d) same.purpose, before.1.1),
-        )
+        let before : Placed d t.outer x.frame x.purpose x.replaced = subst (ArePlaced d) t.was are in
+        let number = subst (λ f. Placed d t.outer f x.purpose x.replaced) same.frame before in
+        let purpose = subst (λ p. Placed d t.outer y.frame p x.replaced) same.purpose number in
+        subst (ArePlaced d) (sym t.is) (subst (Placed d t.outer y.frame y.purpose) same.replaced purpose)
 
 -- the innermost one changes, and no other
-pub opened_turned : (g : Opened → Opened) (xs : List Open) (bs : List Back) (n : ℕ) (x y : Open) → IsLast xs n x → x.purpose ≡ y.purpose → ((saved : List ℕ) (own : List Back) → plain_open y saved own ≡ g (plain_open x saved own)) → plain_opened (reverse (slice_set xs (n - 1) y)) bs ≡ changed_first g (plain_opened (reverse xs) bs)
-opened_turned g xs bs n x y h purpose same = by (turned_last xs n x y h)
+pub opened_turned : (g : Opened → Opened) (d : Display) (xs : List Open) (bs : List Back) (n : ℕ) (x y : Open) → IsLast xs n x → IsSame x y → ((saved : List ℕ) (own : List Back) → plain_open y saved own ≡ g (plain_open x saved own)) → plain_opened d (reverse (slice_set xs (n - 1) y)) bs ≡ changed_first g (plain_opened d (reverse xs) bs)
+opened_turned g d xs bs n x y h same changes = by (turned_last xs n x y h)
   where
-    by : IsTurned xs (n - 1) x y → plain_opened (reverse (slice_set xs (n - 1) y)) bs ≡ changed_first g (plain_opened (reverse xs) bs)
+    by : IsTurned xs (n - 1) x y → plain_opened d (reverse (slice_set xs (n - 1) y)) bs ≡ changed_first g (plain_opened d (reverse xs) bs)
     by t =
-        ap (λ os. plain_opened os bs) t.is
-        ∙ ap (λ p. plain_open y (seen_from t.outer) (own_backs p bs) ∷ plain_opened t.outer (outer_backs p bs)) (sym purpose)
-        ∙ ap (λ o. o ∷ plain_opened t.outer (outer_backs x.purpose bs)) (same (seen_from t.outer) (own_backs x.purpose bs))
-        ∙ sym (ap (λ l. changed_first g (plain_opened l bs)) t.was)
+        ap (λ os. plain_opened d os bs) t.is
+        ∙ ap (λ r. plain_open y (seen (put_back r d)) (own_backs y.purpose bs) ∷ plain_opened (put_back r d) t.outer (outer_backs y.purpose bs)) (sym same.replaced)
+        ∙ ap (λ p. plain_open y (seen (put_back x.replaced d)) (own_backs p bs) ∷ plain_opened (put_back x.replaced d) t.outer (outer_backs p bs)) (sym same.purpose)
+        ∙ ap (λ o. o ∷ plain_opened (put_back x.replaced d) t.outer (outer_backs x.purpose bs)) (changes (seen (put_back x.replaced d)) (own_backs x.purpose bs))
+        ∙ sym (ap (λ l. changed_first g (plain_opened d l bs)) t.was)
 
 -- where none is open, none changes
-pub none_changed : (g : Opened → Opened) (xs : List Open) (bs : List Back) → length xs ≤ 0 → plain_opened (reverse xs) bs ≡ changed_first g (plain_opened (reverse xs) bs)
-none_changed g [] bs h = refl
-none_changed g (x ∷ xs) bs h = absurd (omega (arith, h))
+pub none_changed : (g : Opened → Opened) (d : Display) (xs : List Open) (bs : List Back) → length xs ≤ 0 → plain_opened d (reverse xs) bs ≡ changed_first g (plain_opened d (reverse xs) bs)
+none_changed g d [] bs h = refl
+none_changed g d (x ∷ xs) bs h = absurd (omega (arith, h))
 
 handled_already : (os : List Opened) (x : Exception) → handled os (Some x) ≡ Some x
 handled_already [] x = refl
 handled_already (o ∷ os) x = refl
 
 -- the first of them that handles one
-pub first_handled : (os : List Open) (bs : List Back) → handled (plain_opened os bs) None ≡ option_and_then (λ o. o.handling) (find (λ o. is_some o.handling) os)
-first_handled [] bs = refl
-first_handled (o ∷ os) bs = by o.handling refl (first_handled os (outer_backs o.purpose bs))
+pub first_handled : (d : Display) (os : List Open) (bs : List Back) → handled (plain_opened d os bs) None ≡ option_and_then (λ o. o.handling) (find (λ o. is_some o.handling) os)
+first_handled d [] bs = refl
+first_handled d (o ∷ os) bs = by o.handling refl (first_handled (put_back o.replaced d) os (outer_backs o.purpose bs))
   where
     rest : List Opened
-    rest = plain_opened os (outer_backs o.purpose bs)
+    rest = plain_opened (put_back o.replaced d) os (outer_backs o.purpose bs)
 
     by : (h : Option Exception) → o.handling ≡ h → handled rest None ≡ option_and_then (λ p. p.handling) (find (λ p. is_some p.handling) os) → handled rest o.handling ≡ option_and_then (λ p. p.handling) (cond (is_some o.handling) (Some o) (find (λ p. is_some p.handling) os))
     by None e found = rw e found
@@ -123,13 +123,31 @@ kept_plain Block bs saved = refl
 kept_plain Loop bs saved = refl
 kept_plain (Procedure level n into) bs saved = (level, refl)
 
-seen_plain : (os : List Open) (bs : List Back) → AreSeen (plain_opened os bs) (seen_from os)
-seen_plain [] bs = refl
-seen_plain (o ∷ os) bs = (kept_by o.purpose (seen_from os), (kept_plain o.purpose (own_backs o.purpose bs) (seen_from os), refl))
+-- as many as count
+seen_many : (d : Display) → d.count ≤ length d.numbers → d.count ≡ length (seen d)
+seen_many d h = omega (arith, h, length-take d.count d.numbers)
 
-saved_plain : (os : List Open) (bs : List Back) → AreSaved (plain_opened os bs)
-saved_plain [] bs = tt
-saved_plain (o ∷ os) bs = (seen_plain os (outer_backs o.purpose bs), saved_plain os (outer_backs o.purpose bs))
+-- so many numbers are there
+held : (d : Display) (os : List Open) → ArePlaced d os → d.count ≤ length d.numbers
+held d [] are = are
+held d (o ∷ os) are =
+    let before = put_back o.replaced d in
+    let s = seen_placed o.purpose o.frame before (seen before) refl (seen_many before (held before os are.1)) in
+    subst (λ (x : Display). x.count ≤ length x.numbers) (sym are.0.0) (within (placed (kept_of o.purpose before.count) o.frame before) (kept_by o.purpose (seen before) ++ o.frame ∷ []) s.0 s.1)
+
+-- the outer ones, and those of the open frames that are seen from one another
+module _ (outer : List ℕ) where
+  seen_plain : (d : Display) (os : List Open) (bs : List Back) → outside_by (plain_opened d os bs) (seen d) ≡ outer → ArePlaced d os → AreSeen outer (plain_opened d os bs) (seen d)
+  seen_plain d [] bs is are = is
+  seen_plain d (o ∷ os) bs is are =
+      let before = put_back o.replaced d in
+      let many = seen_many before (held before os are.1) in
+      (kept_by o.purpose (seen before), (kept_plain o.purpose (own_backs o.purpose bs) (seen before), ap seen are.0.0 ∙ (seen_placed o.purpose o.frame before (seen before) refl many).0))
+
+  saved_plain : (d : Display) (os : List Open) (bs : List Back) → outside_by (plain_opened d os bs) (seen d) ≡ outer → ArePlaced d os → AreSaved outer (plain_opened d os bs)
+  saved_plain d [] bs is are = tt
+  saved_plain d (o ∷ os) bs is are =
+      (seen_plain (put_back o.replaced d) os (outer_backs o.purpose bs) is are.1, saved_plain (put_back o.replaced d) os (outer_backs o.purpose bs) is are.1)
 
 opened_alone : (p : Purpose) (bs : List Back) → IsOpenedAlone (plain_purpose p bs)
 opened_alone Body bs = tt
@@ -137,35 +155,34 @@ opened_alone Block bs = tt
 opened_alone Loop bs = tt
 opened_alone (Procedure level n into) bs = record { plain = refl; no_value = refl }
 
-alone_plain : (os : List Open) (bs : List Back) → AreOpenedAlone (plain_opened os bs)
-alone_plain [] bs = tt
-alone_plain (o ∷ os) bs = (opened_alone o.purpose (own_backs o.purpose bs), alone_plain os (outer_backs o.purpose bs))
+alone_plain : (d : Display) (os : List Open) (bs : List Back) → AreOpenedAlone (plain_opened d os bs)
+alone_plain d [] bs = tt
+alone_plain d (o ∷ os) bs = (opened_alone o.purpose (own_backs o.purpose bs), alone_plain (put_back o.replaced d) os (outer_backs o.purpose bs))
 
--- they are those of the numbers that count
-pub seen_so : (os : List Open) → (seen (display_of os) ≡ seen_from os) × ((display_of os).count ≡ length (seen_from os))
-seen_so [] = (refl, refl)
-seen_so (o ∷ os) = seen_placed o.purpose o.frame (display_of os) (seen_from os) (seen_so os).0 (seen_so os).1
-
-pub stacked : (display : Display) (os : List Open) (bs : List Back) → display ≡ display_of os → IsStacked (record { display = seen display; opened = plain_opened os bs })
-stacked display os bs is =
-    record { seen = subst (λ s. AreSeen (plain_opened os bs) s) (sym (ap seen is ∙ (seen_so os).0)) (seen_plain os bs); saved = saved_plain os bs; alone = alone_plain os bs }
+pub stacked : (d : Display) (os : List Open) (bs : List Back) → ArePlaced d os → IsStacked (record { display = seen d; opened = plain_opened d os bs })
+stacked d os bs are =
+    let outer = outside_by (plain_opened d os bs) (seen d) in
+    record { seen = seen_plain outer d os bs refl are; saved = saved_plain outer d os bs refl are; alone = alone_plain d os bs }
 
 -- the first of them that is no loop's
 abbrev is_construct : Open → Bool
 is_construct o = not (is_loop (plain_purpose o.purpose []))
 
-pub first_construct : (os : List Open) (bs : List Back) (display : List ℕ) → IsInnermost (find is_construct os) (out_of_loops_by (plain_opened os bs) (record { display = display; opened = plain_opened os bs })).opened
-first_construct [] bs display = refl
-first_construct (o ∷ os) bs display = by o.purpose (first_construct os (outer_backs o.purpose bs) (seen_from os))
+pub first_construct : (d : Display) (os : List Open) (bs : List Back) (display : List ℕ) → IsInnermost (find is_construct os) (out_of_loops_by (plain_opened d os bs) (record { display = display; opened = plain_opened d os bs })).opened
+first_construct d [] bs display = refl
+first_construct d (o ∷ os) bs display = by o.purpose (first_construct before os (outer_backs o.purpose bs) (seen before))
   where
-    rest : Purpose → List Opened
-    rest p = plain_opened os (outer_backs p bs)
+    before : Display
+    before = put_back o.replaced d
 
-    by : (p : Purpose) → IsInnermost (find is_construct os) (out_of_loops_by (rest p) (record { display = seen_from os; opened = rest p })).opened → IsInnermost (find is_construct (record o { purpose = p } ∷ os)) (out_of_loops_by (plain_opened (record o { purpose = p } ∷ os) bs) (record { display = display; opened = plain_opened (record o { purpose = p } ∷ os) bs })).opened
-    by Body outer = (seen_from os, (own_backs Body bs, (rest Body, refl)))
-    by Block outer = (seen_from os, (own_backs Block bs, (rest Block, refl)))
+    rest : Purpose → List Opened
+    rest p = plain_opened before os (outer_backs p bs)
+
+    by : (p : Purpose) → IsInnermost (find is_construct os) (out_of_loops_by (rest p) (record { display = seen before; opened = rest p })).opened → IsInnermost (find is_construct (record o { purpose = p } ∷ os)) (out_of_loops_by (plain_opened d (record o { purpose = p } ∷ os) bs) (record { display = display; opened = plain_opened d (record o { purpose = p } ∷ os) bs })).opened
+    by Body outer = (seen before, (own_backs Body bs, (rest Body, refl)))
+    by Block outer = (seen before, (own_backs Block bs, (rest Block, refl)))
     by Loop outer = outer
-    by (Procedure level n into) outer = (seen_from os, (own_backs (Procedure level n into) bs, (rest (Procedure level n into), refl)))
+    by (Procedure level n into) outer = (seen before, (own_backs (Procedure level n into) bs, (rest (Procedure level n into), refl)))
 
 -- One more is opened, and the innermost one is left.
 
@@ -175,42 +192,12 @@ stack_of display os = record { display = display; opened = os }
 reversed_more : (xs : List Open) (o : Open) → reverse (xs ++ o ∷ []) ≡ o ∷ reverse xs
 reversed_more xs o = reverse-append xs (o ∷ [])
 
-pub shows_more : (old new : Display) (xs ys : List Open) (o : Open) → Shows old (reverse xs) → ys ≡ xs ++ o ∷ [] → new ≡ placed (kept_of o.purpose old.count) o.frame old → o.replaced ≡ stands (kept_of o.purpose old.count) old → Shows new (reverse ys)
-shows_more old new xs ys o shows more is replaced =
-    subst (λ os. Shows new os) (sym (ap reverse more ∙ reversed_more xs o)) (
-      is ∙ ap (λ (d : Display). placed (kept_of o.purpose d.count) o.frame d) shows.0,
-      (replaced ∙ ap (λ (d : Display). stands (kept_of o.purpose d.count) d) shows.0, shows.1),
-    )
-
--- the copies of a call stand behind the others
-own_of_more : (p : Purpose) (bs own : List Back) → copies_of p ≡ length own → (own_backs p (bs ++ own) ≡ own) × (outer_backs p (bs ++ own) ≡ bs)
-own_of_more p bs own many =
-    let before : length (bs ++ own) - copies_of p ≡ length bs = omega (arith, many, length-append bs own) in
-    (drop_at bs own (length (bs ++ own) - copies_of p) (sym before), take_at bs own (length (bs ++ own) - copies_of p) (sym before))
-
-pub opened_more : (old new : Display) (xs ys : List Open) (o : Open) (bs own all : List Back) → old ≡ display_of (reverse xs) → ys ≡ xs ++ o ∷ [] → new ≡ placed (kept_of o.purpose old.count) o.frame old → all ≡ bs ++ own → copies_of o.purpose ≡ length own →
-    stack_of (seen new) (plain_opened (reverse ys) all) ≡ stack_of (kept_by o.purpose (seen old) ++ o.frame ∷ []) (plain_open o (seen old) own ∷ plain_opened (reverse xs) bs)
-opened_more old new xs ys o bs own all is more there added many =
-    let before = seen_so (reverse xs) in
-    let saved : seen old ≡ seen_from (reverse xs) = ap seen is ∙ before.0 in
-    let count : old.count ≡ length (seen_from (reverse xs)) = ap (λ (d : Display). d.count) is ∙ before.1 in
-    let backs = own_of_more o.purpose bs own many in
-    let shown = ap seen there ∙ (seen_placed o.purpose o.frame old (seen_from (reverse xs)) saved count).0 ∙ ap (λ s. kept_by o.purpose s ++ o.frame ∷ []) (sym saved) in
-    let opened = ap (λ l. plain_opened l all) (ap reverse more ∙ reversed_more xs o) ∙ ap (λ l. plain_opened (o ∷ reverse xs) l) added
-    ∙ ap (λ l. plain_open o (seen_from (reverse xs)) l ∷ plain_opened (reverse xs) (outer_backs o.purpose (bs ++ own))) backs.0
-    ∙ ap (λ l. plain_open o (seen_from (reverse xs)) own ∷ plain_opened (reverse xs) l) backs.1
-    ∙ ap (λ s. plain_open o s own ∷ plain_opened (reverse xs) bs) (sym saved) in
-    ap (λ s. stack_of s (plain_opened (reverse ys) all)) shown ∙ ap (stack_of (kept_by o.purpose (seen old) ++ o.frame ∷ [])) opened
-
--- one that was placed, where the memory behind it is refused
-module _ (old new : Display) (os : List Open) (p : Purpose) (frame kept : ℕ) (r : Replaced) (shows : Shows old os) (many : kept ≡ kept_of p old.count) (is : new ≡ placed kept frame old) (replaced : r ≡ stands kept old) where
-  held : old.count ≤ length old.numbers
-  held = within old (seen_from os) (ap seen shows.0 ∙ (seen_so os).0) (ap (λ (d : Display). d.count) shows.0 ∙ (seen_so os).1)
-
+-- one that was placed leaves the others as they were
+module _ (old new : Display) (os : List Open) (p : Purpose) (frame kept : ℕ) (r : Replaced) (are : ArePlaced old os) (many : kept ≡ kept_of p old.count) (is : new ≡ placed kept frame old) (replaced : r ≡ stands kept old) where
   pub given_up : put_back r new ≡ old
   given_up =
       ap (λ x. put_back x new) replaced ∙ ap (λ d. put_back (stands kept old) d) is
-      ∙ ap (λ k. put_back (stands k old) (placed k frame old)) many ∙ back_again p frame old held
+      ∙ ap (λ k. put_back (stands k old) (placed k frame old)) many ∙ back_again p frame old (held old os are)
 
   pub some_placed : 0 < new.count
   some_placed = let count = ap (λ (d : Display). d.count) is in omega (arith, count)
@@ -218,40 +205,52 @@ module _ (old new : Display) (os : List Open) (p : Purpose) (frame kept : ℕ) (
   pub room_again : r.seen ≤ length (put_back r new).numbers
   room_again =
       let seen_before = ap (λ (x : Replaced). x.seen) replaced in
-      subst (λ (d : Display). r.seen ≤ length d.numbers) (sym given_up) (omega (arith, seen_before, held))
+      subst (λ (d : Display). r.seen ≤ length d.numbers) (sym given_up) (omega (arith, seen_before, held old os are))
+
+pub placed_more : (old new : Display) (xs ys : List Open) (o : Open) → ArePlaced old (reverse xs) → ys ≡ xs ++ o ∷ [] → new ≡ placed (kept_of o.purpose old.count) o.frame old → o.replaced ≡ stands (kept_of o.purpose old.count) old → ArePlaced new (reverse ys)
+placed_more old new xs ys o are more is replaced =
+    let back = given_up old new (reverse xs) o.purpose o.frame (kept_of o.purpose old.count) o.replaced are refl is replaced in
+    subst (ArePlaced new) (sym (ap reverse more ∙ reversed_more xs o)) (
+    subst (λ (d : Display). IsPlaced o d new × ArePlaced d (reverse xs)) (sym back) ((is, replaced), are))
+
+-- the copies of a call stand behind the others
+own_of_more : (p : Purpose) (bs own : List Back) → copies_of p ≡ length own → (own_backs p (bs ++ own) ≡ own) × (outer_backs p (bs ++ own) ≡ bs)
+own_of_more p bs own many =
+    let before : length (bs ++ own) - copies_of p ≡ length bs = omega (arith, many, length-append bs own) in
+    (drop_at bs own (length (bs ++ own) - copies_of p) (sym before), take_at bs own (length (bs ++ own) - copies_of p) (sym before))
+
+pub opened_more : (old new : Display) (xs ys : List Open) (o : Open) (bs own all : List Back) → ArePlaced old (reverse xs) → ys ≡ xs ++ o ∷ [] → new ≡ placed (kept_of o.purpose old.count) o.frame old → o.replaced ≡ stands (kept_of o.purpose old.count) old → all ≡ bs ++ own → copies_of o.purpose ≡ length own →
+    stack_of (seen new) (plain_opened new (reverse ys) all) ≡ stack_of (kept_by o.purpose (seen old) ++ o.frame ∷ []) (plain_open o (seen old) own ∷ plain_opened old (reverse xs) bs)
+opened_more old new xs ys o bs own all are more is replaced added many =
+    let back = given_up old new (reverse xs) o.purpose o.frame (kept_of o.purpose old.count) o.replaced are refl is replaced in
+    let backs = own_of_more o.purpose bs own many in
+    let shown = ap seen is ∙ (seen_placed o.purpose o.frame old (seen old) refl (seen_many old (held old (reverse xs) are))).0 in
+    let opened = ap (λ l. plain_opened new l all) (ap reverse more ∙ reversed_more xs o) ∙ ap (λ l. plain_opened new (o ∷ reverse xs) l) added
+    ∙ ap (λ (d : Display). plain_open o (seen d) (own_backs o.purpose (bs ++ own)) ∷ plain_opened d (reverse xs) (outer_backs o.purpose (bs ++ own))) back
+    ∙ ap (λ l. plain_open o (seen old) l ∷ plain_opened old (reverse xs) (outer_backs o.purpose (bs ++ own))) backs.0
+    ∙ ap (λ l. plain_open o (seen old) own ∷ plain_opened old (reverse xs) l) backs.1 in
+    ap (λ s. stack_of s (plain_opened new (reverse ys) all)) shown ∙ ap (stack_of (kept_by o.purpose (seen old) ++ o.frame ∷ [])) opened
 
 -- the last one, and those before it
-module _ (old : Display) (xs ys : List Open) (o : Open) (shows : Shows old (reverse xs)) (last : xs ≡ ys ++ o ∷ []) where
-  before : Shows old (o ∷ reverse ys)
-  before = subst (λ os. Shows old os) (ap reverse last ∙ reversed_more ys o) shows
-
-  abbrev outer : Display
-  outer = display_of (reverse ys)
-
-  fits : outer.count ≤ length outer.numbers
-  fits = within outer (seen_from (reverse ys)) (seen_so (reverse ys)).0 (seen_so (reverse ys)).1
-
-  again : put_back o.replaced old ≡ outer
-  again = ap (λ d. put_back o.replaced d) before.0 ∙ ap (λ r. put_back r (placed (kept_of o.purpose outer.count) o.frame outer)) before.1.0 ∙ back_again o.purpose o.frame outer fits
+module _ (old : Display) (xs ys : List Open) (o : Open) (are : ArePlaced old (reverse xs)) (last : xs ≡ ys ++ o ∷ []) where
+  before : ArePlaced old (o ∷ reverse ys)
+  before = subst (ArePlaced old) (ap reverse last ∙ reversed_more ys o) are
 
   pub some_seen : 0 < old.count
-  some_seen = let many = ap (λ (d : Display). d.count) before.0 in omega (arith, many)
+  some_seen = let many = ap (λ (d : Display). d.count) before.0.0 in omega (arith, many)
 
   pub room_behind : o.replaced.seen ≤ length (put_back o.replaced old).numbers
-  room_behind =
-      let many = ap (λ (r : Replaced). r.seen) before.1.0 in
-      subst (λ (d : Display). o.replaced.seen ≤ length d.numbers) (sym again) (omega (arith, many, fits))
+  room_behind = held (put_back o.replaced old) (reverse ys) before.1
 
-  pub left_numbers : (new : Display) → new ≡ put_back o.replaced old → Shows new (reverse ys)
-  left_numbers new is = (is ∙ again, before.1.1)
+  pub left_numbers : (new : Display) → new ≡ put_back o.replaced old → ArePlaced new (reverse ys)
+  left_numbers new is = subst (λ (d : Display). ArePlaced d (reverse ys)) (sym is) before.1
 
   pub left_open : (new : Display) (bs cs : List Back) → new ≡ put_back o.replaced old → cs ≡ outer_backs o.purpose bs →
-      stack_of (seen new) (plain_opened (reverse ys) cs) ≡ closed (stack_of (seen old) (plain_opened (reverse xs) bs))
+      stack_of (seen new) (plain_opened new (reverse ys) cs) ≡ closed (stack_of (seen old) (plain_opened old (reverse xs) bs))
   left_open new bs cs is rest =
-      ap (λ d. stack_of (seen d) (plain_opened (reverse ys) cs)) (is ∙ again)
-      ∙ ap (λ s. stack_of s (plain_opened (reverse ys) cs)) (seen_so (reverse ys)).0
-      ∙ ap (λ l. stack_of (seen_from (reverse ys)) (plain_opened (reverse ys) l)) rest
-      ∙ sym (ap (λ os. closed (stack_of (seen old) (plain_opened os bs))) (ap reverse last ∙ reversed_more ys o))
+      ap (λ (d : Display). stack_of (seen d) (plain_opened d (reverse ys) cs)) is
+      ∙ ap (λ l. stack_of (seen (put_back o.replaced old)) (plain_opened (put_back o.replaced old) (reverse ys) l)) rest
+      ∙ sym (ap (λ os. closed (stack_of (seen old) (plain_opened old os bs))) (ap reverse last ∙ reversed_more ys o))
 
 own_copies : (p : Purpose) (bs : List Back) → drop (length bs - copies_of p) bs ≡ purpose_backs (plain_purpose p (own_backs p bs))
 own_copies Body bs = drop_all (length bs - 0) bs (omega arith)
@@ -260,11 +259,11 @@ own_copies Loop bs = drop_all (length bs - 0) bs (omega arith)
 own_copies (Procedure level n into) bs = refl
 
 -- those that the innermost one copies back
-pub backs_of_last : (xs : List Open) (n : ℕ) (x : Open) (bs : List Back) → IsLast xs n x → drop (length bs - copies_of x.purpose) bs ≡ innermost_backs (plain_opened (reverse xs) bs)
-backs_of_last xs n x bs h =
+pub backs_of_last : (d : Display) (xs : List Open) (n : ℕ) (x : Open) (bs : List Back) → IsLast xs n x → drop (length bs - copies_of x.purpose) bs ≡ innermost_backs (plain_opened d (reverse xs) bs)
+backs_of_last d xs n x bs h =
     let t = turned_last xs n x x h in
-    own_copies x.purpose bs ∙ sym (ap (λ os. innermost_backs (plain_opened os bs)) t.was)
+    own_copies x.purpose bs ∙ sym (ap (λ os. innermost_backs (plain_opened d os bs)) t.was)
 
-pub backs_of_none : (xs : List Open) (bs : List Back) → length xs ≤ 0 → drop (length bs - 0) bs ≡ innermost_backs (plain_opened (reverse xs) bs)
-backs_of_none [] bs none = drop_all (length bs - 0) bs (omega arith)
-backs_of_none (x ∷ xs) bs none = absurd (omega (arith, none))
+pub backs_of_none : (d : Display) (xs : List Open) (bs : List Back) → length xs ≤ 0 → drop (length bs - 0) bs ≡ innermost_backs (plain_opened d (reverse xs) bs)
+backs_of_none d [] bs none = drop_all (length bs - 0) bs (omega arith)
+backs_of_none d (x ∷ xs) bs none = absurd (omega (arith, none))

@@ -1,5 +1,5 @@
 -- Numbers of frames that are placed among those that are seen, and those that come back.
-use Rattle.std.proofs.Common.{◌≡◌, Option, Some, None, ℕ, zero, suc, ◌+◌, ◌-◌, ◌<◌, ◌≤◌, List, [], ◌∷◌, ◌++◌, length, min, take, refl, ap, sym, ◌∙◌, arith}
+use Rattle.std.proofs.Common.{◌≡◌, Option, Some, None, ℕ, zero, suc, ◌-◌, ◌≤◌, List, [], ◌∷◌, ◌++◌, length, min, take, refl, ap, sym, ◌∙◌, arith}
 use Rattle.std.specs.Prelude.{slice_get}
 use Rattle.std.proofs.lemmas.List.{length-append, length-take, take_at}
 use Rattle.aud_store.specs.declared.stack.Purpose.{Purpose}
@@ -20,7 +20,7 @@ taken (y ∷ ys) (suc n) x h = by (slice_get ys n) refl (taken ys n x (omega (ar
     by (Some z) e h = rw e (ap (λ zs. y ∷ zs) (rw e at h))
 
 -- fewer of the first ones
-take_min : (xs : List ℕ) (n k : ℕ) → take (min k n) xs ≡ take k (take n xs)
+pub take_min : (xs : List ℕ) (n k : ℕ) → take (min k n) xs ≡ take k (take n xs)
 take_min xs n zero = let none : min zero n ≡ zero = omega arith in rw none refl
 take_min xs zero (suc k) = let none : min (suc k) zero ≡ zero = omega arith in rw none (refl)
 take_min [] (suc n) (suc k) = let more : min (suc k) (suc n) ≡ suc (min k n) = omega arith in rw more refl

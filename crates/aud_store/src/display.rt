@@ -43,6 +43,17 @@ impl Display {
         }
     }
 
+    /// The frames of these numbers are seen, and none is hidden.
+    pub(crate) fn of(alloc: Global, numbers: &[usize]) -> Result<Self, AllocError>
+        ensures { IfOk result (λ display. display ≡
+            record { numbers = numbers.now; count = length numbers.now }) }
+    {
+        Ok(Display {
+            numbers: Vec::from_slice(alloc, numbers)?,
+            seen: numbers.len(),
+        })
+    }
+
     /// How many frames are seen.
     pub(crate) fn len(&self) -> usize
         ensures { result ≡ self.now.count }

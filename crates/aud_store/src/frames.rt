@@ -99,6 +99,18 @@ impl Frames {
         Ok(())
     }
 
+    /// More variables of a frame, with these values.
+    pub fn extend(&mut self, frame: usize, values: &[Int32]) -> Result<(), AllocError>
+        requires { frame < length self.old }
+        ensures extended { OnOk result (self.new ≡
+            with_frame frame (λ vs. vs ++ values.now) self.old) }
+        ensures kept { OnErr result (self.new ≡ self.old) }
+    {
+        let variables = &mut self.frames[frame];
+        variables.extend_from_slice(values)?;
+        Ok(())
+    }
+
     /// Another value of a variable; where the frame has none of this number, nothing changes.
     pub fn assign(&mut self, frame: usize, index: usize, value: Int32)
         requires { frame < length self.old }

@@ -1,10 +1,11 @@
 // The open frames, which lie in one another.
 
-ghost use Rattle.std.specs.Prelude.{◌≡◌, ◌↔◌, [], None, suc, length, nat_le, IsTrue, OnOk, OnErr};
-ghost use Rattle.aud_meaning.specs.Effects.{elaborated_in, handled, is_loop, live_frames};
+ghost use Rattle.std.specs.Prelude.{◌≡◌, ◌↔◌, [], None, suc, filter, length, map, nat_le, reverse, take, IfOk, IsTrue, OnOk, OnErr};
+ghost use Rattle.aud_meaning.specs.Effects.{elaborated_in, handled, is_loop, live_frames, outermost};
+ghost use Rattle.aud_meaning.specs.Parts.{is_master};
 ghost use Rattle.aud_meaning.specs.Ties.Single.{closed, opens_after, out_of_loops, AreOpenedAlone};
 ghost use Rattle.aud_store.specs.Ties.Stored.{copies_of, innermost_backs, is_in_loop, kept_by, kept_of};
-ghost use Rattle.aud_store.specs.Ties.Stored.{plain_purpose, with_handling, with_elaborated};
+ghost use Rattle.aud_store.specs.Ties.Stored.{plain_open, plain_purpose, with_handling, with_elaborated};
 ghost use Rattle.aud_store.specs.Ties.Stored.{IsInnermost, IsProcedure, IsStacked};
 
 use crate::display::{Display, Replaced};
@@ -80,35 +81,46 @@ pub struct Open {
     pub replaced: Replaced,
 }
 
-// The open frames, the innermost one last; the numbers of the frames that are seen; and the formals that are copied back at the
-// ends of all calls, those of the innermost call last.
+impl Open {
+    // Whether it is a master's (RM 9.3(2)).
+    fn is_master(&self) -> bool
+        ensures { result ≡ is_master (plain_open self.now [] []) }
+    {
+        match self.purpose {
+            Purpose::Body | Purpose::Block | Purpose::Procedure { .. } => true,
+            Purpose::Loop => false,
+        }
+    }
+}
+
+/// The open frames of a task, the innermost one last; the numbers of the frames that are seen; and the formals that are copied
+/// back at the ends of all calls, those of the innermost call last.
 #[derive(Drop)]
-pub(crate) struct Stack {
+pub struct Stack {
     opened: Vec<Open>,
     display: Display,
     backs: Vec<Back>,
 }
 
 impl Model for Stack {
-    ghost use Rattle.std.specs.Prelude.{◌≡◌, reverse};
+    ghost use Rattle.std.specs.Prelude.{reverse};
     ghost use Rattle.aud_meaning.specs.Ties.Single.{Stack as Plain};
     ghost use Rattle.aud_store.specs.Ties.Display.{seen};
-    ghost use Rattle.aud_store.specs.Ties.Stored.{display_of, plain_opened, AreReplaced};
+    ghost use Rattle.aud_store.specs.Ties.Stored.{plain_opened, ArePlaced};
 
     ghost Value = { Plain };
 
     ghost view = { λ s. record {
       display = seen s.display;
-      opened = plain_opened (reverse s.opened.items) s.backs.items;
+      opened = plain_opened s.display (reverse s.opened.items) s.backs.items;
     } };
 
-    ghost invariant = { λ s. (s.display ≡ display_of (reverse s.opened.items))
-        × AreReplaced (reverse s.opened.items) };
+    ghost invariant = { λ s. ArePlaced s.display (reverse s.opened.items) };
 }
 
 impl Stack {
-    /// No open frame.
-    pub(crate) fn new(alloc: Global) -> Self
+    /// No open frame, and none that is seen.
+    pub fn new(alloc: Global) -> Self
         ensures { result ≡ record { display = []; opened = [] } }
     {
         Stack {
@@ -116,6 +128,20 @@ impl Stack {
             display: Display::new(alloc),
             backs: Vec::new(alloc),
         }
+    }
+
+    /// No open frame, and so many of these frames are seen from the outside, the outermost ones: those that the body of a task of
+    /// this level sees where they are seen at its declaration (RM 8.3).
+    pub fn within(alloc: Global, display: &[usize], level: usize) -> Result<Self, AllocError>
+        ensures { IfOk result (λ stack. stack ≡
+            record { display = take level display.now; opened = [] }) }
+    {
+        let outer = &display[..level.min(display.len())];
+        Ok(Stack {
+            opened: Vec::new(alloc),
+            display: Display::of(alloc, outer)?,
+            backs: Vec::new(alloc),
+        })
     }
 
     /// A frame of this number is opened, in which so many names are elaborated; these formals are copied back at its end.
@@ -166,14 +192,14 @@ impl Stack {
     }
 
     /// The innermost open frame.
-    pub(crate) fn innermost(&self) -> Option<Open>
+    pub fn innermost(&self) -> Option<Open>
         ensures { IsInnermost result self.now.opened }
     {
         self.opened.last().copied()
     }
 
     /// The innermost one but for loops within it: that of the construct which is left next.
-    pub(crate) fn construct(&self) -> Option<Open>
+    pub fn construct(&self) -> Option<Open>
         ensures innermost { IsInnermost result (out_of_loops self.now).opened }
         ensures alone { AreOpenedAlone self.now.opened }
     {
@@ -255,11 +281,58 @@ impl Stack {
         self.opened.len()
     }
 
+    /// The frames of the masters under way, the innermost one first (RM 9.3).
+    pub fn masters(&self, alloc: Global) -> Result<Vec<usize>, AllocError>
+        ensures { IfOk result (λ frames. frames.items ≡
+            map (λ o. o.frame) (filter is_master self.now.opened)) }
+    {
+        let masters = masters_of(alloc, &self.opened)?;
+        Ok(masters)
+    }
+
+    /// All open frames, the innermost one first.
+    pub fn frames(&self, alloc: Global) -> Result<Vec<usize>, AllocError>
+        ensures { IfOk result (λ frames. frames.items ≡ map (λ o. o.frame) self.now.opened) }
+    {
+        let frames = numbers_of(alloc, &self.opened)?;
+        Ok(frames)
+    }
+
+    /// The outermost open frame, which is a body's; 0 where none is open.
+    pub fn outermost(&self) -> usize
+        ensures { result ≡ outermost self.now.opened }
+    {
+        match self.opened.first() {
+            Some(open) => open.frame,
+            None => 0,
+        }
+    }
+
     /// The numbers of the frames that are seen, outermost first.
-    pub(crate) fn display(&self) -> &[usize]
+    pub fn display(&self) -> &[usize]
         ensures value { result.now ≡ self.now.display }
         ensures stacked { IsStacked self.now }
     {
         self.display.numbers()
     }
+}
+
+// The numbers of frames, the last one first.
+fn numbers_of(alloc: Global, opened: &[Open]) -> Result<Vec<usize>, AllocError>
+    ensures { IfOk result (λ frames. frames.items ≡ map (λ o. o.frame) (reverse opened.now)) }
+{
+    opened.iter().rev().map(|open| open.frame).collect(alloc)
+}
+
+// Those of masters.
+fn masters_of(alloc: Global, opened: &[Open]) -> Result<Vec<usize>, AllocError>
+    ensures { IfOk result (λ frames. frames.items ≡
+        map (λ o. o.frame) (filter (λ o. is_master (plain_open o [] [])) (reverse opened.now))) }
+{
+    opened
+        .iter()
+        .rev()
+        .filter(|open| open.is_master())
+        .map(|open| open.frame)
+        .collect(alloc)
 }

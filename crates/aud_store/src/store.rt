@@ -8,7 +8,7 @@ ghost use Rattle.aud_meaning.specs.Ties.Single.{closed, closed_times, out_of_loo
 ghost use Rattle.aud_store.specs.Ties.Frames.{with_frame};
 ghost use Rattle.aud_store.specs.Ties.Stored.{copies_of, declared, entered_after, innermost_backs};
 ghost use Rattle.aud_store.specs.Ties.Stored.{innermost_cell, kept_by, plain_purpose, stored};
-ghost use Rattle.aud_store.specs.Ties.Stored.{with_handling, IsInnermost, IsStored};
+ghost use Rattle.aud_store.specs.Ties.Stored.{with_handling, AreMade, IsInnermost, IsStored};
 
 use crate::frames::Frames;
 use crate::stack::{Open, Purpose, Stack};
@@ -19,8 +19,9 @@ use aud_text::place::Pos;
 use aud_typed::program::{Exception, Variable};
 use std::alloc::{AllocError, Global};
 use std::marker::Model;
+use std::mem;
 
-/// The frames of a program of one task: all that were ever made, and those that are open.
+/// The frames of a program: all that were ever made, of whichever task, and those that are open of the task that acts.
 #[derive(Drop)]
 pub struct Store {
     frames: Frames,
@@ -28,14 +29,14 @@ pub struct Store {
 }
 
 impl Model for Store {
-    ghost use Rattle.std.specs.Prelude.{◌<◌, All, length};
-    ghost use Rattle.aud_store.specs.Ties.Stored.{Stored};
+    ghost use Rattle.std.specs.Prelude.{length};
+    ghost use Rattle.aud_store.specs.Ties.Stored.{AreMade, Stored};
 
     ghost Value = { Stored };
 
     ghost view = { λ s. record { frames = s.frames; stack = s.stack } };
 
-    ghost invariant = { λ s. All (λ o. o.frame < length s.frames) s.stack.opened };
+    ghost invariant = { λ s. AreMade (length s.frames) s.stack.opened };
 }
 
 impl Store {
@@ -48,6 +49,16 @@ impl Store {
             frames: Frames::new(alloc),
             stack: Stack::new(alloc),
         }
+    }
+
+    /// Another task acts: its stack comes in place of the one that is here, which is handed back. No frame is copied.
+    pub fn exchange(&mut self, other: &mut Stack)
+        requires made { AreMade (length self.old.frames) other.old.opened }
+        ensures here { self.new ≡ record self.old { stack = other.old } }
+        ensures there { other.new ≡ self.old.stack }
+        ensures made { AreMade (length self.new.frames) other.new.opened }
+    {
+        mem::swap(&mut self.stack, other);
     }
 
     /// A frame with these cells is opened, those of the names that are elaborated; these formals are copied back at its end. It
@@ -189,6 +200,20 @@ impl Store {
         Ok(())
     }
 
+    /// One more name of the innermost frame, with these cells (RM 3.3.1).
+    pub fn declare_cells(&mut self, cells: &[Int32]) -> Result<(), AllocError>
+        ensures declared { OnOk result (self.new ≡ declared cells.now self.old) }
+        ensures kept { OnErr result (self.new ≡ self.old) }
+    {
+        let elaborated = self.elaborated().checked_add(1).ok_or(AllocError)?;
+        let frame = self.innermost_number();
+        if frame < self.frames.len() {
+            self.frames.extend(frame, cells)?;
+        }
+        self.stack.set_elaborated(elaborated);
+        Ok(())
+    }
+
     /// What a cell of the innermost frame holds, or 0 where there is none of this number.
     pub fn innermost_cell(&self, index: usize) -> Int32
         ensures { result ≡ innermost_cell index self.now }
@@ -258,8 +283,15 @@ impl Store {
         self.frames.put(frame, cells);
     }
 
-    // The number of the innermost frame, or 0 where none is open.
-    fn innermost_number(&self) -> usize
+    /// The open frames of the task that acts.
+    pub fn stack(&self) -> &Stack
+        ensures { result.now ≡ self.now.stack }
+    {
+        &self.stack
+    }
+
+    /// The number of the innermost frame, or 0 where none is open.
+    pub fn innermost_number(&self) -> usize
         ensures { result ≡ innermost self.now.stack.opened }
     {
         match self.innermost() {

@@ -1,7 +1,7 @@
 -- The number and the words of each refusal.
 use Rattle.std.specs.Prelude.{ℕ, List, codes}
 use Rattle.aud_text.specs.declared.refusal.Refusal.{Refusal}
-use Rattle.aud_text.specs.declared.refusal.Refusal.TheVariants.{UnknownCommand, BadArgument, LineTooLong, JournalFull, NoProgram, StepBudget, NotAscii, Lexical, Syntax, SourceTooLong, TooDeep, NameNotDeclared, DeclaredTwice, WrongKindOfName, WrongType, WrongNumberOfArguments, NotAVariable, WrongNameAtEnd, ExitWithoutLoop, ReturnOutOfPlace, RaiseWithoutHandler, BadHandlerChoice, NumberTooLarge, OutOfMemory}
+use Rattle.aud_text.specs.declared.refusal.Refusal.TheVariants.{UnknownCommand, BadArgument, LineTooLong, JournalFull, NoProgram, StepBudget, ChoicesFull, NotAscii, Lexical, Syntax, SourceTooLong, TooDeep, NameNotDeclared, DeclaredTwice, WrongKindOfName, WrongType, WrongNumberOfArguments, NotAVariable, WrongNameAtEnd, NoMatchingBody, ExitWithoutLoop, ReturnOutOfPlace, RaiseWithoutHandler, BadHandlerChoice, NumberTooLarge, OutOfMemory}
 
 abbrev pub told : Refusal → ℕ × List ℕ
 told UnknownCommand = (10, codes "unknown command")
@@ -10,6 +10,7 @@ told LineTooLong = (12, codes "line too long")
 told JournalFull = (13, codes "journal full")
 told NoProgram = (14, codes "no program")
 told StepBudget = (17, codes "step budget")
+told ChoicesFull = (18, codes "choice list full")
 told NotAscii = (19, codes "not ASCII")
 told Lexical = (20, codes "lexical")
 told Syntax = (21, codes "syntax")
@@ -22,6 +23,7 @@ told WrongType = (33, codes "wrong type")
 told WrongNumberOfArguments = (34, codes "wrong number of arguments")
 told NotAVariable = (35, codes "not a variable")
 told WrongNameAtEnd = (36, codes "wrong name at end")
+told NoMatchingBody = (37, codes "no matching body")
 told ExitWithoutLoop = (40, codes "exit without loop")
 told ReturnOutOfPlace = (41, codes "return out of place")
 told RaiseWithoutHandler = (42, codes "raise without handler")

@@ -1,11 +1,15 @@
 // Typed programs. Operators and statements that follow one another are lists, so that a program is as deep in memory as its
 // text is nested, however long it is.
 
+ghost use Rattle.std.specs.Prelude.{◌≡◌, IfOk};
+ghost use Rattle.aud_typed.specs.Ties.View.{plain_tasks};
+
 use aud_text::int32::Int32;
 use aud_text::name::Name;
 use aud_text::place::Pos;
 use aud_text::raise::Raise;
 use aud_text::text::Text;
+use std::alloc::{AllocError, Global};
 
 /// A variable: the level of its frame, the main procedure's being 0, and its number there, by declaration.
 #[derive(Clone, Copy, PartialEq, Eq, Debug)]
@@ -96,6 +100,13 @@ pub struct Operation {
     pub right: IntegerExpression,
 }
 
+/// A task, whose number is in a cell: a variable, or an element of an array, by its index (RM 9.1).
+#[derive(Drop, Debug)]
+pub enum TaskName {
+    Single(Variable),
+    Element(ArrayAt, IntegerExpression),
+}
+
 /// An operator of a logical expression (RM 4.4(2)): one that evaluates both sides, or a short circuit.
 #[derive(Clone, Copy, PartialEq, Eq, Debug)]
 pub enum Connective {
@@ -118,6 +129,10 @@ pub enum BooleanExpression {
     Comparison(Relation, Box<BooleanExpression>, Box<BooleanExpression>),
     /// An operand, and others, each with the same operator on what stands before it.
     Chain(Connective, Box<BooleanExpression>, Vec<BooleanExpression>),
+    /// T'Callable (RM 9.9(2)).
+    Callable(TaskName),
+    /// T'Terminated (RM 9.9(3)).
+    Terminated(TaskName),
 }
 
 /// A value for a place that asks for a subtype.
@@ -158,6 +173,32 @@ pub enum TextExpression {
     NewLine,
 }
 
+/// The tasks of one name: a single one, or the elements of an array from its lower bound on (RM 9.1).
+#[derive(Drop, Debug)]
+pub struct Tasks {
+    /// The number of their type.
+    pub task_type: usize,
+    pub name: Name,
+    pub low: i32,
+    pub is_array: bool,
+    pub length: usize,
+}
+
+impl Tasks {
+    /// The same tasks, in memory of their own.
+    pub fn try_clone(&self, alloc: Global) -> Result<Self, AllocError>
+        ensures { IfOk result (λ ts. plain_tasks ts ≡ plain_tasks self.now) }
+    {
+        Ok(Tasks {
+            task_type: self.task_type,
+            name: self.name.try_clone(alloc)?,
+            low: self.low,
+            is_array: self.is_array,
+            length: self.length,
+        })
+    }
+}
+
 /// A statement, or the elaboration of an object declaration, with the place of its first token.
 #[derive(Drop, Debug)]
 #[cycle(statement)]
@@ -168,6 +209,12 @@ pub enum Statement {
     /// The next variable of the innermost frame: an array of this many elements, each with the value of its subtype that is
     /// nearest to zero (RM 3.6; profile choice of the value).
     DeclareArray(Pos, Subtype, usize),
+    /// The next variable of the innermost frame: these tasks, which are created (RM 9.2(1)).
+    DeclareTasks(Pos, Tasks),
+    /// The activation of the task ends whose body it stands in (RM 9.2(5)).
+    Activated(Pos),
+    /// The tasks that its declarative part has created are activated (RM 9.2(3)).
+    Activate(Pos),
     Null(Pos),
     Assign(Pos, Reference, ValueExpression),
     Put(Pos, TextExpression),
@@ -262,24 +309,25 @@ pub struct Statements {
     pub others: Vec<Statement>,
 }
 
-/// How a variable is shown: as a number or as False or True, or as this many of them.
+/// How a variable is shown: as a number or as False or True, or as this many of them, or not at all where it has this many cells.
 #[derive(Clone, Copy, PartialEq, Eq, Debug)]
 pub enum Shown {
     Whole,
     Truth,
     Wholes(usize),
     Truths(usize),
+    Hidden(usize),
 }
 
-/// The name of a variable or constant, and how its value is shown.
+/// The name of a variable, constant or task, and how its value is shown.
 #[derive(Drop, Debug)]
 pub struct Named {
     pub name: Name,
     pub shown: Shown,
 }
 
-/// A procedure's body (RM 6.3): how many frames it sees besides its own, the number of the table of its formals and
-/// variables, and where it begins.
+/// A procedure's body (RM 6.3), or a task's (RM 9.1): how many frames it sees besides its own, the number of the table of its
+/// formals and variables, and where it begins. The first variable of a task's body is the task's own number.
 #[derive(Drop, Debug)]
 pub struct Unit {
     pub level: usize,
@@ -288,12 +336,20 @@ pub struct Unit {
     pub body: Body,
 }
 
-/// A typed program: its procedures, which have blocks and `for` loops.
+/// A task type, or the type of a single task: the unit that is its body (RM 9.1).
+#[derive(Clone, Copy, PartialEq, Eq, Debug)]
+pub struct TaskType {
+    pub unit: usize,
+}
+
+/// A typed program: its procedures and tasks, which have blocks and `for` loops.
 #[derive(Debug)]
 pub struct Program {
     pub name: Name,
-    /// The bodies of the procedures, in the order of their declarations: that of the main procedure first.
+    /// The bodies of the procedures and tasks, in the order of their declarations: that of the main procedure first.
     pub units: Vec<Unit>,
+    /// The types of the tasks, in the order of their declarations.
+    pub tasks: Vec<TaskType>,
     /// The formals, variables and constants of each frame, in the order of their declarations, by the frames' tables.
     pub regions: Vec<Vec<Named>>,
     /// The names of the exceptions that are declared, by their numbers.
@@ -306,6 +362,7 @@ impl Drop for Program {
         let Program {
             name: _,
             units: _,
+            tasks: _,
             regions: _,
             exceptions: _,
         } = self;

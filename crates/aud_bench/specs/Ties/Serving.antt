@@ -42,6 +42,7 @@ behind_steps limits n (Some loaded) = Some (record loaded { now = run limits loa
 abbrev pub behind : Limits → Request → ℕ → Option Loaded → Option Loaded
 behind limits (request.Load source) done loaded = loaded
 behind limits (request.Run n) done loaded = behind_steps limits done loaded
+behind limits (request.Choose choices) done loaded = loaded
 behind limits request.Output done loaded = loaded
 behind limits request.Quit done loaded = loaded
 behind limits (request.Bad why) done loaded = loaded
@@ -55,6 +56,7 @@ abbrev pub EachStepped : Limits → Request → ℕ → Option Loaded → Type 0
 EachStepped limits (request.Run n) done (Some loaded) = HasRun limits n done loaded
 EachStepped limits (request.Run n) done None = Unit {0}
 EachStepped limits (request.Load source) done loaded = Unit {0}
+EachStepped limits (request.Choose choices) done loaded = Unit {0}
 EachStepped limits request.Output done loaded = Unit {0}
 EachStepped limits request.Quit done loaded = Unit {0}
 EachStepped limits (request.Bad why) done loaded = Unit {0}

@@ -1,10 +1,12 @@
-// Truth values in code that is built by hand: what it evaluates to and where it leads, or that it is not sound.
+// Truth values in code that is built by hand, those of tasks among them: what it evaluates to and where it leads, or that it is not
+// sound.
 
 use crate::tests::finds;
 use aud_code::instruction::Instruction;
 use aud_code::line::{Code, EndLine, Ending, Last, Line, Way};
 use aud_code::sound_code::{SoundCode, verify};
 use aud_expr::evaluate::{Evaluation, Outcome, evaluate};
+use aud_expr::facts::Known;
 use aud_expr::operands::Operands;
 use aud_meaning::state::Construct;
 use aud_single::progress::Progress;
@@ -31,6 +33,8 @@ enum Given {
     Relate(Relation),
     Compare(Relation),
     Combine(Logical),
+    IsCallable,
+    IsTerminated,
     PassIfFalse(usize),
     PassIfTrue(usize),
     AppendImage,
@@ -58,7 +62,23 @@ struct Row {
     wanted: Wanted,
 }
 
-const ROWS: [Row; 22] = [
+// Of a task that is under way, of one that is completed, and of one that is terminated.
+const KNOWN: [Known; 3] = [
+    Known {
+        is_callable: true,
+        is_terminated: false,
+    },
+    Known {
+        is_callable: false,
+        is_terminated: false,
+    },
+    Known {
+        is_callable: false,
+        is_terminated: true,
+    },
+];
+
+const ROWS: [Row; 30] = [
     Row {
         name: "a cell holds 1 for True",
         given: &[PushTruth(true), Cell, AppendImage],
@@ -128,6 +148,46 @@ const ROWS: [Row; 22] = [
             AppendTruth,
         ],
         wanted: Puts(b"FALSE", 4),
+    },
+    Row {
+        name: "a task under way is callable",
+        given: &[Push(0), IsCallable, AppendTruth],
+        wanted: Puts(b"TRUE", 3),
+    },
+    Row {
+        name: "and not terminated",
+        given: &[Push(0), IsTerminated, AppendTruth],
+        wanted: Puts(b"FALSE", 3),
+    },
+    Row {
+        name: "a completed task is not callable",
+        given: &[Push(1), IsCallable, AppendTruth],
+        wanted: Puts(b"FALSE", 3),
+    },
+    Row {
+        name: "nor terminated",
+        given: &[Push(1), IsTerminated, AppendTruth],
+        wanted: Puts(b"FALSE", 3),
+    },
+    Row {
+        name: "a terminated one is",
+        given: &[Push(2), IsTerminated, AppendTruth],
+        wanted: Puts(b"TRUE", 3),
+    },
+    Row {
+        name: "a number that no task has",
+        given: &[Push(3), IsTerminated, AppendTruth],
+        wanted: Puts(b"TRUE", 3),
+    },
+    Row {
+        name: "which is not callable",
+        given: &[Push(3), IsCallable, AppendTruth],
+        wanted: Puts(b"FALSE", 3),
+    },
+    Row {
+        name: "no number of a task",
+        given: &[IsCallable, AppendTruth],
+        wanted: Refused,
     },
     Row {
         name: "False and then 1 / 0 = 1",
@@ -255,6 +315,8 @@ fn instruction(given: Given) -> Instruction {
         Relate(relation) => Instruction::Relate(relation),
         Compare(relation) => Instruction::Compare(relation),
         Combine(operator) => Instruction::Combine(operator),
+        IsCallable => Instruction::IsCallable,
+        IsTerminated => Instruction::IsTerminated,
         PassIfFalse(count) => Instruction::PassIfFalse(count),
         PassIfTrue(count) => Instruction::PassIfTrue(count),
         AppendImage => Instruction::AppendImage,
@@ -317,7 +379,7 @@ fn evaluates(
 ) -> Result<(), AllocError> {
     let mut operands = Operands::new(alloc);
     let frames = Frames::new(alloc);
-    let found = evaluate(code, 0, &[], &frames, &mut operands)?;
+    let found = evaluate(code, 0, &KNOWN, &[], &frames, &mut operands)?;
     let Evaluation { outcome, ticks } = found;
     match row.wanted {
         Puts(text, executed) => {

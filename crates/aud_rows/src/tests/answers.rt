@@ -29,6 +29,8 @@ fn says_what_was_done(rt: HostRuntime) -> Result<(), AllocError> {
     let alloc = rt.alloc();
     let name = Name::from_source(alloc, b"First")?;
     says(&rt, alloc, Answer::Loaded(name), b"+ 1\nloaded FIRST\n")?;
+    says(&rt, alloc, Answer::Choices(0), b"+ 1\nchoices 0\n")?;
+    says(&rt, alloc, Answer::Choices(10_000), b"+ 1\nchoices 10000\n")?;
     says(&rt, alloc, Answer::Done, b"+ 0\n")
 }
 

@@ -1,7 +1,7 @@
 // Requests that bytes are read as. A LOAD is written with its source text in braces.
 
 use crate::case::{LongCase, Piece, spelled};
-use crate::tests::finds_for;
+use crate::tests::{finds, finds_for};
 use aud_bench::request::Request;
 use aud_server::requests::read_requests;
 use aud_text::digits::push_decimal;
@@ -25,10 +25,20 @@ fn tell(out: &mut Vec<u8>, request: &Request) -> Result<(), AllocError> {
             push_decimal(out, u64::from(*steps))?;
             out.extend_from_slice(b"\n")
         }
+        Request::Choose(choices) => tell_choices(out, choices.as_slice()),
         Request::Output => out.extend_from_slice(b"OUTPUT\n"),
         Request::Quit => out.extend_from_slice(b"QUIT\n"),
         Request::Bad(why) => between(out, b"", why.refusal().words(), b"\n"),
     }
+}
+
+fn tell_choices(out: &mut Vec<u8>, choices: &[u32]) -> Result<(), AllocError> {
+    out.extend_from_slice(b"CHOOSE")?;
+    for choice in choices {
+        out.extend_from_slice(b" ")?;
+        push_decimal(out, u64::from(*choice))?;
+    }
+    out.extend_from_slice(b"\n")
 }
 
 fn between(out: &mut Vec<u8>, front: &[u8], middle: &[u8], end: &[u8]) -> Result<(), AllocError> {
@@ -52,19 +62,19 @@ fn meets(rt: &impl Abort, alloc: Global, rows: &[(&[u8], &[u8])]) -> Result<(), 
 
 fn meets_long(rt: &impl Abort, alloc: Global, cases: &[LongCase]) -> Result<(), AllocError> {
     for case in cases {
-        let sent = spelled(alloc, case.sent)?;
-        let written = spelled(alloc, case.written)?;
-        reads(rt, alloc, &sent, &written)?;
+        let requests = told(alloc, &spelled(alloc, case.given)?)?;
+        let wanted = spelled(alloc, case.wanted)?;
+        finds(rt, case.name, &requests, &wanted);
     }
     Ok(())
 }
 
 const COMMANDS: [(&[u8], &[u8]); 1] = [(
-    b"LOAD 2\nprocedure M is\nbegin null; end M;\nRUN 10\nOUTPUT\nQUIT\n",
-    b"LOAD {procedure M is\nbegin null; end M;\n}\nRUN 10\nOUTPUT\nQUIT\n",
+    b"LOAD 2\nprocedure M is\nbegin null; end M;\nRUN 10\nCHOOSE 1 22\nOUTPUT\nQUIT\n",
+    b"LOAD {procedure M is\nbegin null; end M;\n}\nRUN 10\nCHOOSE 1 22\nOUTPUT\nQUIT\n",
 )];
 
-const WORDS: [(&[u8], &[u8]); 25] = [
+const WORDS: [(&[u8], &[u8]); 31] = [
     (b"RUN 1\r\n", b"RUN 1\n"),
     (b"RUN  10 \r\n", b"RUN 10\n"),
     (b"RUN 7   \n", b"RUN 7\n"),
@@ -83,6 +93,12 @@ const WORDS: [(&[u8], &[u8]); 25] = [
     (b"RUN 1 2\n", b"bad argument\n"),
     (b"RUN x\n", b"bad argument\n"),
     (b"RUN -1\n", b"bad argument\n"),
+    (b"CHOOSE 0\n", b"CHOOSE 0\n"),
+    (b" CHOOSE  09  0000009999 1 \r\n", b"CHOOSE 9 9999 1\n"),
+    (b"CHOOSE\n", b"bad argument\n"),
+    (b"CHOOSE 1 2\t\n", b"bad argument\n"),
+    (b"CHOOSE 1 10000\n", b"bad argument\n"),
+    (b"CHOOSE 4294967296 1\n", b"bad argument\n"),
     (b"OUTPUT 1\n", b"bad argument\n"),
     (b"QUIT now\n", b"bad argument\n"),
     (b"run 1\n", b"unknown command\n"),
@@ -116,66 +132,66 @@ const BAD: [(&[u8], &[u8]); 2] = [
 const LONG: [LongCase; 7] = [
     LongCase {
         name: "1,024 bytes",
-        sent: &[
+        given: &[
             Piece::Text(b"RUN 5"),
             Piece::Many(1_019, b" "),
             Piece::Text(b"\n"),
         ],
-        written: &[Piece::Text(b"RUN 5\n")],
+        wanted: &[Piece::Text(b"RUN 5\n")],
     },
     LongCase {
         name: "1,025 bytes",
-        sent: &[
+        given: &[
             Piece::Text(b"RUN 5"),
             Piece::Many(1_020, b" "),
             Piece::Text(b"\n"),
         ],
-        written: &[Piece::Text(b"line too long\n")],
+        wanted: &[Piece::Text(b"line too long\n")],
     },
     LongCase {
         name: "the carriage return counts",
-        sent: &[
+        given: &[
             Piece::Text(b"RUN 5"),
             Piece::Many(1_019, b" "),
             Piece::Text(b"\r\n"),
         ],
-        written: &[Piece::Text(b"line too long\n")],
+        wanted: &[Piece::Text(b"line too long\n")],
     },
     LongCase {
         name: "a line that is too long and not ASCII is too long",
-        sent: &[
+        given: &[
             Piece::Text(b"\xff"),
             Piece::Many(1_024, b" "),
             Piece::Text(b"\n"),
         ],
-        written: &[Piece::Text(b"line too long\n")],
+        wanted: &[Piece::Text(b"line too long\n")],
     },
     LongCase {
         name: "all lines of a LOAD are read, and the first bad one decides: it is not ASCII",
-        sent: &[
+        given: &[
             Piece::Text(b"LOAD 3\na\xc3\xa4\n"),
             Piece::Many(1_989, b" "),
             Piece::Text(b"\nb\nRUN 1\n"),
         ],
-        written: &[Piece::Text(b"not ASCII\nRUN 1\n")],
+        wanted: &[Piece::Text(b"not ASCII\nRUN 1\n")],
     },
     LongCase {
         name: "all lines of a LOAD are read, and the first bad one decides: it is too long",
-        sent: &[
+        given: &[
             Piece::Text(b"LOAD 2\n"),
             Piece::Many(1_993, b" "),
             Piece::Text(b"\na\x80\nRUN 1\n"),
         ],
-        written: &[Piece::Text(b"line too long\nRUN 1\n")],
+        wanted: &[Piece::Text(b"line too long\nRUN 1\n")],
     },
     LongCase {
         name: "a LOAD whose own line is too long has no lines behind it",
-        sent: &[
+        given: &[
             Piece::Text(b"LOAD 1"),
             Piece::Many(1_019, b" "),
             Piece::Text(b"\nRUN 1\n"),
         ],
-        written: &[Piece::Text(b"line too long\nRUN 1\n")],
+        wanted: &[Piece::Text(b"line too long\nRUN 1\n")],
     },
 ];
 

@@ -10,8 +10,8 @@ abbrev pub asked : Kept → Command
 asked (kept.Whole r) = Whole r
 asked (kept.Loads n) = Loads n
 
--- with the one number of the arguments, if it is one in the range
-abbrev pub given : Option ℕ → (ℕ → Command) → Command
+-- with what the arguments say, if they are as they have to be
+abbrev pub given : {A : Type 0} → Option A → (A → Command) → Command
 given None use_of = wrong_argument
 given (Some n) use_of = use_of n
 

@@ -171,12 +171,15 @@ fn value_of(cells: &[Int32], index: usize) -> Int32
 }
 
 // Where the step at a place leads first, if it leads anywhere.
-fn first_way(code: &SoundCode, place: usize) -> usize
+pub(super) fn first_way(code: &SoundCode, place: usize) -> usize
     ensures { result ≡ first_way code.now place }
 {
     match code.ending(place) {
         Some(end) => match end.last {
-            Last::Does(_, next) => next,
+            Last::Does(_, next)
+            | Last::DeclaresTasks(_, next)
+            | Last::Activates(next)
+            | Last::EndsActivation(next) => next,
             Last::Continues { behind, .. } => behind,
             Last::Guards(_) | Last::Ends(_, _) | Last::Leaves { .. } => place,
         },

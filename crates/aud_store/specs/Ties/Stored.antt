@@ -1,5 +1,5 @@
--- What is kept of the frames of a program of one task.
-use Rattle.std.specs.Prelude.{◌≡◌, ◌<◌, ◌-◌, ℕ, suc, ℤ, pos, List, [], ◌∷◌, ◌++◌, length, min, take, drop, All, Option, Some, None, Bool, false, slice_index_or}
+-- What is kept of the frames of a program, with those that are open of the task that acts.
+use Rattle.std.specs.Prelude.{◌≡◌, ◌<◌, ◌≤◌, ◌-◌, ℕ, suc, ℤ, pos, List, [], ◌∷◌, ◌++◌, length, min, take, drop, All, Option, Some, None, Bool, false, slice_index_or}
 use Rattle.aud_text.specs.declared.place.Pos.{Pos}
 use Rattle.aud_typed.specs.declared.program.Exception.{Exception}
 use Rattle.aud_meaning.specs.Configuration.{Frame, Back, Target, Opened, for_body, for_block, for_loop, for_procedure, for_operation, for_entry, for_accept}
@@ -9,7 +9,7 @@ use Rattle.aud_meaning.specs.Ties.Single.{Stack, AreOpenedAlone, on_innermost, o
 use Rattle.aud_store.specs.declared.stack.Purpose.{Purpose}
 use Rattle.aud_store.specs.declared.stack.Purpose.TheVariants.{Body, Block, Loop, Procedure}
 use Rattle.aud_store.specs.declared.stack.Open.{Open}
-use Rattle.aud_store.specs.Ties.Display.{Display, placed, stands}
+use Rattle.aud_store.specs.Ties.Display.{Display, seen, placed, put_back, stands}
 use Rattle.aud_store.specs.Ties.Frames.{with_frame}
 
 -- all frames ever made, and those that are open
@@ -38,11 +38,6 @@ abbrev pub kept_of : Purpose → ℕ → ℕ
 kept_of (Procedure level copies into) n = min level n
 kept_of purpose n = n
 
--- the frames that are seen from the first of these, which is the innermost one
-abbrev pub seen_from : List Open → List ℕ
-seen_from [] = []
-seen_from (o ∷ os) = kept_by o.purpose (seen_from os) ++ o.frame ∷ []
-
 -- of copies of all calls, the last of which are the innermost frame's: those, and the others
 abbrev pub own_backs : Purpose → List Back → List Back
 own_backs purpose backs = drop (length backs - copies_of purpose) backs
@@ -54,19 +49,20 @@ outer_backs purpose backs = take (length backs - copies_of purpose) backs
 abbrev pub plain_open : Open → List ℕ → List Back → Opened
 plain_open o saved backs = record { frame = o.frame; region = o.region; elaborated = o.elaborated; handling = o.handling; saved = saved; at = o.at; purpose = plain_purpose o.purpose backs }
 
-abbrev pub plain_opened : List Open → List Back → List Opened
-plain_opened [] backs = []
-plain_opened (o ∷ os) backs = plain_open o (seen_from os) (own_backs o.purpose backs) ∷ plain_opened os (outer_backs o.purpose backs)
+-- the first of them is the innermost one; behind each, those are seen again that were seen before it was opened
+abbrev pub plain_opened : Display → List Open → List Back → List Opened
+plain_opened display [] backs = []
+plain_opened display (o ∷ os) backs =
+    plain_open o (seen (put_back o.replaced display)) (own_backs o.purpose backs) ∷ plain_opened (put_back o.replaced display) os (outer_backs o.purpose backs)
 
--- the numbers as these were opened one after the other
-abbrev pub display_of : List Open → Display
-display_of [] = record { numbers = []; count = 0 }
-display_of (o ∷ os) = placed (kept_of o.purpose (display_of os).count) o.frame (display_of os)
+-- it was opened behind what it sees of what was seen before, and knows what its number stands in place of
+abbrev pub IsPlaced : Open → Display → Display → Type 0
+IsPlaced o before display = (display ≡ placed (kept_of o.purpose before.count) o.frame before) × (o.replaced ≡ stands (kept_of o.purpose before.count) before)
 
--- each knows what its number stands in place of
-abbrev pub AreReplaced : List Open → Type 0
-AreReplaced [] = Unit {0}
-AreReplaced (o ∷ os) = (o.replaced ≡ stands (kept_of o.purpose (display_of os).count) (display_of os)) × AreReplaced os
+-- so it is with each, innermost first, behind as many as were seen before any was opened
+abbrev pub ArePlaced : Display → List Open → Type 0
+ArePlaced display [] = display.count ≤ length display.numbers
+ArePlaced display (o ∷ os) = IsPlaced o (put_back o.replaced display) display × ArePlaced (put_back o.replaced display) os
 
 -- the innermost open frame
 abbrev pub IsInnermost : Option Open → List Opened → Type 0
@@ -145,21 +141,33 @@ abbrev pub AreKept : meaning.Purpose → List ℕ → List ℕ → Type 0
 AreKept (for_procedure r) saved kept = (level : ℕ) × (kept ≡ take level saved)
 AreKept purpose saved kept = kept ≡ saved
 
+-- the frames that are seen where none of these is open: those that the task sees from the outside, which for the main procedure are none
+abbrev pub outside_by : List Opened → List ℕ → List ℕ
+outside_by [] seen = seen
+outside_by (o ∷ os) seen = outside_by os o.saved
+
+abbrev pub outside : Stack → List ℕ
+outside s = outside_by s.opened s.display
+
 -- these are seen from the first of the open frames, which is the innermost one
-abbrev pub AreSeen : List Opened → List ℕ → Type 0
-AreSeen [] seen = seen ≡ []
-AreSeen (o ∷ os) seen = (kept : List ℕ) × (AreKept o.purpose o.saved kept × (seen ≡ kept ++ o.frame ∷ []))
+abbrev pub AreSeen : List ℕ → List Opened → List ℕ → Type 0
+AreSeen outer [] seen = seen ≡ outer
+AreSeen outer (o ∷ os) seen = (kept : List ℕ) × (AreKept o.purpose o.saved kept × (seen ≡ kept ++ o.frame ∷ []))
 
 -- before each was opened, those were seen that are seen from the one around it
-abbrev pub AreSaved : List Opened → Type 0
-AreSaved [] = Unit {0}
-AreSaved (o ∷ os) = AreSeen os o.saved × AreSaved os
+abbrev pub AreSaved : List ℕ → List Opened → Type 0
+AreSaved outer [] = Unit {0}
+AreSaved outer (o ∷ os) = AreSeen outer os o.saved × AreSaved outer os
 
 pub record IsStacked (s : Stack) : Type 0 where
-  pub seen : AreSeen s.opened s.display
-  pub saved : AreSaved s.opened
+  pub seen : AreSeen (outside s) s.opened s.display
+  pub saved : AreSaved (outside s) s.opened
   pub alone : AreOpenedAlone s.opened
+
+-- each of these frames is one of so many
+abbrev pub AreMade : ℕ → List Opened → Type 0
+AreMade count opened = All (λ o. o.frame < count) opened
 
 pub record IsStored (s : Stored) : Type 0 where
   pub stacked : IsStacked s.stack
-  pub made : All (λ o. o.frame < length s.frames) s.stack.opened
+  pub made : AreMade (length s.frames) s.stack.opened

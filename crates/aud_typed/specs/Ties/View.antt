@@ -1,4 +1,4 @@
--- The plain program of a program in memory. It has as yet nothing of tasks.
+-- The plain program of a program in memory. It has as yet nothing of entries and objects.
 use Rattle.std.specs.Prelude.{List, [], ◌∷◌, map, None, Vec}
 use Rattle.std.specs.Global.{Global}
 use Rattle.aud_typed.specs.declared.program.IntegerExpression.{IntegerExpression, Number, Variable, Element', Unary', Chain', Row_of-Operation, end_of-Operation, more_of-Operation}
@@ -6,6 +6,8 @@ use Rattle.aud_typed.specs.declared.program.Connective.{Connective}
 use Rattle.aud_typed.specs.declared.program.Connective.TheVariants.{Logical, AndThen, OrElse}
 use Rattle.aud_typed.specs.declared.program.BooleanExpression as boolean
 use Rattle.aud_typed.specs.declared.program.BooleanExpression.{BooleanExpression, Row_of-BooleanExpression, end_of-BooleanExpression, more_of-BooleanExpression}
+use Rattle.aud_typed.specs.declared.program.TaskName.{TaskName}
+use Rattle.aud_typed.specs.declared.program.TaskName.TheVariants as named
 use Rattle.aud_typed.specs.declared.program.ValueExpression.{ValueExpression}
 use Rattle.aud_typed.specs.declared.program.ValueExpression.TheVariants.{Whole, Truth}
 use Rattle.aud_typed.specs.declared.program.Reference.{Reference}
@@ -13,7 +15,8 @@ use Rattle.aud_typed.specs.declared.program.Reference.TheVariants as reference
 use Rattle.aud_typed.specs.declared.program.Argument.{Argument}
 use Rattle.aud_typed.specs.declared.program.Argument.TheVariants.{ByValue, ByCopy}
 use Rattle.aud_typed.specs.declared.program.TextExpression.{TextExpression, Literal, Image, ImageTruth, Join', NewLine, Row_of-TextExpression, end_of-TextExpression, more_of-TextExpression}
-use Rattle.aud_typed.specs.declared.program.Statement.{Statement, Declare, DeclareArray, Null, Assign, Put, If', While', Loop', For', Exit, Raise, RaiseAgain, Block', Return, ProcedureCall, Row_of-Statement, end_of-Statement, more_of-Statement}
+use Rattle.aud_typed.specs.declared.program.Statement.{Statement, Declare, DeclareArray, DeclareTasks, Activated, Activate, Null, Assign, Put, If', While', Loop', For', Exit, Raise, RaiseAgain, Block', Return, ProcedureCall, Row_of-Statement, end_of-Statement, more_of-Statement}
+use Rattle.aud_typed.specs.declared.program.Tasks.{Tasks}
 use Rattle.aud_typed.specs.declared.program.IfStatement.{IfStatement, IfStatement', out-IfStatement, Row_of-Arm, end_of-Arm, more_of-Arm}
 use Rattle.aud_typed.specs.declared.program.Arm.{Arm}
 use Rattle.aud_typed.specs.declared.program.ForStatement.{ForStatement, out-ForStatement}
@@ -26,6 +29,7 @@ use Rattle.aud_typed.specs.declared.program.Shown.{Shown}
 use Rattle.aud_typed.specs.declared.program.Shown.TheVariants as shown
 use Rattle.aud_typed.specs.declared.program.Named.{Named}
 use Rattle.aud_typed.specs.declared.program.Unit as declared
+use Rattle.aud_typed.specs.declared.program.TaskType.{TaskType}
 use Rattle.aud_typed.specs.declared.program.Program.{Program}
 use Rattle.aud_typed.specs.Tree as tree
 use Rattle.aud_typed.specs.Tree.{before, part_of, Part, some, Handlers, no_handlers, handler}
@@ -52,6 +56,10 @@ abbrev pub all_connected : Connective → tree.BooleanExpression → List tree.B
 all_connected c left [] = left
 all_connected c left (x ∷ xs) = all_connected c (connected c left x) xs
 
+abbrev pub plain_task : TaskName → tree.TaskName
+plain_task (named.Single v) = tree.single v
+plain_task (named.Element a index) = tree.indexed a (plain_integer index)
+
 abbrev mutual
   pub plain_boolean : BooleanExpression → tree.BooleanExpression
   plain_boolean (boolean.Truth b) = tree.truth b
@@ -61,6 +69,8 @@ abbrev mutual
   plain_boolean (boolean.Relation operator x y) = tree.relation operator (plain_integer x) (plain_integer y)
   plain_boolean (boolean.Comparison' operator _ x _ y) = tree.comparison operator (plain_boolean x) (plain_boolean y)
   plain_boolean (boolean.Chain' connective _ x _ rest) = all_connected connective (plain_boolean x) (plain_booleans rest)
+  plain_boolean (boolean.Callable t) = tree.callable (plain_task t)
+  plain_boolean (boolean.Terminated t) = tree.terminated (plain_task t)
 
   pub plain_booleans : {n : _} → Row_of-BooleanExpression n → List tree.BooleanExpression
   plain_booleans end_of-BooleanExpression = []
@@ -93,10 +103,16 @@ abbrev mutual
   plain_texts end_of-TextExpression = []
   plain_texts (more_of-TextExpression x rest) = plain_text x ∷ plain_texts rest
 
+abbrev pub plain_tasks : Tasks → tree.Tasks
+plain_tasks ts = record { task_type = ts.task_type; name = ts.name; low = ts.low; is_array = ts.is_array; length = ts.length }
+
 abbrev mutual
   pub plain_statement : Statement → tree.Statement
   plain_statement (Declare at up_to e) = tree.declare at up_to (plain_value e)
   plain_statement (DeclareArray at t n) = tree.declare_array at t n
+  plain_statement (DeclareTasks at ts) = tree.declare_tasks at (plain_tasks ts)
+  plain_statement (Activated at) = tree.activated at
+  plain_statement (Activate at) = tree.activate at
   plain_statement (Null at) = tree.null at
   plain_statement (Assign at r e) = tree.assign at (plain_reference r) (plain_value e)
   plain_statement (Put at t) = tree.put at (plain_text t)
@@ -143,6 +159,7 @@ plain_shown shown.Whole = tree.as_whole
 plain_shown shown.Truth = tree.as_truth
 plain_shown (shown.Wholes n) = tree.as_wholes n
 plain_shown (shown.Truths n) = tree.as_truths n
+plain_shown (shown.Hidden n) = tree.hidden n
 
 abbrev pub plain_named : Named → tree.Named
 plain_named n = record { name = n.name; shown = plain_shown n.shown }
@@ -154,9 +171,10 @@ abbrev pub plain_unit : declared.Unit → tree.UnitBody
 plain_unit u = record { level = u.level; region = u.region; at = u.at; body = plain_body u.body }
 
 abbrev pub plain_program : Program → tree.Program
-plain_program p = tree.program_of_procedures (record {
+plain_program p = tree.program_of_units (record {
   name = p.name;
   units = map plain_unit p.units.items;
+  tasks = map (λ (t : TaskType). t.unit) p.tasks.items;
   regions = map plain_region p.regions.items;
   exceptions = p.exceptions.items;
 })

@@ -1,7 +1,8 @@
-use Rattle.std.specs.Prelude.{ℕ}
+use Rattle.std.specs.Prelude.{ℕ, List, map}
 use Rattle.std.proofs.Common.{◌≡◌, ap, sym, subst, ◌∙◌}
 use Rattle.aud_syntax.specs.Ties.View.{plain_declarations, plain_body}
 use Rattle.aud_syntax.proofs.Opened.{body_open}
+use Rattle.aud_typed.specs.declared.program.TaskType.{TaskType}
 use Rattle.aud_typed.specs.Tree as tree
 use Rattle.aud_typed.specs.Ties.View.{plain_body as plain_typed_body, plain_unit as plain_typed_unit}
 use Rattle.aud_names.specs.Least.{noted}
@@ -53,4 +54,5 @@ returns c =
     let final : Tables = plain_tables c.put_unit.new.self in
     let ended : final ≡ with_unit 0 whole.made whole.tables =
     c.put_unit.ensures ∙ ap (λ v. with_unit 0 (plain_typed_unit v) u) c.into_inner.ensures ∙ ap (λ v. with_unit 0 v u) checked.2 ∙ ap (with_unit 0 whole.made) checked.1 in
-    (checked.0, ap (λ n. program_with n final) c.in_ok-name.ensures ∙ ap (program_with main.name) ended)
+    let with_tasks : List TaskType → tree.Program = λ ts. tree.program_of_units (record { name = c.in_ok-name.name; units = final.units; tasks = map (λ (t : TaskType). t.unit) ts; regions = final.regions; exceptions = final.exceptions }) in
+    (checked.0, ap with_tasks c.new-2.ensures.items ∙ ap (λ n. program_with n final) c.in_ok-name.ensures ∙ ap (program_with main.name) ended)

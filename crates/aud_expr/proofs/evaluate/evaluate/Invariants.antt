@@ -4,6 +4,6 @@ use Rattle.aud_expr.proofs.evaluate.evaluate.Given as goal
 
 abbrev pub invariant-loop-place : goal.invariant-loop-place
 invariant-loop-place l = record {
-  stands : Stands l.display l.frames l.code.lines l.fn.first l.place l.ticks l.passed l.operands;
+  stands : Stands l.known l.display l.frames l.code.lines l.fn.first l.place l.ticks l.passed l.operands;
   few : l.ticks + l.fn.first ≤ l.place;
 }

@@ -31,13 +31,13 @@ loop-steps-preserved c =
     let taken = c.in_ok-executed.ensures in
     let only : c.moves.result ≡ 1 = omega (arith, c.moves.ensures.one, c.if-moves-eq0.false) in
     let enabled = rw only at c.moves.ensures.enabled in
-    let step = one_step units code c.loop-steps.progress c.step.new.self enabled taken.next in
-    let both = then_on units code 1 _ c.run_fast-fast.result.steps c.run_fast-fast.result.ticks c.loop-steps.progress c.step.new.self c.run_fast-fast.new.self step (fast.leads units) in
+    let step = one_step units code c.loop-steps.progress c.step.new.self c.in_ok-executed.executed enabled taken.next taken.ticks in
+    let both = then_on units code 1 c.in_ok-executed.executed c.run_fast-fast.result.steps c.run_fast-fast.result.ticks c.loop-steps.progress c.step.new.self c.run_fast-fast.new.self step (fast.leads units) in
     let all = then_on units code c.loop-steps.steps so_far.total (1 + c.run_fast-fast.result.steps) _ c.args.progress.now c.loop-steps.progress c.run_fast-fast.new.self so_far.leads both in
     record {
-      total = so_far.total + (_ + c.run_fast-fast.result.ticks);
+      total = so_far.total + (c.in_ok-executed.executed + c.run_fast-fast.result.ticks);
       leads = all;
-      counted = omega (arith, so_far.counted, taken.ticks, c.saturating_add.ensures, c.saturating_add-ticks.ensures);
+      counted = omega (arith, so_far.counted, c.saturating_add.ensures, c.saturating_add-ticks.ensures);
       within = omega (arith, fast.within, c.loop-steps-test.true);
       fits = fast.fits;
       steps_taken = omega (arith, fast.steps, taken.steps, so_far.steps_taken);

@@ -1,7 +1,9 @@
-use Rattle.std.proofs.Common.{◌<◌, refl, subst, arith}
+use Rattle.std.proofs.Common.{◌<◌, ◌∙◌, refl, subst, sym, arith}
+use Rattle.aud_typed.specs.Ties.View.{plain_program}
 use Rattle.aud_single.specs.Shown.{plans_of}
 use Rattle.aud_single.specs.Steps.{StepsTo}
 use Rattle.aud_single.specs.declared.run.Ran.{Ran}
+use Rattle.aud_single.proofs.Running.{same_by}
 use Rattle.aud_machine.proofs.Bridges.{none_taken, step_shown, step_did, one_taken}
 use Rattle.aud_machine.proofs.machine.Machine.take.Goals as goal
 
@@ -23,3 +25,9 @@ returns-clause-takes c =
     let after = step_shown inside.program inside.code is inside.limits inside.progress new ran shown next h.all in
     let did = step_did inside.program inside.code is inside.limits inside.progress new ran shown next h.all refl stepped.steps c.state-state.ensures in
     one_taken inside.program inside.code is inside.limits inside.progress new ran shown next h.all c.moves.result c.args.nth _ _ c.moves.ensures.enabled c.moves.ensures.one within (record { alive = refl; all = after }) did)
+
+pub returns-clause-ticks : goal.returns-clause-ticks
+returns-clause-ticks c =
+    let inside = c.self.inside in
+    let name = inside.program.name in
+    rw (← c.self.view_is) (c.in_ok-ticks.ensures.ticks name ∙ sym (same_by (plain_program inside.program).plan name inside.limits inside.code inside.progress inside.progress.stage))

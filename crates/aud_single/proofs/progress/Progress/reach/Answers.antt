@@ -7,6 +7,7 @@ use Rattle.aud_code.specs.View.{plain_end}
 use Rattle.aud_code.proofs.Framing.{end_found}
 use Rattle.aud_single.specs.Shown.{plans_of}
 use Rattle.aud_single.proofs.Fitting.{Meets, has_frames, meets, ends_back, fits_on}
+use Rattle.aud_single.proofs.Growing.{Grows, ends_grows}
 use Rattle.aud_single.proofs.progress.Progress.reach.Goals as goal
 use Rattle.aud_single.proofs.progress.Progress.reach.Goals.{In-Some, After-end}
 
@@ -47,4 +48,11 @@ pub returns-clause-fits : goal.returns-clause-fits
 returns-clause-fits c =
     map_ok c.end.result
     (λ is. fits_on (plans_of c.args.units.now) c.args.code.now c.ending.ensures.sound c.args.self.now c.end.new.self c.in-Some.ending.now c.args.operands.now (at_end (goal.at.returns-clause-fits c).After-end) c.requires.runs is)
+    c.end.ensures.does
+
+pub returns-clause-grows : goal.returns-clause-grows
+returns-clause-grows c =
+    let l = c.in-Some.ending.now in
+    map_ok c.end.result
+    (λ is. subst (Grows c.args.self.now) (sym is) (ends_grows c.args.self.now c.args.code.now (plans_of c.args.units.now) l.last l.at c.args.operands.now))
     c.end.ensures.does

@@ -1,8 +1,8 @@
-use Rattle.std.proofs.Common.{List, Some, refl, ap, ◌∙◌}
+use Rattle.std.proofs.Common.{List, Some, refl, ap}
 use Rattle.aud_meaning.specs.Configuration.{Opened}
 use Rattle.aud_meaning.specs.Ties.Single.{Stack}
 use Rattle.aud_store.specs.Ties.Display.{seen}
-use Rattle.aud_store.proofs.Opened.{IsLast, seen_turned, opened_turned, none_changed}
+use Rattle.aud_store.proofs.Opened.{IsLast, placed_turned, opened_turned, none_changed}
 use Rattle.aud_store.proofs.stack.Stack.handle.Goals as goal
 use Rattle.aud_store.proofs.stack.Stack.handle.Goals.{in-Some, in_default}
 
@@ -12,7 +12,7 @@ invariant_of-self c = elim c.match-last_mut.branch [
       let opened = c.self.inside.opened in
       let old = w.in-Some.open.now in
       let last : IsLast opened.items opened.len old = record { counted = opened.ok.0; some = w.in-Some.ensures.variant.0 refl; at = w.in-Some.ensures.value } in
-      seen_turned c.self.inside.display opened.items opened.len old (record old { handling = Some c.args.exception }) last (record { frame = refl; purpose = refl; replaced = refl }) c.self.invariant)
+      placed_turned c.self.inside.display opened.items opened.len old (record old { handling = Some c.args.exception }) last (record { frame = refl; purpose = refl; replaced = refl }) c.self.invariant)
   | in_default w ↦ rw w.self-inside-is c.self.invariant
 ]
 
@@ -25,6 +25,6 @@ returns c =
       | in-Some w ↦ rw (w.self-inside-is, ← c.self.view_is) (
           let old = w.in-Some.open.now in
           let last : IsLast opened.items opened.len old = record { counted = opened.ok.0; some = w.in-Some.ensures.variant.0 refl; at = w.in-Some.ensures.value } in
-          ap with (opened_turned changed opened.items c.self.inside.backs.items opened.len old (record old { handling = Some c.args.exception }) last refl (λ saved own. refl)))
-      | in_default w ↦ rw (w.self-inside-is, ← c.self.view_is) (ap with (none_changed changed opened.items c.self.inside.backs.items w.in_default.ensures.item.3))
+          ap with (opened_turned changed c.self.inside.display opened.items c.self.inside.backs.items opened.len old (record old { handling = Some c.args.exception }) last (record { frame = refl; purpose = refl; replaced = refl }) (λ saved own. refl)))
+      | in_default w ↦ rw (w.self-inside-is, ← c.self.view_is) (ap with (none_changed changed c.self.inside.display opened.items c.self.inside.backs.items w.in_default.ensures.item.3))
     ]

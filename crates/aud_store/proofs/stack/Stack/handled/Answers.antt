@@ -11,10 +11,10 @@ pub returns-in_err-open : goal.returns-in_err-open
 returns-in_err-open c = rw (c.from_residual.ensures, ← c.self.view_is) (
     let found : option_map (λ y. y.now) c.find.result ≡ find (λ (o : Open). is_some o.handling) (reverse c.self.inside.opened.items) =
     find_from_yields_List (λ (o : Open). is_some o.handling) _ _ c.find.result c.find.ensures.ran (YieldsList-from_rev_slice c.self.inside.opened.items cc) (λ x b q k. search (rules, tests)) in
-    sym (first_handled (reverse c.self.inside.opened.items) c.self.inside.backs.items ∙ ap (option_and_then (λ o. o.handling)) (sym found ∙ ap (option_map (λ y. y.now)) c.in_err-open.was)))
+    sym (first_handled c.self.inside.display (reverse c.self.inside.opened.items) c.self.inside.backs.items ∙ ap (option_and_then (λ o. o.handling)) (sym found ∙ ap (option_map (λ y. y.now)) c.in_err-open.was)))
 
 pub returns : goal.returns
 returns c = rw (← c.self.view_is) (
     let found : option_map (λ y. y.now) c.find.result ≡ find (λ (o : Open). is_some o.handling) (reverse c.self.inside.opened.items) =
     find_from_yields_List (λ (o : Open). is_some o.handling) _ _ c.find.result c.find.ensures.ran (YieldsList-from_rev_slice c.self.inside.opened.items cc) (λ x b q k. search (rules, tests)) in
-    sym (first_handled (reverse c.self.inside.opened.items) c.self.inside.backs.items ∙ ap (option_and_then (λ o. o.handling)) (sym found ∙ ap (option_map (λ y. y.now)) c.in_ok-open.was)))
+    sym (first_handled c.self.inside.display (reverse c.self.inside.opened.items) c.self.inside.backs.items ∙ ap (option_and_then (λ o. o.handling)) (sym found ∙ ap (option_map (λ y. y.now)) c.in_ok-open.was)))

@@ -1,4 +1,4 @@
-use Rattle.std.proofs.Common.{◌≡◌, ◌∷◌, ◌-◌, length, take, ap, ◌∙◌, arith}
+use Rattle.std.proofs.Common.{◌≡◌, ◌-◌, length, take, ap, ◌∙◌, arith}
 use Rattle.aud_store.specs.Ties.Stored.{copies_of}
 use Rattle.aud_store.proofs.Opened.{left_numbers, left_open, room_behind}
 use Rattle.aud_store.proofs.stack.Stack.leave.Goals as goal

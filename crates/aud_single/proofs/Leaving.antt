@@ -1,0 +1,101 @@
+-- Where a task stands, and which master its next step leaves.
+use Rattle.std.proofs.Common.{◌≡◌, ℕ, List, Option, Some, None, Bool, true, false, not, refl, sym, ap, ◌∙◌, subst}
+use Rattle.aud_typed.specs.Tree.{Plan}
+use Rattle.aud_meaning.specs.Configuration.{Pending}
+use Rattle.aud_meaning.specs.Control.{Coming, simply, ending, selecting, calling, starting}
+use Rattle.aud_meaning.specs.Evaluation.{Sight}
+use Rattle.aud_meaning.specs.Statements.{coming_raised}
+use Rattle.aud_meaning.specs.Run.{master_left_by}
+use Rattle.aud_meaning.specs.Ties.Single.{Stage, Stack, Single, runs, completed, terminated, own_in, out_of_loops}
+use Rattle.aud_code.specs.declared.line.EndLine.{EndLine}
+use Rattle.aud_code.specs.declared.line.Ending.TheVariants.{Declare, DeclareArray, Null, Assign, Put, If, While, Loop, Exit, Raise, RaiseAgain, Block, Return, Call}
+use Rattle.aud_code.specs.declared.line.Last.{Last}
+use Rattle.aud_code.specs.declared.line.Last.TheVariants.{Does, DeclaresTasks, Activates, EndsActivation, Continues, Guards, Ends, Leaves}
+use Rattle.aud_code.specs.Places.{Spot, is_there}
+use Rattle.aud_code.specs.Instruction.{Ended, no_operands}
+use Rattle.aud_code.specs.Eval.{eval}
+use Rattle.aud_code.specs.Flat.{Flat, coming_at, instructions_at, end_at, no_end, no_scene, coming_last, handler_at}
+use Rattle.aud_code.specs.Flat as flat
+use Rattle.aud_code.specs.View.{plain_end, plain_last}
+use Rattle.aud_single.specs.Shown.{raised_in}
+use Rattle.aud_single.specs.Standing.{leaves_by, IsLeaving, LeavesIn, IsOfMaster, LeavesMaster}
+
+-- whether a step leaves a construct, by how it ends
+leaving : (plan : Plan) (last : Last) (s : Sight) (x : Ended) → IsLeaving (leaves_by last) (coming_last plan (plain_last last) s x)
+leaving plan (Does (Declare up_to again) next) s x = refl
+leaving plan (Does (DeclareArray t n) next) s x = refl
+leaving plan (Does Null next) s x = refl
+leaving plan (Does Assign next) s x = refl
+leaving plan (Does Put next) s x = refl
+leaving plan (Does (If inside) next) s x = refl
+leaving plan (Does (While inside) next) s x = refl
+leaving plan (Does (Loop f inside) next) s x = refl
+leaving plan (Does (Exit w) next) s x = refl
+leaving plan (Does (Raise y) next) s x = refl
+leaving plan (Does RaiseAgain next) s x = refl
+leaving plan (Does (Block region inside) next) s x = refl
+leaving plan (Does (Return w) next) s x = refl
+leaving plan (Does (Call unit) next) s x = refl
+leaving plan (DeclaresTasks ts next) s x = refl
+leaving plan (Activates next) s x = refl
+leaving plan (EndsActivation next) s x = refl
+leaving plan (Continues f behind inside) s x = refl
+leaving plan (Guards gs) s x = refl
+leaving plan (Ends c next) s x = refl
+leaving plan (Leaves n to) s x = refl
+
+module _ (code : Flat) (q : Single Spot) (leaves : Bool) where
+  pub statement_leaves : (l : EndLine) → q.stage ≡ runs None → plain_end l ≡ end_at code q.control.place → leaves ≡ leaves_by l.last → LeavesIn code q q.stage leaves
+  statement_leaves l stage is_end is =
+      subst (λ s. LeavesIn code q s leaves) (sym stage) (λ plan s.
+      let x = eval true (no_scene s) (instructions_at code q.control.place) 0 no_operands in
+      subst (λ (e : flat.EndLine). IsLeaving leaves (coming_last plan e.last s x)) is_end
+      (subst (λ b. IsLeaving b (coming_last plan (plain_last l.last) s x)) (sym is) (leaving plan l.last s x)))
+
+  -- behind all lines
+  pub end_leaves : (place : ℕ) → q.stage ≡ runs None → end_at code q.control.place ≡ no_end place → leaves ≡ true → LeavesIn code q q.stage leaves
+  end_leaves place stage is_end is =
+      subst (λ s. LeavesIn code q s leaves) (sym stage) (λ plan s.
+      let x = eval true (no_scene s) (instructions_at code q.control.place) 0 no_operands in
+      subst (λ (e : flat.EndLine). IsLeaving leaves (coming_last plan e.last s x)) (sym is_end) is)
+
+  raised_leaves : (handled : Bool) → leaves ≡ not handled → IsLeaving leaves (coming_raised handled)
+  raised_leaves true is = is
+  raised_leaves false is = is
+
+  -- with an exception pending
+  pub handler_leaves : (p : Pending) (h : Option ℕ) → q.stage ≡ runs (Some p) → h ≡ handler_at code p.exception q.control → leaves ≡ not (is_there h) → LeavesIn code q q.stage leaves
+  handler_leaves p h stage is found =
+      subst (λ s. LeavesIn code q s leaves) (sym stage) (λ plan s.
+      subst (λ h. IsLeaving leaves (coming_raised (is_there h))) is (raised_leaves (is_there h) found))
+
+module _ (code : Flat) (q : Single Spot) where
+  none_by : (x : Coming) → IsLeaving false x → IsOfMaster q.stack None x
+  none_by (simply w) h = refl
+  none_by ending h = absurd cc
+  none_by (selecting ones) h = absurd h
+  none_by (calling task entry) h = absurd h
+  none_by (starting object reading) h = absurd h
+
+  pub none_left : (s : Stage) → LeavesIn code q s false → LeavesMaster code q s None
+  none_left (runs pending) h = λ plan s. none_by (coming_at code plan pending s q.control) (h plan s)
+  none_left (completed raised) h = refl
+  none_left (terminated raised) h = refl
+
+  some_by : (master : Option ℕ) (x : Coming) → master ≡ master_left_by (out_of_loops q.stack).opened → IsLeaving true x → IsOfMaster q.stack master x
+  some_by master (simply w) is h = absurd cc
+  some_by master ending is h = is
+  some_by master (selecting ones) is h = absurd h
+  some_by master (calling task entry) is h = absurd h
+  some_by master (starting object reading) is h = absurd h
+
+  pub some_left : (master : Option ℕ) (s : Stage) → master ≡ master_left_by (out_of_loops q.stack).opened → LeavesIn code q s true → LeavesMaster code q s master
+  some_left master (runs pending) is h = λ plan s. some_by master (coming_at code plan pending s q.control) is (h plan s)
+  some_left master (completed raised) is h = absurd cc
+  some_left master (terminated raised) is h = absurd cc
+
+-- the exception that left the main procedure
+pub raised_same : (name : List ℕ) (s : Stage) (stack : Stack) → raised_in s ≡ (own_in name s stack).raised
+raised_same name (runs pending) stack = refl
+raised_same name (completed raised) stack = refl
+raised_same name (terminated raised) stack = refl
