@@ -3,6 +3,7 @@
 Loops: the same in each, the first once more with a handler around it that nothing needs; theirs within a function with local variables. Of aud the processor time of
 whole sessions is taken, of a LOAD alone and of a LOAD with RUNs up to the program's end; the difference is
 the loop. The others time their loops themselves.
+Tasks: steps a second of programs whose tasks loop, in the order of the tasks and by choices.
 LOADs: the largest source text of several shapes, how the time grows from a quarter of it, and the memory.
 Each figure is the median of several processes, which take turns. benchmark.sh calls it.
 """
@@ -383,6 +384,45 @@ def loops(program, others):
             print(f"    {name:23}{fast(each)}{beside}")
 
 
+def turns(tasks, over=0):
+    """So many tasks that loop beside as many as are terminated: each goes around until it has done its share of some 900,000 steps."""
+    count = 900_000 // (3 * tasks)
+    lines = ["procedure B is", "task type Looping;"]
+    lines += ["task type Over;", f"Gone : array (1 .. {over}) of Over;", "task body Over is begin null; end Over;"] if over else []
+    lines += ["task body Looping is", "X, Y : Integer := 0;", "begin", f"while X < {count} loop", "X := X + 1;", "Y := X - Y;", "end loop;", "end Looping;"]
+    lines += ["begin", "declare", f"All_Of : array (1 .. {tasks}) of Looping;", "begin", "null;", "end;", "end B;"]
+    return "\n".join(lines) + "\n"
+
+
+TASKS = [
+    ("1 task that loops", turns(1)),
+    ("2 tasks that loop", turns(2)),
+    ("8 tasks that loop", turns(8)),
+    ("60 tasks that loop", turns(60)),
+    ("2 tasks that loop beside 58 that are terminated", turns(2, 58)),
+]
+
+
+def of_tasks(program, source, choices):
+    """The steps of a program with tasks, and the seconds that they take: in the order of the tasks, or by choices, as many as may wait."""
+    session = load_of(source)
+    chosen = "".join("CHOOSE " + " ".join(str(at % 60) for at in range(first, first + 250)) + "\n" for first in range(0, 10_000, 250)) if choices else ""
+    alone, _ = measure([program, "--solo"], (session + chosen).encode())
+    whole, wrote = measure([program, "--solo"], (session + chosen + ("RUN 9000\n" if choices else "RUN 100000\n" * 10)).encode())
+    steps = sum(int(line.split()[1]) for line in wrote.decode().splitlines() if line.startswith("ran "))
+    return steps, whole - alone
+
+
+def tasks(program):
+    print("Tasks, steps a second: the first enabled move each time, and by 9,000 choices")
+    for name, source in TASKS:
+        speeds = []
+        for choices in (False, True):
+            runs = [of_tasks(program, source, choices) for _ in range(TIMES)]
+            speeds.append(median(steps / max(seconds, 1e-6) for steps, seconds in runs))
+        print(f"    {name:50}{fast(speeds[0])}   {fast(speeds[1])}")
+
+
 def filled(head, unit, tail, size, joint=""):
     """As many units as fit into a source text of a size, in lines of no more than LINE bytes."""
     text, line, count = head + "\n", "", 0
@@ -474,6 +514,7 @@ def main(program):
                 file.write("local text = table.remove(arg, 1)\nload(text)()\n")
             others["lua5.4"] = Other([lua, script], lambda loop: loop.lua + LUA_LOOP, LUA_LOAD)
         loops(program, others)
+        tasks(program)
         loads_beside(program, others)
         loads(program)
 

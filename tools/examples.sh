@@ -3,6 +3,6 @@
 # This compares them, since `rt ci` reads the folders of crates alone.
 set -eu
 cd "$(dirname "$0")/../examples"
-sessions="first loop array recursion"
+sessions="first loop array recursion tasks"
 { cat $sessions && echo QUIT; } | cmp - ../crates/aud/stdin
 { for name in $sessions; do cat "$name.stdout"; done && echo "+ 0"; } | cmp - ../crates/aud/stdout

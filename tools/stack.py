@@ -117,6 +117,22 @@ def nested_procedures():
     yield "one list of calls", text, 3 * count + 2
 
 
+def nested_tasks():
+    """Task bodies at the limit of levels, of which 63 are entered at once, and long lists of tasks and of what is said of them."""
+    inner, over = DEEP, "+ 1\nloaded M\n+ 2\nran "
+    heads = "".join(f"task {name(i)};task body {name(i)} is\n" for i in range(inner))
+    ends = "begin null;end;\n" * inner
+    yield "task bodies in one another", f"procedure M is\n{heads}{ends}begin null;end M;\n", over
+    text, _ = source("procedure M is", lambda i: f"task {name(i)};task body {name(i)} is begin null;end;", "begin null;end M;")
+    yield "one list of tasks", text, over
+    text, _ = source("procedure M is", lambda i: f"task type {name(i)};task body {name(i)} is begin null;end;", "begin null;end M;")
+    yield "one list of task types", text, 3
+    text, _ = source("procedure M is task type T;task body T is begin null;end;", name, ":T;begin null;end M;", ",")
+    yield "one list of task objects", text, over
+    text, _ = source("procedure M is task T;task body T is begin null;end;begin Put_Line(Boolean'Image(", lambda i: "T'Callable", "));end M;", " and ")
+    yield "one chain of tests of a task", text, None
+
+
 def nested_indexes():
     """Elements at the limit of levels, each the index of another."""
     nest = "A(" * DEEP + "1" + ")" * DEEP
@@ -205,6 +221,7 @@ def shapes():
     yield from nested_statements()
     yield from nested_bodies()
     yield from nested_procedures()
+    yield from nested_tasks()
     yield from nested_indexes()
     yield from nested_arguments()
     yield "one parenthesis too many", wrapped(

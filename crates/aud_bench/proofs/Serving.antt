@@ -12,7 +12,7 @@ use Rattle.aud_meaning.specs.Control.{Controls}
 use Rattle.aud_meaning.specs.Statements.{controls}
 use Rattle.aud_meaning.specs.Run.{moves_in, run, main_raised, supplied}
 use Rattle.aud_meaning.proofs.Counts.{run_moves, run_stays, run_full, run_cut, more_moves, no_moves}
-use Rattle.aud_single.specs.declared.run.Ran.{Ran}
+use Rattle.aud_tasks.specs.declared.run.Ran.{Ran}
 use Rattle.aud_machine.specs.Shown.{Shown, program_in}
 use Rattle.aud_machine.specs.Shows.{Shows, RunsFrom}
 use Rattle.aud_bench.specs.declared.request.Request.{Request}

@@ -1,20 +1,24 @@
 -- Declarations that are still to be checked.
 use denote.Ref.{Bor}
-use Rattle.std.specs.Prelude.{ℕ, List, [], ◌∷◌, ◌++◌, Option, Vec, Result, Ok, Err, OnOk}
+use Rattle.std.specs.Prelude.{ℕ, Bool, List, [], ◌∷◌, ◌++◌, Option, Vec, Result, Ok, Err, OnOk}
 use Rattle.std.specs.Global.{Global}
 use Rattle.std.proofs.Common.{◌≡◌, refl, sym, ◌∙◌, ap, append_assoc, append-nil}
 use Rattle.aud_syntax.specs.declared.tree.Ident.{Ident}
 use Rattle.aud_typed.specs.Ties.View.{plain_statements as plain_typed_statements}
 use Rattle.aud_syntax.specs.declared.tree.Declaration.{Declaration}
+use Rattle.aud_text.specs.declared.place.Pos.{Pos}
+use Rattle.aud_syntax.specs.Plain.{TaskDefinition}
 use Rattle.aud_syntax.specs.Ties.View.{plain_declarations, plain_declaration}
 use Rattle.aud_names.specs.Names.{Place, place_in}
 use Rattle.aud_names.specs.declared.names.Region.{Region}
-use Rattle.aud_names.specs.Ties.Regions.{plain_regions, plain_place}
+use Rattle.aud_names.specs.Ties.Regions.{plain_region, plain_regions, plain_place}
+use Rattle.aud_names.specs.Rules.{declared_once, right_name_at_end}
 use Rattle.aud_bodies.specs.declared.declaration.DeclarativePart.{DeclarativePart}
 use Rattle.aud_names.specs.declared.fault.Fault.{Fault}
 use Rattle.aud_names.specs.Least.{noted}
-use Rattle.aud_bodies.specs.Tables.{Tables, Outcome, no_tables}
-use Rattle.aud_bodies.specs.Declarations.{Declared, Exceptions, declared_exceptions, exceptions_twice, checked_exceptions}
+use Rattle.aud_bodies.specs.Tables.{Tables, Outcome, no_tables, next_unit, next_task, task_kept}
+use Rattle.aud_bodies.specs.Declarations.{Declared, Objects, leaving, Exceptions, declared_exceptions, exceptions_twice, checked_exceptions}
+use Rattle.aud_bodies.specs.Tasks.{name_behind, with_task, created_by, checked_task}
 use Rattle.aud_bodies.specs.Statements.{checked_declaration, checked_declarations}
 use Rattle.aud_bodies.specs.Ties.DeclarativePart.{Declares, plain_exceptions}
 use Rattle.aud_typing.proofs.Notes.{noted_append}
@@ -62,8 +66,8 @@ all_declared outer old now first last t all xs p a =
     )
 
 -- a declaration of objects leaves the tables as they are
-pub keeps_tables : {T E : Type 0} (r : Result T E) (old new : Option Fault) (outer : List (Bor Region)) (first next : DeclarativePart) (t : Tables) (o : Outcome Declared)
-    → OnOk r (Declares old new outer first next no_tables o) → OnOk r (Declares old new outer first next t (record { faults = o.faults; tables = t; made = o.made }))
+pub keeps_tables : {T E : Type 0} (r : Result T E) (old new : Option Fault) (outer : List (Bor Region)) (first next : DeclarativePart) (t : Tables) (o : Objects)
+    → OnOk r (Declares old new outer first next no_tables (leaving no_tables o)) → OnOk r (Declares old new outer first next t (leaving t o))
 keeps_tables (Ok x) old new outer first next t o h = (h.0, h.1, h.2, refl)
 keeps_tables (Err e) old new outer first next t o h = tt
 
@@ -84,3 +88,13 @@ declares_exceptions (Ok x) old new outer first next names named t u identifiers 
       behind ∙ ap (λ (e : Exceptions). record t { exceptions = e.names }) known,
     )
 declares_exceptions (Err e) old new outer first next names named t u identifiers same before behind h k = tt
+
+-- the declaration of a task, or of a task type
+pub declares_task : {T E : Type 0} (r : Result T E) (old new : Option Fault) (outer : List (Bor Region)) (first next : DeclarativePart) (t u : Tables) (at : Pos) (is_type : Bool) (i : Ident) (d : Option TaskDefinition)
+    → OnOk r (plain_region next.region ≡ with_task is_type i (next_task t) (next_unit t) (plain_region first.region))
+    → OnOk r (plain_typed_statements next.elaborations.items ≡ plain_typed_statements first.elaborations.items ++ created_by is_type i at (next_task t))
+    → OnOk r (u ≡ task_kept t)
+    → OnOk r (new ≡ noted old (declared_once i.name i.at first.region.symbols.entries ++ right_name_at_end i.name (name_behind d)))
+    → OnOk r (Declares old new outer first next u (checked_task at is_type i d (plain_place first.region outer) t))
+declares_task (Ok x) old new outer first next t u at is_type i d p q k h = (h, ap (λ z. place_in z (plain_regions outer)) p, q, k)
+declares_task (Err e) old new outer first next t u at is_type i d p q k h = tt

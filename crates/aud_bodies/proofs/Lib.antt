@@ -3,6 +3,7 @@ mod Scalars
 mod FlowRows
 mod BlockRows
 mod ProcedureRows
+mod TaskRows
 pub mod Parts
 pub mod Shown
 pub mod Declared

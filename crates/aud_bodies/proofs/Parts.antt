@@ -1,5 +1,5 @@
 -- Arms and handlers in memory, and what holds them, by their parts.
-use Rattle.std.specs.Prelude.{List, [], ◌∷◌, Vec, map}
+use Rattle.std.specs.Prelude.{Bool, false, List, [], ◌∷◌, ◌++◌, Vec, map}
 use Rattle.std.specs.Global.{Global}
 use Rattle.std.proofs.Common.{◌≡◌, refl, ap, ◌∙◌}
 use Rattle.aud_text.specs.declared.place.Pos.{Pos}
@@ -29,14 +29,14 @@ pub if_parts : (first : Arm) (others : Vec Arm Global) (otherwise : Vec Statemen
 if_parts first others otherwise = rw out-roll-IfStatement (ap (arm_then (plain_arm first)) (arms_parts others.items (tree.part_of (plain_statements otherwise.items))))
 
 -- a body
-pub body_parts : (declarations : Vec Statement Global) (begin : Pos) (statements : Statements) (handlers : Vec Handler Global) (end : Pos) → plain_body (roll-Body (record { declarations = declarations; begin = begin; statements = statements; handlers = handlers; end = end })) ≡ tree.body (tree.part_of (plain_statements declarations.items)) begin (statements_in statements) (handlers_in handlers.items) end
-body_parts declarations begin statements handlers end =
-    body_open (roll-Body (record { declarations = declarations; begin = begin; statements = statements; handlers = handlers; end = end })) ∙ rw out-roll-Body refl
+pub body_parts : (declarations : Vec Statement Global) (begin : Pos) (activates : Bool) (statements : Statements) (handlers : Vec Handler Global) (end : Pos) → plain_body (roll-Body (record { declarations = declarations; begin = begin; activates = activates; statements = statements; handlers = handlers; end = end })) ≡ tree.body (tree.part_of (plain_statements declarations.items ++ tree.activation activates begin)) begin (statements_in statements) (handlers_in handlers.items) end
+body_parts declarations begin activates statements handlers end =
+    body_open (roll-Body (record { declarations = declarations; begin = begin; activates = activates; statements = statements; handlers = handlers; end = end })) ∙ rw out-roll-Body refl
 
 -- one in which there is nothing
 pub empty_body : (at : Pos) (declarations others : Vec Statement Global) (handlers : Vec Handler Global) → declarations.items ≡ [] → others.items ≡ [] → handlers.items ≡ []
-    → plain_body (roll-Body (record { declarations = declarations; begin = at; statements = roll-Statements (record { first = Null at; others = others }); handlers = handlers; end = at })) ≡ tree.body tree.nothing at (tree.null at) tree.no_handlers at
+    → plain_body (roll-Body (record { declarations = declarations; begin = at; activates = false; statements = roll-Statements (record { first = Null at; others = others }); handlers = handlers; end = at })) ≡ tree.body tree.nothing at (tree.null at) tree.no_handlers at
 empty_body at declarations others handlers d o h =
-    let made : List Statement → List Statement → List Handler → tree.Body = λ ds ss hs. tree.body (tree.part_of (plain_statements ds)) at (tree.before (tree.null at) (plain_statements ss)) (handlers_in hs) at in
-    body_parts declarations at (roll-Statements (record { first = Null at; others = others })) handlers at
+    let made : List Statement → List Statement → List Handler → tree.Body = λ ds ss hs. tree.body (tree.part_of (plain_statements ds ++ [])) at (tree.before (tree.null at) (plain_statements ss)) (handlers_in hs) at in
+    body_parts declarations at false (roll-Statements (record { first = Null at; others = others })) handlers at
     ∙ ap (λ ds. made ds others.items handlers.items) d ∙ ap (λ ss. made [] ss handlers.items) o ∙ ap (made [] []) h

@@ -2,10 +2,12 @@
 -- exception and procedure is there.
 pub mod Names
 pub mod Expressions
+pub mod Elaborations
 pub mod Declarations
 pub mod Arguments
 pub mod Tables
 pub mod Entries
+pub mod Units
 pub mod Single
 pub mod Statements
 pub mod Programs

@@ -15,7 +15,7 @@ use Rattle.aud_names.specs.declared.rules.Base.{Base}
 use Rattle.aud_names.specs.Names.{Place}
 use Rattle.aud_names.specs.Resolution.{last_args}
 use Rattle.aud_names.specs.Rules.{base_asked, right_type, not_a_variable, wrong_number_of_arguments}
-use Rattle.aud_typing.specs.Expressions.{Entity, no_entity, entity, element_of, checked_arguments, checked_expression, expression_at, base_of}
+use Rattle.aud_typing.specs.Expressions.{Entity, no_entity, entity, element_of, task_of, checked_arguments, checked_expression, expression_at, base_of}
 use Rattle.aud_bodies.specs.Declarations.{known, given_faults, given_value}
 use Rattle.aud_bodies.specs.Formals.{is_in}
 use Rattle.aud_bodies.specs.Assignments.{target_base, target_faults, target_of}
@@ -80,6 +80,7 @@ reference_of no_entity = None
 reference_of (entity m) = meaning_reference m
 reference_of (element_of a index None) = None
 reference_of (element_of a index (Some s)) = Some (tree.component a index s)
+reference_of (task_of a index) = None
 
 -- the value is copied in as well where the mode is in out (RM 6.4.1(13))
 abbrev pub is_copied_in : Mode → Bool

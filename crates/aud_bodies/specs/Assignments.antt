@@ -8,13 +8,13 @@ use Rattle.aud_typed.specs.declared.program.Subtype.{Subtype}
 use Rattle.aud_typed.specs.Tree as tree
 use Rattle.aud_names.specs.declared.fault.Fault.{Fault}
 use Rattle.aud_names.specs.declared.names.Meaning.{Meaning}
-use Rattle.aud_names.specs.declared.names.Meaning.TheVariants.{ScalarType, Literal, Object, Array, Exception, Builtin, Procedure}
+use Rattle.aud_names.specs.declared.names.Meaning.TheVariants.{ScalarType, Literal, Object, Array, Exception, Builtin, Procedure, TaskType, Task, TaskArray}
 use Rattle.aud_names.specs.declared.rules.Base.{Base}
 use Rattle.aud_names.specs.declared.rules.Base.TheVariants.{Truth}
 use Rattle.aud_names.specs.Names.{Place}
 use Rattle.aud_names.specs.Resolution.{name_ident}
 use Rattle.aud_names.specs.Rules.{base_asked, wrong_kind_of_name, right_type, not_a_variable}
-use Rattle.aud_typing.specs.Expressions.{Typed, Entity, no_entity, entity, element_of, Denoting, denoting, checked_arguments, checked_expression, expression_at, base_of}
+use Rattle.aud_typing.specs.Expressions.{Typed, Entity, no_entity, entity, element_of, task_of, Denoting, denoting, checked_arguments, checked_expression, expression_at, base_of}
 use Rattle.aud_bodies.specs.Declarations.{value_for}
 
 -- the type of what is assigned to, where it is known
@@ -27,6 +27,7 @@ abbrev pub target_base : Entity → Option Base
 target_base no_entity = None
 target_base (entity m) = meaning_base m
 target_base (element_of a index s) = base_asked s
+target_base (task_of a index) = None
 
 -- what is assigned to must be a variable (RM 5.2(5)) or an element, and no constant
 abbrev pub changed_faults : Meaning → Pos → List Fault
@@ -37,11 +38,15 @@ changed_faults (ScalarType s) at = wrong_kind_of_name at
 changed_faults (Exception x) at = wrong_kind_of_name at
 changed_faults (Builtin b) at = wrong_kind_of_name at
 changed_faults (Procedure n) at = wrong_kind_of_name at
+changed_faults (TaskType n) at = wrong_kind_of_name at
+changed_faults (Task v) at = wrong_kind_of_name at
+changed_faults (TaskArray a) at = wrong_kind_of_name at
 
 abbrev pub target_faults : Entity → Pos → List Fault
 target_faults no_entity at = []
 target_faults (entity m) at = changed_faults m at
 target_faults (element_of a index s) at = []
+target_faults (task_of a index) at = wrong_kind_of_name at
 
 -- the value must be of the target's type (RM 5.2(4))
 abbrev pub assigned_faults : Entity → Pos → Pos → Typed → List Fault
@@ -64,6 +69,7 @@ abbrev pub assigned : Entity → Pos → Typed → tree.Statement
 assigned no_entity at value = tree.null at
 assigned (entity m) at value = meaning_assigned m at value
 assigned (element_of a index s) at value = assigned_at a index s at value
+assigned (task_of a index) at value = tree.null at
 
 -- a name whose last argument is of a type
 abbrev pub target_of : Name → Place → Denoting

@@ -47,6 +47,7 @@ abbrev pub callee_faults : Option Meaning → Args → Pos → Typed → List Fa
 callee_faults None xs at last = []
 callee_faults (Some (meaning.Builtin b)) xs at last = put_faults b xs at last
 callee_faults (Some (meaning.Array a)) xs at last = array_called xs at last
+callee_faults (Some (meaning.TaskArray a)) xs at last = array_called xs at last
 callee_faults (Some m) xs at last = wrong_kind_of_name at
 
 -- the unit of a procedure of the program

@@ -1,5 +1,6 @@
--- Declarations of variables, constants, arrays and exceptions, and of procedures' names (RM 3.1, 3.3.1, 3.6, 6.1, 11.1).
-use Rattle.std.specs.Prelude.{ℕ, ◌+◌, Bool, false, List, [], ◌∷◌, ◌++◌, length, map, Option, Some, None, pos, if◌then◌else◌}
+-- Declarations of variables, constants, arrays and exceptions, of tasks as variables, and of procedures' names (RM 3.1, 3.3.1, 3.6, 6.1,
+-- 9.1, 11.1).
+use Rattle.std.specs.Prelude.{ℕ, ◌+◌, ℤ, Bool, true, false, List, [], ◌∷◌, ◌++◌, length, map, Option, Some, None, pos, if◌then◌else◌}
 use Rattle.aud_text.specs.declared.place.Pos.{Pos}
 use Rattle.aud_syntax.specs.declared.tree.Ident.{Ident}
 use Rattle.aud_syntax.specs.declared.tree.Bound.{Bound}
@@ -10,11 +11,12 @@ use Rattle.aud_typed.specs.declared.program.Exception.TheVariants as exception_o
 use Rattle.aud_typed.specs.Tree as tree
 use Rattle.aud_names.specs.declared.fault.Fault.{Fault}
 use Rattle.aud_names.specs.declared.names.Meaning.{Meaning}
-use Rattle.aud_names.specs.declared.names.Meaning.TheVariants.{ScalarType, Literal, Object, Array, Exception, Builtin, Procedure}
+use Rattle.aud_names.specs.declared.names.Meaning.TheVariants.{ScalarType, Literal, Object, Array, Exception, Builtin, Procedure, TaskType}
+use Rattle.aud_names.specs.declared.names.Meaning.TheVariants as meaning
 use Rattle.aud_names.specs.declared.array.Kind.{Kind}
-use Rattle.aud_names.specs.declared.array.Kind.TheVariants.{Scalar}
+use Rattle.aud_names.specs.declared.array.Kind.TheVariants.{Scalar, Task}
 use Rattle.aud_names.specs.Names.{Region, Place, visible, is_declared, innermost, in_region, hiding}
-use Rattle.aud_names.specs.Arrays.{bound_value, bound_faults, or_zero, row_between, new_meaning, cells_of}
+use Rattle.aud_names.specs.Arrays.{bound_value, bound_faults, or_zero, row_between, task_row_between, new_meaning, cells_of}
 use Rattle.aud_names.specs.Rules.{base_asked, name_not_declared, declared_once, wrong_kind_of_name, right_type}
 use Rattle.aud_bodies.specs.Tables.{Tables, Outcome}
 use Rattle.aud_typing.specs.Expressions.{Typed, number, boolean, checked_expression, expression_at, base_of}
@@ -24,7 +26,15 @@ pub record Declared : Type 0 where
   pub place : Place
   pub elaborations : List tree.Statement
 
--- a subtype mark must be that of a subtype (RM 3.2.2)
+-- what a declaration of objects gives, which leaves the tables as they are
+pub record Objects : Type 0 where
+  pub faults : List Fault
+  pub made : Declared
+
+abbrev pub leaving : Tables → Objects → Outcome Declared
+leaving t o = record { faults = o.faults; tables = t; made = o.made }
+
+-- a subtype mark must be that of a subtype (RM 3.2.2); task types stand in declarations of variables alone (profile)
 abbrev pub subtype_faults : Option Meaning → Pos → List Fault
 subtype_faults None at = name_not_declared at
 subtype_faults (Some (ScalarType s)) at = []
@@ -34,6 +44,9 @@ subtype_faults (Some (Array a)) at = wrong_kind_of_name at
 subtype_faults (Some (Exception x)) at = wrong_kind_of_name at
 subtype_faults (Some (Builtin b)) at = wrong_kind_of_name at
 subtype_faults (Some (Procedure n)) at = wrong_kind_of_name at
+subtype_faults (Some (TaskType n)) at = wrong_kind_of_name at
+subtype_faults (Some (meaning.Task v)) at = wrong_kind_of_name at
+subtype_faults (Some (meaning.TaskArray a)) at = wrong_kind_of_name at
 
 abbrev pub subtype_meant : Option Meaning → Option Subtype
 subtype_meant (Some (ScalarType s)) = Some s
@@ -73,7 +86,7 @@ initial_value (an_expression e) s place = given_value e s place
 
 -- one symbol more, with cells of its own
 abbrev pub with_symbol : List ℕ → Kind → Region → Region
-with_symbol name kind r = record { symbols = r.symbols ++ (name, new_meaning kind r.level r.cells) ∷ []; level = r.level; cells = r.cells + cells_of kind; names = r.names + 1 }
+with_symbol name kind r = record r { symbols = r.symbols ++ (name, new_meaning kind r.level r.cells) ∷ []; cells = r.cells + cells_of kind; names = r.names + 1 }
 
 -- a variable or constant
 abbrev pub scalar : Option Subtype → Bool → Kind
@@ -106,14 +119,13 @@ marked mark identifiers place = visible mark.name (hiding identifiers place)
 abbrev pub elaboration : Pos → Region → tree.ValueExpression → tree.Statement
 elaboration at r e = tree.declare at r.names e
 
-abbrev pub checked_object : List Ident → Pos → Ident → MaybeExpression → Bool → Place → Tables → Outcome Declared
-checked_object identifiers at subtype initial is_constant place t =
+abbrev pub checked_object : List Ident → Pos → Ident → MaybeExpression → Bool → Place → Objects
+checked_object identifiers at subtype initial is_constant place =
     let inner = hiding identifiers place in
     let s = subtype_meant (marked subtype identifiers place) in
     let after = declared_names identifiers (scalar s is_constant) (innermost place) in
     record {
       faults = subtype_faults (marked subtype identifiers place) subtype.at ++ (initial_faults initial s inner ++ twice_faults identifiers (scalar s is_constant) (innermost place));
-      tables = t;
       made = record {
         place = in_region after place;
         elaborations = elaboration at after (initial_value initial s inner) ∷ [];
@@ -129,18 +141,75 @@ arrays_kind low high s = row_between (or_zero (bound_value low)) (or_zero (bound
 abbrev pub array_elaborations : List Ident → Pos → Option Subtype → Kind → List tree.Statement
 array_elaborations identifiers at s kind = map (λ i. tree.declare_array at (known s) (cells_of kind)) identifiers
 
-abbrev pub checked_array : List Ident → Pos → Bound → Bound → Ident → Place → Tables → Outcome Declared
-checked_array identifiers at low high subtype place t =
+abbrev pub checked_array : List Ident → Pos → Bound → Bound → Ident → Place → Objects
+checked_array identifiers at low high subtype place =
     let s = subtype_meant (marked subtype identifiers place) in
     let kind = arrays_kind low high s in
     record {
       faults = bound_faults low ++ (bound_faults high ++ (subtype_faults (marked subtype identifiers place) subtype.at ++ twice_faults identifiers kind (innermost place)));
-      tables = t;
       made = record {
         place = in_region (declared_names identifiers kind (innermost place)) place;
         elaborations = array_elaborations identifiers at s kind;
       };
     }
+
+-- Tasks as variables, and arrays of them (RM 9.1, 3.6).
+
+-- the type of tasks that a mark names
+abbrev pub task_type_meant : Option Meaning → Option ℕ
+task_type_meant (Some (TaskType n)) = Some n
+task_type_meant _ = None
+
+-- which stands in a declaration of variables without an initial value
+abbrev pub tasks_meant : Option Meaning → MaybeExpression → Bool → Option ℕ
+tasks_meant m no_expression false = task_type_meant m
+tasks_meant m no_expression true = None
+tasks_meant m (an_expression e) is_constant = None
+
+-- the tasks of each name are created by themselves
+abbrev pub task_elaborations : List Ident → Pos → ℕ → ℤ → Bool → ℕ → List tree.Statement
+task_elaborations identifiers at task_type low is_array count =
+    map (λ i. tree.declare_tasks at (record { task_type = task_type; name = i.name; low = low; is_array = is_array; length = count })) identifiers
+
+abbrev pub checked_tasks : List Ident → Pos → ℕ → Place → Objects
+checked_tasks identifiers at task_type place = record {
+  faults = twice_faults identifiers Task (innermost place);
+  made = record {
+    place = in_region (declared_names identifiers Task (innermost place)) place;
+    elaborations = task_elaborations identifiers at task_type (pos 0) false 1;
+  };
+}
+
+abbrev pub tasks_kind : Bound → Bound → Kind
+tasks_kind low high = task_row_between (or_zero (bound_value low)) (or_zero (bound_value high))
+
+abbrev pub checked_task_rows : List Ident → Pos → Bound → Bound → ℕ → Place → Objects
+checked_task_rows identifiers at low high task_type place =
+    let kind = tasks_kind low high in
+    record {
+      faults = bound_faults low ++ (bound_faults high ++ twice_faults identifiers kind (innermost place));
+      made = record {
+        place = in_region (declared_names identifiers kind (innermost place)) place;
+        elaborations = task_elaborations identifiers at task_type (or_zero (bound_value low)) true (cells_of kind);
+      };
+    }
+
+-- What a declaration of objects or arrays declares is told by its mark.
+
+abbrev pub objects_as : Option ℕ → List Ident → Pos → Ident → MaybeExpression → Bool → Place → Objects
+objects_as None identifiers at mark initial is_constant place = checked_object identifiers at mark initial is_constant place
+objects_as (Some task_type) identifiers at mark initial is_constant place = checked_tasks identifiers at task_type place
+
+abbrev pub checked_objects : List Ident → Pos → Ident → MaybeExpression → Bool → Place → Objects
+checked_objects identifiers at mark initial is_constant place =
+    objects_as (tasks_meant (marked mark identifiers place) initial is_constant) identifiers at mark initial is_constant place
+
+abbrev pub arrays_as : Option ℕ → List Ident → Pos → Bound → Bound → Ident → Place → Objects
+arrays_as None identifiers at low high mark place = checked_array identifiers at low high mark place
+arrays_as (Some task_type) identifiers at low high mark place = checked_task_rows identifiers at low high task_type place
+
+abbrev pub checked_arrays : List Ident → Pos → Bound → Bound → Ident → Place → Objects
+checked_arrays identifiers at low high mark place = arrays_as (task_type_meant (marked mark identifiers place)) identifiers at low high mark place
 
 -- Exceptions (RM 11.1).
 
@@ -151,7 +220,7 @@ pub record Exceptions : Type 0 where
 
 abbrev pub exception_symbol : List ℕ → Exceptions → Exceptions
 exception_symbol name x = record {
-  region = record { symbols = x.region.symbols ++ (name, Exception (exception_of.Declared (length x.names))) ∷ []; level = x.region.level; cells = x.region.cells; names = x.region.names };
+  region = record x.region { symbols = x.region.symbols ++ (name, Exception (exception_of.Declared (length x.names))) ∷ [] };
   names = x.names ++ name ∷ [];
 }
 

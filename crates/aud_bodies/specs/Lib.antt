@@ -7,6 +7,7 @@ pub mod Calls
 pub mod Labels
 pub mod Regions
 pub mod Handlers
+pub mod Tasks
 pub mod Statements
 pub mod Programs
 pub mod Ties

@@ -1,5 +1,5 @@
 -- Programs: their faults, and what is left of them (RM 6.3, 10.1.1).
-use Rattle.std.specs.Prelude.{ℕ, List, []}
+use Rattle.std.specs.Prelude.{ℕ, false, List, []}
 use Rattle.aud_syntax.specs.Plain.{Unit, unit}
 use Rattle.aud_typed.specs.Tree as tree
 use Rattle.aud_names.specs.declared.fault.Fault.{Fault}
@@ -13,7 +13,7 @@ main_tables = unit_kept [] no_tables
 
 -- context clauses have no effect (RM 10.1.2, 8.4)
 abbrev pub main_checked : Unit → Outcome tree.UnitBody
-main_checked (unit context at name ds b) = checked_unit at name.name ds b (main_place name.name) main_tables
+main_checked (unit context at name ds b) = checked_unit false at name.name ds b (main_place name.name) main_tables
 
 abbrev pub unit_name : Unit → List ℕ
 unit_name (unit context at name ds b) = name.name
@@ -23,7 +23,7 @@ abbrev pub faults : Unit → List Fault
 faults u = (main_checked u).faults
 
 abbrev pub program_with : List ℕ → Tables → tree.Program
-program_with name t = tree.program_of_units (record { name = name; units = t.units; tasks = []; regions = t.regions; exceptions = t.exceptions })
+program_with name t = tree.program_of_units (record { name = name; units = t.units; tasks = t.tasks; regions = t.regions; exceptions = t.exceptions })
 
 abbrev pub main_program : List ℕ → Outcome tree.UnitBody → tree.Program
 main_program name o = program_with name (with_unit 0 o.made o.tables)

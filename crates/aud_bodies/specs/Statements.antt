@@ -1,8 +1,8 @@
 -- Statements, declarative parts and bodies (RM 3.11, 5, 6.3, 11.2).
-use Rattle.std.specs.Prelude.{ℕ, Bool, true, false, List, [], ◌∷◌, ◌++◌, Option, Some, None, is_some, pos}
+use Rattle.std.specs.Prelude.{ℕ, Bool, true, false, List, [], ◌∷◌, ◌++◌, Option, Some, None, is_some, pos, not}
 use Rattle.aud_text.specs.declared.place.Pos.{Pos}
 use Rattle.aud_syntax.specs.declared.tree.Ident.{Ident}
-use Rattle.aud_syntax.specs.Plain.{Expression, MaybeExpression, no_expression, an_expression, Formal, Declaration, object, constant, array, exception, procedure, no_declarations, more_declarations, Statement, null, assign, call, if_then, loop, exit, block, return, raise, Arms, no_arms, more_arms, Iteration, forever, while, for, Statements, in_order, MoreStatements, no_statements, more_statements, Declarations, Body, body, Handlers, no_handlers, more_handlers, Choices, Simple}
+use Rattle.aud_syntax.specs.Plain.{Expression, MaybeExpression, no_expression, an_expression, Formal, Declaration, object, constant, array, exception, procedure, task, task_body, no_declarations, more_declarations, Statement, null, assign, call, if_then, loop, exit, block, return, raise, Arms, no_arms, more_arms, Iteration, forever, while, for, Statements, in_order, MoreStatements, no_statements, more_statements, Declarations, Body, body, Handlers, no_handlers, more_handlers, Choices, Simple}
 use Rattle.aud_typed.specs.declared.program.Exception.{Exception}
 use Rattle.aud_typed.specs.Tree as tree
 use Rattle.aud_names.specs.declared.fault.Fault.{Fault}
@@ -13,27 +13,34 @@ use Rattle.aud_names.specs.Rules.{declared_once, right_name_at_end, right_label_
 use Rattle.aud_bodies.specs.Tables.{Tables, Outcome, fine, after, and_then, next_region, with_region, region_kept, region_named, next_unit, unit_kept, with_unit}
 use Rattle.aud_typing.specs.Expressions.{Typed, number, checked_simple, checked_expression, simple_at, wants}
 use Rattle.aud_typing.specs.Conditions.{condition_faults, condition, maybe_condition_faults, maybe_condition}
-use Rattle.aud_bodies.specs.Declarations.{Declared, checked_object, checked_array, checked_exceptions, with_procedure, nothing_declared, joined_declared}
+use Rattle.aud_bodies.specs.Declarations.{Declared, leaving, checked_objects, checked_arrays, checked_exceptions, with_procedure, nothing_declared, joined_declared}
 use Rattle.aud_bodies.specs.Formals.{Formals, checked_formals}
+use Rattle.aud_bodies.specs.Tasks.{checked_task, with_bodies, unit_awaited, place_behind, task_body_of, with_activation}
 use Rattle.aud_bodies.specs.Regions.{loop_region, in_loop, shown_names}
 use Rattle.aud_bodies.specs.Assignments.{assign_faults, typed_assign}
 use Rattle.aud_bodies.specs.Calls.{call_faults, typed_call}
 use Rattle.aud_bodies.specs.Handlers.{raise_faults, typed_raise, none_chosen, all_choices_faults, choices_of, is_others}
 
--- what a statement knows of the constructs around it in its body: loops and blocks, and whether a handler is among them
+-- what a statement knows of the constructs around it in its body: loops and blocks, whether a handler is among them, and whether the body is
+-- a task's
 pub record Around : Type 0 where
   pub labels : Labels
   pub in_handler : Bool
+  pub in_task : Bool
 
 -- nothing is around the statements of a procedure: labels and handlers end at its border (RM 5.7(4), 11.3(3))
 abbrev pub nothing_around : Around
-nothing_around = record { labels = []; in_handler = false }
+nothing_around = record { labels = []; in_handler = false; in_task = false }
+
+-- nor around those of a task
+abbrev pub task_around : Around
+task_around = record { labels = []; in_handler = false; in_task = true }
 
 abbrev pub labelled : Bool → Option Ident → Around → Around
-labelled is_loop label around = record { labels = (record { is_loop = is_loop; name = label }) ∷ around.labels; in_handler = around.in_handler }
+labelled is_loop label around = record around { labels = (record { is_loop = is_loop; name = label }) ∷ around.labels }
 
 abbrev pub handling : Around → Around
-handling around = record { labels = around.labels; in_handler = true }
+handling around = record around { in_handler = true }
 
 -- Loops.
 
@@ -134,18 +141,21 @@ pub record TypedBody : Type 0 where
 abbrev pub body_with : List tree.Statement → Body → TypedBody → tree.Body
 body_with elaborations (body begin ss hs end name semicolon) b = tree.body (tree.part_of elaborations) begin b.statements b.handlers end
 
--- the name at a body's end, and the semicolon
+-- where a body's `begin` stands, the name at its end, and the semicolon
+abbrev pub begin_of : Body → Pos
+begin_of (body begin ss hs end name semicolon) = begin
+
 abbrev pub end_name : Body → Option Ident
 end_name (body begin ss hs end name semicolon) = name
 
 abbrev pub end_semicolon : Body → Pos
 end_semicolon (body begin ss hs end name semicolon) = semicolon
 
--- Returns (RM 6.5): as yet there is no function.
+-- Returns (RM 6.5): a task's body is not left by one, and as yet there is no function.
 
-abbrev pub return_faults : Pos → MaybeExpression → Place → List Fault
-return_faults at no_expression place = []
-return_faults at (an_expression e) place = return_in_place false at ++ (checked_expression e place).faults
+abbrev pub return_faults : Pos → MaybeExpression → Bool → Place → List Fault
+return_faults at no_expression in_task place = return_in_place (not in_task) at
+return_faults at (an_expression e) in_task place = return_in_place false at ++ (checked_expression e place).faults
 
 abbrev pub typed_return : Pos → MaybeExpression → tree.Statement
 typed_return at no_expression = tree.return at
@@ -153,13 +163,15 @@ typed_return at (an_expression e) = tree.null at
 
 -- Bodies that are entered. What is checked of their declarations, and of the statements behind these, is told by where it stands.
 
--- the region of a place is entered: first its declarations, and then the statements, which see what it declares
-abbrev pub entered : Body → (Place → Tables → Outcome Declared) → (Place → Tables → Outcome TypedBody) → Place → Tables → Outcome tree.Body
-entered b declared stated place t =
-    and_then (declared place (region_kept t)) (λ d t1.
-    and_then (stated d.place (region_named (next_region t) (shown_names (innermost d.place).symbols) t1)) (λ x t2. fine (body_with d.elaborations b x) t2))
+-- the region of a place is entered, of a task's body where the flag holds: first its declarations, and then the statements, which see what
+-- it declares
+abbrev pub entered : Bool → Body → (Place → Tables → Outcome Declared) → (Place → Tables → Outcome TypedBody) → Place → Tables → Outcome tree.Body
+entered of_task b declared stated place t =
+    and_then (with_bodies (declared place (region_kept t))) (λ d t1.
+    and_then (stated d.place (region_named (next_region t) (shown_names (innermost d.place).symbols) t1)) (λ x t2.
+    fine (body_with (with_activation of_task (begin_of b) d.elaborations) b x) t2))
 
--- a procedure's body, behind its formals; the name after its end must be its own (RM 6.3)
+-- a procedure's body, behind its formals, or a task's; the name after its end must be its own (RM 6.3, 9.1)
 abbrev pub unit_of : Pos → List ℕ → Option Ident → Place → ℕ → Outcome tree.Body → Outcome tree.UnitBody
 unit_of at name last place region o =
     and_then o (λ b t. after (right_name_at_end name last) (fine (record { level = (innermost place).level; region = region; at = at; body = b }) t))
@@ -198,9 +210,9 @@ abbrev mutual
   checked_statement (exit at name c) around place t =
       after (exit_in_loop (is_some (exit_loop name around.labels)) at ++ maybe_condition_faults c place) (fine (tree.exit at (loop_number (exit_loop name around.labels)) (maybe_condition c place)) t)
   checked_statement (block label at declare ds b) around place t =
-      after (right_label_at_end label (end_name b) (end_semicolon b)) (and_then (entered b (λ inner t1. checked_declarations ds inner t1) (λ inner t1. checked_body b (labelled false label around) inner t1) (in_frame place) t) (λ x t1.
+      after (right_label_at_end label (end_name b) (end_semicolon b)) (and_then (entered false b (λ inner t1. checked_declarations ds inner t1) (λ inner t1. checked_body b (labelled false label around) inner t1) (in_frame place) t) (λ x t1.
       fine (tree.block (begin_at label at) (next_region t) x) t1))
-  checked_statement (return at e) around place t = after (return_faults at e place) (fine (typed_return at e) t)
+  checked_statement (return at e) around place t = after (return_faults at e around.in_task place) (fine (typed_return at e) t)
   checked_statement (raise at name) around place t = after (raise_faults at name around.in_handler place) (fine (typed_raise at name place) t)
 
   -- RM 5.3
@@ -235,13 +247,17 @@ abbrev mutual
       and_then (checked_declaration d place t) (λ x t1. and_then (checked_declarations ds x.place t1) (λ y t2. fine (joined_declared x y) t2))
 
   pub checked_declaration : Declaration → Place → Tables → Outcome Declared
-  checked_declaration (object first others subtype initial) place t = checked_object (first ∷ others) first.at subtype initial false place t
-  checked_declaration (constant first others subtype value) place t = checked_object (first ∷ others) first.at subtype (an_expression value) true place t
-  checked_declaration (array first others low high subtype) place t = checked_array (first ∷ others) first.at low high subtype place t
+  checked_declaration (object first others subtype initial) place t = leaving t (checked_objects (first ∷ others) first.at subtype initial false place)
+  checked_declaration (constant first others subtype value) place t = leaving t (checked_objects (first ∷ others) first.at subtype (an_expression value) true place)
+  checked_declaration (array first others low high subtype) place t = leaving t (checked_arrays (first ∷ others) first.at low high subtype place)
   checked_declaration (exception first others) place t = checked_exceptions (first ∷ others) place t
   checked_declaration (procedure at i fs ds b) place t =
       procedure_of i (procedure_formals i fs (procedure_place i place t)) (λ inner t1.
-      unit_of at i.name (end_name b) inner (next_region t1) (entered b (λ further t2. checked_declarations ds further t2) (λ further t2. checked_body b nothing_around further t2) inner t1)) place (procedure_place i place t) t
+      unit_of at i.name (end_name b) inner (next_region t1) (entered false b (λ further t2. checked_declarations ds further t2) (λ further t2. checked_body b nothing_around further t2) inner t1)) place (procedure_place i place t) t
+  checked_declaration (task at is_type i d) place t = checked_task at is_type i d place t
+  checked_declaration (task_body at i ds b) place t =
+      task_body_of i (unit_awaited i place) (λ inner t1.
+      unit_of at i.name (end_name b) inner (next_region t1) (entered true b (λ further t2. checked_declarations ds further t2) (λ further t2. checked_body b task_around further t2) inner t1)) (place_behind i place) t
 
 -- The same of a loop behind the check of its label.
 
@@ -250,12 +266,17 @@ checked_loop label at i ss around place t = iterated (begin_at label at) at i (�
 
 -- The same of a body by itself.
 
-abbrev pub entered_body : Declarations → Body → Around → Place → Tables → Outcome tree.Body
-entered_body ds b around place t = entered b (λ inner t1. checked_declarations ds inner t1) (λ inner t1. checked_body b around inner t1) place t
+abbrev pub entered_body : Bool → Declarations → Body → Around → Place → Tables → Outcome tree.Body
+entered_body of_task ds b around place t = entered of_task b (λ inner t1. checked_declarations ds inner t1) (λ inner t1. checked_body b around inner t1) place t
 
 -- the statements behind declarations that have these elaborations
-abbrev pub body_behind : List tree.Statement → Body → Around → Place → Tables → Outcome tree.Body
-body_behind elaborations b around place t = and_then (checked_body b around place t) (λ x t1. fine (body_with elaborations b x) t1)
+abbrev pub body_behind : Bool → List tree.Statement → Body → Around → Place → Tables → Outcome tree.Body
+body_behind of_task elaborations b around place t =
+    and_then (checked_body b around place t) (λ x t1. fine (body_with (with_activation of_task (begin_of b) elaborations) b x) t1)
 
-abbrev pub checked_unit : Pos → List ℕ → Declarations → Body → Place → Tables → Outcome tree.UnitBody
-checked_unit at name ds b place t = unit_of at name (end_name b) place (next_region t) (entered_body ds b nothing_around place t)
+abbrev pub around_unit : Bool → Around
+around_unit true = task_around
+around_unit false = nothing_around
+
+abbrev pub checked_unit : Bool → Pos → List ℕ → Declarations → Body → Place → Tables → Outcome tree.UnitBody
+checked_unit of_task at name ds b place t = unit_of at name (end_name b) place (next_region t) (entered_body of_task ds b (around_unit of_task) place t)

@@ -6,15 +6,17 @@ use Rattle.aud_names.specs.declared.fault.Fault.{Fault}
 use Rattle.aud_names.specs.declared.names.Parameter.{Parameter}
 
 -- the variables and constants of each region that has been entered, by the regions' numbers, and the names of the exceptions, by theirs;
--- of each procedure that has been declared its formals, as calls see them (RM 6.1), and its body, by the number of its unit
+-- of each procedure and task that has been declared its formals, as calls see them (RM 6.1), and its body, by the number of its unit; and
+-- of each task type that unit, by the number of the type
 pub record Tables : Type 0 where
   pub regions : List (List tree.Named)
   pub exceptions : List (List ℕ)
   pub profiles : List (List Parameter)
   pub units : List tree.UnitBody
+  pub tasks : List ℕ
 
 abbrev pub no_tables : Tables
-no_tables = record { regions = []; exceptions = []; profiles = []; units = [] }
+no_tables = record { regions = []; exceptions = []; profiles = []; units = []; tasks = [] }
 
 -- what checking a construct gives: its faults, the tables after it, and what is made of it
 pub record Outcome (A : Type 0) : Type 0 where
@@ -64,6 +66,14 @@ unit_kept profile t = record t { profiles = t.profiles ++ profile ∷ []; units 
 
 abbrev pub with_unit : ℕ → tree.UnitBody → Tables → Tables
 with_unit number u t = record t { units = slice_set t.units number u }
+
+-- Task types: one that is declared, or that of a single task, has the next number, and its body the next unit.
+
+abbrev pub next_task : Tables → ℕ
+next_task t = length t.tasks
+
+abbrev pub task_kept : Tables → Tables
+task_kept t = record t { profiles = t.profiles ++ [] ∷ []; units = t.units ++ no_body ∷ []; tasks = t.tasks ++ next_unit t ∷ [] }
 
 -- the formals of a unit
 abbrev pub profile_of : ℕ → Tables → List Parameter

@@ -131,7 +131,7 @@ fn reference_of(entity: Entity) -> Option<Reference>
     ensures { plain_target result ≡ reference_of (plain_entity entity) }
 {
     match entity {
-        Entity::Nothing => None,
+        Entity::Nothing | Entity::Task(_, _) => None,
         Entity::Whole(meaning) => meaning_reference(meaning),
         Entity::Element(element) => match element.subtype {
             None => None,

@@ -35,7 +35,7 @@ pub fn target_base(target: &Entity) -> Option<Base>
     ensures { result ≡ target_base (plain_entity target.now) }
 {
     match target {
-        Entity::Nothing => None,
+        Entity::Nothing | Entity::Task(_, _) => None,
         Entity::Whole(meaning) => meaning_base(*meaning),
         Entity::Element(element) => base_asked(element.subtype),
     }
@@ -56,7 +56,10 @@ fn check_changed(meaning: Meaning, at: Pos, faults: &mut Least)
         | Meaning::Array(_)
         | Meaning::Exception(_)
         | Meaning::Builtin(_)
-        | Meaning::Procedure(_) => wrong_kind_of_name(at, faults),
+        | Meaning::Procedure(_)
+        | Meaning::TaskType(_)
+        | Meaning::Task(_)
+        | Meaning::TaskArray(_) => wrong_kind_of_name(at, faults),
     }
 }
 
@@ -66,6 +69,7 @@ pub fn check_target(target: &Entity, at: Pos, faults: &mut Least)
 {
     match target {
         Entity::Whole(meaning) => check_changed(*meaning, at, faults),
+        Entity::Task(_, _) => wrong_kind_of_name(at, faults),
         Entity::Nothing | Entity::Element(_) => {}
     }
 }
@@ -124,7 +128,7 @@ fn assigned(target: Entity, at: Pos, value: Operand) -> TypedStatement
 {
     let value = value.opened();
     match target {
-        Entity::Nothing => TypedStatement::Null(at),
+        Entity::Nothing | Entity::Task(_, _) => TypedStatement::Null(at),
         Entity::Whole(meaning) => meaning_assigned(meaning, at, value),
         Entity::Element(element) => element_assigned(element, at, value),
     }

@@ -83,13 +83,15 @@ fn check_callee(denoted: Denoted, args: &[Expression], last: &Typed, faults: &mu
         None => {}
         Some(Meaning::Builtin(Builtin::Put | Builtin::PutLine)) => one_text(args, at, last, faults),
         Some(Meaning::Builtin(Builtin::NewLine)) => no_argument(args, at, faults),
-        Some(Meaning::Array(_)) => array_called(args, at, last, faults),
+        Some(Meaning::Array(_) | Meaning::TaskArray(_)) => array_called(args, at, last, faults),
         Some(
             Meaning::ScalarType(_)
             | Meaning::Literal(_)
             | Meaning::Object(_)
             | Meaning::Exception(_)
-            | Meaning::Procedure(_),
+            | Meaning::Procedure(_)
+            | Meaning::TaskType(_)
+            | Meaning::Task(_),
         ) => {
             wrong_kind_of_name(at, faults);
         }

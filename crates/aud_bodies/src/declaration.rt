@@ -1,18 +1,19 @@
 // Declarations of variables, constants, arrays and exceptions, and of procedures' names.
 
-ghost use Rattle.std.specs.Prelude.{◌≡◌, [], ◌∷◌, ◌++◌, map, IfOk, OnOk};
+ghost use Rattle.std.specs.Prelude.{◌≡◌, [], ◌∷◌, ◌++◌, map, false, IfOk, OnOk};
 ghost use Rattle.aud_typed.specs.Tree.{declare_array};
 ghost use Rattle.aud_syntax.specs.Ties.View.{plain_expression};
 ghost use Rattle.aud_typed.specs.Ties.View.{plain_value, plain_statements as plain_typed_statements};
 ghost use Rattle.aud_names.specs.Least.{noted};
-ghost use Rattle.aud_names.specs.Names.{visible};
+ghost use Rattle.aud_names.specs.Names.{visible, is_declared};
 ghost use Rattle.aud_bodies.specs.Tables.{no_tables};
 ghost use Rattle.aud_names.specs.Rules.{declared_once};
-ghost use Rattle.aud_bodies.specs.Declarations.{subtype_faults, subtype_meant, given_faults, given_value, initial_faults, initial_value, default_value, value_for, known, with_name, declared_names, twice_faults, elaboration, marked, checked_object, checked_array, with_exception, declared_exceptions, exceptions_twice, with_procedure};
+ghost use Rattle.aud_bodies.specs.Declarations.{subtype_faults, subtype_meant, given_faults, given_value, initial_faults, initial_value, default_value, value_for, known, with_symbol, with_name, declared_names, twice_faults, elaboration, marked, leaving, checked_object, checked_array, task_type_meant, tasks_meant, checked_objects, checked_arrays, with_exception, declared_exceptions, exceptions_twice, with_procedure};
 ghost use Rattle.aud_typing.specs.Ties.Typing.{plain_typed, Leaves};
 ghost use Rattle.aud_bodies.specs.Ties.DeclarativePart.{Declares, plain_initial, plain_exceptions};
 ghost use Rattle.aud_names.specs.Ties.Regions.{plain_region, plain_place, names_in};
 
+use crate::task::{task_rows, tasks};
 use aud_names::array::{Kind, Scalar, bound, cells_of, new_meaning, row_between};
 use aud_names::behind::Made;
 use aud_names::fault::Least;
@@ -143,6 +144,22 @@ fn initial_value(
     }
 }
 
+/// Declares a name that the region has not yet, with cells of its own.
+pub fn add_symbol(name: &Name, kind: Kind, region: &mut Region) -> Made<()>
+    requires { is_declared name.now region.now.symbols.entries ≡ false }
+    ensures { OnOk result (plain_region region.new
+        ≡ with_symbol name.now kind (plain_region region.old)) }
+{
+    let cells = region.cells.checked_add(cells_of(kind)).ok_or(AllocError)?;
+    let names = region.names.checked_add(1).ok_or(AllocError)?;
+    let name = name.try_clone(region.alloc)?;
+    let meaning = new_meaning(kind, region.level, region.cells);
+    region.symbols.insert(name, meaning)?;
+    region.cells = cells;
+    region.names = names;
+    Ok(())
+}
+
 // Declares one name more, with cells of its own.
 fn declare_name(ident: &Ident, kind: Kind, region: &mut Region, faults: &mut Least) -> Made<()>
     ensures region { OnOk result (plain_region region.new
@@ -151,13 +168,7 @@ fn declare_name(ident: &Ident, kind: Kind, region: &mut Region, faults: &mut Lea
         (declared_once ident.now.name ident.now.at region.old.symbols.entries)) }
 {
     if declared_once(ident, &region.symbols, faults) {
-        let cells = region.cells.checked_add(cells_of(kind)).ok_or(AllocError)?;
-        let names = region.names.checked_add(1).ok_or(AllocError)?;
-        let name = ident.name.try_clone(region.alloc)?;
-        let meaning = new_meaning(kind, region.level, region.cells);
-        region.symbols.insert(name, meaning)?;
-        region.cells = cells;
-        region.names = names;
+        add_symbol(&ident.name, kind, region)?;
     }
     Ok(())
 }
@@ -191,8 +202,76 @@ fn elaborate(
     Ok(())
 }
 
-/// Declares variables or constants (RM 3.3.1).
+// What a mark stands for within a declaration of these names.
+fn marked<'x>(
+    mark: &Ident,
+    names: &'x Identifiers,
+    region: &'x Region,
+    outer: &'x [&'x Region],
+) -> Made<Option<Meaning>>
+    ensures { IfOk result (λ meaning. meaning
+        ≡ marked mark.now (names_in names.now) (plain_place region.now outer.now)) }
+{
+    let scope = Scope::within(region, outer, names)?;
+    Ok(scope.visible(&mark.name))
+}
+
+// The type of tasks that a mark names.
+fn task_type_meant(meaning: Option<Meaning>) -> Option<usize>
+    ensures { result ≡ task_type_meant meaning }
+{
+    match meaning {
+        Some(Meaning::TaskType(number)) => Some(number),
+        _ => None,
+    }
+}
+
+// The type of tasks that a declaration of objects declares (RM 9.1).
+fn tasks_meant(
+    meaning: Option<Meaning>,
+    initial: Option<&Expression>,
+    constant: bool,
+) -> Option<usize>
+    ensures { result ≡ tasks_meant meaning (plain_initial initial.entry) constant }
+{
+    match initial {
+        Some(_) => None,
+        None => {
+            if constant {
+                None
+            } else {
+                task_type_meant(meaning)
+            }
+        }
+    }
+}
+
+// Declares variables or constants of a subtype.
 #[tactic(auto, using(aud_typing::proofs::Notes::noted_append))]
+fn scalars(
+    names: &Identifiers,
+    mark: &Ident,
+    initial: Option<&Expression>,
+    constant: bool,
+    outer: &[&Region],
+    part: &mut DeclarativePart,
+    faults: &mut Least,
+) -> Made<()>
+    ensures { OnOk result (Declares faults.old faults.new outer.now part.old part.new no_tables
+        (leaving no_tables (checked_object (names_in names.now) names.now.first.at mark.now
+        (plain_initial initial.entry) constant (plain_place part.old.region outer.now)))) }
+{
+    let scope = Scope::within(&part.region, outer, names)?;
+    let subtype = subtype_mark(mark, &scope, faults);
+    let value = initial_value(initial, subtype, &scope, faults)?;
+    drop(scope);
+    let region = &mut part.region;
+    let kind = Kind::Scalar(Scalar { subtype, constant });
+    declare(names, kind, region, faults)?;
+    elaborate(names.first.at, value, region, &mut part.elaborations)
+}
+
+/// Declares variables, constants or tasks (RM 3.3.1, 9.1).
 pub fn objects(
     names: &Identifiers,
     mark: &Ident,
@@ -203,18 +282,14 @@ pub fn objects(
     faults: &mut Least,
 ) -> Made<()>
     ensures { OnOk result (Declares faults.old faults.new outer.now part.old part.new no_tables
-        (checked_object (names_in names.now) names.now.first.at mark.now
-        (plain_initial initial.entry) constant (plain_place part.old.region outer.now)
-        no_tables)) }
+        (leaving no_tables (checked_objects (names_in names.now) names.now.first.at mark.now
+        (plain_initial initial.entry) constant (plain_place part.old.region outer.now)))) }
 {
-    let scope = Scope::within(&part.region, outer, names)?;
-    let subtype = subtype_mark(mark, &scope, faults);
-    let value = initial_value(initial, subtype, &scope, faults)?;
-    drop(scope);
-    let region = &mut part.region;
-    let kind = Kind::Scalar(Scalar { subtype, constant });
-    declare(names, kind, region, faults)?;
-    elaborate(names.first.at, value, region, &mut part.elaborations)
+    let meaning = marked(mark, &*names, &part.region, &*outer)?;
+    match tasks_meant(meaning, initial, constant) {
+        None => scalars(names, mark, initial, constant, outer, part, faults),
+        Some(number) => tasks(names, number, outer, part, faults),
+    }
 }
 
 // The elaborations of arrays, one for each of the names.
@@ -236,25 +311,38 @@ fn elaborate_arrays(
     Ok(())
 }
 
-// The subtype that a mark names within a declaration of these names.
-fn marked<'x>(
+// Declares arrays of a subtype, whose mark stands for this.
+#[tactic(auto, using(aud_typing::proofs::Notes::noted_append))]
+fn rows(
+    names: &Identifiers,
+    bounds: (Bound, Bound),
     mark: &Ident,
-    names: &'x Identifiers,
-    region: &'x Region,
-    outer: &'x [&'x Region],
+    meaning: Option<Meaning>,
+    outer: &[&Region],
+    part: &mut DeclarativePart,
     faults: &mut Least,
-) -> Made<Option<Subtype>>
-    ensures subtype { IfOk result (λ subtype. subtype ≡ subtype_meant
-        (marked mark.now (names_in names.now) (plain_place region.now outer.now))) }
-    ensures noted { OnOk result (faults.new ≡ noted faults.old (subtype_faults
-        (marked mark.now (names_in names.now) (plain_place region.now outer.now)) mark.now.at)) }
+) -> Made<()>
+    requires { meaning ≡ marked mark.now (names_in names.now)
+        (plain_place part.now.region outer.now) }
+    ensures { OnOk result (Declares faults.old faults.new outer.now part.old part.new no_tables
+        (leaving no_tables (checked_array (names_in names.now) names.now.first.at bounds.0
+        bounds.1 mark.now (plain_place part.old.region outer.now)))) }
 {
-    let scope = Scope::within(region, outer, names)?;
-    Ok(subtype_mark(mark, &scope, faults))
+    let low = bound(bounds.0, faults);
+    let high = bound(bounds.1, faults);
+    check_subtype(meaning, mark.at, faults);
+    let subtype = subtype_meant(meaning);
+    let kind = row_between(low, high, subtype);
+    declare(names, kind, &mut part.region, faults)?;
+    elaborate_arrays(
+        names,
+        known(subtype),
+        cells_of(kind),
+        &mut part.elaborations,
+    )
 }
 
-/// Declares arrays (RM 3.6).
-#[tactic(auto, using(aud_typing::proofs::Notes::noted_append))]
+/// Declares arrays, of tasks too (RM 3.6, 9.1).
 pub fn arrays(
     names: &Identifiers,
     bounds: (Bound, Bound),
@@ -264,20 +352,14 @@ pub fn arrays(
     faults: &mut Least,
 ) -> Made<()>
     ensures { OnOk result (Declares faults.old faults.new outer.now part.old part.new no_tables
-        (checked_array (names_in names.now) names.now.first.at bounds.0 bounds.1 mark.now
-        (plain_place part.old.region outer.now) no_tables)) }
+        (leaving no_tables (checked_arrays (names_in names.now) names.now.first.at bounds.0
+        bounds.1 mark.now (plain_place part.old.region outer.now)))) }
 {
-    let low = bound(bounds.0, faults);
-    let high = bound(bounds.1, faults);
-    let subtype = marked(mark, &*names, &part.region, &*outer, faults)?;
-    let kind = row_between(low, high, subtype);
-    declare(names, kind, &mut part.region, faults)?;
-    elaborate_arrays(
-        names,
-        known(subtype),
-        cells_of(kind),
-        &mut part.elaborations,
-    )
+    let meaning = marked(mark, &*names, &part.region, &*outer)?;
+    match task_type_meant(meaning) {
+        None => rows(names, bounds, mark, meaning, outer, part, faults),
+        Some(number) => task_rows(names, bounds, number, outer, part, faults),
+    }
 }
 
 // Declares one exception more, which has the next number.

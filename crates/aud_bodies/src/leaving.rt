@@ -41,21 +41,26 @@ pub fn exit(
     boxed(scope.alloc(), Statement::Exit(at, depth, condition))
 }
 
-/// A return (RM 6.5), which has no value in a procedure: notes its faults, and answers what is left of it.
+/// A return (RM 6.5), which has no value in a procedure, and does not stand in a task's body: notes its faults, and answers what
+/// is left of it.
 #[tactic(auto, using(aud_typing::proofs::Notes::noted_append))]
 #[inline(never)]
 pub fn return_from(
     at: Pos,
     value: &Option<Expression>,
+    in_task: bool,
     scope: &Scope<'_>,
     faults: &mut Least,
 ) -> Left<Statement>
     ensures { Leaves (in_box plain_typed_statement) result faults.old faults.new
-        (return_faults at (plain_maybe value.now) scope.now)
+        (return_faults at (plain_maybe value.now) in_task scope.now)
         (typed_return at (plain_maybe value.now)) }
 {
     match value {
-        None => boxed(scope.alloc(), Statement::Return(at)),
+        None => {
+            return_in_place(!in_task, at, faults);
+            boxed(scope.alloc(), Statement::Return(at))
+        }
         Some(value) => {
             return_in_place(false, at, faults);
             let typed = expression(value, scope, faults)?;

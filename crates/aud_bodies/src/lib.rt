@@ -14,5 +14,6 @@ mod leaving;
 mod made;
 mod statement;
 mod tables;
+mod task;
 pub mod unit;
 mod within;

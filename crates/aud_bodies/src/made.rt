@@ -1,10 +1,10 @@
 // What is left of statements and bodies, of their parts.
 
-ghost use Rattle.std.specs.Prelude.{◌≡◌, IfOk};
+ghost use Rattle.std.specs.Prelude.{◌≡◌, ◌++◌, IfOk};
 ghost use Rattle.aud_syntax.specs.Ties.View.{plain_body as plain_source, plain_choices};
-ghost use Rattle.aud_typed.specs.Tree.{null, block, part_of};
+ghost use Rattle.aud_typed.specs.Tree.{null, block, part_of, activation};
 ghost use Rattle.aud_typed.specs.Ties.View.{plain_boolean, plain_statement, plain_body, plain_unit, statements_in};
-ghost use Rattle.aud_bodies.specs.Statements.{arm_then, arms_then, body_with};
+ghost use Rattle.aud_bodies.specs.Statements.{arm_then, arms_then, begin_of, body_with};
 ghost use Rattle.aud_bodies.specs.Handlers.{is_others, choices_of};
 ghost use Rattle.aud_bodies.specs.Ties.Arms.{plain_arm, plain_arms, plain_handler, plain_parts, plain_sequence, plain_items};
 
@@ -117,16 +117,19 @@ pub fn handler_of(
 /// The statements of a body, and its handlers.
 pub type Parts = (Box<Statements>, Vec<Handler>);
 
-/// A body with these declarations.
+/// A body with these declarations, whose `begin` activates tasks or does not (RM 9.2(3)).
 #[inline(never)]
 pub fn body_of(
     alloc: Global,
     source: &SourceBody,
     declarations: Vec<Statement>,
+    activates: bool,
     parts: Parts,
 ) -> Left<Body>
     ensures { IfOk result (λ body. plain_body body.value
-        ≡ body_with (plain_items declarations) (plain_source source.now) (plain_parts parts)) }
+        ≡ body_with
+        (plain_items declarations ++ activation activates (begin_of (plain_source source.now)))
+        (plain_source source.now) (plain_parts parts)) }
 {
     let (statements, handlers) = parts;
     boxed(
@@ -134,6 +137,7 @@ pub fn body_of(
         Body {
             declarations,
             begin: source.begin,
+            activates,
             statements: Box::into_inner(statements),
             handlers,
             end: source.end,

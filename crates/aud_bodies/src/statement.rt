@@ -1,10 +1,12 @@
 // Statements, declarative parts and bodies.
 
 ghost use Rattle.std.specs.Prelude.{true, IfOk, OnOk};
-ghost use Rattle.aud_syntax.specs.Ties.View.{plain_expression, plain_statement, plain_others, plain_statements, plain_if_statement, arm_list, plain_loop_statement, plain_parameter, plain_block_statement, plain_body, handler_list, plain_declaration, plain_declarations, plain_procedure};
+ghost use Rattle.aud_syntax.specs.declared.tree.TaskBody.{out-TaskBody};
+ghost use Rattle.aud_syntax.specs.Ties.View.{plain_expression, plain_statement, plain_others, plain_statements, plain_if_statement, arm_list, plain_loop_statement, plain_parameter, plain_block_statement, plain_body, handler_list, plain_declaration, plain_declarations, plain_procedure, plain_task_body};
 ghost use Rattle.aud_typed.specs.Ties.View.{plain_body as plain_typed_body, plain_statement as plain_typed_statement};
 ghost use Rattle.aud_bodies.specs.Statements.{labelled, arm_of, checked_loop, checked_statements, checked_others, checked_arms, checked_body, checked_handlers, checked_declaration, checked_declarations, body_behind};
 ghost use Rattle.aud_bodies.specs.Tables.{next_region, region_kept};
+ghost use Rattle.aud_bodies.specs.Tasks.{with_bodies};
 ghost use Rattle.aud_bodies.specs.Ties.Arms.{plain_arm, plain_arms as plain_typed_arms, plain_handlers, plain_parts, plain_sequence, plain_items};
 ghost use Rattle.aud_bodies.specs.Ties.DeclarativePart.{Declares, Enters};
 ghost use Rattle.aud_names.specs.Ties.Regions.{plain_place};
@@ -24,14 +26,15 @@ use crate::made::{
     Parts, arm_of, block_of, body_of, handler_of, if_of, in_order, null_at, unit_of,
 };
 use crate::tables::{Tables, loop_region};
+use crate::task::{body_unit, declare_task, running_within, with_activation, without_bodies};
 use crate::within::{Entering, Within};
 use aud_names::behind::{Left, Made, both, push};
 use aud_names::fault::Least;
-use aud_names::names::{Region, Scope, frame_within};
+use aud_names::names::{Region, Scope, frame_within, task_within};
 use aud_names::rules::{right_label_at_end, right_name_at_end};
 use aud_syntax::tree::{
     Arm, BlockStatement, Body, Declaration, Handler, IfStatement, Iteration, LoopParameter,
-    LoopStatement, ProcedureDeclaration, Statement, Statements,
+    LoopStatement, ProcedureDeclaration, Statement, Statements, TaskBody,
 };
 use aud_typed::program::{
     Arm as TypedArm, Body as TypedBody, Handler as TypedHandler, Statement as TypedStatement,
@@ -66,7 +69,7 @@ fn statement<'a>(
             let found = exit_loop(name, within.labels);
             exit(*at, found, condition, scope, faults)
         }
-        Statement::Return(at, value) => return_from(*at, value, scope, faults),
+        Statement::Return(at, value) => return_from(*at, value, within.in_task, scope, faults),
         Statement::Raise(at, name) => raise(*at, name, within.in_handler, scope, faults),
     }
 }
@@ -185,6 +188,7 @@ fn for_loop<'a>(
         scope: &Scope::new(&own, &outer),
         labels: within.labels,
         in_handler: within.in_handler,
+        in_task: within.in_task,
     };
     let body = loop_body(node, inner, tables, faults);
     let (bounds, body) = both(bounds, body)?;
@@ -220,6 +224,7 @@ fn loop_body<'a>(
         scope: within.scope,
         labels: &labels,
         in_handler: within.in_handler,
+        in_task: within.in_task,
     };
     statements(&node.statements, inner, tables, faults)
 }
@@ -250,6 +255,8 @@ fn block_statement<'a>(
         outer: &outer,
         labels: &labels,
         in_handler: within.in_handler,
+        in_task: within.in_task,
+        of_task: false,
     };
     let number = tables.next_region();
     let part = declared(&node.declarations, region, &outer, tables, faults)?;
@@ -270,8 +277,8 @@ pub fn declared<'a>(
 ) -> Made<DeclarativePart>
     ensures { IfOk result (λ part. Enters faults.old faults.new outer.now part
         (next_region (plain_tables tables.old)) (plain_tables tables.new)
-        (checked_declarations (plain_declarations source.now) (plain_place region outer.now)
-        (region_kept (plain_tables tables.old)))) }
+        (with_bodies (checked_declarations (plain_declarations source.now)
+        (plain_place region outer.now) (region_kept (plain_tables tables.old))))) }
 {
     let alloc = region.alloc;
     let number = tables.next_region();
@@ -281,6 +288,7 @@ pub fn declared<'a>(
         elaborations: Vec::new(alloc),
     };
     declarations(source, outer, &mut part, tables, faults)?;
+    without_bodies(&part.region.awaited, faults);
     tables.name_region(number, &part.region)?;
     Ok(part)
 }
@@ -297,22 +305,24 @@ pub fn body_behind<'a>(
 ) -> Left<TypedBody>
     ensures { Checks (in_box plain_typed_body) result faults.old faults.new
         (plain_tables tables.new)
-        (body_behind (plain_items part.elaborations) (plain_body node.now)
+        (body_behind entering.entry.of_task (plain_items part.elaborations) (plain_body node.now)
         (around_entering entering.entry) (plain_place part.region entering.entry.outer.now)
         (plain_tables tables.old)) }
 {
     let DeclarativePart {
         region,
-        elaborations,
+        mut elaborations,
     } = part;
+    let activates = with_activation(entering.of_task, node.begin, &mut elaborations)?;
     let within = Within {
         scope: &Scope::new(&region, entering.outer),
         labels: entering.labels,
         in_handler: entering.in_handler,
+        in_task: entering.in_task,
     };
     let parts = body(node, within, tables, faults);
     let (elaborations, parts) = both(elaborations, parts)?;
-    body_of(region.alloc, node, elaborations, parts)
+    body_of(region.alloc, node, elaborations, activates, parts)
 }
 
 // A procedure (RM 6.1, 6.3): adds its name to the part, and its formals and its body to the tables.
@@ -343,6 +353,64 @@ fn procedure<'a>(
         outer: &regions,
         labels: &[],
         in_handler: false,
+        in_task: false,
+        of_task: false,
+    };
+    let body = body_behind(inner, &node.body, entering, tables, faults)?;
+    right_name_at_end(&node.name.name, &node.body.name, faults);
+    let unit = unit_of(alloc, level, own, node.at, body)?;
+    tables.put_unit(number, Box::into_inner(unit));
+    Ok(())
+}
+
+// The declarations of a task's body, in the region of the body.
+#[cycle(statement)]
+#[inline(never)]
+fn task_part<'a>(
+    node: &'a TaskBody,
+    region: Region,
+    outer: &[&'a Region],
+    tables: &mut Tables,
+    faults: &mut Least,
+) -> Made<DeclarativePart>
+    ensures { IfOk result (λ part. Enters faults.old faults.new outer.now part
+        (next_region (plain_tables tables.old)) (plain_tables tables.new)
+        (with_bodies (checked_declarations (plain_declarations
+        (out-TaskBody node.now).declarations.items)
+        (plain_place region outer.now) (region_kept (plain_tables tables.old))))) }
+{
+    declared(&node.declarations, region, outer, tables, faults)
+}
+
+// The body of a task or a task type (RM 9.1): adds it to the tables, where its place was kept.
+#[cycle(statement)]
+#[inline(never)]
+fn task_body<'a>(
+    node: &'a TaskBody,
+    outer: &[&'a Region],
+    part: &mut DeclarativePart,
+    tables: &mut Tables,
+    faults: &mut Least,
+) -> Made<()>
+    ensures { OnOk result (Declares faults.old faults.new outer.now part.old part.new
+        (plain_tables tables.new)
+        (checked_declaration (plain_task_body node.now) (plain_place part.old.region outer.now)
+        (plain_tables tables.old))) }
+{
+    let alloc = part.region.alloc;
+    let number = body_unit(&node.name, &mut part.region, tables, faults)?;
+    let running = running_within(&node.name.name, &part.region)?;
+    let level = running.level;
+    let regions = task_within(&running, &part.region, &*outer)?;
+    let region = Region::of_task(alloc, level)?;
+    let own = tables.next_region();
+    let inner = task_part(node, region, &regions, tables, faults)?;
+    let entering = Entering {
+        outer: &regions,
+        labels: &[],
+        in_handler: false,
+        in_task: true,
+        of_task: true,
     };
     let body = body_behind(inner, &node.body, entering, tables, faults)?;
     right_name_at_end(&node.name.name, &node.body.name, faults);
@@ -379,6 +447,8 @@ fn declaration<'a>(
             exceptions(names, &mut part.region, &mut tables.exceptions, faults)
         }
         Declaration::Procedure(node) => procedure(node, outer, part, tables, faults),
+        Declaration::Task(task) => declare_task(task, part, tables, faults),
+        Declaration::TaskBody(node) => task_body(node, outer, part, tables, faults),
     }
 }
 
@@ -421,6 +491,7 @@ fn body<'a>(
         scope: within.scope,
         labels: within.labels,
         in_handler: true,
+        in_task: within.in_task,
     };
     let handlers = handlers(&node.handlers, inner, tables, faults);
     both(statements, handlers)

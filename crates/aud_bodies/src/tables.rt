@@ -3,7 +3,7 @@
 ghost use Rattle.std.specs.Prelude.{◌≡◌, [], ◌++◌, option_map, IfOk, OnOk};
 ghost use Rattle.aud_typed.specs.Ties.View.{plain_shown, plain_region as plain_named_region, plain_unit};
 ghost use Rattle.aud_bodies.specs.Regions.{shown_of, shown_row, shown, shown_before, shown_names, loop_region};
-ghost use Rattle.aud_bodies.specs.Tables.{no_tables, next_region, with_region, region_kept, region_named, next_unit, no_body, unit_kept, with_unit, profile_of};
+ghost use Rattle.aud_bodies.specs.Tables.{no_tables, next_region, with_region, region_kept, region_named, next_unit, no_body, unit_kept, with_unit, next_task, task_kept, profile_of};
 ghost use Rattle.aud_names.specs.Ties.Regions.{plain_region};
 ghost use Rattle.aud_bodies.specs.Ties.Tables.{plain_tables};
 
@@ -13,18 +13,21 @@ use aud_names::names::{Meaning, Object, Parameter, Region, Scope};
 use aud_syntax::tree::Ident;
 use aud_text::name::Name;
 use aud_text::place::Pos;
-use aud_typed::program::{Body, Named, Shown, Statement, Statements, Subtype, Unit, Variable};
+use aud_typed::program::{
+    Body, Named, Shown, Statement, Statements, Subtype, TaskType, Unit, Variable,
+};
 use std::alloc::Global;
 
 /// The variables and constants of each region that has been entered, by the regions' numbers, and the
-/// names of the exceptions, by theirs; of each procedure that has been declared its formals, and its body, by the
-/// number of its unit.
+/// names of the exceptions, by theirs; of each procedure and task that has been declared its formals, and its body,
+/// by the number of its unit; and of each task type that unit, by the number of the type.
 #[derive(Drop)]
 pub struct Tables {
     pub regions: Vec<Vec<Named>>,
     pub exceptions: Vec<Name>,
     pub profiles: Vec<Vec<Parameter>>,
     pub units: Vec<Unit>,
+    pub tasks: Vec<TaskType>,
 }
 
 impl Tables {
@@ -37,6 +40,7 @@ impl Tables {
             exceptions: Vec::new(alloc),
             profiles: Vec::new(alloc),
             units: Vec::new(alloc),
+            tasks: Vec::new(alloc),
         }
     }
 
@@ -109,6 +113,23 @@ impl Tables {
         }
     }
 
+    /// The number of the task type that is declared next.
+    pub fn next_task(&self) -> usize
+        ensures { result ≡ next_task (plain_tables self.now) }
+    {
+        self.tasks.len()
+    }
+
+    /// Keeps the place of the body of a task type, which has the next unit.
+    pub fn keep_task(&mut self, alloc: Global) -> Made<()>
+        ensures { OnOk result (plain_tables self.new ≡ task_kept (plain_tables self.old)) }
+    {
+        let unit = self.units.len();
+        self.keep_unit(alloc, Vec::new(alloc))?;
+        self.tasks.push(TaskType { unit })?;
+        Ok(())
+    }
+
     /// The formals of a unit.
     pub fn profile(&self, unit: usize) -> &[Parameter]
         ensures { result.now ≡ profile_of unit (plain_tables self.now) }
@@ -132,6 +153,7 @@ fn no_body(alloc: Global) -> Unit
         body: Body {
             declarations: Vec::new(alloc),
             begin: at,
+            activates: false,
             statements: Statements {
                 first: Statement::Null(at),
                 others: Vec::new(alloc),
@@ -160,7 +182,7 @@ fn shown_row(subtype: Option<Subtype>, count: usize) -> Shown
     }
 }
 
-// How a variable, constant or array is shown; what stands for something else has no cells.
+// How a variable, constant, array or task is shown; what stands for something else has no cells.
 fn shown(meaning: Meaning) -> Option<Shown>
     ensures { option_map plain_shown result ≡ shown meaning }
 {
@@ -170,6 +192,8 @@ fn shown(meaning: Meaning) -> Option<Shown>
             let count = length_between(array.low, array.high);
             Some(shown_row(array.subtype, count))
         }
+        Meaning::Task(_) => Some(Shown::Hidden(1)),
+        Meaning::TaskArray(array) => Some(Shown::Hidden(length_between(array.low, array.high))),
         _ => None,
     }
 }

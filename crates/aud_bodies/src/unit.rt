@@ -41,6 +41,8 @@ fn typed_within<'a>(
         outer,
         labels: &[],
         in_handler: false,
+        in_task: false,
+        of_task: false,
     };
     let body = body_behind(part, &node.body, entering, &mut tables, faults)?;
     right_name_at_end(&node.name.name, &node.body.name, faults);
@@ -52,11 +54,12 @@ fn typed_within<'a>(
         exceptions,
         profiles: _,
         units,
+        tasks,
     } = tables;
     Ok(Program {
         name,
         units,
-        tasks: Vec::new(alloc),
+        tasks,
         regions,
         exceptions,
     })

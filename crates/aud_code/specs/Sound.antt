@@ -1,9 +1,9 @@
 -- Instructions that never miss an operand: the counts of operands are followed along all ways, as the evaluation would go.
 use Rattle.std.specs.Prelude.{◌≡◌, ℕ, zero, suc, List, [], ◌∷◌, length, Bool, true, false, Option, Some, None, slice_get}
 use Rattle.aud_code.specs.Places.{Way, Guard}
-use Rattle.aud_code.specs.Instruction.{Instruction, Push, Load, LoadElement, OnOne, OnTwo, Count, Check, Cell, PushTruth, Truth, Negate, Relate, Compare, Combine, PassIfFalse, PassIfTrue, IsCallable, IsTerminated, Find, FindElement, LoadFound, Pass, PassCopy, AppendText, AppendImage, AppendTruth, AppendNewLine, Name, Milliseconds, Seconds, BeginObject, Component, OpensAccept, OpensDelay, OpensTerminate, Mark, PassUnlessNext, SetTime, Ending, Declare, DeclareObject, Assign, If, While, Loop, Exit, ReturnValue, CallTask, Operands, Ended, Reached, Marked, Raised, Lost}
+use Rattle.aud_code.specs.Instruction.{Instruction, Push, Load, LoadElement, OnOne, OnTwo, Count, Check, Cell, PushTruth, Truth, Negate, Relate, Compare, Combine, PassIfFalse, PassIfTrue, IsCallable, IsTerminated, Find, FindElement, LoadFound, Pass, PassCopy, AppendText, AppendImage, AppendTruth, AppendNewLine, Name, Milliseconds, Seconds, BeginObject, Component, OpensAccept, OpensDelay, OpensTerminate, Mark, PassUnlessNext, SetTime, Ending, Declare, DeclareObject, Activate, Assign, If, While, Loop, Exit, ReturnValue, CallTask, Operands, Ended, Reached, Marked, Raised, Lost}
 use Rattle.aud_code.specs.Flat.{Last, Does, Continues, Guards, Ends, Leaves, EndLine, FlatLine, end, Flat, instructions_at, end_at}
-use Rattle.aud_code.specs.Frames.{At, EachAt, StepFits}
+use Rattle.aud_code.specs.Frames.{found, Found, At, EachAt, StepFits}
 
 -- how many operands there are, and whether an object is being declared
 pub record Counts : Type 0 where
@@ -129,14 +129,26 @@ LastLeads lines (Guards gs) = GuardsStart lines gs
 LastLeads lines (Ends c next) = IsStart lines next
 LastLeads lines (Leaves n next) = IsStart lines next
 
+-- an exception may be pending there that was not raised there
+abbrev pub IsStatement : Last → Type 0
+IsStatement (Does e) = Unit {0}
+IsStatement last = ⊥
+
+-- behind an activation a statement begins, at which Tasking_Error is pending where it failed (RM 9.2(5))
+abbrev pub ActivatesBefore : List FlatLine → Last → List ℕ → Type 0
+ActivatesBefore lines (Does Activate) (n ∷ ns) = Found (found lines n) (λ l. IsStatement l.last)
+ActivatesBefore lines last ns = Unit {0}
+
 pub record Leads (lines : List FlatLine) (l : EndLine) : Type 0 where
   pub out : IsStart lines l.out
   pub ways : EachStart lines l.ways
   pub bodies : EachStart lines l.bodies
   pub exit : WayStart lines l.exit
   pub last : LastLeads lines l.last
+  pub activates : ActivatesBefore lines l.last l.ways
 
--- Sound code: each step finds its operands, leads to steps, and leaves the frames open that are to be open there.
+-- Sound code: each step finds its operands, leads to steps, an activation to a statement, and leaves the frames open that are to be
+-- open there.
 pub record IsSound (code : Flat) : Type 0 where
   pub operands : (n : ℕ) → IsStart code.lines n → AreFine (LastFine (end_at code n).last) (instructions_at code n) 0 no_counts
   pub leads : (n : ℕ) (l : EndLine) → slice_get code.lines n ≡ Some (end l) → Leads code.lines l

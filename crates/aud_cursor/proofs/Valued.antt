@@ -42,3 +42,6 @@ reversed = record { symbols = refl; begins = refl; same = λ st. refl }
 
 pub in_out : IsMark kind.Out g.InOut
 in_out = record { symbols = refl; begins = refl; same = λ st. refl }
+
+pub typed : IsMark kind.Type g.TaskType
+typed = record { symbols = refl; begins = refl; same = λ st. refl }

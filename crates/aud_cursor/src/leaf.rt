@@ -24,7 +24,7 @@ pub fn ident(alloc: Global, start: Rest) -> Read<Ident>
 }
 
 /// The name behind `end`, of the loop that is left, or of the exception that is raised, if there is
-/// one (RM 5.5, 5.7, 6.3, 11.3).
+/// one (RM 5.5, 5.7, 6.3, 9.1, 11.3).
 pub fn opt_ident(alloc: Global, start: Rest) -> Read<Option<Ident>>
     ensures { MayReadFlat (opt_item an_ident) (Opt g.Identifier) start.entry result }
 {

@@ -2,6 +2,8 @@ pub mod Loops
 pub mod Writing
 pub mod Lists
 pub mod Lines
+pub mod Elaborations
+pub mod Activations
 pub mod Constructs
 pub mod Arguments
 pub mod Units

@@ -13,6 +13,7 @@ use Rattle.aud_code.specs.Sound.{IsStart, IsSound}
 use Rattle.aud_gen.specs.Layout.{Code, code_of, code_controls}
 use Rattle.aud_gen.specs.Shows.{UnitsAt, ShowsControl}
 use Rattle.aud_gen.specs.Assembly.{offset, flat_program}
+use Rattle.aud_gen.specs.Activations.{ActivatesInParts}
 
 -- the layout, one line a step: where each body stands where it begins, places agree with statements
 abbrev pub LayoutAgreementLaw : Type 0
@@ -87,6 +88,6 @@ IsLeft (i ∷ rest) = Unit {0}
 abbrev pub StartLaw : Type 0
 StartLaw = (program : Program) (m : Spot) (items : List Item) → ShowsFlat program m items → IsLeft items → IsStart (flat_program program).lines m.place
 
--- the code of every program is sound
+-- the code of every program is sound whose declarative parts alone activate tasks
 abbrev pub SoundLaw : Type 0
-SoundLaw = (program : Program) → IsSound (flat_program program)
+SoundLaw = (program : Program) → ActivatesInParts program → IsSound (flat_program program)

@@ -93,7 +93,7 @@ pub fn start_law()
     ensures { StartLaw }
 {}
 
-/// The code of every program is sound.
+/// The code of every program is sound whose declarative parts alone activate tasks (RM 9.2(3)).
 pub fn sound_law()
     ensures { SoundLaw }
 {}

@@ -3,7 +3,7 @@
 ghost use Rattle.std.specs.Prelude.{◌≡◌, ◌+◌, ℕ, length, IfOk};
 ghost use Rattle.aud_typed.specs.Tree.{part_of};
 ghost use Rattle.aud_typed.specs.Ties.View.{plain_argument, plain_arguments};
-ghost use Rattle.aud_typed.specs.Ties.View.{plain_integer, plain_task, plain_boolean, plain_value, plain_reference, plain_text, plain_statement, plain_statements, statements_in, if_in, for_in, handlers_in, body_in, block_in};
+ghost use Rattle.aud_typed.specs.Ties.View.{plain_integer, plain_task, plain_boolean, plain_value, plain_reference, plain_text, plain_statement, plain_statements, statements_in, if_in, for_in, handlers_in, elaborations_in, body_in, block_in};
 ghost use Rattle.aud_typed.specs.declared.program.Subtype.{Subtype};
 ghost use Rattle.aud_gen.specs.Instructions.{argument_code, arguments_code, copied_code};
 ghost use Rattle.aud_gen.specs.Instructions.{integer_code, task_code, condition_code, value_code, reference_code, text_code};
@@ -181,7 +181,6 @@ pub fn statement_length(s: &Statement, ways: usize) -> Result<usize, AllocError>
         Statement::ProcedureCall(_, _, arguments) => sum(arguments_length(arguments)?, 1),
         Statement::DeclareTasks(..) => Ok(1),
         Statement::Activated(_) => Ok(1),
-        Statement::Activate(_) => Ok(1),
     }
 }
 
@@ -227,7 +226,7 @@ fn block_length(block: &BlockStatement, ways: usize) -> Result<usize, AllocError
     sum(sum(body_length(&block.body, ways)?, ways)?, 1)
 }
 
-/// Of a body: its declarations, its statements, the line that guards them, its handlers, and its end.
+/// Of a body: its declarations and their activation, its statements, the line that guards them, its handlers, and its end.
 #[cycle(lengths)]
 pub fn body_length(body: &Body, ways: usize) -> Result<usize, AllocError>
     ensures { IfOk result (λ n. n ≡ body_size_by flat_step (body_in body.now) ways) }
@@ -240,13 +239,27 @@ pub fn body_length(body: &Body, ways: usize) -> Result<usize, AllocError>
 pub fn place_of_end(body: &Body, place: usize, ways: usize) -> Result<usize, AllocError>
     ensures { IfOk result (λ n. n ≡ end_place_by flat_step (body_in body.now) place ways) }
 {
-    let declarations = list_length(&body.declarations, ways)?;
+    let elaborations = elaborations_length(body, ways)?;
     let statements = statements_length(&body.statements, ways)?;
     let handlers = handlers_length(&body.handlers, ways)?;
     sum(
-        sum(place, declarations)?,
+        sum(place, elaborations)?,
         sum(statements, sum(handlers, 1)?)?,
     )
+}
+
+/// Of what a body does before its statements: its declarations, and the activation at its `begin`.
+#[cycle(lengths)]
+pub fn elaborations_length(body: &Body, ways: usize) -> Result<usize, AllocError>
+    ensures { IfOk result (λ n.
+        n ≡ part_size_by flat_step (part_of (elaborations_in body.now)) ways) }
+{
+    let declared = list_length(&body.declarations, ways)?;
+    if body.activates {
+        sum(declared, 1)
+    } else {
+        Ok(declared)
+    }
 }
 
 /// Of handlers.

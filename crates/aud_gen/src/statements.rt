@@ -3,13 +3,13 @@
 ghost use Rattle.std.specs.Prelude.{◌≡◌, List, length};
 ghost use Rattle.aud_typed.specs.declared.program.Arm.{Arm as Arms};
 ghost use Rattle.aud_typed.specs.Tree.{part_of};
-ghost use Rattle.aud_typed.specs.Ties.View.{plain_boolean, plain_statement, plain_statements, statements_in, part_of_arms, if_in, for_in, handlers_in, body_in, block_in};
+ghost use Rattle.aud_typed.specs.Ties.View.{plain_boolean, plain_statement, plain_statements, statements_in, part_of_arms, if_in, for_in, handlers_in, elaborations_in, body_in, block_in};
 ghost use Rattle.aud_gen.specs.Layout.{in_loop};
 ghost use Rattle.aud_gen.specs.Writes.{around, statement_lines, part_lines, has_statements, listed_lines, arm_lines, while_lines, for_lines, handlers_lines, body_lines, Writes, WritesInside};
 
 use crate::lengths::{
-    boolean_length, integer_length, list_length, place_of_end, statement_length, statements_length,
-    sum,
+    boolean_length, elaborations_length, integer_length, list_length, place_of_end,
+    statement_length, statements_length, sum,
 };
 use crate::ways::Ways;
 use crate::writer::{Writer, Written};
@@ -101,7 +101,6 @@ impl Writer {
             Statement::Activated(at) => {
                 self.end(Last::EndsActivation(next), *at, out, ways.within)
             }
-            Statement::Activate(at) => self.end(Last::Activates(next), *at, out, ways.within),
         }
     }
 
@@ -285,8 +284,8 @@ impl Writer {
         self.write_stubs(ways, block.body.end, Some(place))
     }
 
-    /// A body with its end at the place `last`: its declarations, its statements, the line that guards them, its handlers,
-    /// and its end.
+    /// A body with its end at the place `last`: its declarations and their activation, its statements, the line that guards
+    /// them, its handlers, and its end.
     #[cycle(statements)]
     pub fn write_body(
         &mut self,
@@ -301,13 +300,30 @@ impl Writer {
             body_lines construct (body_in body.now) last place next out a) }
     {
         let count = ways.count()?;
-        let begin = sum(self.place(), list_length(&body.declarations, count)?)?;
+        let begin = sum(self.place(), elaborations_length(body, count)?)?;
         let guard = sum(begin, statements_length(&body.statements, count)?)?;
-        self.write_list(&body.declarations, ways, last, begin)?;
+        self.write_elaborations(body, ways, last, begin)?;
         self.write_statements(&body.statements, ways, guard, last)?;
         self.write_guards(&body.handlers, body.end, last, count, ways.within)?;
         self.write_handlers(&body.handlers, ways, last)?;
         self.end(Last::Ends(construct, next), body.end, out, ways.within)
+    }
+
+    // What a body does before its statements: its declarations, and the activation at its `begin`.
+    #[cycle(statements)]
+    fn write_elaborations(&mut self, body: &Body, ways: &Ways, out: usize, next: usize) -> Written
+        ensures { WritesInside result self.old self.new (around out ways.now) (λ place a.
+            part_lines (part_of (elaborations_in body.now)) place next a) }
+    {
+        if !body.activates {
+            return self.write_list(&body.declarations, ways, out, next);
+        }
+        let activation = sum(
+            self.place(),
+            list_length(&body.declarations, ways.count()?)?,
+        )?;
+        self.write_list(&body.declarations, ways, out, activation)?;
+        self.end(Last::Activates(next), body.begin, out, ways.within)
     }
 
     // The statements of handlers, behind which comes the end at the place `last`.

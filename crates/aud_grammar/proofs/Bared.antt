@@ -1,6 +1,6 @@
 -- Places do not matter: tokens that are alike are read alike.
 use Rattle.std.proofs.Common.{◌≡◌, List, [], ◌∷◌, map, refl, ap, ◌∙◌, Bool, true, false}
-use Rattle.std.specs.Prelude.{None}
+use Rattle.std.specs.Prelude.{Option, None}
 use Rattle.aud_text.specs.declared.place.Pos.{Pos}
 use Rattle.aud_lex.specs.declared.token.Kind.TheVariants as kind
 use Rattle.aud_lex.specs.Element.{Element}
@@ -13,7 +13,7 @@ use Rattle.aud_syntax.specs.declared.tree.Mode.TheVariants as mode
 use Rattle.aud_syntax.specs.declared.tree.Connective.{Connective}
 use Rattle.aud_syntax.specs.declared.tree.Connective.TheVariants as connective
 use Rattle.aud_syntax.specs.Plain as m
-use Rattle.aud_syntax.specs.Why.Bare.{nowhere, bare_ident, bare_number, bare_literal, bare_signed, bare_operator, bare_sign, bare_highest, bare_end, bare_expression, bare_relation, bare_relations, bare_name, bare_part, bare_parts, bare_args, bare_simple, bare_addeds, bare_added, bare_term, bare_multiplieds, bare_multiplied, bare_factor, bare_primary, bare_maybe, bare_mode, bare_formal, bare_declaration, bare_declarations, bare_statement, bare_more_statements, bare_statements, bare_body, bare_context, bare, bare_arms, bare_iteration, bare_bound, bare_choices, bare_handlers}
+use Rattle.aud_syntax.specs.Why.Bare.{nowhere, bare_ident, bare_number, bare_literal, bare_signed, bare_operator, bare_sign, bare_highest, bare_end, bare_expression, bare_relation, bare_relations, bare_name, bare_part, bare_parts, bare_args, bare_simple, bare_addeds, bare_added, bare_term, bare_multiplieds, bare_multiplied, bare_factor, bare_primary, bare_maybe, bare_mode, bare_formal, bare_definition, bare_declaration, bare_declarations, bare_statement, bare_more_statements, bare_statements, bare_body, bare_context, bare, bare_arms, bare_iteration, bare_bound, bare_choices, bare_handlers}
 use Rattle.aud_grammar.specs.Grammar as g
 use Rattle.aud_grammar.specs.Grammar.{Phrase, Symbol, T, P, N, L, Down, A, Opt, Rep, rule}
 use Rattle.aud_grammar.specs.Actions as a
@@ -72,6 +72,9 @@ bare_item (a.an_array x y i) = a.an_array (bare_bound x) (bare_bound y) (bare_id
 bare_item a.an_exception = a.an_exception
 bare_item (a.a_mode x) = a.a_mode (bare_mode x)
 bare_item (a.a_formal x) = a.a_formal (bare_formal x)
+bare_item (a.a_definition x) = a.a_definition (record { end_name = bare_end x.end_name })
+bare_item (a.a_task is_type x definition) = a.a_task is_type (bare_ident x) (bare_definition definition)
+bare_item (a.a_task_body x ds rest) = a.a_task_body (bare_ident x) (bare_declarations ds) (bare_body rest)
 bare_item (a.a_declaration x) = a.a_declaration (bare_declaration x)
 bare_item (a.a_context x) = a.a_context (bare_context x)
 bare_item (a.a_unit x) = a.a_unit (bare x)
@@ -232,6 +235,10 @@ bare_the_formals : (x : Item) → a.the_formals (bare_item x) ≡ map bare_forma
 bare_the_formals (cons x y) = cc (bare_the_formal x, bare_the_formals y)
 bare_the_formals _ = refl
 
+bare_opt_definition : (x : Item) → a.opt_definition (bare_item x) ≡ bare_definition (a.opt_definition x)
+bare_opt_definition (a.a_definition y) = refl
+bare_opt_definition _ = refl
+
 bare_the_choices : (x : Item) → a.the_choices (bare_item x) ≡ bare_choices (a.the_choices x)
 bare_the_choices (a.some_choices y) = refl
 bare_the_choices _ = refl
@@ -302,6 +309,11 @@ bare_declared i is (a.a_constant j e) = refl
 bare_declared i is (a.an_array x y j) = refl
 bare_declared i is a.an_exception = refl
 bare_declared i is _ = refl
+
+bare_task_declared : (at : Pos) (x : Item) → a.task_declared nowhere (bare_item x) ≡ bare_declaration (a.task_declared at x)
+bare_task_declared at (a.a_task is_type i definition) = refl
+bare_task_declared at (a.a_task_body i ds x) = refl
+bare_task_declared at _ = refl
 
 bare_with_attribute : (n : m.Name) (x : Item) → a.with_attribute (bare_name n) (bare_item x) ≡ bare_primary (a.with_attribute n x)
 bare_with_attribute n (a.an_attribute j e) = refl
@@ -456,6 +468,11 @@ bare_made g.Formal e = made_3 (λ x y z. a.a_formal (m.formal (a.first_name x) (
 bare_made g.InMode e = made_2 (λ x y. a.a_mode (a.in_mode (a.place x) (a.is_there y))) (λ x y. ap (λ (z : Mode). a.a_mode z) (bare_in_mode x y))
 bare_made g.InOut e = λ st. refl
 bare_made g.OutMode e = made_1 (λ x. a.a_mode (mode.Out (a.place x))) (λ x. ap (λ (z : Pos). a.a_mode (mode.Out z)) (bare_place x))
+bare_made g.Task e = made_2 (λ x y. a.a_declaration (a.task_declared (a.place x) y)) (λ x y. cc (bare_place x, bare_task_declared (a.place x) y))
+bare_made g.TaskDeclaration e = made_3 (λ x y z. a.a_task (a.is_there x) (a.the_ident y) (a.opt_definition z)) (λ x y z. cc (bare_is_there x, bare_the_ident y, bare_opt_definition z))
+bare_made g.TaskType e = λ st. refl
+bare_made g.TaskDefinition e = made_1 (λ x. a.a_definition (record { end_name = a.opt_ident x })) (λ x. ap (λ (z : Option Ident). a.a_definition (record { end_name = z })) (bare_opt_ident x))
+bare_made g.TaskBody e = made_3 (λ x y z. a.a_task_body (a.the_ident x) (a.the_declarations y) (a.the_body z)) (λ x y z. cc (bare_the_ident x, bare_the_declarations y, bare_the_body z))
 bare_made g.Body e =
     made_6 (λ x y h z w s. a.a_body (m.body (a.place x) (a.the_statements y) (a.the_handlers h) (a.place z) (a.opt_ident w) (a.place s)))
     (λ x y h z w s. cc (bare_place x, bare_the_statements y, bare_the_handlers h, bare_place z, bare_opt_ident w, bare_place s))

@@ -21,3 +21,4 @@ pub mod RoundTrip
 pub mod Rows
 pub mod ControlRows
 pub mod ProcedureRows
+pub mod TaskRows

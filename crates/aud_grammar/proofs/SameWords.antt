@@ -1,6 +1,6 @@
 -- Words that differ in the ends of their lines alone, and how lists of words are put together.
 use Rattle.std.proofs.Common.{◌≡◌, ℕ, List, [], ◌∷◌, ◌++◌, map, refl, sym, ap, ◌∙◌, append_assoc}
-use Rattle.std.specs.Prelude.{codes}
+use Rattle.std.specs.Prelude.{Option, Bool, codes}
 use Rattle.aud_lex.specs.Why.Spaced.{Word, word, last_word}
 use Rattle.aud_syntax.specs.declared.tree.Ident.{Ident}
 use Rattle.aud_syntax.specs.declared.tree.Bound.{Bound}
@@ -117,6 +117,20 @@ procedure_same i fs ds es us vs h j =
 
 pub unit_same : (cs : List m.Context) (i : Ident) (ds es us vs : List Word) → Same ds es → Same us vs → Same (w.contexts_words cs ++ procedure_words i [] ds us) (w.contexts_words cs ++ procedure_words i [] es vs)
 unit_same cs i ds es us vs h j = same_on (w.contexts_words cs) (procedure_words i [] ds us) (procedure_words i [] es vs) (procedure_same i [] ds es us vs h j)
+
+-- what stands behind `task`: of a declaration; of a body, whose declarations and body have these words
+
+abbrev pub task_words : Bool → Ident → Option m.TaskDefinition → List Word
+task_words is_type i definition = w.type_words is_type ++ (w.ident_word i ∷ (w.definition_words definition ++ (last_word (codes ";") ∷ [])))
+
+abbrev pub task_body_words : Ident → List Word → List Word → List Word
+task_body_words i ds us = word (codes "body") ∷ w.ident_word i ∷ last_word (codes "is") ∷ (ds ++ us)
+
+pub task_body_on : (i : Ident) (ds us ws : List Word) → task_body_words i ds us ++ ws ≡ word (codes "body") ∷ w.ident_word i ∷ last_word (codes "is") ∷ (ds ++ (us ++ ws))
+task_body_on i ds us ws = one_on _ _ _ (one_on _ _ _ (one_on _ _ _ (append_assoc ds us ws)))
+
+pub task_body_same : (i : Ident) (ds es us vs : List Word) → Same ds es → Same us vs → Same (task_body_words i ds us) (task_body_words i es vs)
+task_body_same i ds es us vs h j = ap (λ z. codes "body" ∷ i.name ∷ codes "is" ∷ z) (same_both ds es us vs h j)
 
 -- the words of parts of trees
 

@@ -8,6 +8,7 @@ use Rattle.aud_grammar.specs.Grammar.{Phrase}
 pub data Sort : Type 0 where
   s_context s_library s_declaration_rest s_index s_bound s_negated : Sort
   s_formals s_formal s_more_formal s_mode s_in_out : Sort
+  s_task_rest s_task_type s_definition : Sort
   s_behind s_selected s_more_arg : Sort
   s_unit s_declarations s_declaration s_idents s_initial s_body s_statements s_statement s_rest : Sort
   s_expression s_logic s_and_rest s_or_rest s_relation s_compared s_relational s_simple s_sign s_added s_adding s_term s_multiplied s_multiplying s_factor s_operator : Sort
@@ -38,6 +39,12 @@ sort g.Mode = s_mode
 sort g.InMode = s_mode
 sort g.InOut = s_in_out
 sort g.OutMode = s_mode
+sort g.Task = s_declaration
+sort g.TaskRest = s_task_rest
+sort g.TaskDeclaration = s_task_rest
+sort g.TaskType = s_task_type
+sort g.TaskDefinition = s_definition
+sort g.TaskBody = s_task_rest
 sort g.Identifiers = s_idents
 sort g.MoreIdentifiers = s_more_ident (codes ",")
 sort g.DeclarationRest = s_declaration_rest

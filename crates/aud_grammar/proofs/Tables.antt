@@ -1,6 +1,6 @@
 -- What the laws need to know of each phrase. Written by tools/grammar_tables.py, and checked in Reading and Ends.
 use Rattle.std.specs.Prelude.{ℕ, List, [], ◌∷◌}
-use Rattle.aud_grammar.specs.Grammar.{Phrase, Unit, Clause, WithClause, UseClause, Library, Declarations, DeclarationList, Declaration, NamedDeclaration, Identifiers, MoreIdentifiers, DeclarationRest, Variable, Constant, Initial, ArrayRest, Index, InIndex, Bound, Negated, ExceptionRest, Procedure, Formals, InFormals, MoreFormals, Formal, Mode, InMode, InOut, OutMode, Body, Handlers, HandlerList, Handler, Choices, Others, NamedChoices, MoreChoices, Statements, StatementList, Statement, NullStatement, NameStatement, NameRest, Labelled, Labellable, NamedStatement, StatementRest, Assignment, Call, If, Elsif, ElsePart, Loop, Iteration, While, For, Reverse, Block, Declare, Exit, When, Return, Raise, Expression, Logic, AndLogic, AndRest, AndThen, AndOnly, MoreAndThen, MoreAnd, OrLogic, OrRest, OrElse, OrOnly, MoreOrElse, MoreOr, XorLogic, MoreXor, Relation, Compared, RelationalOperator, Equal, Unequal, Less, AtMost, Greater, AtLeast, Simple, Sign, Positive, Negative, Added, AddingOperator, Plus, Minus, Join, Term, Multiplied, MultiplyingOperator, Times, Divide, Modulo, Remainder, Factor, Operator, Magnitude, Not, Primary, Integer, String, Named, Attribute, Group, Parens, InParens, Name, NamePart, Selected, Args, InArgs, MoreArgs, Identifier, Number, Literal}
+use Rattle.aud_grammar.specs.Grammar.{Phrase, Unit, Clause, WithClause, UseClause, Library, Declarations, DeclarationList, Declaration, NamedDeclaration, Identifiers, MoreIdentifiers, DeclarationRest, Variable, Constant, Initial, ArrayRest, Index, InIndex, Bound, Negated, ExceptionRest, Procedure, Formals, InFormals, MoreFormals, Formal, Mode, InMode, InOut, OutMode, Task, TaskRest, TaskDeclaration, TaskType, TaskDefinition, TaskBody, Body, Handlers, HandlerList, Handler, Choices, Others, NamedChoices, MoreChoices, Statements, StatementList, Statement, NullStatement, NameStatement, NameRest, Labelled, Labellable, NamedStatement, StatementRest, Assignment, Call, If, Elsif, ElsePart, Loop, Iteration, While, For, Reverse, Block, Declare, Exit, When, Return, Raise, Expression, Logic, AndLogic, AndRest, AndThen, AndOnly, MoreAndThen, MoreAnd, OrLogic, OrRest, OrElse, OrOnly, MoreOrElse, MoreOr, XorLogic, MoreXor, Relation, Compared, RelationalOperator, Equal, Unequal, Less, AtMost, Greater, AtLeast, Simple, Sign, Positive, Negative, Added, AddingOperator, Plus, Minus, Join, Term, Multiplied, MultiplyingOperator, Times, Divide, Modulo, Remainder, Factor, Operator, Magnitude, Not, Primary, Integer, String, Named, Attribute, Group, Parens, InParens, Name, NamePart, Selected, Args, InArgs, MoreArgs, Identifier, Number, Literal}
 
 -- the kinds that may come behind some phrases, as numbers; 999 is the end of the tokens
 abbrev behind_unit : List ℕ
@@ -13,7 +13,7 @@ abbrev behind_declarations : List ℕ
 behind_declarations = 10 ∷ []
 
 abbrev behind_declaration : List ℕ
-behind_declaration = 10 ∷ 48 ∷ 100 ∷ []
+behind_declaration = 10 ∷ 48 ∷ 64 ∷ 100 ∷ []
 
 abbrev behind_identifiers : List ℕ
 behind_identifiers = 84 ∷ []
@@ -43,7 +43,7 @@ abbrev behind_mode : List ℕ
 behind_mode = 100 ∷ []
 
 abbrev behind_body : List ℕ
-behind_body = 10 ∷ 14 ∷ 19 ∷ 20 ∷ 21 ∷ 23 ∷ 24 ∷ 25 ∷ 29 ∷ 34 ∷ 38 ∷ 48 ∷ 50 ∷ 56 ∷ 70 ∷ 71 ∷ 100 ∷ 999 ∷ []
+behind_body = 10 ∷ 14 ∷ 19 ∷ 20 ∷ 21 ∷ 23 ∷ 24 ∷ 25 ∷ 29 ∷ 34 ∷ 38 ∷ 48 ∷ 50 ∷ 56 ∷ 64 ∷ 70 ∷ 71 ∷ 100 ∷ 999 ∷ []
 
 abbrev behind_handlers : List ℕ
 behind_handlers = 21 ∷ []
@@ -145,6 +145,12 @@ known Mode = (3, behind_mode)
 known InMode = (1, behind_mode)
 known InOut = (1, behind_mode)
 known OutMode = (1, behind_mode)
+known Task = (1, behind_declaration)
+known TaskRest = (5, behind_declaration)
+known TaskDeclaration = (3, behind_declaration)
+known TaskType = (1, behind_mode)
+known TaskDefinition = (1, behind_initial)
+known TaskBody = (1, behind_declaration)
 known Body = (1, behind_body)
 known Handlers = (1, behind_handlers)
 known HandlerList = (2, behind_handlers)

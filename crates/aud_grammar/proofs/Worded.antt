@@ -1,6 +1,6 @@
 -- The words of a tree are the tokens that spell it, each written canonically, but for the ends of lines.
 use Rattle.std.proofs.Common.{append-nil, ◌≡◌, ℕ, List, [], ◌∷◌, ◌++◌, map, refl, sym, ap, ◌∙◌, subst, append_assoc}
-use Rattle.std.specs.Prelude.{Option, Some, None, codes, true, false, ◌==◌}
+use Rattle.std.specs.Prelude.{Option, Some, None, Bool, codes, true, false, ◌==◌}
 use Rattle.std.proofs.lemmas.Bool.{eqb-true}
 use Rattle.aud_lex.specs.declared.token.Kind.{Kind}
 use Rattle.aud_lex.specs.declared.token.Kind.TheVariants as kind
@@ -39,8 +39,8 @@ use Rattle.aud_grammar.specs.Why.Derives.{Member, here, later, Derives, d_end, d
 use Rattle.aud_grammar.proofs.Canonical.{written_as, written}
 use Rattle.aud_grammar.proofs.Choices.{and_in, heads}
 use Rattle.aud_grammar.proofs.Places.{is_code}
-use Rattle.aud_grammar.proofs.Sorts.{Sort, s_context, s_library, s_declaration_rest, s_index, s_bound, s_negated, s_formals, s_formal, s_more_formal, s_mode, s_in_out, s_behind, s_selected, s_more_arg, s_unit, s_declarations, s_declaration, s_idents, s_initial, s_body, s_statements, s_statement, s_rest, s_expression, s_logic, s_and_rest, s_or_rest, s_relation, s_compared, s_relational, s_simple, s_sign, s_added, s_adding, s_term, s_multiplied, s_multiplying, s_factor, s_operator, s_primary, s_attribute, s_parens, s_name, s_part, s_args, s_ident, s_number, s_literal, s_arm, s_else, s_unlabelled, s_iteration, s_reverse, s_when, s_declare, s_handlers, s_handler_list, s_handler, s_choices, s_more_ident, s_more_relation, sort}
-use Rattle.aud_grammar.proofs.SameWords.{attribute_words, expression_words, behind_words, library_words, variable_words, constant_words, array_words, exception_words, assigned_words, behind_words_of, texts, Same, same_both, one_on, two, three, last_two, list_between, list_first, arm, arm_same, in_if, if_words, if_same, in_loop, loop_words, loop_same, in_body, body_words, body_same, procedure_words, procedure_on, procedure_same, unit_same}
+use Rattle.aud_grammar.proofs.Sorts.{Sort, s_context, s_library, s_declaration_rest, s_index, s_bound, s_negated, s_formals, s_formal, s_more_formal, s_mode, s_in_out, s_task_rest, s_task_type, s_definition, s_behind, s_selected, s_more_arg, s_unit, s_declarations, s_declaration, s_idents, s_initial, s_body, s_statements, s_statement, s_rest, s_expression, s_logic, s_and_rest, s_or_rest, s_relation, s_compared, s_relational, s_simple, s_sign, s_added, s_adding, s_term, s_multiplied, s_multiplying, s_factor, s_operator, s_primary, s_attribute, s_parens, s_name, s_part, s_args, s_ident, s_number, s_literal, s_arm, s_else, s_unlabelled, s_iteration, s_reverse, s_when, s_declare, s_handlers, s_handler_list, s_handler, s_choices, s_more_ident, s_more_relation, sort}
+use Rattle.aud_grammar.proofs.SameWords.{attribute_words, expression_words, behind_words, library_words, variable_words, constant_words, array_words, exception_words, assigned_words, behind_words_of, texts, Same, same_both, one_on, two, three, last_two, list_between, list_first, arm, arm_same, in_if, if_words, if_same, in_loop, loop_words, loop_same, in_body, body_words, body_same, procedure_words, procedure_on, procedure_same, task_words, task_body_words, task_body_on, task_body_same, unit_same}
 
 -- a statement whose words, behind a name, are those without it
 abbrev Unlabelled : m.Statement → Type 0
@@ -65,6 +65,10 @@ data Says : Sort → Item → List Word → Type 0 where
   says_more_formal : (x : m.Formal) → Says s_more_formal (a.a_formal x) (last_word (codes ";") ∷ w.formal_words x)
   says_mode : (x : Mode) → Says s_mode (a.a_mode x) (w.mode_words x)
   says_in_out : Says s_in_out a.there (word (codes "out") ∷ [])
+  says_task : (is_type : Bool) (i : Ident) (definition : Option m.TaskDefinition) → Says s_task_rest (a.a_task is_type i definition) (task_words is_type i definition)
+  says_task_body : (i : Ident) (ds : m.Declarations) (b : m.Body) (us : List Word) → Same us (task_body_words i (w.declarations_words ds) (w.body_words b)) → Says s_task_rest (a.a_task_body i ds b) us
+  says_task_type : Says s_task_type a.there (word (codes "type") ∷ [])
+  says_definition : (x : m.TaskDefinition) → Says s_definition (a.a_definition x) (w.definition_words (Some x))
   says_idents : (x : Ident) (xs : List Ident) → Says s_idents (a.some_names x xs) (w.idents_words x xs)
   says_more_ident : (delimiter : List ℕ) (i : Ident) → Says (s_more_ident delimiter) (a.an_ident i) (word delimiter ∷ w.ident_word i ∷ [])
   says_initial : (e : m.Expression) → Says s_initial (a.an_expression e) (word (codes ":=") ∷ expression_words e)
@@ -196,11 +200,14 @@ of_sort : {o : Sort} {p : Phrase} {ps : List Phrase} {x : Item} {us : List Word}
 of_sort {x = x} {us} here e s = subst (λ o. Says o x us) (heads e).0 s
 of_sort (later m) e s = of_sort m (heads e).1 s
 
--- a procedure, a loop and a body of their parts
+-- a procedure, the body of a task, a loop and a body of their parts
 
 procedure_told : (t : Element) (i : Ident) (fs : List m.Formal) (ds : m.Declarations) (b : m.Body) (es vs : List Word) → Same es (w.declarations_words ds) → Same vs (w.body_words b) →
     Says s_declaration (a.a_declaration (m.procedure t.at i fs ds b)) (procedure_words i (w.formals_words fs) es vs)
 procedure_told t i fs ds b es vs h j = says_declaration (m.procedure t.at i fs ds b) (procedure_words i (w.formals_words fs) es vs) (procedure_same i (w.formals_words fs) es (w.declarations_words ds) vs (w.body_words b) h j)
+
+task_body_told : (i : Ident) (ds : m.Declarations) (b : m.Body) (es vs : List Word) → Same es (w.declarations_words ds) → Same vs (w.body_words b) → Says s_task_rest (a.a_task_body i ds b) (task_body_words i es vs)
+task_body_told i ds b es vs h j = says_task_body i ds b (task_body_words i es vs) (task_body_same i es (w.declarations_words ds) vs (w.body_words b) h j)
 
 loop_told : (at : Pos) (i : m.Iteration) (x : m.Statements) (us : List Word) (last : Option Ident) (s : Element) → Same us (w.statements_words x) →
     Says s_unlabelled (a.a_statement (m.loop None at i x last s.at)) (in_loop (w.iteration_words i) us (w.end_words last) [])
@@ -280,6 +287,21 @@ told_rule g.InMode (t_token t (t_some says_in_out r)) = t_part (says_mode (mode.
 told_rule g.InMode (t_token t (t_none r)) = t_part (says_mode (mode.In t.at)) r
 told_rule g.InOut (t_word c r) = t_part says_in_out r
 told_rule g.OutMode (t_token t r) = t_part (says_mode (mode.Out t.at)) r
+told_rule g.Task (t_token t (t_part (says_task b i d) r)) = t_part (says_declaration (m.task t.at b i d) (w.task_words b i d) refl) r
+told_rule g.Task (t_token t (t_part (says_task_body i ds b us h) r)) = t_part (says_declaration (m.task_body t.at i ds b) (word (codes "task") ∷ us) (ap (λ z. codes "task" ∷ z) h)) r
+told_rule g.TaskRest (t_one m s r) = t_part (of_sort m refl s) r
+told_rule g.TaskDeclaration (t_some says_task_type (t_part (says_ident i) (t_some (says_definition d) (t_word {ws = ws} s r)))) =
+    so (t_part (says_task true i (Some d)) r) (one_on _ _ _ (one_on _ _ _ (append_assoc (w.definition_words (Some d)) (last_word (codes ";") ∷ []) ws)))
+told_rule g.TaskDeclaration (t_some says_task_type (t_part (says_ident i) (t_none (t_word s r)))) = t_part (says_task true i None) r
+told_rule g.TaskDeclaration (t_none (t_part (says_ident i) (t_some (says_definition d) (t_word {ws = ws} s r)))) =
+    so (t_part (says_task false i (Some d)) r) (one_on _ _ _ (append_assoc (w.definition_words (Some d)) (last_word (codes ";") ∷ []) ws))
+told_rule g.TaskDeclaration (t_none (t_part (says_ident i) (t_none (t_word s r)))) = t_part (says_task false i None) r
+told_rule g.TaskType (t_word c r) = t_part says_task_type r
+told_rule g.TaskDefinition (t_word c (t_word e (t_some (says_ident i) r))) = t_part (says_definition (record { end_name = Some i })) r
+told_rule g.TaskDefinition (t_word c (t_word e (t_none r))) = t_part (says_definition (record { end_name = None })) r
+told_rule g.TaskBody (t_word c (t_part (says_ident i) (t_word y (t_some (says_declarations d es h) (t_part {ws = ws} (says_body b vs j) r))))) =
+    so (t_part (task_body_told i (a.the_declarations d) b es vs h j) r) (task_body_on i es vs ws)
+told_rule g.TaskBody (t_word c (t_part (says_ident i) (t_word y (t_none (t_part (says_body b vs j) r))))) = t_part (task_body_told i m.no_declarations b [] vs refl j) r
 told_rule g.Body (t_token b (t_part (says_statements x us h) (t_some (says_handlers y hs j) (t_token e (t_some (says_ident i) (t_token {ws = ws} s r)))))) =
     so (t_part (body_told b x y us hs e (Some i) s h j) r) (body_words us hs (w.ident_word i ∷ []) ws)
 told_rule g.Body (t_token b (t_part (says_statements x us h) (t_some (says_handlers y hs j) (t_token e (t_none (t_token {ws = ws} s r)))))) =

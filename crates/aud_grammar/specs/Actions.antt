@@ -90,6 +90,12 @@ pub data Item : Type 0 where
   -- how formal parameters are passed, and those that are declared together
   a_mode : Mode → Item
   a_formal : m.Formal → Item
+  -- the definition of a task
+  a_definition : m.TaskDefinition → Item
+  -- what follows `task`: whether a type is declared, the name, and the definition, if there is one
+  a_task : Bool → Ident → Option m.TaskDefinition → Item
+  -- the same of a body: the name, the declarations and the body
+  a_task_body : Ident → m.Declarations → m.Body → Item
   a_declaration : m.Declaration → Item
   a_context : m.Context → Item
   a_unit : m.Unit → Item
@@ -364,6 +370,10 @@ abbrev pub the_formals : Item → List m.Formal
 the_formals (cons x xs) = the_formal x ∷ the_formals xs
 the_formals _ = []
 
+abbrev pub opt_definition : Item → Option m.TaskDefinition
+opt_definition (a_definition x) = Some x
+opt_definition _ = None
+
 abbrev no_choices : m.Choices
 no_choices = m.others no_place
 
@@ -456,6 +466,12 @@ declared x xs (an_array l h i) = m.array x xs l h i
 declared x xs an_exception = m.exception x xs
 declared x xs _ = no_declaration
 
+-- the declaration that begins with `task` at a place, by what follows it (RM 9.1)
+abbrev pub task_declared : Pos → Item → m.Declaration
+task_declared at (a_task is_type i definition) = m.task at is_type i definition
+task_declared at (a_task_body i ds x) = m.task_body at i ds x
+task_declared at _ = no_declaration
+
 -- an identifier's letters are kept as capitals (RM 2.3(5))
 abbrev pub ident_of : Item → Ident
 ident_of x = record { name = capitals (the_text x); at = place x }
@@ -496,6 +512,11 @@ made g.Formal st = a_formal (m.formal (first_name (top st)) (other_names (top st
 made g.InMode st = a_mode (in_mode (place (top st)) (is_there (top (pop st)))) ∷ pop (pop st)
 made g.InOut st = there ∷ st
 made g.OutMode st = a_mode (mode.Out (place (top st))) ∷ pop st
+made g.Task st = a_declaration (task_declared (place (top st)) (top (pop st))) ∷ pop (pop st)
+made g.TaskDeclaration st = a_task (is_there (top st)) (the_ident (top (pop st))) (opt_definition (top (pop (pop st)))) ∷ pop (pop (pop st))
+made g.TaskType st = there ∷ st
+made g.TaskDefinition st = a_definition (record { end_name = opt_ident (top st) }) ∷ pop st
+made g.TaskBody st = a_task_body (the_ident (top st)) (the_declarations (top (pop st))) (the_body (top (pop (pop st)))) ∷ pop (pop (pop st))
 made g.Body st = a_body (m.body (place (top st)) (the_statements (top (pop st))) (the_handlers (top (pop (pop st)))) (place (top (pop (pop (pop st))))) (opt_ident (top (pop (pop (pop (pop st)))))) (place (top (pop (pop (pop (pop (pop st)))))))) ∷ pop (pop (pop (pop (pop (pop st)))))
 made g.HandlerList st = listed st
 made g.Handler st = a_handler (the_choices (top st)) (the_statements (top (pop st))) ∷ pop (pop st)

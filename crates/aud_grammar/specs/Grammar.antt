@@ -8,6 +8,7 @@ pub data Phrase : Type 0 where
   Unit Declarations DeclarationList Declaration Identifiers MoreIdentifiers Initial Body : Phrase
   Clause WithClause UseClause Library NamedDeclaration DeclarationRest Variable Constant : Phrase
   Procedure Formals InFormals Formal MoreFormals Mode InMode InOut OutMode : Phrase
+  Task TaskRest TaskDeclaration TaskType TaskDefinition TaskBody : Phrase
   ArrayRest Index InIndex Bound Negated ExceptionRest : Phrase
   Selected MoreArgs NamedStatement StatementRest : Phrase
   Statements StatementList Statement NullStatement NameStatement NameRest Assignment Call : Phrase
@@ -56,7 +57,7 @@ rule Library = W Ada ∷ T kind.Point ∷ W TextIo ∷ T kind.Semicolon ∷ []
 -- declarations lie one level deeper (RM 3.11)
 rule Declarations = L DeclarationList ∷ Down ∷ []
 rule DeclarationList = N Declaration ∷ Rep Declaration ∷ []
-rule Declaration = A (NamedDeclaration ∷ Procedure ∷ []) ∷ []
+rule Declaration = A (NamedDeclaration ∷ Procedure ∷ Task ∷ []) ∷ []
 -- variables, constants and arrays (RM 3.3.1), and exceptions (RM 11.1)
 rule NamedDeclaration = N Identifiers ∷ T kind.Colon ∷ N DeclarationRest ∷ []
 rule Identifiers = N Identifier ∷ Rep MoreIdentifiers ∷ []
@@ -82,6 +83,13 @@ rule Mode = A (InMode ∷ OutMode ∷ []) ∷ []
 rule InMode = P kind.In ∷ Opt InOut ∷ []
 rule InOut = T kind.Out ∷ []
 rule OutMode = P kind.Out ∷ []
+-- RM 9.1: a task or a task type, or the body of one
+rule Task = P kind.Task ∷ N TaskRest ∷ []
+rule TaskRest = A (TaskBody ∷ TaskDeclaration ∷ []) ∷ []
+rule TaskDeclaration = Opt TaskType ∷ N Identifier ∷ Opt TaskDefinition ∷ T kind.Semicolon ∷ []
+rule TaskType = T kind.Type ∷ []
+rule TaskDefinition = T kind.Is ∷ T kind.End ∷ Opt Identifier ∷ []
+rule TaskBody = T kind.Body ∷ N Identifier ∷ T kind.Is ∷ Opt Declarations ∷ N Body ∷ []
 -- RM 6.3, 11.2
 rule Body = P kind.Begin ∷ N Statements ∷ Opt Handlers ∷ P kind.End ∷ Opt Identifier ∷ P kind.Semicolon ∷ []
 rule Handlers = T kind.Exception ∷ N HandlerList ∷ []

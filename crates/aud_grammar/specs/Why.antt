@@ -6,3 +6,4 @@ pub mod Laws
 pub mod ProcedureRows
 pub mod Rows
 pub mod Spells
+pub mod TaskRows

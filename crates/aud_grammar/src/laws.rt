@@ -4,6 +4,7 @@ ghost use Rattle.aud_grammar.specs.Why.Laws as laws;
 ghost use Rattle.aud_grammar.specs.Why.Rows as rows;
 ghost use Rattle.aud_grammar.specs.Why.ControlRows as control;
 ghost use Rattle.aud_grammar.specs.Why.ProcedureRows as procedures;
+ghost use Rattle.aud_grammar.specs.Why.TaskRows as tasks;
 
 /// The tree that is read is the tree that the tokens spell.
 pub fn spells_law()
@@ -98,4 +99,19 @@ pub fn faults_of_procedures()
 /// The token at which such texts open a level too many.
 pub fn levels_of_procedures()
     ensures { procedures.LevelsOfProcedures }
+{}
+
+/// The trees of small texts with tasks.
+pub fn trees_of_tasks()
+    ensures { tasks.TreesOfTasks }
+{}
+
+/// The token at which such texts go wrong.
+pub fn faults_of_tasks()
+    ensures { tasks.FaultsOfTasks }
+{}
+
+/// The token at which such texts open a level too many.
+pub fn levels_of_tasks()
+    ensures { tasks.LevelsOfTasks }
 {}

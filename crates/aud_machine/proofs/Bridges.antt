@@ -1,125 +1,147 @@
 -- From what the code does to what the program does.
-use Rattle.std.proofs.Common.{◌≡◌, ℕ, ◌+◌, ◌<◌, ◌≤◌, List, length, get_or, Option, Some, None, refl, sym, ap, ◌∙◌, subst, arith}
-use Rattle.std.specs.Prelude.{replicate, slice_get}
-use Rattle.std.proofs.lemmas.Option.{slice_get_past}
-use Rattle.std.proofs.lemmas.List.{length-replicate}
+use Rattle.std.proofs.Common.{◌≡◌, ℕ, suc, ◌+◌, List, [], ◌∷◌, map, slice_get, slice_index_or, Option, Some, None, refl, sym, ap, ◌∙◌, subst, arith}
 use Rattle.aud_text.specs.declared.limits.Limits.{Limits}
-use Rattle.aud_text.specs.declared.place.Pos.{Pos}
+use Rattle.aud_typed.specs.declared.program.Exception.{Exception}
 use Rattle.aud_typed.specs.declared.program.Program.{Program}
-use Rattle.aud_typed.specs.declared.program.Body.{out-Body}
-use Rattle.aud_typed.specs.declared.program.Unit as declared
 use Rattle.aud_typed.specs.Ties.View.{plain_program}
-use Rattle.aud_typed.proofs.Opened.{body_open}
 use Rattle.aud_typed.specs.Tree as tree
 use Rattle.aud_meaning.specs.declared.state.State.{State}
 use Rattle.aud_meaning.specs.declared.state.NextStep.{NextStep}
-use Rattle.aud_meaning.specs.Configuration.{All, Configuration}
+use Rattle.aud_meaning.specs.Configuration.{Own, Shared, TaskAt, All, Configuration}
+use Rattle.aud_meaning.specs.Control.{Controls, Seen}
 use Rattle.aud_meaning.specs.Statements.{controls}
-use Rattle.aud_meaning.specs.Run.{own_move, seen, moves_at, state_at, step_with, run_with, moves_in, state_in, step, run, opening, opening_with}
-use Rattle.aud_meaning.specs.Parts.{unit_of}
+use Rattle.aud_meaning.specs.Parts.{nobody, own_of, owns}
+use Rattle.aud_meaning.specs.Run.{Move, own_move, seen, seen_from, moves_at, state_at, step_with, run_with, moves_in, state_in, step, run, opening, opening_with, main_raised}
 use Rattle.aud_meaning.specs.Listings.{coming_step, coming_step_at, coming_step_in}
-use Rattle.aud_meaning.specs.Ties.Single.{Single, all_of}
-use Rattle.aud_code.specs.Places.{Spot}
-use Rattle.aud_code.specs.Flat.{Flat, flat_controls}
+use Rattle.aud_code.specs.Flat.{Flat, FlatLine, flat_controls}
 use Rattle.aud_gen.specs.Assembly.{flat_program}
 use Rattle.aud_gen.specs.Law.{flat}
 use Rattle.aud_gen.specs.Law as code
-use Rattle.aud_gen.proofs.Flat.Laws.{agreement_law, seen_law, moves_law, state_law, step_law, run_law, opening_law}
-use Rattle.aud_single.specs.declared.run.Ran.{Ran}
-use Rattle.aud_single.specs.Moving.{Enables, IsIn}
-use Rattle.aud_single.specs.Next.{ComesNext}
-use Rattle.aud_single.specs.Shown.{plans_of, unit_in, IsOpening}
-use Rattle.aud_single.proofs.Planned.{unit_found}
-use Rattle.aud_single.specs.Steps.{StepsTo}
-use Rattle.aud_single.specs.Running.{RunsTo}
-use Rattle.aud_machine.specs.Shown.{Shown}
-use Rattle.aud_machine.specs.Shows.{Shows, Did, Takes}
+use Rattle.aud_gen.proofs.Flat.Laws.{agreement_law, seen_law, moves_law, state_law, step_law, run_law, opening_law, raised_law}
+use Rattle.aud_tasks.specs.declared.run.Ran.{Ran}
+use Rattle.aud_tasks.specs.Kept.{Kept, all_of, Fits}
+use Rattle.aud_tasks.specs.Moving.{moves_of, AreEnabled, ComesNext, IsIn}
+use Rattle.aud_tasks.specs.Steps.{IsOpening}
+use Rattle.aud_tasks.specs.Running.{RunsTo, Takes, Took}
+use Rattle.std.specs.Prelude.{Bool, IfSome}
+use Rattle.aud_machine.specs.Shown.{Shown, ticks_of_move, ticks_of_step}
+use Rattle.aud_machine.specs.Shows.{Shows, Did}
+use Rattle.aud_machine.specs.Shows as shown
 
--- Of a program and its code.
--- the `end` of the main procedure, which is the first unit
-pub main_end : (p : Program) (us : List declared.Unit) (u : declared.Unit) → us ≡ p.units.items → 0 < length us → u ≡ get_or us 0 u → (out-Body u.body).end ≡ (unit_of (plain_program p).plan 0).end
-main_end p us u is some at =
-    sym (ap tree.end_of (body_open u.body))
-    ∙ sym (ap (λ (x : tree.UnitPlan). x.end) (unit_found us 0 u some at))
-    ∙ ap (λ l. (unit_in (plans_of l) 0).end) is
+-- what the user supplies changes nothing of what has to hold before a step
+pub fits_supplied : (lines : List FlatLine) (k : Kept) (choices : List ℕ) (clock : ℕ) → Fits lines k → Fits lines (record k { choices = choices; clock = clock })
+fits_supplied lines k choices clock h = record {
+  whole = record { main = h.whole.main; members = h.whole.members; known = h.whole.known };
+  each = h.each;
+  made = h.made;
+  activators = h.activators;
+}
+
+-- What is seen of all tasks are their own parts.
+owns_seen : {C : Type 0} (plan : tree.Plan) (k : Controls C) (i : ℕ) (ts : List (TaskAt C)) (os : List Own) (shared : Shared) → owns (seen_from plan k i ts os shared) ≡ owns ts
+owns_seen plan k i [] os shared = refl
+owns_seen plan k i (t ∷ ts) os shared = ap (λ xs. t.own ∷ xs) (owns_seen plan k (suc i) ts os shared)
 
 module _ (p : Program) (lines : Flat) (is : lines ≡ flat_program (plain_program p)) where
   abbrev program : tree.Program
   program = plain_program p
 
-  abbrev units : List tree.UnitPlan
-  units = plans_of p.units.items
+  abbrev Showing : Kept → Configuration → Type 0
+  Showing k c = code.Shows program (all_of k) c
 
-  abbrev In : Single Spot → All Spot
-  In q = all_of p.name q
+  pub state_shown : (k : Kept) (s : State) (c : Configuration) → IsIn program.plan lines k s → Showing k c → s ≡ state_in program c
+  state_shown k s c told h =
+      told
+      ∙ ap (λ x. state_at program.plan (flat_controls program.plan x) (all_of k)) is
+      ∙ state_law program (all_of k) c h
 
-  abbrev Showing : Single Spot → Configuration → Type 0
-  Showing q c = code.Shows program (In q) c
-
-  pub state_shown : (q : Single Spot) (s : State) (c : Configuration) → IsIn lines q s → Showing q c → s ≡ state_in program c
-  state_shown q s c told h =
-      told program.plan p.name
-      ∙ ap (λ x. state_at program.plan (flat_controls program.plan x) (In q)) is
-      ∙ state_law program (In q) c h
-
-  pub coming_shown : (q : Single Spot) (final : Pos) (task : ℕ) (next : Option NextStep) (c : Configuration) → final ≡ (unit_of program.plan 0).end → ComesNext lines final task q next → Showing q c → next ≡ coming_step_in program task c
-  coming_shown q final task next c there told h =
-      told program.plan p.name (sym there)
-      ∙ ap (λ x. coming_step_at program.plan (flat_controls program.plan x) task (In q)) is
-      ∙ ap (coming_step program.plan (flat program).barrier task) (seen_law program (In q) c h)
+  pub coming_shown : (k : Kept) (task : ℕ) (next : Option NextStep) (c : Configuration) → ComesNext program.plan lines task k next → Showing k c → next ≡ coming_step_in program task c
+  coming_shown k task next c told h =
+      told
+      ∙ ap (λ x. coming_step_at program.plan (flat_controls program.plan x) task (all_of k)) is
+      ∙ ap (coming_step program.plan (flat program).barrier task) (seen_law program (all_of k) c h)
       ∙ ap (λ b. coming_step program.plan b task (seen program.plan (controls program) c)) (agreement_law program).barrier
 
-  pub moves_shown : (q : Single Spot) (n : ℕ) (c : Configuration) → Enables lines q n → Showing q c → moves_in program c ≡ replicate n (own_move 0)
-  moves_shown q n c told h =
-      sym (moves_law program (In q) c h)
-      ∙ ap (λ x. moves_at program.plan (flat_controls program.plan x) (In q)) (sym is)
-      ∙ told program.plan p.name
+  pub moves_shown : (k : Kept) (c : Configuration) → Showing k c → moves_of program.plan lines k ≡ moves_in program c
+  moves_shown k c h =
+      ap (λ x. moves_at program.plan (flat_controls program.plan x) (all_of k)) is
+      ∙ moves_law program (all_of k) c h
 
-  pub opening_shown : (q : Single Spot) → IsOpening lines units q → Showing q (opening program)
-  opening_shown q told =
-      let there = told program.plan p.name refl ∙ ap (λ x. opening_with program.plan p.name ((flat_controls program.plan x).begins 0)) is in
+  pub moves_listed : (k : Kept) (tasks : List ℕ) (c : Configuration) → AreEnabled program.plan lines k tasks → Showing k c → moves_in program c ≡ map own_move tasks
+  moves_listed k tasks c told h = sym (moves_shown k c h) ∙ told
+
+  pub opening_shown : (k : Kept) → IsOpening program.plan lines p.name k → Showing k (opening program)
+  opening_shown k told =
+      let there = told ∙ ap (λ x. opening_with program.plan p.name ((flat_controls program.plan x).begins 0)) is in
       subst (λ m. code.Shows program m (opening program)) (sym there) (opening_law program)
+
+  -- the exception that left the main procedure
+  pub raised_shown : (k : Kept) (raised : Option Exception) (c : Configuration) → raised ≡ main_raised (all_of k).tasks → Showing k c → raised ≡ main_raised c.tasks
+  raised_shown k raised c told h = told ∙ raised_law program (all_of k) c h
+
+  -- of the main procedure
+  pub main_shown : (k : Kept) (c : Configuration) → Showing k c → own_of 0 (all_of k) ≡ own_of 0 c
+  main_shown k c h =
+      ap (λ os. slice_index_or os 0 nobody)
+      (sym (owns_seen program.plan (flat program) 0 (all_of k).tasks (owns (all_of k).tasks) (all_of k).shared)
+      ∙ ap (λ (s : All Seen). owns s.tasks) (seen_law program (all_of k) c h)
+      ∙ owns_seen program.plan (controls program) 0 c.tasks (owns c.tasks) c.shared)
 
   -- Runs.
 
-  module _ (limits : Limits) (n : ℕ) (old new : Single Spot) (ran : Ran) (c : Configuration) (r : RunsTo units lines n old new ran) (h : Showing old c) where
+  module _ (limits : Limits) (n : ℕ) (old new : Kept) (ran : Ran) (c : Configuration) (r : RunsTo program.plan lines limits n old new ran) (h : Showing old c) where
     pub run_shown : Showing new (run limits program n c)
     run_shown =
-        let there = r.run program.plan p.name refl limits ∙ ap (λ x. run_with program.plan (flat_controls program.plan x) limits n (In old)) is in
-        subst (λ m. code.Shows program m (run limits program n c)) (sym there) (run_law limits program n (In old) c h)
+        let there = r.run ∙ ap (λ x. run_with program.plan (flat_controls program.plan x) limits n (all_of old)) is in
+        subst (λ m. code.Shows program m (run limits program n c)) (sym there) (run_law limits program n (all_of old) c h)
 
     pub run_did : Did program ran c (run limits program n c)
-    run_did =
-        record {
-          steps = ap (λ k. ran.steps + k) (sym h.steps) ∙ r.steps ∙ run_shown.steps;
-          state = state_shown new ran.state (run limits program n c) r.state run_shown;
-        }
+    run_did = record {
+      steps = ap (λ k. ran.steps + k) (sym h.steps) ∙ r.steps ∙ run_shown.steps;
+      state = state_shown new ran.state (run limits program n c) r.state run_shown;
+    }
 
-  -- Moves that are taken.
+  -- A move that is taken.
 
-  -- none has this index
-  pub none_taken : (limits : Limits) (q : Single Spot) (n nth : ℕ) (m : Shown) (c : Configuration) → Enables lines q n → n ≤ nth → Showing q c → Takes limits program c (slice_get (moves_in program c) nth) m m None
-  none_taken limits q n nth m c enabled past h =
-      let none = ap (λ ms. slice_get ms nth) (moves_shown q n c enabled h) ∙ slice_get_past (replicate n (own_move 0)) nth (simp length-replicate past) in
-      subst (λ o. Takes limits program c o m m None) (sym none) (refl, refl)
-
-  module _ (limits : Limits) (old new : Single Spot) (ran : Ran) (c : Configuration) (stepped : StepsTo units lines old new) (h : Showing old c) where
-    pub step_shown : Showing new (step limits program c (own_move 0))
+  module _ (limits : Limits) (m : Move) (old new : Kept) (ran : Ran) (c : Configuration) (took : Took program.plan lines limits m old new ran) (h : Showing old c) where
+    pub step_shown : Showing new (step limits program c m)
     step_shown =
-        let there = stepped program.plan p.name refl limits ∙ ap (λ x. step_with program.plan (flat_controls program.plan x) limits (In old) (own_move 0)) is in
-        subst (λ m. code.Shows program m (step limits program c (own_move 0))) (sym there) (step_law limits program (In old) c (own_move 0) h)
+        let there = took.next ∙ ap (λ x. step_with program.plan (flat_controls program.plan x) limits (all_of old) m) is in
+        subst (λ a. code.Shows program a (step limits program c m)) (sym there) (step_law limits program (all_of old) c m h)
 
-    pub step_did : ran.steps ≡ 1 → new.steps ≡ old.steps + 1 → IsIn lines new ran.state → Did program ran c (step limits program c (own_move 0))
-    step_did one more state =
-        record {
-          steps = omega (arith, one, more, h.steps, step_shown.steps);
-          state = state_shown new ran.state (step limits program c (own_move 0)) state step_shown;
-        }
+    pub step_did : Did program ran c (step limits program c m)
+    step_did = record {
+      steps = omega (arith, took.one, took.steps, h.steps, step_shown.steps);
+      state = state_shown new ran.state (step limits program c m) took.state step_shown;
+    }
 
-    -- the only one
-    pub one_taken : (n nth : ℕ) (was now : Shown) → Enables lines old n → n ≤ 1 → nth < n → Shows now (step limits program c (own_move 0)) → Did program ran c (step limits program c (own_move 0)) → Takes limits program c (slice_get (moves_in program c) nth) was now (Some ran)
-    one_taken n nth was now enabled one within shows did =
-        let only : n ≡ 1 = omega (arith, one, within) in
-        let first : nth ≡ 0 = omega (arith, one, within) in
-        let found = ap (λ k. slice_get (moves_in program c) k) first ∙ ap (λ ms. slice_get ms 0) (moves_shown old n c enabled h) ∙ ap (λ k. slice_get (replicate k (own_move 0)) 0) only in
-        subst (λ o. Takes limits program c o was now (Some ran)) (sym found) (ran, refl, shows, did)
+  -- which is that of its index; where there is none, nothing has changed
+  take_by : (limits : Limits) (o : Option Move) (old new : Kept) (was now : Shown) (taken : Option Ran) (c : Configuration) → Takes program.plan lines limits o old new taken → Showing old c → (new ≡ old → now ≡ was) → ((d : Configuration) → Showing new d → Shows now d) → shown.Takes limits program c o was now taken
+  take_by limits None old new was now taken c told h same shows = (told.0, same told.1)
+  take_by limits (Some m) old new was now taken c told h same shows =
+      let ran = told.0 in
+      let took = told.2 in
+      (ran, told.1, shows (step limits program c m) (step_shown limits m old new ran c took h), step_did limits m old new ran c took h)
+
+  pub take_shown : (limits : Limits) (nth : ℕ) (old new : Kept) (was now : Shown) (taken : Option Ran) (c : Configuration) → Takes program.plan lines limits (slice_get (moves_of program.plan lines old) nth) old new taken → Showing old c → (new ≡ old → now ≡ was) → ((d : Configuration) → Showing new d → Shows now d) → shown.Takes limits program c (slice_get (moves_in program c) nth) was now taken
+  take_shown limits nth old new was now taken c told h same shows =
+      subst (λ ms. shown.Takes limits program c (slice_get ms nth) was now taken) (moves_shown old c h)
+      (take_by limits (slice_get (moves_of program.plan lines old) nth) old new was now taken c told h same shows)
+
+  -- and its ticks
+  abbrev before : Limits → Bool → Kept → Shown
+  before limits spent k = record { program = p; code = lines; limits = limits; all = all_of k; spent = spent }
+
+  ticks_told : (limits : Limits) (spent : Bool) (o : Option Move) (old new : Kept) (taken : Option Ran) → Takes program.plan lines limits o old new taken → IfSome taken (λ ran. ran.ticks ≡ ticks_of_move (before limits spent old) o)
+  ticks_told limits spent None old new None told = tt
+  ticks_told limits spent None old new (Some ran) told = absurd (cc (told.0))
+  ticks_told limits spent (Some m) old new None told = tt
+  ticks_told limits spent (Some m) old new (Some ran) told =
+      ap (λ (r : Option Ran). ticks_in r) (told.1) ∙ told.2.ticks
+    where
+      ticks_in : Option Ran → ℕ
+      ticks_in None = 0
+      ticks_in (Some r) = r.ticks
+
+  pub take_ticks : (limits : Limits) (spent : Bool) (nth : ℕ) (old new : Kept) (taken : Option Ran) → Takes program.plan lines limits (slice_get (moves_of program.plan lines old) nth) old new taken → IfSome taken (λ ran. ran.ticks ≡ ticks_of_step (before limits spent old) nth)
+  take_ticks limits spent nth old new taken told = ticks_told limits spent (slice_get (moves_of program.plan lines old) nth) old new taken told

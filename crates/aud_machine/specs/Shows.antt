@@ -5,7 +5,7 @@ use Rattle.aud_typed.specs.Tree.{Program}
 use Rattle.aud_meaning.specs.Configuration.{Configuration}
 use Rattle.aud_meaning.specs.Run.{Move, step, run, state_in}
 use Rattle.aud_gen.specs.Law as code
-use Rattle.aud_single.specs.declared.run.Ran.{Ran}
+use Rattle.aud_tasks.specs.declared.run.Ran.{Ran}
 use Rattle.aud_machine.specs.Shown.{Shown, program_in}
 
 -- its code shows the configuration; where memory is refused, it shows none from then on

@@ -1,11 +1,12 @@
 // A machine and its runs.
 
-ghost use Rattle.std.specs.Prelude.{◌≡◌, ◌+◌, ◌*◌, ◌<◌, ◌≤◌, [], ◌∷◌, length, map, min, slice_get, IfOk, IfSome, OnOk};
+ghost use Rattle.std.specs.Prelude.{◌≡◌, ◌+◌, ◌*◌, ◌<◌, ◌≤◌, length, map, min, true, slice_get, IfOk, IfSome, IsErr, OnOk};
 ghost use Rattle.aud_typed.specs.Ties.View.{plain_program};
-ghost use Rattle.aud_meaning.specs.Parts.{unit_of};
-ghost use Rattle.aud_meaning.specs.Run.{moves_in, state_in, main_raised, supplied, advanced, opening};
+ghost use Rattle.aud_meaning.specs.Parts.{own_of};
+ghost use Rattle.aud_meaning.specs.Run.{own_move, moves_in, state_in, main_raised, supplied, advanced, opening};
 ghost use Rattle.aud_meaning.specs.Listings.{coming_step_in};
-ghost use Rattle.aud_machine.specs.Shown.{program_in, owns_in, ticks_of_step, ticks_of_run};
+ghost use Rattle.aud_single.specs.Shown.{pending_in, plain_stage, raised_in};
+ghost use Rattle.aud_machine.specs.Shown.{program_in, ticks_of_step, ticks_of_run};
 ghost use Rattle.aud_machine.specs.Shows.{Shows, IfShows, Leaves, RunsFrom, Takes};
 
 use crate::parts::Parts;
@@ -13,11 +14,9 @@ use aud_code::sound_code::SoundCode;
 use aud_expr::operands::Operands;
 use aud_gen::generate;
 use aud_meaning::state::{NextStep, State};
-use aud_single::progress::Progress;
-pub use aud_single::run::Ran;
-use aud_single::run::run;
+use aud_tasks::execution::{Compiled, Execution};
+pub use aud_tasks::run::Ran;
 use aud_text::limits::{CHOICES, CLOCK, Limits, OUTPUT, STEPS};
-use aud_text::place::Pos;
 use aud_typed::program::{Exception, Program};
 use std::alloc::{AllocError, Global};
 use std::marker::Model;
@@ -27,7 +26,7 @@ pub struct Machine {
     program: Program,
     code: SoundCode,
     limits: Limits,
-    progress: Progress,
+    execution: Execution,
     spent: bool,
 }
 
@@ -38,7 +37,7 @@ impl Drop for Machine {
             program: _,
             code: _,
             limits: _,
-            progress: _,
+            execution: _,
             spent: _,
         } = self;
     }
@@ -47,9 +46,8 @@ impl Drop for Machine {
 impl Model for Machine {
     ghost use Rattle.std.specs.Prelude.{◌≡◌, false};
     ghost use Rattle.aud_typed.specs.Ties.View.{plain_program};
-    ghost use Rattle.aud_meaning.specs.Ties.Single.{all_of};
     ghost use Rattle.aud_gen.specs.Assembly.{flat_program};
-    ghost use Rattle.aud_single.specs.Steps.{Fits};
+    ghost use Rattle.aud_tasks.specs.Kept.{all_of, Fits};
     ghost use Rattle.aud_machine.specs.Shown.{Shown};
     ghost use Rattle.std.specs.Coded.{codes};
     ghost use Rattle.aud_typed.specs.contracts.program.Body as body;
@@ -62,12 +60,12 @@ impl Model for Machine {
       program = m.program;
       code = m.code;
       limits = m.limits;
-      all = all_of m.program.name m.progress;
+      all = all_of m.execution;
       spent = m.spent;
     } };
 
     ghost invariant = { λ m. (m.code ≡ flat_program (plain_program m.program))
-        × (m.spent ≡ false → Fits m.code.lines m.progress) };
+        × (m.spent ≡ false → Fits m.code.lines m.execution) };
 }
 
 impl Machine {
@@ -82,12 +80,19 @@ impl Machine {
         ensures limits { IfOk result (λ m. m.limits ≡ limits) }
     {
         let code = generate(alloc, &program)?;
-        let progress = Progress::new(&code, &program.units, alloc)?;
+        let execution = Execution::new(
+            alloc,
+            Compiled {
+                code: &code,
+                program: &program,
+                limits,
+            },
+        )?;
         Ok(Machine {
             program,
             code,
             limits,
-            progress,
+            execution,
             spent: false,
         })
     }
@@ -111,38 +116,54 @@ impl Machine {
         ensures shown { IfShows self.now (λ c. result.now ≡ c.shared.output) }
         ensures within { length result.now ≤ OUTPUT }
     {
-        self.progress.output()
+        self.execution.output()
     }
 
     /// Whether a text was cut at the output's limit.
     pub fn is_cut(&self) -> bool
         ensures { IfShows self.now (λ c. result ≡ c.shared.cut) }
     {
-        self.progress.is_cut()
+        self.execution.is_cut()
     }
 
     /// What can happen next.
     pub fn state(&self) -> State
         ensures { IfShows self.now (λ c. result ≡ state_in (program_in self.now) c) }
     {
-        self.progress.state(&self.code)
+        self.execution.state(&self.code)
+    }
+
+    /// The enabled moves: the tasks whose next step is enabled, by their numbers, counted from 0, in ascending order. `take(k)` makes
+    /// the one of index k. There are none once the program has ended or its output is full.
+    ///
+    /// # Errors
+    ///
+    /// Where memory is refused, or the machine is spent.
+    pub fn moves(&self, alloc: Global) -> Result<Vec<usize>, AllocError>
+        ensures shown { IfOk result (λ tasks. IfShows self.now (λ c.
+            moves_in (program_in self.now) c ≡ map own_move tasks.items)) }
+        ensures refuses { self.now.spent ≡ true → IsErr result }
+    {
+        if self.spent {
+            return Err(AllocError);
+        }
+        self.execution.moves(alloc, &self.code)
     }
 
     /// The exception that left the main procedure (RM 11.4).
     pub fn raised(&self) -> Option<Exception>
         ensures { IfShows self.now (λ c. result ≡ main_raised c.tasks) }
     {
-        self.progress.raised()
+        self.execution.raised()
     }
 
-    /// What comes next of the task of this index: the kind of its step, and where that stands in the
-    /// text; while an exception is pending, that is where it was raised. None where there is no such task, or it is
-    /// terminated.
+    /// What comes next of the task of this number, counted from 0: the kind of its step, and where that stands in the text; while
+    /// an exception is pending, that is where it was raised. None where there is no such task, it isn't activated yet, it waits for
+    /// activations, or it is terminated.
     pub fn coming(&self, task: usize) -> Option<NextStep>
         ensures { IfShows self.now (λ c. result ≡ coming_step_in (program_in self.now) task c) }
     {
-        self.progress
-            .coming(&self.code, end_of_main(&self.program), task)
+        self.execution.coming(self.compiled(), task)
     }
 
     /// How many choices wait.
@@ -151,7 +172,7 @@ impl Machine {
         ensures shown { IfShows self.now (λ c. result ≡ length c.choices) }
         ensures within { result ≤ CHOICES }
     {
-        self.progress.choices()
+        self.execution.choices()
     }
 
     /// The time on the clock, in milliseconds.
@@ -160,7 +181,7 @@ impl Machine {
         ensures shown { IfShows self.now (λ c. result ≡ c.clock) }
         ensures within { result ≤ CLOCK }
     {
-        self.progress.clock()
+        self.execution.clock()
     }
 
     /// The steps taken.
@@ -169,22 +190,24 @@ impl Machine {
         ensures shown { IfShows self.now (λ c. result ≡ c.steps) }
         ensures within { result ≤ STEPS }
     {
-        self.progress.steps()
+        self.execution.steps()
     }
 
-    /// The frames, how far the main procedure is, the time and the steps.
+    /// The frames, what is pending in the main procedure and what left it, the time and the steps.
     pub fn parts(&self) -> Parts<'_>
         ensures frames { IfShows self.now (λ c. result.store.now.frames ≡ c.shared.frames) }
-        ensures main { IfShows self.now (λ c.
-            owns_in self.now result.main result.store.now.stack ≡ map (λ t. t.own) c.tasks) }
+        ensures pending { IfShows self.now (λ c.
+            pending_in (plain_stage result.main) ≡ (own_of 0 c).pending) }
+        ensures raised { IfShows self.now (λ c.
+            raised_in (plain_stage result.main) ≡ (own_of 0 c).raised) }
         ensures clock { IfShows self.now (λ c. result.clock ≡ c.clock) }
         ensures steps { IfShows self.now (λ c. result.steps ≡ c.steps) }
     {
         Parts {
-            store: self.progress.store(),
-            main: self.progress.stage(),
-            clock: self.progress.clock(),
-            steps: self.progress.steps(),
+            store: self.execution.store(),
+            main: self.execution.stage(),
+            clock: self.execution.clock(),
+            steps: self.execution.steps(),
         }
     }
 
@@ -205,7 +228,7 @@ impl Machine {
             return Err(AllocError);
         }
         self.spent = true;
-        self.progress.choose(choices)?;
+        self.execution.choose(choices)?;
         self.spent = false;
         Ok(())
     }
@@ -216,7 +239,7 @@ impl Machine {
         ensures shows { IfShows self.old (λ c. Shows self.new (advanced milliseconds c)) }
         ensures exact { self.new ≡ record self.old { all = advanced milliseconds self.old.all } }
     {
-        self.progress.advance(milliseconds);
+        self.execution.advance(milliseconds);
     }
 
     /// Begins anew: the program before its first step, with no choices, no output and the clock at 0.
@@ -232,7 +255,7 @@ impl Machine {
             return Err(AllocError);
         }
         self.spent = true;
-        self.progress = Progress::new(&self.code, &self.program.units, alloc)?;
+        self.execution = Execution::new(alloc, self.compiled())?;
         self.spent = false;
         Ok(())
     }
@@ -257,13 +280,12 @@ impl Machine {
         }
         self.spent = true;
         let mut operands = Operands::new(alloc);
-        let ran = run(
-            &mut self.progress,
-            &self.code,
-            &self.program.units,
-            &mut operands,
-            n,
-        )?;
+        let compiled = Compiled {
+            code: &self.code,
+            program: &self.program,
+            limits: self.limits,
+        };
+        let ran = self.execution.run(alloc, compiled, &mut operands, n)?;
         self.spent = false;
         Ok(ran)
     }
@@ -279,7 +301,7 @@ impl Machine {
             Takes self.old.limits (program_in self.old) c
             (slice_get (moves_in (program_in self.old) c) nth) self.old self.new taken)) }
         ensures ticks { IfOk result (λ taken. IfSome taken (λ ran.
-            ran.ticks ≡ ticks_of_step self.old)) }
+            ran.ticks ≡ ticks_of_step self.old nth)) }
         ensures few_ticks { IfOk result (λ taken. IfSome taken (λ ran.
             ran.ticks ≤ length self.old.code.lines)) }
         ensures leaves { Leaves self.old self.new result }
@@ -287,30 +309,28 @@ impl Machine {
         if self.spent {
             return Err(AllocError);
         }
-        if self.progress.moves(&self.code) <= nth {
-            return Ok(None);
-        }
         self.spent = true;
         let mut operands = Operands::new(alloc);
-        let ticks = self
-            .progress
-            .step(&self.code, &self.program.units, &mut operands)?;
+        let compiled = Compiled {
+            code: &self.code,
+            program: &self.program,
+            limits: self.limits,
+        };
+        let taken = self.execution.take(alloc, compiled, &mut operands, nth)?;
         self.spent = false;
-        let state = self.progress.state(&self.code);
-        Ok(Some(Ran {
-            steps: 1,
-            ticks,
-            state,
-        }))
+        Ok(taken)
     }
-}
 
-// Where the `end` of the main procedure stands.
-fn end_of_main(program: &Program) -> Pos
-    ensures { result ≡ (unit_of (plain_program program.now).plan 0).end }
-{
-    match program.units.first() {
-        Some(main) => main.body.end,
-        None => Pos { line: 0, col: 0 },
+    // What its execution needs.
+    fn compiled(&self) -> Compiled<'_>
+        ensures program { result.program.now ≡ self.now.program }
+        ensures code { result.code.now ≡ self.now.code }
+        ensures limits { result.limits ≡ self.now.limits }
+    {
+        Compiled {
+            code: &self.code,
+            program: &self.program,
+            limits: self.limits,
+        }
     }
 }

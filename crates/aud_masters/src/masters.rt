@@ -123,7 +123,7 @@ impl Masters {
         Ok(first)
     }
 
-    /// An exception is raised in the declarative part with this frame: what it has created is terminated (RM 9.2(5)).
+    /// An exception is raised in the declarative part with this frame: what it has created is terminated (RM 9.2(6)).
     pub fn raise_in_part(&mut self, part: usize)
         ensures lives { RaisesInPart part self.old self.new }
         ensures comes_to { RaisesTo part self.old self.new }
@@ -163,7 +163,7 @@ impl Masters {
 
     /// A task's body, which has begun, is completed, by an exception or without one, while declarative parts with these frames are
     /// under way: what they have created and not activated is terminated, and the task's own activation ends, if another task
-    /// waits for it (RM 9.3(5), 9.2(5)). It gives that activator, if it goes on now.
+    /// waits for it (RM 9.2(5, 6), 9.3(5)). It gives that activator, if it goes on now.
     pub fn complete(&mut self, task: usize, parts: &[usize], failed: bool) -> Option<usize>
         requires { (life_at task self.old).status ≢ status.Created }
         ensures lives { Completes failed task parts.now self.old self.new }

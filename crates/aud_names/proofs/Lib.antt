@@ -1,2 +1,3 @@
 pub mod First
 pub mod Hiding
+pub mod Waiting

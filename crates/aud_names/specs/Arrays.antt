@@ -1,4 +1,4 @@
--- Bounds of arrays, and what declarations of variables, constants and arrays declare (RM 3.3.1, 3.6).
+-- Bounds of arrays, and what declarations of variables, constants, arrays and tasks declare (RM 3.3.1, 3.6, 9.1).
 use Rattle.std.specs.Prelude.{ℕ, ◌+◌, ℤ, pos, ◌-ℤ◌, nat_abs, int_lt, Bool, true, false, List, [], Option, Some, None, Result, Ok, Err, if◌then◌else◌}
 use Rattle.aud_text.specs.Integer.{negative}
 use Rattle.aud_text.specs.declared.raise.Raise.{Raise}
@@ -7,10 +7,11 @@ use Rattle.aud_typed.specs.declared.program.ArrayAt.{ArrayAt}
 use Rattle.aud_typed.specs.declared.program.Subtype.{Subtype}
 use Rattle.aud_names.specs.declared.fault.Fault.{Fault}
 use Rattle.aud_names.specs.declared.names.Array.{Array}
+use Rattle.aud_names.specs.declared.names.TaskArray.{TaskArray}
 use Rattle.aud_names.specs.declared.names.Meaning.{Meaning}
 use Rattle.aud_names.specs.declared.names.Meaning.TheVariants as meaning
 use Rattle.aud_names.specs.declared.array.Kind.{Kind}
-use Rattle.aud_names.specs.declared.array.Kind.TheVariants.{Scalar, Row}
+use Rattle.aud_names.specs.declared.array.Kind.TheVariants.{Scalar, Row, Task, TaskRow}
 use Rattle.aud_names.specs.Rules.{number_too_large}
 
 abbrev pub unless_raised : Result ℤ Raise → Option ℤ
@@ -42,16 +43,27 @@ length_between low high = if int_lt high low then 0 else nat_abs (high -ℤ low)
 abbrev pub array_at : Array → ArrayAt
 array_at a = record { first = a.first; low = a.low; length = length_between a.low a.high }
 
+abbrev pub task_array_at : TaskArray → ArrayAt
+task_array_at a = record { first = a.first; low = a.low; length = length_between a.low a.high }
+
 -- arrays with these bounds
 abbrev pub row_between : ℤ → ℤ → Option Subtype → Kind
 row_between low high s = Row (record { low = low; high = high; subtype = s })
+
+-- arrays of tasks
+abbrev pub task_row_between : ℤ → ℤ → Kind
+task_row_between low high = TaskRow (record { low = low; high = high })
 
 -- what is declared at a level from a cell on
 abbrev pub new_meaning : Kind → ℕ → ℕ → Meaning
 new_meaning (Scalar o) level index = meaning.Object (record { variable = record { level = level; index = index }; subtype = o.subtype; constant = o.constant })
 new_meaning (Row a) level index = meaning.Array (record { first = record { level = level; index = index }; low = a.low; high = a.high; subtype = a.subtype })
+new_meaning Task level index = meaning.Task (record { level = level; index = index })
+new_meaning (TaskRow a) level index = meaning.TaskArray (record { first = record { level = level; index = index }; low = a.low; high = a.high })
 
 -- how many cells it takes
 abbrev pub cells_of : Kind → ℕ
 cells_of (Scalar o) = 1
 cells_of (Row a) = length_between a.low a.high
+cells_of Task = 1
+cells_of (TaskRow a) = length_between a.low a.high

@@ -1,31 +1,34 @@
 -- What names stand for, where they are visible, and what a construct knows of its place (RM 8.1, 8.2, 8.3).
-use Rattle.std.specs.Prelude.{ℕ, ◌+◌, Bool, true, false, ◌||◌, List, [], ◌∷◌, Option, Some, None, is_some, codes, if◌then◌else◌}
+use Rattle.std.specs.Prelude.{ℕ, ◌+◌, Bool, true, false, not, ◌&&◌, ◌||◌, nat_lt, nat_eq, List, [], ◌∷◌, Option, Some, None, is_some, codes, if◌then◌else◌}
 use Rattle.std.specs.Str.{bytes_eq}
 use Rattle.std.specs.List.{list_any}
 use Rattle.std.specs.Map.{lookup}
 use Rattle.aud_syntax.specs.declared.tree.Ident.{Ident}
 use Rattle.aud_text.specs.declared.raise.Raise.TheVariants.{Constraint, Program, Storage, Tasking}
 use Rattle.aud_typed.specs.declared.program.Exception.TheVariants.{Predefined}
+use Rattle.aud_names.specs.declared.awaited.Awaited.{Awaited}
 use Rattle.aud_names.specs.declared.names.Meaning.{Meaning}
-use Rattle.aud_names.specs.declared.names.Meaning.TheVariants.{ScalarType, Literal, Exception, Builtin, Procedure}
+use Rattle.aud_names.specs.declared.names.Meaning.TheVariants.{ScalarType, Literal, Exception, Builtin, Procedure, Task}
 use Rattle.aud_names.specs.declared.names.Builtin.TheVariants.{Put, PutLine, NewLine}
+use Rattle.aud_typed.specs.declared.program.Variable.{Variable}
 use Rattle.aud_typed.specs.declared.program.Subtype.TheVariants.{Integer, Natural, Positive, Boolean}
 
 -- a name that a region declares, and what it stands for
 abbrev pub Symbol : Type 0
 Symbol = List ℕ × Meaning
 
--- a region of declarations (RM 8.1): its names in the order of their declarations, how many frames are further out than its own, and the
--- cells and names of variables and constants in that
+-- a region of declarations (RM 8.1): its names in the order of their declarations, how many frames are further out than its own, the
+-- cells and names of variables, constants and tasks in that, and the tasks whose bodies are still to come
 pub record Region : Type 0 where
   pub symbols : List Symbol
   pub level : ℕ
   pub cells : ℕ
   pub names : ℕ
+  pub awaited : List Awaited
 
 -- a region with no names yet, at a level
 abbrev pub empty_region : ℕ → Region
-empty_region level = record { symbols = []; level = level; cells = 0; names = 0 }
+empty_region level = record { symbols = []; level = level; cells = 0; names = 0; awaited = [] }
 
 -- what a region declares a name to be: the first symbol of that name decides
 abbrev pub named_in : List ℕ → List Symbol → Option Meaning
@@ -109,12 +112,49 @@ predefined =
 
 -- the outermost region
 abbrev pub outermost : List Region
-outermost = (record { symbols = predefined; level = 0; cells = 0; names = 0 }) ∷ []
+outermost = (record { symbols = predefined; level = 0; cells = 0; names = 0; awaited = [] }) ∷ []
 
 -- the library's region, in which the main procedure is declared, whose unit is the first (RM 10.1.1)
 abbrev pub library : List ℕ → Region
-library name = record { symbols = (name, Procedure 0) ∷ []; level = 0; cells = 0; names = 0 }
+library name = record { symbols = (name, Procedure 0) ∷ []; level = 0; cells = 0; names = 0; awaited = [] }
 
 -- the place of a main procedure's declarations: its body's region, that of the library, and the predefined one (RM 10.1.1)
 abbrev pub main_place : List ℕ → Place
 main_place name = place_in (empty_region 0) (library name ∷ outermost)
+
+-- Tasks (RM 9.1).
+
+-- the unit of the task of a name that waits for its body
+abbrev pub awaited_unit : List ℕ → List Awaited → Option ℕ
+awaited_unit name [] = None
+awaited_unit name (a ∷ others) = if bytes_eq name a.name then Some a.unit else awaited_unit name others
+
+-- what waits still once that body has come
+abbrev pub still_awaited : List ℕ → List Awaited → List Awaited
+still_awaited name [] = []
+still_awaited name (a ∷ others) = if bytes_eq name a.name then others else a ∷ still_awaited name others
+
+abbrev pub body_come : List ℕ → Region → Region
+body_come name r = record r { awaited = still_awaited name r.awaited }
+
+-- the region of a task's body at a level: the first cell of its frame, which has no name, has the number of the task that runs it
+abbrev pub task_region : ℕ → Region
+task_region level = record { symbols = ([], Task (record { level = level; index = 0 })) ∷ []; level = level; cells = 1; names = 1; awaited = [] }
+
+-- around a task's body its name, or that of its type, means the task that runs it (RM 8.6(17))
+abbrev pub running : List ℕ → ℕ → Region
+running name level = record { symbols = (name, Task (record { level = level; index = 0 })) ∷ []; level = level; cells = 0; names = 0; awaited = [] }
+
+-- the place of the declarations in the body of a task that is declared at a place
+abbrev pub task_place : List ℕ → Place → Place
+task_place name place = place_in (task_region ((innermost place).level + 1)) (running name ((innermost place).level + 1) ∷ place.regions)
+
+-- whether a cell is in the frame of a region
+abbrev pub has_cell : Variable → Region → Bool
+has_cell v r = nat_lt v.index r.cells && nat_eq r.level v.level
+
+-- whether the body around a place that the task of a name runs, whose number is in a cell, declares another name: that cell is in the
+-- body's frame, though the task's name is declared further out
+abbrev pub is_in_own_body : List ℕ → Variable → List ℕ → List Region → Bool
+is_in_own_body task v name [] = false
+is_in_own_body task v name (r ∷ rs) = if has_cell v r then not (is_declared task r.symbols) && is_declared name r.symbols else is_in_own_body task v name rs

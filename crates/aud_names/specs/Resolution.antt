@@ -6,9 +6,9 @@ use Rattle.aud_syntax.specs.declared.tree.Ident.{Ident}
 use Rattle.aud_syntax.specs.Plain.{Name, named, NamePart, part, Parts, no_parts, more_parts, Args, no_args, more_args}
 use Rattle.aud_names.specs.declared.fault.Fault.{Fault}
 use Rattle.aud_names.specs.declared.names.Meaning.{Meaning}
-use Rattle.aud_names.specs.declared.names.Meaning.TheVariants.{ScalarType, Literal, Object, Array, Exception, Builtin, Procedure}
+use Rattle.aud_names.specs.declared.names.Meaning.TheVariants.{ScalarType, Literal, Object, Array, Exception, Builtin, Procedure, TaskType, Task, TaskArray}
 use Rattle.aud_names.specs.declared.resolution.Denoted.{Denoted}
-use Rattle.aud_names.specs.Names.{Place, visible, is_taken, named_in, predefined}
+use Rattle.aud_names.specs.Names.{Place, visible, is_taken, is_in_own_body, named_in, predefined}
 use Rattle.aud_names.specs.Rules.{name_not_declared, wrong_kind_of_name}
 
 -- the faults in a name, and what it denotes with the place of the identifier that decides: nothing where it is faulty
@@ -54,8 +54,11 @@ takes_arguments (ScalarType s) = false
 takes_arguments (Literal b) = false
 takes_arguments (Exception x) = false
 takes_arguments (Object o) = false
+takes_arguments (TaskType n) = false
+takes_arguments (Task v) = false
+takes_arguments (TaskArray a) = true
 
--- as yet there is nothing whose name stands before a point (RM 4.1.3)
+-- whether nothing stands behind a point
 abbrev pub is_last : Parts → Bool
 is_last no_parts = true
 is_last (more_parts q qs) = false
@@ -63,16 +66,30 @@ is_last (more_parts q qs) = false
 abbrev pub may_stand : Meaning → NamePart → Parts → Bool
 may_stand m p ps = is_last ps && (takes_arguments m || are_none (part_args p))
 
-abbrev pub denoted_by : Meaning → NamePart → Parts → Resolved
-denoted_by m p ps = if may_stand m p ps then denotes m (part_ident p).at else denotes_nothing (wrong_kind_of_name (part_ident p).at) (part_ident p).at
-
 abbrev pub not_declared : NamePart → Resolved
 not_declared p = denotes_nothing (name_not_declared (part_ident p).at) (part_ident p).at
 
+abbrev pub of_wrong_kind : NamePart → Resolved
+of_wrong_kind p = denotes_nothing (wrong_kind_of_name (part_ident p).at) (part_ident p).at
+
+-- what stands behind a point and is no entry: a name that is visible there is of the wrong kind
+abbrev pub no_entry : Bool → NamePart → Resolved
+no_entry is_visible p = denotes_nothing (if is_visible then wrong_kind_of_name (part_ident p).at else name_not_declared (part_ident p).at) (part_ident p).at
+
+-- behind a task, or an array of tasks with its index, and a point stands an entry (RM 4.1.3, 9.5.2), but as yet no task has one; what its
+-- body declares is visible behind the task's name in that body (RM 8.6(17)); nothing else stands before a point
+abbrev pub selected : Meaning → NamePart → Parts → Place → Resolved
+selected (Task v) (part i no_args) (more_parts q qs) place = no_entry (is_in_own_body i.name v (part_ident q).name place.regions) q
+selected (TaskArray a) (part i (more_args e es)) (more_parts q qs) place = no_entry false q
+selected m p ps place = of_wrong_kind p
+
+abbrev pub denoted_by : Meaning → NamePart → Parts → Place → Resolved
+denoted_by m p ps place = if may_stand m p ps then denotes m (part_ident p).at else selected m p ps place
+
 -- a procedure of Ada.Text_IO (RM A.10.1)
-abbrev pub in_text_io : Option Meaning → NamePart → Parts → Resolved
-in_text_io (Some (Builtin b)) r rest = denoted_by (Builtin b) r rest
-in_text_io _ r rest = not_declared r
+abbrev pub in_text_io : Option Meaning → NamePart → Parts → Place → Resolved
+in_text_io (Some (Builtin b)) r rest place = denoted_by (Builtin b) r rest place
+in_text_io _ r rest place = not_declared r
 
 abbrev pub is_plainly : List ℕ → NamePart → Bool
 is_plainly name p = bytes_eq (part_ident p).name name && are_none (part_args p)
@@ -82,12 +99,12 @@ abbrev pub is_text_io : NamePart → NamePart → Place → Bool
 is_text_io p q place = is_plainly (codes "ADA") p && is_plainly (codes "TEXT_IO") q && not (is_taken (part_ident p).name place)
 
 abbrev pub in_library : NamePart → Parts → Place → Resolved
-in_library p (more_parts q (more_parts r rest)) place = if is_text_io p q place then in_text_io (named_in (part_ident r).name predefined) r rest else not_declared p
+in_library p (more_parts q (more_parts r rest)) place = if is_text_io p q place then in_text_io (named_in (part_ident r).name predefined) r rest place else not_declared p
 in_library p (more_parts q no_parts) place = not_declared p
 in_library p no_parts place = not_declared p
 
 abbrev pub or_in_library : Option Meaning → NamePart → Parts → Place → Resolved
-or_in_library (Some m) p ps place = denoted_by m p ps
+or_in_library (Some m) p ps place = denoted_by m p ps place
 or_in_library None p ps place = in_library p ps place
 
 -- RM 4.1, 8.3

@@ -2,7 +2,7 @@
 use Rattle.std.specs.Prelude.{Bool, true, false, not, List, [], ◌∷◌, Option, Some, None, if◌then◌else◌, ℕ}
 use Rattle.std.specs.Str.{bytes_eq}
 use Rattle.aud_text.specs.declared.place.Pos.{Pos}
-use Rattle.aud_text.specs.declared.refusal.Refusal.TheVariants.{NameNotDeclared, DeclaredTwice, WrongKindOfName, WrongType, WrongNumberOfArguments, NotAVariable, WrongNameAtEnd, ExitWithoutLoop, ReturnOutOfPlace, RaiseWithoutHandler, BadHandlerChoice, NumberTooLarge}
+use Rattle.aud_text.specs.declared.refusal.Refusal.TheVariants.{NameNotDeclared, DeclaredTwice, WrongKindOfName, WrongType, WrongNumberOfArguments, NotAVariable, WrongNameAtEnd, NoMatchingBody, ExitWithoutLoop, ReturnOutOfPlace, RaiseWithoutHandler, BadHandlerChoice, NumberTooLarge}
 use Rattle.aud_syntax.specs.declared.tree.Ident.{Ident}
 use Rattle.aud_names.specs.declared.fault.Fault.{Fault}
 use Rattle.aud_names.specs.declared.rules.Base.{Base}
@@ -59,7 +59,7 @@ wrong_number_of_arguments at = record { at = at; refusal = WrongNumberOfArgument
 abbrev pub not_a_variable : Pos → List Fault
 not_a_variable at = record { at = at; refusal = NotAVariable } ∷ []
 
--- the name after `end` is the procedure's (RM 6.3(4)); at the name
+-- the name after `end` is the procedure's or task's (RM 6.3(4), 9.1(7)); at the name
 abbrev pub right_name_at_end : List ℕ → Option Ident → List Fault
 right_name_at_end name None = []
 right_name_at_end name (Some last) = unless (bytes_eq last.name name) (record { at = last.at; refusal = WrongNameAtEnd })
@@ -71,11 +71,15 @@ right_label_at_end None (Some last) semicolon = record { at = last.at; refusal =
 right_label_at_end (Some label) None semicolon = record { at = semicolon; refusal = WrongNameAtEnd } ∷ []
 right_label_at_end (Some label) (Some last) semicolon = right_name_at_end label.name (Some last)
 
+-- a task has one body, later in the same declarative part, and a body has its declaration (RM 3.11.1); at the declared name, or the body's
+abbrev pub no_matching_body : Pos → List Fault
+no_matching_body at = record { at = at; refusal = NoMatchingBody } ∷ []
+
 -- an exit leaves a loop that encloses it (RM 5.7(4)); at `exit`
 abbrev pub exit_in_loop : Bool → Pos → List Fault
 exit_in_loop good at = unless good (record { at = at; refusal = ExitWithoutLoop })
 
--- a return has a value exactly in a function (RM 6.5(5)); at `return`
+-- a return stands in a callable construct, with a value exactly in a function (RM 6.5(4, 5)); at `return`
 abbrev pub return_in_place : Bool → Pos → List Fault
 return_in_place good at = unless good (record { at = at; refusal = ReturnOutOfPlace })
 

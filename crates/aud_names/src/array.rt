@@ -1,11 +1,11 @@
-// Bounds of arrays, and what declarations of variables, constants and arrays declare.
+// Bounds of arrays, and what declarations of variables, constants, arrays and tasks declare.
 
 ghost use Rattle.std.specs.Prelude.{◌≡◌};
 ghost use Rattle.aud_names.specs.Least.{noted};
-ghost use Rattle.aud_names.specs.Arrays.{with_sign, bound_value, bound_faults, or_zero, length_between, array_at, row_between, new_meaning, cells_of};
+ghost use Rattle.aud_names.specs.Arrays.{with_sign, bound_value, bound_faults, or_zero, length_between, array_at, task_array_at, row_between, new_meaning, cells_of};
 
 use crate::fault::Least;
-use crate::names::{Array, Meaning, Object};
+use crate::names::{Array, Meaning, Object, TaskArray};
 use crate::rules::number_too_large;
 use aud_syntax::tree::Bound;
 use aud_text::int32::Int32;
@@ -26,6 +26,13 @@ pub struct Row {
     pub subtype: Option<Subtype>,
 }
 
+/// The bounds of arrays of tasks.
+#[derive(Clone, Copy, PartialEq, Eq, Debug)]
+pub struct TaskRow {
+    pub low: i32,
+    pub high: i32,
+}
+
 /// What the names of a declaration are declared to be.
 #[derive(Clone, Copy, PartialEq, Eq, Debug)]
 pub enum Kind {
@@ -33,6 +40,10 @@ pub enum Kind {
     Scalar(Scalar),
     /// Arrays.
     Row(Row),
+    /// Tasks (RM 9.1).
+    Task,
+    /// Arrays of tasks.
+    TaskRow(TaskRow),
 }
 
 fn with_sign(negative: bool, value: Option<Int32>) -> Option<Int32>
@@ -63,7 +74,8 @@ pub fn bound(bound: Bound, faults: &mut Least) -> Option<Int32>
     value
 }
 
-fn or_zero(value: Option<Int32>) -> i32
+/// The value of a bound; what stands for a faulty one has no meaning.
+pub fn or_zero(value: Option<Int32>) -> i32
     ensures { result ≡ or_zero value }
 {
     match value {
@@ -85,6 +97,17 @@ pub fn length_between(low: i32, high: i32) -> usize
 /// Where an array lies.
 pub fn array_at(array: Array) -> ArrayAt
     ensures { result ≡ array_at array }
+{
+    ArrayAt {
+        first: array.first,
+        low: array.low,
+        length: length_between(array.low, array.high),
+    }
+}
+
+/// Where an array of tasks lies.
+pub fn task_array_at(array: TaskArray) -> ArrayAt
+    ensures { result ≡ task_array_at array }
 {
     ArrayAt {
         first: array.first,
@@ -121,6 +144,12 @@ pub fn new_meaning(kind: Kind, level: usize, index: usize) -> Meaning
             high: row.high,
             subtype: row.subtype,
         }),
+        Kind::Task => Meaning::Task(variable),
+        Kind::TaskRow(row) => Meaning::TaskArray(TaskArray {
+            first: variable,
+            low: row.low,
+            high: row.high,
+        }),
     }
 }
 
@@ -129,7 +158,8 @@ pub fn cells_of(kind: Kind) -> usize
     ensures { result ≡ cells_of kind }
 {
     match kind {
-        Kind::Scalar(_) => 1,
+        Kind::Scalar(_) | Kind::Task => 1,
         Kind::Row(row) => length_between(row.low, row.high),
+        Kind::TaskRow(row) => length_between(row.low, row.high),
     }
 }

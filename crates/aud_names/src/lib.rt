@@ -2,6 +2,7 @@
 #![tactic(auto)]
 
 pub mod array;
+pub mod awaited;
 pub mod behind;
 pub mod fault;
 mod hidden;

@@ -1,10 +1,11 @@
 // Names, and what they stand for.
 
-ghost use Rattle.std.specs.Prelude.{◌≡◌, ◌+◌, ◌∷◌, [], IfOk};
+ghost use Rattle.std.specs.Prelude.{◌≡◌, ◌+◌, ◌∷◌, ◌&&◌, not, [], IfOk};
 ghost use Rattle.std.specs.Option.{option_copied};
-ghost use Rattle.aud_names.specs.Names.{Place as Plain, empty_region, named_in, predefined, declared, hiding, is_hidden, is_taken, own_hidden, with_own, visible, library, outermost, innermost, next_frame};
+ghost use Rattle.aud_names.specs.Names.{Place as Plain, empty_region, named_in, predefined, declared, hiding, is_hidden, is_taken, own_hidden, with_own, visible, library, outermost, innermost, next_frame, awaited_unit, body_come, task_region, running, has_cell, is_declared, is_in_own_body};
 ghost use Rattle.aud_names.specs.Ties.Regions.{plain_region, plain_regions, plain_place, names_in, hidden_names};
 
+use crate::awaited::{Awaited, index_of};
 use crate::behind::Made;
 use crate::hidden::Hidden;
 use crate::table::listed;
@@ -30,6 +31,11 @@ pub enum Meaning {
     Builtin(Builtin),
     /// A procedure, by the number of its unit (RM 6.1): the main procedure's is 0.
     Procedure(usize),
+    /// A task type, by its number (RM 9.1).
+    TaskType(usize),
+    /// A task, whose number is in a cell (RM 9.1).
+    Task(Variable),
+    TaskArray(TaskArray),
 }
 
 /// A variable or constant (RM 3.3.1): its subtype, which is not known where its declaration is faulty.
@@ -48,6 +54,14 @@ pub struct Array {
     pub low: i32,
     pub high: i32,
     pub subtype: Option<Subtype>,
+}
+
+/// An array of tasks (RM 9.1, 3.6): the cell of its first element, and its bounds.
+#[derive(Clone, Copy, PartialEq, Eq, Debug)]
+pub struct TaskArray {
+    pub first: Variable,
+    pub low: i32,
+    pub high: i32,
 }
 
 /// A formal parameter as calls see it (RM 6.1): its subtype is not known where its declaration is faulty.
@@ -69,7 +83,8 @@ pub enum Builtin {
 pub type Symbols = IndexMap<Name, Meaning>;
 
 /// A region of declarations (RM 8.1): its names, how many frames are further out than its own, the cells
-/// and the names of variables and constants that its frame has so far, and what allocates them.
+/// and the names of variables, constants and tasks that its frame has so far, the tasks whose bodies are still
+/// to come, and what allocates them.
 #[derive(Drop)]
 pub struct Region {
     pub alloc: Global,
@@ -77,6 +92,7 @@ pub struct Region {
     pub level: usize,
     pub cells: usize,
     pub names: usize,
+    pub awaited: Vec<Awaited>,
 }
 
 impl Region {
@@ -90,6 +106,7 @@ impl Region {
             level,
             cells: 0,
             names: 0,
+            awaited: Vec::new(alloc),
         }
     }
 
@@ -101,6 +118,41 @@ impl Region {
         let name = main.try_clone(alloc)?;
         library.symbols.insert(name, Meaning::Procedure(0))?;
         Ok(library)
+    }
+
+    /// The region of a task's body at a level, whose first cell has the task's own number (RM 9.1).
+    pub fn of_task(alloc: Global, level: usize) -> Made<Self>
+        ensures { IfOk result (λ region. plain_region region ≡ task_region level) }
+    {
+        let mut region = Region::new(alloc, level);
+        let no_name = Name::from_source(alloc, &[])?;
+        let own = Variable { level, index: 0 };
+        region.symbols.insert(no_name, Meaning::Task(own))?;
+        region.cells = 1;
+        region.names = 1;
+        Ok(region)
+    }
+
+    /// The region around a task's body at a level, in which its name is the task that runs it (RM 8.6(17)).
+    pub fn running(alloc: Global, name: &Name, level: usize) -> Made<Self>
+        ensures { IfOk result (λ region. plain_region region ≡ running name.now level) }
+    {
+        let mut region = Region::new(alloc, level);
+        let name = name.try_clone(alloc)?;
+        let own = Variable { level, index: 0 };
+        region.symbols.insert(name, Meaning::Task(own))?;
+        Ok(region)
+    }
+
+    /// The unit of the task of this name that waits for its body, if one does. From now on it waits no more.
+    pub fn body_comes(&mut self, name: &Name) -> Option<usize>
+        ensures unit { result ≡ awaited_unit name.now self.old.awaited.items }
+        ensures region { plain_region self.new ≡ body_come name.now (plain_region self.old) }
+    {
+        match index_of(&self.awaited, name) {
+            None => None,
+            Some(index) => Some(self.awaited.remove(index).unit),
+        }
     }
 }
 
@@ -225,6 +277,16 @@ impl<'a> Scope<'a> {
         }
     }
 
+    /// Whether the body around the place that the task of this name runs, whose number is in the cell, declares another name.
+    pub fn is_in_own_body(&self, task: &Name, own: Variable, name: &Name) -> bool
+        ensures { result ≡ is_in_own_body task.now own name.now self.now.regions }
+    {
+        if has_cell(own, self.innermost) {
+            return is_among(task, name, self.innermost);
+        }
+        is_in_own_body(self.outer, task, own, name)
+    }
+
     /// Whether a declaration around the place has taken a name, also the one that lasts there, or it is predefined.
     pub fn is_taken(&self, name: &Name) -> bool
         ensures { result ≡ is_taken name.now self.now }
@@ -259,6 +321,23 @@ pub fn frame_within<'a>(
     Ok((regions, region))
 }
 
+/// The regions around the body of a task that is declared in this region, which lies in those: first that in which its name
+/// is the task that runs it.
+pub fn task_within<'a>(
+    running: &'a Region,
+    innermost: &'a Region,
+    outer: &'a [&'a Region],
+) -> Made<Vec<&'a Region>>
+    ensures { IfOk result (λ regions. plain_regions regions.items
+        ≡ plain_region running.now ∷ (plain_place innermost.now outer.now).regions) }
+{
+    let mut regions = Vec::with_capacity(innermost.alloc, outer.len())?;
+    regions.push(running)?;
+    regions.push(innermost)?;
+    regions.extend_from_slice(outer)?;
+    Ok(regions)
+}
+
 // The name of a procedure within its formals, where none of those before has it.
 fn own_hidden<'a>(own: &'a Ident, region: &Region) -> Option<&'a Ident>
     ensures { option_copied result ≡ own_hidden own.now (plain_region region.now) }
@@ -289,6 +368,35 @@ fn declared(regions: &[&Region], name: &Name) -> Option<Meaning>
             Some(meaning) => Some(*meaning),
             None => declared(further_out, name),
         },
+    }
+}
+
+fn has_cell(cell: Variable, region: &Region) -> bool
+    ensures { result ≡ has_cell cell (plain_region region.now) }
+{
+    cell.index < region.cells && region.level == cell.level
+}
+
+// Whether a region declares a name, and not that of a task.
+fn is_among(task: &Name, name: &Name, region: &Region) -> bool
+    ensures { result ≡ (not (is_declared task.now (plain_region region.now).symbols)
+        && is_declared name.now (plain_region region.now).symbols) }
+{
+    !region.symbols.contains_key(task) && region.symbols.contains_key(name)
+}
+
+fn is_in_own_body(regions: &[&Region], task: &Name, own: Variable, name: &Name) -> bool
+    ensures { result ≡ is_in_own_body task.now own name.now (plain_regions regions.now) }
+{
+    match regions.split_first() {
+        None => false,
+        Some((region, further_out)) => {
+            if has_cell(own, region) {
+                is_among(task, name, region)
+            } else {
+                is_in_own_body(further_out, task, own, name)
+            }
+        }
     }
 }
 

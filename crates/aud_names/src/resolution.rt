@@ -1,12 +1,12 @@
 // What names with several parts and arguments denote.
 
-ghost use Rattle.std.specs.Prelude.{◌≡◌, None};
+ghost use Rattle.std.specs.Prelude.{◌≡◌, None, if◌then◌else◌};
 ghost use Rattle.aud_syntax.specs.Plain.{more_parts};
 ghost use Rattle.aud_syntax.specs.Ties.View.{plain_name, plain_part, part_list, plain_expressions};
 ghost use Rattle.aud_names.specs.Least.{noted};
 ghost use Rattle.aud_names.specs.Names.{named_in, predefined};
 ghost use Rattle.aud_names.specs.Rules.{name_not_declared};
-ghost use Rattle.aud_names.specs.Resolution.{resolved, or_in_library, in_library, in_text_io, denoted_by, takes_arguments, is_plainly, is_text_io, is_last, may_stand, are_none, last_of, last_args};
+ghost use Rattle.aud_names.specs.Resolution.{resolved, or_in_library, in_library, in_text_io, no_entry, selected, denoted_by, takes_arguments, is_plainly, is_text_io, is_last, may_stand, are_none, last_of, last_args};
 
 use crate::fault::Least;
 use crate::names::{Meaning, Scope, predefined};
@@ -65,9 +65,14 @@ fn takes_arguments(meaning: Meaning) -> bool
     ensures { result ≡ takes_arguments meaning }
 {
     match meaning {
-        Meaning::Array(_) | Meaning::Builtin(_) | Meaning::Procedure(_) => true,
-        Meaning::ScalarType(_) | Meaning::Literal(_) | Meaning::Object(_) | Meaning::Exception(_) =>
-            false,
+        Meaning::Array(_) | Meaning::Builtin(_) | Meaning::Procedure(_) | Meaning::TaskArray(_) =>
+            true,
+        Meaning::ScalarType(_)
+        | Meaning::Literal(_)
+        | Meaning::Object(_)
+        | Meaning::Exception(_)
+        | Meaning::TaskType(_)
+        | Meaning::Task(_) => false,
     }
 }
 
@@ -77,17 +82,60 @@ fn may_stand(meaning: Meaning, part: &NamePart, others: &[NamePart]) -> bool
     is_last(others) && (takes_arguments(meaning) || are_none(&part.args))
 }
 
+// What stands behind a point and is no entry.
+fn no_entry(is_visible: bool, part: &NamePart, faults: &mut Least) -> Denoted
+    ensures denoted { result ≡ (no_entry is_visible (plain_part part.now)).denoted }
+    ensures noted { faults.new
+        ≡ noted faults.old (no_entry is_visible (plain_part part.now)).faults }
+{
+    let at = part.ident.at;
+    if is_visible {
+        wrong_kind_of_name(at, faults);
+    } else {
+        name_not_declared(at, faults);
+    }
+    Denoted { meaning: None, at }
+}
+
+// What a name denotes that has arguments or further parts which do not fit what its first identifier means: nothing.
+fn selected(
+    meaning: Meaning,
+    first: &NamePart,
+    others: &[NamePart],
+    scope: &Scope<'_>,
+    faults: &mut Least,
+) -> Denoted
+    ensures denoted { result ≡ (selected meaning (plain_part first.now)
+        (part_list others.now) scope.now).denoted }
+    ensures noted { faults.new ≡ noted faults.old (selected meaning
+        (plain_part first.now) (part_list others.now) scope.now).faults }
+{
+    let at = first.ident.at;
+    match (meaning, first.args.first(), others.first()) {
+        (Meaning::Task(task), None, Some(entry)) => {
+            let is_visible = scope.is_in_own_body(&first.ident.name, task, &entry.ident.name);
+            no_entry(is_visible, entry, faults)
+        }
+        (Meaning::TaskArray(_), Some(_), Some(entry)) => no_entry(false, entry, faults),
+        _ => {
+            wrong_kind_of_name(at, faults);
+            Denoted { meaning: None, at }
+        }
+    }
+}
+
 // What a name denotes whose first identifier has this meaning.
 fn denoted_by(
     meaning: Meaning,
     first: &NamePart,
     others: &[NamePart],
+    scope: &Scope<'_>,
     faults: &mut Least,
 ) -> Denoted
-    ensures denoted { result
-        ≡ (denoted_by meaning (plain_part first.now) (part_list others.now)).denoted }
-    ensures noted { faults.new ≡ noted faults.old
-        (denoted_by meaning (plain_part first.now) (part_list others.now)).faults }
+    ensures denoted { result ≡ (denoted_by meaning (plain_part first.now)
+        (part_list others.now) scope.now).denoted }
+    ensures noted { faults.new ≡ noted faults.old (denoted_by meaning
+        (plain_part first.now) (part_list others.now) scope.now).faults }
 {
     let at = first.ident.at;
     if may_stand(meaning, first, others) {
@@ -96,21 +144,25 @@ fn denoted_by(
             at,
         };
     }
-    wrong_kind_of_name(at, faults);
-    Denoted { meaning: None, at }
+    selected(meaning, first, others, scope, faults)
 }
 
 // What a name of Ada.Text_IO denotes.
-fn in_text_io(first: &NamePart, others: &[NamePart], faults: &mut Least) -> Denoted
+fn in_text_io(
+    first: &NamePart,
+    others: &[NamePart],
+    scope: &Scope<'_>,
+    faults: &mut Least,
+) -> Denoted
     ensures denoted { result ≡ (in_text_io (named_in first.now.ident.name predefined)
-        (plain_part first.now) (part_list others.now)).denoted }
+        (plain_part first.now) (part_list others.now) scope.now).denoted }
     ensures noted { faults.new ≡ noted faults.old (in_text_io
         (named_in first.now.ident.name predefined)
-        (plain_part first.now) (part_list others.now)).faults }
+        (plain_part first.now) (part_list others.now) scope.now).faults }
 {
     match predefined(&first.ident.name) {
         Some(Meaning::Builtin(builtin)) => {
-            denoted_by(Meaning::Builtin(builtin), first, others, faults)
+            denoted_by(Meaning::Builtin(builtin), first, others, scope, faults)
         }
         _ => not_declared(first.ident.at, faults),
     }
@@ -154,7 +206,7 @@ fn in_package(
         None => not_declared(first.ident.at, faults),
         Some((third, rest)) => {
             if is_text_io(first, second, scope) {
-                in_text_io(third, rest, faults)
+                in_text_io(third, rest, scope, faults)
             } else {
                 not_declared(first.ident.at, faults)
             }
@@ -187,7 +239,7 @@ pub fn resolve(name: &Name, scope: &Scope<'_>, faults: &mut Least) -> Denoted
         ≡ noted faults.old (resolved (plain_name name.now) scope.now).faults }
 {
     match scope.visible(&name.first.ident.name) {
-        Some(meaning) => denoted_by(meaning, &name.first, &name.others, faults),
+        Some(meaning) => denoted_by(meaning, &name.first, &name.others, scope, faults),
         None => in_library(&name.first, &name.others, scope, faults),
     }
 }

@@ -3,7 +3,7 @@
 ghost use Rattle.std.specs.Prelude.{◌≡◌, not};
 ghost use Rattle.aud_names.specs.Least.{noted};
 ghost use Rattle.aud_names.specs.Names.{is_declared};
-ghost use Rattle.aud_names.specs.Rules.{base_of_subtype, base_asked, name_not_declared, declared_once, wrong_kind_of_name, fits, right_type, wrong_number_of_arguments, not_a_variable, right_name_at_end, right_label_at_end, exit_in_loop, return_in_place, raise_in_handler, good_choice, number_too_large};
+ghost use Rattle.aud_names.specs.Rules.{base_of_subtype, base_asked, name_not_declared, declared_once, wrong_kind_of_name, fits, right_type, wrong_number_of_arguments, not_a_variable, right_name_at_end, right_label_at_end, no_matching_body, exit_in_loop, return_in_place, raise_in_handler, good_choice, number_too_large};
 
 use crate::fault::Least;
 use crate::names::Symbols;
@@ -104,7 +104,7 @@ pub fn not_a_variable(at: Pos, faults: &mut Least)
     faults.note(at, Refusal::NotAVariable);
 }
 
-/// The name after `end` is the procedure's (RM 6.3(4)).
+/// The name after `end` is the procedure's or task's (RM 6.3(4), 9.1(7)).
 pub fn right_name_at_end(name: &Name, last: &Option<Ident>, faults: &mut Least)
     ensures { faults.new ≡ noted faults.old (right_name_at_end name.now last.now) }
 {
@@ -133,6 +133,13 @@ pub fn right_label_at_end(
     }
 }
 
+/// A task has one body, later in the same declarative part, and a body has its declaration (RM 3.11.1).
+pub fn no_matching_body(at: Pos, faults: &mut Least)
+    ensures { faults.new ≡ noted faults.old (no_matching_body at) }
+{
+    faults.note(at, Refusal::NoMatchingBody);
+}
+
 /// An exit leaves a loop that encloses it (RM 5.7(4)).
 pub fn exit_in_loop(good: bool, at: Pos, faults: &mut Least)
     ensures { faults.new ≡ noted faults.old (exit_in_loop good at) }
@@ -142,7 +149,7 @@ pub fn exit_in_loop(good: bool, at: Pos, faults: &mut Least)
     }
 }
 
-/// A return has a value exactly in a function (RM 6.5(5)).
+/// A return stands in a callable construct, with a value exactly in a function (RM 6.5(4, 5)).
 pub fn return_in_place(good: bool, at: Pos, faults: &mut Least)
     ensures { faults.new ≡ noted faults.old (return_in_place good at) }
 {

@@ -13,7 +13,9 @@ use Rattle.aud_syntax.specs.declared.tree.Identifiers.{Identifiers}
 use Rattle.aud_syntax.specs.declared.tree.Mode.{Mode}
 use Rattle.aud_syntax.specs.declared.tree.Mode.TheVariants as mode
 use Rattle.aud_syntax.specs.declared.tree.Formal.{Formal}
+use Rattle.aud_syntax.specs.declared.tree.TaskDefinition.{TaskDefinition}
 use Rattle.aud_syntax.specs.declared.tree.Declaration.{Declaration}
+use Rattle.aud_syntax.specs.declared.tree.Declaration.TheVariants as declaration
 use Rattle.aud_syntax.specs.declared.tree.Statement.{Statement}
 use Rattle.aud_syntax.specs.declared.tree.Statements.{Statements}
 use Rattle.aud_syntax.specs.declared.tree.Statement.TheVariants as statement
@@ -28,12 +30,12 @@ use Rattle.aud_syntax.specs.declared.tree.Choices.{Choices}
 use Rattle.aud_syntax.specs.declared.tree.Handler.{Handler}
 use Rattle.aud_syntax.specs.declared.tree.Context.{Context}
 use Rattle.aud_syntax.specs.Plain as m
-use Rattle.aud_syntax.specs.Ties.View.{plain_name, plain_simple, plain_expression, plain_maybe, plain_formal, plain_declaration, plain_declarations, plain_others, plain_statements, plain_statement, plain_context, plain_body, plain_expressions, arm_list, plain_iteration, plain_choices, handler_list}
+use Rattle.aud_syntax.specs.Ties.View.{plain_name, plain_simple, plain_expression, plain_maybe, plain_formal, plain_definition, plain_declaration, plain_declarations, plain_others, plain_statements, plain_statement, plain_context, plain_body, plain_expressions, arm_list, plain_iteration, plain_choices, handler_list}
 use Rattle.aud_grammar.specs.Grammar as g
-use Rattle.aud_grammar.specs.Actions.{Item, made, place, an_ident, some_names, some_statements, a_body, a_unit, the_declarations, more_statements, opt_ident, opt_expression, a_statement, the_args, the_parts, a_variable, the_contexts, an_arm, the_arms, otherwise, the_iteration, loop_place, is_there, number_of, a_bound, an_iteration, a_declare, begin_of, the_handlers, the_formals, a_declaration}
+use Rattle.aud_grammar.specs.Actions.{Item, made, place, an_ident, some_names, some_statements, a_body, a_unit, the_declarations, more_statements, opt_ident, opt_expression, a_statement, the_args, the_parts, a_variable, the_contexts, an_arm, the_arms, otherwise, the_iteration, loop_place, is_there, number_of, a_bound, an_iteration, a_declare, begin_of, the_handlers, the_formals, a_definition, a_task, opt_definition, a_declaration}
 use Rattle.aud_cursor.specs.Ties.Items.{list_item, opt_item, boxed_item, mode_item, context_item, choices_item}
 use Rattle.aud_phrase.specs.Ties.Items.{simple_item, expression_item, args_item, part_item}
-use Rattle.aud_parse.specs.Ties.Items.{names_item, formal_item, declaration_item, boxed_declaration_item, statement_item, statements_item, body_item, boxed_body_item, unit_item, rest_item, variable_item, boxed_statement_item, boxed_statements_item, arm_item, boxed_arm_item, scheme_item, bound_item, declare_item, handler_item, boxed_handler_item}
+use Rattle.aud_parse.specs.Ties.Items.{names_item, formal_item, definition_item, task_item, declaration_item, boxed_declaration_item, statement_item, statements_item, body_item, boxed_body_item, unit_item, rest_item, variable_item, boxed_statement_item, boxed_statements_item, arm_item, boxed_arm_item, scheme_item, bound_item, declare_item, handler_item, boxed_handler_item}
 use Rattle.aud_cursor.specs.Ties.Parts.{mark_item}
 use Rattle.aud_parse.specs.Ties.Parts.{assigned_or_called, else_statements, iteration_of, begins_at, declared_in, is_declared, declares_at, behind_label}
 use Rattle.aud_cursor.proofs.Rolls.{idents_items}
@@ -221,6 +223,26 @@ procedure_items b begin p v x ds h =
     ap (λ z. a_declaration (m.procedure (place begin) p.0 z (the_declarations (list_item declaration_item v.items)) (plain_body x.value)) ∷ ds) (formals_are p.1.items)
     ∙ ap (λ z. a_declaration (m.procedure (place begin) p.0 (map plain_formal p.1.items) z (plain_body x.value)) ∷ ds) (declarations_items v.items)
     ∙ ap (λ z. a_declaration z ∷ ds) (sym h)
+
+-- tasks
+
+pub definition_items : (i : Option Ident) (ds : List Item) → made g.TaskDefinition (opt_item an_ident i ∷ ds) ≡ definition_item (record { end_name = i }) ∷ ds
+definition_items i ds = ap (λ (z : Option Ident). a_definition (record { end_name = z }) ∷ ds) (opt_ident_is i)
+
+definition_is : (x : Option TaskDefinition) → opt_definition (opt_item definition_item x) ≡ plain_definition x
+definition_is None = refl
+definition_is (Some x) = refl
+
+pub task_items : (is_type : Bool) (i : Ident) (x : Option TaskDefinition) (ds : List Item) → made g.TaskDeclaration (mark_item is_type ∷ an_ident i ∷ opt_item definition_item x ∷ ds) ≡ task_item (is_type, i, x) ∷ ds
+task_items is_type i x ds = ap (λ z. a_task z i (opt_definition (opt_item definition_item x)) ∷ ds) (mark_is is_type) ∙ ap (λ z. a_task is_type i z ∷ ds) (definition_is x)
+
+pub declared_task_items : (b : Box Declaration Global) (begin : Item) (at : Pos) (is_type : Bool) (i : Ident) (x : Option TaskDefinition) (ds : List Item) → b.value ≡ declaration.Task (record { at = at; is_type = is_type; name = i; definition = x }) → at ≡ place begin →
+    made g.Task (begin ∷ task_item (is_type, i, x) ∷ ds) ≡ boxed_declaration_item b ∷ ds
+declared_task_items b begin at is_type i x ds h e = ap (λ z. a_declaration (m.task z is_type i (plain_definition x)) ∷ ds) (sym e) ∙ ap (λ z. declaration_item z ∷ ds) (sym h)
+
+pub task_body_items : (b : Box Declaration Global) (begin : Item) (i : Ident) (v : Vec Declaration Global) (x : Box Body Global) (ds : List Item) → plain_declaration b.value ≡ m.task_body (place begin) i (plain_declarations v.items) (plain_body x.value) →
+    made g.Task (begin ∷ made g.TaskBody (an_ident i ∷ list_item declaration_item v.items ∷ boxed_body_item x ∷ ds)) ≡ boxed_declaration_item b ∷ ds
+task_body_items b begin i v x ds h = ap (λ z. a_declaration (m.task_body (place begin) i z (plain_body x.value)) ∷ ds) (declarations_items v.items) ∙ ap (λ z. a_declaration z ∷ ds) (sym h)
 
 contexts_items : (xs : List Context) → the_contexts (list_item context_item xs) ≡ map plain_context xs
 contexts_items [] = refl

@@ -13,6 +13,7 @@ use crate::scheme::Scheme;
 use aud_syntax::tree::{
     Arm, BlockStatement, Body, Choices, Declaration, Expression, Formal, Handler, Ident,
     IfStatement, Iteration, LoopStatement, Name, ProcedureDeclaration, Statement, Statements,
+    TaskBody,
 };
 use aud_text::place::Pos;
 use std::alloc::{AllocError, Global};
@@ -312,5 +313,31 @@ pub fn made_procedure(
         },
     )?;
     let boxed = Box::new(alloc, Declaration::Procedure(procedure))?;
+    Ok(boxed)
+}
+
+/// The body of a task (RM 9.1(6)).
+#[inline(never)]
+pub fn made_task_body(
+    alloc: Global,
+    at: Pos,
+    name: Ident,
+    declarations: Vec<Declaration>,
+    inner: Box<Body>,
+) -> Result<Box<Declaration>, AllocError>
+    ensures { IfOk result (λ b. plain_declaration b.value ≡
+        m.task_body at name (plain_declarations declarations.items) (plain_body inner.value)) }
+{
+    let body = Box::into_inner(inner);
+    let task = Box::new(
+        alloc,
+        TaskBody {
+            at,
+            name,
+            declarations,
+            body,
+        },
+    )?;
+    let boxed = Box::new(alloc, Declaration::TaskBody(task))?;
     Ok(boxed)
 }

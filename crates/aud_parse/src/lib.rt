@@ -7,5 +7,6 @@ mod formals;
 mod parser;
 mod scheme;
 mod statement;
+mod task;
 
 pub use crate::parser::{SyntaxFault, parse};

@@ -18,11 +18,12 @@ ghost use Rattle.aud_cursor.specs.Ties.Reads.{Reads, MayRead, ReadsFlat, MayRead
 
 use crate::build::{
     Declare, Guarded, add, arm_of, assign_or_call, handler_of, in_order, made_block, made_body,
-    made_if, made_loop, made_procedure,
+    made_if, made_loop, made_procedure, made_task_body,
 };
 use crate::declaration::named_declaration;
 use crate::formals::specification;
 use crate::scheme::{Scheme, opt_scheme};
+use crate::task::task_declaration;
 use aud_cursor::behind::{both, ended};
 use aud_cursor::choice_list::choices;
 use aud_cursor::cursor::{Read, Rest, accept, deeper, is, is_one_of, token, word};
@@ -34,7 +35,7 @@ use aud_syntax::tree::{
 };
 use std::alloc::Global;
 
-const DECLARATIONS: [Kind; 2] = [Kind::Identifier, Kind::Procedure];
+const DECLARATIONS: [Kind; 3] = [Kind::Identifier, Kind::Procedure, Kind::Task];
 
 const STATEMENTS: [Kind; 11] = [
     Kind::Null,
@@ -148,6 +149,39 @@ fn procedure(alloc: Global, start: Rest, room: u32) -> Read<Box<Declaration>>
     Ok((declaration, rest))
 }
 
+/// The body of a task, behind its first word (RM 9.1(6)).
+#[cycle(statement)]
+#[inline(never)]
+fn task_body<'a>(
+    alloc: Global,
+    begin: &Token,
+    start: Rest<'a>,
+    room: u32,
+) -> Read<'a, Box<Declaration>>
+    ensures { Completes (λ es. made g.Task (token begin.now ∷ es)) boxed_declaration_item
+        (N g.TaskBody ∷ []) room start.entry result }
+{
+    let rest = word(start, Kind::Body)?;
+    let (name, rest) = ident(alloc, rest)?;
+    let (name, rest) = ended(name, rest, Kind::Is)?;
+    let (declarations, rest) = opt_declarations(alloc, rest, room)?;
+    let (body, rest) = body(alloc, rest, room)?;
+    let declaration = made_task_body(alloc, begin.at(), name, declarations, body)?;
+    Ok((declaration, rest))
+}
+
+/// A task or a task type, or the body of one (RM 9.1).
+#[cycle(statement)]
+fn task(alloc: Global, start: Rest, room: u32) -> Read<Box<Declaration>>
+    ensures { Reads boxed_declaration_item (N g.Task) room start.entry result }
+{
+    let (begin, rest) = token(start, Kind::Task)?;
+    if is(rest, Kind::Body) {
+        return task_body(alloc, begin, rest, room);
+    }
+    task_declaration(alloc, begin, rest)
+}
+
 /// A declaration (RM 3.1).
 #[cycle(statement)]
 fn declaration(alloc: Global, start: Rest, room: u32) -> Read<Box<Declaration>>
@@ -156,7 +190,10 @@ fn declaration(alloc: Global, start: Rest, room: u32) -> Read<Box<Declaration>>
     if is(start, Kind::Identifier) {
         return named_declaration(alloc, start, room);
     }
-    procedure(alloc, start, room)
+    if is(start, Kind::Procedure) {
+        return procedure(alloc, start, room);
+    }
+    task(alloc, start, room)
 }
 
 /// Declarations, at least one.

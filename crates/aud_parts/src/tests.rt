@@ -4,6 +4,7 @@
 mod fusing;
 mod lines;
 mod machines;
+mod masters;
 mod parking;
 mod texts;
 mod tokens;

@@ -5,7 +5,6 @@ use Rattle.std.specs.Option.{unwrap_or}
 use Rattle.aud_text.specs.declared.limits.TheConstants.{ELEMENTS, FRAMES}
 use Rattle.aud_text.specs.declared.raise.Raise.{Raise}
 use Rattle.aud_text.specs.declared.place.Pos.{Pos}
-use Rattle.aud_typed.specs.declared.program.Exception.{Exception}
 use Rattle.aud_typed.specs.Tree.{UnitPlan}
 use Rattle.aud_typed.specs.Ties.View.{plain_tasks}
 use Rattle.aud_meaning.specs.declared.state.Construct.TheVariants as construct
@@ -35,7 +34,7 @@ use Rattle.aud_store.specs.declared.stack.Open.{Open}
 use Rattle.aud_store.specs.declared.stack.Purpose.TheVariants as stack
 use Rattle.aud_store.specs.Ties.Stored.{plain_purpose, is_in_loop, entered, IsInnermost}
 use Rattle.aud_single.specs.Shown.{unit_in}
-use Rattle.aud_single.specs.Steps.{back_or, EndsBack, IsCall, CalledFrom, OpenedFor, AreAround, PendsWithin, FitsAt, PendsAt, FitsIn, Fits, HasConstruct, LeadsOn, moved_to, on_stored, opened, left_loops, with_newest, with_two, out_of_construct, behind_construct, construct_left, place_behind, does, flows_by, ends_by, raises_by, handled_at}
+use Rattle.aud_single.specs.Steps.{back_or, EndsBack, IsCall, CalledFrom, OpenedFor, AreAround, PendsWithin, FitsAt, PendsAt, FitsIn, Fits, HasConstruct, LeadsOn, moved_to, on_stored, opened, left_loops, with_newest, with_two, out_of_construct, behind_construct, construct_left, does, flows_by, ends_by, raises_by, handled_at}
 use Rattle.aud_single.proofs.Frames.{found_so, found_is, found_at, fits_found, has_construct, block_around, never_accepts, block_so, out_of_them, around_changed, pending_within, to_construct, handled_to, ConstructEnd, construct_end, end_of_block, end_of_unit}
 use Rattle.aud_single.proofs.Returning.{arrives, begins_call, comes_back, pends_at_call, nothing_behind}
 

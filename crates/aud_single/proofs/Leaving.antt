@@ -1,12 +1,12 @@
 -- Where a task stands, and which master its next step leaves.
-use Rattle.std.proofs.Common.{◌≡◌, ℕ, List, Option, Some, None, Bool, true, false, not, refl, sym, ap, ◌∙◌, subst}
+use Rattle.std.proofs.Common.{◌≡◌, ℕ, Option, Some, None, Bool, true, false, not, refl, sym, subst}
 use Rattle.aud_typed.specs.Tree.{Plan}
 use Rattle.aud_meaning.specs.Configuration.{Pending}
 use Rattle.aud_meaning.specs.Control.{Coming, simply, ending, selecting, calling, starting}
 use Rattle.aud_meaning.specs.Evaluation.{Sight}
 use Rattle.aud_meaning.specs.Statements.{coming_raised}
 use Rattle.aud_meaning.specs.Run.{master_left_by}
-use Rattle.aud_meaning.specs.Ties.Single.{Stage, Stack, Single, runs, completed, terminated, own_in, out_of_loops}
+use Rattle.aud_meaning.specs.Ties.Single.{Stage, Single, runs, completed, terminated, out_of_loops}
 use Rattle.aud_code.specs.declared.line.EndLine.{EndLine}
 use Rattle.aud_code.specs.declared.line.Ending.TheVariants.{Declare, DeclareArray, Null, Assign, Put, If, While, Loop, Exit, Raise, RaiseAgain, Block, Return, Call}
 use Rattle.aud_code.specs.declared.line.Last.{Last}
@@ -17,7 +17,6 @@ use Rattle.aud_code.specs.Eval.{eval}
 use Rattle.aud_code.specs.Flat.{Flat, coming_at, instructions_at, end_at, no_end, no_scene, coming_last, handler_at}
 use Rattle.aud_code.specs.Flat as flat
 use Rattle.aud_code.specs.View.{plain_end, plain_last}
-use Rattle.aud_single.specs.Shown.{raised_in}
 use Rattle.aud_single.specs.Standing.{leaves_by, IsLeaving, LeavesIn, IsOfMaster, LeavesMaster}
 
 -- whether a step leaves a construct, by how it ends
@@ -93,9 +92,3 @@ module _ (code : Flat) (q : Single Spot) where
   some_left master (runs pending) is h = λ plan s. some_by master (coming_at code plan pending s q.control) is (h plan s)
   some_left master (completed raised) is h = absurd cc
   some_left master (terminated raised) is h = absurd cc
-
--- the exception that left the main procedure
-pub raised_same : (name : List ℕ) (s : Stage) (stack : Stack) → raised_in s ≡ (own_in name s stack).raised
-raised_same name (runs pending) stack = refl
-raised_same name (completed raised) stack = refl
-raised_same name (terminated raised) stack = refl

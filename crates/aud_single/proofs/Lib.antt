@@ -8,11 +8,10 @@ pub mod Copies
 pub mod Planned
 pub mod Opening
 pub mod Fitting
-pub mod Moving
 pub mod Next
 pub mod Leaving
 pub mod Numbers
-pub mod Running
 pub mod FastSteps
 pub mod FastRuns
 pub mod Growing
+pub mod Activating

@@ -1,20 +1,12 @@
--- The next step of a program of one task.
-use Rattle.std.proofs.Common.{◌≡◌, ℕ, List, [], ◌∷◌, Option, Some, None, Bool, true, false, if◌then◌else◌, refl, sym, ap, ◌∙◌, subst}
-use Rattle.aud_text.specs.declared.place.Pos.{Pos}
+-- The next step of a task.
+use Rattle.std.proofs.Common.{◌≡◌, ℕ, Option, Some, None, true, refl, sym, subst}
 use Rattle.aud_typed.specs.Tree.{Plan}
 use Rattle.aud_meaning.specs.declared.state.StepKind.{StepKind}
-use Rattle.aud_meaning.specs.declared.state.StepKind.TheVariants as kind
-use Rattle.aud_meaning.specs.declared.state.NextStep.{NextStep}
-use Rattle.aud_meaning.specs.Configuration.{Pending, Opened, Own}
-use Rattle.aud_meaning.specs.Control.{Coming, simply, ending, selecting, calling, starting}
+use Rattle.aud_meaning.specs.Configuration.{Pending}
 use Rattle.aud_meaning.specs.Evaluation.{Sight}
-use Rattle.aud_meaning.specs.Effects.{is_loop}
-use Rattle.aud_meaning.specs.Effects as effect
 use Rattle.aud_meaning.specs.Statements.{coming_raised}
-use Rattle.aud_meaning.specs.Parts.{unit_of}
 use Rattle.aud_meaning.specs.Run.{end_kind_by}
-use Rattle.aud_meaning.specs.Ties.Single.{Stage, Stack, Single, runs, completed, terminated, own_in, all_of, scene_in, out_of_loops, out_of_loops_by}
-use Rattle.aud_meaning.specs.Listings.{coming_kind, coming_step_at}
+use Rattle.aud_meaning.specs.Ties.Single.{Stack, Single, runs, out_of_loops}
 use Rattle.aud_code.specs.declared.line.EndLine.{EndLine}
 use Rattle.aud_code.specs.declared.line.Ending.TheVariants.{Declare, DeclareArray, Null, Assign, Put, If, While, Loop, Exit, Raise, RaiseAgain, Block, Return, Call}
 use Rattle.aud_code.specs.declared.line.Last.{Last}
@@ -22,13 +14,13 @@ use Rattle.aud_code.specs.declared.line.Last.TheVariants.{Does, DeclaresTasks, A
 use Rattle.aud_code.specs.Places.{Spot, is_there}
 use Rattle.aud_code.specs.Instruction.{Ended, no_operands}
 use Rattle.aud_code.specs.Eval.{eval}
-use Rattle.aud_code.specs.Flat.{Flat, flat_controls, instructions_at, end_at, no_end, no_scene, coming_last, handler_at}
+use Rattle.aud_code.specs.Flat.{Flat, instructions_at, end_at, no_end, no_scene, coming_last, handler_at}
 use Rattle.aud_code.specs.Flat as flat
 use Rattle.aud_code.specs.View.{plain_end, plain_last}
-use Rattle.aud_single.specs.Next.{step_kind, IsOfKind, IsKindIn, IsNextKind, ComesNext, place_in}
+use Rattle.aud_single.specs.Next.{step_kind, IsOfKind, IsKindIn, IsNextKind}
 
 -- what a step is, by how it ends
-pub of_kind : (plan : Plan) (stack : Stack) (last : Last) (s : Sight) (x : Ended) → IsOfKind stack (step_kind last (end_kind_by (out_of_loops stack).opened)) (coming_last plan (plain_last last) s x)
+of_kind : (plan : Plan) (stack : Stack) (last : Last) (s : Sight) (x : Ended) → IsOfKind stack (step_kind last (end_kind_by (out_of_loops stack).opened)) (coming_last plan (plain_last last) s x)
 of_kind plan stack (Does (Declare up_to again) next) s x = refl
 of_kind plan stack (Does (DeclareArray t n) next) s x = refl
 of_kind plan stack (Does Null next) s x = refl
@@ -74,36 +66,3 @@ module _ (code : Flat) (q : Single Spot) (k : StepKind) where
   handler_next p h stage is found =
       subst (λ s. IsKindIn code q s (Some k)) (sym stage) (λ plan s.
       subst (λ h. IsOfKind q.stack k (coming_raised (is_there h))) is found)
-
--- the innermost construct of any task
-opened_same : (os : List Opened) (own : Own) (s : Stack) → own.opened ≡ s.opened → (effect.out_of_loops_by os own).opened ≡ (out_of_loops_by os s).opened
-opened_same [] own s e = e
-opened_same (o ∷ os) own s e = by (is_loop o.purpose) (opened_same os (record own { display = o.saved; opened = os }) (record { display = o.saved; opened = os }) refl)
-  where
-    by : (b : Bool) → (effect.out_of_loops_by os (record own { display = o.saved; opened = os })).opened ≡ (out_of_loops_by os (record { display = o.saved; opened = os })).opened → (if b then effect.out_of_loops_by os (record own { display = o.saved; opened = os }) else own).opened ≡ (if b then out_of_loops_by os (record { display = o.saved; opened = os }) else s).opened
-    by true h = h
-    by false h = e
-
-module _ (code : Flat) (q : Single Spot) (final : Pos) (k : StepKind) (at : Pos) (plan : Plan) (name : List ℕ) (there : (unit_of plan 0).end ≡ final) where
-  abbrev Shown : Stage → Option NextStep
-  Shown s = coming_step_at plan (flat_controls plan code) 0 (all_of name (record q { stage = s }))
-
-  by_kind : (pending : Option Pending) (x : Coming) → IsOfKind q.stack k x → k ≡ coming_kind plan (flat_controls plan code).barrier x (own_in name (runs pending) q.stack)
-  by_kind pending (simply w) h = h
-  by_kind pending ending h = h ∙ ap end_kind_by (sym (opened_same q.stack.opened (own_in name (runs pending) q.stack) q.stack refl))
-  by_kind pending (selecting ones) h = absurd h
-  by_kind pending (calling task entry) h = absurd h
-  by_kind pending (starting object reading) h = absurd h
-
-  each : (s : Stage) → IsKindIn code q s (Some k) → at ≡ place_in code final q.control.place s → Some (record { kind = k; at = at }) ≡ Shown s
-  each (runs None) comes is =
-      ap (λ a. Some (record { kind = k; at = a })) is
-      ∙ ap (λ j. Some (record { kind = j; at = (end_at code q.control.place).at })) (by_kind None _ (comes plan (scene_in name (record q { stage = runs None })).sight))
-  each (runs (Some p)) comes is =
-      ap (λ a. Some (record { kind = k; at = a })) is
-      ∙ ap (λ j. Some (record { kind = j; at = p.at })) (by_kind (Some p) _ (comes plan (scene_in name (record q { stage = runs (Some p) })).sight))
-  each (completed r) comes is = ap (λ (x : Option StepKind). elim x [ None ↦ None | Some j ↦ Some (record { kind = j; at = at }) ]) comes ∙ ap (λ a. Some (record { kind = kind.Close; at = a })) (is ∙ sym there)
-  each (terminated r) comes is = absurd (cc)
-
-pub comes : (code : Flat) (q : Single Spot) (final : Pos) (k : StepKind) (at : Pos) → IsNextKind code q (Some k) → at ≡ place_in code final q.control.place q.stage → ComesNext code final 0 q (Some (record { kind = k; at = at }))
-comes code q final k at kind is plan name there = each code q final k at plan name there q.stage kind is

@@ -9,7 +9,7 @@ use Rattle.aud_meaning.specs.Configuration.{Returning, for_procedure, Opened}
 use Rattle.aud_meaning.specs.Ties.Single.{runs, failed_at}
 use Rattle.aud_code.specs.Places.{Spot, goes, goes_there}
 use Rattle.aud_code.specs.Instruction as instruction
-use Rattle.aud_code.specs.Flat.{FlatLine, Flat, EndLine, Last, Does, end_at, back_to, start_at}
+use Rattle.aud_code.specs.Flat.{FlatLine, Flat, EndLine, Last, Does, back_to, start_at}
 use Rattle.aud_code.specs.Frames.{found_from, found, At, EachAt, WaysAt, LastFits}
 use Rattle.aud_code.specs.Sound.{IsStart, EachStart, IsSound}
 use Rattle.aud_code.proofs.Framing.{end_found, stands}

@@ -9,7 +9,6 @@ use Rattle.aud_typed.specs.declared.program.Subtype.{Subtype}
 use Rattle.aud_typed.specs.declared.program.Unit as declared
 use Rattle.aud_typed.specs.Tree.{Plan, UnitPlan}
 use Rattle.aud_meaning.specs.declared.state.Construct.{Construct}
-use Rattle.aud_meaning.specs.declared.state.Construct.TheVariants as construct
 use Rattle.aud_meaning.specs.Configuration.{Target, Pending, Purpose, for_body, for_block, for_loop, for_procedure, for_operation, for_entry, for_accept, Opened, All}
 use Rattle.aud_meaning.specs.Control.{Controls, Scene, Asked, goes_on, goes_out}
 use Rattle.aud_meaning.specs.Control as asked

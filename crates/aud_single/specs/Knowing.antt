@@ -1,12 +1,7 @@
 -- What is known of tasks where one of them acts.
-use Rattle.std.specs.Prelude.{ℕ, List, [], ◌∷◌, true, false}
+use Rattle.std.specs.Prelude.{ℕ}
 use Rattle.aud_meaning.specs.Evaluation.{Facts}
 use Rattle.aud_meaning.specs.Control.{Controls}
-use Rattle.aud_expr.specs.declared.facts.Known.{Known}
-
--- of a task that is under way alone
-abbrev pub one_running : List Known
-one_running = record { is_callable = true; is_terminated = false } ∷ []
 
 -- what it has left to do, with these facts of tasks handed to its expressions, and so many objects
 abbrev pub with_facts : {C : Type 0} → Facts → ℕ → Controls C → Controls C

@@ -3,8 +3,6 @@ pub mod Steps
 pub mod Parked
 pub mod Ticks
 pub mod Knowing
-pub mod Moving
 pub mod Next
 pub mod Standing
-pub mod Running
 pub mod Fast

@@ -1,24 +1,20 @@
--- What comes next of a program of one task.
+-- What comes next of a task.
 use Rattle.std.specs.Prelude.{◌≡◌, ℕ, Option, Some, None}
 use Rattle.aud_text.specs.declared.place.Pos.{Pos}
 use Rattle.aud_typed.specs.Tree.{Plan}
 use Rattle.aud_meaning.specs.declared.state.StepKind.{StepKind}
 use Rattle.aud_meaning.specs.declared.state.StepKind.TheVariants as kind
-use Rattle.aud_meaning.specs.declared.state.NextStep.{NextStep}
 use Rattle.aud_meaning.specs.Configuration.{Pending}
 use Rattle.aud_meaning.specs.Evaluation.{Sight}
 use Rattle.aud_meaning.specs.Control.{Coming, simply, ending, selecting, calling, starting}
-use Rattle.aud_meaning.specs.Parts.{unit_of}
 use Rattle.aud_meaning.specs.Run.{end_kind_by}
-use Rattle.aud_meaning.specs.Listings.{coming_step_at}
-use Rattle.aud_meaning.specs.Ties.Single.{Stage, Stack, Single, runs, completed, terminated, all_of, out_of_loops}
+use Rattle.aud_meaning.specs.Ties.Single.{Stage, Stack, Single, runs, completed, terminated, out_of_loops}
 use Rattle.aud_code.specs.Places.{Spot}
-use Rattle.aud_code.specs.Flat.{Flat, flat_controls, coming_at, end_at}
+use Rattle.aud_code.specs.Flat.{Flat, coming_at, end_at}
 use Rattle.aud_code.specs.declared.line.Ending.{Ending}
 use Rattle.aud_code.specs.declared.line.Ending.TheVariants.{Declare, DeclareArray, Null, Assign, Put, If, While, Loop, Exit, Raise, RaiseAgain, Block, Return, Call}
 use Rattle.aud_code.specs.declared.line.Last.{Last}
 use Rattle.aud_code.specs.declared.line.Last.TheVariants.{Does, DeclaresTasks, Activates, EndsActivation, Continues, Guards, Ends, Leaves}
-use Rattle.aud_single.specs.Shown.{InAnyProgram}
 
 -- the kind of a statement's step
 abbrev pub statement_kind : Ending → StepKind
@@ -69,12 +65,7 @@ IsKindIn code p (terminated raised) next = next ≡ None
 abbrev pub IsNextKind : Flat → Single Spot → Option StepKind → Type 0
 IsNextKind code p next = IsKindIn code p p.stage next
 
--- what comes next of the task of a number, where the program's `end` stands at this place
-abbrev pub ComesNext : Flat → Pos → ℕ → Single Spot → Option NextStep → Type 0
-ComesNext code end task p next =
-    InAnyProgram (λ plan name. (unit_of plan 0).end ≡ end → next ≡ coming_step_at plan (flat_controls plan code) task (all_of name p))
-
--- the place that is shown for its next step, where the program's `end` stands at this place
+-- the place that is shown for its next step, where its body's `end` stands at this place
 abbrev pub place_in : Flat → Pos → ℕ → Stage → Pos
 place_in code final place (runs None) = (end_at code place).at
 place_in code final place (runs (Some pending)) = pending.at

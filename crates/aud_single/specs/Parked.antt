@@ -1,10 +1,12 @@
 -- A task while another one acts.
-use Rattle.std.specs.Prelude.{ℕ, zero, suc, ℤ, pos, List, [], ◌∷◌, take, Option, None}
+use Rattle.std.specs.Prelude.{◌≡◌, ℕ, zero, suc, ℤ, pos, List, [], ◌∷◌, take, Option, None}
 use Rattle.aud_typed.specs.Tree.{UnitPlan}
 use Rattle.aud_meaning.specs.Configuration.{Pending}
 use Rattle.aud_meaning.specs.Ties.Single.{Single, Stack, Stage, runs, terminated}
 use Rattle.aud_code.specs.Places.{Spot, goes}
-use Rattle.aud_code.specs.Flat.{Flat, start_at}
+use Rattle.aud_code.specs.Instruction.{Activate}
+use Rattle.aud_code.specs.Flat.{FlatLine, Flat, Does, start_at}
+use Rattle.aud_code.specs.Frames.{found, Found}
 use Rattle.aud_single.specs.Shown.{unit_in}
 use Rattle.aud_single.specs.Steps.{first_way}
 
@@ -29,6 +31,10 @@ acting t p = record p { control = t.control; stage = t.stage; stack = t.stack }
 -- the one that acted
 abbrev pub parked : Single Spot → Parked
 parked p = record { control = p.control; stage = p.stage; stack = p.stack }
+
+-- it stands at a step that activates what its declarative part has created
+abbrev pub IsAtActivation : List FlatLine → Spot → Type 0
+IsAtActivation lines s = Found (found lines s.place) (λ l. l.last ≡ Does Activate)
 
 -- it goes on behind the step at which it waited, with this pending
 abbrev pub gone_on : Flat → Option Pending → Parked → Parked

@@ -35,10 +35,6 @@ raised_in (terminated raised) = raised
 abbrev pub shared_in : Single Spot → Shared
 shared_in p = record { frames = p.frames; output = p.output; cut = p.cut; calls = []; arrivals = 0; objects = [] }
 
--- it holds whatever the program's plan and its name
-abbrev pub InAnyProgram : (Plan → List ℕ → Type 0) → Type 0
-InAnyProgram Holds = (plan : Plan) → (name : List ℕ) → Holds plan name
-
 -- the plans of procedures in memory, by their numbers
 abbrev pub plans_of : List declared.Unit → List UnitPlan
 plans_of units = map unit_plan (map plain_unit units)
@@ -48,7 +44,7 @@ unit_in units n = slice_index_or units n no_unit
 
 -- it holds whatever the program's name, and its plan with these units
 abbrev pub WithUnits : List UnitPlan → (Plan → List ℕ → Type 0) → Type 0
-WithUnits units Holds = InAnyProgram (λ plan name. plan.units ≡ units → Holds plan name)
+WithUnits units Holds = (plan : Plan) → (name : List ℕ) → plan.units ≡ units → Holds plan name
 
 -- what becomes of the one is the other, whatever the program's name
 abbrev pub Becomes : Single Spot → (All Spot → All Spot) → Single Spot → Type 0

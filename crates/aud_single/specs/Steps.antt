@@ -12,6 +12,7 @@ use Rattle.aud_typed.specs.Tree.{UnitPlan}
 use Rattle.aud_meaning.specs.declared.state.Construct.{Construct}
 use Rattle.aud_meaning.specs.declared.state.Construct.TheVariants as construct
 use Rattle.aud_meaning.specs.Configuration.{Pending, Target, Returning, Purpose, for_body, for_block, for_loop, for_procedure, for_operation, for_entry, for_accept, Opened}
+use Rattle.aud_meaning.specs.Control.{raises_here}
 use Rattle.aud_meaning.specs.Evaluation.{Facts, nearest_zero}
 use Rattle.aud_meaning.specs.Step.{for_first, for_step, has_next, not_handled}
 use Rattle.aud_meaning.specs.Run.{own_move, step_with}
@@ -43,14 +44,9 @@ use Rattle.aud_single.specs.declared.step.Step.{Step}
 use Rattle.aud_single.specs.declared.step.Step.TheVariants.{Taken, OfTasks}
 use Rattle.aud_single.specs.Shown.{shared_in, unit_in, WithUnits}
 use Rattle.aud_single.specs.Knowing.{with_facts}
-use Rattle.aud_single.specs.Ticks.{step_ticks, ticks_by}
+use Rattle.aud_single.specs.Ticks.{ticks_by}
 
--- a step of the code leads there, in a program with these units
-abbrev pub StepsTo : List UnitPlan → Flat → Single Spot → Single Spot → Type 0
-StepsTo units code old new =
-    WithUnits units (λ plan name. (limits : Limits) → all_of name new ≡ step_with plan (flat_controls plan code) limits (all_of name old) (own_move 0))
-
--- and likewise among tasks of which this is known, whatever else there is
+-- a step of the code leads there, in a program with these units, among tasks of which this is known, whatever else there is
 abbrev pub StepsAmong : List Known → List UnitPlan → Flat → Single Spot → Single Spot → Type 0
 StepsAmong known units code old new =
     WithUnits units (λ plan name. (limits : Limits) (facts : Facts) (objects : ℕ) → Knows known facts → all_of name new ≡ step_with plan (with_facts facts objects (flat_controls plan code)) limits (all_of name old) (own_move 0))
@@ -106,31 +102,29 @@ FitsIn lines s os (terminated raised) = Unit {0}
 abbrev pub Fits : List FlatLine → Single Spot → Type 0
 Fits lines p = FitsIn lines p.control p.stack.opened p.stage
 
--- the step leads to new, and this number of instructions was executed, each a tick
-pub record IsStep (units : List UnitPlan) (code : Flat) (old new : Single Spot) (executed : ℕ) : Type 0 where
-  pub next : StepsTo units code old new
-  pub fits : Fits code.lines new
-  pub steps : new.steps ≡ old.steps + 1
-  pub ticks : (name : List ℕ) → executed ≡ step_ticks name code old
-  pub few : executed ≤ length code.lines
-  -- no frame is taken away
-  pub grows : length old.frames ≤ length new.frames
-
--- and likewise among tasks of which this is known
-pub record IsStepAmong (known : List Known) (units : List UnitPlan) (code : Flat) (old new : Single Spot) (executed : ℕ) : Type 0 where
-  pub next : StepsAmong known units code old new
-  pub fits : Fits code.lines new
-  pub steps : new.steps ≡ old.steps + 1
-  pub ticks : InSight known old.stack.display old.frames (λ s. executed ≡ ticks_by code old.stage s old.control)
-  pub few : executed ≤ length code.lines
-  pub grows : length old.frames ≤ length new.frames
-
 -- endings of steps on other tasks: they are created, they are activated, the activation ends for which another one waits
 abbrev pub IsOfTasks : flat.Last → Type 0
 IsOfTasks (flat.Does (instruction.DeclareTasks ts)) = Unit {0}
 IsOfTasks (flat.Does instruction.Activate) = Unit {0}
 IsOfTasks (flat.Does instruction.Activated) = Unit {0}
 IsOfTasks last = ⊥
+
+-- what is evaluated before the ending raises
+abbrev pub RaisesBefore : List Known → Flat → Single Spot → Type 0
+RaisesBefore known code old =
+    (raise : Raise) × InSight known old.stack.display old.frames (λ s. asked_at code None s old.control ≡ raises_here raise (end_at code old.control.place).at)
+
+-- The step leads to new, among tasks of which this is known, and this number of instructions was executed, each a tick. A step on other
+-- tasks is taken only where it raises before its ending.
+pub record IsStepAmong (known : List Known) (units : List UnitPlan) (code : Flat) (old new : Single Spot) (executed : ℕ) : Type 0 where
+  pub next : StepsAmong known units code old new
+  pub fits : Fits code.lines new
+  pub steps : new.steps ≡ old.steps + 1
+  pub ticks : InSight known old.stack.display old.frames (λ s. executed ≡ ticks_by code old.stage s old.control)
+  pub few : executed ≤ length code.lines
+  -- no frame is taken away
+  pub grows : length old.frames ≤ length new.frames
+  pub raises : old.stage ≡ runs None → IsOfTasks (end_at code old.control.place).last → RaisesBefore known code old
 
 -- with the newest operand; with the two newest ones, of which the older comes first
 abbrev pub with_newest : {A : Type 0} → List A → Single Spot → (A → Single Spot) → Single Spot

@@ -1,35 +1,10 @@
-// What comes next of a program of one task.
+// What kind of step comes next, by how it ends.
 
 ghost use Rattle.std.specs.Prelude.{◌≡◌};
-ghost use Rattle.aud_single.specs.Next.{ComesNext, IsNextKind, statement_kind, step_kind};
+ghost use Rattle.aud_single.specs.Next.{statement_kind, step_kind};
 
-use crate::progress::Progress;
 use aud_code::line::{Ending, Last};
-use aud_code::sound_code::SoundCode;
-use aud_meaning::state::{NextStep, StepKind};
-use aud_text::place::Pos;
-
-impl Progress {
-    /// What comes next of the task of this number, counted from 0, of which there is one; `end` is where the program's
-    /// `end` stands.
-    pub fn coming(&self, code: &SoundCode, end: Pos, task: usize) -> Option<NextStep>
-        ensures { ComesNext code.now end task self.now result }
-    {
-        if task != 0 {
-            return None;
-        }
-        let kind = self.next_kind(code)?;
-        let at = self.standing().shown_place(code, end);
-        Some(NextStep { kind, at })
-    }
-
-    // The kind of its next step; none where it is terminated.
-    pub(crate) fn next_kind(&self, code: &SoundCode) -> Option<StepKind>
-        ensures { IsNextKind code.now self.now result }
-    {
-        self.standing().next_kind(code)
-    }
-}
+use aud_meaning::state::StepKind;
 
 // The kind of a step, by how it ends; `leaving` is that of the step that leaves the innermost construct.
 pub(crate) fn step_kind(last: &Last, leaving: StepKind) -> StepKind

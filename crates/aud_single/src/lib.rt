@@ -1,11 +1,9 @@
-// Machines of one task: compiled programs under way that are their main procedure, and those that it calls.
+// Tasks of compiled programs under way: a task's body, and the procedures that it calls.
 #![tactic(auto)]
 
 mod coming;
 pub mod fast;
-mod moves;
 pub mod progress;
-pub mod run;
 pub mod stage;
 pub mod standing;
 mod statements;

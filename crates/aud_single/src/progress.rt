@@ -1,9 +1,9 @@
-// How far a program of one task is.
+// How far a task is, with what all tasks share.
 
-ghost use Rattle.std.specs.Prelude.{◌≡◌, ◌<◌, ◌≤◌, ◌+◌, ◌∷◌, [], List, ℕ, length, replicate, Some, None, false, IsTrue, OnOk, IfOk};
-ghost use Rattle.aud_meaning.specs.Run.{main_raised, supplied, advanced};
+ghost use Rattle.std.specs.Prelude.{◌≡◌, ◌<◌, ◌≤◌, ◌+◌, ◌∷◌, [], length, replicate, Some, None, false, IsTrue, OnOk, IfOk};
+ghost use Rattle.aud_meaning.specs.Run.{supplied, advanced};
 ghost use Rattle.aud_meaning.specs.Effects.{innermost};
-ghost use Rattle.aud_meaning.specs.Ties.Single.{runs, all_of, closed, out_of_loops, AreOpenedAlone};
+ghost use Rattle.aud_meaning.specs.Ties.Single.{runs, closed, out_of_loops, AreOpenedAlone};
 ghost use Rattle.aud_expr.specs.Fused.{SeesMain};
 ghost use Rattle.aud_store.specs.Ties.Stored.{declared, entered, plain_purpose, IsInner, IsInnermost};
 ghost use Rattle.aud_store.specs.Ties.Stored.{IsProcedure};
@@ -169,13 +169,6 @@ impl Progress {
         ensures within { result ≤ STEPS }
     {
         self.steps
-    }
-
-    /// The exception that left the main procedure.
-    pub fn raised(&self) -> Option<Exception>
-        ensures { (name : List ℕ) → result ≡ main_raised (all_of name self.now).tasks }
-    {
-        self.stage.raised()
     }
 
     /// Choices, which wait behind those that wait already.

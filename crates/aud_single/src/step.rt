@@ -1,4 +1,4 @@
-// The steps of a program of one task.
+// The steps of a task.
 
 ghost use Rattle.std.specs.Prelude.{◌≡◌, ◌↔◌, ◌<◌, ◌≤◌, ◌+◌, List, Some, None, IsTrue, OnOk, IfOk, length};
 ghost use Rattle.aud_typed.specs.Tree.{UnitPlan};
@@ -10,7 +10,7 @@ ghost use Rattle.aud_code.specs.View.{plain_last};
 ghost use Rattle.aud_exc.specs.View.{plain_raised};
 ghost use Rattle.aud_single.specs.Shown.{plans_of};
 ghost use Rattle.aud_expr.specs.declared.facts.Known.{Known as KnownOf};
-ghost use Rattle.aud_single.specs.Steps.{StepsAmong, Fits, IsStep, ComesTo, IsOfTasks, EndsAt, EndsBack};
+ghost use Rattle.aud_single.specs.Steps.{StepsAmong, Fits, ComesTo, IsOfTasks, EndsAt, EndsBack};
 ghost use Rattle.aud_single.specs.Steps.{HasConstruct};
 ghost use Rattle.aud_single.specs.Steps.{ends_by, flows_by, raises_by, raised, place_behind};
 
@@ -38,36 +38,7 @@ pub enum Step {
     OfTasks(u64),
 }
 
-// What is known of a task that is under way alone.
-const RUNNING: Known = Known {
-    is_callable: true,
-    is_terminated: false,
-};
-
 impl Progress {
-    /// One step of a task that is under way alone, in a program with these units. It tells how many instructions were executed, each a
-    /// tick.
-    ///
-    /// # Errors
-    ///
-    /// Where memory is refused. As yet a step on other tasks is not taken either: there is no room for them.
-    pub fn step(
-        &mut self,
-        code: &SoundCode,
-        units: &[Unit],
-        operands: &mut Operands,
-    ) -> Result<u64, AllocError>
-        requires fits { Fits code.now.lines self.old }
-        requires steps { self.old.steps < STEPS }
-        ensures { IfOk result (λ ticks.
-            IsStep (plans_of units.now) code.now self.old self.new ticks) }
-    {
-        match self.step_among(code, units, &[RUNNING], operands)? {
-            Step::Taken(ticks) => Ok(ticks),
-            Step::OfTasks(_) => Err(AllocError),
-        }
-    }
-
     /// One step, in a program with these units, among tasks of which this is known, by their numbers. A step on other tasks is left to
     /// be done by whoever has them: only its instructions are executed.
     pub fn step_among(

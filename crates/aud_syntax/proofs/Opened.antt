@@ -31,11 +31,12 @@ use Rattle.aud_syntax.specs.declared.tree.Statements.{Statements}
 use Rattle.aud_syntax.specs.declared.tree.Formal.{Formal}
 use Rattle.aud_syntax.specs.declared.tree.Declaration.{Declaration}
 use Rattle.aud_syntax.specs.declared.tree.ProcedureDeclaration.{ProcedureDeclaration, ProcedureDeclaration', out-ProcedureDeclaration, roll-ProcedureDeclaration, out-roll-ProcedureDeclaration}
+use Rattle.aud_syntax.specs.declared.tree.TaskBody.{TaskBody, TaskBody', out-TaskBody, roll-TaskBody, out-roll-TaskBody}
 use Rattle.aud_text.specs.declared.place.Pos.{Pos}
 use Rattle.aud_syntax.specs.declared.tree.LoopStatement.{LoopStatement}
 use Rattle.aud_syntax.specs.declared.tree.BlockStatement.{BlockStatement, BlockStatement', out-BlockStatement, roll-BlockStatement, out-roll-BlockStatement, Row_of-Declaration, end_of-Declaration, more_of-Declaration, items-the_row-Declaration, items_shown-the_row-Declaration-1}
 use Rattle.aud_syntax.specs.declared.tree.Body.{Body, Body', out-Body, roll-Body, out-roll-Body, Row_of-Handler, end_of-Handler, more_of-Handler, items-the_row-Handler, items_shown-the_row-Handler-2}
-use Rattle.aud_syntax.specs.Ties.View.{plain_expression, plain_boxed, plain_expressions, plain_args, plain_name, plain_part, plain_parts, part_list, plain_primary, plain_relation, plain_relations, relation_list, plain_chain, plain_comparison, plain_simple, plain_addeds, plain_added, plain_term, plain_multiplieds, plain_multiplied, plain_factor, plain_statement, plain_row, plain_others, plain_statements, plain_if, plain_arms, arm_list, plain_iteration, plain_if_statement, plain_loop_statement, plain_choices, plain_body, plain_handlers, handler_list, plain_body_parts, plain_block, plain_block_statement, plain_formal, plain_declaration, plain_declaration_row, plain_declarations, plain_procedure, plain_procedure_parts}
+use Rattle.aud_syntax.specs.Ties.View.{plain_expression, plain_boxed, plain_expressions, plain_args, plain_name, plain_part, plain_parts, part_list, plain_primary, plain_relation, plain_relations, relation_list, plain_chain, plain_comparison, plain_simple, plain_addeds, plain_added, plain_term, plain_multiplieds, plain_multiplied, plain_factor, plain_statement, plain_row, plain_others, plain_statements, plain_if, plain_arms, arm_list, plain_iteration, plain_if_statement, plain_loop_statement, plain_choices, plain_body, plain_handlers, handler_list, plain_body_parts, plain_block, plain_block_statement, plain_formal, plain_declaration, plain_declaration_row, plain_declarations, plain_procedure, plain_procedure_parts, plain_task_body, plain_task_body_parts}
 use Rattle.aud_syntax.specs.Plain as m
 
 abbrev pub multiplied_list : List Multiplied → m.Multiplieds
@@ -179,7 +180,11 @@ pub procedure_open : (x : ProcedureDeclaration) → plain_procedure x ≡ plain_
 unfolding out-ProcedureDeclaration shown-the_row-Declaration-1 denote.Hole.Carrier.out
 procedure_open (ProcedureDeclaration' at i formals shape declarations x) = ap (λ z. m.procedure at i (map plain_formal formals.items) z (plain_body x)) (declarations_shown shape declarations)
 
--- statements with handlers, a block and a procedure as they are made of their parts
+pub task_body_open : (x : TaskBody) → plain_task_body x ≡ plain_task_body_parts x
+unfolding out-TaskBody shown-the_row-Declaration-1 denote.Hole.Carrier.out
+task_body_open (TaskBody' at i shape declarations x) = ap (λ z. m.task_body at i z (plain_body x)) (declarations_shown shape declarations)
+
+-- statements with handlers, a block, a procedure and the body of a task as they are made of their parts
 
 pub body_roll : (begin : Pos) (x : Statements) (handlers : Vec Handler Global) (end : Pos) (i : Option Ident) (semicolon : Pos) →
     plain_body (roll-Body (record { begin = begin; statements = x; handlers = handlers; end = end; name = i; semicolon = semicolon })) ≡ m.body begin (plain_statements x) (handler_list handlers.items) end i semicolon
@@ -196,3 +201,7 @@ pub procedure_roll : (at : Pos) (i : Ident) (formals : Vec Formal Global) (ds : 
 procedure_roll at i formals ds x =
     procedure_open (roll-ProcedureDeclaration (record { at = at; name = i; formals = formals; declarations = ds; body = x }))
     ∙ ap (λ y. m.procedure y.at y.name (map plain_formal y.formals.items) (plain_declarations y.declarations.items) (plain_body y.body)) (out-roll-ProcedureDeclaration (record { at = at; name = i; formals = formals; declarations = ds; body = x }))
+
+pub task_body_roll : (at : Pos) (i : Ident) (ds : Vec Declaration Global) (x : Body) → plain_task_body (roll-TaskBody (record { at = at; name = i; declarations = ds; body = x })) ≡ m.task_body at i (plain_declarations ds.items) (plain_body x)
+task_body_roll at i ds x =
+    task_body_open (roll-TaskBody (record { at = at; name = i; declarations = ds; body = x })) ∙ ap (λ y. m.task_body y.at y.name (plain_declarations y.declarations.items) (plain_body y.body)) (out-roll-TaskBody (record { at = at; name = i; declarations = ds; body = x }))

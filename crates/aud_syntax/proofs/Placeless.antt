@@ -7,7 +7,7 @@ use Rattle.aud_syntax.specs.declared.tree.Connective.{Connective}
 use Rattle.aud_syntax.specs.declared.tree.Mode.{Mode}
 use Rattle.aud_syntax.specs.declared.tree.Mode.TheVariants as mode
 use Rattle.aud_syntax.specs.Plain as m
-use Rattle.aud_syntax.specs.Why.Bare.{bare_ident, bare_end, bare_expression, bare_relations, bare_relation, bare_name, bare_parts, bare_part, bare_args, bare_simple, bare_addeds, bare_term, bare_multiplieds, bare_factor, bare_primary, bare_maybe, bare_mode, bare_formal, bare_declaration, bare_declarations, bare_iteration, bare_choices, bare_statement, bare_more_statements, bare_statements, bare_arms, bare_body, bare_handlers, bare_context, bare}
+use Rattle.aud_syntax.specs.Why.Bare.{bare_ident, bare_end, bare_expression, bare_relations, bare_relation, bare_name, bare_parts, bare_part, bare_args, bare_simple, bare_addeds, bare_term, bare_multiplieds, bare_factor, bare_primary, bare_maybe, bare_mode, bare_formal, bare_definition, bare_declaration, bare_declarations, bare_iteration, bare_choices, bare_statement, bare_more_statements, bare_statements, bare_arms, bare_body, bare_handlers, bare_context, bare}
 use Rattle.aud_syntax.specs.Why.Printed as w
 use Rattle.aud_syntax.specs.Why.Laws.{WithoutPlaces}
 
@@ -105,6 +105,10 @@ formals_same : (xs : List m.Formal) → w.formals_words (map bare_formal xs) ≡
 formals_same [] = refl
 formals_same (x ∷ xs) = cc (formal_same x, more_formals_same xs)
 
+definition_same : (x : Option m.TaskDefinition) → w.definition_words (bare_definition x) ≡ w.definition_words x
+definition_same None = refl
+definition_same (Some x) = cc (end_same x.end_name)
+
 label_same : (s : Option Ident) → w.label_words (bare_end s) ≡ w.label_words s
 label_same None = refl
 label_same (Some x) = refl
@@ -133,6 +137,8 @@ mutual
   declaration_same (m.array x xs low high subtype) = cc (more_idents_same (codes ",") xs)
   declaration_same (m.exception x xs) = cc (more_idents_same (codes ",") xs)
   declaration_same (m.procedure at x formals ds rest) = cc (formals_same formals, declarations_same ds, body_same rest)
+  declaration_same (m.task at is_type x definition) = cc (definition_same definition)
+  declaration_same (m.task_body at x ds rest) = cc (declarations_same ds, body_same rest)
 
   declarations_same : (xs : m.Declarations) → w.declarations_words (bare_declarations xs) ≡ w.declarations_words xs
   declarations_same m.no_declarations = refl

@@ -23,10 +23,11 @@ use Rattle.aud_syntax.specs.declared.tree.BlockStatement.{BlockStatement}
 use Rattle.aud_syntax.specs.declared.tree.Body.{Body}
 use Rattle.aud_syntax.specs.declared.tree.Formal.{Formal}
 use Rattle.aud_syntax.specs.declared.tree.ProcedureDeclaration.{ProcedureDeclaration}
+use Rattle.aud_syntax.specs.declared.tree.TaskBody.{TaskBody}
 use Rattle.aud_syntax.specs.declared.tree.Handler.{Handler}
-use Rattle.aud_syntax.specs.Ties.View.{plain_expression, plain_chain, plain_boxed, plain_expressions, plain_name, plain_primary, plain_statement, plain_others, plain_if, plain_if_statement, plain_loop_statement, plain_block, plain_block_statement, plain_body, plain_body_parts, handler_list, plain_formal, plain_procedure, plain_procedure_parts}
+use Rattle.aud_syntax.specs.Ties.View.{plain_expression, plain_chain, plain_boxed, plain_expressions, plain_name, plain_primary, plain_statement, plain_others, plain_if, plain_if_statement, plain_loop_statement, plain_block, plain_block_statement, plain_body, plain_body_parts, handler_list, plain_formal, plain_procedure, plain_procedure_parts, plain_task_body, plain_task_body_parts}
 use Rattle.aud_syntax.specs.Why.Printed.{ident_word, expression_words, name_words, primary_words, argument_words, args_words, more_args_words, otherwise_words, statement_words, more_statements_words, body_words, handled_words, handlers_words, formal_words, more_formals_words, formals_words, declaration_words}
-use Rattle.aud_syntax.proofs.Opened.{chain_open, attribute_open, if_open, loop_open, block_open, body_open, procedure_open}
+use Rattle.aud_syntax.proofs.Opened.{chain_open, attribute_open, if_open, loop_open, block_open, body_open, procedure_open, task_body_open}
 
 pub spaced_append : (a b : List Word) → spaced (a ++ b) ≡ spaced a ++ spaced b
 spaced_append [] b = refl
@@ -121,6 +122,10 @@ block_written r old new x h = written_as statement_words r old new (plain_block 
 -- a procedure, as a declaration
 pub procedure_written : {X E : Type 0} (r : Result X E) (old new : List ℕ) (x : ProcedureDeclaration) → OnOk r (new ≡ old ++ spaced (declaration_words (plain_procedure_parts x))) → OnOk r (new ≡ old ++ spaced (declaration_words (plain_procedure x)))
 procedure_written r old new x h = written_as declaration_words r old new (plain_procedure x) (plain_procedure_parts x) (procedure_open x) h
+
+-- the body of a task, as a declaration
+pub task_body_written : {X E : Type 0} (r : Result X E) (old new : List ℕ) (x : TaskBody) → OnOk r (new ≡ old ++ spaced (declaration_words (plain_task_body_parts x))) → OnOk r (new ≡ old ++ spaced (declaration_words (plain_task_body x)))
+task_body_written r old new x h = written_as declaration_words r old new (plain_task_body x) (plain_task_body_parts x) (task_body_open x) h
 
 -- statements with handlers, by their parts
 pub body_written : {X E : Type 0} (r : Result X E) (old new : List ℕ) (x : Body) → OnOk r (new ≡ old ++ spaced (body_words (plain_body_parts x))) → OnOk r (new ≡ old ++ spaced (body_words (plain_body x)))

@@ -83,6 +83,10 @@ mutual
 pub data Formal : Type 0 where
   formal : Ident → List Ident → Mode → Ident → Formal
 
+-- what stands in the declaration of a task behind `is`: the name behind `end` (RM 9.1(4))
+pub record TaskDefinition : Type 0 where
+  pub end_name : Option Ident
+
 -- RM 5.5(3)
 pub data Iteration : Type 0 where
   forever : Iteration
@@ -97,7 +101,7 @@ pub data Choices : Type 0 where
 
 -- declarations, statements and bodies (RM 3.1, 5.1, 11.2)
 mutual
-  -- of each but a procedure the first name and the others
+  -- of each but procedures and tasks the first name and the others
   pub data Declaration : Type 0 where
     -- the subtype and the value (RM 3.3.1)
     object : Ident → List Ident → Ident → MaybeExpression → Declaration
@@ -108,6 +112,10 @@ mutual
     exception : Ident → List Ident → Declaration
     -- where `procedure` stands, the name, the formal parameters, the declarations and the body (RM 6.3)
     procedure : Pos → Ident → List Formal → Declarations → Body → Declaration
+    -- where `task` stands, whether a type is declared, the name, and the definition, if there is one (RM 9.1)
+    task : Pos → Bool → Ident → Option TaskDefinition → Declaration
+    -- where `task` stands, the name, the declarations and the body (RM 9.1(6))
+    task_body : Pos → Ident → Declarations → Body → Declaration
 
   pub data Declarations : Type 0 where
     no_declarations : Declarations

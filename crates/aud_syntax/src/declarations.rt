@@ -2,13 +2,15 @@
 
 ghost use Rattle.std.specs.Prelude.{map};
 ghost use Rattle.aud_syntax.specs.Ties.Writes.{Writes};
-ghost use Rattle.aud_syntax.specs.Ties.View.{plain_expression, plain_maybe, plain_formal};
-ghost use Rattle.aud_syntax.specs.Why.Printed.{object_words, constant_words, minus_words, bound_words, range_words, index_words, array_words, exception_words, mode_words, formal_words, more_formals_words, formals_words};
+ghost use Rattle.aud_syntax.specs.Ties.View.{plain_expression, plain_maybe, plain_formal, plain_definition, plain_task};
+ghost use Rattle.aud_syntax.specs.Why.Printed.{object_words, constant_words, minus_words, bound_words, range_words, index_words, array_words, exception_words, mode_words, formal_words, more_formals_words, formals_words, type_words, definition_words, declaration_words};
 
 use crate::expressions::{push_expression, push_maybe};
-use crate::tree::{Bound, Expression, Formal, Ident, Identifiers, Mode};
+use crate::tree::{
+    Bound, Expression, Formal, Ident, Identifiers, Mode, TaskDeclaration, TaskDefinition,
+};
 use crate::words::{
-    push_ident, push_idents, push_last_word, push_number, push_two_words, push_word,
+    push_end_name, push_ident, push_idents, push_last_word, push_number, push_two_words, push_word,
 };
 use std::alloc::AllocError;
 
@@ -155,5 +157,40 @@ fn push_mode(out: &mut Vec<u8>, mode: Mode) -> Result<(), AllocError>
         Mode::In(_) => push_word(out, b"in"),
         Mode::Out(_) => push_word(out, b"out"),
         Mode::InOut(_) => push_two_words(out, b"in", b"out"),
+    }
+}
+
+// RM 9.1
+pub fn push_task(out: &mut Vec<u8>, task: &TaskDeclaration) -> Result<(), AllocError>
+    ensures { Writes result out.old out.new (declaration_words (plain_task task.now)) }
+{
+    push_word(out, b"task")?;
+    push_type(out, task.is_type)?;
+    push_ident(out, &task.name)?;
+    push_definition(out, &task.definition)?;
+    push_last_word(out, b";")
+}
+
+fn push_type(out: &mut Vec<u8>, is_type: bool) -> Result<(), AllocError>
+    ensures { Writes result out.old out.new (type_words is_type) }
+{
+    if is_type {
+        return push_word(out, b"type");
+    }
+    Ok(())
+}
+
+// The definition of a task, if it has one (RM 9.1(4)).
+fn push_definition(out: &mut Vec<u8>, definition: &Option<TaskDefinition>) -> Result<(), AllocError>
+    ensures { Writes result out.old out.new
+        (definition_words (plain_definition definition.now)) }
+{
+    match definition {
+        None => Ok(()),
+        Some(definition) => {
+            push_last_word(out, b"is")?;
+            push_word(out, b"end")?;
+            push_end_name(out, &definition.end_name)
+        }
     }
 }

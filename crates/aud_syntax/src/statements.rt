@@ -1,14 +1,17 @@
 // The canonical text of declarations, statements and bodies, which lie in one another.
 
 ghost use Rattle.aud_syntax.specs.Ties.Writes.{Writes};
-ghost use Rattle.aud_syntax.specs.Ties.View.{plain_declaration, plain_declarations, plain_procedure, plain_expression, plain_maybe, plain_name, plain_statement, plain_others, plain_statements, plain_if, arm_list, plain_iteration, plain_parameter, plain_choices, plain_loop_statement, plain_block, plain_body, handler_list};
+ghost use Rattle.aud_syntax.specs.Ties.View.{plain_declaration, plain_declarations, plain_procedure, plain_task_body, plain_expression, plain_maybe, plain_name, plain_statement, plain_others, plain_statements, plain_if, arm_list, plain_iteration, plain_parameter, plain_choices, plain_loop_statement, plain_block, plain_body, handler_list};
 ghost use Rattle.aud_syntax.specs.Why.Printed.{declaration_words, declarations_words, null_words, assignment_words, call_words, label_words, reverse_words, iteration_words, exit_words, value_words, return_words, raise_words, declare_words, choices_words, expression_words, arm_words, arms_words, otherwise_words, statement_words, more_statements_words, statements_words, body_words, handler_words, handlers_words, handled_words};
 
-use crate::declarations::{push_array, push_constant, push_exceptions, push_formals, push_object};
+use crate::declarations::{
+    push_array, push_constant, push_exceptions, push_formals, push_object, push_task,
+};
 use crate::expressions::{push_expression, push_maybe, push_name, push_simple};
 use crate::tree::{
     Arm, BlockStatement, Body, Choices, Declaration, Expression, Handler, Ident, IfStatement,
     Iteration, LoopParameter, LoopStatement, Name, ProcedureDeclaration, Statement, Statements,
+    TaskBody,
 };
 use crate::words::{
     push_end_name, push_ident, push_idents, push_last_word, push_two_words, push_word,
@@ -40,6 +43,8 @@ fn push_declaration(out: &mut Vec<u8>, declaration: &Declaration) -> Result<(), 
         }
         Declaration::Exception(names) => push_exceptions(out, names),
         Declaration::Procedure(procedure) => push_procedure(out, procedure),
+        Declaration::Task(task) => push_task(out, task),
+        Declaration::TaskBody(task) => push_task_body(out, task),
     }
 }
 
@@ -55,6 +60,18 @@ fn push_procedure(out: &mut Vec<u8>, procedure: &ProcedureDeclaration) -> Result
     push_last_word(out, b"is")?;
     push_declarations(out, &procedure.declarations)?;
     push_body(out, &procedure.body)
+}
+
+// RM 9.1(6)
+#[cycle(statement)]
+fn push_task_body(out: &mut Vec<u8>, task: &TaskBody) -> Result<(), AllocError>
+    ensures { Writes result out.old out.new (declaration_words (plain_task_body task.now)) }
+{
+    push_two_words(out, b"task", b"body")?;
+    push_ident(out, &task.name)?;
+    push_last_word(out, b"is")?;
+    push_declarations(out, &task.declarations)?;
+    push_body(out, &task.body)
 }
 
 #[cycle(statement)]

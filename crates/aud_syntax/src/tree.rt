@@ -247,6 +247,8 @@ pub enum Declaration {
     /// Exceptions (RM 11.1).
     Exception(Identifiers),
     Procedure(Box<ProcedureDeclaration>),
+    Task(TaskDeclaration),
+    TaskBody(Box<TaskBody>),
 }
 
 /// A procedure and its body (RM 6.3): where its `procedure` stands, its name, its formal parameters, and its declarations.
@@ -256,6 +258,31 @@ pub struct ProcedureDeclaration {
     pub at: Pos,
     pub name: Ident,
     pub formals: Vec<Formal>,
+    pub declarations: Vec<Declaration>,
+    pub body: Body,
+}
+
+/// A task or a task type (RM 9.1): where its `task` stands, which it is, its name, and its definition, if it has one.
+#[derive(Drop)]
+pub struct TaskDeclaration {
+    pub at: Pos,
+    pub is_type: bool,
+    pub name: Ident,
+    pub definition: Option<TaskDefinition>,
+}
+
+/// What stands in the declaration of a task behind `is` (RM 9.1(4)): the name behind `end`.
+#[derive(Drop)]
+pub struct TaskDefinition {
+    pub end_name: Option<Ident>,
+}
+
+/// The body of a task or a task type (RM 9.1(6)): where its `task` stands, its name, and its declarations.
+#[derive(Drop)]
+#[cycle(statement)]
+pub struct TaskBody {
+    pub at: Pos,
+    pub name: Ident,
     pub declarations: Vec<Declaration>,
     pub body: Body,
 }

@@ -32,7 +32,7 @@ fn push_more_idents(out: &mut Vec<u8>, delimiter: &[u8], names: &[Ident]) -> Res
     Ok(())
 }
 
-// The name behind `end`, `exit` or `raise`, if there is one (RM 5.5, 5.7, 6.3, 11.3).
+// The name behind `end`, `exit` or `raise`, if there is one (RM 5.5, 5.7, 6.3, 9.1, 11.3).
 pub fn push_end_name(out: &mut Vec<u8>, name: &Option<Ident>) -> Result<(), AllocError>
     ensures { Writes result out.old out.new (end_words name.now) }
 {

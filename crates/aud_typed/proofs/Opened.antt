@@ -1,5 +1,5 @@
 -- Statements that hold others, by their parts.
-use Rattle.std.proofs.Common.{◌≡◌, ◌∷◌, refl, ap, sym, ◌∙◌}
+use Rattle.std.proofs.Common.{◌≡◌, ◌∷◌, ◌++◌, refl, ap, sym, ◌∙◌}
 use Rattle.std.specs.Prelude.{Vec, Box, map}
 use Rattle.std.specs.Global.{Global}
 use mathlib.Core.Former.{list_count, this}
@@ -17,7 +17,7 @@ use Rattle.aud_typed.specs.declared.program.Body.{Body, Body', out-Body, Row_of-
 use Rattle.aud_typed.specs.declared.program.Statement.TheBlock.{shown-the_row-Handler-1}
 use Rattle.aud_typed.specs.Ties.View.{plain_integer, plain_boolean, plain_statement, plain_row, plain_arms, plain_handlers, plain_body, plain_block, statements_in, part_of_arms, plain_if, if_in, for_in, handlers_in, body_in, block_in}
 use Rattle.aud_typed.specs.Tree as tree
-use Rattle.aud_typed.specs.Tree.{before, part_of, Part, some, handler}
+use Rattle.aud_typed.specs.Tree.{before, part_of, activation, Part, some, handler}
 
 statement_rows : (n : _) (row : Row_of-Statement n) → plain_row row ≡ map plain_statement (items-the_row-Statement n row)
 statement_rows n end_of-Statement = refl
@@ -65,12 +65,12 @@ handler_rows n (more_of-Handler others choices first shape more row) =
 
 pub body_open : (b : Body) → plain_body b ≡ body_in b
 unfolding out-Body shown-the_row-Statement-0 shown-the_row-Handler-1 denote.Hole.Carrier.out
-body_open (Body' declared_shape declarations begin first shape others handler_shape handlers end) =
-    let ds = map plain_statement (shown-the_row-Statement-0 declared_shape declarations).items in
+body_open (Body' declared_shape declarations begin activates first shape others handler_shape handlers end) =
+    let es = map plain_statement (shown-the_row-Statement-0 declared_shape declarations).items ++ activation activates begin in
     let ss = map plain_statement (shown-the_row-Statement-0 shape others).items in
-    ap (λ z. tree.body (part_of z) begin (before (plain_statement first) (plain_row others)) (plain_handlers handlers) end) (shown_are declared_shape declarations)
-    ∙ ap (λ z. tree.body (part_of ds) begin (before (plain_statement first) z) (plain_handlers handlers) end) (shown_are shape others)
-    ∙ ap (λ z. tree.body (part_of ds) begin (before (plain_statement first) ss) z end) (handler_rows _ handlers ∙ ap handlers_in (sym (items_shown-the_row-Handler-1 handler_shape handlers)))
+    ap (λ z. tree.body (part_of (z ++ activation activates begin)) begin (before (plain_statement first) (plain_row others)) (plain_handlers handlers) end) (shown_are declared_shape declarations)
+    ∙ ap (λ z. tree.body (part_of es) begin (before (plain_statement first) z) (plain_handlers handlers) end) (shown_are shape others)
+    ∙ ap (λ z. tree.body (part_of es) begin (before (plain_statement first) ss) z end) (handler_rows _ handlers ∙ ap handlers_in (sym (items_shown-the_row-Handler-1 handler_shape handlers)))
 
 pub block_open : (s : BlockStatement) → plain_block s ≡ block_in s
 unfolding out-BlockStatement denote.Hole.Carrier.out

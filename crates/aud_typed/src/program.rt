@@ -213,8 +213,6 @@ pub enum Statement {
     DeclareTasks(Pos, Tasks),
     /// The activation of the task ends whose body it stands in (RM 9.2(5)).
     Activated(Pos),
-    /// The tasks that its declarative part has created are activated (RM 9.2(3)).
-    Activate(Pos),
     Null(Pos),
     Assign(Pos, Reference, ValueExpression),
     Put(Pos, TextExpression),
@@ -286,6 +284,8 @@ pub struct Body {
     pub declarations: Vec<Statement>,
     /// Where its `begin` stands.
     pub begin: Pos,
+    /// Whether its `begin` activates the tasks that its declarations create (RM 9.2(3)).
+    pub activates: bool,
     pub statements: Statements,
     pub handlers: Vec<Handler>,
     /// Where its `end` stands.

@@ -6,7 +6,7 @@ use Rattle.std.proofs.Common.{◌≡◌, refl, sym, ◌∙◌, ap}
 use Rattle.aud_names.specs.declared.fault.Fault.{Fault}
 use Rattle.aud_typing.specs.declared.typed.Typed as memory
 use Rattle.aud_names.specs.Least.{note, noted}
-use Rattle.aud_typing.specs.Expressions.{Typed, Checked, with}
+use Rattle.aud_typing.specs.Expressions.{Typed, Checked, after, with}
 use Rattle.aud_typing.specs.Ties.Typing.{plain_typed, in_box, Leaves, Shows}
 
 pub noted_append : (o : Option Fault) (fs gs : List Fault) → noted o (fs ++ gs) ≡ noted (noted o fs) gs
@@ -52,4 +52,11 @@ pub ahead_with : (old mid new : Option Fault) (all c : Checked) (f : Typed → C
 ahead_with old mid new all c f t a h = record {
   faults = ap (λ o. noted o (f (plain_typed t.value)).faults) h.0 ∙ ap (λ y. noted (noted mid c.faults) (f y).faults) h.1 ∙ sym (noted_append mid c.faults (f c.typed).faults) ∙ a.faults;
   typed = ap (λ y. (f y).typed) h.1 ∙ a.typed;
+}
+
+-- faults are noted before it
+pub ahead_after : (old mid new : Option Fault) (all c : Checked) (fs : List Fault) → Ahead mid (after fs c) old all → new ≡ noted mid fs → Ahead new c old all
+ahead_after old mid new all c fs a p = record {
+  faults = ap (λ o. noted o c.faults) p ∙ sym (noted_append mid fs c.faults) ∙ a.faults;
+  typed = a.typed;
 }

@@ -22,10 +22,11 @@ use Rattle.aud_syntax.specs.Plain as m
 use Rattle.std.specs.Prelude.{Ok}
 use Rattle.aud_names.specs.declared.fault.Fault.{Fault}
 use Rattle.aud_typing.specs.declared.typed.Typed as memory
+use Rattle.aud_names.specs.Least.{noted}
 use Rattle.aud_names.specs.Names.{Place}
-use Rattle.aud_typing.specs.Expressions.{primary_at, Typed, unknown, Checked, with, checked_arguments, checked_parts, checked_part, checked_args, simple_at, term_at, signed_at, factor_at, relation_at, signed, further, checked_expression, checked_relations, checked_relation, checked_simple, checked_addeds, checked_added, checked_term, checked_multiplieds, checked_multiplied, checked_factor}
+use Rattle.aud_typing.specs.Expressions.{primary_at, Typed, unknown, Checked, after, with, prefix_faults, checked_arguments, checked_parts, checked_part, checked_args, simple_at, term_at, signed_at, factor_at, relation_at, signed, further, checked_expression, checked_relations, checked_relation, checked_simple, checked_addeds, checked_added, checked_term, checked_multiplieds, checked_multiplied, checked_factor}
 use Rattle.aud_typing.specs.Ties.Typing.{plain_typed, Shows}
-use Rattle.aud_typing.proofs.Notes.{Ahead, ahead_all, ahead_with}
+use Rattle.aud_typing.proofs.Notes.{Ahead, ahead_all, ahead_after, ahead_with}
 
 -- where they begin
 pub name_begins : (n : Name) → (name_ident (plain_name n)).at ≡ (out-Name n).first.ident.at
@@ -77,9 +78,13 @@ pub argument_ahead : (place : Place) (old mid new : Option Fault) (all : Checked
 argument_ahead place old mid new all x xs ys last t p a h =
     ahead_with old mid new all (checked_expression (plain_expression x) place) (λ z. checked_args (plain_expressions ys) place z) t (rw p at a) h
 
-pub arguments_ahead : (n : Name) (place : Place) (old mid : Option Fault) (x : Box memory.Typed Global) (items : List NamePart) → items ≡ (out-Name n).others.items → Shows (Ok x) old mid (checked_part (plain_part (out-Name n).first) place unknown) → Ahead mid (checked_parts (part_list items) place (plain_typed x.value)) old (checked_arguments (plain_name n) place)
-arguments_ahead n place old mid x items p h =
-    rw (p, name_open n) (ahead_with old old mid (checked_arguments (m.named (plain_part (out-Name n).first) (part_list (out-Name n).others.items)) place) (checked_part (plain_part (out-Name n).first) place unknown) (λ last. checked_parts (part_list (out-Name n).others.items) place last) x (ahead_all old _) h)
+pub arguments_ahead : (n : Name) (place : Place) (old mid new : Option Fault) (x : Box memory.Typed Global) (items : List NamePart) → items ≡ (out-Name n).others.items → Shows (Ok x) old mid (checked_part (plain_part (out-Name n).first) place unknown) → new ≡ noted mid (prefix_faults (plain_part (out-Name n).first) (part_list (out-Name n).others.items) (plain_typed x.value) place) → Ahead new (checked_parts (part_list items) place (plain_typed x.value)) old (checked_arguments (plain_name n) place)
+arguments_ahead n place old mid new x items p h k =
+    let first : m.NamePart = plain_part (out-Name n).first in
+    let rest : m.Parts = part_list (out-Name n).others.items in
+    let all : Checked = checked_arguments (m.named first rest) place in
+    let a = ahead_with old old mid all (checked_part first place unknown) (λ last. after (prefix_faults first rest last place) (checked_parts rest place last)) x (ahead_all old _) h in
+    rw (p, name_open n) (ahead_after old mid new all (checked_parts rest place (plain_typed x.value)) (prefix_faults first rest (plain_typed x.value) place) a k)
 
 pub part_ahead : (place : Place) (old mid new : Option Fault) (all : Checked) (x : NamePart) (xs ys : List NamePart) (last : Typed) (t : Box memory.Typed Global) → xs ≡ x ∷ ys → Ahead mid (checked_parts (part_list xs) place last) old all → Shows (Ok t) mid new (checked_part (plain_part x) place last) → Ahead new (checked_parts (part_list ys) place (plain_typed t.value)) old all
 part_ahead place old mid new all x xs ys last t p a h =

@@ -31,15 +31,16 @@ use Rattle.aud_typed.specs.declared.program.Logical.TheVariants as logical
 use Rattle.aud_typed.specs.Tree as tree
 use Rattle.aud_names.specs.declared.fault.Fault.{Fault}
 use Rattle.aud_names.specs.declared.names.Meaning.{Meaning}
-use Rattle.aud_names.specs.declared.names.Meaning.TheVariants.{ScalarType, Literal, Object, Array, Exception, Builtin, Procedure}
+use Rattle.aud_names.specs.declared.names.Meaning.TheVariants.{ScalarType, Literal, Object, Array, Exception, Builtin, Procedure, TaskType, Task, TaskArray}
 use Rattle.aud_names.specs.declared.names.Array as array
+use Rattle.aud_names.specs.declared.names.TaskArray as task_array
 use Rattle.aud_typing.specs.declared.attribute.Attribute.{Attribute}
-use Rattle.aud_typing.specs.declared.attribute.Attribute.TheVariants.{Image, First, Last, Length, Other}
+use Rattle.aud_typing.specs.declared.attribute.Attribute.TheVariants.{Image, First, Last, Length, Callable, Terminated, Other}
 use Rattle.aud_names.specs.declared.rules.Base.{Base}
 use Rattle.aud_names.specs.declared.rules.Base.TheVariants.{Whole, Truth, Text}
-use Rattle.aud_names.specs.Names.{Place}
-use Rattle.aud_names.specs.Arrays.{length_between, array_at}
-use Rattle.aud_names.specs.Resolution.{Resolved, resolved, name_ident, last_args}
+use Rattle.aud_names.specs.Names.{Place, visible}
+use Rattle.aud_names.specs.Arrays.{length_between, array_at, task_array_at}
+use Rattle.aud_names.specs.Resolution.{Resolved, resolved, name_ident, part_ident, part_args, last_args}
 use Rattle.aud_names.specs.Rules.{base_of_subtype, wrong_kind_of_name, right_type, wrong_number_of_arguments, number_too_large}
 
 -- an expression with its type, unknown where the expression is faulty
@@ -215,11 +216,13 @@ checked_number None at = faulty (number_too_large at)
 
 -- What names denote with the arguments of their last parts (RM 4.1).
 
--- what an identifier stands for, or an element of an array, with its index and subtype; nothing where the name is faulty
+-- what an identifier stands for, or an element of an array, with its index and subtype, or a task of an array, with its index; nothing
+-- where the name is faulty
 pub data Entity : Type 0 where
   no_entity : Entity
   entity : Meaning → Entity
   element_of : ArrayAt → tree.IntegerExpression → Option Subtype → Entity
+  task_of : ArrayAt → tree.IntegerExpression → Entity
 
 pub record Indexed : Type 0 where
   pub faults : List Fault
@@ -238,10 +241,29 @@ array_indexed a no_args at last = indexes_none (entity (Array a))
 array_indexed a (more_args e no_args) at last = record { faults = wants Whole (expression_at e) last; entity = element_with a last }
 array_indexed a (more_args e (more_args f es)) at last = record { faults = wrong_number_of_arguments at; entity = no_entity }
 
+-- the same of an array of tasks (RM 9.1)
+abbrev pub task_with : task_array.TaskArray → Typed → Entity
+task_with a (number index) = task_of (task_array_at a) index
+task_with a _ = no_entity
+
+abbrev pub tasks_indexed : task_array.TaskArray → Args → Pos → Typed → Indexed
+tasks_indexed a no_args at last = indexes_none (entity (TaskArray a))
+tasks_indexed a (more_args e no_args) at last = record { faults = wants Whole (expression_at e) last; entity = task_with a last }
+tasks_indexed a (more_args e (more_args f es)) at last = record { faults = wrong_number_of_arguments at; entity = no_entity }
+
 abbrev pub indexed : Option Meaning → Args → Pos → Typed → Indexed
 indexed None xs at last = indexes_none no_entity
 indexed (Some (Array a)) xs at last = array_indexed a xs at last
+indexed (Some (TaskArray a)) xs at last = tasks_indexed a xs at last
 indexed (Some m) xs at last = indexes_none (entity m)
+
+-- before a point an array of tasks has its index as it has where nothing stands behind; the last of the arguments before the point has been typed
+abbrev pub before_point : Option Meaning → NamePart → Parts → Typed → List Fault
+before_point (Some (TaskArray a)) p (more_parts q qs) last = (tasks_indexed a (part_args p) (part_ident p).at last).faults
+before_point _ p ps last = []
+
+abbrev pub prefix_faults : NamePart → Parts → Typed → Place → List Fault
+prefix_faults p ps last place = before_point (visible (part_ident p).name place) p ps last
 
 -- a name: its faults but those in its arguments, what it denotes, and where the identifier stands that decides
 pub record Denoting : Type 0 where
@@ -268,11 +290,15 @@ read_faults (Exception x) at = wrong_kind_of_name at
 read_faults (ScalarType s) at = wrong_kind_of_name at
 read_faults (Builtin b) at = wrong_kind_of_name at
 read_faults (Procedure n) at = wrong_kind_of_name at
+read_faults (TaskType n) at = wrong_kind_of_name at
+read_faults (Task v) at = wrong_kind_of_name at
+read_faults (TaskArray a) at = wrong_kind_of_name at
 
 abbrev pub name_faults : Entity → Pos → List Fault
 name_faults no_entity at = []
 name_faults (entity m) at = read_faults m at
 name_faults (element_of a index s) at = []
+name_faults (task_of a index) at = wrong_kind_of_name at
 
 -- the value of a variable or constant; where its subtype is not known, nothing is known of its type
 abbrev pub stored : Variable → Option Subtype → Typed
@@ -299,6 +325,7 @@ abbrev pub value_read : Entity → Typed
 value_read no_entity = unknown
 value_read (entity m) = meaning_read m
 value_read (element_of a index s) = stored_at a index s
+value_read (task_of a index) = unknown
 
 -- a name as a primary
 abbrev pub checked_name : Denoting → Checked
@@ -306,11 +333,11 @@ checked_name d = record { faults = d.faults ++ name_faults d.entity d.at; typed 
 
 -- Attributes (RM 4.1.4, K.2). The prefix and the designator stand at a place; the argument, if there is one, comes with that where it begins.
 
--- those of entries and tasks are known, but as yet there is nothing that has them
+-- that of entries is known, but as yet there is nothing that has it
 abbrev pub attributes : List (List ℕ × Attribute)
 attributes =
     (codes "IMAGE", Image) ∷ (codes "FIRST", First) ∷ (codes "LAST", Last)
-    ∷ (codes "LENGTH", Length) ∷ (codes "COUNT", Other) ∷ (codes "CALLABLE", Other) ∷ (codes "TERMINATED", Other) ∷ []
+    ∷ (codes "LENGTH", Length) ∷ (codes "COUNT", Other) ∷ (codes "CALLABLE", Callable) ∷ (codes "TERMINATED", Terminated) ∷ []
 
 abbrev pub without_argument : Pos → Option (Pos × Typed) → Typed → Checked
 without_argument designator None t = fine t
@@ -342,6 +369,9 @@ image (Array a) prefix designator argument = faulty (wrong_kind_of_name prefix)
 image (Exception x) prefix designator argument = faulty (wrong_kind_of_name prefix)
 image (Builtin b) prefix designator argument = faulty (wrong_kind_of_name prefix)
 image (Procedure n) prefix designator argument = faulty (wrong_kind_of_name prefix)
+image (TaskType n) prefix designator argument = faulty (wrong_kind_of_name prefix)
+image (Task v) prefix designator argument = faulty (wrong_kind_of_name prefix)
+image (TaskArray a) prefix designator argument = faulty (wrong_kind_of_name prefix)
 
 -- the bounds of Integer and its subtypes (RM 3.5(12, 13), 3.5.4(11, 12)), and of arrays (RM 3.6.2(3, 5)); those of Boolean are not in the profile
 abbrev pub first_of : Meaning → Option ℤ
@@ -349,6 +379,7 @@ first_of (ScalarType Integer) = Some (negsuc 2147483647)
 first_of (ScalarType Natural) = Some (pos 0)
 first_of (ScalarType Positive) = Some (pos 1)
 first_of (Array a) = Some a.low
+first_of (TaskArray a) = Some a.low
 first_of _ = None
 
 abbrev pub last_of : Meaning → Option ℤ
@@ -356,6 +387,7 @@ last_of (ScalarType Integer) = Some (pos 2147483647)
 last_of (ScalarType Natural) = Some (pos 2147483647)
 last_of (ScalarType Positive) = Some (pos 2147483647)
 last_of (Array a) = Some a.high
+last_of (TaskArray a) = Some a.high
 last_of _ = None
 
 -- a number, or the last Integer where that is less
@@ -365,17 +397,33 @@ at_most_last n = pos (if nat_le n 2147483647 then n else 2147483647)
 -- the length of an array (RM 3.6.2(9)); the elaboration of one with more elements than the last Integer raises Storage_Error
 abbrev pub length_of : Meaning → Option ℤ
 length_of (Array a) = Some (at_most_last (length_between a.low a.high))
+length_of (TaskArray a) = Some (at_most_last (length_between a.low a.high))
 length_of _ = None
 
 abbrev pub bound : Option ℤ → Pos → Pos → Option (Pos × Typed) → Checked
 bound None prefix designator argument = faulty (wrong_kind_of_name prefix)
 bound (Some value) prefix designator argument = without_argument designator argument (number (tree.number value))
 
+-- what is asked of a task (RM 9.9(2, 3))
+abbrev pub callable_of : Meaning → Option tree.BooleanExpression
+callable_of (Task v) = Some (tree.callable (tree.single v))
+callable_of _ = None
+
+abbrev pub terminated_of : Meaning → Option tree.BooleanExpression
+terminated_of (Task v) = Some (tree.terminated (tree.single v))
+terminated_of _ = None
+
+abbrev pub asked : Option tree.BooleanExpression → Pos → Pos → Option (Pos × Typed) → Checked
+asked None prefix designator argument = faulty (wrong_kind_of_name prefix)
+asked (Some e) prefix designator argument = without_argument designator argument (boolean e)
+
 abbrev pub attribute_of : Attribute → Meaning → Pos → Pos → Option (Pos × Typed) → Checked
 attribute_of Image m prefix designator argument = image m prefix designator argument
 attribute_of First m prefix designator argument = bound (first_of m) prefix designator argument
 attribute_of Last m prefix designator argument = bound (last_of m) prefix designator argument
 attribute_of Length m prefix designator argument = bound (length_of m) prefix designator argument
+attribute_of Callable m prefix designator argument = asked (callable_of m) prefix designator argument
+attribute_of Terminated m prefix designator argument = asked (terminated_of m) prefix designator argument
 attribute_of Other m prefix designator argument = faulty (wrong_kind_of_name prefix)
 
 -- the designator must be an attribute's
@@ -389,10 +437,18 @@ element_attribute None value prefix designator argument = faulty (wrong_kind_of_
 element_attribute (Some Image) value prefix designator argument = without_argument designator argument (image_of value)
 element_attribute (Some _) value prefix designator argument = faulty (wrong_kind_of_name prefix)
 
+-- a task of an array has what a task has
+abbrev pub task_attribute : Option Attribute → tree.TaskName → Pos → Pos → Option (Pos × Typed) → Checked
+task_attribute None task prefix designator argument = faulty (wrong_kind_of_name designator)
+task_attribute (Some Callable) task prefix designator argument = without_argument designator argument (boolean (tree.callable task))
+task_attribute (Some Terminated) task prefix designator argument = without_argument designator argument (boolean (tree.terminated task))
+task_attribute (Some _) task prefix designator argument = faulty (wrong_kind_of_name prefix)
+
 abbrev pub attribute_if : Entity → Pos → Ident → Option (Pos × Typed) → Checked
 attribute_if no_entity prefix designator argument = fine unknown
 attribute_if (entity m) prefix designator argument = attribute_named (lookup (bytes_eq designator.name) attributes) m prefix designator.at argument
 attribute_if (element_of a index s) prefix designator argument = element_attribute (lookup (bytes_eq designator.name) attributes) (stored_at a index s) prefix designator.at argument
+attribute_if (task_of a index) prefix designator argument = task_attribute (lookup (bytes_eq designator.name) attributes) (tree.indexed a index) prefix designator.at argument
 
 abbrev pub checked_attribute : Denoting → Ident → Option (Pos × Typed) → Checked
 checked_attribute d designator argument = after d.faults (attribute_if d.entity d.at designator argument)
@@ -455,7 +511,7 @@ abbrev mutual
 
   -- the arguments of a name, also where none may stand: their faults, and what the last of them is
   pub checked_arguments : Name → Place → Checked
-  checked_arguments (named p ps) place = with (checked_part p place unknown) (λ last. checked_parts ps place last)
+  checked_arguments (named p ps) place = with (checked_part p place unknown) (λ last. after (prefix_faults p ps last place) (checked_parts ps place last))
 
   pub checked_parts : Parts → Place → Typed → Checked
   checked_parts no_parts place last = fine last

@@ -1,10 +1,11 @@
 // Attributes (RM 4.1.4, K.2).
 
-ghost use Rattle.std.specs.Prelude.{◌≡◌};
+ghost use Rattle.std.specs.Prelude.{◌≡◌, option_map};
 ghost use Rattle.std.specs.Str.{bytes_eq};
 ghost use Rattle.std.specs.Map.{lookup};
 ghost use Rattle.aud_names.specs.Rules.{wrong_kind_of_name};
-ghost use Rattle.aud_typing.specs.Expressions.{unknown, attributes, without_argument, image_of, image_of_type, image_with, image, first_of, last_of, at_most_last, length_of, bound, attribute_of, entity, element_attribute, attribute_if};
+ghost use Rattle.aud_typing.specs.Expressions.{unknown, attributes, without_argument, image_of, image_of_type, image_with, image, first_of, last_of, at_most_last, length_of, bound, callable_of, terminated_of, asked, attribute_of, entity, element_attribute, task_attribute, attribute_if};
+ghost use Rattle.aud_typed.specs.Ties.View.{plain_boolean, plain_task};
 ghost use Rattle.aud_names.specs.Least.{noted};
 ghost use Rattle.aud_typing.specs.Ties.Typing.{plain_typed, plain_argument, Leaves};
 ghost use Rattle.aud_typing.specs.Ties.Entities.{plain_entity};
@@ -21,7 +22,7 @@ use aud_syntax::tree::Ident;
 use aud_text::int32::Int32;
 use aud_text::name::Name;
 use aud_text::place::Pos;
-use aud_typed::program::{BooleanExpression, IntegerExpression, Subtype, TextExpression};
+use aud_typed::program::{BooleanExpression, IntegerExpression, Subtype, TaskName, TextExpression};
 use std::alloc::Global;
 
 /// An attribute of the language.
@@ -31,7 +32,9 @@ pub enum Attribute {
     First,
     Last,
     Length,
-    /// One of what no program has as yet: an entry or a task.
+    Callable,
+    Terminated,
+    /// One of what no program has as yet: an entry.
     Other,
 }
 
@@ -48,8 +51,8 @@ const ATTRIBUTES: [(&[u8], Attribute); 7] = [
     (b"LAST", Attribute::Last),
     (b"LENGTH", Attribute::Length),
     (b"COUNT", Attribute::Other),
-    (b"CALLABLE", Attribute::Other),
-    (b"TERMINATED", Attribute::Other),
+    (b"CALLABLE", Attribute::Callable),
+    (b"TERMINATED", Attribute::Terminated),
 ];
 
 // The attribute of this name.
@@ -151,8 +154,13 @@ fn image(meaning: Meaning, at: Places, argument: Option<Operand>, faults: &mut L
             let text = TextExpression::ImageTruth(BooleanExpression::Truth(value));
             without_argument(designator, argument, Typed::Text(text), faults)
         }
-        Meaning::Array(_) | Meaning::Exception(_) | Meaning::Builtin(_) | Meaning::Procedure(_) =>
-            wrong_kind(at.prefix, argument, faults),
+        Meaning::Array(_)
+        | Meaning::Exception(_)
+        | Meaning::Builtin(_)
+        | Meaning::Procedure(_)
+        | Meaning::TaskType(_)
+        | Meaning::Task(_)
+        | Meaning::TaskArray(_) => wrong_kind(at.prefix, argument, faults),
     }
 }
 
@@ -164,6 +172,7 @@ fn first_of(meaning: Meaning) -> Option<Int32>
         Meaning::ScalarType(Subtype::Natural) => Some(Int32::new(0)),
         Meaning::ScalarType(Subtype::Positive) => Some(Int32::new(1)),
         Meaning::Array(array) => Some(Int32::new(array.low)),
+        Meaning::TaskArray(array) => Some(Int32::new(array.low)),
         _ => None,
     }
 }
@@ -176,6 +185,7 @@ fn last_of(meaning: Meaning) -> Option<Int32>
             Some(Int32::new(i32::MAX))
         }
         Meaning::Array(array) => Some(Int32::new(array.high)),
+        Meaning::TaskArray(array) => Some(Int32::new(array.high)),
         _ => None,
     }
 }
@@ -195,6 +205,7 @@ fn length_of(meaning: Meaning) -> Option<Int32>
 {
     match meaning {
         Meaning::Array(array) => Some(at_most_last(length_between(array.low, array.high))),
+        Meaning::TaskArray(array) => Some(at_most_last(length_between(array.low, array.high))),
         _ => None,
     }
 }
@@ -215,6 +226,42 @@ fn bound(value: Option<Int32>, at: Places, argument: Option<Operand>, faults: &m
     }
 }
 
+fn callable_of(meaning: Meaning) -> Option<BooleanExpression>
+    ensures { option_map plain_boolean result ≡ callable_of meaning }
+{
+    match meaning {
+        Meaning::Task(task) => Some(BooleanExpression::Callable(TaskName::Single(task))),
+        _ => None,
+    }
+}
+
+fn terminated_of(meaning: Meaning) -> Option<BooleanExpression>
+    ensures { option_map plain_boolean result ≡ terminated_of meaning }
+{
+    match meaning {
+        Meaning::Task(task) => Some(BooleanExpression::Terminated(TaskName::Single(task))),
+        _ => None,
+    }
+}
+
+// What is asked of a task, if the prefix is one (RM 9.9(2, 3)).
+fn asked(
+    value: Option<BooleanExpression>,
+    at: Places,
+    argument: Option<Operand>,
+    faults: &mut Least,
+) -> Typed
+    ensures typed { plain_typed result ≡ (asked (option_map plain_boolean value)
+        at.prefix at.designator (plain_argument argument)).typed }
+    ensures noted { faults.new ≡ noted faults.old (asked (option_map plain_boolean value)
+        at.prefix at.designator (plain_argument argument)).faults }
+{
+    match value {
+        None => wrong_kind(at.prefix, argument, faults),
+        Some(value) => without_argument(at.designator, argument, Typed::Truth(value), faults),
+    }
+}
+
 fn attribute_of(
     attribute: Attribute,
     meaning: Meaning,
@@ -232,6 +279,8 @@ fn attribute_of(
         Attribute::First => bound(first_of(meaning), at, argument, faults),
         Attribute::Last => bound(last_of(meaning), at, argument, faults),
         Attribute::Length => bound(length_of(meaning), at, argument, faults),
+        Attribute::Callable => asked(callable_of(meaning), at, argument, faults),
+        Attribute::Terminated => asked(terminated_of(meaning), at, argument, faults),
         Attribute::Other => wrong_kind(at.prefix, argument, faults),
     }
 }
@@ -291,6 +340,42 @@ fn element_attribute(
     }
 }
 
+// An attribute of this name of a task of an array.
+fn task_attribute(
+    task: TaskName,
+    prefix: Pos,
+    designator: &Ident,
+    argument: Option<Operand>,
+    faults: &mut Least,
+) -> Typed
+    ensures typed { plain_typed result
+        ≡ (task_attribute (lookup (bytes_eq designator.now.name) attributes)
+        (plain_task task) prefix designator.now.at (plain_argument argument)).typed }
+    ensures noted { faults.new ≡ noted faults.old
+        (task_attribute (lookup (bytes_eq designator.now.name) attributes)
+        (plain_task task) prefix designator.now.at (plain_argument argument)).faults }
+{
+    let at = designator.at;
+    match attribute_named(&designator.name) {
+        None => {
+            drop(task);
+            wrong_kind(at, argument, faults)
+        }
+        Some(Attribute::Callable) => {
+            let value = Typed::Truth(BooleanExpression::Callable(task));
+            without_argument(at, argument, value, faults)
+        }
+        Some(Attribute::Terminated) => {
+            let value = Typed::Truth(BooleanExpression::Terminated(task));
+            without_argument(at, argument, value, faults)
+        }
+        Some(_) => {
+            drop(task);
+            wrong_kind(prefix, argument, faults)
+        }
+    }
+}
+
 /// An attribute of what a name denotes, with its argument, if it has one.
 pub fn attribute_value(
     alloc: Global,
@@ -315,6 +400,10 @@ pub fn attribute_value(
         Entity::Element(element) => {
             let value = stored_at(alloc, element)?;
             Ok(element_attribute(value, at, designator, argument, faults))
+        }
+        Entity::Task(array, index) => {
+            let task = TaskName::Element(array, index);
+            Ok(task_attribute(task, at, designator, argument, faults))
         }
     }
 }

@@ -1,22 +1,22 @@
 // What names denote with the arguments of their last parts.
 
 ghost use Rattle.std.specs.Prelude.{◌≡◌, IfOk};
-ghost use Rattle.aud_syntax.specs.Ties.View.{plain_name, plain_expressions};
+ghost use Rattle.aud_syntax.specs.Ties.View.{plain_name, plain_part, part_list, plain_expressions};
 ghost use Rattle.aud_typed.specs.Ties.View.{plain_integer};
 ghost use Rattle.aud_names.specs.Least.{noted};
-ghost use Rattle.aud_typing.specs.Expressions.{element_with, array_indexed, indexed, denoting, read_faults, name_faults, stored_at, meaning_read, value_read};
+ghost use Rattle.aud_typing.specs.Expressions.{element_with, array_indexed, task_with, tasks_indexed, before_point, prefix_faults, indexed, denoting, read_faults, name_faults, stored_at, meaning_read, value_read};
 ghost use Rattle.aud_typing.specs.Ties.Typing.{plain_typed};
 ghost use Rattle.aud_typing.specs.Ties.Entities.{plain_entity};
 
 use crate::expression::expression_at;
 use crate::typed::{Typed, stored, wants};
-use aud_names::array::array_at;
+use aud_names::array::{array_at, task_array_at};
 use aud_names::behind::Made;
 use aud_names::fault::Least;
-use aud_names::names::{Array, Meaning, Scope};
+use aud_names::names::{Array, Meaning, Scope, TaskArray};
 use aud_names::resolution::{last_args, resolve};
 use aud_names::rules::{Base, wrong_kind_of_name, wrong_number_of_arguments};
-use aud_syntax::tree::{Expression, Name};
+use aud_syntax::tree::{Expression, Name, NamePart};
 use aud_text::place::Pos;
 use aud_typed::program::{ArrayAt, BooleanExpression, IntegerExpression, Subtype};
 use std::alloc::Global;
@@ -36,6 +36,8 @@ pub enum Entity {
     Nothing,
     Whole(Meaning),
     Element(Element),
+    /// A task of an array, by its index (RM 9.1, 4.1.1).
+    Task(ArrayAt, IntegerExpression),
 }
 
 /// What a name denotes, and where the identifier stands that decides.
@@ -90,6 +92,92 @@ fn array_indexed(
     }
 }
 
+fn task_with(array: TaskArray, index: Typed) -> Entity
+    ensures { plain_entity result ≡ task_with array (plain_typed index) }
+{
+    match index {
+        Typed::Number(index) => Entity::Task(task_array_at(array), index),
+        _ => Entity::Nothing,
+    }
+}
+
+// Notes where an array of tasks has these arguments, of which the last is typed, and they are no index of it.
+fn check_index(array: TaskArray, args: &[Expression], at: Pos, last: &Typed, faults: &mut Least)
+    ensures { faults.new ≡ noted faults.old (tasks_indexed array
+        (plain_expressions args.now) at (plain_typed last.now)).faults }
+{
+    match args.split_first() {
+        None => {}
+        Some((index, others)) => match others.split_first() {
+            None => wants(Base::Whole, expression_at(index), last, faults),
+            Some(_) => wrong_number_of_arguments(at, faults),
+        },
+    }
+}
+
+// Notes where what has a meaning stands before a point with arguments that do not fit it; the last of them is typed.
+fn before_point(
+    meaning: Option<Meaning>,
+    first: &NamePart,
+    others: &[NamePart],
+    last: &Typed,
+    faults: &mut Least,
+)
+    ensures { faults.new ≡ noted faults.old (before_point meaning
+        (plain_part first.now) (part_list others.now) (plain_typed last.now)) }
+{
+    if let (Some(Meaning::TaskArray(array)), Some(_)) = (meaning, others.first()) {
+        check_index(array, &first.args, first.ident.at, last, faults);
+    }
+}
+
+/// Notes where the arguments before a point do not fit what stands there; the last of them is typed.
+pub fn check_prefix(
+    first: &NamePart,
+    others: &[NamePart],
+    last: &Typed,
+    scope: &Scope<'_>,
+    faults: &mut Least,
+)
+    ensures { faults.new ≡ noted faults.old (prefix_faults (plain_part first.now)
+        (part_list others.now) (plain_typed last.now) scope.now) }
+{
+    let meaning = scope.visible(&first.ident.name);
+    before_point(meaning, first, others, last, faults);
+}
+
+// An array of tasks with these arguments, of which the last is typed.
+fn tasks_indexed(
+    array: TaskArray,
+    args: &[Expression],
+    at: Pos,
+    last: Typed,
+    faults: &mut Least,
+) -> Entity
+    ensures entity { plain_entity result
+        ≡ (tasks_indexed array (plain_expressions args.now) at (plain_typed last)).entity }
+    ensures noted { faults.new ≡ noted faults.old
+        (tasks_indexed array (plain_expressions args.now) at (plain_typed last)).faults }
+{
+    match args.split_first() {
+        None => {
+            drop(last);
+            Entity::Whole(Meaning::TaskArray(array))
+        }
+        Some((index, others)) => match others.split_first() {
+            None => {
+                wants(Base::Whole, expression_at(index), &last, faults);
+                task_with(array, last)
+            }
+            Some(_) => {
+                drop(last);
+                wrong_number_of_arguments(at, faults);
+                Entity::Nothing
+            }
+        },
+    }
+}
+
 // What has a meaning, with these arguments.
 fn indexed(
     meaning: Option<Meaning>,
@@ -109,6 +197,7 @@ fn indexed(
             Entity::Nothing
         }
         Some(Meaning::Array(array)) => array_indexed(array, args, at, last, faults),
+        Some(Meaning::TaskArray(array)) => tasks_indexed(array, args, at, last, faults),
         Some(meaning) => {
             drop(last);
             Entity::Whole(meaning)
@@ -151,7 +240,10 @@ fn check_read(meaning: Meaning, at: Pos, faults: &mut Least)
         | Meaning::Array(_)
         | Meaning::Exception(_)
         | Meaning::Builtin(_)
-        | Meaning::Procedure(_) => wrong_kind_of_name(at, faults),
+        | Meaning::Procedure(_)
+        | Meaning::TaskType(_)
+        | Meaning::Task(_)
+        | Meaning::TaskArray(_) => wrong_kind_of_name(at, faults),
     }
 }
 
@@ -162,6 +254,7 @@ pub fn check_name(entity: &Entity, at: Pos, faults: &mut Least)
     match entity {
         Entity::Whole(meaning) => check_read(*meaning, at, faults),
         Entity::Nothing | Entity::Element(_) => {}
+        Entity::Task(_, _) => wrong_kind_of_name(at, faults),
     }
 }
 
@@ -203,5 +296,6 @@ pub fn value_read(alloc: Global, entity: Entity) -> Made<Typed>
         Entity::Nothing => Ok(Typed::Unknown),
         Entity::Whole(meaning) => Ok(meaning_read(meaning)),
         Entity::Element(element) => stored_at(alloc, element),
+        Entity::Task(_, _) => Ok(Typed::Unknown),
     }
 }

@@ -8,7 +8,7 @@ ghost use Rattle.aud_names.specs.Least.{noted};
 ghost use Rattle.aud_typing.specs.Ties.Typing.{plain_typed, plain_argument, operation, Shows};
 
 use crate::attribute::attribute_value;
-use crate::entity::{check_name, name_denotes, value_read};
+use crate::entity::{check_name, check_prefix, name_denotes, value_read};
 use crate::typed::{Operand, Operator, Typed, highest, operation, signed};
 use aud_names::behind::{Left, boxed};
 use aud_names::fault::Least;
@@ -184,6 +184,7 @@ pub fn arguments(name: &Name, scope: &Scope<'_>, faults: &mut Least) -> Left<Typ
 {
     let nothing = boxed(scope.alloc(), Typed::Unknown)?;
     let mut last = part_arguments(&name.first, nothing, scope, faults)?;
+    check_prefix(&name.first, &name.others, &last, scope, faults);
     for part in &name.others {
         last = part_arguments(part, last, scope, faults)?;
     }

@@ -34,3 +34,8 @@ abbrev pub Mixture : Type 0
 Mixture =
     answers_to (codes "LOAD 1\nprocedure M is begin X := A and B or C; end M;\nLOAD 1\nprocedure M is begin X := 1; end M;\n")
     ≡ codes "- E21 1:35 syntax\n- E30 1:22 name not declared\n"
+
+abbrev pub FailedActivation : Type 0
+FailedActivation =
+    answers_to (codes "LOAD 1\nprocedure M is task A; task B; task body A is Z : Integer := 0; X : Integer := 1 / Z; begin null; end A; task body B is begin Put_Line (\"b\"); end B; begin Put_Line (\"no\"); exception when Tasking_Error => Put_Line (\"te\"); end M;\nRUN 100\nOUTPUT\n")
+    ≡ codes "+ 1\nloaded M\n+ 1\nran 15 ended\n+ 3\nbytes 5\nte\nb\n"

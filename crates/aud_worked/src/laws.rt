@@ -1,6 +1,6 @@
 // Sessions whose answers follow from the definitions by computing.
 
-ghost use Rattle.aud_worked.specs.Sessions.{NullProgram, NoProgram, Sum, ZeroDivision, Signs, Mixture};
+ghost use Rattle.aud_worked.specs.Sessions.{NullProgram, NoProgram, Sum, ZeroDivision, Signs, Mixture, FailedActivation};
 ghost use Rattle.aud_worked.specs.Worked.{RowsHold};
 
 /// A program of one null statement ends in three steps.
@@ -31,6 +31,11 @@ pub fn signs()
 /// Logical operators are not mixed without parentheses, and a name that is used is declared.
 pub fn mixture()
     ensures { Mixture }
+{}
+
+/// A task whose activation fails raises Tasking_Error in its activator, and the other one runs.
+pub fn failed_activation()
+    ensures { FailedActivation }
 {}
 
 /// Programs of the whole language, with tasks, entries, protected objects and abort among them, answer what was worked out by

@@ -11,7 +11,7 @@ use Rattle.aud_names.specs.declared.names.Meaning.TheVariants.{Object}
 use Rattle.aud_names.specs.declared.names.Parameter.{Parameter}
 use Rattle.aud_names.specs.Names.{Place}
 use Rattle.aud_typing.specs.Expressions as e
-use Rattle.aud_typing.specs.Expressions.{Entity, no_entity, entity, element_of}
+use Rattle.aud_typing.specs.Expressions.{Entity, no_entity, entity, element_of, task_of}
 use Rattle.aud_bodies.specs.Declarations as d
 use Rattle.aud_bodies.specs.Formals.{is_in}
 use Rattle.aud_bodies.specs.Assignments.{target_of}
@@ -33,6 +33,7 @@ module _ (known : Known) (scope : Scope) where
   reference_scoped (entity m) h = meaning_scoped m h
   reference_scoped (element_of x index None) h = tt
   reference_scoped (element_of x index (Some t)) h = h
+  reference_scoped (task_of x index) h = tt
 
   copied_scoped : (p : Parameter) (r : Option tree.Reference) → IfSome r (λ x. ReferenceScoped x scope) → IfSome (a.copied_to p r) (λ x. ArgumentScoped x scope)
   copied_scoped p None h = tt

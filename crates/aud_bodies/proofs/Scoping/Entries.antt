@@ -1,5 +1,5 @@
 -- How the units of a program are entered, in the order of their numbers: with what is elaborated where they are declared.
-use Rattle.std.proofs.Common.{◌≡◌, ◌+◌, ◌<◌, ◌≤◌, ℕ, suc, Bool, true, false, Option, List, [], ◌∷◌, ◌++◌, length, slice_index_or, arith, ◌∙◌, ap}
+use Rattle.std.proofs.Common.{◌≡◌, ◌+◌, ◌<◌, ◌≤◌, ℕ, suc, Bool, true, false, Option, Some, None, List, [], ◌∷◌, ◌++◌, length, slice_index_or, arith, ◌∙◌, ap}
 use Rattle.std.specs.Prelude.{slice_set}
 use Rattle.std.proofs.lemmas.List.{length_push, length-append, length-set, get_or_append_left, get_or-append-add}
 use Rattle.aud_text.specs.declared.place.Pos.{Pos}
@@ -11,18 +11,19 @@ use Rattle.aud_typed.specs.Why.Scoped.{Scope, Entry, no_entry, entry_of, all_of_
 use Rattle.aud_names.specs.declared.names.Parameter.{Parameter}
 use Rattle.aud_names.specs.Names as names
 use Rattle.aud_names.specs.Names.{Place}
-use Rattle.aud_bodies.specs.Tables.{Tables, Outcome, no_body, region_kept, unit_kept}
+use Rattle.aud_bodies.specs.Tables.{Tables, Outcome, no_body, region_kept, unit_kept, with_unit}
+use Rattle.aud_bodies.specs.Tasks as tasks
 use Rattle.aud_bodies.specs.Declarations as d
 use Rattle.aud_bodies.specs.Formals.{Formals}
 use Rattle.aud_bodies.specs.Regions as regions
 use Rattle.aud_bodies.specs.Statements as s
-use Rattle.aud_bodies.specs.Statements.{Around, nothing_around}
+use Rattle.aud_bodies.specs.Statements.{Around, nothing_around, task_around}
 use Rattle.aud_bodies.proofs.Scoping.Declarations.{elaborated}
 use Rattle.aud_bodies.proofs.Scoping.Tables.{Grows, declared_tables}
 
 -- what is elaborated behind the declarations of a body
 abbrev pub behind : Outcome d.Declared → Scope → Scope
-behind o outer = outer ++ all_of_table (regions.shown_names (names.innermost o.made.place).symbols) ∷ []
+behind o outer = outer ++ elaborated (names.innermost o.made.place) ∷ []
 
 -- within the statements of a loop
 abbrev pub loop_scope : plain.Iteration → Place → Scope → Scope
@@ -30,18 +31,24 @@ loop_scope plain.forever n scope = scope
 loop_scope (plain.while c) n scope = scope
 loop_scope (plain.for i backward low high) n scope = scope ++ all_of_table (regions.shown_names (regions.loop_region i n).symbols) ∷ []
 
--- of a body that is entered: first those in its declarations, and then those in its statements, which see what it declares
-abbrev pub of_entered : List Entry → (Place → Tables → Scope → List Entry) → Outcome d.Declared → Tables → Scope → List Entry
-of_entered front stated o t outer = front ++ stated o.made.place (declared_tables o t) (behind o outer)
+-- of a body that is entered: first those in its declarations, and then those in its statements, which see what it declares. The units that
+-- it declares are entered behind its declarations
+abbrev pub of_entered : (Scope → List Entry) → (Place → Tables → Scope → List Entry) → Outcome d.Declared → Tables → Scope → List Entry
+of_entered front stated o t outer = front (behind o outer) ++ stated o.made.place (declared_tables o t) (behind o outer)
 
--- what is elaborated where a procedure is declared
-abbrev pub seen_by : Place → Scope → Scope
-seen_by n outer = outer ++ elaborated (names.innermost n) ∷ []
-
+-- of a procedure, with its formals, and of a task, with its own number
 abbrev pub of_procedure : Formals → Scope → List Entry → List Entry
-of_procedure f seen within = record { formals = length f.profile; outer = seen } ∷ within
+of_procedure f scope within = record { formals = length f.profile; outer = scope } ∷ within
 
--- of the units that constructs declare, in this scope; of declarations what is elaborated further out
+abbrev pub of_task : Scope → Entry
+of_task scope = record { formals = 1; outer = scope }
+
+-- a body of no task that waits for it is a task of its own
+abbrev pub of_body : Option ℕ → Scope → List Entry
+of_body None scope = of_task scope ∷ []
+of_body (Some unit) scope = []
+
+-- of the units that constructs declare, in this scope; of declarations what is elaborated behind all of them
 abbrev mutual
   pub in_statement : plain.Statement → Around → Place → Tables → Scope → List Entry
   in_statement (plain.if_then at c ss arms otherwise) around n t scope =
@@ -50,7 +57,7 @@ abbrev mutual
       in_statements ss around n t scope ++ (in_arms arms around n first.tables scope ++ in_others otherwise around n second.tables scope)
   in_statement (plain.loop label at i ss last semicolon) around n t scope = in_statements ss (s.labelled true label around) (s.loop_place i n) (s.loop_tables i n t) (loop_scope i n scope)
   in_statement (plain.block label at declare ds b) around n t scope =
-      of_entered (in_declarations ds (names.in_frame n) (region_kept t) scope) (λ m u inner. in_body b (s.labelled false label around) m u inner) (s.checked_declarations ds (names.in_frame n) (region_kept t)) t scope
+      of_entered (λ inner. in_declarations ds (names.in_frame n) (region_kept t) inner) (λ m u inner. in_body b (s.labelled false label around) m u inner) (s.checked_declarations ds (names.in_frame n) (region_kept t)) t scope
   in_statement _ around n t scope = []
 
   pub in_arms : plain.Arms → Around → Place → Tables → Scope → List Entry
@@ -72,20 +79,26 @@ abbrev mutual
   in_handlers (plain.more_handlers choices ss hs) around n t scope = in_statements ss around n t scope ++ in_handlers hs around n (s.checked_statements ss around n t).tables scope
 
   pub in_declarations : plain.Declarations → Place → Tables → Scope → List Entry
-  in_declarations plain.no_declarations n t outer = []
-  in_declarations (plain.more_declarations x xs) n t outer = in_declaration x n t outer ++ in_declarations xs (s.checked_declaration x n t).made.place (s.checked_declaration x n t).tables outer
+  in_declarations plain.no_declarations n t scope = []
+  in_declarations (plain.more_declarations x xs) n t scope = in_declaration x n t scope ++ in_declarations xs (s.checked_declaration x n t).made.place (s.checked_declaration x n t).tables scope
 
   pub in_declaration : plain.Declaration → Place → Tables → Scope → List Entry
-  in_declaration (plain.procedure at i fs ds b) n t outer =
+  in_declaration (plain.procedure at i fs ds b) n t scope =
       let here : Place = s.procedure_place i n t in
       let f : Formals = s.procedure_formals i fs here in
       let inner : Place = names.place_in f.region here.regions in
       let kept : Tables = unit_kept f.profile t in
-      of_procedure f (seen_by n outer) (of_entered (in_declarations ds inner (region_kept kept) (seen_by n outer)) (λ m u within. in_body b nothing_around m u within) (s.checked_declarations ds inner (region_kept kept)) kept (seen_by n outer))
-  in_declaration _ n t outer = []
+      of_procedure f scope (of_entered (λ own. in_declarations ds inner (region_kept kept) own) (λ m u within. in_body b nothing_around m u within) (s.checked_declarations ds inner (region_kept kept)) kept scope)
+  in_declaration (plain.task at is_type i x) n t scope = of_task scope ∷ []
+  in_declaration (plain.task_body at i ds b) n t scope =
+      let found : Option ℕ = tasks.unit_awaited i n in
+      let inner : Place = names.task_place i.name (tasks.place_behind i n) in
+      let kept : Tables = tasks.body_tables found t in
+      of_body found scope ++ of_entered (λ own. in_declarations ds inner (region_kept kept) own) (λ m u within. in_body b task_around m u within) (s.checked_declarations ds inner (region_kept kept)) kept scope
+  in_declaration _ n t scope = []
 
 abbrev pub in_entered : plain.Declarations → plain.Body → Around → Place → Tables → Scope → List Entry
-in_entered ds b around n t outer = of_entered (in_declarations ds n (region_kept t) outer) (λ m u inner. in_body b around m u inner) (s.checked_declarations ds n (region_kept t)) t outer
+in_entered ds b around n t outer = of_entered (λ inner. in_declarations ds n (region_kept t) inner) (λ m u inner. in_body b around m u inner) (s.checked_declarations ds n (region_kept t)) t outer
 
 -- As many as are declared. That stands under a name of its own for each construct, so that the recursion below looks at nothing else.
 
@@ -140,18 +153,19 @@ looped_counted label at (plain.while c) ss last semicolon around n t scope f = f
 looped_counted label at (plain.for i backward low high) ss last semicolon around n t scope f =
     f (s.labelled true label around) (regions.in_loop i n) (s.loop_tables (plain.for i backward low high) n t) (loop_scope (plain.for i backward low high) n scope)
 
-entering_counted : (ds : plain.Declarations) (b : plain.Body) (around : Around) (n : Place) (t : Tables) (outer : Scope)
-    → DeclarationsCounted ds n (region_kept t) outer → ((m : Place) (u : Tables) (inner : Scope) → BodyCounted b around m u inner) → length (s.entered_body ds b around n t).tables.units ≡ length t.units + length (in_entered ds b around n t outer)
+entering_counted : (of_task : Bool) (ds : plain.Declarations) (b : plain.Body) (around : Around) (n : Place) (t : Tables) (outer : Scope)
+    → ((scope : Scope) → DeclarationsCounted ds n (region_kept t) scope) → ((m : Place) (u : Tables) (inner : Scope) → BodyCounted b around m u inner) → length (s.entered_body of_task ds b around n t).tables.units ≡ length t.units + length (in_entered ds b around n t outer)
 unfolding DeclarationsCounted BodyCounted
-entering_counted ds b around n t outer f g =
+entering_counted of_task ds b around n t outer f g =
     let o = s.checked_declarations ds n (region_kept t) in
     let entry : Tables = declared_tables o t in
-    both_counted (in_declarations ds n (region_kept t) outer) (in_body b around o.made.place entry (behind o outer)) (length t.units) (length o.tables.units) (length (s.checked_body b around o.made.place entry).tables.units) f (g o.made.place entry (behind o outer))
+    let inner : Scope = behind o outer in
+    both_counted (in_declarations ds n (region_kept t) inner) (in_body b around o.made.place entry inner) (length t.units) (length o.tables.units) (length (s.checked_body b around o.made.place entry).tables.units) (f inner) (g o.made.place entry inner)
 
 block_counted : (label : Option Ident) (at : Pos) (declare : Bool) (ds : plain.Declarations) (b : plain.Body) (around : Around) (n : Place) (t : Tables) (scope : Scope)
     → ((m : Place) (u : Tables) (outer : Scope) → DeclarationsCounted ds m u outer) → ((within : Around) (m : Place) (u : Tables) (inner : Scope) → BodyCounted b within m u inner) → StatementCounted (plain.block label at declare ds b) around n t scope
 unfolding StatementCounted
-block_counted label at declare ds b around n t scope f g = entering_counted ds b (s.labelled false label around) (names.in_frame n) t scope (f (names.in_frame n) (region_kept t) scope) (g (s.labelled false label around))
+block_counted label at declare ds b around n t scope f g = entering_counted false ds b (s.labelled false label around) (names.in_frame n) t scope (f (names.in_frame n) (region_kept t)) (g (s.labelled false label around))
 
 arm_counted : (at : Pos) (c : plain.Expression) (ss : plain.Statements) (arms : plain.Arms) (around : Around) (n : Place) (t : Tables) (scope : Scope)
     → ((u : Tables) → StatementsCounted ss around n u scope) → ((u : Tables) → ArmsCounted arms around n u scope) → ArmsCounted (plain.more_arms at c ss arms) around n t scope
@@ -207,9 +221,29 @@ procedure_counted at i fs ds b n t outer f g =
     let formals : Formals = s.procedure_formals i fs here in
     let inner : Place = names.place_in formals.region here.regions in
     let kept : Tables = unit_kept formals.profile t in
-    let own = s.checked_unit at i.name ds b inner kept in
-    put_counted t formals.profile own.tables.units own.made (in_entered ds b nothing_around inner kept (seen_by n outer))
-    (entering_counted ds b nothing_around inner kept (seen_by n outer) (f inner (region_kept kept) (seen_by n outer)) (g nothing_around))
+    let own = s.checked_unit false at i.name ds b inner kept in
+    put_counted t formals.profile own.tables.units own.made (in_entered ds b nothing_around inner kept outer)
+    (entering_counted false ds b nothing_around inner kept outer (f inner (region_kept kept)) (g nothing_around))
+
+task_declaration_counted : (at : Pos) (is_type : Bool) (i : Ident) (x : Option plain.TaskDefinition) (n : Place) (t : Tables) (outer : Scope) → DeclarationCounted (plain.task at is_type i x) n t outer
+unfolding DeclarationCounted
+task_declaration_counted at is_type i x n t outer = omega (arith, length_push t.units no_body)
+
+own_counted : (found : Option ℕ) (t : Tables) (scope : Scope) → length (tasks.body_tables found t).units ≡ length t.units + length (of_body found scope)
+own_counted None t scope = omega (arith, length_push t.units no_body)
+own_counted (Some unit) t scope = omega arith
+
+task_body_counted : (at : Pos) (i : Ident) (ds : plain.Declarations) (b : plain.Body) (n : Place) (t : Tables) (outer : Scope)
+    → ((m : Place) (u : Tables) (scope : Scope) → DeclarationsCounted ds m u scope) → ((within : Around) (m : Place) (u : Tables) (inner : Scope) → BodyCounted b within m u inner) → DeclarationCounted (plain.task_body at i ds b) n t outer
+unfolding DeclarationCounted
+task_body_counted at i ds b n t outer f g =
+    let found : Option ℕ = tasks.unit_awaited i n in
+    let inner : Place = names.task_place i.name (tasks.place_behind i n) in
+    let kept : Tables = tasks.body_tables found t in
+    let own = s.checked_unit true at i.name ds b inner kept in
+    let within = in_entered ds b task_around inner kept outer in
+    let count = entering_counted true ds b task_around inner kept outer (f inner (region_kept kept)) (g task_around) in
+    both_counted (of_body found outer) within (length t.units) (length kept.units) (length (with_unit (tasks.body_unit found t) own.made own.tables).units) (own_counted found t outer) (length-set own.tables.units (tasks.body_unit found t) own.made ∙ count)
 
 null_counted : (at : Pos) (around : Around) (n : Place) (t : Tables) (scope : Scope) → StatementCounted (plain.null at) around n t scope
 unfolding StatementCounted
@@ -307,6 +341,8 @@ mutual
   count_declaration (plain.array first others low high mark) n t outer = array_counted first others low high mark n t outer
   count_declaration (plain.exception first others) n t outer = exception_counted first others n t outer
   count_declaration (plain.procedure at i fs ds b) n t outer = procedure_counted at i fs ds b n t outer (λ m u scope. count_declarations ds m u scope) (λ within m u inner. count_body b within m u inner)
+  count_declaration (plain.task at is_type i x) n t outer = task_declaration_counted at is_type i x n t outer
+  count_declaration (plain.task_body at i ds b) n t outer = task_body_counted at i ds b n t outer (λ m u scope. count_declarations ds m u scope) (λ within m u inner. count_body b within m u inner)
 
 pub statement_counted : (x : plain.Statement) (around : Around) (n : Place) (t : Tables) (scope : Scope) → length (s.checked_statement x around n t).tables.units ≡ length t.units + length (in_statement x around n t scope)
 unfolding StatementCounted
@@ -329,8 +365,8 @@ unfolding DeclarationCounted
 declaration_counted x n t outer = count_declaration x n t outer
 
 -- in a body that is entered
-pub entered_counted : (ds : plain.Declarations) (b : plain.Body) (around : Around) (n : Place) (t : Tables) (outer : Scope) → length (s.entered_body ds b around n t).tables.units ≡ length t.units + length (in_entered ds b around n t outer)
-entered_counted ds b around n t outer = entering_counted ds b around n t outer (count_declarations ds n (region_kept t) outer) (λ m u inner. count_body b around m u inner)
+pub entered_counted : (of_task : Bool) (ds : plain.Declarations) (b : plain.Body) (around : Around) (n : Place) (t : Tables) (outer : Scope) → length (s.entered_body of_task ds b around n t).tables.units ≡ length t.units + length (in_entered ds b around n t outer)
+entered_counted of_task ds b around n t outer = entering_counted of_task ds b around n t outer (λ scope. count_declarations ds n (region_kept t) scope) (λ m u inner. count_body b around m u inner)
 
 -- The entries of what a construct declares stand among all, from the next unit's on; each unit that is declared has a profile.
 
@@ -348,7 +384,7 @@ first_ready entries t xs ys h = record {
 
 pub second_ready : (entries : List Entry) (t u : Tables) (xs ys : List Entry) → Grows t u → length u.units ≡ length t.units + length xs → Ready entries t (xs ++ ys) → Ready entries u ys
 second_ready entries t u xs ys g e h = record {
-  even = omega (arith, h.even, g.even, ap length g.profiles, ap length g.units, length-append t.profiles g.more_profiles, length-append t.units g.more_units);
+  even = omega (arith, h.even, g.even, ap length g.profiles, length-append t.profiles g.more_profiles);
   long = omega (arith, e, h.long, length-append xs ys);
   each = λ k lt.
       let at : length u.units + k ≡ length t.units + (length xs + k) = omega (arith, e) in

@@ -24,20 +24,21 @@ use Rattle.aud_typed.specs.declared.program.Unary.{Unary}
 use Rattle.aud_typed.specs.declared.program.Unary.TheVariants as unary
 use Rattle.aud_typed.specs.declared.program.Binary.{Binary}
 use Rattle.aud_typed.specs.Tree as tree
-use Rattle.aud_typed.specs.Why.Scoped.{Scope, IsElaborated, AreElaborated, IntegerScoped, BooleanScoped, ValueScoped, TextScoped}
+use Rattle.aud_typed.specs.Why.Scoped.{Scope, IsElaborated, AreElaborated, IntegerScoped, TaskScoped, BooleanScoped, ValueScoped, TextScoped}
 use Rattle.aud_names.specs.declared.names.Array as array
+use Rattle.aud_names.specs.declared.names.TaskArray as task_array
 use Rattle.aud_names.specs.declared.names.Meaning.{Meaning}
-use Rattle.aud_names.specs.declared.names.Meaning.TheVariants.{ScalarType, Literal, Object, Array}
+use Rattle.aud_names.specs.declared.names.Meaning.TheVariants.{ScalarType, Literal, Object, Array, Task, TaskArray}
 use Rattle.aud_typing.specs.declared.attribute.Attribute.{Attribute}
-use Rattle.aud_typing.specs.declared.attribute.Attribute.TheVariants.{Image, First, Last, Length, Other}
+use Rattle.aud_typing.specs.declared.attribute.Attribute.TheVariants.{Image, First, Last, Length, Callable, Terminated, Other}
 use Rattle.aud_names.specs.declared.rules.Base.{Base}
 use Rattle.aud_names.specs.declared.rules.Base.TheVariants.{Whole, Truth}
-use Rattle.aud_names.specs.Arrays.{array_at}
+use Rattle.aud_names.specs.Arrays.{array_at, task_array_at}
 use Rattle.aud_names.specs.Resolution as resolution
 use Rattle.aud_names.specs.Names.{Place}
 use Rattle.aud_names.specs.Rules as rules
 use Rattle.aud_typing.specs.Expressions as e
-use Rattle.aud_typing.specs.Expressions.{Typed, number, boolean, string, unknown, Entity, no_entity, entity, element_of, Denoting}
+use Rattle.aud_typing.specs.Expressions.{Typed, number, boolean, string, unknown, Entity, no_entity, entity, element_of, task_of, Denoting}
 use Rattle.aud_bodies.specs.Declarations as d
 use Rattle.aud_typing.specs.Conditions as q
 use Rattle.aud_bodies.specs.Statements as s
@@ -55,6 +56,7 @@ abbrev pub EntityScoped : Known → Scope → Entity → Type 0
 EntityScoped known scope no_entity = Unit {0}
 EntityScoped known scope (entity m) = MeaningScoped known scope m
 EntityScoped known scope (element_of a index t) = AreElaborated a scope × IntegerScoped index scope
+EntityScoped known scope (task_of a index) = AreElaborated a scope × IntegerScoped index scope
 
 module _ (known : Known) (scope : Scope) where
   number_scoped : (x : Option ℤ) (at : Pos) → TypedScoped scope (e.checked_number x at).typed
@@ -140,6 +142,7 @@ module _ (known : Known) (scope : Scope) where
   read_scoped no_entity h = tt
   read_scoped (entity m) h = meaning_scoped m h
   read_scoped (element_of a index t) h = element_scoped a index t h
+  read_scoped (task_of a index) h = tt
 
   element_with_scoped : (a : array.Array) (t : Typed) → AreElaborated (array_at a) scope → TypedScoped scope t → EntityScoped known scope (e.element_with a t)
   element_with_scoped a (number index) h i = (h, i)
@@ -150,9 +153,19 @@ module _ (known : Known) (scope : Scope) where
   array_scoped a (plain.more_args x plain.no_args) at last h i = element_with_scoped a last h i
   array_scoped a (plain.more_args x (plain.more_args y more)) at last h i = tt
 
+  task_with_scoped : (a : task_array.TaskArray) (t : Typed) → AreElaborated (task_array_at a) scope → TypedScoped scope t → EntityScoped known scope (e.task_with a t)
+  task_with_scoped a (number index) h i = (h, i)
+  task_with_scoped a _ h i = tt
+
+  tasks_scoped : (a : task_array.TaskArray) (xs : plain.Args) (at : Pos) (last : Typed) → AreElaborated (task_array_at a) scope → TypedScoped scope last → EntityScoped known scope (e.tasks_indexed a xs at last).entity
+  tasks_scoped a plain.no_args at last h i = h
+  tasks_scoped a (plain.more_args x plain.no_args) at last h i = task_with_scoped a last h i
+  tasks_scoped a (plain.more_args x (plain.more_args y more)) at last h i = tt
+
   indexed_scoped : (m : Option Meaning) (xs : plain.Args) (at : Pos) (last : Typed) → VisibleScoped known scope m → TypedScoped scope last → EntityScoped known scope (e.indexed m xs at last).entity
   indexed_scoped None xs at last h i = tt
   indexed_scoped (Some (Array a)) xs at last h i = array_scoped a xs at last h i
+  indexed_scoped (Some (TaskArray a)) xs at last h i = tasks_scoped a xs at last h i
   indexed_scoped (Some m) xs at last h i = h
 
   -- attributes
@@ -185,12 +198,26 @@ module _ (known : Known) (scope : Scope) where
   bound_scoped None prefix designator a = tt
   bound_scoped (Some x) prefix designator a = no_argument_scoped designator a _ tt
 
+  asked_scoped : (x : Option tree.BooleanExpression) (prefix designator : Pos) (a : Option (Pos × Typed)) → IfSome x (λ b. BooleanScoped b scope) → TypedScoped scope (e.asked x prefix designator a).typed
+  asked_scoped None prefix designator a h = tt
+  asked_scoped (Some x) prefix designator a h = no_argument_scoped designator a _ h
+
+  callable_scoped : (m : Meaning) → MeaningScoped known scope m → IfSome (e.callable_of m) (λ b. BooleanScoped b scope)
+  callable_scoped (Task v) h = h
+  callable_scoped _ h = tt
+
+  terminated_scoped : (m : Meaning) → MeaningScoped known scope m → IfSome (e.terminated_of m) (λ b. BooleanScoped b scope)
+  terminated_scoped (Task v) h = h
+  terminated_scoped _ h = tt
+
   attribute_of_scoped : (x : Option Attribute) (m : Meaning) (prefix designator : Pos) (a : Option (Pos × Typed)) → MeaningScoped known scope m → IfSome a (λ x. TypedScoped scope x.1) → TypedScoped scope (e.attribute_named x m prefix designator a).typed
   attribute_of_scoped None m prefix designator a h i = tt
   attribute_of_scoped (Some Image) m prefix designator a h i = any_image_scoped m prefix designator a h i
   attribute_of_scoped (Some First) m prefix designator a h i = bound_scoped (e.first_of m) prefix designator a
   attribute_of_scoped (Some Last) m prefix designator a h i = bound_scoped (e.last_of m) prefix designator a
   attribute_of_scoped (Some Length) m prefix designator a h i = bound_scoped (e.length_of m) prefix designator a
+  attribute_of_scoped (Some Callable) m prefix designator a h i = asked_scoped (e.callable_of m) prefix designator a (callable_scoped m h)
+  attribute_of_scoped (Some Terminated) m prefix designator a h i = asked_scoped (e.terminated_of m) prefix designator a (terminated_scoped m h)
   attribute_of_scoped (Some Other) m prefix designator a h i = tt
 
   element_attribute_scoped : (x : Option Attribute) (t : Typed) (prefix designator : Pos) (a : Option (Pos × Typed)) → TypedScoped scope t → TypedScoped scope (e.element_attribute x t prefix designator a).typed
@@ -198,10 +225,17 @@ module _ (known : Known) (scope : Scope) where
   element_attribute_scoped (Some Image) t prefix designator a h = no_argument_scoped designator a _ (image_scoped t h)
   element_attribute_scoped (Some _) t prefix designator a h = tt
 
+  task_attribute_scoped : (x : Option Attribute) (task : tree.TaskName) (prefix designator : Pos) (a : Option (Pos × Typed)) → TaskScoped task scope → TypedScoped scope (e.task_attribute x task prefix designator a).typed
+  task_attribute_scoped None task prefix designator a h = tt
+  task_attribute_scoped (Some Callable) task prefix designator a h = no_argument_scoped designator a _ h
+  task_attribute_scoped (Some Terminated) task prefix designator a h = no_argument_scoped designator a _ h
+  task_attribute_scoped (Some _) task prefix designator a h = tt
+
   attribute_scoped : (x : Entity) (prefix : Pos) (designator : Ident) (a : Option (Pos × Typed)) → EntityScoped known scope x → IfSome a (λ x. TypedScoped scope x.1) → TypedScoped scope (e.attribute_if x prefix designator a).typed
   attribute_scoped no_entity prefix designator a h i = tt
   attribute_scoped (entity m) prefix designator a h i = attribute_of_scoped (lookup (bytes_eq designator.name) e.attributes) m prefix designator.at a h i
   attribute_scoped (element_of v index t) prefix designator a h i = element_attribute_scoped (lookup (bytes_eq designator.name) e.attributes) (e.stored_at v index t) prefix designator.at a (element_scoped v index t h)
+  attribute_scoped (task_of v index) prefix designator a h i = task_attribute_scoped (lookup (bytes_eq designator.name) e.attributes) (tree.indexed v index) prefix designator.at a h
 
   -- values for places that ask for a subtype
 

@@ -7,28 +7,43 @@ use Rattle.std.proofs.lemmas.Map.Entries.{All-lookup}
 use Rattle.std.proofs.lemmas.List.{length-append, get_or_append_left}
 use Rattle.aud_syntax.specs.Plain as plain
 use Rattle.aud_typed.specs.Tree.{Plan}
-use Rattle.aud_typed.specs.Why.Scoped.{Elaborated, Scope, cells_at, IsElaborated, AreElaborated, IsThere, Entry, entry_of, AreOpen}
+use Rattle.aud_typed.specs.Why.Scoped.{Elaborated, Scope, cells_at, IsElaborated, AreElaborated, IsThere, Entry, entry_of, AreOpen, no_task}
 use Rattle.aud_names.specs.declared.names.Parameter.{Parameter}
 use Rattle.aud_names.specs.declared.names.Meaning.{Meaning}
-use Rattle.aud_names.specs.declared.names.Meaning.TheVariants.{ScalarType, Literal, Object, Array, Exception, Builtin, Procedure}
-use Rattle.aud_names.specs.Arrays.{array_at}
+use Rattle.aud_names.specs.declared.names.Meaning.TheVariants.{ScalarType, Literal, Object, Array, Exception, Builtin, Procedure, TaskType, Task, TaskArray}
+use Rattle.aud_names.specs.Arrays.{array_at, task_array_at}
 use Rattle.aud_names.specs.Resolution as resolution
 use Rattle.aud_names.specs.Resolution.{Resolved}
 use Rattle.aud_names.specs.Names as names
 use Rattle.aud_names.specs.Names.{Symbol, Region, Place}
 
--- of a program: its plan, how its units are entered, and the formals of those that are declared so far
+-- of a program: its plan, how its units are entered, and the formals of those that are declared so far; and whether units are entered
+-- here, where all declarations around are elaborated, and not yet within these
 pub record Known : Type 0 where
   pub plan : Plan
   pub entries : List Entry
   pub profiles : List (List Parameter)
+  pub complete : Bool
+
+abbrev pub when : Bool → Known → Known
+when c known = record known { complete = c }
 
 -- the procedure of a unit may be called: it is declared, and the frames that it sees are open
 pub record IsCallable (known : Known) (scope : Scope) (unit : ℕ) : Type 0 where
   pub declared : unit < length known.profiles
   pub entered : unit < length known.entries
   pub formals : length (slice_index_or known.profiles unit []) ≡ (entry_of known.entries unit).formals
-  pub outer : AreOpen (entry_of known.entries unit).outer scope
+  pub outer : known.complete ≡ true → AreOpen (entry_of known.entries unit).outer scope
+
+-- tasks of a type may begin: its body is there, whose frame begins with the task's number, and the frames that it sees are open
+abbrev pub type_unit : Known → ℕ → ℕ
+type_unit known number = (slice_index_or known.plan.tasks number no_task).unit
+
+pub record IsTaskType (known : Known) (scope : Scope) (number : ℕ) : Type 0 where
+  pub declared : number < length known.plan.tasks
+  pub entered : type_unit known number < length known.entries
+  pub alone : (entry_of known.entries (type_unit known number)).formals ≡ 1
+  pub outer : known.complete ≡ true → AreOpen (entry_of known.entries (type_unit known number)).outer scope
 
 -- what has this meaning may be used
 abbrev pub MeaningScoped : Known → Scope → Meaning → Type 0
@@ -36,6 +51,9 @@ MeaningScoped known scope (Object o) = IsElaborated o.variable scope
 MeaningScoped known scope (Array a) = AreElaborated (array_at a) scope
 MeaningScoped known scope (Exception x) = IsThere known.plan x
 MeaningScoped known scope (Procedure unit) = IsCallable known scope unit
+MeaningScoped known scope (TaskType number) = IsTaskType known scope number
+MeaningScoped known scope (Task v) = IsElaborated v scope
+MeaningScoped known scope (TaskArray a) = AreElaborated (task_array_at a) scope
 MeaningScoped known scope _ = Unit {0}
 
 abbrev pub VisibleScoped : Known → Scope → Option Meaning → Type 0
@@ -85,7 +103,10 @@ module _ (known : Known) (scope : Scope) (e : Elaborated) where
   meaning_more (ScalarType t) h = tt
   meaning_more (Literal b) h = tt
   meaning_more (Builtin b) h = tt
-  meaning_more (Procedure unit) h = record { declared = h.declared; entered = h.entered; formals = h.formals; outer = open_more (entry_of known.entries unit).outer scope e h.outer }
+  meaning_more (Procedure unit) h = record { declared = h.declared; entered = h.entered; formals = h.formals; outer = λ c. open_more (entry_of known.entries unit).outer scope e (h.outer c) }
+  meaning_more (TaskType number) h = record { declared = h.declared; entered = h.entered; alone = h.alone; outer = λ c. open_more (entry_of known.entries (type_unit known number)).outer scope e (h.outer c) }
+  meaning_more (Task v) h = omega (arith, h, cells_more v.level scope e)
+  meaning_more (TaskArray a) h = omega (arith, h, cells_more a.first.level scope e)
 
   -- what is further out is elaborated still
   pub regions_more : (rs : List Region) → RegionsScoped known scope rs → RegionsScoped known (scope ++ e ∷ []) rs
@@ -111,30 +132,54 @@ module _ (known : Known) (scope : Scope) where
 
   -- what names denote
 
-  denoted_scoped : (m : Meaning) (p : plain.NamePart) (ps : plain.Parts) → MeaningScoped known scope m → VisibleScoped known scope (resolution.denoted_by m p ps).denoted.meaning
-  denoted_scoped m p ps h = either (λ (x : Resolved). VisibleScoped known scope x.denoted.meaning) (resolution.may_stand m p ps) _ _ h tt
+  selected_scoped : (m : Meaning) (p : plain.NamePart) (ps : plain.Parts) (n : Place) → VisibleScoped known scope (resolution.selected m p ps n).denoted.meaning
+  selected_scoped (Task v) (plain.part i plain.no_args) (plain.more_parts q qs) n = tt
+  selected_scoped (TaskArray a) (plain.part i (plain.more_args e es)) (plain.more_parts q qs) n = tt
+  selected_scoped _ p ps n = tt
 
-  text_io_scoped : (m : Option Meaning) (p : plain.NamePart) (ps : plain.Parts) → VisibleScoped known scope (resolution.in_text_io m p ps).denoted.meaning
-  text_io_scoped (Some (Builtin b)) p ps = denoted_scoped (Builtin b) p ps tt
-  text_io_scoped _ p ps = tt
+  denoted_scoped : (m : Meaning) (p : plain.NamePart) (ps : plain.Parts) (n : Place) → MeaningScoped known scope m → VisibleScoped known scope (resolution.denoted_by m p ps n).denoted.meaning
+  denoted_scoped m p ps n h = either (λ (x : Resolved). VisibleScoped known scope x.denoted.meaning) (resolution.may_stand m p ps) _ _ h (selected_scoped m p ps n)
+
+  text_io_scoped : (m : Option Meaning) (p : plain.NamePart) (ps : plain.Parts) (n : Place) → VisibleScoped known scope (resolution.in_text_io m p ps n).denoted.meaning
+  text_io_scoped (Some (Builtin b)) p ps n = denoted_scoped (Builtin b) p ps n tt
+  text_io_scoped _ p ps n = tt
 
   library_scoped : (p : plain.NamePart) (ps : plain.Parts) (n : Place) → VisibleScoped known scope (resolution.in_library p ps n).denoted.meaning
   library_scoped p (plain.more_parts q (plain.more_parts r rest)) n =
-      either (λ (x : Resolved). VisibleScoped known scope x.denoted.meaning) (resolution.is_text_io p q n) _ _ (text_io_scoped (names.named_in (resolution.part_ident r).name names.predefined) r rest) tt
+      either (λ (x : Resolved). VisibleScoped known scope x.denoted.meaning) (resolution.is_text_io p q n) _ _ (text_io_scoped (names.named_in (resolution.part_ident r).name names.predefined) r rest n) tt
   library_scoped p (plain.more_parts q plain.no_parts) n = tt
   library_scoped p plain.no_parts n = tt
 
   or_library_scoped : (m : Option Meaning) (p : plain.NamePart) (ps : plain.Parts) (n : Place) → VisibleScoped known scope m → VisibleScoped known scope (resolution.or_in_library m p ps n).denoted.meaning
-  or_library_scoped (Some m) p ps n h = denoted_scoped m p ps h
+  or_library_scoped (Some m) p ps n h = denoted_scoped m p ps n h
   or_library_scoped None p ps n h = library_scoped p ps n
 
   pub resolved_scoped : (n : Place) → Sees known scope n → (x : plain.Name) → VisibleScoped known scope (resolution.resolved x n).denoted.meaning
   resolved_scoped n sees (plain.named p ps) = or_library_scoped (names.visible (resolution.part_ident p).name n) p ps n (sees (resolution.part_ident p).name)
 
+-- where units are entered, all may be used that may be used before
+
+module _ (known : Known) (scope : Scope) (whole : known.complete ≡ true) (c : Bool) where
+  meaning_when : (m : Meaning) → MeaningScoped known scope m → MeaningScoped (when c known) scope m
+  meaning_when (Object o) h = h
+  meaning_when (Array a) h = h
+  meaning_when (Exception x) h = h
+  meaning_when (Procedure unit) h = record { declared = h.declared; entered = h.entered; formals = h.formals; outer = λ _. h.outer whole }
+  meaning_when (TaskType number) h = record { declared = h.declared; entered = h.entered; alone = h.alone; outer = λ _. h.outer whole }
+  meaning_when (Task v) h = h
+  meaning_when (TaskArray a) h = h
+  meaning_when (ScalarType t) h = tt
+  meaning_when (Literal b) h = tt
+  meaning_when (Builtin b) h = tt
+
+  pub regions_when : (rs : List Region) → RegionsScoped known scope rs → RegionsScoped (when c known) scope rs
+  regions_when [] h = tt
+  regions_when (r ∷ rs) h = ((λ k d l. meaning_when _ (h.0 k d l)), regions_when rs h.1)
+
 -- More procedures are declared.
 
 abbrev pub later : List (List Parameter) → Known → Known
-later more known = record { plan = known.plan; entries = known.entries; profiles = known.profiles ++ more }
+later more known = record known { profiles = known.profiles ++ more }
 
 module _ (known : Known) (scope : Scope) (more : List (List Parameter)) where
   callable_later : (unit : ℕ) → IsCallable known scope unit → IsCallable (later more known) scope unit
@@ -150,6 +195,9 @@ module _ (known : Known) (scope : Scope) (more : List (List Parameter)) where
   meaning_later (Array a) h = h
   meaning_later (Exception x) h = h
   meaning_later (Procedure unit) h = callable_later unit h
+  meaning_later (TaskType number) h = record { declared = h.declared; entered = h.entered; alone = h.alone; outer = h.outer }
+  meaning_later (Task v) h = h
+  meaning_later (TaskArray a) h = h
   meaning_later (ScalarType t) h = tt
   meaning_later (Literal b) h = tt
   meaning_later (Builtin b) h = tt

@@ -1,7 +1,7 @@
 -- Statements by themselves, and what is put together of them, use what is elaborated, or there.
 use Rattle.std.specs.Prelude.{IfSome}
 use Rattle.std.specs.List.{AllByRecursion}
-use Rattle.std.proofs.Common.{◌≡◌, ℕ, List, [], ◌∷◌, length, slice_index_or, Option, Some, None, refl, sym, ◌∙◌, subst}
+use Rattle.std.proofs.Common.{◌≡◌, ℕ, true, List, [], ◌∷◌, length, slice_index_or, Option, Some, None, refl, sym, ◌∙◌, subst}
 use Rattle.aud_text.specs.declared.place.Pos.{Pos}
 use Rattle.aud_syntax.specs.declared.tree.Ident.{Ident}
 use Rattle.aud_syntax.specs.Plain as plain
@@ -18,7 +18,7 @@ use Rattle.aud_names.specs.declared.names.Builtin as names_in_memory
 use Rattle.aud_names.specs.declared.names.Builtin.TheVariants.{Put, PutLine, NewLine}
 use Rattle.aud_names.specs.Names as names
 use Rattle.aud_names.specs.Names.{Place}
-use Rattle.aud_typing.specs.Expressions.{Typed, string, Entity, no_entity, entity, element_of}
+use Rattle.aud_typing.specs.Expressions.{Typed, string, Entity, no_entity, entity, element_of, task_of}
 use Rattle.aud_bodies.specs.Assignments as assignments
 use Rattle.aud_bodies.specs.Calls as calls
 use Rattle.aud_bodies.specs.Handlers as handlers
@@ -26,6 +26,18 @@ use Rattle.aud_bodies.specs.Statements as s
 use Rattle.aud_bodies.specs.Statements.{Around, nothing_around, TypedArm, TypedHandler}
 use Rattle.aud_bodies.proofs.Scoping.Names.{Known, IsCallable, MeaningScoped, VisibleScoped, Sees}
 use Rattle.aud_bodies.proofs.Scoping.Expressions.{TypedScoped, EntityScoped, value_scoped}
+use Rattle.std.proofs.Common.{◌≡◌, ℕ, true, List, [], ◌∷◌, ◌++◌, length, slice_index_or, Option, Some, None, refl, sym, ◌∙◌, subst}
+use Rattle.aud_typed.specs.Why.Scoped.{Scope, AllCreatedScoped, scope_behind, all_of_table, Elaborated, Entry, StatementScoped, PartScoped, HandlersScoped, BodyScoped}
+use Rattle.aud_names.specs.declared.names.Meaning.TheVariants.{ScalarType, Literal, Object, Array, Exception, Builtin, Procedure, TaskType, Task, TaskArray}
+use Rattle.aud_names.specs.Names.{Region, Place}
+use Rattle.aud_names.specs.Resolution as resolution
+use Rattle.aud_bodies.specs.Tables.{Tables, profile_of}
+use Rattle.aud_typing.specs.Expressions as e
+use Rattle.aud_bodies.specs.Statements.{Around, nothing_around, task_around}
+use Rattle.aud_bodies.proofs.Scoping.Names.{Known, IsCallable, VisibleScoped, Sees, Fits, regions_see, resolved_scoped}
+use Rattle.aud_bodies.proofs.Scoping.Expressions.{arguments_scoped}
+use Rattle.aud_bodies.proofs.Scoping.Arguments.{all_passed_scoped}
+use Rattle.aud_bodies.proofs.Scoping.Units.{seen}
 
 -- a statement, which elaborates nothing
 abbrev pub IsStatement : Known → Scope → tree.Statement → Type 0
@@ -74,6 +86,7 @@ module _ (known : Known) (scope : Scope) where
   assigned_scoped no_entity at x h i = (tt, refl)
   assigned_scoped (entity m) at x h i = meaning_assigned_scoped m at x h i
   assigned_scoped (element_of a index t) at x h i = assigned_at_scoped a index t at x h i
+  assigned_scoped (task_of a index) at x h i = (tt, refl)
 
   -- calls
 
@@ -88,9 +101,9 @@ module _ (known : Known) (scope : Scope) where
   called_scoped _ at t h = (tt, refl)
 
   -- of a procedure of the program, whose arguments have no faults
-  pub procedure_called_scoped : (unit : ℕ) (at : Pos) (xs : Option (List tree.Argument)) → IsCallable known scope unit → IfSome xs (λ ys. (length ys ≡ length (slice_index_or known.profiles unit [])) × ArgumentsScoped ys scope) → IsStatement known scope (calls.procedure_called unit at xs)
-  procedure_called_scoped unit at None h i = (tt, refl)
-  procedure_called_scoped unit at (Some xs) h i = ((h.entered, i.0 ∙ h.formals, h.outer, i.1, refl), refl)
+  pub procedure_called_scoped : known.complete ≡ true → (unit : ℕ) (at : Pos) (xs : Option (List tree.Argument)) → IsCallable known scope unit → IfSome xs (λ ys. (length ys ≡ length (slice_index_or known.profiles unit [])) × ArgumentsScoped ys scope) → IsStatement known scope (calls.procedure_called unit at xs)
+  procedure_called_scoped whole unit at None h i = (tt, refl)
+  procedure_called_scoped whole unit at (Some xs) h i = ((h.entered, i.0 ∙ h.formals, h.outer whole, i.1, refl), refl)
 
   -- exceptions
 
@@ -113,3 +126,37 @@ module _ (known : Known) (scope : Scope) where
   pub raise_scoped : (at : Pos) (x : Option Ident) (n : Place) → Sees known scope n → IsStatement known scope (handlers.typed_raise at x n)
   raise_scoped at None n sees = (tt, refl)
   raise_scoped at (Some i) n sees = raised_scoped (names.visible i.name n) at (sees i.name)
+
+module _ (plan : Plan) (entries : List Entry) where
+  -- a call
+  pub call_scoped : (x : plain.Name) (n : Place) (t : Tables) (scope : Scope) → Fits (seen plan entries t) scope n → IsStatement (seen plan entries t) scope (calls.typed_call x n t)
+  call_scoped x n t scope fits = by (resolution.resolved x n).denoted.meaning (resolved_scoped (seen plan entries t) scope n sees x)
+    where
+      sees : Sees (seen plan entries t) scope n
+      sees = regions_see (seen plan entries t) scope n fits.regions
+
+      at : Pos
+      at = (resolution.name_ident x).at
+
+      other : (m : Option Meaning) → IsStatement (seen plan entries t) scope (calls.called m at (e.checked_arguments x n).typed)
+      other m = called_scoped (seen plan entries t) scope m at _ (arguments_scoped (seen plan entries t) scope n sees x)
+
+      by : (m : Option Meaning) → VisibleScoped (seen plan entries t) scope m → IsStatement (seen plan entries t) scope (calls.called_as (calls.unit_meant m) (record { meaning = m; at = (resolution.resolved x n).denoted.at }) x n t)
+      by (Some (Procedure unit)) h = procedure_called_scoped (seen plan entries t) scope refl unit at _ h (all_passed_scoped (seen plan entries t) scope n sees (profile_of unit t) (resolution.last_args x))
+      by None h = other None
+      by (Some (Builtin b)) h = other (Some (Builtin b))
+      by (Some (ScalarType u)) h = other (Some (ScalarType u))
+      by (Some (Literal b)) h = other (Some (Literal b))
+      by (Some (Object o)) h = other (Some (Object o))
+      by (Some (Array a)) h = other (Some (Array a))
+      by (Some (Exception y)) h = other (Some (Exception y))
+      by (Some (TaskType k)) h = other (Some (TaskType k))
+      by (Some (Task v)) h = other (Some (Task v))
+      by (Some (TaskArray a)) h = other (Some (TaskArray a))
+
+  -- a body whose region is entered
+  pub body_with_scoped : (xs : List tree.Statement) (b : plain.Body) (x : s.TypedBody) (first : Elaborated) (shown : List tree.Named) (scope : Scope)
+      → PartScoped plan entries (tree.part_of xs) (scope ++ first ∷ []) → scope_behind (tree.part_of xs) (scope ++ first ∷ []) ≡ scope ++ all_of_table shown ∷ []
+      → AllCreatedScoped plan entries (tree.part_of xs) (scope ++ all_of_table shown ∷ [])
+      → StatementScoped plan entries x.statements (scope ++ all_of_table shown ∷ []) → HandlersScoped plan entries x.handlers (scope ++ all_of_table shown ∷ []) → BodyScoped plan entries (s.body_with xs b x) first shown scope
+  body_with_scoped xs (plain.body begin ss hs end name semicolon) x first shown scope h i c j k = (h, i, c, j, k)

@@ -1,5 +1,5 @@
 -- Tables only grow: what stands there before a construct stays where it is, whatever that enters.
-use Rattle.std.proofs.Common.{◌≡◌, ◌-◌, ◌<◌, ◌≤◌, ℕ, Bool, true, false, Option, List, [], ◌∷◌, ◌++◌, length, slice_index_or, append_assoc, append-nil, arith, refl, sym, ◌∙◌, ap}
+use Rattle.std.proofs.Common.{◌≡◌, ◌+◌, ◌-◌, ◌<◌, ◌≤◌, ℕ, Bool, true, false, Option, Some, None, List, [], ◌∷◌, ◌++◌, length, slice_index_or, append_assoc, append-nil, arith, refl, sym, ◌∙◌, ap}
 use Rattle.std.specs.Prelude.{slice_set}
 use Rattle.std.proofs.lemmas.List.{length_push, length-append, length-set, get_or-set_same, get_or-set_other, get_or_append_left, get_or_push, set-append_right}
 use Rattle.aud_text.specs.declared.place.Pos.{Pos}
@@ -8,44 +8,46 @@ use Rattle.aud_syntax.specs.declared.tree.Ident.{Ident}
 use Rattle.aud_syntax.specs.Plain as plain
 use Rattle.aud_typed.specs.Tree as tree
 use Rattle.aud_typed.specs.Tree.{Plan}
-use Rattle.aud_typed.specs.Why.Scoped.{table}
+use Rattle.aud_typed.specs.Why.Scoped.{table, no_task}
 use Rattle.aud_names.specs.declared.names.Parameter.{Parameter}
 use Rattle.aud_names.specs.Names as names
 use Rattle.aud_names.specs.Names.{Place}
-use Rattle.aud_bodies.specs.Tables.{Tables, Outcome, no_body, with_region, region_kept, region_named, unit_kept, with_unit}
+use Rattle.aud_bodies.specs.Tables.{Tables, Outcome, no_body, with_region, region_kept, region_named, unit_kept, with_unit, task_kept}
+use Rattle.aud_bodies.specs.Tasks as tasks
 use Rattle.aud_bodies.specs.Declarations as d
 use Rattle.aud_bodies.specs.Regions as regions
 use Rattle.aud_bodies.specs.Statements as s
-use Rattle.aud_bodies.specs.Statements.{Around, nothing_around}
+use Rattle.aud_bodies.specs.Statements.{Around, nothing_around, task_around}
 use Rattle.aud_bodies.proofs.Scoping.Declarations.{exceptions_more}
 
 pub record Grows (t u : Tables) : Type 0 where
   pub more_regions : List (List tree.Named)
-  pub more_units : List tree.UnitBody
   pub more_profiles : List (List Parameter)
+  pub more_tasks : List ℕ
   pub regions : u.regions ≡ t.regions ++ more_regions
-  pub units : u.units ≡ t.units ++ more_units
   pub profiles : u.profiles ≡ t.profiles ++ more_profiles
-  pub even : length more_profiles ≡ length more_units
+  pub tasks : u.tasks ≡ t.tasks ++ more_tasks
+  -- each unit has a profile
+  pub even : length u.units ≡ length t.units + length more_profiles
   pub exceptions : length t.exceptions ≤ length u.exceptions
 
 pub same : (t : Tables) → Grows t t
-same t = record { more_regions = []; more_units = []; more_profiles = []; regions = sym (append-nil t.regions); units = sym (append-nil t.units); profiles = sym (append-nil t.profiles); even = refl; exceptions = omega arith }
+same t = record { more_regions = []; more_profiles = []; more_tasks = []; regions = sym (append-nil t.regions); profiles = sym (append-nil t.profiles); tasks = sym (append-nil t.tasks); even = omega arith; exceptions = omega arith }
 
 pub further : {t u v : Tables} → Grows t u → Grows u v → Grows t v
 further {t} {u} {v} g h = record {
   more_regions = g.more_regions ++ h.more_regions;
-  more_units = g.more_units ++ h.more_units;
   more_profiles = g.more_profiles ++ h.more_profiles;
+  more_tasks = g.more_tasks ++ h.more_tasks;
   regions = h.regions ∙ ap (λ z. z ++ h.more_regions) g.regions ∙ append_assoc t.regions g.more_regions h.more_regions;
-  units = h.units ∙ ap (λ z. z ++ h.more_units) g.units ∙ append_assoc t.units g.more_units h.more_units;
   profiles = h.profiles ∙ ap (λ z. z ++ h.more_profiles) g.profiles ∙ append_assoc t.profiles g.more_profiles h.more_profiles;
-  even = omega (arith, g.even, h.even, length-append g.more_profiles h.more_profiles, length-append g.more_units h.more_units);
+  tasks = h.tasks ∙ ap (λ z. z ++ h.more_tasks) g.tasks ∙ append_assoc t.tasks g.more_tasks h.more_tasks;
+  even = omega (arith, g.even, h.even, length-append g.more_profiles h.more_profiles);
   exceptions = omega (arith, g.exceptions, h.exceptions);
 }
 
 pub region_grows : (shown : List tree.Named) (t : Tables) → Grows t (with_region shown t)
-region_grows shown t = record { more_regions = shown ∷ []; more_units = []; more_profiles = []; regions = refl; units = sym (append-nil t.units); profiles = sym (append-nil t.profiles); even = refl; exceptions = omega arith }
+region_grows shown t = record { more_regions = shown ∷ []; more_profiles = []; more_tasks = []; regions = refl; profiles = sym (append-nil t.profiles); tasks = sym (append-nil t.tasks); even = omega arith; exceptions = omega arith }
 
 -- a place that was kept is behind what stood there
 set_behind : {X : Type 0} (xs : List X) (y : X) (ys zs : List X) (z : X) → zs ≡ (xs ++ y ∷ []) ++ ys → slice_set zs (length xs) z ≡ xs ++ slice_set (y ∷ ys) (length xs - length xs) z
@@ -54,35 +56,43 @@ set_behind xs y ys zs z e = ap (λ l. slice_set l (length xs) z) (e ∙ append_a
 pub named_grows : (shown : List tree.Named) (t u : Tables) → Grows (region_kept t) u → Grows t (region_named (length t.regions) shown u)
 named_grows shown t u g = record {
   more_regions = slice_set ([] ∷ g.more_regions) (length t.regions - length t.regions) shown;
-  more_units = g.more_units;
   more_profiles = g.more_profiles;
+  more_tasks = g.more_tasks;
   regions = set_behind t.regions [] g.more_regions u.regions shown g.regions;
-  units = g.units;
   profiles = g.profiles;
+  tasks = g.tasks;
   even = g.even;
   exceptions = g.exceptions;
 }
 
-pub put_grows : (profile : List Parameter) (unit : tree.UnitBody) (t u : Tables) → Grows (unit_kept profile t) u → Grows t (with_unit (length t.units) unit u)
-put_grows profile unit t u g = record {
+-- wherever a unit is put
+pub put_grows : (number : ℕ) (unit : tree.UnitBody) (t u : Tables) → Grows t u → Grows t (with_unit number unit u)
+put_grows number unit t u g = record {
   more_regions = g.more_regions;
-  more_units = slice_set (no_body ∷ g.more_units) (length t.units - length t.units) unit;
-  more_profiles = profile ∷ g.more_profiles;
+  more_profiles = g.more_profiles;
+  more_tasks = g.more_tasks;
   regions = g.regions;
-  units = set_behind t.units no_body g.more_units u.units unit g.units;
-  profiles = g.profiles ∙ append_assoc t.profiles (profile ∷ []) g.more_profiles;
-  even = omega (arith, g.even, length-set (no_body ∷ g.more_units) (length t.units - length t.units) unit);
+  profiles = g.profiles;
+  tasks = g.tasks;
+  even = omega (arith, g.even, length-set u.units number unit);
   exceptions = g.exceptions;
 }
 
 pub unit_grows : (profile : List Parameter) (t : Tables) → Grows t (unit_kept profile t)
-unit_grows profile t = record { more_regions = []; more_units = no_body ∷ []; more_profiles = profile ∷ []; regions = sym (append-nil t.regions); units = refl; profiles = refl; even = refl; exceptions = omega arith }
+unit_grows profile t = record { more_regions = []; more_profiles = profile ∷ []; more_tasks = []; regions = sym (append-nil t.regions); profiles = refl; tasks = sym (append-nil t.tasks); even = omega (arith, length_push t.units no_body); exceptions = omega arith }
+
+pub task_grows : (t : Tables) → Grows t (task_kept t)
+task_grows t = record { more_regions = []; more_profiles = [] ∷ []; more_tasks = length t.units ∷ []; regions = sym (append-nil t.regions); profiles = refl; tasks = refl; even = omega (arith, length_push t.units no_body); exceptions = omega arith }
+
+pub own_grows : (unit : Option ℕ) (t : Tables) → Grows t (tasks.body_tables unit t)
+own_grows None t = task_grows t
+own_grows (Some unit) t = same t
 
 pub kept_grows : (t : Tables) → Grows t (region_kept t)
 kept_grows t = region_grows [] t
 
 exceptions_grow : (is : List Ident) (n : Place) (t : Tables) → Grows t (d.checked_exceptions is n t).tables
-exceptions_grow is n t = record { more_regions = []; more_units = []; more_profiles = []; regions = sym (append-nil t.regions); units = sym (append-nil t.units); profiles = sym (append-nil t.profiles); even = refl; exceptions = exceptions_more is (d.exceptions_in n t.exceptions) }
+exceptions_grow is n t = record { more_regions = []; more_profiles = []; more_tasks = []; regions = sym (append-nil t.regions); profiles = sym (append-nil t.profiles); tasks = sym (append-nil t.tasks); even = omega arith; exceptions = exceptions_more is (d.exceptions_in n t.exceptions) }
 
 loop_grows : (i : plain.Iteration) (n : Place) (t : Tables) → Grows t (s.loop_tables i n t)
 loop_grows plain.forever n t = same t
@@ -132,9 +142,9 @@ looped_grows : (label : Option Ident) (at : Pos) (i : plain.Iteration) (ss : pla
 unfolding StatementGrows StatementsGrow
 looped_grows label at i ss last semicolon around n t f = further {u = s.loop_tables i n t} (loop_grows i n t) (f (s.labelled true label around) (s.loop_place i n) (s.loop_tables i n t))
 
-entering_grows : (ds : plain.Declarations) (b : plain.Body) (around : Around) (n : Place) (t : Tables) → DeclarationsGrow ds n (region_kept t) → ((m : Place) (u : Tables) → BodyGrows b around m u) → Grows t (s.entered_body ds b around n t).tables
+entering_grows : (of_task : Bool) (ds : plain.Declarations) (b : plain.Body) (around : Around) (n : Place) (t : Tables) → DeclarationsGrow ds n (region_kept t) → ((m : Place) (u : Tables) → BodyGrows b around m u) → Grows t (s.entered_body of_task ds b around n t).tables
 unfolding DeclarationsGrow BodyGrows
-entering_grows ds b around n t f g =
+entering_grows of_task ds b around n t f g =
     let o : Outcome d.Declared = s.checked_declarations ds n (region_kept t) in
     let shown = regions.shown_names (names.innermost o.made.place).symbols in
     further {u = declared_tables o t} (named_grows shown t o.tables f) (g o.made.place (declared_tables o t))
@@ -142,7 +152,7 @@ entering_grows ds b around n t f g =
 block_grows : (label : Option Ident) (at : Pos) (declare : Bool) (ds : plain.Declarations) (b : plain.Body) (around : Around) (n : Place) (t : Tables)
     → ((m : Place) (u : Tables) → DeclarationsGrow ds m u) → ((within : Around) (m : Place) (u : Tables) → BodyGrows b within m u) → StatementGrows (plain.block label at declare ds b) around n t
 unfolding StatementGrows
-block_grows label at declare ds b around n t f g = entering_grows ds b (s.labelled false label around) (names.in_frame n) t (f (names.in_frame n) (region_kept t)) (g (s.labelled false label around))
+block_grows label at declare ds b around n t f g = entering_grows false ds b (s.labelled false label around) (names.in_frame n) t (f (names.in_frame n) (region_kept t)) (g (s.labelled false label around))
 
 arm_grows : (at : Pos) (c : plain.Expression) (ss : plain.Statements) (arms : plain.Arms) (around : Around) (n : Place) (t : Tables)
     → ((u : Tables) → StatementsGrow ss around n u) → ((u : Tables) → ArmsGrow arms around n u) → ArmsGrow (plain.more_arms at c ss arms) around n t
@@ -181,8 +191,22 @@ procedure_grows at i fs ds b n t f g =
     let formals = s.procedure_formals i fs here in
     let inner : Place = names.place_in formals.region here.regions in
     let kept : Tables = unit_kept formals.profile t in
-    let unit = s.checked_unit at i.name ds b inner kept in
-    put_grows formals.profile unit.made t unit.tables (entering_grows ds b nothing_around inner kept (f inner (region_kept kept)) (g nothing_around))
+    let unit = s.checked_unit false at i.name ds b inner kept in
+    put_grows (length t.units) unit.made t unit.tables (further {u = kept} (unit_grows formals.profile t) (entering_grows false ds b nothing_around inner kept (f inner (region_kept kept)) (g nothing_around)))
+
+task_declaration_grows : (at : Pos) (is_type : Bool) (i : Ident) (x : Option plain.TaskDefinition) (n : Place) (t : Tables) → DeclarationGrows (plain.task at is_type i x) n t
+unfolding DeclarationGrows
+task_declaration_grows at is_type i x n t = task_grows t
+
+task_body_grows : (at : Pos) (i : Ident) (ds : plain.Declarations) (b : plain.Body) (n : Place) (t : Tables)
+    → ((m : Place) (u : Tables) → DeclarationsGrow ds m u) → ((within : Around) (m : Place) (u : Tables) → BodyGrows b within m u) → DeclarationGrows (plain.task_body at i ds b) n t
+unfolding DeclarationGrows
+task_body_grows at i ds b n t f g =
+    let found = tasks.unit_awaited i n in
+    let inner : Place = names.task_place i.name (tasks.place_behind i n) in
+    let own : Tables = tasks.body_tables found t in
+    let unit = s.checked_unit true at i.name ds b inner own in
+    put_grows (tasks.body_unit found t) unit.made t unit.tables (further {u = own} (own_grows found t) (entering_grows true ds b task_around inner own (f inner (region_kept own)) (g task_around)))
 
 null_grows : (at : Pos) (around : Around) (n : Place) (t : Tables) → StatementGrows (plain.null at) around n t
 unfolding StatementGrows
@@ -280,6 +304,8 @@ mutual
   declaration_more (plain.array first others low high mark) n t = array_grows first others low high mark n t
   declaration_more (plain.exception first others) n t = exception_grows first others n t
   declaration_more (plain.procedure at i fs ds b) n t = procedure_grows at i fs ds b n t (λ m u. declarations_more ds m u) (λ within m u. body_more b within m u)
+  declaration_more (plain.task at is_type i x) n t = task_declaration_grows at is_type i x n t
+  declaration_more (plain.task_body at i ds b) n t = task_body_grows at i ds b n t (λ m u. declarations_more ds m u) (λ within m u. body_more b within m u)
 
 pub statement_grows : (x : plain.Statement) (around : Around) (n : Place) (t : Tables) → Grows t (s.checked_statement x around n t).tables
 unfolding StatementGrows
@@ -314,14 +340,15 @@ unfolding DeclarationGrows
 declaration_grows x n t = declaration_more x n t
 
 -- of a body that is entered
-pub entered_grows : (ds : plain.Declarations) (b : plain.Body) (around : Around) (n : Place) (t : Tables) → Grows t (s.entered_body ds b around n t).tables
-entered_grows ds b around n t = entering_grows ds b around n t (declarations_more ds n (region_kept t)) (λ m u. body_more b around m u)
+pub entered_grows : (of_task : Bool) (ds : plain.Declarations) (b : plain.Body) (around : Around) (n : Place) (t : Tables) → Grows t (s.entered_body of_task ds b around n t).tables
+entered_grows of_task ds b around n t = entering_grows of_task ds b around n t (declarations_more ds n (region_kept t)) (λ m u. body_more b around m u)
 
 -- What a construct enters stands in the plan, as it is behind the construct.
 
 pub record InPlan (plan : Plan) (t u : Tables) : Type 0 where
   pub regions : (n : ℕ) → length t.regions ≤ n → n < length u.regions → table plan n ≡ slice_index_or u.regions n []
   pub exceptions : length u.exceptions ≤ length plan.exceptions
+  pub tasks : (n : ℕ) → n < length u.tasks → (n < length plan.tasks) × ((slice_index_or plan.tasks n no_task).unit ≡ slice_index_or u.tasks n 0)
 
 module _ (plan : Plan) where
   regions_longer : (t u : Tables) → Grows t u → length t.regions ≤ length u.regions
@@ -332,10 +359,13 @@ module _ (plan : Plan) where
   first_in_plan t u v g h = record {
     regions = λ n after before. h.regions n after (omega (arith, before, regions_longer u v g)) ∙ ap (λ z. slice_index_or z n []) g.regions ∙ get_or_append_left u.regions g.more_regions [] n before;
     exceptions = omega (arith, g.exceptions, h.exceptions);
+    tasks = λ n lt.
+        let there = h.tasks n (omega (arith, lt, ap length g.tasks, length-append u.tasks g.more_tasks)) in
+        (there.0, there.1 ∙ ap (λ z. slice_index_or z n 0) g.tasks ∙ get_or_append_left u.tasks g.more_tasks 0 n lt);
   }
 
   pub second_in_plan : (t u v : Tables) → Grows t u → InPlan plan t v → InPlan plan u v
-  second_in_plan t u v g h = record { regions = λ n after before. h.regions n (omega (arith, after, regions_longer t u g)) before; exceptions = h.exceptions }
+  second_in_plan t u v g h = record { regions = λ n after before. h.regions n (omega (arith, after, regions_longer t u g)) before; exceptions = h.exceptions; tasks = h.tasks }
 
   kept_longer : (t u : Tables) → Grows (region_kept t) u → length t.regions < length u.regions
   kept_longer t u g = omega (arith, regions_longer (region_kept t) u g, length_push t.regions [])
@@ -353,6 +383,7 @@ module _ (plan : Plan) where
         let one = length_push t.regions [] in
         h.regions n (omega (arith, after, one)) (omega (arith, before, long)) ∙ get_or-set_other u.regions (length t.regions) n shown [] (λ e. omega (arith, e, after, one));
     exceptions = h.exceptions;
+    tasks = h.tasks;
   }
 
   -- a region that is entered with its names

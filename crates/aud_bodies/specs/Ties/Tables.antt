@@ -2,6 +2,7 @@
 use Rattle.std.specs.Prelude.{List, map, Vec}
 use Rattle.std.specs.Global.{Global}
 use Rattle.aud_typed.specs.Ties.View.{plain_region, plain_unit}
+use Rattle.aud_typed.specs.declared.program.TaskType.{TaskType}
 use Rattle.aud_names.specs.declared.names.Parameter.{Parameter}
 use Rattle.aud_bodies.specs.declared.tables.Tables as memory
 use Rattle.aud_bodies.specs.Tables.{Tables}
@@ -16,4 +17,5 @@ plain_tables t = record {
   exceptions = t.exceptions.items;
   profiles = plain_profiles t.profiles;
   units = map plain_unit t.units.items;
+  tasks = map (λ (task : TaskType). task.unit) t.tasks.items;
 }

@@ -86,7 +86,7 @@ module _ (lines : List Line) where
       let rest = starts_framed bs (at + body_size b 1) it.back in
       ((unit_begins b at it.front, rest.0), rest.1)
 
-whole : (lines : List Line) → HasAt lines 0 lines
+pub whole : (lines : List Line) → HasAt lines 0 lines
 whole lines = record { rest = []; is = sym (append-nil lines) }
 
 -- each step leaves the frames open that are to be open where it leads

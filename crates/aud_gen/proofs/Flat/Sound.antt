@@ -8,10 +8,12 @@ use Rattle.aud_code.specs.Instruction.{Instruction}
 use Rattle.aud_code.specs.Flat.{EndLine, FlatLine, instructs, end}
 use Rattle.aud_gen.specs.Assembly.{offset, guard_moved, last_by, way_moved, end_line, instructions_by, assembled_from, flat_program}
 use Rattle.aud_code.specs.Sound.{IsStart, EachStart, WayStart, GuardsStart, LastLeads, Leads, IsSound}
+use Rattle.aud_gen.specs.Activations.{ActivatesInParts}
 use Rattle.aud_gen.proofs.Flat.Starting.{starts_fine}
 use Rattle.aud_gen.proofs.Flat.Within.{PlacesIn, WayIn, GuardsIn, WhatIn, LineIn, LinesIn, one_and}
 use Rattle.aud_gen.proofs.Flat.Beginning.{places_within, begins}
 use Rattle.aud_gen.proofs.Flat.FramesLaw.{each_fits, bodies_framed}
+use Rattle.aud_gen.proofs.Flat.Activating.{LineActivates, EachActivates, one_then, each_activates}
 
 abbrev IsEnd : Option FlatLine → Type 0
 IsEnd None = ⊥
@@ -43,8 +45,9 @@ module _ (f : ℕ → ℕ) (T : ℕ) (X : List FlatLine) (start : (n : ℕ) → 
   lasts (ends c next) h = start next h
   lasts (leaves n next) h = start next h
 
-  line_leads : (l : Line) → LineIn T l → Leads X (end_line f l)
-  line_leads l h = record { out = start l.out h.out; ways = each l.ways h.ways; bodies = each l.bodies h.bodies; exit = way l.exit h.exit; last = lasts l.what h.what }
+  line_leads : (l : Line) → LineIn T l → LineActivates f X l → Leads X (end_line f l)
+  line_leads l h k =
+      record { out = start l.out h.out; ways = each l.ways h.ways; bodies = each l.bodies h.bodies; exit = way l.exit h.exit; last = lasts l.what h.what; activates = k.before }
 
   among : (is : List Instruction) (e : EndLine) (rest : List FlatLine) (n : ℕ) → Leads X e → ((m : ℕ) (l : EndLine) → slice_get rest m ≡ Some (end l) → Leads X l) → (l : EndLine) → slice_get ((map instructs is ++ end e ∷ []) ++ rest) n ≡ Some (end l) → Leads X l
   among [] e rest zero h more l g = subst (Leads X) (ap (end_or e) g) h
@@ -52,10 +55,10 @@ module _ (f : ℕ → ℕ) (T : ℕ) (X : List FlatLine) (start : (n : ℕ) → 
   among (i ∷ is) e rest zero h more l g = absurd (subst IsEnd (sym g) tt)
   among (i ∷ is) e rest (suc n) h more l g = among is e rest n h more l g
 
-  leads_in : (ls : List Line) → LinesIn T ls → (n : ℕ) (l : EndLine) → slice_get (assembled_from f ls) n ≡ Some (end l) → Leads X l
-  leads_in [] h zero l g = absurd (subst IsEnd (sym g) tt)
-  leads_in [] h (suc n) l g = absurd (subst IsEnd (sym g) tt)
-  leads_in (x ∷ ls) (one_and h hs) n l g = among (instructions_by x.what) (end_line f x) (assembled_from f ls) n (line_leads x h) (λ m k e. leads_in ls hs m k e) l g
+  leads_in : (ls : List Line) → LinesIn T ls → EachActivates f X ls → (n : ℕ) (l : EndLine) → slice_get (assembled_from f ls) n ≡ Some (end l) → Leads X l
+  leads_in [] h a zero l g = absurd (subst IsEnd (sym g) tt)
+  leads_in [] h a (suc n) l g = absurd (subst IsEnd (sym g) tt)
+  leads_in (x ∷ ls) (one_and h hs) (one_then k ks) n l g = among (instructions_by x.what) (end_line f x) (assembled_from f ls) n (line_leads x h k) (λ m j e. leads_in ls hs ks m j e) l g
 
 starts_in : (T : ℕ) (bs : List Body) (at : ℕ) → at + length (units_code bs at) ≤ T → PlacesIn T (starts_from bs at)
 starts_in T [] at h = tt
@@ -73,8 +76,8 @@ spare_in T (b ∷ bs) at h =
     let m = length-append (unit_code b at) (units_code bs next) in
     spare_in T bs next (omega (arith, h, n, m))
 
-pub code_is_sound : (program : Program) → IsSound (flat_program program)
-code_is_sound program =
+pub code_is_sound : (program : Program) → ActivatesInParts program → IsSound (flat_program program)
+code_is_sound program activates =
     let lines = (code_of program).lines in
     let f = offset lines in
     let T = length lines in
@@ -82,7 +85,7 @@ code_is_sound program =
     let all : 0 + length (units_code program.bodies 0) ≤ T = omega arith in
     record {
       operands = λ n h. starts_fine f lines n h n;
-      leads = λ n l g. leads_in f T X (λ k h. begins f lines k h) lines (places_within program) n l g;
+      leads = λ n l g. leads_in f T X (λ k h. begins f lines k h) lines (places_within program) (each_activates program activates) n l g;
       starts = (each f T X (λ k h. begins f lines k h) (starts_from program.bodies 0) (starts_in T program.bodies 0 all), begins f lines (spare_from program.bodies 0) (spare_in T program.bodies 0 all));
       frames = each_fits program;
       framed = bodies_framed program;

@@ -1,5 +1,5 @@
 -- Trees of declarations and statements in memory, as items of the reading.
-use Rattle.std.specs.Prelude.{List, [], ◌∷◌, Option, Some, None, Box, Vec}
+use Rattle.std.specs.Prelude.{List, [], ◌∷◌, Bool, Option, Some, None, Box, Vec}
 use Rattle.std.specs.Global.{Global}
 use Rattle.aud_text.specs.declared.place.Pos.{Pos}
 use Rattle.aud_syntax.specs.declared.tree.Ident.{Ident}
@@ -7,6 +7,7 @@ use Rattle.aud_syntax.specs.declared.tree.Identifiers.{Identifiers}
 use Rattle.aud_syntax.specs.declared.tree.Simple.{Simple}
 use Rattle.aud_syntax.specs.declared.tree.Expression.{Expression}
 use Rattle.aud_syntax.specs.declared.tree.Formal.{Formal}
+use Rattle.aud_syntax.specs.declared.tree.TaskDefinition.{TaskDefinition}
 use Rattle.aud_syntax.specs.declared.tree.Declaration.{Declaration}
 use Rattle.aud_syntax.specs.declared.tree.Statement.{Statement}
 use Rattle.aud_syntax.specs.declared.tree.Statements.{Statements}
@@ -16,8 +17,8 @@ use Rattle.aud_syntax.specs.declared.tree.Bound.{Bound}
 use Rattle.aud_syntax.specs.declared.tree.Handler.{Handler}
 use Rattle.aud_syntax.specs.declared.tree.Body.{Body}
 use Rattle.aud_syntax.specs.declared.tree.Unit as declared
-use Rattle.aud_syntax.specs.Ties.View.{plain_expression, plain_maybe, plain_formal, plain_declaration, plain_declarations, plain_statement, plain_statements, plain_iteration, plain_choices, plain_body, plain_unit}
-use Rattle.aud_grammar.specs.Actions.{Item, an_ident, assigned, called, some_names, a_variable, a_constant, a_declaration, a_statement, some_statements, a_body, a_unit, an_arm, an_iteration, a_bound, an_index, an_array, a_formal, a_declare, a_handler}
+use Rattle.aud_syntax.specs.Ties.View.{plain_expression, plain_maybe, plain_formal, plain_definition, plain_declaration, plain_declarations, plain_statement, plain_statements, plain_iteration, plain_choices, plain_body, plain_unit}
+use Rattle.aud_grammar.specs.Actions.{Item, an_ident, assigned, called, some_names, a_variable, a_constant, a_declaration, a_statement, some_statements, a_body, a_unit, an_arm, an_iteration, a_bound, an_index, an_array, a_formal, a_definition, a_task, a_declare, a_handler}
 use Rattle.aud_cursor.specs.Ties.Items.{vec_item, boxed_item}
 use Rattle.aud_phrase.specs.Ties.Items.{simple_item, expression_item}
 
@@ -53,6 +54,13 @@ formal_item x = a_formal (plain_formal x)
 -- the name and the formal parameters of a procedure
 abbrev pub specification_items : Ident × Vec Formal Global → List Item
 specification_items x = an_ident x.0 ∷ vec_item formal_item x.1 ∷ []
+
+abbrev pub definition_item : TaskDefinition → Item
+definition_item x = a_definition (record { end_name = x.end_name })
+
+-- whether a task type is declared, the name, and the definition, if there is one
+abbrev pub task_item : Bool × Ident × Option TaskDefinition → Item
+task_item x = a_task x.0 x.1 (plain_definition x.2)
 
 abbrev pub declaration_item : Declaration → Item
 declaration_item x = a_declaration (plain_declaration x)

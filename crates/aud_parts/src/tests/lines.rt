@@ -80,12 +80,14 @@ fn at(col: usize) -> Pos {
     Pos { line: 1, col }
 }
 
-// A body of these declarations and a null statement; its `begin`, that statement and its `end` stand in these columns.
-fn body(alloc: Global, declarations: Vec<Statement>, columns: [usize; 3]) -> Body {
+// A body of these declarations and a null statement, whose `begin` activates tasks or does not; its `begin`, that statement and
+// its `end` stand in these columns.
+fn body(alloc: Global, declarations: Vec<Statement>, activates: bool, columns: [usize; 3]) -> Body {
     let [begin, null, end] = columns;
     Body {
         declarations,
         begin: at(begin),
+        activates,
         statements: Statements {
             first: Statement::Null(at(null)),
             others: Vec::new(alloc),
@@ -117,7 +119,6 @@ fn with_a_task(alloc: Global) -> Result<Program, AllocError> {
     };
     let mut declared = Vec::new(alloc);
     declared.push(Statement::DeclareTasks(at(16), tasks))?;
-    declared.push(Statement::Activate(at(58)))?;
     let mut activated = Vec::new(alloc);
     activated.push(Statement::Activated(at(39)))?;
     let mut units = Vec::new(alloc);
@@ -125,13 +126,13 @@ fn with_a_task(alloc: Global) -> Result<Program, AllocError> {
         level: 0,
         region: 0,
         at: at(1),
-        body: body(alloc, declared, [58, 64, 70]),
+        body: body(alloc, declared, true, [58, 64, 70]),
     })?;
     units.push(Unit {
         level: 1,
         region: 1,
         at: at(24),
-        body: body(alloc, activated, [39, 45, 51]),
+        body: body(alloc, activated, false, [39, 45, 51]),
     })?;
     let mut types = Vec::new(alloc);
     types.push(TaskType { unit: 1 })?;

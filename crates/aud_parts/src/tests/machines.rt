@@ -197,6 +197,43 @@ fn comes(
     Ok(())
 }
 
+const TWO_TASKS: &[u8] = b"procedure M is task A; task B; task body A is begin null; end A;
+task body B is begin null; end B; begin null; end M;\n";
+
+// What is done with a machine of TWO_TASKS, and whose moves are enabled then.
+const MOVES: [(Act, &[usize]); 6] = [
+    (Act::Slice(0), &[0]),
+    // both are created, and begin together
+    (Act::Slice(3), &[1, 2]),
+    // the second one is activated, and the main procedure waits for the first one still
+    (Act::Take(1), &[1, 2]),
+    (Act::Take(0), &[0, 1, 2]),
+    (Act::Slice(100), &[]),
+    (Act::Reset, &[0]),
+];
+
+#[test]
+fn lists_its_moves(rt: HostRuntime) -> Result<(), Fail> {
+    let alloc = rt.alloc();
+    let mut machine = Machine::new(alloc, load(alloc, STANDARD, TWO_TASKS)?, SMALL)?;
+    lists(&rt, alloc, &mut machine, &MOVES)?;
+    Ok(())
+}
+
+fn lists(
+    rt: &impl Abort,
+    alloc: Global,
+    machine: &mut Machine,
+    rows: &[(Act, &[usize])],
+) -> Result<(), AllocError> {
+    for (act, wanted) in rows {
+        does(rt, alloc, machine, *act)?;
+        let tasks = machine.moves(alloc)?;
+        assert_eq!(rt; tasks.as_slice(), *wanted);
+    }
+    Ok(())
+}
+
 #[test]
 fn puts_the_answer(rt: HostRuntime) -> Result<(), Fail> {
     meets(&rt, rt.alloc(), SUM, &PUTS)

@@ -22,11 +22,11 @@ fn takes_turns(
 ) -> Result<(), AllocError> {
     let mut progress = Progress::new(code, units, alloc)?;
     let mut task = Parked::created(code, units, 1, progress.store().display(), alloc)?;
-    assert_eq!(rt; task.stack().display(), [0].as_slice());
+    assert_eq!(rt; task.standing().stack.display(), [0].as_slice());
     progress.exchange(&mut task);
     assert_eq!(rt; progress.place(), code.start(1));
-    assert_eq!(rt; task.place(), code.start(0));
-    assert_eq!(rt; task.stage(), progress.stage());
+    assert_eq!(rt; task.standing().place, code.start(0));
+    assert_eq!(rt; task.standing().stage, progress.stage());
     progress.exchange(&mut task);
     assert_eq!(rt; progress.place(), code.start(0));
     assert_eq!(rt; progress.store().innermost().is_some(), true);

@@ -67,3 +67,15 @@ fn control_flow_clauses_and_names_with_parts(rt: HostRuntime) -> Result<(), Fail
         T ( 1 , 2 ) . U := V ( 3 ) . W ' IMAGE ;\nNEW_LINE ;\nend ;\n";
     expect_canonical(&rt, rt.alloc(), source, text)
 }
+
+#[test]
+fn tasks_and_their_bodies(rt: HostRuntime) -> Result<(), Fail> {
+    let source = b"procedure P is task T;TASK type U is end u;A:array(1..2)of U;task V is end;\n\
+        task body T is X:U;begin null;end t;task Body U is begin null;exception when others=>null;end;\n\
+        begin if T'callable and not A(1)'Terminated then null;end if;end;";
+    let text =
+        b"procedure P is\ntask T ;\ntask type U is\nend U ;\nA : array ( 1 .. 2 ) of U ;\ntask V is\nend ;\n\
+        task body T is\nX : U ;\nbegin\nnull ;\nend T ;\ntask body U is\nbegin\nnull ;\nexception\n\
+        when others =>\nnull ;\nend ;\nbegin\nif T ' CALLABLE and not A ( 1 ) ' TERMINATED then\nnull ;\nend if ;\nend ;\n";
+    expect_canonical(&rt, rt.alloc(), source, text)
+}

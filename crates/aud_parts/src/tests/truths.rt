@@ -9,14 +9,14 @@ use aud_expr::evaluate::{Evaluation, Outcome, evaluate};
 use aud_expr::facts::Known;
 use aud_expr::operands::Operands;
 use aud_meaning::state::Construct;
-use aud_single::progress::Progress;
-use aud_single::run::run;
 use aud_store::frames::Frames;
+use aud_tasks::execution::{Compiled, Execution};
 use aud_text::int32::Int32;
-use aud_text::limits::STEPS;
+use aud_text::limits::{STANDARD, STEPS};
+use aud_text::name::Name;
 use aud_text::place::Pos;
 use aud_text::raise::Raise;
-use aud_typed::program::{Binary, Logical, Relation};
+use aud_typed::program::{Binary, Logical, Program, Relation};
 use std::alloc::{AllocError, Global};
 use std::process::Abort;
 use std::test::Fail;
@@ -455,6 +455,17 @@ fn deciding(alloc: Global, given: &[Given], ending: Ending) -> Result<Code, Allo
     code(alloc, &steps, end)
 }
 
+// What is looked up beside code that is built by hand.
+fn without_bodies(alloc: Global) -> Result<Program, AllocError> {
+    Ok(Program {
+        name: Name::from_source(alloc, b"M")?,
+        units: Vec::new(alloc),
+        tasks: Vec::new(alloc),
+        regions: Vec::new(alloc),
+        exceptions: Vec::new(alloc),
+    })
+}
+
 fn puts(
     rt: &impl Abort,
     alloc: Global,
@@ -462,12 +473,18 @@ fn puts(
     code: &SoundCode,
     wanted: &[u8],
 ) -> Result<(), AllocError> {
-    let mut progress = Progress::new(code, &[], alloc)?;
+    let program = without_bodies(alloc)?;
+    let compiled = Compiled {
+        code,
+        program: &program,
+        limits: STANDARD,
+    };
+    let mut execution = Execution::new(alloc, compiled)?;
     let mut operands = Operands::new(alloc);
-    let few = (STEPS - progress.steps()).min(100);
-    let ran = run(&mut progress, code, &[], &mut operands, few)?;
+    let few = (STEPS - execution.steps()).min(100);
+    let ran = execution.run(alloc, compiled, &mut operands, few)?;
     assert_eq!(rt; ran.steps, 4, "{name}");
-    finds(rt, name, progress.output(), wanted);
+    finds(rt, name, execution.output(), wanted);
     Ok(())
 }
 

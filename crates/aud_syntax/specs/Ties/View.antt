@@ -15,8 +15,11 @@ use Rattle.aud_syntax.specs.declared.tree.Multiplied.{Multiplied}
 use Rattle.aud_syntax.specs.declared.tree.Factor.{Factor}
 use Rattle.aud_syntax.specs.declared.tree.Primary.{Primary, Integer, Text, Name', Attribute', Group', Held-Primary-Attribute-2, None', Some'}
 use Rattle.aud_syntax.specs.declared.tree.Formal.{Formal}
-use Rattle.aud_syntax.specs.declared.tree.Declaration.{Declaration, Object, Constant, Array, Exception, Procedure'}
+use Rattle.aud_syntax.specs.declared.tree.Declaration.{Declaration, Object, Constant, Array, Exception, Procedure', Task, TaskBody'}
 use Rattle.aud_syntax.specs.declared.tree.ProcedureDeclaration.{ProcedureDeclaration, ProcedureDeclaration', out-ProcedureDeclaration}
+use Rattle.aud_syntax.specs.declared.tree.TaskDefinition.{TaskDefinition}
+use Rattle.aud_syntax.specs.declared.tree.TaskDeclaration.{TaskDeclaration}
+use Rattle.aud_syntax.specs.declared.tree.TaskBody as task
 use Rattle.aud_syntax.specs.declared.tree.LoopParameter.{LoopParameter}
 use Rattle.aud_syntax.specs.declared.tree.Choices.{Choices}
 use Rattle.aud_syntax.specs.declared.tree.Choices.TheVariants as choices
@@ -127,6 +130,15 @@ plain_boxed (Some e) = m.an_expression (plain_expression e.value)
 abbrev pub plain_formal : Formal → m.Formal
 plain_formal x = m.formal x.names.first x.names.others.items x.mode x.subtype
 
+-- RM 9.1(4)
+abbrev pub plain_definition : Option TaskDefinition → Option m.TaskDefinition
+plain_definition None = None
+plain_definition (Some x) = Some (record { end_name = x.end_name })
+
+-- RM 9.1
+abbrev pub plain_task : TaskDeclaration → m.Declaration
+plain_task x = m.task x.at x.is_type x.name (plain_definition x.definition)
+
 -- RM 5.5(4)
 abbrev pub plain_parameter : LoopParameter → m.Iteration
 plain_parameter x = m.for x.name x.reverse (plain_simple x.low) (plain_simple x.high)
@@ -149,6 +161,8 @@ abbrev mutual
   plain_declaration (Array names low high subtype) = m.array names.first names.others.items low high subtype
   plain_declaration (Exception names) = m.exception names.first names.others.items
   plain_declaration (Procedure' _ x) = plain_procedure x
+  plain_declaration (Task x) = plain_task x
+  plain_declaration (TaskBody' _ x) = plain_task_body x
 
   pub plain_declaration_row : {n : _} → Row_of-Declaration n → m.Declarations
   plain_declaration_row end_of-Declaration = m.no_declarations
@@ -157,6 +171,10 @@ abbrev mutual
   -- RM 6.3
   pub plain_procedure : ProcedureDeclaration → m.Declaration
   plain_procedure (ProcedureDeclaration' at i formals _ declarations x) = m.procedure at i (map plain_formal formals.items) (plain_declaration_row declarations) (plain_body x)
+
+  -- RM 9.1(6)
+  pub plain_task_body : task.TaskBody → m.Declaration
+  plain_task_body (task.TaskBody' at i _ declarations x) = m.task_body at i (plain_declaration_row declarations) (plain_body x)
 
   pub plain_statement : Statement → m.Statement
   plain_statement (Null at) = m.null at
@@ -204,6 +222,12 @@ abbrev pub plain_procedure_parts : ProcedureDeclaration → m.Declaration
 plain_procedure_parts s =
     let x = out-ProcedureDeclaration s in
     m.procedure x.at x.name (map plain_formal x.formals.items) (plain_declarations x.declarations.items) (plain_body x.body)
+
+-- RM 9.1(6)
+abbrev pub plain_task_body_parts : task.TaskBody → m.Declaration
+plain_task_body_parts s =
+    let x = task.out-TaskBody s in
+    m.task_body x.at x.name (plain_declarations x.declarations.items) (plain_body x.body)
 
 abbrev pub plain_others : List Statement → m.MoreStatements
 plain_others [] = m.no_statements

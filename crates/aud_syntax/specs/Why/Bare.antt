@@ -9,7 +9,7 @@ use Rattle.aud_syntax.specs.declared.tree.Operator.{Operator}
 use Rattle.aud_syntax.specs.declared.tree.Bound.{Bound}
 use Rattle.aud_syntax.specs.declared.tree.Mode.{Mode}
 use Rattle.aud_syntax.specs.declared.tree.Mode.TheVariants as mode
-use Rattle.aud_syntax.specs.Plain.{Expression, alone, connected, Relations, no_relations, more_relations, Relation, unrelated, related, Simple, simple, Addeds, no_addeds, more_addeds, Added, added, Term, term, Multiplieds, no_multiplieds, more_multiplieds, Multiplied, multiplied, Factor, factor, Primary, integer, text, name, attribute, group, MaybeExpression, no_expression, an_expression, Name, named, Parts, no_parts, more_parts, NamePart, part, Args, no_args, more_args, Formal, formal, Declaration, object, constant, array, exception, procedure, Declarations, no_declarations, more_declarations, Statement, null, assign, call, if_then, loop, exit, block, return, raise, Arms, no_arms, more_arms, Iteration, forever, while, for, Choices, exceptions, others, Statements, in_order, MoreStatements, no_statements, more_statements, Body, body, Handlers, no_handlers, more_handlers, Context, with_text_io, use_text_io, Unit, unit}
+use Rattle.aud_syntax.specs.Plain.{Expression, alone, connected, Relations, no_relations, more_relations, Relation, unrelated, related, Simple, simple, Addeds, no_addeds, more_addeds, Added, added, Term, term, Multiplieds, no_multiplieds, more_multiplieds, Multiplied, multiplied, Factor, factor, Primary, integer, text, name, attribute, group, MaybeExpression, no_expression, an_expression, Name, named, Parts, no_parts, more_parts, NamePart, part, Args, no_args, more_args, Formal, formal, TaskDefinition, Declaration, object, constant, array, exception, procedure, task, task_body, Declarations, no_declarations, more_declarations, Statement, null, assign, call, if_then, loop, exit, block, return, raise, Arms, no_arms, more_arms, Iteration, forever, while, for, Choices, exceptions, others, Statements, in_order, MoreStatements, no_statements, more_statements, Body, body, Handlers, no_handlers, more_handlers, Context, with_text_io, use_text_io, Unit, unit}
 
 abbrev pub nowhere : Pos
 nowhere = record { line = 1; col = 1 }
@@ -115,6 +115,11 @@ bare_mode (mode.InOut at) = mode.InOut nowhere
 abbrev pub bare_formal : Formal → Formal
 bare_formal (formal x xs how subtype) = formal (bare_ident x) (map bare_ident xs) (bare_mode how) (bare_ident subtype)
 
+-- RM 9.1(4)
+abbrev pub bare_definition : Option TaskDefinition → Option TaskDefinition
+bare_definition None = None
+bare_definition (Some x) = Some (record { end_name = bare_end x.end_name })
+
 abbrev pub bare_iteration : Iteration → Iteration
 bare_iteration forever = forever
 bare_iteration (while e) = while (bare_expression e)
@@ -131,6 +136,8 @@ abbrev mutual
   bare_declaration (array x xs low high subtype) = array (bare_ident x) (map bare_ident xs) (bare_bound low) (bare_bound high) (bare_ident subtype)
   bare_declaration (exception x xs) = exception (bare_ident x) (map bare_ident xs)
   bare_declaration (procedure at x formals ds rest) = procedure nowhere (bare_ident x) (map bare_formal formals) (bare_declarations ds) (bare_body rest)
+  bare_declaration (task at is_type x definition) = task nowhere is_type (bare_ident x) (bare_definition definition)
+  bare_declaration (task_body at x ds rest) = task_body nowhere (bare_ident x) (bare_declarations ds) (bare_body rest)
 
   pub bare_declarations : Declarations → Declarations
   bare_declarations no_declarations = no_declarations

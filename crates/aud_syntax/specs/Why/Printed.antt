@@ -22,7 +22,7 @@ use Rattle.aud_syntax.specs.declared.tree.Connective.TheVariants as connective
 use Rattle.aud_syntax.specs.declared.tree.Bound.{Bound}
 use Rattle.aud_syntax.specs.declared.tree.Mode.{Mode}
 use Rattle.aud_syntax.specs.declared.tree.Mode.TheVariants as mode
-use Rattle.aud_syntax.specs.Plain.{Expression, alone, connected, Relations, no_relations, more_relations, Relation, unrelated, related, Simple, simple, Addeds, no_addeds, more_addeds, Added, added, Term, term, Multiplieds, no_multiplieds, more_multiplieds, Multiplied, multiplied, Factor, factor, Primary, integer, text, name, attribute, group, MaybeExpression, no_expression, an_expression, Name, named, Parts, no_parts, more_parts, NamePart, part, Args, no_args, more_args, Formal, formal, Declaration, object, constant, array, exception, procedure, Declarations, no_declarations, more_declarations, Statement, null, assign, call, if_then, loop, exit, block, return, raise, Arms, no_arms, more_arms, Iteration, forever, while, for, Choices, exceptions, others, Statements, in_order, MoreStatements, no_statements, more_statements, Body, body, Handlers, no_handlers, more_handlers, Context, with_text_io, use_text_io, Unit, unit}
+use Rattle.aud_syntax.specs.Plain.{Expression, alone, connected, Relations, no_relations, more_relations, Relation, unrelated, related, Simple, simple, Addeds, no_addeds, more_addeds, Added, added, Term, term, Multiplieds, no_multiplieds, more_multiplieds, Multiplied, multiplied, Factor, factor, Primary, integer, text, name, attribute, group, MaybeExpression, no_expression, an_expression, Name, named, Parts, no_parts, more_parts, NamePart, part, Args, no_args, more_args, Formal, formal, TaskDefinition, Declaration, object, constant, array, exception, procedure, task, task_body, Declarations, no_declarations, more_declarations, Statement, null, assign, call, if_then, loop, exit, block, return, raise, Arms, no_arms, more_arms, Iteration, forever, while, for, Choices, exceptions, others, Statements, in_order, MoreStatements, no_statements, more_statements, Body, body, Handlers, no_handlers, more_handlers, Context, with_text_io, use_text_io, Unit, unit}
 
 -- a name as the tree has it, in capitals (RM 2.3)
 abbrev pub ident_word : Ident → Word
@@ -246,10 +246,23 @@ assignment_words x e = name_words x ++ (word (codes ":=") ∷ (expression_words 
 abbrev pub call_words : Name → List Word
 call_words x = name_words x ++ (last_word (codes ";") ∷ [])
 
--- the name after `end`, the loop that is left, and the exception that is raised (RM 5.5, 5.7, 6.3, 11.3)
+-- the name after `end`, the loop that is left, and the exception that is raised (RM 5.5, 5.7, 6.3, 9.1, 11.3)
 abbrev pub end_words : Option Ident → List Word
 end_words None = []
 end_words (Some x) = ident_word x ∷ []
+
+-- RM 9.1
+abbrev pub type_words : Bool → List Word
+type_words true = word (codes "type") ∷ []
+type_words false = []
+
+-- RM 9.1(4)
+abbrev pub definition_words : Option TaskDefinition → List Word
+definition_words None = []
+definition_words (Some x) = last_word (codes "is") ∷ word (codes "end") ∷ end_words x.end_name
+
+abbrev pub task_words : Bool → Ident → Option TaskDefinition → List Word
+task_words is_type x definition = word (codes "task") ∷ (type_words is_type ++ (ident_word x ∷ (definition_words definition ++ (last_word (codes ";") ∷ []))))
 
 -- the name before a loop or a block (RM 5.5, 5.6)
 abbrev pub label_words : Option Ident → List Word
@@ -322,6 +335,8 @@ abbrev mutual
   declaration_words (array x xs low high subtype) = array_words x xs low high subtype
   declaration_words (exception x xs) = exception_words x xs
   declaration_words (procedure at x formals declarations rest) = word (codes "procedure") ∷ ident_word x ∷ (formals_words formals ++ (last_word (codes "is") ∷ (declarations_words declarations ++ body_words rest)))
+  declaration_words (task at is_type x definition) = task_words is_type x definition
+  declaration_words (task_body at x declarations rest) = word (codes "task") ∷ word (codes "body") ∷ ident_word x ∷ last_word (codes "is") ∷ (declarations_words declarations ++ body_words rest)
 
   pub declarations_words : Declarations → List Word
   declarations_words no_declarations = []

@@ -1,5 +1,5 @@
 -- The plain program of a program in memory. It has as yet nothing of entries and objects.
-use Rattle.std.specs.Prelude.{List, [], ◌∷◌, map, None, Vec}
+use Rattle.std.specs.Prelude.{List, [], ◌∷◌, ◌++◌, map, None, Vec}
 use Rattle.std.specs.Global.{Global}
 use Rattle.aud_typed.specs.declared.program.IntegerExpression.{IntegerExpression, Number, Variable, Element', Unary', Chain', Row_of-Operation, end_of-Operation, more_of-Operation}
 use Rattle.aud_typed.specs.declared.program.Connective.{Connective}
@@ -15,7 +15,7 @@ use Rattle.aud_typed.specs.declared.program.Reference.TheVariants as reference
 use Rattle.aud_typed.specs.declared.program.Argument.{Argument}
 use Rattle.aud_typed.specs.declared.program.Argument.TheVariants.{ByValue, ByCopy}
 use Rattle.aud_typed.specs.declared.program.TextExpression.{TextExpression, Literal, Image, ImageTruth, Join', NewLine, Row_of-TextExpression, end_of-TextExpression, more_of-TextExpression}
-use Rattle.aud_typed.specs.declared.program.Statement.{Statement, Declare, DeclareArray, DeclareTasks, Activated, Activate, Null, Assign, Put, If', While', Loop', For', Exit, Raise, RaiseAgain, Block', Return, ProcedureCall, Row_of-Statement, end_of-Statement, more_of-Statement}
+use Rattle.aud_typed.specs.declared.program.Statement.{Statement, Declare, DeclareArray, DeclareTasks, Activated, Null, Assign, Put, If', While', Loop', For', Exit, Raise, RaiseAgain, Block', Return, ProcedureCall, Row_of-Statement, end_of-Statement, more_of-Statement}
 use Rattle.aud_typed.specs.declared.program.Tasks.{Tasks}
 use Rattle.aud_typed.specs.declared.program.IfStatement.{IfStatement, IfStatement', out-IfStatement, Row_of-Arm, end_of-Arm, more_of-Arm}
 use Rattle.aud_typed.specs.declared.program.Arm.{Arm}
@@ -32,7 +32,7 @@ use Rattle.aud_typed.specs.declared.program.Unit as declared
 use Rattle.aud_typed.specs.declared.program.TaskType.{TaskType}
 use Rattle.aud_typed.specs.declared.program.Program.{Program}
 use Rattle.aud_typed.specs.Tree as tree
-use Rattle.aud_typed.specs.Tree.{before, part_of, Part, some, Handlers, no_handlers, handler}
+use Rattle.aud_typed.specs.Tree.{before, part_of, activation, Part, some, Handlers, no_handlers, handler}
 
 abbrev mutual
   pub plain_integer : IntegerExpression → tree.IntegerExpression
@@ -112,7 +112,6 @@ abbrev mutual
   plain_statement (DeclareArray at t n) = tree.declare_array at t n
   plain_statement (DeclareTasks at ts) = tree.declare_tasks at (plain_tasks ts)
   plain_statement (Activated at) = tree.activated at
-  plain_statement (Activate at) = tree.activate at
   plain_statement (Null at) = tree.null at
   plain_statement (Assign at r e) = tree.assign at (plain_reference r) (plain_value e)
   plain_statement (Put at t) = tree.put at (plain_text t)
@@ -148,8 +147,8 @@ abbrev mutual
   plain_handlers (more_of-Handler others choices first _ more rest) = handler others choices.items (before (plain_statement first) (plain_row more)) (plain_handlers rest)
 
   pub plain_body : Body → tree.Body
-  plain_body (Body' _ declarations begin first _ others _ handlers end) =
-      tree.body (part_of (plain_row declarations)) begin (before (plain_statement first) (plain_row others)) (plain_handlers handlers) end
+  plain_body (Body' _ declarations begin activates first _ others _ handlers end) =
+      tree.body (part_of (plain_row declarations ++ activation activates begin)) begin (before (plain_statement first) (plain_row others)) (plain_handlers handlers) end
 
 abbrev pub plain_statements : List Statement → List tree.Statement
 plain_statements ss = map plain_statement ss
@@ -207,10 +206,14 @@ abbrev pub handlers_in : List Handler → Handlers
 handlers_in [] = no_handlers
 handlers_in (h ∷ hs) = handler h.others h.choices.items (statements_in h.statements) (handlers_in hs)
 
+-- what is done before the statements of a body: its declarations, and the activation at its `begin`
+abbrev pub elaborations_in : Body → List tree.Statement
+elaborations_in body = let b = out-Body body in plain_statements b.declarations.items ++ activation b.activates b.begin
+
 abbrev pub body_in : Body → tree.Body
 body_in body =
     let b = out-Body body in
-    tree.body (part_of (plain_statements b.declarations.items)) b.begin (statements_in b.statements) (handlers_in b.handlers.items) b.end
+    tree.body (part_of (elaborations_in body)) b.begin (statements_in b.statements) (handlers_in b.handlers.items) b.end
 
 abbrev pub block_in : BlockStatement → tree.Statement
 block_in s = tree.block (out-BlockStatement s).at (out-BlockStatement s).region (body_in (out-BlockStatement s).body)

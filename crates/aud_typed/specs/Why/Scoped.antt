@@ -1,11 +1,12 @@
 -- Each variable that is read or assigned has been elaborated (RM 3.3.1, 8.3), and each table, exception and procedure is there: the
--- items that a typed program names are there. As yet it is said of programs of procedures, with the statements below, and of no others.
+-- items that a typed program names are there. As yet it is said of programs of procedures and tasks, with the statements below, and of
+-- no others.
 use Rattle.std.specs.Prelude.{◌≡◌, ℕ, suc, ◌+◌, ◌-◌, max, ◌<◌, ◌≤◌, List, [], ◌∷◌, ◌++◌, length, slice_index_or, None}
 use Rattle.aud_typed.specs.declared.program.Variable.{Variable}
 use Rattle.aud_typed.specs.declared.program.ArrayAt.{ArrayAt}
 use Rattle.aud_typed.specs.declared.program.Exception.{Exception}
 use Rattle.aud_typed.specs.declared.program.Exception.TheVariants.{Predefined, Declared}
-use Rattle.aud_typed.specs.Tree.{Argument, by_value, by_copy, Calling, UnitPlan, IntegerExpression, number, variable, element, unary, binary, count, BooleanExpression, truth, stored, negation, relation, comparison, logical, and_then, or_else, ValueExpression, whole, boolean, Reference, scalar, component, TextExpression, literal, image, image_truth, join, new_line, Statement, sequence, declare, declare_array, null, assign, put, if_then, plain_loop, while_loop, for_loop, exit, return, raising, raising_again, block, procedure_call, Part, nothing, some, Handlers, no_handlers, handler, Body, body, Shown, as_whole, as_truth, as_wholes, as_truths, hidden, Named, Plan, Program}
+use Rattle.aud_typed.specs.Tree.{Argument, by_value, by_copy, Calling, UnitPlan, TaskPlan, IntegerExpression, number, variable, element, unary, binary, count, TaskName, single, indexed, BooleanExpression, truth, stored, negation, relation, comparison, logical, and_then, or_else, callable, terminated, ValueExpression, whole, boolean, Reference, scalar, component, TextExpression, literal, image, image_truth, join, new_line, Tasks, Statement, sequence, declare, declare_array, declare_tasks, activated, activate, null, assign, put, if_then, plain_loop, while_loop, for_loop, exit, return, raising, raising_again, block, procedure_call, Part, nothing, some, Handlers, no_handlers, handler, Body, body, Shown, as_whole, as_truth, as_wholes, as_truths, hidden, Named, Plan, Program}
 
 -- how many names of an open frame are elaborated, and how many cells they have
 pub record Elaborated : Type 0 where
@@ -43,6 +44,10 @@ abbrev pub ReferenceScoped : Reference → Scope → Type 0
 ReferenceScoped (scalar v subtype) scope = IsElaborated v scope
 ReferenceScoped (component a index subtype) scope = AreElaborated a scope × IntegerScoped index scope
 
+abbrev pub TaskScoped : TaskName → Scope → Type 0
+TaskScoped (single v) scope = IsElaborated v scope
+TaskScoped (indexed a index) scope = AreElaborated a scope × IntegerScoped index scope
+
 abbrev pub BooleanScoped : BooleanExpression → Scope → Type 0
 BooleanScoped (truth b) scope = Unit {0}
 BooleanScoped (stored r) scope = ReferenceScoped r scope
@@ -52,7 +57,8 @@ BooleanScoped (comparison operator x y) scope = BooleanScoped x scope × Boolean
 BooleanScoped (logical operator x y) scope = BooleanScoped x scope × BooleanScoped y scope
 BooleanScoped (and_then x y) scope = BooleanScoped x scope × BooleanScoped y scope
 BooleanScoped (or_else x y) scope = BooleanScoped x scope × BooleanScoped y scope
-BooleanScoped _ scope = ⊥
+BooleanScoped (callable t) scope = TaskScoped t scope
+BooleanScoped (terminated t) scope = TaskScoped t scope
 
 abbrev pub ValueScoped : ValueExpression → Scope → Type 0
 ValueScoped (whole subtype x) scope = IntegerScoped x scope
@@ -93,6 +99,7 @@ abbrev pub scope_after : Statement → Scope → Scope
 scope_after (sequence a b) scope = scope_after b (scope_after a scope)
 scope_after (declare at up_to e) scope = in_innermost (declared_up_to up_to) scope
 scope_after (declare_array at t n) scope = in_innermost (declared_with n) scope
+scope_after (declare_tasks at ts) scope = in_innermost (declared_with ts.length) scope
 scope_after _ scope = scope
 
 abbrev pub scope_behind : Part → Scope → Scope
@@ -149,6 +156,13 @@ module _ (plan : Plan) where
   AllThere [] = Unit {0}
   AllThere (x ∷ xs) = IsThere x × AllThere xs
 
+-- the body of a type of tasks
+abbrev pub no_task : TaskPlan
+no_task = record { unit = 0; entries = [] }
+
+abbrev pub task_of : Plan → Tasks → TaskPlan
+task_of plan ts = slice_index_or plan.tasks ts.task_type no_task
+
 module _ (plan : Plan) (entries : List Entry) where
   -- a procedure's call: of a unit that is there, with as many arguments as it has formals, where the frames that it sees are open
   abbrev pub CallScoped : Calling → Scope → Type 0
@@ -159,12 +173,35 @@ module _ (plan : Plan) (entries : List Entry) where
       × ArgumentsScoped c.arguments scope
       × (c.into ≡ None)
 
+  -- tasks of a type that is there, and whose body is, where the frames that it sees are open: its own number is all that is elaborated
+  -- in its own frame when it begins
+  abbrev pub TasksScoped : Tasks → Scope → Type 0
+  TasksScoped ts scope =
+      (ts.task_type < length plan.tasks)
+      × ((task_of plan ts).unit < length entries)
+      × ((entry_of entries (task_of plan ts).unit).formals ≡ 1)
+      × AreOpen (entry_of entries (task_of plan ts).unit).outer scope
+
+  -- the tasks that declarations create begin behind all of them (RM 9.2(3))
+  abbrev pub CreatedScoped : Statement → Scope → Type 0
+  CreatedScoped (sequence a b) scope = CreatedScoped a scope × CreatedScoped b scope
+  CreatedScoped (declare_tasks at ts) scope = TasksScoped ts scope
+  CreatedScoped _ scope = Unit {0}
+
+  abbrev pub AllCreatedScoped : Part → Scope → Type 0
+  AllCreatedScoped nothing scope = Unit {0}
+  AllCreatedScoped (some s) scope = CreatedScoped s scope
+
   abbrev mutual
     pub StatementScoped : Statement → Scope → Type 0
     StatementScoped (sequence a b) scope = StatementScoped a scope × StatementScoped b (scope_after a scope)
     -- in what is elaborated before it; each variable more only adds to that
     StatementScoped (declare at up_to e) scope = ValueScoped e scope
     StatementScoped (declare_array at t n) scope = Unit {0}
+    -- what they see is asked where they begin
+    StatementScoped (declare_tasks at ts) scope = Unit {0}
+    StatementScoped (activated at) scope = Unit {0}
+    StatementScoped (activate at) scope = Unit {0}
     StatementScoped (null at) scope = Unit {0}
     StatementScoped (assign at r e) scope = ReferenceScoped r scope × ValueScoped e scope
     StatementScoped (put at t) scope = TextScoped t scope
@@ -193,6 +230,7 @@ module _ (plan : Plan) (entries : List Entry) where
     BodyScoped (body d begin s h end) first names scope =
         PartScoped d (scope ++ first ∷ [])
         × (scope_behind d (scope ++ first ∷ []) ≡ scope ++ all_of_table names ∷ [])
+        × AllCreatedScoped d (scope ++ all_of_table names ∷ [])
         × StatementScoped s (scope ++ all_of_table names ∷ [])
         × HandlersScoped h (scope ++ all_of_table names ∷ [])
 

@@ -1,24 +1,27 @@
-use Rattle.std.proofs.Common.{◌≡◌, ◌+◌, ◌++◌, drop, map, sym, ap, subst, ◌∙◌, refl, arith, true, false}
+use Rattle.std.proofs.Common.{IfOk, ◌≡◌, ◌+◌, ◌++◌, ◌∷◌, drop, map, sym, ap, subst, ◌∙◌, refl, arith, true, false}
 use Rattle.std.proofs.lemmas.List.{drop_all}
 use Rattle.std.specs.Prelude.{ℕ, List, Box, Vec, Ok, OnOk, is_some}
 use Rattle.std.specs.Global.{Global}
 use Rattle.aud_syntax.specs.declared.tree.IfStatement.{out-IfStatement}
 use Rattle.aud_syntax.specs.declared.tree.BlockStatement.{out-BlockStatement}
 use Rattle.aud_syntax.specs.declared.tree.ProcedureDeclaration.{out-ProcedureDeclaration}
+use Rattle.aud_syntax.specs.declared.tree.TaskBody.{out-TaskBody}
 use Rattle.aud_syntax.specs.declared.tree.Body.{out-Body}
 use Rattle.aud_text.specs.declared.place.Pos.{Pos}
 use Rattle.aud_syntax.specs.Plain as m
 use Rattle.aud_typed.specs.declared.program.Arm as memory
 use Rattle.aud_typed.specs.Tree as tree
-use Rattle.aud_syntax.specs.Ties.View.{plain_expression, plain_name, plain_maybe, plain_parameter, plain_declarations, plain_statement, plain_statements, plain_others, arm_list, handler_list, plain_choices, plain_if_statement, plain_loop_statement, plain_block_statement, plain_body, plain_formal, plain_declaration, plain_procedure}
-use Rattle.aud_syntax.proofs.Opened.{if_open, loop_open, block_open, body_open, procedure_open}
+use Rattle.aud_syntax.specs.Ties.View.{plain_expression, plain_name, plain_maybe, plain_parameter, plain_declarations, plain_statement, plain_statements, plain_others, arm_list, handler_list, plain_choices, plain_if_statement, plain_loop_statement, plain_block_statement, plain_body, plain_formal, plain_declaration, plain_procedure, plain_task_body, plain_definition}
+use Rattle.aud_syntax.proofs.Opened.{if_open, loop_open, block_open, body_open, procedure_open, task_body_open}
 use Rattle.aud_syntax.proofs.Written.{dropped}
 use Rattle.aud_typed.specs.Ties.View.{plain_statement as plain_typed_statement, plain_statements as plain_typed_statements, plain_body as plain_typed_body, plain_unit as plain_typed_unit, plain_integer, plain_boolean, statements_in}
+use Rattle.aud_names.specs.declared.fault.Fault.{Fault}
 use Rattle.aud_names.specs.Least.{noted}
-use Rattle.aud_names.specs.Names.{Region, Place, innermost, place_in, next_frame, in_frame}
+use Rattle.aud_names.specs.Names.{Region, Place, innermost, place_in, next_frame, in_frame, task_place, task_region, running, body_come}
 use Rattle.aud_bodies.specs.Regions.{shown_names, loop_region, in_loop}
 use Rattle.aud_bodies.specs.declared.declaration.DeclarativePart.{DeclarativePart}
-use Rattle.aud_bodies.specs.Declarations.{Declared, checked_object, checked_array, with_procedure}
+use Rattle.aud_bodies.specs.Declarations.{Declared, checked_objects, checked_arrays, with_procedure}
+use Rattle.aud_bodies.specs.Tasks.{with_bodies, without_bodies, matched_faults, body_unit, body_tables, unit_awaited, place_behind, with_activation}
 use Rattle.aud_bodies.specs.Formals.{Formals, checked_formals}
 use Rattle.aud_bodies.specs.Ties.DeclarativePart.{Declares, Enters}
 use Rattle.aud_names.specs.Ties.Regions.{plain_region, plain_regions, plain_place, names_in}
@@ -31,13 +34,14 @@ use Rattle.aud_bodies.specs.Assignments.{assign_faults, typed_assign}
 use Rattle.aud_bodies.specs.Calls.{call_faults, typed_call}
 use Rattle.aud_bodies.specs.Handlers.{raise_faults, typed_raise, none_chosen, all_choices_faults, is_others, choices_of}
 use Rattle.aud_bodies.specs.Tables.{Tables, Outcome, no_tables, fine, and_then, next_region, with_region, region_kept, region_named, next_unit, unit_kept, with_unit}
-use Rattle.aud_bodies.specs.Statements.{Around, nothing_around, TypedStatements, TypedArm, TypedHandler, TypedBody, begin_at, return_faults, typed_return, end_name, end_semicolon, procedure_place, procedure_formals, body_with, labelled, handling, loop_number, arm_then, arms_then, arm_of, handler_of, sequence_of, checked_statement, checked_loop, checked_statements, checked_others, checked_arms, checked_body, checked_handlers, checked_declaration, checked_declarations, body_behind, checked_unit}
+use Rattle.aud_bodies.specs.Statements.{Around, nothing_around, task_around, begin_of, TypedStatements, TypedArm, TypedHandler, TypedBody, begin_at, return_faults, typed_return, end_name, end_semicolon, procedure_place, procedure_formals, body_with, labelled, handling, loop_number, arm_then, arms_then, arm_of, handler_of, sequence_of, checked_statement, checked_loop, checked_statements, checked_others, checked_arms, checked_body, checked_handlers, checked_declaration, checked_declarations, body_behind, checked_unit}
 use Rattle.aud_bodies.specs.Ties.Arms.{plain_arm, plain_arms, plain_handler, plain_handlers, plain_parts, plain_sequence, plain_items}
 use Rattle.aud_bodies.specs.Ties.Within.{around_of, around_entering, Checks}
 use Rattle.aud_typing.specs.Ties.Typing.{in_box}
 use Rattle.aud_bodies.proofs.Walked.{Is, is_fine, is_after, is_then, checks, checks_after, checks_leaf, none_left, one_left, end_left}
-use Rattle.aud_bodies.proofs.Bodies.{body_left, iterated_left, loop_left, behind_left, entered_left, block_left, unit_left, procedure_left}
-use Rattle.aud_bodies.proofs.Declared.{declares_all, declarations_ahead, all_declared, keeps_tables, declares_exceptions}
+use Rattle.aud_bodies.proofs.Bodies.{body_left, iterated_left, loop_left, behind_left, entered_left, block_left, unit_left, procedure_left, task_left}
+use Rattle.aud_bodies.proofs.Declared.{declares_all, declarations_ahead, all_declared, keeps_tables, declares_exceptions, declares_task}
+use Rattle.aud_typing.proofs.Notes.{noted_append}
 use Rattle.aud_bodies.proofs.statement.+statement.Goals as goal
 
 pub arms-loop-next-init : goal.arms-loop-next-init
@@ -151,7 +155,7 @@ pub statement-returns-in-Return : goal.statement-returns-in-Return
 statement-returns-in-Return t c =
     let place = c.args.within.scope.now in
     let e = c.in-Return in
-    rw e.is (checks_leaf (in_box plain_typed_statement) c.return_from.result c.args.faults.now c.return_from.new.faults (plain_tables c.args.tables.now) (return_faults e.at (plain_maybe e.value) place) (typed_return e.at (plain_maybe e.value)) c.return_from.ensures)
+    rw e.is (checks_leaf (in_box plain_typed_statement) c.return_from.result c.args.faults.now c.return_from.new.faults (plain_tables c.args.tables.now) (return_faults e.at (plain_maybe e.value) c.args.within.in_task place) (typed_return e.at (plain_maybe e.value)) c.return_from.ensures)
 
 pub statement-returns-in-Raise : goal.statement-returns-in-Raise
 statement-returns-in-Raise t c =
@@ -212,7 +216,7 @@ pub loop_body-returns : goal.loop_body-returns
 loop_body-returns t c =
     let x = c.args.node.now in
     let place = c.args.within.scope.now in
-    let among : Labels → Type 0 = λ ls. Checks (in_box plain_sequence) c.statements.result c.args.faults.now c.statements.new.faults (plain_tables c.statements.new.tables) (checked_statements (plain_statements x.statements) (record { labels = ls; in_handler = c.args.within.in_handler }) place (plain_tables c.args.tables.now)) in
+    let among : Labels → Type 0 = λ ls. Checks (in_box plain_sequence) c.statements.result c.args.faults.now c.statements.new.faults (plain_tables c.statements.new.tables) (checked_statements (plain_statements x.statements) (record { labels = ls; in_handler = c.args.within.in_handler; in_task = c.args.within.in_task }) place (plain_tables c.args.tables.now)) in
     subst among c.in_ok-labels.ensures (subst (λ l. among (plain_labels l)) c.deref.ensures.value c.statements.ensures)
 
 pub loop_statement-returns-in_ok-body-in-Forever : goal.loop_statement-returns-in_ok-body-in-Forever
@@ -340,15 +344,16 @@ block_statement-returns t c =
     let ds = plain_declarations x.declarations.items in
     let labels : plain_labels c.deref-2.result.now ≡ behind.labels = ap plain_labels c.deref-2.ensures.value ∙ c.in_ok-labels.ensures in
     let framed : plain_place region outer.items ≡ in_frame place = ap (λ r. place_in r (plain_regions outer.items)) c.in_ok-region.ensures ∙ ap (place_in (next_frame place)) c.in_ok-outer.ensures in
-    let same : checked_declarations (plain_declarations c.deref-3.result.now) (plain_place region outer.items) (region_kept tables) ≡ checked_declarations ds (in_frame place) (region_kept tables) =
-    ap (λ l. checked_declarations (plain_declarations l) (plain_place region outer.items) (region_kept tables)) c.deref-3.ensures.value ∙ ap (λ z. checked_declarations ds z (region_kept tables)) framed in
-    let enters : Enters named declared outer.items part (next_region tables) entry (checked_declarations ds (in_frame place) (region_kept tables)) =
+    let own : m.Declarations → Place → Outcome Declared = λ l z. with_bodies (checked_declarations l z (region_kept tables)) in
+    let same : own (plain_declarations c.deref-3.result.now) (plain_place region outer.items) ≡ own ds (in_frame place) =
+    ap (λ l. own (plain_declarations l) (plain_place region outer.items)) c.deref-3.ensures.value ∙ ap (own ds) framed in
+    let enters : Enters named declared outer.items part (next_region tables) entry (own ds (in_frame place)) =
     subst (Enters named declared outer.items part (next_region tables) entry) same
-    (subst (λ rs. Enters named declared rs part (next_region tables) entry (checked_declarations (plain_declarations c.deref-3.result.now) (plain_place region rs) (region_kept tables))) c.deref-4.ensures.value c.in_ok-part.ensures) in
-    let stated : Is declared new u body (body_behind (plain_items part.elaborations) source behind (plain_place part.region outer.items) entry) =
-    subst (λ rs. Is declared new u body (body_behind (plain_items part.elaborations) source behind (plain_place part.region rs) entry)) c.deref.ensures.value
-    (subst (λ ls. Is declared new u body (body_behind (plain_items part.elaborations) source (record { labels = ls; in_handler = c.args.within.in_handler }) (plain_place part.region c.deref.result.now) entry)) labels c.in_ok-body.ensures) in
-    let whole = entered_left named declared new tables entry u ds source behind (in_frame place) (plain_place part.region outer.items) (plain_items part.elaborations) body enters.0 enters.1 enters.2 enters.3 stated in
+    (subst (λ rs. Enters named declared rs part (next_region tables) entry (own (plain_declarations c.deref-3.result.now) (plain_place region rs))) c.deref-4.ensures.value c.in_ok-part.ensures) in
+    let stated : Is declared new u body (body_behind false (plain_items part.elaborations) source behind (plain_place part.region outer.items) entry) =
+    subst (λ rs. Is declared new u body (body_behind false (plain_items part.elaborations) source behind (plain_place part.region rs) entry)) c.deref.ensures.value
+    (subst (λ ls. Is declared new u body (body_behind false (plain_items part.elaborations) source (record { labels = ls; in_handler = c.args.within.in_handler; in_task = c.args.within.in_task }) (plain_place part.region c.deref.result.now) entry)) labels c.in_ok-body.ensures) in
+    let whole = entered_left named declared new tables entry u false ds source behind (in_frame place) (plain_place part.region outer.items) (plain_items part.elaborations) body enters.0 enters.1 enters.2 enters.3 stated in
     let named_all : named ≡ noted old (right_label_at_end x.label (end_name source) (end_semicolon source)) =
     c.right_label_at_end.ensures ∙ ap (λ z. noted old (right_label_at_end x.label (end_name z) (end_semicolon z))) (sym (body_open x.body)) in
     let number = c.next_region-number.result in
@@ -364,16 +369,19 @@ declared-returns t c =
     let kept = plain_tables c.keep_region.new.self in
     let part = c.declarations.new.part in
     let ds = plain_declarations c.args.source.now in
-    let d : Outcome Declared = checked_declarations ds place (region_kept tables) in
-    let given : Outcome Declared = checked_declarations ds place kept in
-    let same : given ≡ d = ap (checked_declarations ds place) c.in_ok-keep_region.ensures in
+    let d : Outcome Declared = with_bodies (checked_declarations ds place (region_kept tables)) in
+    let given : Outcome Declared = with_bodies (checked_declarations ds place kept) in
+    let same : given ≡ d = ap (λ w. with_bodies (checked_declarations ds place w)) c.in_ok-keep_region.ensures in
+    let checked = (checked_declarations ds place kept).faults in
+    let awaited : Place → List Fault = λ z. without_bodies (innermost z).awaited in
     let all = c.in_ok-declarations.ensures in
     let entry : Tables = plain_tables c.name_region.new.self in
     let named : ℕ → Place → Tables → Tables = λ n z w. region_named n (shown_names (innermost z).symbols) w in
     let into : entry ≡ named (next_region tables) d.made.place d.tables =
     c.in_ok-name_region.ensures ∙ ap (λ n. named n (plain_place part.region seen) (plain_tables c.declarations.new.tables)) c.next_region-number.ensures ∙ ap (λ z. named (next_region tables) z (plain_tables c.declarations.new.tables)) all.1
     ∙ ap (named (next_region tables) given.made.place) all.3 ∙ ap (λ (g : Outcome Declared). named (next_region tables) g.made.place g.tables) same in (
-      all.0 ∙ ap (λ (g : Outcome Declared). noted old g.faults) same,
+      c.without_bodies.ensures ∙ ap (λ l. noted c.declarations.new.faults (without_bodies l)) c.deref.ensures.value ∙ ap (λ o. noted o (awaited (plain_place part.region seen))) all.0 ∙ ap (λ z. noted (noted old checked) (awaited z)) all.1
+          ∙ sym (noted_append old checked (awaited given.made.place)) ∙ ap (λ (g : Outcome Declared). noted old g.faults) same,
       all.1 ∙ ap (λ (g : Outcome Declared). g.made.place) same,
       all.2 ∙ ap (λ l. plain_typed_statements l ++ given.made.elaborations) c.new.ensures.items ∙ ap (λ (g : Outcome Declared). g.made.elaborations) same,
       into,
@@ -392,8 +400,16 @@ body_behind-returns t c =
     let b = c.in_ok-elaborations in
     let made : TypedBody = plain_parts b.parts in
     let stated : Is old new u made (checked_body source around among tables) = subst (λ r. Checks plain_parts r old new u (checked_body source around among tables)) b.ensures.next c.body-parts.ensures in
-    behind_left c.body_of.result old new tables u source around place among (plain_items c.args.part.elaborations) made (body_with (plain_items b.elaborations) source made)
-    c.new.ensures stated (ap (λ l. body_with (plain_items l) source made) b.ensures.first) c.body_of.ensures
+    let of_task = c.args.entering.of_task in
+    let given = plain_items c.args.part.elaborations in
+    let begin = (out-Body c.args.node.now).begin in
+    let activates = c.in_ok-activates.activates in
+    let elaborated : List tree.Statement → Pos → List tree.Statement = λ xs at. xs ++ tree.activation activates at in
+    let opened : begin ≡ begin_of source = ap begin_of (sym (body_open c.args.node.now)) in
+    let begun : elaborated (plain_items b.elaborations) (begin_of source) ≡ with_activation of_task (begin_of source) given =
+    ap (λ v. elaborated (plain_items v) (begin_of source)) b.ensures.first ∙ subst (λ at. elaborated (plain_items c.with_activation.new.elaborations) at ≡ with_activation of_task at given) opened c.in_ok-activates.ensures in
+    behind_left c.body_of.result old new tables u of_task source around place among given made (body_with (elaborated (plain_items b.elaborations) (begin_of source)) source made)
+    c.new.ensures stated (ap (λ l. body_with l source made) begun) c.body_of.ensures
 
 pub procedure-returns : goal.procedure-returns
 procedure-returns t c =
@@ -438,17 +454,18 @@ procedure-returns t c =
     let part = c.in_ok-inner.inner in
     let body = plain_typed_body c.in_ok-body.body.value in
     let made = plain_typed_unit c.in_ok-unit.unit.value in
-    let enters : Enters formed shown_faults regions.items part (next_region entry) shown_tables (checked_declarations ds own (region_kept entry)) =
-    subst (λ l. Enters formed shown_faults regions.items part (next_region entry) shown_tables (checked_declarations (plain_declarations l) own (region_kept entry))) c.deref-3.ensures.value
-    (subst (λ rs. Enters formed shown_faults rs part (next_region entry) shown_tables (checked_declarations (plain_declarations c.deref-3.result.now) (plain_place c.formals.new.region rs) (region_kept entry))) c.deref-4.ensures.value c.in_ok-inner.ensures) in
-    let stated : Is shown_faults stated_faults u body (body_behind (plain_items part.elaborations) source nothing_around (plain_place part.region regions.items) shown_tables) =
-    subst (λ rs. Is shown_faults stated_faults u body (body_behind (plain_items part.elaborations) source nothing_around (plain_place part.region rs) shown_tables)) c.deref-5.ensures.value c.in_ok-body.ensures in
-    let whole = entered_left formed shown_faults stated_faults entry shown_tables u ds source nothing_around own (plain_place part.region regions.items) (plain_items part.elaborations) body enters.0 enters.1 enters.2 enters.3 stated in
+    let in_it : m.Declarations → Place → Outcome Declared = λ l z. with_bodies (checked_declarations l z (region_kept entry)) in
+    let enters : Enters formed shown_faults regions.items part (next_region entry) shown_tables (in_it ds own) =
+    subst (λ l. Enters formed shown_faults regions.items part (next_region entry) shown_tables (in_it (plain_declarations l) own)) c.deref-3.ensures.value
+    (subst (λ rs. Enters formed shown_faults rs part (next_region entry) shown_tables (in_it (plain_declarations c.deref-3.result.now) (plain_place c.formals.new.region rs))) c.deref-4.ensures.value c.in_ok-inner.ensures) in
+    let stated : Is shown_faults stated_faults u body (body_behind false (plain_items part.elaborations) source nothing_around (plain_place part.region regions.items) shown_tables) =
+    subst (λ rs. Is shown_faults stated_faults u body (body_behind false (plain_items part.elaborations) source nothing_around (plain_place part.region rs) shown_tables)) c.deref-5.ensures.value c.in_ok-body.ensures in
+    let whole = entered_left formed shown_faults stated_faults entry shown_tables u false ds source nothing_around own (plain_place part.region regions.items) (plain_items part.elaborations) body enters.0 enters.1 enters.2 enters.3 stated in
     let ends : new ≡ noted stated_faults (right_name_at_end x.name.name (end_name source)) =
     c.right_name_at_end.ensures ∙ ap (λ z. noted stated_faults (right_name_at_end x.name.name (end_name z))) (sym (body_open x.body)) in
     let unit : ℕ → tree.UnitBody = λ n. record { level = c.formals.new.region.level; region = n; at = x.at; body = body } in
-    let checked : Is formed new u made (checked_unit x.at x.name.name ds source own entry) =
-    unit_left formed stated_faults new entry u x.at x.name.name ds source own body made whole ends (c.in_ok-unit.ensures ∙ ap unit c.next_region-own.ensures) in
+    let checked : Is formed new u made (checked_unit false x.at x.name.name ds source own entry) =
+    unit_left formed stated_faults new entry u false x.at x.name.name ds source own body made whole ends (c.in_ok-unit.ensures ∙ ap unit c.next_region-own.ensures) in
     let put : plain_tables c.put_unit.new.self ≡ with_unit (next_unit tables) made u =
     c.put_unit.ensures ∙ ap (λ n. with_unit n (plain_typed_unit c.into_inner.result) u) c.next_unit-number.ensures ∙ ap (λ v. with_unit (next_unit tables) (plain_typed_unit v) u) c.into_inner.ensures in
     let end = plain_tables c.put_unit.new.self in
@@ -459,19 +476,19 @@ pub declaration-returns-in-Object : goal.declaration-returns-in-Object
 declaration-returns-in-Object t c =
     let x = c.in-Object in
     let place : Place = plain_place c.args.part.now.region c.args.outer.now in
-    rw x.is (keeps_tables c.objects.result c.args.faults.now c.objects.new.faults c.args.outer.now c.args.part.now c.objects.new.part (plain_tables c.args.tables.now) (checked_object (names_in x.names) x.names.first.at x.mark (plain_maybe x.initial) false place no_tables) (rw c.as_ref.ensures.value at c.objects.ensures))
+    rw x.is (keeps_tables c.objects.result c.args.faults.now c.objects.new.faults c.args.outer.now c.args.part.now c.objects.new.part (plain_tables c.args.tables.now) (checked_objects (names_in x.names) x.names.first.at x.mark (plain_maybe x.initial) false place) (rw c.as_ref.ensures.value at c.objects.ensures))
 
 pub declaration-returns-in-Constant : goal.declaration-returns-in-Constant
 declaration-returns-in-Constant t c =
     let x = c.in-Constant in
     let place : Place = plain_place c.args.part.now.region c.args.outer.now in
-    rw x.is (keeps_tables c.objects-in-Constant.result c.args.faults.now c.objects-in-Constant.new.faults c.args.outer.now c.args.part.now c.objects-in-Constant.new.part (plain_tables c.args.tables.now) (checked_object (names_in x.names) x.names.first.at x.mark (m.an_expression (plain_expression x.value)) true place no_tables) c.objects-in-Constant.ensures)
+    rw x.is (keeps_tables c.objects-in-Constant.result c.args.faults.now c.objects-in-Constant.new.faults c.args.outer.now c.args.part.now c.objects-in-Constant.new.part (plain_tables c.args.tables.now) (checked_objects (names_in x.names) x.names.first.at x.mark (m.an_expression (plain_expression x.value)) true place) c.objects-in-Constant.ensures)
 
 pub declaration-returns-in-Array : goal.declaration-returns-in-Array
 declaration-returns-in-Array t c =
     let x = c.in-Array in
     let place : Place = plain_place c.args.part.now.region c.args.outer.now in
-    rw x.is (keeps_tables c.arrays.result c.args.faults.now c.arrays.new.faults c.args.outer.now c.args.part.now c.arrays.new.part (plain_tables c.args.tables.now) (checked_array (names_in x.names) x.names.first.at x.low x.high x.mark place no_tables) c.arrays.ensures)
+    rw x.is (keeps_tables c.arrays.result c.args.faults.now c.arrays.new.faults c.args.outer.now c.args.part.now c.arrays.new.part (plain_tables c.args.tables.now) (checked_arrays (names_in x.names) x.names.first.at x.low x.high x.mark place) c.arrays.ensures)
 
 pub declaration-returns-in-Exception : goal.declaration-returns-in-Exception
 declaration-returns-in-Exception t c =
@@ -484,6 +501,77 @@ declaration-returns-in-Procedure t c =
     let place : Place = plain_place c.args.part.now.region c.args.outer.now in
     let opened : plain_declaration c.args.declaration.now ≡ plain_procedure c.deref.result.now = ap plain_declaration c.in-Procedure.is ∙ ap plain_procedure (sym c.deref.ensures) in
     subst (λ z. OnOk c.procedure.result (Declares c.args.faults.now c.procedure.new.faults c.args.outer.now c.args.part.now c.procedure.new.part (plain_tables c.procedure.new.tables) (checked_declaration z place (plain_tables c.args.tables.now)))) (sym opened) c.procedure.ensures
+
+pub declaration-returns-in-Task : goal.declaration-returns-in-Task
+declaration-returns-in-Task t c =
+    let x = c.in-Task.task in
+    let now = plain_tables c.args.tables.now in
+    let u = plain_tables c.declare_task.new.tables in
+    rw c.in-Task.is (declares_task c.declare_task.result c.args.faults.now c.declare_task.new.faults c.args.outer.now c.args.part.now c.declare_task.new.part now u x.at x.is_type x.name (plain_definition x.definition) c.declare_task.ensures.region c.declare_task.ensures.elaborations c.declare_task.ensures.tables c.declare_task.ensures.noted)
+
+pub declaration-returns-in-TaskBody : goal.declaration-returns-in-TaskBody
+declaration-returns-in-TaskBody t c =
+    let place : Place = plain_place c.args.part.now.region c.args.outer.now in
+    let opened : plain_declaration c.args.declaration.now ≡ plain_task_body c.deref-in-TaskBody.result.now = ap plain_declaration c.in-TaskBody.is ∙ ap plain_task_body (sym c.deref-in-TaskBody.ensures) in
+    subst (λ z. OnOk c.task_body.result (Declares c.args.faults.now c.task_body.new.faults c.args.outer.now c.args.part.now c.task_body.new.part (plain_tables c.task_body.new.tables) (checked_declaration z place (plain_tables c.args.tables.now)))) (sym opened) c.task_body.ensures
+
+pub task_part-returns : goal.task_part-returns
+task_part-returns t c =
+    subst (λ l. IfOk c.declared.result (λ part. Enters c.args.faults.now c.declared.new.faults c.args.outer.now part (next_region (plain_tables c.args.tables.now)) (plain_tables c.declared.new.tables) (with_bodies (checked_declarations (plain_declarations l) (plain_place c.args.region c.args.outer.now) (region_kept (plain_tables c.args.tables.now)))))) c.deref.ensures.value c.declared.ensures
+
+pub task_body-returns : goal.task_body-returns
+task_body-returns t c =
+    let x = out-TaskBody c.args.node.now in
+    let first = c.args.part.now in
+    let seen = c.args.outer.now in
+    let place : Place = plain_place first.region seen in
+    let tables = plain_tables c.args.tables.now in
+    let old = c.args.faults.now in
+    let matched = c.body_unit.new.faults in
+    let shown_faults = c.task_part.new.faults in
+    let stated_faults = c.body_behind.new.faults in
+    let new = c.right_name_at_end.new.faults in
+    let entry = plain_tables c.body_unit.new.tables in
+    let shown_tables = plain_tables c.task_part.new.tables in
+    let u = plain_tables c.body_behind.new.tables in
+    let come = c.body_unit.new.region in
+    let last : DeclarativePart = record { region = come; elaborations = first.elaborations } in
+    let ds = plain_declarations x.declarations.items in
+    let source = plain_body x.body in
+    let here : Place = place_behind x.name place in
+    let behind : plain_place come seen ≡ here = ap (λ r. place_in r (plain_regions seen)) c.in_ok-number.ensures.region in
+    let regions = c.in_ok-regions.regions in
+    let level = c.in_ok-running.running.level in
+    let named = running x.name.name level in
+    let own_name : plain_region c.in_ok-running.running ≡ named = c.in_ok-running.ensures.region ∙ ap (running x.name.name) (sym c.in_ok-running.ensures.level) in
+    let around : plain_regions regions.items ≡ named ∷ here.regions =
+    c.in_ok-regions.ensures ∙ ap (λ r. r ∷ (plain_place come seen).regions) own_name ∙ ap (λ (z : Place). named ∷ z.regions) behind in
+    let own = plain_place c.in_ok-region.region regions.items in
+    let one_further : level ≡ (innermost here).level + 1 = c.in_ok-running.ensures.level ∙ ap (λ (r : Region). r.level + 1) c.in_ok-number.ensures.region in
+    let inner : own ≡ task_place x.name.name here =
+    ap (λ r. place_in r (plain_regions regions.items)) c.in_ok-region.ensures ∙ ap (place_in (task_region level)) around ∙ ap (λ k. place_in (task_region k) (running x.name.name k ∷ here.regions)) one_further in
+    let part = c.in_ok-inner.inner in
+    let body = plain_typed_body c.in_ok-body.body.value in
+    let made = plain_typed_unit c.in_ok-unit.unit.value in
+    let in_it : m.Declarations → Place → Outcome Declared = λ l z. with_bodies (checked_declarations l z (region_kept entry)) in
+    let enters : Enters matched shown_faults regions.items part (next_region entry) shown_tables (in_it ds own) =
+    subst (λ rs. Enters matched shown_faults rs part (next_region entry) shown_tables (in_it ds (plain_place c.in_ok-region.region rs))) c.deref.ensures.value c.in_ok-inner.ensures in
+    let stated : Is shown_faults stated_faults u body (body_behind true (plain_items part.elaborations) source task_around (plain_place part.region regions.items) shown_tables) =
+    subst (λ rs. Is shown_faults stated_faults u body (body_behind true (plain_items part.elaborations) source task_around (plain_place part.region rs) shown_tables)) c.deref-2.ensures.value c.in_ok-body.ensures in
+    let whole = entered_left matched shown_faults stated_faults entry shown_tables u true ds source task_around own (plain_place part.region regions.items) (plain_items part.elaborations) body enters.0 enters.1 enters.2 enters.3 stated in
+    let ends : new ≡ noted stated_faults (right_name_at_end x.name.name (end_name source)) =
+    c.right_name_at_end.ensures ∙ ap (λ z. noted stated_faults (right_name_at_end x.name.name (end_name z))) (sym (body_open x.body)) in
+    let unit : ℕ → tree.UnitBody = λ n. record { level = level; region = n; at = x.at; body = body } in
+    let found : ℕ → tree.UnitBody = λ k. record { level = k; region = next_region entry; at = x.at; body = body } in
+    let leveled : (innermost own).level ≡ level = ap (λ (r : Region). r.level) c.in_ok-region.ensures in
+    let checked : Is matched new u made (checked_unit true x.at x.name.name ds source own entry) =
+    unit_left matched stated_faults new entry u true x.at x.name.name ds source own body made whole ends (c.in_ok-unit.ensures ∙ ap unit c.next_region-own.ensures ∙ ap found (sym leveled)) in
+    let number : c.in_ok-number.number ≡ body_unit (unit_awaited x.name place) tables = c.in_ok-number.ensures.unit in
+    let end = plain_tables c.put_unit.new.self in
+    let put : end ≡ with_unit (body_unit (unit_awaited x.name place) tables) made u =
+    c.put_unit.ensures ∙ ap (λ n. with_unit n (plain_typed_unit c.into_inner.result) u) number ∙ ap (λ v. with_unit (body_unit (unit_awaited x.name place) tables) (plain_typed_unit v) u) c.into_inner.ensures in
+    subst (λ z. Declares old new seen first last end (checked_declaration z place tables)) (sym (task_body_open c.args.node.now))
+    (task_left old matched new seen first last tables entry u end x.at x.name ds source own made c.in_ok-number.ensures.noted behind refl inner c.in_ok-number.ensures.tables checked put)
 
 pub declarations-loop-next-init : goal.declarations-loop-next-init
 declarations-loop-next-init t c = declares_all c.args.faults.now c.args.part.now (checked_declarations (plain_declarations c.args.declarations.now) (plain_place c.args.part.now.region c.args.outer.now) (plain_tables c.args.tables.now))

@@ -1,14 +1,16 @@
-use Rattle.std.specs.Prelude.{ℕ, List, map}
+use Rattle.std.specs.Prelude.{ℕ, false}
 use Rattle.std.proofs.Common.{◌≡◌, ap, sym, subst, ◌∙◌}
+use Rattle.aud_syntax.specs.Plain as m
 use Rattle.aud_syntax.specs.Ties.View.{plain_declarations, plain_body}
 use Rattle.aud_syntax.proofs.Opened.{body_open}
-use Rattle.aud_typed.specs.declared.program.TaskType.{TaskType}
 use Rattle.aud_typed.specs.Tree as tree
 use Rattle.aud_typed.specs.Ties.View.{plain_body as plain_typed_body, plain_unit as plain_typed_unit}
 use Rattle.aud_names.specs.Least.{noted}
 use Rattle.aud_names.specs.Names.{Place, empty_region, place_in, main_place}
 use Rattle.aud_names.specs.Rules.{right_name_at_end}
 use Rattle.aud_bodies.specs.Tables.{Tables, Outcome, next_region, region_kept, unit_kept, with_unit}
+use Rattle.aud_bodies.specs.Declarations.{Declared}
+use Rattle.aud_bodies.specs.Tasks.{with_bodies}
 use Rattle.aud_bodies.specs.Statements.{nothing_around, end_name, checked_declarations, checked_unit}
 use Rattle.aud_bodies.specs.Programs.{main_tables, program_with}
 use Rattle.aud_bodies.specs.Ties.DeclarativePart.{Enters}
@@ -40,19 +42,19 @@ returns c =
     let part = c.in_ok-part.part in
     let body = plain_typed_body c.in_ok-body.body.value in
     let made = plain_typed_unit c.in_ok-main.main.value in
-    let whole : Outcome tree.UnitBody = checked_unit node.at main.name ds source place main_tables in
-    let enters : Enters old declared outer part (next_region main_tables) entry (checked_declarations ds place (region_kept main_tables)) =
-    subst (λ w. Enters old declared outer part (next_region w) entry (checked_declarations ds place (region_kept w))) begun
-    (subst (λ z. Enters old declared outer part (next_region kept) entry (checked_declarations ds z (region_kept kept))) placed
-    (subst (λ l. Enters old declared outer part (next_region kept) entry (checked_declarations (plain_declarations l) (plain_place c.new-region.result outer) (region_kept kept))) c.deref.ensures.value c.in_ok-part.ensures)) in
-    let entered = entered_left old declared stated main_tables entry u ds source nothing_around place (plain_place part.region outer) (plain_items part.elaborations) body enters.0 enters.1 enters.2 enters.3 c.in_ok-body.ensures in
+    let whole : Outcome tree.UnitBody = checked_unit false node.at main.name ds source place main_tables in
+    let in_it : m.Declarations → Place → Tables → Outcome Declared = λ l z w. with_bodies (checked_declarations l z (region_kept w)) in
+    let enters : Enters old declared outer part (next_region main_tables) entry (in_it ds place main_tables) =
+    subst (λ w. Enters old declared outer part (next_region w) entry (in_it ds place w)) begun
+    (subst (λ z. Enters old declared outer part (next_region kept) entry (in_it ds z kept)) placed
+    (subst (λ l. Enters old declared outer part (next_region kept) entry (in_it (plain_declarations l) (plain_place c.new-region.result outer) kept)) c.deref.ensures.value c.in_ok-part.ensures)) in
+    let entered = entered_left old declared stated main_tables entry u false ds source nothing_around place (plain_place part.region outer) (plain_items part.elaborations) body enters.0 enters.1 enters.2 enters.3 c.in_ok-body.ensures in
     let named : new ≡ noted stated (right_name_at_end main.name (end_name source)) =
     c.right_name_at_end.ensures ∙ ap (λ z. noted stated (right_name_at_end main.name (end_name z))) (sym (body_open node.body)) in
     let unit : ℕ → tree.UnitBody = λ n. record { level = 0; region = n; at = node.at; body = body } in
     let checked : Is old new u made whole =
-    unit_left old stated new main_tables u node.at main.name ds source place body made entered named (c.in_ok-main.ensures ∙ ap unit (c.next_region-number.ensures ∙ ap next_region begun)) in
+    unit_left old stated new main_tables u false node.at main.name ds source place body made entered named (c.in_ok-main.ensures ∙ ap unit (c.next_region-number.ensures ∙ ap next_region begun)) in
     let final : Tables = plain_tables c.put_unit.new.self in
     let ended : final ≡ with_unit 0 whole.made whole.tables =
     c.put_unit.ensures ∙ ap (λ v. with_unit 0 (plain_typed_unit v) u) c.into_inner.ensures ∙ ap (λ v. with_unit 0 v u) checked.2 ∙ ap (with_unit 0 whole.made) checked.1 in
-    let with_tasks : List TaskType → tree.Program = λ ts. tree.program_of_units (record { name = c.in_ok-name.name; units = final.units; tasks = map (λ (t : TaskType). t.unit) ts; regions = final.regions; exceptions = final.exceptions }) in
-    (checked.0, ap with_tasks c.new-2.ensures.items ∙ ap (λ n. program_with n final) c.in_ok-name.ensures ∙ ap (program_with main.name) ended)
+    (checked.0, ap (λ n. program_with n final) c.in_ok-name.ensures ∙ ap (program_with main.name) ended)

@@ -1,9 +1,11 @@
-use Rattle.std.proofs.Common.{◌≡◌, suc, ap, sym, ◌∙◌, arith}
+use Rattle.std.proofs.Common.{◌≡◌, suc, ◌++◌, ap, sym, ◌∙◌, arith}
 use Rattle.aud_typed.proofs.Opened.{loop_open, while_open, if_open, for_open, block_open}
-use Rattle.aud_typed.specs.Tree.{part_of}
+use Rattle.aud_typed.specs.declared.program.Body.{out-Body}
+use Rattle.aud_typed.specs.Tree.{part_of, activation}
 use Rattle.aud_typed.specs.Ties.View.{plain_statement, plain_statements, statements_in, if_in, for_in, block_in}
 use Rattle.aud_gen.specs.Layout.{statement_size_by, part_size_by}
 use Rattle.aud_gen.specs.Written.{flat_step}
+use Rattle.aud_gen.proofs.Elaborations.{activated_length}
 use Rattle.aud_gen.proofs.Loops.{if_ok}
 use Rattle.aud_gen.proofs.Lists.{arms_length, if_length}
 use Rattle.aud_gen.proofs.lengths.+lengths.Goals as goal
@@ -44,3 +46,12 @@ statement_length-returns-in_ok-sum-in-Loop t c =
     let is = ap plain_statement c.in-Loop.is ∙ loop_open c.in-Loop.body in
     let more : c.in_ok-sum-in-Loop.field-0 ≡ suc c.args.ways = omega (arith, c.in_ok-sum-in-Loop.ensures) in
     if_ok c.statements_length-in-Loop.result (λ n h. h ∙ ap (λ z. statement_size_by flat_step (statements_in z) c.in_ok-sum-in-Loop.field-0) c.deref-in-Loop.ensures ∙ ap (statement_size_by flat_step (statements_in c.in-Loop.body.value)) more ∙ ap (λ z. statement_size_by flat_step z c.args.ways) (sym is)) c.statements_length-in-Loop.ensures
+
+pub elaborations_length-returns-then-body : goal.elaborations_length-returns-then-body
+elaborations_length-returns-then-body t c =
+    let b = out-Body c.args.body.now in
+    let xs = plain_statements b.declarations.items in
+    let ways = c.args.ways in
+    let declared = c.in_ok-declared.ensures ∙ ap (λ z. part_size_by flat_step (part_of (plain_statements z)) ways) c.deref.ensures.value in
+    let all = ap (λ x. part_size_by flat_step (part_of (xs ++ activation x b.begin)) ways) c.if-body.true in
+    if_ok c.sum.result (λ n h. omega (arith, h, declared, activated_length xs b.begin ways, all)) c.sum.ensures

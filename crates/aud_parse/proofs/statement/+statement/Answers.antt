@@ -3,13 +3,13 @@ use Rattle.aud_grammar.specs.Grammar.{Symbol, N, T, Opt}
 use Rattle.aud_lex.specs.declared.token.Kind.TheVariants as kind
 use Rattle.std.proofs.Common.{List, [], ◌∷◌, ap, sym, ◌∙◌, refl, rules, arith}
 use Rattle.aud_grammar.specs.Ties.Outcome.{o_rule, o_this, o_other, o_last, o_yes, o_no, o_more}
-use Rattle.aud_grammar.specs.Actions.{token}
+use Rattle.aud_grammar.specs.Actions.{an_ident, token, made}
 use Rattle.aud_cursor.specs.Ties.Items.{list_item}
-use Rattle.aud_parse.specs.Ties.Items.{handler_item, declaration_item}
+use Rattle.aud_parse.specs.Ties.Items.{handler_item, declaration_item, boxed_body_item}
 use Rattle.aud_cursor.proofs.Passing.{to, exit, hand_after, hand_on, level_on, no_level, word_passes, token_passes, turns_push, heads_none, heads_push, heads_end}
 use Rattle.aud_phrase.proofs.Joined.{exit_all, no_more_still}
 use Rattle.aud_parse.proofs.Completing.{completes, completes_in, exit_in, exit_among}
-use Rattle.aud_parse.proofs.Rolls.{arm_items, in_order_items, handler_items, block_items, declare_items, procedure_items}
+use Rattle.aud_parse.proofs.Rolls.{arm_items, in_order_items, handler_items, block_items, declare_items, procedure_items, task_body_items}
 use Rattle.aud_parse.proofs.statement.+statement.Goals as goal
 
 -- what a branch is read by, behind its first word
@@ -40,11 +40,49 @@ procedure-returns t c = record {
   shorter = search rules;
 }
 
+pub task_body-returns-in_err-rest : goal.task_body-returns-in_err-rest
+task_body-returns-in_err-rest t c = exit_in _ _ _ c.from_residual.ensures.1 (c.in_err-rest.ensures.reads c.args.room) (λ k ds v o. o_rule o)
+
+pub task_body-returns-in_err-name : goal.task_body-returns-in_err-name
+task_body-returns-in_err-name t c = exit_in _ _ _ c.from_residual-in_err-name.ensures.1 (c.in_err-name.ensures.reads c.args.room) (λ k ds v o. o_rule (c.in_ok-rest.ensures.reads _ _ _ _ o))
+
+pub task_body-returns-in_err-name-2 : goal.task_body-returns-in_err-name-2
+task_body-returns-in_err-name-2 t c = exit_in _ _ _ c.from_residual-in_err-name-2.ensures.1 (c.in_err-name-2.ensures.reads c.args.room) (λ k ds v o. o_rule (c.in_ok-rest.ensures.reads _ _ _ _ (c.in_ok-name.ensures.reads _ _ _ _ o)))
+
+pub task_body-returns-in_err-declarations : goal.task_body-returns-in_err-declarations
+task_body-returns-in_err-declarations t c = exit_in _ _ _ c.from_residual-in_err-declarations.ensures.1 c.in_err-declarations.ensures.reads (λ k ds v o. o_rule (c.in_ok-rest.ensures.reads _ _ _ _ (c.in_ok-name.ensures.reads _ _ _ _ (c.in_ok-name-2.ensures.reads.1 _ _ _ _ o))))
+
+pub task_body-returns-in_err-body : goal.task_body-returns-in_err-body
+task_body-returns-in_err-body t c = exit_in _ _ _ c.from_residual-in_err-body.ensures.1 c.in_err-body.ensures.reads (λ k ds v o. o_rule (c.in_ok-rest.ensures.reads _ _ _ _ (c.in_ok-name.ensures.reads _ _ _ _ (c.in_ok-name-2.ensures.reads.1 _ _ _ _ (c.in_ok-declarations.ensures.reads _ _ _ o)))))
+
+pub task_body-returns : goal.task_body-returns
+task_body-returns t c = record {
+  reads = λ k ds v o. (
+    _,
+    o_rule (c.in_ok-rest.ensures.reads _ _ _ _ (c.in_ok-name.ensures.reads _ _ _ _ (c.in_ok-name-2.ensures.reads.1 _ _ _ _ (c.in_ok-declarations.ensures.reads _ _ _ (c.in_ok-body.ensures.reads _ _ _ o))))),
+    ap (λ z. made g.Task (token c.args.begin.now ∷ made g.TaskBody (an_ident z ∷ list_item declaration_item c.in_ok-declarations.declarations.items ∷ boxed_body_item c.in_ok-body.body ∷ ds))) (sym c.in_ok-name-2.ensures.reads.0)
+        ∙ task_body_items c.in_ok-declaration.declaration (token c.args.begin.now) c.in_ok-name-2.name c.in_ok-declarations.declarations c.in_ok-body.body ds (rw (sym c.at.ensures) c.in_ok-declaration.ensures),
+  );
+  shorter = search rules;
+}
+
+pub task-returns-in_err-begin : goal.task-returns-in_err-begin
+task-returns-in_err-begin t c = exit _ _ _ c.from_residual.ensures.1 (c.in_err-begin.ensures.reads c.args.room) (λ k ds v o. o_rule o)
+
+pub task-returns-then-is : goal.task-returns-then-is
+task-returns-then-is t c = completes _ c.args.start c.in_ok-begin.rest _ c.task_body.ensures (search rules) (λ k ds v o. o_rule (c.in_ok-begin.ensures.reads _ _ _ _ (o_rule (o_this (sym c.is.ensures ∙ c.if-is.true) o))))
+
+pub task-returns : goal.task-returns
+task-returns t c = completes _ c.args.start c.in_ok-begin.rest _ (c.task_declaration.ensures c.args.room) (search rules) (λ k ds v o. o_rule (c.in_ok-begin.ensures.reads _ _ _ _ (o_rule (o_other (sym c.is.ensures ∙ c.if-is.false) (o_last o)))))
+
 pub declaration-returns-then-is : goal.declaration-returns-then-is
 declaration-returns-then-is t c = record { reads = hand_on _ c.args.start _ c.named_declaration.ensures.reads (λ k ds v o. o_rule (o_this (sym c.is.ensures ∙ c.if-is.true) o)); shorter = search rules }
 
+pub declaration-returns-then-is-2 : goal.declaration-returns-then-is-2
+declaration-returns-then-is-2 t c = record { reads = hand_on _ c.args.start _ c.procedure.ensures.reads (λ k ds v o. o_rule (o_other (sym c.is.ensures ∙ c.if-is.false) (o_this (sym c.is-2.ensures ∙ c.if-is-2.true) o))); shorter = search rules }
+
 pub declaration-returns : goal.declaration-returns
-declaration-returns t c = record { reads = hand_on _ c.args.start _ c.procedure.ensures.reads (λ k ds v o. o_rule (o_other (sym c.is.ensures ∙ c.if-is.false) (o_last o))); shorter = search rules }
+declaration-returns t c = record { reads = hand_on _ c.args.start _ c.task.ensures.reads (λ k ds v o. o_rule (o_other (sym c.is.ensures ∙ c.if-is.false) (o_other (sym c.is-2.ensures ∙ c.if-is-2.false) (o_last o)))); shorter = search rules }
 
 pub declaration_list-turns-init : goal.declaration_list-turns-init
 declaration_list-turns-init t c = record { turns = heads_none c.new-all.ensures.items; shorter = search rules }

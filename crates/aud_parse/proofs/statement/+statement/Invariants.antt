@@ -52,11 +52,17 @@ decreases-block l = 16 * l.room + 5
 abbrev pub decreases-procedure : goal.decreases-procedure
 decreases-procedure l = 16 * l.room + 5
 
+abbrev pub decreases-task_body : goal.decreases-task_body
+decreases-task_body l = 16 * l.room + 5
+
+abbrev pub decreases-task : goal.decreases-task
+decreases-task l = 16 * l.room + 6
+
 abbrev pub decreases-declaration : goal.decreases-declaration
-decreases-declaration l = 16 * l.room + 6
+decreases-declaration l = 16 * l.room + 7
 
 abbrev pub decreases-declaration_list : goal.decreases-declaration_list
-decreases-declaration_list l = 16 * l.room + 7
+decreases-declaration_list l = 16 * l.room + 8
 
 abbrev pub decreases-labelled : goal.decreases-labelled
 decreases-labelled l = 16 * l.room + 6

@@ -5,9 +5,10 @@ use Rattle.aud_syntax.specs.declared.tree.IfStatement.{out-IfStatement}
 use Rattle.aud_syntax.specs.declared.tree.BlockStatement.{out-BlockStatement}
 use Rattle.aud_syntax.specs.declared.tree.Body.{out-Body}
 use Rattle.aud_syntax.specs.declared.tree.ProcedureDeclaration.{out-ProcedureDeclaration}
+use Rattle.aud_syntax.specs.declared.tree.TaskBody.{out-TaskBody}
 use Rattle.aud_syntax.specs.Ties.View.{plain_expression, plain_statement, plain_others, plain_statements, arm_list, plain_iteration, plain_choices, plain_formal, plain_declaration, plain_declarations, plain_body, handler_list}
 use Rattle.aud_syntax.specs.Why.Printed.{ident_word, expression_words, label_words, iteration_words, end_words, arm_words, arms_words, otherwise_words, statement_words, more_statements_words, statements_words, declare_words, formals_words, declaration_words, declarations_words, body_words, choices_words, handler_words, handlers_words, handled_words}
-use Rattle.aud_syntax.proofs.Written.{all_written, next_written, if_written, loop_written, else_written, block_written, procedure_written, body_written, handled_written}
+use Rattle.aud_syntax.proofs.Written.{all_written, next_written, if_written, loop_written, else_written, block_written, procedure_written, task_body_written, body_written, handled_written}
 use Rattle.aud_syntax.proofs.statements.+statement.Goals as goal
 
 pub push_arm-returns : goal.push_arm-returns
@@ -117,3 +118,14 @@ push_procedure-returns t c =
     (all_written c.push_body.result c.push_ident.new.out.items c.push_formals.new.out.items c.push_body.new.out.items formals (last_word (codes "is") ∷ [] ++ (declarations ++ (rest))) (rw c.deref.ensures.value at c.in_ok-push_formals.ensures)
     (all_written c.push_body.result c.push_formals.new.out.items c.push_last_word.new.out.items c.push_body.new.out.items (last_word (codes "is") ∷ []) (declarations ++ (rest)) c.in_ok-push_last_word.ensures
     (all_written c.push_body.result c.push_last_word.new.out.items c.push_declarations.new.out.items c.push_body.new.out.items declarations rest (rw c.deref-2.ensures.value at c.in_ok-push_declarations.ensures) c.push_body.ensures)))))
+
+pub push_task_body-returns : goal.push_task_body-returns
+push_task_body-returns t c =
+    let x = out-TaskBody c.args.task.now in
+    let declarations = declarations_words (plain_declarations x.declarations.items) in
+    let rest = body_words (plain_body x.body) in
+    task_body_written c.push_body.result c.args.out.now.items c.push_body.new.out.items c.args.task.now
+    (all_written c.push_body.result c.args.out.now.items c.push_two_words.new.out.items c.push_body.new.out.items (word (codes "task") ∷ word (codes "body") ∷ []) (ident_word x.name ∷ [] ++ (last_word (codes "is") ∷ [] ++ (declarations ++ (rest)))) c.in_ok-push_two_words.ensures
+    (all_written c.push_body.result c.push_two_words.new.out.items c.push_ident.new.out.items c.push_body.new.out.items (ident_word x.name ∷ []) (last_word (codes "is") ∷ [] ++ (declarations ++ (rest))) c.in_ok-push_ident.ensures
+    (all_written c.push_body.result c.push_ident.new.out.items c.push_last_word.new.out.items c.push_body.new.out.items (last_word (codes "is") ∷ []) (declarations ++ (rest)) c.in_ok-push_last_word.ensures
+    (all_written c.push_body.result c.push_last_word.new.out.items c.push_declarations.new.out.items c.push_body.new.out.items declarations rest (rw c.deref.ensures.value at c.in_ok-push_declarations.ensures) c.push_body.ensures))))

@@ -55,7 +55,7 @@ pub part_arguments-loop-argument-preserved : goal.part_arguments-loop-argument-p
 part_arguments-loop-argument-preserved t c = argument_ahead c.args.scope.now c.args.faults.now c.loop-argument.faults c.expression.new.faults (checked_part (plain_part c.args.part.now) c.args.scope.now (plain_typed c.args.before.value)) c.argument-item.result (drop c.loop-argument.argument-index c.deref-argument-items.result.now) (drop (c.loop-argument.argument-index + 1) c.deref-argument-items.result.now) (plain_typed c.loop-argument.last.value) c.in_ok-last.last (dropped c.deref-argument-items.result.now c.loop-argument.argument-index c.argument-item.result (omega arith) c.argument-item.is) c.loop-argument.invariant c.in_ok-last.ensures
 
 pub arguments-loop-part-init : goal.arguments-loop-part-init
-arguments-loop-part-init t c = arguments_ahead c.args.name.now c.args.scope.now c.args.faults.now c.part_arguments.new.faults c.in_ok-last.last c.deref-part-items.result.now c.deref-part-items.ensures.value (rw c.in_ok-nothing.ensures at c.in_ok-last.ensures)
+arguments-loop-part-init t c = arguments_ahead c.args.name.now c.args.scope.now c.args.faults.now c.part_arguments.new.faults c.check_prefix.new.faults c.in_ok-last.last c.deref-part-items.result.now c.deref-part-items.ensures.value (rw c.in_ok-nothing.ensures at c.in_ok-last.ensures) (rw (c.deref.ensures.value, c.deref-2.ensures) at c.check_prefix.ensures)
 
 pub arguments-loop-part-preserved : goal.arguments-loop-part-preserved
 arguments-loop-part-preserved t c = part_ahead c.args.scope.now c.args.faults.now c.loop-part.faults c.part_arguments-in-loop-part.new.faults (checked_arguments (plain_name c.args.name.now) c.args.scope.now) c.part-item.result (drop c.loop-part.part-index c.deref-part-items.result.now) (drop (c.loop-part.part-index + 1) c.deref-part-items.result.now) (plain_typed c.loop-part.last.value) c.in_ok-last-2.last (dropped c.deref-part-items.result.now c.loop-part.part-index c.part-item.result (omega arith) c.part-item.is) c.loop-part.invariant c.in_ok-last-2.ensures

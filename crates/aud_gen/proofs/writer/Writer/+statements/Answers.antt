@@ -1,16 +1,17 @@
-use Rattle.std.proofs.Common.{◌≡◌, ℕ, refl, suc, ◌+◌, ◌-◌, ◌++◌, length, drop, ap, sym, ◌∙◌, arith}
+use Rattle.std.proofs.Common.{◌≡◌, ℕ, refl, suc, ◌+◌, ◌-◌, ◌++◌, length, drop, ap, sym, ◌∙◌, subst, arith}
 use Rattle.std.specs.Prelude.{if◌then◌else◌, vec_len}
 use Rattle.std.proofs.lemmas.List.{length-drop}
 use Rattle.aud_typed.specs.declared.program.IfStatement.{out-IfStatement}
 use Rattle.aud_typed.specs.declared.program.BlockStatement.{out-BlockStatement}
 use Rattle.aud_typed.specs.declared.program.Body.{out-Body}
 use Rattle.aud_typed.proofs.Opened.{loop_open, while_open, if_open, for_open, block_open}
-use Rattle.aud_typed.specs.Tree.{part_of, while_loop, plain_loop}
-use Rattle.aud_typed.specs.Ties.View.{plain_boolean, plain_statement, plain_statements, statements_in, part_of_arms, if_in, for_in, handlers_in, body_in, block_in}
+use Rattle.aud_typed.specs.Tree.{part_of, activation, while_loop, plain_loop}
+use Rattle.aud_typed.specs.Ties.View.{plain_boolean, plain_statement, plain_statements, statements_in, part_of_arms, if_in, for_in, handlers_in, elaborations_in, body_in, block_in}
 use Rattle.aud_gen.specs.Instructions.{condition_code}
 use Rattle.aud_gen.specs.Layout.{statement_size_by, part_size_by, end_place_by, ways_count, in_loop}
 use Rattle.aud_gen.specs.Written.{flat_step}
-use Rattle.aud_gen.specs.Writes.{has_statements, around, statement_lines, part_lines, guard_lines, handlers_lines}
+use Rattle.aud_gen.specs.Writes.{has_statements, around, statement_lines, part_lines, guard_lines, handlers_lines, Writes}
+use Rattle.aud_gen.proofs.Elaborations.{whole_activated}
 use Rattle.aud_gen.proofs.Loops.{dropped}
 use Rattle.aud_gen.proofs.Lines.{chosen, passed_over, none_left, with_part, one_listed, one_arm, same_lines, same_around, same_loop, whole_while, whole_list, whole_arm, if_by}
 use Rattle.aud_gen.proofs.Constructs.{bounds, whole_for, whole_body, whole_block, with_handlers, one_handler}
@@ -87,19 +88,19 @@ write_body-returns t c =
     let w = λ (out : ℕ). around out c.args.ways.now in
     let count = ways_count (w 0) in
     let counted : c.in_ok-count.count ≡ count = c.in_ok-count.ensures in
-    let d = part_of (plain_statements b.declarations.items) in
+    let d = part_of (elaborations_in c.args.body.now) in
     let s = statements_in b.statements in
     let begin_is : c.in_ok-begin.begin ≡ length c.args.self.now + part_size_by flat_step d count =
-    omega (arith, c.in_ok-begin.ensures, c.place.ensures, c.in_ok-list_length.ensures ∙ ap (λ z. part_size_by flat_step (part_of (plain_statements z)) c.in_ok-count.count) c.deref.ensures.value ∙ ap (part_size_by flat_step d) counted) in
+    omega (arith, c.in_ok-begin.ensures, c.place.ensures, c.in_ok-elaborations_length.ensures ∙ ap (part_size_by flat_step d) counted) in
     let guard_is : c.in_ok-guard.guard ≡ c.in_ok-begin.begin + statement_size_by flat_step s count =
     omega (arith, c.in_ok-guard.ensures, c.in_ok-statements_length.ensures ∙ ap (statement_size_by flat_step s) counted) in
     let n2 = c.write_statements.new.self in
     let n3 = c.write_guards.new.self in
-    whole_body w c.args.ways.now.within count (λ out. refl) c.end.result c.args.construct d s (handlers_in b.handlers.items) b.end c.args.self.now c.write_list.new.self n2 n3 c.write_handlers.new.self c.end.new.self c.in_ok-begin.begin c.in_ok-guard.guard c.args.last c.args.next c.args.out begin_is guard_is
-    (c.in_ok-write_list.ensures ∙ ap (λ z. c.args.self.now ++ part_lines (part_of (plain_statements z)) (length c.args.self.now) c.in_ok-begin.begin (w c.args.last)) c.deref-2.ensures.value)
+    whole_body w c.args.ways.now.within count (λ out. refl) c.end.result c.args.construct d s (handlers_in b.handlers.items) b.end c.args.self.now c.write_elaborations.new.self n2 n3 c.write_handlers.new.self c.end.new.self c.in_ok-begin.begin c.in_ok-guard.guard c.args.last c.args.next c.args.out begin_is guard_is
+    c.in_ok-write_elaborations.ensures
     c.in_ok-write_statements.ensures
-    (c.in_ok-write_guards.ensures ∙ ap (λ z. n2 ++ guard_lines (handlers_in z) b.end (length n2) c.args.last c.in_ok-count.count c.args.ways.now.within) c.deref-3.ensures.value ∙ ap (λ n. n2 ++ guard_lines (handlers_in b.handlers.items) b.end (length n2) c.args.last n c.args.ways.now.within) counted)
-    (c.in_ok-write_handlers.ensures ∙ ap (λ z. n3 ++ handlers_lines (handlers_in z) (length n3) c.args.last (w c.args.last)) c.deref-4.ensures.value)
+    (c.in_ok-write_guards.ensures ∙ ap (λ z. n2 ++ guard_lines (handlers_in z) b.end (length n2) c.args.last c.in_ok-count.count c.args.ways.now.within) c.deref.ensures.value ∙ ap (λ n. n2 ++ guard_lines (handlers_in b.handlers.items) b.end (length n2) c.args.last n c.args.ways.now.within) counted)
+    (c.in_ok-write_handlers.ensures ∙ ap (λ z. n3 ++ handlers_lines (handlers_in z) (length n3) c.args.last (w c.args.last)) c.deref-2.ensures.value)
     c.end.ensures
 
 pub write_block-returns : goal.write_block-returns
@@ -109,7 +110,7 @@ write_block-returns t c =
     let a = around c.args.out c.args.ways.now in
     let last_is : c.in_ok-last.last ≡ end_place_by flat_step (body_in o.body) c.in_ok-inside.inside (ways_count a) = c.in_ok-last.ensures ∙ ap (end_place_by flat_step (body_in o.body) c.in_ok-inside.inside) c.in_ok-count.ensures in
     let inside_is : c.in_ok-inside.inside ≡ length c.args.self.now + 1 = omega (arith, c.in_ok-inside.ensures, c.place-place.ensures) in
-    whole_block c.write_stubs.result o.at o.region (body_in o.body) (part_of (plain_statements b.declarations.items)) b.begin (statements_in b.statements) (handlers_in b.handlers.items) b.end c.args.self.now c.end_statement.new.self c.write_body.new.self c.write_stubs.new.self c.place-place.result c.in_ok-inside.inside c.in_ok-last.last c.args.next a (around c.in_ok-last.last c.in_ok-inner.inner) refl c.place-place.ensures inside_is last_is (c.in_ok-inner.ensures c.in_ok-last.last) c.in_ok-end_statement.ensures c.in_ok-write_body.ensures c.write_stubs.ensures
+    whole_block c.write_stubs.result o.at o.region (body_in o.body) (part_of (elaborations_in o.body)) b.begin (statements_in b.statements) (handlers_in b.handlers.items) b.end c.args.self.now c.end_statement.new.self c.write_body.new.self c.write_stubs.new.self c.place-place.result c.in_ok-inside.inside c.in_ok-last.last c.args.next a (around c.in_ok-last.last c.in_ok-inner.inner) refl c.place-place.ensures inside_is last_is (c.in_ok-inner.ensures c.in_ok-last.last) c.in_ok-end_statement.ensures c.in_ok-write_body.ensures c.write_stubs.ensures
 
 pub write_for-returns : goal.write_for-returns
 write_for-returns t c =
@@ -138,3 +139,15 @@ pub write_statement-returns-in-Block : goal.write_statement-returns-in-Block
 write_statement-returns-in-Block t c =
     let is : block_in c.deref-in-Block.result.now ≡ plain_statement c.args.s.now = ap block_in c.deref-in-Block.ensures ∙ sym (ap plain_statement c.in-Block.is ∙ block_open c.in-Block.block.value) in
     same_lines c.write_block.result c.args.self.now c.write_block.new.self (block_in c.deref-in-Block.result.now) (plain_statement c.args.s.now) c.args.next (around c.args.out c.args.ways.now) is c.write_block.ensures
+
+pub write_elaborations-returns : goal.write_elaborations-returns
+write_elaborations-returns t c =
+    let b = out-Body c.args.body.now in
+    let xs = plain_statements b.declarations.items in
+    let a = around c.args.out c.args.ways.now in
+    let old = c.args.self.now in
+    let listed = c.in_ok-list_length.ensures ∙ ap (λ z. part_size_by flat_step (part_of (plain_statements z)) c.in_ok-count.field-0) c.deref-2.ensures.value ∙ ap (part_size_by flat_step (part_of xs)) c.in_ok-count.ensures in
+    let behind_is : c.in_ok-activation.activation ≡ length old + part_size_by flat_step (part_of xs) (ways_count a) = omega (arith, c.in_ok-activation.ensures, c.place.ensures, listed) in
+    let declared = c.in_ok-write_list.ensures ∙ ap (λ z. old ++ part_lines (part_of (plain_statements z)) (length old) c.in_ok-activation.activation a) c.deref-3.ensures.value in
+    let whole = whole_activated c.end.result xs b.begin old c.write_list-2.new.self c.end.new.self c.in_ok-activation.activation c.args.next a behind_is declared c.end.ensures in
+    subst (λ x. Writes c.end.result old c.end.new.self (part_lines (part_of (xs ++ activation x b.begin)) (length old) c.args.next a)) (sym c.if-not-body.false) whole

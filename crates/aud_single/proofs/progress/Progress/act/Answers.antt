@@ -4,7 +4,7 @@ use Rattle.aud_code.specs.Flat as flat
 use Rattle.aud_code.specs.Sound.{LastFine, counts_of}
 use Rattle.aud_single.specs.Shown.{plans_of}
 use Rattle.aud_single.specs.Steps.{IsOfTasks}
-use Rattle.aud_single.proofs.Knowing.{ticks_so, asks_of_tasks}
+use Rattle.aud_single.proofs.Knowing.{ticks_so, asks_of_tasks, raises_before}
 use Rattle.aud_single.proofs.Steps.{plain_units, acts, fails}
 use Rattle.aud_single.proofs.progress.Progress.act.Goals as goal
 
@@ -54,6 +54,7 @@ returns-in_ok-reach-in-Reaches c =
           (rw (c.place-place.ensures.value, c.display.ensures.value, c.frames.ensures, c.store-store.ensures) at c.in_ok-outcome.ensures.ticks);
       few = c.in_ok-outcome.ensures.few;
       grows = c.in_ok-reach-in-Reaches.ensures.grows;
+      raises = λ stage is. absurd (false≢true (c.if-is_of_tasks.ensures.1 (rw c.place-place.ensures.value is)));
     }
 
 pub returns-in_ok-fail-in-Fails : goal.returns-in_ok-fail-in-Fails
@@ -73,4 +74,7 @@ returns-in_ok-fail-in-Fails c =
           (rw (c.place-place.ensures.value, c.display.ensures.value, c.frames.ensures, c.store-store.ensures) at c.in_ok-outcome.ensures.ticks);
       few = c.in_ok-outcome.ensures.few;
       grows = c.in_ok-fail-in-Fails.ensures.grows;
+      raises = λ stage.
+          raises_before c.args.known.now code q c.in-Fails.raise
+          (rw (c.in-Fails.is, c.place-place.ensures.value, c.display.ensures.value, c.frames.ensures, c.store-store.ensures) at c.in_ok-outcome.ensures.ends);
     }

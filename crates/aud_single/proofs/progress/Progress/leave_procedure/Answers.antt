@@ -1,4 +1,4 @@
-use Rattle.std.proofs.Common.{◌≡◌, ℕ, Some, reverse, ap, sym, subst, ◌∙◌}
+use Rattle.std.proofs.Common.{◌≡◌, Some, reverse, ap, subst, ◌∙◌}
 use Rattle.aud_meaning.specs.Ties.Single.{Single, closed, closed_times, out_of_loops}
 use Rattle.aud_code.specs.Places.{Spot}
 use Rattle.aud_exc.specs.View.{plain_pending}

@@ -1,4 +1,4 @@
-use Rattle.std.proofs.Common.{◌≡◌, ◌∙◌}
+use Rattle.std.proofs.Common.{◌≡◌}
 use Rattle.aud_meaning.specs.Ties.Single.{Single}
 use Rattle.aud_code.specs.Places.{Spot}
 use Rattle.aud_single.specs.Shown.{plans_of, unit_in}

@@ -2,7 +2,7 @@ use Rattle.std.proofs.Common.{◌∙◌, ap, refl, sym, arith}
 use Rattle.aud_meaning.specs.Ties.Single.{runs}
 use Rattle.aud_exc.specs.View.{plain_raised, plain_pending}
 use Rattle.aud_single.specs.Shown.{plans_of, plain_stage}
-use Rattle.aud_single.proofs.Knowing.{no_ticks}
+use Rattle.aud_single.proofs.Knowing.{no_ticks, pends}
 use Rattle.aud_single.proofs.progress.Progress.step_among.Goals as goal
 
 pub returns-in_ok-propagate-in-Runs-Some : goal.returns-in_ok-propagate-in-Runs-Some
@@ -16,4 +16,5 @@ returns-in_ok-propagate-in-Runs-Some c =
       ticks = no_ticks c.args.known.now c.args.code.now c.args.self.now 0 (plain_raised c.in-Runs-Some.raised) stage refl;
       few = omega arith;
       grows = done.grows;
+      raises = λ running is. absurd (pends c.args.self.now.stage (plain_raised c.in-Runs-Some.raised) stage running);
     }

@@ -1,9 +1,8 @@
-use Rattle.std.proofs.Common.{sym, ap, refl, subst, Some, None, false, ◌∙◌}
-use Rattle.aud_meaning.specs.Ties.Single.{Stage, runs}
+use Rattle.std.proofs.Common.{sym, ap, refl, Some, None, ◌∙◌}
+use Rattle.aud_meaning.specs.Ties.Single.{runs}
 use Rattle.aud_code.specs.Flat.{end_at}
 use Rattle.aud_exc.specs.View.{plain_raised, plain_pending}
 use Rattle.aud_single.specs.Shown.{plain_stage}
-use Rattle.aud_single.specs.Standing.{LeavesIn}
 use Rattle.aud_single.proofs.Leaving.{statement_leaves, end_leaves, handler_leaves}
 use Rattle.aud_single.proofs.standing.Standing.leaves_construct.Goals as goal
 

@@ -1,0 +1,11 @@
+use Rattle.std.proofs.Common.{refl}
+use Rattle.std.specs.Fmt.{digits}
+use Rattle.aud_bench.specs.Alone.{alone}
+use Rattle.aud_server.specs.Requests.{requests}
+use Rattle.aud_server.specs.Text.{text}
+use Rattle.aud_worked.specs.Sessions.{answers_to}
+use Rattle.aud_worked.proofs.laws.failed_activation.Goals as goal
+
+pub returns : goal.returns
+unfolding answers_to alone requests text digits
+returns c = refl
