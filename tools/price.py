@@ -1,6 +1,6 @@
 """Runs the gate, and tells the user time of its processes by crate and by what they did.
 
-The unit is the user time of `rt selftest`, so that machines can be compared. Processes are looked at
+The unit is the user time of `rt selftest`, the median of three, since one may be off by half, so that machines can be compared. Processes are looked at
 ten times a second, so what one does in its last tenth is not counted for its crate; the sum is exact.
 Only those that this gate has started are counted, whatever else runs on the machine. price.sh calls it.
 """
@@ -11,6 +11,7 @@ import sys
 import threading
 import time
 from collections import defaultdict
+from statistics import median
 
 TICK = os.sysconf("SC_CLK_TCK")
 PARTS = ("proof", "tests", "edits", "other")
@@ -97,8 +98,10 @@ def table(seen, total, unit):
 def main():
     if sys.argv[1:]:
         sys.exit("usage: price.sh (it takes no words, and runs the gate)")
-    unit, said = spent(["rt", "selftest"], "/tmp/price-selftest.log")
-    print(f"{said}: {unit:.1f} seconds")
+    tries = [spent(["rt", "selftest"], "/tmp/price-selftest.log") for _ in range(3)]
+    unit = median(seconds for seconds, _ in tries)
+    for seconds, said in tries:
+        print(f"{said}: {seconds:.1f} seconds")
     seen, ended, began = {}, threading.Event(), time.time()
     watcher = threading.Thread(target=watch, args=(seen, ended))
     watcher.start()

@@ -118,11 +118,11 @@ def nested_procedures():
 
 
 def nested_tasks():
-    """Task bodies at the limit of levels, of which 63 are entered at once, and long lists of tasks and of what is said of them."""
+    """Task bodies at the limit of levels, of which 63 are entered at once and the next is one task too many, whose exception goes no further; long lists of tasks and of what is said of them."""
     inner, over = DEEP, "+ 1\nloaded M\n+ 2\nran "
     heads = "".join(f"task {name(i)};task body {name(i)} is\n" for i in range(inner))
     ends = "begin null;end;\n" * inner
-    yield "task bodies in one another", f"procedure M is\n{heads}{ends}begin null;end M;\n", over
+    yield "task bodies in one another", f"procedure M is\n{heads}{ends}begin null;end M;\n", None
     text, _ = source("procedure M is", lambda i: f"task {name(i)};task body {name(i)} is begin null;end;", "begin null;end M;")
     yield "one list of tasks", text, over
     text, _ = source("procedure M is", lambda i: f"task type {name(i)};task body {name(i)} is begin null;end;", "begin null;end M;")
