@@ -1,11 +1,11 @@
 """Runs the gate, and tells the user time of its processes by crate and by what they did.
 
-The unit is the user time of `rt selftest`, the median of three, since one may be off by half, so that machines can be compared. Processes are looked at
-ten times a second, so what one does in its last tenth is not counted for its crate; the sum is exact.
+The unit is the user time of `rt selftest`, so that machines can be compared: the median of those that run one after the other beside the gate's first
+minutes, since a busy machine takes more user time for the same work. Three before it, alone, are told too. Processes are looked at ten times a second, so
+what one does in its last tenth is not counted for its crate; the sum is exact.
 Only those that this gate has started are counted, whatever else runs on the machine. price.sh calls it.
 """
 import os
-import resource
 import subprocess
 import sys
 import threading
@@ -15,16 +15,30 @@ from statistics import median
 
 TICK = os.sysconf("SC_CLK_TCK")
 PARTS = ("proof", "tests", "edits", "other")
+# How many selftests run alone, and how many beside the gate.
+ALONE, BESIDE = 3, 7
 
 
 def spent(command, name):
     """Runs it, its output in a file of that name, and answers its user time and its last line."""
-    before = resource.getrusage(resource.RUSAGE_CHILDREN).ru_utime
     with open(name, "w", encoding="utf-8") as out:
-        subprocess.run(command, stdout=out, stderr=subprocess.STDOUT, check=False)
-    after = resource.getrusage(resource.RUSAGE_CHILDREN).ru_utime
+        process = subprocess.Popen(command, stdout=out, stderr=subprocess.STDOUT)
+        _, status, used = os.wait4(process.pid, 0)
+        process.returncode = os.waitstatus_to_exitcode(status)
     with open(name, encoding="utf-8", errors="replace") as out:
-        return after - before, out.read().rstrip("\n").split("\n")[-1]
+        return used.ru_utime, out.read().rstrip("\n").split("\n")[-1]
+
+
+def selftest(where):
+    seconds, said = spent(["rt", "selftest"], "/tmp/price-selftest.log")
+    print(f"{said}, {where}: {seconds:.1f} seconds", flush=True)
+    return seconds
+
+
+def selftests_beside(units, ended):
+    """Notes the user times of selftests one after the other, the last of which may end behind the gate."""
+    while len(units) < BESIDE and not ended.is_set():
+        units.append(selftest("beside the gate"))
 
 
 def what_it_does(pid):
@@ -34,6 +48,9 @@ def what_it_does(pid):
     if not words[0].endswith("rattle") or "--crate-name" not in words:
         return None
     crate = words[words.index("--crate-name") + 1]
+    if not os.path.isdir(f"crates/{crate}"):
+        # (a selftest's)
+        return None
     if not os.path.realpath(f"/proc/{pid}/cwd").startswith(os.getcwd()):
         return crate, "edits"
     return crate, "tests" if "--test" in words else "proof"
@@ -98,18 +115,19 @@ def table(seen, total, unit):
 def main():
     if sys.argv[1:]:
         sys.exit("usage: price.sh (it takes no words, and runs the gate)")
-    tries = [spent(["rt", "selftest"], "/tmp/price-selftest.log") for _ in range(3)]
-    unit = median(seconds for seconds, _ in tries)
-    for seconds, said in tries:
-        print(f"{said}: {seconds:.1f} seconds")
-    seen, ended, began = {}, threading.Event(), time.time()
-    watcher = threading.Thread(target=watch, args=(seen, ended))
-    watcher.start()
-    total, said = spent(["rt", "ci"], "/tmp/price-gate.log")
+    alone = median(selftest("alone") for _ in range(ALONE))
+    seen, units, ended, began = {}, [], threading.Event(), time.time()
+    beside = [threading.Thread(target=watch, args=(seen, ended)), threading.Thread(target=selftests_beside, args=(units, ended))]
+    for it in beside:
+        it.start()
+    total, said = spent(["rt", "ci", "--anew"], "/tmp/price-gate.log")
+    minutes = (time.time() - began) / 60
     ended.set()
-    watcher.join()
-    print(f"{said}, in {(time.time() - began) / 60:.1f} minutes")
-    table(seen, total, unit)
+    for it in beside:
+        it.join()
+    print(f"{said}, in {minutes:.1f} minutes")
+    table(seen, total, median(units))
+    print(f"by selftests alone: {total / alone:.1f} of {alone:.1f} seconds")
 
 
 main()

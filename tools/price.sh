@@ -1,6 +1,6 @@
 #!/bin/sh
 # What the gate costs: user time by crate, for the proof, the tests' proof and the edits, in selftests of the toolchain.
-# It runs `rt selftest` and then `rt ci`, and shows what `rt ci` printed last.
+# It runs `rt selftest`, and then `rt ci --anew` with selftests beside it, and shows what `rt ci` printed last.
 set -eu
 top=$(cd "$(dirname "$0")/.." && pwd)
 cd "$top"
