@@ -2,21 +2,17 @@
 
 use aud_server::program::program;
 use aud_server::solo::{SoloFault, solo};
+use aud_server::streams::Stream;
 use std::alloc::{AllocError, Global};
 use std::io::{self, ErrorKind, Read, Write};
 
-// A reader of these bytes that fails at their end.
+// A reader whose error is that memory is out.
 #[derive(Drop)]
-struct Torn<'a> {
-    bytes: &'a [u8],
-}
+struct Empty;
 
-impl Read for Torn<'_> {
-    fn read(&mut self, buf: &mut [u8]) -> io::Result<usize> {
-        if self.bytes.is_empty() {
-            return Err(io::Error::from(ErrorKind::ConnectionReset));
-        }
-        self.bytes.read(buf)
+impl Read for Empty {
+    fn read(&mut self, _buf: &mut [u8]) -> io::Result<usize> {
+        Err(io::Error::from(ErrorKind::OutOfMemory))
     }
 }
 
@@ -34,22 +30,19 @@ impl Write for Full {
     }
 }
 
-// What came before the fault is answered.
+// A reader that fails is told from memory that is refused, whatever its error says.
 #[test]
 fn tells_read_faults(rt: HostRuntime) {
-    let mut reader = Torn {
-        bytes: b"RUN 1\nRUN",
-    };
     let mut written = Vec::new(rt.alloc());
-    let ended = solo(rt.alloc(), &mut reader, &mut written);
+    let mut writer = Stream::new(&mut written);
+    let ended = solo(rt.alloc(), &mut Stream::new(Empty), &mut writer);
     assert_eq!(rt; ended, Err(SoloFault::Read));
-    assert!(rt; written.as_slice() == b"- E14 no program\n".as_slice());
 }
 
 #[test]
 fn tells_write_faults(rt: HostRuntime) {
-    let mut input = b"RUN 1\n".as_slice();
-    let ended = solo(rt.alloc(), &mut input, &mut Full);
+    let mut reader = Stream::new(b"RUN 1\n".as_slice());
+    let ended = solo(rt.alloc(), &mut reader, &mut Stream::new(Full));
     assert_eq!(rt; ended, Err(SoloFault::Write));
 }
 

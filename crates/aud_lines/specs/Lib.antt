@@ -1,0 +1,5 @@
+pub mod Feed
+pub mod Lines
+pub mod Requests
+pub mod Text
+pub mod Ties

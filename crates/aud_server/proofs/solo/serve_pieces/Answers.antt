@@ -1,0 +1,152 @@
+use Rattle.std.proofs.Common.{rules, ◌≡◌, ◌+◌, ◌++◌, [], take, ap, sym, ◌∙◌, subst, append-nil, arith}
+use Rattle.std.specs.Io.KnownBytes.{Consumes}
+use Rattle.aud_lines.specs.Feed.{Splits}
+use Rattle.aud_server.specs.Ties.Turns.{HasServed}
+use Rattle.aud_server.proofs.StreamLaws.{consumes_kept, consumes_more}
+use Rattle.aud_server.proofs.TurnLaws.{served_start, wrote_all, over_known, end_known, some_given, front_given, served_more, some_read}
+use Rattle.aud_server.proofs.solo.serve_pieces.Goals as goal
+
+pub loop-init : goal.loop-init
+loop-init g c = record {
+  served = served_start (g.S.Source.remaining c.args.reader.now) (g.T.Sink.contents c.args.writer.now) c.args.feed.now c.args.session.now c.requires.feed c.requires.session.0 c.requires.session.1;
+  calls = omega arith;
+  read = search rules;
+  written = search rules;
+}
+
+pub returns-in_default-clause-serves : goal.returns-in_default-clause-serves
+returns-in_default-clause-serves g c =
+    let left = g.S.Source.remaining c.args.reader.now in
+    let middle = g.S.Source.remaining c.loop.reader in
+    let before = g.T.Sink.contents c.args.writer.now in
+    let now = g.T.Sink.contents c.loop.writer in
+    let h = c.loop.invariant.served in
+    let taken = consumes_kept left middle (g.S.Source.remaining c.pull.new.self) h.input h.taken c.in_default.ensures.bytes in
+    record {
+      all = tt;
+      ended = tt;
+      read = λ e. (h.input, taken, wrote_all left middle before now c.loop.feed c.loop.session h);
+      memory = search rules;
+      write = search rules;
+    }
+
+pub returns-clause-serves : goal.returns-clause-serves
+returns-clause-serves g c =
+    let left = g.S.Source.remaining c.args.reader.now in
+    let middle = g.S.Source.remaining c.loop.reader in
+    let before = g.T.Sink.contents c.args.writer.now in
+    let now = g.T.Sink.contents c.loop.writer in
+    let h = c.loop.invariant.served in
+    record {
+      all = tt;
+      ended = tt;
+      read = λ e. (h.input, h.taken, wrote_all left middle before now c.loop.feed c.loop.session h);
+      memory = search rules;
+      write = search rules;
+    }
+
+pub returns-then-count-eq0-clause-serves : goal.returns-then-count-eq0-clause-serves
+returns-then-count-eq0-clause-serves g c =
+    let left = g.S.Source.remaining c.args.reader.now in
+    let middle = g.S.Source.remaining c.loop.reader in
+    let end = g.S.Source.remaining c.pull.new.self in
+    let before = g.T.Sink.contents c.args.writer.now in
+    let now = g.T.Sink.contents c.loop.writer in
+    let h = c.loop.invariant.served in
+    let none : take c.in-Ok.count c.pull.new.piece ≡ [] = ap (λ n. take n c.pull.new.piece) c.if-count-eq0.true in
+    let taken : Consumes left end h.input =
+    subst (Consumes left end) (ap (λ xs. h.input ++ xs) none ∙ append-nil h.input)
+    (consumes_more left middle end h.input (take c.in-Ok.count c.pull.new.piece) h.taken c.in-Ok.ensures.bytes.0) in
+    let ended : HasServed left end before now c.loop.feed c.loop.session =
+    record { input = h.input; asked = h.asked; taken = taken; fed = h.fed; begun = h.begun; told = h.told } in
+    record {
+      all = end_known left end before now c.loop.feed c.loop.session ended (c.in-Ok.ensures.bytes.1 c.if-count-eq0.true (search rules));
+      ended = (h.input, taken, wrote_all left end before now c.loop.feed c.loop.session ended);
+      read = search rules;
+      memory = search rules;
+      write = search rules;
+    }
+
+pub returns-in_err-requests-clause-serves : goal.returns-in_err-requests-clause-serves
+returns-in_err-requests-clause-serves g c =
+    let left = g.S.Source.remaining c.args.reader.now in
+    let middle = g.S.Source.remaining c.loop.reader in
+    let before = g.T.Sink.contents c.args.writer.now in
+    let now = g.T.Sink.contents c.loop.writer in
+    let h = c.loop.invariant.served in
+    let piece = take c.in-Ok.count c.pull.new.piece in
+    let taken = consumes_more left middle (g.S.Source.remaining c.pull.new.self) h.input piece h.taken c.in-Ok.ensures.bytes.0 in
+    record {
+      all = search rules;
+      ended = search rules;
+      read = search rules;
+      memory = λ e. (h.input ++ piece, taken, some_read left middle before now c.loop.feed c.loop.session h piece);
+      write = search rules;
+    }
+
+pub returns-in_err-answer_each-clause-serves : goal.returns-in_err-answer_each-clause-serves
+returns-in_err-answer_each-clause-serves g c =
+    let left = g.S.Source.remaining c.args.reader.now in
+    let middle = g.S.Source.remaining c.loop.reader in
+    let before = g.T.Sink.contents c.args.writer.now in
+    let now = g.T.Sink.contents c.loop.writer in
+    let new = g.T.Sink.contents c.answer_each.new.writer in
+    let h = c.loop.invariant.served in
+    let piece = take c.in-Ok.count c.pull.new.piece in
+    let next = c.feed.new.self in
+    let given = c.deref.result.now in
+    let split = subst (λ rs. Splits (c.loop.feed ++ piece) rs next) (sym c.deref.ensures.value) c.in_ok-requests.ensures.given in
+    let taken = consumes_more left middle (g.S.Source.remaining c.pull.new.self) h.input piece h.taken c.in-Ok.ensures.bytes.0 in
+    let tells = c.answer_each.ensures.tells before h.asked h.told in
+    record {
+      all = search rules;
+      ended = search rules;
+      read = search rules;
+      memory = λ e. (h.input ++ piece, taken, some_given left middle before now c.loop.feed c.loop.session h piece next given split new (tells.memory (search rules)));
+      write = λ e. (h.input ++ piece, taken, front_given left middle before now c.loop.feed c.loop.session h piece next given split new (tells.write (search rules)));
+    }
+
+pub returns-then-is_over-clause-serves : goal.returns-then-is_over-clause-serves
+returns-then-is_over-clause-serves g c =
+    let left = g.S.Source.remaining c.args.reader.now in
+    let middle = g.S.Source.remaining c.loop.reader in
+    let rest = g.S.Source.remaining c.pull.new.self in
+    let before = g.T.Sink.contents c.args.writer.now in
+    let now = g.T.Sink.contents c.loop.writer in
+    let new = g.T.Sink.contents c.answer_each.new.writer in
+    let h = c.loop.invariant.served in
+    let piece = take c.in-Ok.count c.pull.new.piece in
+    let next = c.feed.new.self in
+    let session = c.answer_each.new.session in
+    let given = c.deref.result.now in
+    let split = subst (λ rs. Splits (c.loop.feed ++ piece) rs next) (sym c.deref.ensures.value) c.in_ok-requests.ensures.given in
+    let told = (c.in_ok-answer_each.ensures.tells before h.asked h.told).all in
+    let more = served_more left middle before now c.loop.feed c.loop.session h piece next given split rest new session c.in-Ok.ensures.bytes.0 told in
+    record {
+      all = over_known left rest before new next session more (sym c.is_over.ensures ∙ c.if-is_over.true);
+      ended = (more.input, more.taken, wrote_all left rest before new next session more);
+      read = search rules;
+      memory = search rules;
+      write = search rules;
+    }
+
+pub loop-preserved : goal.loop-preserved
+loop-preserved g c =
+    let left = g.S.Source.remaining c.args.reader.now in
+    let middle = g.S.Source.remaining c.loop.reader in
+    let rest = g.S.Source.remaining c.pull.new.self in
+    let before = g.T.Sink.contents c.args.writer.now in
+    let now = g.T.Sink.contents c.loop.writer in
+    let new = g.T.Sink.contents c.answer_each.new.writer in
+    let h = c.loop.invariant.served in
+    let piece = take c.in-Ok.count c.pull.new.piece in
+    let next = c.feed.new.self in
+    let given = c.deref.result.now in
+    let split = subst (λ rs. Splits (c.loop.feed ++ piece) rs next) (sym c.deref.ensures.value) c.in_ok-requests.ensures.given in
+    let told = (c.in_ok-answer_each.ensures.tells before h.asked h.told).all in
+    record {
+      served = served_more left middle before now c.loop.feed c.loop.session h piece next given split rest new c.answer_each.new.session c.in-Ok.ensures.bytes.0 told;
+      calls = omega (arith, c.in-Ok.ensures.calls, c.loop.invariant.calls, c.requires.calls);
+      read = c.in-Ok.ensures.failures ∙ c.loop.invariant.read;
+      written = c.in_ok-answer_each.ensures.counts ∙ c.loop.invariant.written;
+    }

@@ -1,0 +1,14 @@
+use Rattle.std.proofs.Common.{◌≡◌, ◌+◌, length}
+use Rattle.aud_server.specs.Ties.Turns.{HasServed}
+use Rattle.aud_server.proofs.solo.serve_pieces.Given as goal
+
+abbrev pub invariant-loop : goal.invariant-loop
+invariant-loop g l =
+    let source = g.S.Source in
+    let sink = g.T.Sink in
+    record {
+      served : HasServed (source.remaining l.fn.reader) (source.remaining l.reader) (sink.contents l.fn.writer) (sink.contents l.writer) l.feed l.session;
+      calls : source.calls l.reader ≡ source.calls l.fn.reader + l.counter;
+      read : source.failures l.reader ≡ source.failures l.fn.reader;
+      written : sink.failures l.writer ≡ sink.failures l.fn.writer;
+    }
