@@ -1,6 +1,9 @@
--- What is left to read, and what stands there, over several calls.
-use Rattle.std.proofs.Common.{◌≡◌, ℕ, List, [], ◌++◌, Option, Some, None, refl, sym, ◌∙◌, ap, append_assoc, append-nil}
+-- What is left to read, what stands there, and what is counted, over several calls.
+use Rattle.std.proofs.Common.{◌≡◌, ◌⊎◌, inl, inr, ℕ, ◌+◌, ◌<◌, ◌%◌, ◌^◌, List, [], ◌++◌, Option, Some, None, refl, sym, ◌∙◌, ap, add_assoc, append_assoc, append-nil, arith}
+use Rattle.std.proofs.Math.Nat.{mod-add-mod}
 use Rattle.std.specs.Io.KnownBytes.{Appends, Consumes, Keeps}
+use Rattle.aud_server.specs.Streams.{counted, counted_by}
+use Rattle.aud_server.specs.Ties.Turns.{CountsTurns}
 
 pub keeps_same : (a : Option (List ℕ)) → Keeps a a
 keeps_same None = tt
@@ -53,3 +56,19 @@ kept_consumes None b c xs h k = tt
 kept_consumes (Some all) None c xs h k = absurd h
 kept_consumes (Some all) (Some rest) None xs h k = absurd k
 kept_consumes (Some all) (Some rest) (Some end) xs h k = sym h ∙ k
+
+-- ---- counts
+
+-- one turn more
+pub turn_counted : (turns old middle new : ℕ) → CountsTurns turns old middle → new ≡ counted middle → new ≡ counted_by (turns + 1) old
+turn_counted turns old middle new (inl (none, same)) one = one ∙ ap counted same ∙ ap (λ n. counted_by (n + 1) old) (sym none)
+turn_counted turns old middle new (inr so_far) one =
+    one
+    ∙ ap counted so_far
+    ∙ mod-add-mod (old + turns) (2 ^ 64) 1
+    ∙ ap (λ n. n % 2 ^ 64) (add_assoc old turns 1)
+
+-- some turns at least
+pub turns_counted : (turns most old new : ℕ) → CountsTurns turns old new → turns ≡ most → 0 < most → new ≡ counted_by most old
+turns_counted turns most old new (inl (none, same)) all some = absurd (omega arith)
+turns_counted turns most old new (inr so_far) all some = so_far ∙ ap (λ n. counted_by n old) all

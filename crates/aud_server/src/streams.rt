@@ -71,11 +71,11 @@ impl<R: Read> Source for Stream<R> {
     ghost failures = { λ s. s.failures };
 
     fn pull(&mut self, piece: &mut [u8]) -> Result<usize, Failed> {
-        self.calls = self.calls.saturating_add(1);
+        self.calls = self.calls.wrapping_add(1);
         match read(&mut self.inner, piece) {
             Ok(count) => Ok(count),
             Err(failed) => {
-                self.failures = self.failures.saturating_add(1);
+                self.failures = self.failures.wrapping_add(1);
                 Err(failed)
             }
         }
@@ -88,11 +88,11 @@ impl<W: Write> Sink for Stream<W> {
     ghost failures = { λ s. s.failures };
 
     fn push(&mut self, bytes: &[u8]) -> Result<usize, Failed> {
-        self.calls = self.calls.saturating_add(1);
+        self.calls = self.calls.wrapping_add(1);
         match write(&mut self.inner, bytes) {
             Ok(count) => Ok(count),
             Err(failed) => {
-                self.failures = self.failures.saturating_add(1);
+                self.failures = self.failures.wrapping_add(1);
                 Err(failed)
             }
         }

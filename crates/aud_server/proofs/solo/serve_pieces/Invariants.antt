@@ -1,5 +1,5 @@
-use Rattle.std.proofs.Common.{◌≡◌, ◌+◌, length}
-use Rattle.aud_server.specs.Ties.Turns.{HasServed}
+use Rattle.std.proofs.Common.{◌≡◌}
+use Rattle.aud_server.specs.Ties.Turns.{HasServed, CountsTurns}
 use Rattle.aud_server.proofs.solo.serve_pieces.Given as goal
 
 abbrev pub invariant-loop : goal.invariant-loop
@@ -8,7 +8,7 @@ invariant-loop g l =
     let sink = g.T.Sink in
     record {
       served : HasServed (source.remaining l.fn.reader) (source.remaining l.reader) (sink.contents l.fn.writer) (sink.contents l.writer) l.feed l.session;
-      calls : source.calls l.reader ≡ source.calls l.fn.reader + l.counter;
+      calls : CountsTurns l.counter (source.calls l.fn.reader) (source.calls l.reader);
       read : source.failures l.reader ≡ source.failures l.fn.reader;
       written : sink.failures l.writer ≡ sink.failures l.fn.writer;
     }
