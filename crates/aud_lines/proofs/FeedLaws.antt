@@ -5,7 +5,7 @@ use Rattle.std.proofs.lemmas.List.{nil_from_length}
 use Rattle.aud_bench.specs.declared.request.BadRequest.{BadRequest}
 use Rattle.aud_bench.specs.declared.request.Request.{Request}
 use Rattle.aud_bench.specs.Size.{line_count}
-use Rattle.aud_lines.specs.Feed.{Splits}
+use Rattle.aud_lines.specs.Ties.Splits.{Splits}
 use Rattle.aud_lines.specs.Lines.{onto_line, lines_of, trimmed}
 use Rattle.aud_lines.specs.Requests.{Command, Loads, command, line_fault, Ready, first_fault, gathered, requests_from, requests}
 use Rattle.aud_lines.specs.Ties.Waits.{Waits}

@@ -1,7 +1,7 @@
 // The requests of a stream of bytes.
 
 ghost use Rattle.std.specs.Prelude.{◌≡◌, ℕ, ◌<◌, ◌≤◌, List, [], ◌∷◌, ◌++◌, length, IfOk, IfSome, MatchOption};
-ghost use Rattle.aud_lines.specs.Feed.{Splits};
+ghost use Rattle.aud_lines.specs.Ties.Splits.{Splits};
 ghost use Rattle.aud_lines.specs.Requests.{load_of, requests};
 ghost use Rattle.aud_lines.specs.Ties.Asked.{load_requests};
 ghost use Rattle.aud_lines.specs.Ties.Waits.{Waits};

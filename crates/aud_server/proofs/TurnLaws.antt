@@ -10,7 +10,7 @@ use Rattle.aud_bench.specs.declared.session.Session.{Session}
 use Rattle.aud_bench.specs.Alone.{answers_from, alone}
 use Rattle.aud_bench.specs.Ties.Answered.{server, HasAnswered}
 use Rattle.aud_bench.proofs.Sessions.{alone_front}
-use Rattle.aud_lines.specs.Feed.{Splits}
+use Rattle.aud_lines.specs.Ties.Splits.{Splits}
 use Rattle.aud_lines.specs.Requests.{requests}
 use Rattle.aud_lines.specs.Text.{answer_text, text}
 use Rattle.aud_lines.proofs.FeedLaws.{fed_more, fed_all}

@@ -1,6 +1,6 @@
 use Rattle.std.proofs.Common.{rules, ◌≡◌, ◌+◌, ◌++◌, [], inl, inr, take, refl, ap, sym, ◌∙◌, subst, append-nil, arith}
 use Rattle.std.specs.Io.KnownBytes.{Consumes}
-use Rattle.aud_lines.specs.Feed.{Splits}
+use Rattle.aud_lines.specs.Ties.Splits.{Splits}
 use Rattle.aud_server.specs.declared.solo.TheConstants.{READS}
 use Rattle.aud_server.specs.Streams.{counted}
 use Rattle.aud_server.specs.Ties.Turns.{HasServed}
