@@ -10,7 +10,8 @@ use std::io::{self, ErrorKind, Read, Write};
 #[derive(Clone, Copy, PartialEq, Eq, Debug)]
 pub struct Failed;
 
-/// What bytes are read from. It tells them, where they are known, and counts its calls and those that failed.
+/// What bytes are read from. It tells them, where they are known, and counts its calls and those that failed. A count begins
+/// again at 0 behind the largest number of 64 bits.
 pub trait Source {
     ghost remaining: { Self → Option (List ℕ) };
     ghost calls: { Self → ℕ };
@@ -25,7 +26,8 @@ pub trait Source {
             (λ _. failures self.new ≡ counted (failures self.old)) };
 }
 
-/// What bytes are written to. It tells them, where they are known, and counts its calls and those that failed.
+/// What bytes are written to. It tells them, where they are known, and counts its calls and those that failed, as a `Source`
+/// does.
 pub trait Sink {
     ghost contents: { Self → Option (List ℕ) };
     ghost calls: { Self → ℕ };
