@@ -54,15 +54,11 @@ impl Session {
 
     /// Answers a request; nothing where a QUIT was answered before. A request that does not fit the journal is answered so,
     /// and is not kept. Where memory is refused the session is not to be asked again.
-    pub fn answer(
-        &mut self,
-        alloc: Global,
-        request: &Request,
-    ) -> Result<Option<Answer>, AllocError>
+    pub fn answer(&mut self, alloc: Global, request: &Request) -> Result<Option<Answer>, AllocError>
         ensures limits { self.new.limits ≡ self.old.limits }
         ensures answer { IfOk result (λ given. (asked : List Request) → HasAnswered asked self.old →
             (alone self.old.limits (asked ++ request.now ∷ [])
-                ≡ alone self.old.limits asked ++ option_to_list given)
+            ≡ alone self.old.limits asked ++ option_to_list given)
             × HasAnswered (asked ++ request.now ∷ []) self.new) }
         ensures over { IfOk result (λ _. self.new.over ≡ (self.old.over || is_quit request.now)) }
     {
