@@ -1,7 +1,7 @@
 // A whole session, a request at a time.
 
-ghost use Rattle.std.specs.Prelude.{◌≡◌, ◌++◌, List, [], ◌∷◌, IfOk, option_to_list};
-ghost use Rattle.aud_bench.specs.Alone.{alone};
+ghost use Rattle.std.specs.Prelude.{◌≡◌, ◌||◌, ◌++◌, List, [], ◌∷◌, false, IfOk, option_to_list};
+ghost use Rattle.aud_bench.specs.Alone.{alone, is_quit};
 ghost use Rattle.aud_bench.specs.declared.request.Request.{Request};
 ghost use Rattle.aud_bench.specs.Ties.Answered.{HasAnswered};
 
@@ -41,6 +41,7 @@ impl Session {
     pub fn new(limits: Limits) -> Session
         ensures limits { result.limits ≡ limits }
         ensures asked { HasAnswered [] result }
+        ensures over { result.over ≡ false }
     {
         Session {
             limits,
@@ -63,6 +64,7 @@ impl Session {
             (alone self.old.limits (asked ++ request.now ∷ [])
                 ≡ alone self.old.limits asked ++ option_to_list given)
             × HasAnswered (asked ++ request.now ∷ []) self.new) }
+        ensures over { IfOk result (λ _. self.new.over ≡ (self.old.over || is_quit request.now)) }
     {
         if self.over {
             return Ok(None);
