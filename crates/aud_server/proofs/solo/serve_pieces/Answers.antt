@@ -173,7 +173,7 @@ loop-preserved g c =
     let told = (c.in_ok-answer_each.ensures.tells before h.asked h.told).all in
     record {
       served = served_more left middle before now c.loop.feed c.loop.session h piece next given split rest new c.answer_each.new.session c.in-Ok.ensures.bytes.0 told;
-      over = c.if-is_over.false;
+      over = sym c.is_over.ensures ∙ c.if-is_over.false;
       no_quit = quit_still_none c.loop.session.over c.answer_each.new.session.over h.asked given c.loop.invariant.over c.in_ok-answer_each.ensures.over (sym c.is_over.ensures ∙ c.if-is_over.false) c.loop.invariant.no_quit;
       calls =
           inr (turn_counted c.loop.counter (g.S.Source.calls c.args.reader.now) (g.S.Source.calls c.loop.reader) (g.S.Source.calls c.pull.new.self) c.loop.invariant.calls c.in-Ok.ensures.calls);
