@@ -1,15 +1,17 @@
 // The server on one stream of requests.
 
-ghost use Rattle.std.specs.Prelude.{◌≡◌, ◌⊎◌, [], ◌∷◌, OnOk, IsErrOf};
+ghost use Rattle.std.specs.Prelude.{◌≡◌, ◌⊎◌, ◌||◌, [], ◌∷◌, false, OnOk, IsErrOf};
 ghost use Rattle.std.specs.Io.KnownBytes.{Appends};
+ghost use Rattle.std.specs.List.{list_any};
 ghost use Rattle.aud_text.specs.declared.limits.TheConstants.{STANDARD};
 ghost use Rattle.aud_text.specs.declared.refusal.Refusal.TheVariants as refusal;
 ghost use Rattle.aud_bench.specs.declared.request.Answer.TheVariants as answer;
+ghost use Rattle.aud_bench.specs.Alone.{is_quit};
 ghost use Rattle.aud_bench.specs.Ties.Answered.{HasAnswered};
 ghost use Rattle.aud_lines.specs.Text.{answer_text};
 ghost use Rattle.aud_server.specs.declared.solo.TheConstants.{READS};
 ghost use Rattle.aud_server.specs.declared.solo.SoloFault.TheVariants as fault;
-ghost use Rattle.aud_server.specs.Solo.{Serves};
+ghost use Rattle.aud_server.specs.Solo.{Serves, StopsAtQuit};
 ghost use Rattle.aud_server.specs.Streams.{counted, counted_by, CountsUpTo, AppendsFront};
 ghost use Rattle.aud_server.specs.Ties.Turns.{TellsMore, ServesSome, CountsWrites};
 
@@ -47,8 +49,8 @@ impl From<AllocError> for SoloFault {
 /// The most reads of a session.
 pub const READS: u64 = 1_000_000_000_000;
 
-// How many bytes are read at once, at most.
-const PIECE: usize = 4_096;
+/// The most bytes of a read.
+pub const PIECE: usize = 4_096;
 
 /// Answers the requests of a reader: each before the next bytes are read, and at once. It reads to the end, or until it has
 /// answered a QUIT, and writes the answers of a private server.
@@ -63,6 +65,7 @@ pub fn solo<S: Source, T: Sink>(
 ) -> Result<(), SoloFault>
     ensures serves { Serves result (S.remaining reader.old) (S.remaining reader.new)
         (T.contents writer.old) (T.contents writer.new) }
+    ensures quit { StopsAtQuit (S.remaining reader.old) (S.remaining reader.new) }
     ensures reads { CountsUpTo READS (S.calls reader.old) (S.calls reader.new) }
     ensures read { IsErrOf result fault.Read →
         (S.failures reader.new ≡ counted (S.failures reader.old))
@@ -85,6 +88,7 @@ fn serve<S: Source, T: Sink>(
 ) -> Result<(), SoloFault>
     ensures serves { ServesSome result (S.remaining reader.old) (S.remaining reader.new)
         (T.contents writer.old) (T.contents writer.new) }
+    ensures quit { StopsAtQuit (S.remaining reader.old) (S.remaining reader.new) }
     ensures reads { CountsUpTo READS (S.calls reader.old) (S.calls reader.new) }
     ensures read { IsErrOf result fault.Read →
         (S.failures reader.new ≡ counted (S.failures reader.old))
@@ -106,9 +110,11 @@ fn serve_pieces<S: Source, T: Sink>(
     writer: &mut T,
 ) -> Result<(), SoloFault>
     requires session { (session.old.limits ≡ STANDARD) × HasAnswered [] session.old }
+    requires over { session.old.over ≡ false }
     requires feed { feed.old ≡ [] }
     ensures serves { ServesSome result (S.remaining reader.old) (S.remaining reader.new)
         (T.contents writer.old) (T.contents writer.new) }
+    ensures quit { StopsAtQuit (S.remaining reader.old) (S.remaining reader.new) }
     ensures reads { CountsUpTo READS (S.calls reader.old) (S.calls reader.new) }
     ensures read { IsErrOf result fault.Read →
         (S.failures reader.new ≡ counted (S.failures reader.old))
@@ -140,6 +146,8 @@ fn answer_each<T: Sink>(
 ) -> Result<(), SoloFault>
     ensures tells { TellsMore result (T.contents writer.old) (T.contents writer.new) requests.now
         session.old session.new }
+    ensures over { OnOk result
+        (session.new.over ≡ (session.old.over || list_any is_quit requests.now)) }
     ensures counts { CountsWrites result (T.failures writer.old) (T.failures writer.new) }
 {
     for request in requests {
@@ -157,6 +165,7 @@ fn answer<T: Sink>(
 ) -> Result<(), SoloFault>
     ensures tells { TellsMore result (T.contents writer.old) (T.contents writer.new)
         (request.now ∷ []) session.old session.new }
+    ensures over { OnOk result (session.new.over ≡ (session.old.over || is_quit request.now)) }
     ensures counts { CountsWrites result (T.failures writer.old) (T.failures writer.new) }
 {
     match session.answer(alloc, request)? {

@@ -1,7 +1,8 @@
-use Rattle.std.proofs.Common.{rules, ◌≡◌, ◌+◌, ◌++◌, [], ◌∷◌, take, drop, ap, sym, ◌∙◌, subst, arith}
+use Rattle.std.proofs.Common.{rules, ◌≡◌, ◌||◌, ◌+◌, ◌++◌, [], ◌∷◌, take, drop, ap, sym, ◌∙◌, subst, arith}
 use Rattle.aud_bench.specs.declared.request.Request.{Request}
+use Rattle.aud_bench.specs.Alone.{is_quit}
 use Rattle.aud_server.specs.Ties.Turns.{HasTold}
-use Rattle.aud_server.proofs.TurnLaws.{up_to, all_of, tells_all}
+use Rattle.aud_server.proofs.TurnLaws.{up_to, all_of, tells_all, over_more}
 use Rattle.aud_server.proofs.solo.answer_each.Goals as goal
 
 pub returns-in_err-answer-clause-tells : goal.returns-in_err-answer-clause-tells
@@ -28,5 +29,9 @@ loop-request-preserved g c =
           λ before asked told.
               subst (λ rs. HasTold before new rs c.answer.new.session) (sym (up_to asked requests i r (omega arith) c.request-item.is))
               (c.in_ok-answer.ensures.tells before (asked ++ take i requests) (c.loop-request.invariant.told before asked told)).all;
+      over =
+          c.in_ok-answer.ensures.over
+          ∙ ap (λ b. b || is_quit r) c.loop-request.invariant.over
+          ∙ sym (over_more c.args.session.now.over requests i r (omega arith) c.request-item.is);
       failures = c.in_ok-answer.ensures.counts ∙ c.loop-request.invariant.failures;
     }

@@ -1,16 +1,19 @@
 use Rattle.std.proofs.Common.{rules, ◌≡◌, ◌+◌, ◌++◌, [], inl, inr, take, refl, ap, sym, ◌∙◌, subst, append-nil, arith}
+use Rattle.std.proofs.lemmas.List.{length-take}
 use Rattle.std.specs.Io.KnownBytes.{Consumes}
 use Rattle.aud_lines.specs.Ties.Splits.{Splits}
 use Rattle.aud_server.specs.declared.solo.TheConstants.{READS}
 use Rattle.aud_server.specs.Streams.{counted}
 use Rattle.aud_server.specs.Ties.Turns.{HasServed}
-use Rattle.aud_server.proofs.StreamLaws.{consumes_kept, consumes_more, turn_counted, turns_counted}
-use Rattle.aud_server.proofs.TurnLaws.{served_start, wrote_all, over_known, end_known, some_given, front_given, served_more, some_read}
+use Rattle.aud_server.proofs.StreamLaws.{consumes_kept, consumes_more, keeps_consumes, turn_counted, turns_counted}
+use Rattle.aud_server.proofs.TurnLaws.{served_start, quit_behind, quit_here, quit_still_none, wrote_all, over_known, end_known, some_given, front_given, served_more, some_read}
 use Rattle.aud_server.proofs.solo.serve_pieces.Goals as goal
 
 pub loop-init : goal.loop-init
 loop-init g c = record {
   served = served_start (g.S.Source.remaining c.args.reader.now) (g.T.Sink.contents c.args.writer.now) c.args.feed.now c.args.session.now c.requires.feed c.requires.session.0 c.requires.session.1;
+  over = c.requires.over;
+  no_quit = refl;
   calls = inl (refl, refl);
   read = search rules;
   written = search rules;
@@ -170,6 +173,8 @@ loop-preserved g c =
     let told = (c.in_ok-answer_each.ensures.tells before h.asked h.told).all in
     record {
       served = served_more left middle before now c.loop.feed c.loop.session h piece next given split rest new c.answer_each.new.session c.in-Ok.ensures.bytes.0 told;
+      over = sym c.is_over.ensures ∙ c.if-is_over.false;
+      no_quit = quit_still_none c.loop.session.over c.answer_each.new.session.over h.asked given c.loop.invariant.over c.in_ok-answer_each.ensures.over (sym c.is_over.ensures ∙ c.if-is_over.false) c.loop.invariant.no_quit;
       calls =
           inr (turn_counted c.loop.counter (g.S.Source.calls c.args.reader.now) (g.S.Source.calls c.loop.reader) (g.S.Source.calls c.pull.new.self) c.loop.invariant.calls c.in-Ok.ensures.calls);
       read = c.in-Ok.ensures.failures ∙ c.loop.invariant.read;
@@ -203,3 +208,35 @@ returns-then-is_over-clause-reads g c = (
   omega arith,
   turn_counted c.loop.counter (g.S.Source.calls c.args.reader.now) (g.S.Source.calls c.loop.reader) (g.S.Source.calls c.pull.new.self) c.loop.invariant.calls c.in-Ok.ensures.calls,
 )
+
+-- ---- what is read behind a QUIT
+
+pub returns-in_default-clause-quit : goal.returns-in_default-clause-quit
+returns-in_default-clause-quit g c =
+    quit_behind (g.S.Source.remaining c.args.reader.now) (g.S.Source.remaining c.loop.reader) (g.T.Sink.contents c.args.writer.now) (g.T.Sink.contents c.loop.writer) c.loop.feed c.loop.session c.loop.invariant.served
+    c.loop.invariant.no_quit (g.S.Source.remaining c.pull.new.self) []
+    (keeps_consumes (g.S.Source.remaining c.loop.reader) (g.S.Source.remaining c.pull.new.self) c.in_default.ensures.bytes) (omega arith)
+
+pub returns-clause-quit : goal.returns-clause-quit
+returns-clause-quit g c =
+    quit_here (g.S.Source.remaining c.args.reader.now) (g.S.Source.remaining c.loop.reader) (g.T.Sink.contents c.args.writer.now) (g.T.Sink.contents c.loop.writer) c.loop.feed c.loop.session c.loop.invariant.served c.loop.invariant.no_quit
+
+pub returns-then-count-eq0-clause-quit : goal.returns-then-count-eq0-clause-quit
+returns-then-count-eq0-clause-quit g c =
+    quit_behind (g.S.Source.remaining c.args.reader.now) (g.S.Source.remaining c.loop.reader) (g.T.Sink.contents c.args.writer.now) (g.T.Sink.contents c.loop.writer) c.loop.feed c.loop.session c.loop.invariant.served
+    c.loop.invariant.no_quit (g.S.Source.remaining c.pull.new.self) (take c.in-Ok.count c.pull.new.piece) c.in-Ok.ensures.bytes.0 (omega (arith, length-take c.in-Ok.count c.pull.new.piece))
+
+pub returns-in_err-requests-clause-quit : goal.returns-in_err-requests-clause-quit
+returns-in_err-requests-clause-quit g c =
+    quit_behind (g.S.Source.remaining c.args.reader.now) (g.S.Source.remaining c.loop.reader) (g.T.Sink.contents c.args.writer.now) (g.T.Sink.contents c.loop.writer) c.loop.feed c.loop.session c.loop.invariant.served
+    c.loop.invariant.no_quit (g.S.Source.remaining c.pull.new.self) (take c.in-Ok.count c.pull.new.piece) c.in-Ok.ensures.bytes.0 (omega (arith, length-take c.in-Ok.count c.pull.new.piece))
+
+pub returns-in_err-answer_each-clause-quit : goal.returns-in_err-answer_each-clause-quit
+returns-in_err-answer_each-clause-quit g c =
+    quit_behind (g.S.Source.remaining c.args.reader.now) (g.S.Source.remaining c.loop.reader) (g.T.Sink.contents c.args.writer.now) (g.T.Sink.contents c.loop.writer) c.loop.feed c.loop.session c.loop.invariant.served
+    c.loop.invariant.no_quit (g.S.Source.remaining c.pull.new.self) (take c.in-Ok.count c.pull.new.piece) c.in-Ok.ensures.bytes.0 (omega (arith, length-take c.in-Ok.count c.pull.new.piece))
+
+pub returns-then-is_over-clause-quit : goal.returns-then-is_over-clause-quit
+returns-then-is_over-clause-quit g c =
+    quit_behind (g.S.Source.remaining c.args.reader.now) (g.S.Source.remaining c.loop.reader) (g.T.Sink.contents c.args.writer.now) (g.T.Sink.contents c.loop.writer) c.loop.feed c.loop.session c.loop.invariant.served
+    c.loop.invariant.no_quit (g.S.Source.remaining c.pull.new.self) (take c.in-Ok.count c.pull.new.piece) c.in-Ok.ensures.bytes.0 (omega (arith, length-take c.in-Ok.count c.pull.new.piece))
