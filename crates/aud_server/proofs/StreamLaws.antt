@@ -1,25 +1,9 @@
 -- What is left to read, what stands there, and what is counted, over several calls.
-use Rattle.std.proofs.Common.{◌≡◌, ◌⊎◌, inl, inr, ℕ, ◌+◌, ◌<◌, ◌%◌, ◌^◌, List, [], ◌++◌, Option, Some, None, refl, sym, ◌∙◌, ap, add_assoc, append_assoc, append-nil, arith}
+use Rattle.std.proofs.Common.{◌≡◌, inl, inr, ℕ, ◌+◌, ◌<◌, ◌%◌, ◌^◌, List, [], ◌++◌, Option, Some, None, refl, sym, ◌∙◌, ap, add_assoc, append_assoc, arith}
 use Rattle.std.proofs.Math.Nat.{mod-add-mod}
 use Rattle.std.specs.Io.KnownBytes.{Appends, Consumes, Keeps}
 use Rattle.aud_server.specs.Streams.{counted, counted_by}
 use Rattle.aud_server.specs.Ties.Turns.{CountsTurns}
-
-pub keeps_same : (a : Option (List ℕ)) → Keeps a a
-keeps_same None = tt
-keeps_same (Some xs) = refl
-
-pub keeps_more : (a b c : Option (List ℕ)) → Keeps a b → Keeps b c → Keeps a c
-keeps_more None b c h k = tt
-keeps_more (Some xs) None c h k = absurd h
-keeps_more (Some xs) (Some ys) None h k = absurd k
-keeps_more (Some xs) (Some ys) (Some zs) h k = k ∙ h
-
-pub appends_kept : (a b c : Option (List ℕ)) (bytes : List ℕ) → Keeps a b → Appends b c bytes → Appends a c bytes
-appends_kept None b c bytes h k = tt
-appends_kept (Some xs) None c bytes h k = absurd h
-appends_kept (Some xs) (Some ys) None bytes h k = absurd k
-appends_kept (Some xs) (Some ys) (Some zs) bytes h k = k ∙ ap (λ t. t ++ bytes) h
 
 -- bytes are written, and then the writer is flushed
 pub kept_behind : (a b c : Option (List ℕ)) (bytes : List ℕ) → Appends a b bytes → Keeps b c → Appends a c bytes
@@ -27,11 +11,6 @@ kept_behind None b c bytes h k = tt
 kept_behind (Some xs) None c bytes h k = absurd h
 kept_behind (Some xs) (Some ys) None bytes h k = absurd k
 kept_behind (Some xs) (Some ys) (Some zs) bytes h k = k ∙ h
-
-pub nothing_written : (a b : Option (List ℕ)) → Appends a b [] → Keeps a b
-nothing_written None b h = tt
-nothing_written (Some xs) None h = absurd h
-nothing_written (Some xs) (Some ys) h = h ∙ append-nil xs
 
 pub consumes_none : (a : Option (List ℕ)) → Consumes a a []
 consumes_none None = tt
@@ -54,13 +33,6 @@ consumes_kept None b c xs h k = tt
 consumes_kept (Some all) None c xs h k = absurd h
 consumes_kept (Some all) (Some rest) None xs h k = absurd k
 consumes_kept (Some all) (Some rest) (Some end) xs h k = h ∙ ap (λ t. xs ++ t) (sym k)
-
--- nothing is read, and then some bytes
-pub kept_consumes : (a b c : Option (List ℕ)) (xs : List ℕ) → Keeps a b → Consumes b c xs → Consumes a c xs
-kept_consumes None b c xs h k = tt
-kept_consumes (Some all) None c xs h k = absurd h
-kept_consumes (Some all) (Some rest) None xs h k = absurd k
-kept_consumes (Some all) (Some rest) (Some end) xs h k = sym h ∙ k
 
 -- ---- counts
 

@@ -1,6 +1,6 @@
 -- A session that answers requests as they come.
 use Rattle.std.proofs.Common.{◌≡◌, ℕ, ◌+◌, ◌<◌, ◌≤◌, ◌||◌, List, [], ◌∷◌, ◌++◌, length, take, drop, get_or, Option, Some, None, Bool, true, false, arith, refl, sym, ◌∙◌, ap, append_assoc, append-nil, subst}
-use Rattle.std.proofs.lemmas.List.{take_more, drop_more, take-append-drop}
+use Rattle.std.proofs.lemmas.List.{take_more, take-append-drop}
 use Rattle.std.specs.List.{list_any}
 use Rattle.std.proofs.lemmas.List.Folds.{list_any-append, list_any_more}
 use Rattle.std.specs.Prelude.{Result, IfSome, OnOk, if◌then◌else◌}
@@ -15,14 +15,14 @@ use Rattle.aud_bench.proofs.Journals.{or_assoc}
 use Rattle.aud_bench.proofs.Sessions.{alone_front}
 use Rattle.aud_lines.specs.Ties.Splits.{Splits}
 use Rattle.aud_lines.specs.Requests.{requests}
-use Rattle.aud_lines.specs.Text.{answer_text, text}
+use Rattle.aud_lines.specs.Text.{text}
 use Rattle.aud_lines.proofs.FeedLaws.{fed_more, fed_all}
 use Rattle.aud_server.specs.declared.solo.SoloFault.{SoloFault}
 use Rattle.aud_server.specs.declared.solo.TheConstants.{PIECE}
 use Rattle.aud_server.specs.Solo.{StopsAtQuit, answers_to, WritesAll, WritesSome, WritesFront}
 use Rattle.aud_server.specs.Streams.{AppendsFront}
 use Rattle.aud_server.specs.Ties.Turns.{HasTold, Tells, HasServed}
-use Rattle.aud_server.proofs.SoloLaws.{appends_none, appends_more, text_behind, text_one, some_some, front_front}
+use Rattle.aud_server.proofs.SoloLaws.{appends_none, appends_more, text_behind, some_some, front_front}
 use Rattle.aud_server.proofs.StreamLaws.{consumes_none, consumes_more}
 
 -- ---- one request more
@@ -115,6 +115,11 @@ served_start left before feed session empty same none = record {
   told = told_start before session same none;
 }
 
+pub start_no_quit : (left before : Option (List ℕ)) (feed : List ℕ) (session : Session) (empty : feed ≡ []) (same : session.limits ≡ STANDARD) (none : HasAnswered [] session) →
+    list_any is_quit (served_start left before feed session empty same none).asked ≡ false
+unfolding served_start
+start_no_quit left before feed session empty same none = refl
+
 module _ (left remaining before now : Option (List ℕ)) (feed : List ℕ) (session : Session) (h : HasServed left remaining before now feed session) where
   asked_all : requests h.input ≡ h.asked
   asked_all =
@@ -182,7 +187,7 @@ module _ (left remaining before now : Option (List ℕ)) (feed : List ℕ) (sess
     pub front_given : (new : Option (List ℕ)) → WritesFront before new (alone STANDARD (h.asked ++ given)) → WritesFront before new (answers_to (h.input ++ piece))
     front_given new = subst (λ rs. WritesFront before new (alone STANDARD rs)) (sym given_all)
 
-    pub served_more : (rest new : Option (List ℕ)) (session' : Session) → Consumes remaining rest piece → HasTold before new (h.asked ++ given) session' →
+    abbrev pub served_more : (rest new : Option (List ℕ)) (session' : Session) → Consumes remaining rest piece → HasTold before new (h.asked ++ given) session' →
         HasServed left rest before new next session'
     served_more rest new session' taken told = record {
       input = h.input ++ piece;

@@ -81,11 +81,7 @@ pub fn solo<S: Source, T: Sink>(
 }
 
 // The same, before it is written that memory is out.
-fn serve<S: Source, T: Sink>(
-    alloc: Global,
-    reader: &mut S,
-    writer: &mut T,
-) -> Result<(), SoloFault>
+fn serve<S: Source, T: Sink>(alloc: Global, reader: &mut S, writer: &mut T) -> Result<(), SoloFault>
     ensures serves { ServesSome result (S.remaining reader.old) (S.remaining reader.new)
         (T.contents writer.old) (T.contents writer.new) }
     ensures quit { StopsAtQuit (S.remaining reader.old) (S.remaining reader.new) }

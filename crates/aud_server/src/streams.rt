@@ -14,7 +14,9 @@ pub struct Failed;
 /// again at 0 behind the largest number of 64 bits.
 pub trait Source {
     ghost remaining: { Self → Option (List ℕ) };
+
     ghost calls: { Self → ℕ };
+
     ghost failures: { Self → ℕ };
 
     /// Reads bytes into the front of the piece, and tells how many; none only at the end.
@@ -30,7 +32,9 @@ pub trait Source {
 /// does.
 pub trait Sink {
     ghost contents: { Self → Option (List ℕ) };
+
     ghost calls: { Self → ℕ };
+
     ghost failures: { Self → ℕ };
 
     /// Writes bytes of the front, hands them on at once, and tells how many. A call that takes none is one that failed;
@@ -69,7 +73,9 @@ impl<S> Stream<S> {
 
 impl<R: Read> Source for Stream<R> {
     ghost remaining = { λ s. R.remaining s.inner };
+
     ghost calls = { λ s. s.calls };
+
     ghost failures = { λ s. s.failures };
 
     fn pull(&mut self, piece: &mut [u8]) -> Result<usize, Failed> {
@@ -86,7 +92,9 @@ impl<R: Read> Source for Stream<R> {
 
 impl<W: Write> Sink for Stream<W> {
     ghost contents = { λ s. W.contents s.inner };
+
     ghost calls = { λ s. s.calls };
+
     ghost failures = { λ s. s.failures };
 
     fn push(&mut self, bytes: &[u8]) -> Result<usize, Failed> {

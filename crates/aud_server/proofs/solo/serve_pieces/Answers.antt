@@ -6,14 +6,14 @@ use Rattle.aud_server.specs.declared.solo.TheConstants.{READS}
 use Rattle.aud_server.specs.Streams.{counted}
 use Rattle.aud_server.specs.Ties.Turns.{HasServed}
 use Rattle.aud_server.proofs.StreamLaws.{consumes_kept, consumes_more, keeps_consumes, turn_counted, turns_counted}
-use Rattle.aud_server.proofs.TurnLaws.{served_start, quit_behind, quit_here, quit_still_none, wrote_all, over_known, end_known, some_given, front_given, served_more, some_read}
+use Rattle.aud_server.proofs.TurnLaws.{served_start, start_no_quit, quit_behind, quit_here, quit_still_none, wrote_all, over_known, end_known, some_given, front_given, served_more, some_read}
 use Rattle.aud_server.proofs.solo.serve_pieces.Goals as goal
 
 pub loop-init : goal.loop-init
 loop-init g c = record {
   served = served_start (g.S.Source.remaining c.args.reader.now) (g.T.Sink.contents c.args.writer.now) c.args.feed.now c.args.session.now c.requires.feed c.requires.session.0 c.requires.session.1;
   over = c.requires.over;
-  no_quit = refl;
+  no_quit = start_no_quit (g.S.Source.remaining c.args.reader.now) (g.T.Sink.contents c.args.writer.now) c.args.feed.now c.args.session.now c.requires.feed c.requires.session.0 c.requires.session.1;
   calls = inl (refl, refl);
   read = search rules;
   written = search rules;
