@@ -1,6 +1,6 @@
-pub mod Serving
-pub mod Standing
-pub mod Sessions
-pub mod Journals
 pub mod Benches
 pub mod Fronts
+pub mod Journals
+pub mod Serving
+pub mod Sessions
+pub mod Standing

@@ -1,3 +1,4 @@
+pub mod Answered
 pub mod Kept
 pub mod Loads
 pub mod Seen

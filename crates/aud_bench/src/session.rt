@@ -1,8 +1,9 @@
-// A whole session at once.
+// A whole session, a request at a time.
 
-ghost use Rattle.std.specs.Prelude.{◌≡◌, ◌++◌, List, None, OnOk};
-ghost use Rattle.aud_bench.specs.Alone.{alone};
-ghost use Rattle.aud_bench.specs.declared.request.Answer.{Answer};
+ghost use Rattle.std.specs.Prelude.{◌≡◌, ◌||◌, ◌++◌, List, [], ◌∷◌, false, IfOk, option_to_list};
+ghost use Rattle.aud_bench.specs.Alone.{alone, is_quit};
+ghost use Rattle.aud_bench.specs.declared.request.Request.{Request};
+ghost use Rattle.aud_bench.specs.Ties.Answered.{HasAnswered};
 
 use crate::journal::{fits, is_quit, size};
 use crate::request::{Answer, Request};
@@ -12,49 +13,75 @@ use aud_text::limits::Limits;
 use aud_text::refusal::Refusal;
 use std::alloc::{AllocError, Global};
 
-/// Adds the answers to the requests of one user, one a request, up to and with that to the first QUIT. A request that
-/// does not fit the journal is answered so, and is not kept. Where memory is refused, a front of the answers is there.
-pub fn answer_all(
-    alloc: Global,
+/// A private server that answers each request before it is told the next.
+pub struct Session {
     limits: Limits,
-    requests: &[Request],
-    answers: &mut Vec<Answer>,
-) -> Result<(), AllocError>
-    ensures all { OnOk result (answers.new.items ≡ answers.old.items ++ alone limits requests.now) }
-    ensures front { (some rest : List Answer) × (answers.new.items ≡ answers.old.items ++ some)
-        × (alone limits requests.now ≡ some ++ rest) }
-{
-    // Dropped here alone: each way out of the loop would prove the drop once more.
-    let mut machine: Option<Machine> = None;
-    answer_each(alloc, limits, &mut machine, requests, answers)
+    machine: Option<Machine>,
+    // The requests that are kept, and their bytes.
+    requests: usize,
+    bytes: usize,
+    over: bool,
 }
 
-// The same, with a place for the machine, where none is loaded yet.
-fn answer_each(
-    alloc: Global,
-    limits: Limits,
-    machine: &mut Option<Machine>,
-    requests: &[Request],
-    answers: &mut Vec<Answer>,
-) -> Result<(), AllocError>
-    requires { machine.old ≡ None }
-    ensures all { OnOk result (answers.new.items ≡ answers.old.items ++ alone limits requests.now) }
-    ensures front { (some rest : List Answer) × (answers.new.items ≡ answers.old.items ++ some)
-        × (alone limits requests.now ≡ some ++ rest) }
-{
-    let mut kept: usize = 0;
-    let mut bytes: usize = 0;
-    'requests: for request in requests {
-        if !fits(kept, bytes, request) {
-            answers.push(Answer::Refused(Refusal::JournalFull))?;
-            continue;
-        }
-        answers.push(answer(alloc, limits, machine, request)?)?;
-        if is_quit(request) {
-            return Ok(());
-        }
-        kept += 1;
-        bytes += size(request);
+// One call wherever it is dropped.
+impl Drop for Session {
+    fn drop(self) {
+        let Session {
+            limits: _,
+            machine: _,
+            requests: _,
+            bytes: _,
+            over: _,
+        } = self;
     }
-    Ok(())
+}
+
+impl Session {
+    /// A session in which nothing was asked.
+    pub fn new(limits: Limits) -> Session
+        ensures limits { result.limits ≡ limits }
+        ensures asked { HasAnswered [] result }
+        ensures over { result.over ≡ false }
+    {
+        Session {
+            limits,
+            machine: None,
+            requests: 0,
+            bytes: 0,
+            over: false,
+        }
+    }
+
+    /// Answers a request; nothing where a QUIT was answered before. A request that does not fit the journal is answered so,
+    /// and is not kept. Where memory is refused the session is not to be asked again.
+    pub fn answer(&mut self, alloc: Global, request: &Request) -> Result<Option<Answer>, AllocError>
+        ensures limits { self.new.limits ≡ self.old.limits }
+        ensures answer { IfOk result (λ given. (asked : List Request) → HasAnswered asked self.old →
+            (alone self.old.limits (asked ++ request.now ∷ [])
+            ≡ alone self.old.limits asked ++ option_to_list given)
+            × HasAnswered (asked ++ request.now ∷ []) self.new) }
+        ensures over { IfOk result (λ _. self.new.over ≡ (self.old.over || is_quit request.now)) }
+    {
+        if self.over {
+            return Ok(None);
+        }
+        if !fits(self.requests, self.bytes, request) {
+            return Ok(Some(Answer::Refused(Refusal::JournalFull)));
+        }
+        let given = answer(alloc, self.limits, &mut self.machine, request)?;
+        if is_quit(request) {
+            self.over = true;
+            return Ok(Some(given));
+        }
+        self.requests += 1;
+        self.bytes += size(request);
+        Ok(Some(given))
+    }
+
+    /// Whether a QUIT was answered.
+    pub fn is_over(&self) -> bool
+        ensures { result ≡ self.now.over }
+    {
+        self.over
+    }
 }

@@ -1,6 +1,4 @@
 pub mod ArgumentLaws
-pub mod CommandLaws
-pub mod LineLaws
-pub mod OutputLaws
-pub mod RequestLaws
 pub mod SoloLaws
+pub mod StreamLaws
+pub mod TurnLaws

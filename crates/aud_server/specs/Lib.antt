@@ -1,6 +1,4 @@
-pub mod Lines
 pub mod Program
-pub mod Requests
 pub mod Solo
-pub mod Text
+pub mod Streams
 pub mod Ties

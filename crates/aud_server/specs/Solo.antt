@@ -1,16 +1,19 @@
 -- What the server on one stream reads and writes. Of a reader and a writer a word takes what was left in it, or stood there, before the
 -- call and after it. Nothing is said where that is not known.
-use Rattle.std.specs.Prelude.{◌≡◌, ℕ, List, [], ◌∷◌, ◌++◌, Option, ◌⊎◌, Result, IfSome, OnOk, IsErrOf}
+use Rattle.std.specs.Prelude.{◌≡◌, ℕ, ◌≤◌, false, length, List, [], ◌∷◌, ◌++◌, Option, ◌⊎◌, Result, IfSome, OnOk, IsErrOf}
 use Rattle.std.specs.Io.KnownBytes.{Appends, Consumes}
+use Rattle.std.specs.List.{list_any}
 use Rattle.aud_text.specs.declared.limits.TheConstants.{STANDARD}
 use Rattle.aud_text.specs.declared.refusal.Refusal.TheVariants as refusal
 use Rattle.aud_bench.specs.declared.request.Answer.{Answer}
 use Rattle.aud_bench.specs.declared.request.Answer.TheVariants as answer
-use Rattle.aud_bench.specs.Alone.{alone}
+use Rattle.aud_bench.specs.Alone.{is_quit, alone}
+use Rattle.aud_server.specs.declared.solo.TheConstants.{PIECE}
 use Rattle.aud_server.specs.declared.solo.SoloFault.{SoloFault}
 use Rattle.aud_server.specs.declared.solo.SoloFault.TheVariants as fault
-use Rattle.aud_server.specs.Requests.{requests}
-use Rattle.aud_server.specs.Text.{text}
+use Rattle.aud_lines.specs.Requests.{requests}
+use Rattle.aud_lines.specs.Text.{text}
+use Rattle.aud_server.specs.Streams.{AppendsFront}
 
 -- the answers of a private server to the requests of all bytes
 abbrev pub answers_to : List ℕ → List Answer
@@ -27,10 +30,6 @@ WritesAll old new answers = Appends old new (text answers)
 -- the text of a front of the answers is written
 abbrev pub WritesSome : Option (List ℕ) → Option (List ℕ) → List Answer → Type 0
 WritesSome old new all = (some rest : List Answer) × (all ≡ some ++ rest) × Appends old new (text some)
-
--- a front of the bytes is written
-abbrev pub AppendsFront : Option (List ℕ) → Option (List ℕ) → List ℕ → Type 0
-AppendsFront old new bytes = (some rest : List ℕ) × Appends old new some × (bytes ≡ some ++ rest)
 
 -- a front of the text of all the answers is written, and it may end within an answer
 abbrev pub WritesFront : Option (List ℕ) → Option (List ℕ) → List Answer → Type 0
@@ -52,18 +51,22 @@ AreAnswers all answers = (answers ≡ all) ⊎ IsCutShort all answers
 abbrev pub WritesPart : Option (List ℕ) → Option (List ℕ) → List Answer → Type 0
 WritesPart old new all = (answers : List Answer) × AreAnswers all answers × WritesFront old new answers
 
--- The call writes these answers. Where memory is refused, or a write failed, `Cut` and `Part` say what is written of them.
-pub record Answers {A : Type 0} (result : Result A SoloFault) (before after : Option (List ℕ)) (answers : List Answer) (Cut Part : Option (List ℕ) → Option (List ℕ) → List Answer → Type 0) : Type 0 where
-  pub all : OnOk result (WritesAll before after answers)
-  pub read : IsErrOf result fault.Read → ⊥
-  pub memory : IsErrOf result fault.Memory → Cut before after answers
-  pub write : IsErrOf result fault.Write → Part before after answers
-
 -- The call serves the requests of a reader, and writes to a writer. Where it answers Ok, all answers to what was left to read are written,
--- and where a read failed all those to what was read. Where memory is refused, a front of the answers to what was read is written, and
--- then that memory is out; where a write failed, a front of what was to be written.
+-- and they are those to what was read: nothing behind a QUIT has an answer. Where a read failed, all those to what was read are written.
+-- Where memory is refused, a front of the answers to what was read is written, and then that memory is out; where a write failed, a front
+-- of what was to be written.
 pub record Serves {A : Type 0} (result : Result A SoloFault) (left remaining before after : Option (List ℕ)) : Type 0 where
   pub all : OnOk result (IfSome left (λ input. WritesAll before after (answers_to input)))
+  pub ended : OnOk result (HasRead left remaining (λ input. WritesAll before after (answers_to input)))
   pub read : IsErrOf result fault.Read → HasRead left remaining (λ input. WritesAll before after (answers_to input))
   pub memory : IsErrOf result fault.Memory → HasRead left remaining (λ input. WritesCut before after (answers_to input))
   pub write : IsErrOf result fault.Write → HasRead left remaining (λ input. WritesPart before after (answers_to input))
+
+-- What is read, however the call ends: bytes whose requests have no QUIT, and besides at most the bytes of one read. So nothing is read
+-- behind a QUIT but what came with it.
+pub record StopsAtQuit (left remaining : Option (List ℕ)) : Type 0 where
+  pub before : List ℕ
+  pub piece : List ℕ
+  pub taken : Consumes left remaining (before ++ piece)
+  pub goes_on : list_any is_quit (requests before) ≡ false
+  pub short : length piece ≤ PIECE

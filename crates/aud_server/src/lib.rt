@@ -1,9 +1,6 @@
-// The line protocol and the server on standard input and output.
+// The server on standard input and output.
 #![tactic(auto)]
 
-pub mod answers;
-pub mod commands;
-pub mod lines;
 pub mod program;
-pub mod requests;
 pub mod solo;
+pub mod streams;

@@ -7,6 +7,7 @@ ghost use Rattle.aud_server.specs.declared.solo.SoloFault.TheVariants as server;
 ghost use Rattle.aud_server.specs.Program.{AsksSolo, status, of_kind};
 
 use crate::solo::{SoloFault, solo};
+use crate::streams::Stream;
 use clap::error::ErrorKind;
 use clap::{Arg, ArgAction, Command, Error as ClapError};
 use std::alloc::{AllocError, Global};
@@ -97,7 +98,9 @@ fn run<R: Input + Print + AllocGlobal>(rt: &R, words: &[String]) -> Result<(), P
     if words.len() != 2 || !is_solo(rt.alloc(), words)? {
         return Err(ProgramFault::Arguments);
     }
-    solo(rt.alloc(), &mut rt.reader(), &mut io::writer(rt))?;
+    let mut reader = Stream::new(rt.reader());
+    let mut writer = Stream::new(io::writer(rt));
+    solo(rt.alloc(), &mut reader, &mut writer)?;
     Ok(())
 }
 

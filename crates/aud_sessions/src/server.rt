@@ -1,6 +1,7 @@
 // A server in memory.
 
 use aud_server::solo::{SoloFault, solo};
+use aud_server::streams::Stream;
 use std::alloc::Global;
 use std::io;
 use std::io::Read;
@@ -23,8 +24,8 @@ impl<'a> Read for Pieces<'a> {
 
 /// What a server writes that reads these bytes in pieces, none longer than `most`.
 pub fn answers(alloc: Global, sent: &[u8], most: usize) -> Result<Vec<u8>, SoloFault> {
-    let mut reader = Pieces { rest: sent, most };
+    let mut reader = Stream::new(Pieces { rest: sent, most });
     let mut written = Vec::new(alloc);
-    solo(alloc, &mut reader, &mut written)?;
+    solo(alloc, &mut reader, &mut Stream::new(&mut written))?;
     Ok(written)
 }

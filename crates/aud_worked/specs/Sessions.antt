@@ -2,8 +2,8 @@
 use Rattle.std.specs.Prelude.{◌≡◌, ℕ, List, codes}
 use Rattle.aud_text.specs.declared.limits.TheConstants.{STANDARD}
 use Rattle.aud_bench.specs.Alone.{alone}
-use Rattle.aud_server.specs.Requests.{requests}
-use Rattle.aud_server.specs.Text.{text}
+use Rattle.aud_lines.specs.Requests.{requests}
+use Rattle.aud_lines.specs.Text.{text}
 
 unfoldable pub answers_to : List ℕ → List ℕ
 answers_to bytes = text (alone STANDARD (requests bytes))

@@ -8,7 +8,7 @@ use aud_bench::loading::load;
 use aud_bench::request::{Answer, Request};
 use aud_bench::service::answer;
 use aud_machine::machine::Machine;
-use aud_server::answers::answer_text;
+use aud_lines::answers::answer_text;
 use aud_text::limits::{Limits, STANDARD};
 use aud_text::text::Text;
 use std::alloc::{AllocError, Global};

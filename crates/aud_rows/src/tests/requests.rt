@@ -3,16 +3,28 @@
 use crate::case::{LongCase, Piece, spelled};
 use crate::tests::{finds, finds_for};
 use aud_bench::request::Request;
-use aud_server::requests::read_requests;
+use aud_lines::feed::Feed;
 use aud_text::digits::push_decimal;
 use std::alloc::{AllocError, Global};
 use std::process::Abort;
 
 fn told(alloc: Global, bytes: &[u8]) -> Result<Vec<u8>, AllocError> {
-    let requests = read_requests(alloc, bytes)?;
+    let requests = Feed::new(alloc).feed(alloc, bytes)?;
     let mut out = Vec::new(alloc);
     for request in &requests {
         tell(&mut out, request)?;
+    }
+    Ok(out)
+}
+
+// A byte at a time.
+fn told_in_bytes(alloc: Global, bytes: &[u8]) -> Result<Vec<u8>, AllocError> {
+    let mut feed = Feed::new(alloc);
+    let mut out = Vec::new(alloc);
+    for piece in bytes.chunks(1) {
+        for request in &feed.feed(alloc, piece)? {
+            tell(&mut out, request)?;
+        }
     }
     Ok(out)
 }
@@ -48,8 +60,8 @@ fn between(out: &mut Vec<u8>, front: &[u8], middle: &[u8], end: &[u8]) -> Result
 }
 
 fn reads(rt: &impl Abort, alloc: Global, bytes: &[u8], wanted: &[u8]) -> Result<(), AllocError> {
-    let requests = told(alloc, bytes)?;
-    finds_for(rt, bytes, &requests, wanted);
+    finds_for(rt, bytes, &told(alloc, bytes)?, wanted);
+    finds_for(rt, bytes, &told_in_bytes(alloc, bytes)?, wanted);
     Ok(())
 }
 
@@ -62,9 +74,10 @@ fn meets(rt: &impl Abort, alloc: Global, rows: &[(&[u8], &[u8])]) -> Result<(), 
 
 fn meets_long(rt: &impl Abort, alloc: Global, cases: &[LongCase]) -> Result<(), AllocError> {
     for case in cases {
-        let requests = told(alloc, &spelled(alloc, case.given)?)?;
+        let given = spelled(alloc, case.given)?;
         let wanted = spelled(alloc, case.wanted)?;
-        finds(rt, case.name, &requests, &wanted);
+        finds(rt, case.name, &told(alloc, &given)?, &wanted);
+        finds(rt, case.name, &told_in_bytes(alloc, &given)?, &wanted);
     }
     Ok(())
 }

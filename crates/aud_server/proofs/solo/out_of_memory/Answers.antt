@@ -1,7 +1,7 @@
 use Rattle.std.proofs.Common.{◌≡◌, ◌∷◌, [], ◌++◌, ap, sym, ◌∙◌, codes, lit≤, lit<}
 use Rattle.std.specs.Fmt.{decimal}
 use Rattle.std.proofs.lemmas.Fmt.{decimal_step, decimal_digit}
-use Rattle.aud_server.specs.Text.{line_end}
+use Rattle.aud_lines.specs.Text.{line_end}
 use Rattle.aud_server.proofs.solo.out_of_memory.Goals as goal
 
 pub returns : goal.returns

@@ -1,8 +1,8 @@
 use Rattle.std.proofs.Common.{refl}
 use Rattle.std.specs.Fmt.{digits}
 use Rattle.aud_bench.specs.Alone.{alone}
-use Rattle.aud_server.specs.Requests.{requests}
-use Rattle.aud_server.specs.Text.{text}
+use Rattle.aud_lines.specs.Requests.{requests}
+use Rattle.aud_lines.specs.Text.{text}
 use Rattle.aud_worked.specs.Sessions.{answers_to}
 use Rattle.aud_worked.proofs.laws.sum.Goals as goal
 

@@ -1,0 +1,5 @@
+pub mod CommandLaws
+pub mod FeedLaws
+pub mod LineLaws
+pub mod OutputLaws
+pub mod RequestLaws
