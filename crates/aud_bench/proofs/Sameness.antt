@@ -43,6 +43,9 @@ same_self Output = refl
 same_self Quit = refl
 same_self (Bad why) = reason_self why
 
+turned : (x y : Request) → same_request x y ≡ true → same_request y x ≡ true
+turned x y e = ap (same_request y) (same_is x y e) ∙ same_self y
+
 -- the sameness of requests is an equivalence
 pub same_requests : IsEquivalence same_request
 same_requests = record {
@@ -50,9 +53,6 @@ same_requests = record {
   symm = λ x y. both_ways (same_request x y) (same_request y x) (turned x y) (turned y x);
   congr = λ x y z e. ap (λ r. same_request r z) (same_is x y e);
 }
-  where
-    turned : (x y : Request) → same_request x y ≡ true → same_request y x ≡ true
-    turned x y e = ap (same_request y) (same_is x y e) ∙ same_self y
 
 pub same_limits_is : (a b : Limits) → same_limits a b ≡ true → a ≡ b
 unfolding same_limits
