@@ -7,8 +7,8 @@ use Rattle.aud_bench.specs.declared.request.Request.{Request}
 use Rattle.aud_bench.specs.declared.request.Answer.{Answer}
 use Rattle.aud_bench.specs.declared.request.Answer.TheVariants as answer
 use Rattle.aud_bench.specs.Size.{size}
-use Rattle.aud_bench.proofs.Journals.{or_left}
 use Rattle.aud_bench.specs.Alone.{Server, is_quit, has_room, fits, fresh, kept, replied, answers_after, answers_from, alone}
+use Rattle.aud_bench.proofs.Truths.{or_left}
 
 module _ (limits : Limits) (s : Server) (r : Request) (rs : List Request) where
   pub not_kept : fits s.requests s.bytes r ≡ false → answers_from limits s (r ∷ rs) ≡ answer.Refused refusal.JournalFull ∷ answers_from limits s rs
