@@ -61,7 +61,7 @@ fn word(given: Result<(), GiveFault>) -> &'static str {
 
 // Tests what comes of all that is done, and that the answers to it are these.
 fn meets(rt: &impl Abort, alloc: Global, rows: &[Row], answers: &[u8]) -> Result<(), AllocError> {
-    let mut bench = Bench::new(alloc, STANDARD);
+    let mut bench = Bench::new(alloc, STANDARD)?;
     goes(rt, alloc, &mut bench, rows, answers)
 }
 
