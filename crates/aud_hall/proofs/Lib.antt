@@ -1,0 +1,14 @@
+pub mod Truths
+pub mod Lists
+pub mod Seats
+pub mod CheckIns
+pub mod Worlds
+pub mod Marks
+pub mod Sessions
+pub mod Isolation
+pub mod Idle
+pub mod Ample
+pub mod Refusals
+pub mod Calls
+pub mod Slices
+pub mod Computing
