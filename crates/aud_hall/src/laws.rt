@@ -1,7 +1,7 @@
 // Laws of the definitions. Each function does nothing: its contract is the law.
 
 ghost use Rattle.aud_hall.specs.Headline.{HeadlineLaw, SliceLaw, SessionLaw, TwoWorldsLaw, AmpleLaw};
-ghost use Rattle.aud_hall.specs.Why.Laws.{WorldLaw, IsolationLaw, IdleLaw, TellsIdleLaw, RoomLaw, OthersLaw, RefusalLaw};
+ghost use Rattle.aud_hall.specs.Why.Laws.{WorldLaw, IsolationLaw, IdleLaw, TellsIdleLaw, AwaitedLaw, RoomLaw, OthersLaw, RefusalLaw};
 ghost use Rattle.aud_hall.specs.Why.Rows.{Rows};
 
 /// The answers of every session are a beginning of those of a private server to the requests that were accepted of it,
@@ -50,6 +50,11 @@ pub fn idle_law()
 /// After a parcel was taken in, the reply tells whether work is in hand.
 pub fn tells_idle_law()
     ensures { TellsIdleLaw }
+{}
+
+/// A seat takes in the bench that it sent out, whatever work was done on it and whatever was asked since.
+pub fn awaited_law()
+    ensures { AwaitedLaw }
 {}
 
 /// No outbox is longer than the stored requests.
