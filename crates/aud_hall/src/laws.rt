@@ -25,8 +25,8 @@ pub fn two_worlds_law()
     ensures { TwoWorldsLaw }
 {}
 
-/// Where no memory is refused to a session's bench, and none comes to it that has closed, its answers are a front of
-/// those of a private server and nothing else.
+/// Where no memory is refused as a session's bench is given its requests, and no bench that has closed is taken in at its
+/// seat, its answers are a front of those of a private server and nothing else.
 pub fn ample_law()
     ensures { AmpleLaw }
 {}
