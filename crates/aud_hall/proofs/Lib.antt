@@ -1,0 +1,16 @@
+pub mod Truths
+pub mod Lists
+pub mod Seats
+pub mod CheckIns
+pub mod Worlds
+pub mod Marks
+pub mod Sessions
+pub mod Isolation
+pub mod Users
+pub mod Idle
+pub mod Awaited
+pub mod Ample
+pub mod Refusals
+pub mod Calls
+pub mod Slices
+pub mod Computing
