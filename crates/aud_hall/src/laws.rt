@@ -4,6 +4,8 @@ ghost use Rattle.aud_hall.specs.Headline.{HeadlineLaw, SliceLaw, SessionLaw, Two
 ghost use Rattle.aud_hall.specs.Why.Laws.{WorldLaw, IsolationLaw, IdleLaw, TellsIdleLaw, RoomLaw, OthersLaw, RefusalLaw};
 ghost use Rattle.aud_hall.specs.Why.Rows.{Rows};
 
+pub use crate::run::world_run;
+
 /// The answers of every session are a beginning of those of a private server to the requests that were accepted of it,
 /// and all of them where no work is in hand.
 pub fn headline_law()
