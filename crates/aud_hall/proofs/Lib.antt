@@ -1,2 +1,4 @@
-pub mod Places
+pub mod Giving
 pub mod Parting
+pub mod Places
+pub mod Slicing
