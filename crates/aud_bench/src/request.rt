@@ -41,14 +41,14 @@ impl Request {
     pub fn try_clone(&self, alloc: Global) -> Result<Self, AllocError>
         ensures { IfOk result (λ request. request ≡ self.now) }
     {
-        Ok(match self {
-            Request::Load(source) => Request::Load(source.try_clone(alloc)?),
-            Request::Run(steps) => Request::Run(*steps),
-            Request::Choose(choices) => Request::Choose(choices.try_clone(alloc)?),
-            Request::Output => Request::Output,
-            Request::Quit => Request::Quit,
-            Request::Bad(why) => Request::Bad(*why),
-        })
+        match self {
+            Request::Load(source) => Ok(Request::Load(source.try_clone(alloc)?)),
+            Request::Run(steps) => Ok(Request::Run(*steps)),
+            Request::Choose(choices) => Ok(Request::Choose(choices.try_clone(alloc)?)),
+            Request::Output => Ok(Request::Output),
+            Request::Quit => Ok(Request::Quit),
+            Request::Bad(why) => Ok(Request::Bad(*why)),
+        }
     }
 }
 
@@ -59,13 +59,13 @@ impl PartialEq for Request {
 
     fn eq(&self, other: &Request) -> bool {
         match (self, other) {
-            (Request::Load(source), Request::Load(other)) => source.as_bytes() == other.as_bytes(),
-            (Request::Run(steps), Request::Run(other)) => *steps == *other,
-            (Request::Choose(choices), Request::Choose(other)) => {
-                choices.as_slice() == other.as_slice()
+            (Request::Load(source), Request::Load(text)) => source.as_bytes() == text.as_bytes(),
+            (Request::Run(steps), Request::Run(number)) => *steps == *number,
+            (Request::Choose(choices), Request::Choose(numbers)) => {
+                choices.as_slice() == numbers.as_slice()
             }
             (Request::Output, Request::Output) | (Request::Quit, Request::Quit) => true,
-            (Request::Bad(why), Request::Bad(other)) => *why == *other,
+            (Request::Bad(why), Request::Bad(reason)) => *why == *reason,
             _ => false,
         }
     }
@@ -142,15 +142,20 @@ impl Report {
     pub fn try_clone(&self, alloc: Global) -> Result<Self, AllocError>
         ensures { IfOk result (λ report. report ≡ self.now) }
     {
-        let raised = match &self.raised {
-            None => None,
-            Some(raised) => Some(raised.try_clone(alloc)?),
-        };
         Ok(Report {
             steps: self.steps,
             state: self.state,
-            raised,
+            raised: clone_if(alloc, &self.raised)?,
         })
+    }
+}
+
+fn clone_if(alloc: Global, raised: &Option<Raised>) -> Result<Option<Raised>, AllocError>
+    ensures { IfOk result (λ clone. clone ≡ raised.now) }
+{
+    match raised {
+        None => Ok(None),
+        Some(raised) => Ok(Some(raised.try_clone(alloc)?)),
     }
 }
 
@@ -179,14 +184,14 @@ impl Answer {
     pub fn try_clone(&self, alloc: Global) -> Result<Self, AllocError>
         ensures { IfOk result (λ answer. answer ≡ self.now) }
     {
-        Ok(match self {
-            Answer::Loaded(name) => Answer::Loaded(name.try_clone(alloc)?),
-            Answer::Ran(report) => Answer::Ran(report.try_clone(alloc)?),
-            Answer::Choices(count) => Answer::Choices(*count),
-            Answer::Output(text) => Answer::Output(text.try_clone(alloc)?),
-            Answer::Done => Answer::Done,
-            Answer::Refused(refusal) => Answer::Refused(*refusal),
-            Answer::RefusedAt(refusal, at) => Answer::RefusedAt(*refusal, *at),
-        })
+        match self {
+            Answer::Loaded(name) => Ok(Answer::Loaded(name.try_clone(alloc)?)),
+            Answer::Ran(report) => Ok(Answer::Ran(report.try_clone(alloc)?)),
+            Answer::Choices(count) => Ok(Answer::Choices(*count)),
+            Answer::Output(text) => Ok(Answer::Output(text.try_clone(alloc)?)),
+            Answer::Done => Ok(Answer::Done),
+            Answer::Refused(refusal) => Ok(Answer::Refused(*refusal)),
+            Answer::RefusedAt(refusal, at) => Ok(Answer::RefusedAt(*refusal, *at)),
+        }
     }
 }

@@ -4,7 +4,7 @@ ghost use Rattle.std.specs.Prelude.{◌≡◌, ◌≤◌};
 ghost use Rattle.aud_bench.specs.Seen.{unanswered};
 ghost use Rattle.aud_hall.specs.Slices.{answered, done, sliced};
 ghost use Rattle.aud_hall.specs.Ties.Right.{IsTrue};
-ghost use Rattle.aud_hall.specs.Ties.Said.{cut_in};
+ghost use Rattle.aud_hall.specs.Ties.Calls.{cut_in};
 
 use aud_bench::bench::{Bench, Work};
 use aud_bench::request::Request;

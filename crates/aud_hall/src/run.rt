@@ -2,7 +2,9 @@
 
 ghost use Rattle.std.specs.Prelude.{◌≡◌, List, Option, IfOk, map};
 ghost use Rattle.aud_hall.specs.Halls as halls;
-ghost use Rattle.aud_hall.specs.Ties.Runs.{seen, Makes, EachAnswersAlone, SlicesThere, ChecksThere};
+ghost use Rattle.aud_hall.specs.Ties.Runs.{seen, Makes, SlicesThere, ChecksThere};
+ghost use Rattle.aud_hall.specs.Headline.{AnswersAlone};
+ghost use Rattle.aud_hall.specs.Why.Laws.{OfEachSeat};
 ghost use Rattle.aud_hall.specs.Ties.Calls.{said, told_by, plain_reply, IsRun};
 ghost use Rattle.aud_hall.specs.Ties.Said.{said_answers};
 ghost use Rattle.aud_hall.specs.declared.event.Event.TheVariants as event;
@@ -30,7 +32,8 @@ pub fn world_run(
     ensures runs { IfOk result (λ w.
         IsRun limits.items events.items (seen w.hall w.out.items)
             (map plain_reply w.replies.items)) }
-    ensures headline { IfOk result (λ w. EachAnswersAlone w.hall) }
+    ensures headline { IfOk result (λ w.
+        OfEachSeat (λ limits s. AnswersAlone limits s.requests s) w.hall) }
 {
     let mut hall = Hall::new(alloc, limits)?;
     let mut out = Vec::new(alloc);

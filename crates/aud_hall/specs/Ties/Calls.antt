@@ -25,6 +25,11 @@ abbrev pub said : {A : Type 0} → Result A HallFault → Reply
 said (Ok done) = reply.Accepted
 said (Err fault) = reply.Refused fault
 
+-- where memory was refused in a slice that did so many units
+abbrev pub cut_in : (closed : Bool) → (done : ℕ) → Option ℕ
+cut_in true done = Some done
+cut_in false done = None
+
 -- ## A list of calls
 
 -- the call that an event is, whether or not memory was refused in it

@@ -4,11 +4,9 @@ use Rattle.aud_hall.specs.declared.event.Event.{Event as Call}
 use Rattle.aud_hall.specs.declared.reply.Reply.{Reply as InMemory}
 use Rattle.aud_hall.specs.declared.reply.Reply.TheVariants as in_memory
 use Rattle.aud_hall.specs.Replies.{Reply, Taken, Nothing, Then}
-use Rattle.aud_hall.specs.Seats.{Seat}
 use Rattle.aud_hall.specs.Slices.{sliced}
-use Rattle.aud_hall.specs.Halls.{Place, place_at, checks_in}
+use Rattle.aud_hall.specs.Halls.{Place, checks_in}
 use Rattle.aud_hall.specs.World.{World, Event, Parcel, happens, worked}
-use Rattle.aud_hall.specs.Headline.{AnswersAlone}
 use Rattle.aud_hall.specs.Ties.Calls.{call_of, told_by, plain_reply}
 
 abbrev pub seen : List Place → List (Option Parcel) → World
@@ -21,11 +19,6 @@ pub record Makes (call : Call) (before : World) (x : InMemory) (after : World) :
   pub call_is : call_of event ≡ call
   pub happens_is : happens event before ≡ record { now = after; reply = reply }
   pub tells : told_by reply ≡ plain_reply x
-
--- at every claimed seat the answers so far are a beginning of those of a private server to the stored requests, and all of them
--- where no work is in hand
-abbrev pub EachAnswersAlone : List Place → Type 0
-EachAnswersAlone hall = (k : ℕ) (place : Place) (s : Seat) → place_at hall k ≡ Some place → place.seat ≡ Some s → AnswersAlone place.limits s.requests s
 
 -- ## At the place of one parcel
 

@@ -1,5 +1,5 @@
 -- What calls answer, as replies.
-use Rattle.std.specs.Prelude.{ℕ, Bool, true, false, Option, Some, None, Result, Ok, Err, Vec}
+use Rattle.std.specs.Prelude.{Option, Some, None, Result, Ok, Err, Vec}
 use Rattle.aud_bench.specs.declared.request.Answer.{Answer}
 use Rattle.aud_bench.specs.Seen.{Seen as Bench}
 use Rattle.aud_hall.specs.declared.fault.HallFault.{HallFault}
@@ -20,8 +20,3 @@ said_next (Err stranger) = Stranger stranger.why
 abbrev pub bench_of : Option Parcel → Option Bench
 bench_of None = None
 bench_of (Some p) = Some p.bench
-
--- where memory was refused in a slice that did so many units, as the bench tells
-abbrev pub cut_in : (spent : Bool) (done : ℕ) → Option ℕ
-cut_in true d = Some d
-cut_in false d = None

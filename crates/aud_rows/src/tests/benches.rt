@@ -186,6 +186,19 @@ const QUITS: [Row; 3] = [
 ];
 
 #[test]
+fn tells_that_memory_is_out(rt: HostRuntime) -> Result<(), AllocError> {
+    let alloc = rt.alloc();
+    let mut bench = Bench::new(alloc, STANDARD)?;
+    bench.close();
+    assert!(rt; bench.is_spent() && bench.left() == 0 && bench.limits() == STANDARD);
+    assert_eq!(rt; bench.answered(), 1);
+    let mut taken = Vec::with_capacity(alloc, 1)?;
+    bench.take_answers(&mut taken, 0);
+    assert!(rt; bench.answers().is_empty());
+    are_said(&rt, alloc, &taken, b"- E90 out of memory\n")
+}
+
+#[test]
 fn takes_nothing_after_a_quit(rt: HostRuntime) -> Result<(), AllocError> {
     meets(&rt, rt.alloc(), &QUITS, b"+ 0\n")
 }

@@ -1,10 +1,9 @@
--- What a bench promises of its slices is what a slice is.
+-- What a bench promises of its slices is what a slice is here.
 use Rattle.std.specs.Prelude.{nat_lt, min, ◌||◌, if◌then◌else◌}
-use Rattle.std.proofs.Common.{◌≡◌, ℕ, ◌+◌, ◌-◌, ◌<◌, ◌≤◌, ◌++◌, List, length, drop, Option, Some, None, Bool, true, false, refl, sym, ap, ◌∙◌, arith, length-append, length-drop}
-use Rattle.aud_bench.specs.declared.request.Answer.{Answer}
-use Rattle.aud_bench.specs.Seen.{Seen as Bench, made_by, told, answers_of, untaken}
-use Rattle.aud_hall.specs.Slices.{sliced, done, lesser, until, is_cut, answered}
-use Rattle.aud_hall.specs.Ties.Said.{cut_in}
+use Rattle.std.proofs.Common.{◌≡◌, ℕ, ◌+◌, ◌<◌, Option, Some, None, Bool, true, false, refl, sym, ap, ◌∙◌, arith}
+use Rattle.aud_bench.specs.Seen.{Seen as Bench}
+use Rattle.aud_hall.specs.Slices.{sliced, done, lesser, until, is_cut}
+use Rattle.aud_hall.specs.Ties.Calls.{cut_in}
 
 -- the clauses of a slice of so many units, which did d of them
 pub record IsSlice (units : ℕ) (b after : Bench) (d : ℕ) : Type 0 where
@@ -12,7 +11,7 @@ pub record IsSlice (units : ℕ) (b after : Bench) (d : ℕ) : Type 0 where
   pub journal : after.journal ≡ b.journal
   pub taken : after.taken ≡ b.taken
   pub units_are : after.units ≡ b.units + d
-  pub spent : b.spent ≡ true → (after ≡ b) × (d ≡ 0)
+  pub spent : b.spent ≡ true → (after.spent ≡ true) × (d ≡ 0)
   pub exact : after.spent ≡ false → d ≡ lesser units b
   pub cut : b.spent ≡ false → after.spent ≡ true → d < lesser units b
 
@@ -35,29 +34,9 @@ slice_is units b after d s = by b.spent after.spent refl refl
 
     by : (c c' : Bool) → b.spent ≡ c → after.spent ≡ c' → (after ≡ sliced units (cut_in c' d) b) × (d ≡ done units (cut_in c' d) b)
     by true true e f = done_is (Some d) ((s.spent e).1 ∙ sym (ap (λ c. if c then 0 else until (Some d) (lesser units b)) e)) (ap (λ c. c || is_cut (Some d) (lesser units b)) e ∙ sym f)
-    by true false e f = let never = ap (λ (x : Bench). x.spent) (s.spent e).0 in absurd (cc)
+    by true false e f = let never = (s.spent e).0 in absurd (cc)
     by false false e f = done_is None (s.exact f ∙ sym (ap (λ c. if c then 0 else until None (lesser units b)) e)) (ap (λ c. c || is_cut None (lesser units b)) e ∙ sym f)
     by false true e f =
         let less = s.cut e f in
         let least : min d (lesser units b) ≡ d = omega (arith, less) in
         done_is (Some d) (sym (ap (λ c. if c then 0 else until (Some d) (lesser units b)) e ∙ least)) (ap (λ c. c || is_cut (Some d) (lesser units b)) e ∙ lt_true d (lesser units b) less ∙ sym f)
-
--- ## How many answers there are
-
-told_one : (c : Bool) → c ≡ true → length (told c) ≡ 1
-told_one true e = refl
-told_one false e = absurd (cc)
-
-told_none : (c : Bool) → c ≡ false → length (told c) ≡ 0
-told_none false e = refl
-told_none true e = absurd (cc)
-
-pub spent_count : (b : Bench) → b.spent ≡ true → length (answers_of b) ≡ answered b + 1
-spent_count b e = omega (arith, length-append (made_by b) (told b.spent), told_one b.spent e)
-
-pub open_count : (b : Bench) → b.spent ≡ false → length (answers_of b) ≡ answered b
-open_count b e = omega (arith, length-append (made_by b) (told b.spent), told_none b.spent e)
-
--- those that were taken out are the others
-pub taken_count : (b : Bench) → b.taken ≤ answered b → length (answers_of b) - length (untaken b) ≡ b.taken
-taken_count b h = omega (arith, length-append (made_by b) (told b.spent), length-drop b.taken (answers_of b), h)
