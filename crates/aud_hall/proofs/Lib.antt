@@ -16,3 +16,4 @@ pub mod Places
 pub mod Parting
 pub mod Giving
 pub mod Counting
+pub mod Rooms
