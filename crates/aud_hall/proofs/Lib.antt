@@ -18,3 +18,4 @@ pub mod Parting
 pub mod Giving
 pub mod Counting
 pub mod Rooms
+pub mod Running
