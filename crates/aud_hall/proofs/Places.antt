@@ -1,12 +1,13 @@
 -- Places of a hall, as they are kept and as they are numbered.
-use Rattle.std.proofs.Common.{◌≡◌, ℕ, zero, suc, ◌<◌, ◌≤◌, List, [], ◌∷◌, length, get_or, set, Option, Some, None, refl, sym, ap, ◌∙◌, arith}
+use Rattle.std.proofs.Common.{◌≡◌, ℕ, zero, suc, ◌<◌, ◌≤◌, List, [], ◌∷◌, ◌++◌, length, get_or, set, Option, Some, None, refl, sym, ap, ◌∙◌, arith}
 use Rattle.std.proofs.lemmas.List.{set-get_or}
+use Rattle.aud_text.specs.declared.limits.Limits.{Limits}
 use Rattle.aud_bench.specs.Seen.{Seen as Bench}
 use Rattle.aud_hall.specs.Numbered.{at, put}
 use Rattle.aud_hall.specs.Replies.{Reply, Stranger, Then}
 use Rattle.aud_hall.specs.Seats.{Seat, sent}
 use Rattle.aud_hall.specs.CheckIns.{judged_vacant}
-use Rattle.aud_hall.specs.Halls.{Place, HallSending, place_at, put_place, with_place, at_place, sending_seat, sending_place, sends_out, checking_seat, checking_place, checks_in}
+use Rattle.aud_hall.specs.Halls.{Place, nobodys, HallSending, place_at, put_place, with_place, at_place, sending_seat, sending_place, sends_out, checking_seat, checking_place, checks_in}
 use Rattle.aud_hall.specs.Ties.Places.{SentFrom, checked_at}
 
 pub at_here : {A : Type 0} (xs : List A) (i : ℕ) (x : A) → i < length xs → x ≡ get_or xs i x → at xs i ≡ Some x
@@ -71,3 +72,8 @@ module _ (k i : ℕ) (hall : List Place) (old : Place) (number : k ≡ suc i) (h
       by (Some s) c =
           let then : List Place → Then (List Place) = λ places. record { now = places; reply = reply } in
           ap (with_place k hall) c ∙ ap then (place_put new)
+
+-- one place more
+pub nobodys_more : (limits : List Limits) (l : Limits) → nobodys (limits ++ l ∷ []) ≡ nobodys limits ++ record { limits = l; seat = None } ∷ []
+nobodys_more [] l = refl
+nobodys_more (x ∷ limits) l = ap (λ places. record { limits = x; seat = None } ∷ places) (nobodys_more limits l)

@@ -46,8 +46,8 @@ impl Hall {
         ensures { IfOk result (λ h. h ≡ nobodys limits.items) }
     {
         let mut places = Vec::with_capacity(alloc, limits.len())?;
-        for limits in &limits {
-            places.push(Place::new(*limits))?;
+        for each in &limits {
+            places.push(Place::new(*each))?;
         }
         Ok(Hall { places })
     }
