@@ -20,3 +20,4 @@ pub mod Counting
 pub mod Rooms
 pub mod Running
 pub mod Keeping
+pub mod Judging
