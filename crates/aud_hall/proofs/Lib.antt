@@ -6,6 +6,7 @@ pub mod Worlds
 pub mod Marks
 pub mod Sessions
 pub mod Isolation
+pub mod Users
 pub mod Idle
 pub mod Awaited
 pub mod Ample
