@@ -1,4 +1,4 @@
-use Rattle.std.proofs.Common.{◌+◌, ◌<◌, ◌++◌, [], ◌∷◌, List, length, get_or, take, None, sym, ap, ◌∙◌, arith}
+use Rattle.std.proofs.Common.{◌<◌, ◌++◌, [], ◌∷◌, List, length, get_or, take, None, sym, ap, ◌∙◌, arith}
 use Rattle.std.proofs.lemmas.List.{take_more}
 use Rattle.aud_text.specs.declared.limits.Limits.{Limits}
 use Rattle.aud_hall.specs.Halls.{Place, nobodys}

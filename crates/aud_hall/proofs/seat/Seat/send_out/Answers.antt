@@ -1,5 +1,4 @@
-use Rattle.std.specs.Prelude.{nat_le, ◌||◌, MatchOption}
-use Rattle.std.proofs.Common.{◌≡◌, ◌-◌, ◌<◌, ◌++◌, List, length, drop, Option, Some, None, true, false, sym, ap, ◌∙◌, subst, arith}
+use Rattle.std.proofs.Common.{◌≡◌, ◌-◌, ◌<◌, ◌++◌, List, length, drop, Some, None, true, sym, ap, ◌∙◌, subst, arith}
 use Rattle.aud_bench.specs.declared.request.Answer.{Answer}
 use Rattle.aud_bench.specs.Seen.{Seen as Bench, answers_of}
 use Rattle.aud_hall.specs.Seats.{Seat, Sending, sent}
