@@ -14,3 +14,11 @@ pub mod Refusals
 pub mod Calls
 pub mod Slices
 pub mod Computing
+pub mod Places
+pub mod Parting
+pub mod Giving
+pub mod Counting
+pub mod Rooms
+pub mod Running
+pub mod Keeping
+pub mod Judging

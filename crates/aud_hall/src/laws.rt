@@ -5,6 +5,8 @@ ghost use Rattle.aud_hall.specs.Why.Laws.{WorldLaw, IsolationLaw, IdleLaw, Tells
 ghost use Rattle.aud_hall.specs.Why.Rows.{Rows};
 ghost use Rattle.aud_hall.specs.Why.Runs.{RunLaw};
 
+pub use crate::run::world_run;
+
 /// The answers of every session are a beginning of those of a private server to the requests that were accepted of it,
 /// and all of them where no work is in hand.
 pub fn headline_law()

@@ -3,7 +3,14 @@
 
 pub mod event;
 pub mod fault;
+pub mod hall;
 pub mod laws;
 pub mod next;
+pub mod parcel;
+mod place;
 pub mod reply;
+mod run;
+mod seat;
+pub mod stranger;
 pub mod why;
+pub mod world;
