@@ -1,28 +1,17 @@
 -- The answers to requests that are kept are those of a private server.
 use Rattle.std.specs.Prelude.{nat_le, ◌&&◌, if◌then◌else◌}
-use Rattle.std.proofs.Common.{◌≡◌, ℕ, ◌+◌, ◌-◌, List, [], ◌∷◌, ◌++◌, length, Option, None, Bool, true, false, refl, sym, ap, ◌∙◌, arith, append-nil}
+use Rattle.std.proofs.Common.{◌≡◌, ℕ, ◌+◌, ◌-◌, List, [], ◌∷◌, ◌++◌, length, Option, None, Bool, true, false, refl, sym, ap, ◌∙◌, arith, zero-add}
 use Rattle.aud_text.specs.declared.limits.Limits.{Limits}
 use Rattle.aud_bench.specs.declared.request.Request.{Request}
 use Rattle.aud_bench.specs.declared.request.Answer.{Answer}
-use Rattle.aud_bench.specs.Alone.{Loaded, Server, is_quit, fits, kept, fresh, replied, answers_from, alone, cost_from, cost, made_from, made}
+use Rattle.aud_bench.specs.Alone.{Loaded, Server, is_quit, fits, kept, fresh, replied, answers_from, alone, cost, made_from, made}
 use Rattle.aud_bench.specs.Size.{size, bytes_of}
-use Rattle.aud_bench.specs.Ties.Seen.{has_quit}
-use Rattle.aud_bench.specs.Ties.Kept.{ends_there, kept_behind, FrontLaw, WholeLaw}
+use Rattle.aud_bench.specs.Seen.{has_quit}
+use Rattle.aud_bench.specs.Ties.Kept.{ends_there, kept_behind, is_kept, FrontLaw, WholeLaw}
 use Rattle.aud_bench.specs.Ties.Standing.{answers_to}
 use Rattle.aud_bench.proofs.Sessions.{last_one, goes_on}
-use Rattle.aud_bench.proofs.Standing.{made_past}
-use Rattle.aud_bench.proofs.Journals.{or_left, or_right}
-
-and_left : (a b : Bool) → (a && b) ≡ true → a ≡ true
-and_left true b h = refl
-and_left false b h = absurd (cc)
-
-and_right : (a b : Bool) → (a && b) ≡ true → b ≡ true
-and_right true b h = h
-and_right false b h = absurd (cc)
-
-and_both : (a b : Bool) → a ≡ true → b ≡ true → (a && b) ≡ true
-and_both a b h k = ap (λ x. x && b) h ∙ k
+use Rattle.aud_bench.proofs.Made.{all_from}
+use Rattle.aud_bench.proofs.Truths.{and_left, and_right, and_both, or_left, or_right}
 
 module _ (limits : Limits) where
   -- kept requests are answered one by one
@@ -59,18 +48,13 @@ front_law limits journal units kept =
 
 pub whole_law : WholeLaw
 unfolding alone made cost
-whole_law limits journal kept =
-    let all = made_past limits None journal [] 0 in
-    let e : cost_from limits None journal + 0 ≡ cost_from limits None journal = omega arith in
-    answers_kept limits fresh journal kept
-    ∙ sym (append-nil (answers_to limits None journal))
-    ∙ sym all
-    ∙ ap (λ j. made_from limits None j (cost_from limits None journal + 0)) (append-nil journal)
-    ∙ ap (made_from limits None journal) e
+whole_law limits journal kept = answers_kept limits fresh journal kept ∙ sym (all_from limits None journal)
 
--- one request more that fits, behind requests of which none ends the session
-pub kept_more : (requests bytes : ℕ) (journal : List Request) (r : Request) → kept_behind requests bytes journal ≡ true → has_quit journal ≡ false → fits (requests + length journal) (bytes + bytes_of journal) r ≡ true → kept_behind requests bytes (journal ++ r ∷ []) ≡ true
-kept_more requests bytes [] r h going fitting =
+pub none_kept : is_kept [] ≡ true
+none_kept = refl
+
+kept_behind_more : (requests bytes : ℕ) (journal : List Request) (r : Request) → kept_behind requests bytes journal ≡ true → has_quit journal ≡ false → fits (requests + length journal) (bytes + bytes_of journal) r ≡ true → kept_behind requests bytes (journal ++ r ∷ []) ≡ true
+kept_behind_more requests bytes [] r h going fitting =
     let n : requests + 0 ≡ requests = omega arith in
     let b : bytes + 0 ≡ bytes = omega arith in
     let here : fits requests bytes r ≡ true = sym (ap (λ k. fits k (bytes + 0) r) n ∙ ap (λ k. fits requests k r) b) ∙ fitting in
@@ -79,7 +63,7 @@ kept_more requests bytes [] r h going fitting =
     none : (b : Bool) → ends_there b [] ≡ true
     none true = refl
     none false = refl
-kept_more requests bytes (x ∷ journal) r h going fitting =
+kept_behind_more requests bytes (x ∷ journal) r h going fitting =
     let rest = kept_behind (requests + 1) (bytes + size x) journal in
     let others = ends_there (is_quit x) journal && rest in
     let both : others ≡ true = and_right (fits requests bytes x) others h in
@@ -88,6 +72,11 @@ kept_more requests bytes (x ∷ journal) r h going fitting =
     let b : bytes + bytes_of (x ∷ journal) ≡ (bytes + size x) + bytes_of journal = omega arith in
     let fits_on : fits ((requests + 1) + length journal) ((bytes + size x) + bytes_of journal) r ≡ true =
     sym (ap (λ k. fits k (bytes + bytes_of (x ∷ journal)) r) n ∙ ap (λ k. fits ((requests + 1) + length journal) k r) b) ∙ fitting in
-    let on = kept_more (requests + 1) (bytes + size x) journal r (and_right (ends_there (is_quit x) journal) rest both) (or_right (is_quit x) (has_quit journal) going) fits_on in
+    let on = kept_behind_more (requests + 1) (bytes + size x) journal r (and_right (ends_there (is_quit x) journal) rest both) (or_right (is_quit x) (has_quit journal) going) fits_on in
     and_both (fits requests bytes x) (ends_there (is_quit x) (journal ++ r ∷ []) && kept_behind (requests + 1) (bytes + size x) (journal ++ r ∷ [])) (and_left (fits requests bytes x) others h)
     (and_both (ends_there (is_quit x) (journal ++ r ∷ [])) (kept_behind (requests + 1) (bytes + size x) (journal ++ r ∷ [])) (ap (λ q. ends_there q (journal ++ r ∷ [])) no_quit) on)
+
+-- one request more that fits, behind requests of which none ends the session
+pub kept_more : (journal : List Request) (r : Request) → is_kept journal ≡ true → has_quit journal ≡ false → fits (length journal) (bytes_of journal) r ≡ true → is_kept (journal ++ r ∷ []) ≡ true
+kept_more journal r kept going fitting =
+    kept_behind_more 0 0 journal r kept going (ap (λ n. fits n (0 + bytes_of journal) r) (zero-add (length journal)) ∙ ap (λ n. fits (length journal) n r) (zero-add (bytes_of journal)) ∙ fitting)

@@ -1,23 +1,12 @@
 -- What a journal grows by.
-use Rattle.std.specs.Prelude.{nat_lt, nat_le, ◌&&◌, ◌||◌}
+use Rattle.std.specs.Prelude.{nat_lt, nat_le, ◌||◌}
 use Rattle.std.proofs.Common.{◌≡◌, ℕ, ◌+◌, ◌≤◌, List, [], ◌∷◌, ◌++◌, Bool, true, false, refl, sym, ap, ◌∙◌, arith}
 use Rattle.aud_text.specs.declared.limits.TheConstants.{REQUESTS, REQUEST_BYTES}
 use Rattle.aud_bench.specs.declared.request.Request.{Request}
 use Rattle.aud_bench.specs.Alone.{is_quit, has_room, fits}
-use Rattle.aud_bench.specs.Ties.Seen.{has_quit}
+use Rattle.aud_bench.specs.Seen.{has_quit}
 use Rattle.aud_bench.specs.Size.{size, bytes_of}
-
-pub or_left : (a b : Bool) → (a || b) ≡ false → a ≡ false
-or_left false b h = refl
-or_left true b h = h
-
-pub or_right : (a b : Bool) → (a || b) ≡ false → b ≡ false
-or_right false b h = h
-or_right true b h = absurd (cc)
-
-and_right : (a b : Bool) → (a && b) ≡ true → b ≡ true
-and_right true b h = h
-and_right false b h = absurd (cc)
+use Rattle.aud_bench.proofs.Truths.{and_right, true_le}
 
 pub bytes_append : (journal : List Request) (r : Request) → bytes_of (journal ++ r ∷ []) ≡ bytes_of journal + size r
 bytes_append [] r = omega arith
@@ -42,5 +31,4 @@ last_quits journal r h = quit_append journal r ∙ ap (λ b. b || is_quit r) h
 pub room_left : (requests bytes : ℕ) (r : Request) → fits requests bytes r ≡ true → is_quit r ≡ false → bytes + size r ≤ REQUEST_BYTES
 room_left requests bytes r fitting other =
     let room : has_room requests bytes (size r) ≡ true = sym (ap (λ b. b || has_room requests bytes (size r)) other) ∙ fitting in
-    let within : nat_le (bytes + size r) REQUEST_BYTES ≡ true = and_right (nat_lt requests REQUESTS) (nat_le (bytes + size r) REQUEST_BYTES) room in
-    grind (arith, within)
+    true_le (bytes + size r) REQUEST_BYTES (and_right (nat_lt requests REQUESTS) (nat_le (bytes + size r) REQUEST_BYTES) room)

@@ -1,6 +1,9 @@
 pub mod Benches
 pub mod Fronts
 pub mod Journals
+pub mod Made
+pub mod Sameness
 pub mod Serving
 pub mod Sessions
 pub mod Standing
+pub mod Truths

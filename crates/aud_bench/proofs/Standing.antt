@@ -1,6 +1,6 @@
 -- Requests that are worked off one after the other come to what their answers cost together.
 use Rattle.std.specs.Prelude.{nat_le, if◌then◌else◌}
-use Rattle.std.proofs.Common.{◌≡◌, ℕ, ◌+◌, ◌-◌, ◌<◌, ◌≤◌, inl, List, [], ◌∷◌, ◌++◌, take, drop, Option, Some, None, true, false, refl, sym, ap, ◌∙◌, subst, arith, append-nil, take-append-drop}
+use Rattle.std.proofs.Common.{◌≡◌, ℕ, ◌+◌, ◌-◌, ◌<◌, ◌≤◌, inl, List, [], ◌∷◌, ◌++◌, take, drop, Option, Some, None, true, refl, sym, ap, ◌∙◌, subst, arith, append-nil, take-append-drop}
 use Rattle.aud_text.specs.declared.limits.Limits.{Limits}
 use Rattle.aud_machine.specs.Shown.{Shown}
 use Rattle.aud_bench.specs.declared.request.Request.{Request}
@@ -10,24 +10,22 @@ use Rattle.aud_bench.specs.Alone.{Loaded, Reply, replied, cost_from, cost, made_
 use Rattle.aud_bench.specs.Ties.Serving.{IsLoaded, UnderWay}
 use Rattle.aud_bench.specs.Ties.Standing.{loaded_after, answers_to, units_done, AtFirst}
 use Rattle.aud_bench.proofs.Serving.{costs_some}
-
-le_true : (a b : ℕ) → a ≤ b → nat_le a b ≡ true
-le_true a b h = grind (arith, h)
-
-le_false : (a b : ℕ) → b < a → nat_le a b ≡ false
-le_false a b h = grind (arith, h)
+use Rattle.aud_bench.proofs.Truths.{le_true, le_false}
 
 module _ (limits : Limits) where
   pub cost_append : (loaded : Option Loaded) (past rest : List Request) → cost_from limits loaded (past ++ rest) ≡ cost_from limits loaded past + cost_from limits (loaded_after limits loaded past) rest
   cost_append loaded [] rest = omega arith
   cost_append loaded (r ∷ past) rest = omega (arith, cost_append (replied limits loaded r).loaded past rest)
 
-  -- an answer that is paid for
-  paid : (reply : Reply) (units left : ℕ) (others : Option Loaded → ℕ → List Answer) → units ≡ reply.cost + left → made_after reply units others ≡ reply.answer ∷ others reply.loaded left
+  -- an answer that is paid for, and one that is not
+  pub paid : (reply : Reply) (units left : ℕ) (others : Option Loaded → ℕ → List Answer) → units ≡ reply.cost + left → made_after reply units others ≡ reply.answer ∷ others reply.loaded left
   paid reply units left others e =
       let within : nat_le reply.cost units ≡ true = le_true reply.cost units (omega (arith, e)) in
       let rest : units - reply.cost ≡ left = omega (arith, e) in
       ap (λ b. if b then reply.answer ∷ others reply.loaded (units - reply.cost) else []) within ∙ ap (λ k. reply.answer ∷ others reply.loaded k) rest
+
+  pub unpaid : (reply : Reply) (units : ℕ) (others : Option Loaded → ℕ → List Answer) → units < reply.cost → made_after reply units others ≡ []
+  unpaid reply units others h = ap (λ b. if b then reply.answer ∷ others reply.loaded (units - reply.cost) else []) (le_false reply.cost units h)
 
   -- the answers to what is past, and those that the units left come to
   pub made_past : (loaded : Option Loaded) (past rest : List Request) (p : ℕ) → made_from limits loaded (past ++ rest) (cost_from limits loaded past + p) ≡ answers_to limits loaded past ++ made_from limits (loaded_after limits loaded past) rest p
@@ -42,9 +40,7 @@ module _ (limits : Limits) where
   -- the first request is not paid for yet
   pub made_none : (loaded : Option Loaded) (rest : List Request) (p : ℕ) (machine : Option Shown) → AtFirst limits loaded rest p machine → made_from limits loaded rest p ≡ []
   made_none loaded [] p machine h = refl
-  made_none loaded (r ∷ rest) p machine h =
-      let reply = replied limits loaded r in
-      ap (λ b. if b then reply.answer ∷ made_from limits reply.loaded rest (p - reply.cost) else []) (le_false reply.cost p h.unanswered)
+  made_none loaded (r ∷ rest) p machine h = unpaid (replied limits loaded r) p (λ next left. made_from limits next rest left) h.unanswered
 
   -- what is done is at most what all requests cost
   pub within_cost : (loaded : Option Loaded) (rest : List Request) (p : ℕ) (machine : Option Shown) → AtFirst limits loaded rest p machine → p ≤ cost_from limits loaded rest

@@ -1,4 +1,7 @@
 pub mod Size
 pub mod Loading
 pub mod Alone
+pub mod Seen
+pub mod Same
+pub mod Why
 pub mod Ties

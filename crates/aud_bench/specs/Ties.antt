@@ -1,6 +1,5 @@
 pub mod Answered
 pub mod Kept
 pub mod Loads
-pub mod Seen
 pub mod Serving
 pub mod Standing

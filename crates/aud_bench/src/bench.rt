@@ -1,9 +1,9 @@
 // The bench: the requests of one user, worked off in slices.
 
-ghost use Rattle.std.specs.Prelude.{◌≡◌, ℕ, ◌+◌, ◌-◌, ◌<◌, ◌≤◌, ◌++◌, min, List, [], ◌∷◌, Err, false, true, length, vec_len, vec_capacity, None, IfSome, OnOk, OnErr, IsErrOf};
+ghost use Rattle.std.specs.Prelude.{◌≡◌, ◌+◌, ◌-◌, ◌<◌, ◌≤◌, ◌++◌, min, [], ◌∷◌, Err, false, true, length, drop, vec_len, vec_capacity, None, IfSome, IfOk, OnOk, OnErr, IsErrOf};
 ghost use Rattle.aud_bench.specs.Alone.{cost};
+ghost use Rattle.aud_bench.specs.Seen.{is_closed, fits_behind, with_request, answers_of, untaken, unanswered};
 ghost use Rattle.aud_bench.specs.Ties.Kept.{is_kept};
-ghost use Rattle.aud_bench.specs.Ties.Seen.{Seen, HasMade, is_closed, fits_behind, with_request, unanswered};
 ghost use Rattle.aud_bench.specs.declared.bench.GiveFault.TheVariants as fault;
 
 use crate::journal::{fits, is_quit, size};
@@ -41,8 +41,9 @@ pub struct Bench {
     limits: Limits,
     journal: Vec<Request>,
     bytes: usize,
-    // There is room for one for each request, and for one more.
+    // Those that were not taken out. There is room for one for each request, and for one more.
     answers: Vec<Answer>,
+    taken: usize,
     // The first requests, which have cost all their units: where memory is refused, there is one answer more.
     finished: usize,
     machine: Option<Machine>,
@@ -60,6 +61,7 @@ impl Drop for Bench {
             journal: _,
             bytes: _,
             answers: _,
+            taken: _,
             finished: _,
             machine: _,
             progress: _,
@@ -70,10 +72,10 @@ impl Drop for Bench {
 }
 
 impl Model for Bench {
-    ghost use Rattle.std.specs.Prelude.{◌≡◌, ◌≤◌, ◌-◌, length, true, false, vec_capacity};
+    ghost use Rattle.std.specs.Prelude.{◌≡◌, ◌≤◌, ◌<◌, length, true, false, vec_capacity};
     ghost use Rattle.aud_text.specs.declared.limits.TheConstants.{REQUEST_BYTES};
     ghost use Rattle.aud_bench.specs.Ties.Standing.{IsAt, units_done};
-    ghost use Rattle.aud_bench.specs.Ties.Seen.{Seen, has_quit};
+    ghost use Rattle.aud_bench.specs.Seen.{Seen, has_quit};
     ghost use Rattle.aud_bench.specs.Ties.Kept.{is_kept};
     ghost use Rattle.aud_bench.specs.Size.{bytes_of};
 
@@ -83,35 +85,55 @@ impl Model for Bench {
       limits = b.limits;
       journal = b.journal.items;
       units = units_done b.limits b.journal.items b.finished b.progress;
-      answers = b.answers.items;
+      taken = b.taken;
       spent = b.spent;
     } };
 
     ghost invariant = { λ b.
-        ∥ IsAt b.limits b.journal.items b.finished b.progress b.answers.items b.spent b.machine ∥₁
-        × (length b.journal.items ≤ vec_capacity b.answers - 1)
+        ∥ IsAt b.limits b.journal.items b.finished b.progress b.taken b.answers.items b.spent b.machine ∥₁
+        × (length b.journal.items < vec_capacity b.answers)
         × (b.quit ≡ false → (b.bytes ≡ bytes_of b.journal.items) × (b.bytes ≤ REQUEST_BYTES))
         × (b.quit ≡ has_quit b.journal.items)
         × (is_kept b.journal.items ≡ true) };
 }
 
 impl Bench {
-    /// A bench with an empty journal.
-    pub fn new(alloc: Global, limits: Limits) -> Self
-        ensures { result
-            ≡ record { limits = limits; journal = []; units = 0; answers = []; spent = false } }
+    /// A bench with an empty journal. It keeps room for the answer that memory is out.
+    ///
+    /// # Errors
+    ///
+    /// Where memory is refused.
+    pub fn new(alloc: Global, limits: Limits) -> Result<Self, AllocError>
+        ensures { IfOk result (λ bench. bench
+            ≡ record { limits = limits; journal = []; units = 0; taken = 0; spent = false }) }
     {
-        Bench {
+        let answers = Vec::with_capacity(alloc, 1)?;
+        Ok(Bench {
             limits,
             journal: Vec::new(alloc),
             bytes: 0,
-            answers: Vec::new(alloc),
+            answers,
+            taken: 0,
             finished: 0,
             machine: None,
             progress: 0,
             quit: false,
             spent: false,
-        }
+        })
+    }
+
+    /// The limits that its programs keep to.
+    pub fn limits(&self) -> Limits
+        ensures { result ≡ self.now.limits }
+    {
+        self.limits
+    }
+
+    /// Whether memory was refused: nothing more is done then.
+    pub fn is_spent(&self) -> bool
+        ensures { result ≡ self.now.spent }
+    {
+        self.spent
     }
 
     /// The requests that were given and kept, in order: each fits behind those before it, and none follows a QUIT.
@@ -122,20 +144,19 @@ impl Bench {
         self.journal.as_slice()
     }
 
-    /// The answers made, one for each of the first requests: those that the units of work come to. Where memory is
-    /// refused, the last one says so.
+    /// The answers made and not yet taken out. There is one for each of the first requests: those that the units of work
+    /// come to. Where memory is refused, the last one says so.
     pub fn answers(&self) -> &[Answer]
-        ensures answers { result.now ≡ self.now.answers }
-        ensures made { HasMade self.now.spent self.now }
+        ensures { result.now ≡ untaken self.now }
     {
         &self.answers
     }
 
-    /// How many answers were made.
+    /// How many answers were made, those that were taken out too.
     pub fn answered(&self) -> usize
-        ensures { result ≡ length self.now.answers }
+        ensures { result ≡ length (answers_of self.now) }
     {
-        self.answers().len()
+        self.taken + self.answers.len()
     }
 
     /// Adds a request at the journal's end. It is refused where the session is over, by a QUIT or an answer that memory
@@ -186,10 +207,12 @@ impl Bench {
         ensures done { self.new.spent ≡ false →
             result.done ≡ min units (cost self.old.limits self.old.journal - self.old.units) }
         ensures units { self.new.units ≡ self.old.units + result.done }
+        ensures cut { self.old.spent ≡ false → self.new.spent ≡ true →
+            result.done < min units (cost self.old.limits self.old.journal - self.old.units) }
         ensures journal { (self.new.journal ≡ self.old.journal)
             × (self.new.limits ≡ self.old.limits) }
+        ensures taken { self.new.taken ≡ self.old.taken }
         ensures left { result.left ≡ unanswered self.new }
-        ensures front { (more : List Answer) × (self.new.answers ≡ self.old.answers ++ more) }
         ensures spent { self.old.spent ≡ true → (self.new ≡ self.old) × (result.done ≡ 0) }
     {
         let mut done = 0;
@@ -216,8 +239,33 @@ impl Bench {
         }
     }
 
-    // The requests that are given and unanswered.
-    fn left(&self) -> usize
+    /// Closes the bench, as a refusal of memory does: its last answer tells it, and those before it stay. This takes no
+    /// memory.
+    pub fn close(&mut self)
+        requires { self.old.spent ≡ false }
+        ensures { self.new ≡ record self.old { spent = true } }
+    {
+        self.spent = true;
+        add(&mut self.answers, Answer::Refused(Refusal::OutOfMemory));
+    }
+
+    /// Takes out all answers, those from this one on behind others, for which there has to be room. Those before it are
+    /// dropped. This takes no memory.
+    pub fn take_answers(&mut self, into: &mut Vec<Answer>, from: usize)
+        requires held { self.old.taken ≤ from }
+        requires room { vec_len into.old + (length (answers_of self.old) - from)
+            ≤ vec_capacity into.old }
+        ensures items { into.new.items ≡ into.old.items ++ drop from (answers_of self.old) }
+        ensures capacity { vec_capacity into.old ≤ vec_capacity into.new }
+        ensures bench { self.new ≡ record self.old { taken = length (answers_of self.old) } }
+    {
+        let skip = from - self.taken;
+        self.taken += self.answers.len();
+        move_past(&mut self.answers, skip, into);
+    }
+
+    /// How many requests are given and unanswered.
+    pub fn left(&self) -> usize
         ensures left { result ≡ unanswered self.now }
         ensures within { self.now.units ≤ cost self.now.limits self.now.journal }
         ensures whole { result ≡ 0 → self.now.units ≡ cost self.now.limits self.now.journal }
@@ -231,7 +279,7 @@ impl Bench {
         requires alive { self.old.spent ≡ false }
         requires unanswered { 1 ≤ unanswered self.old }
         ensures kept { (self.new.journal ≡ self.old.journal) × (self.new.limits ≡ self.old.limits) }
-        ensures front { (more : List Answer) × (self.new.answers ≡ self.old.answers ++ more) }
+        ensures taken { self.new.taken ≡ self.old.taken }
         ensures works { IfSome result (λ done. (self.new.spent ≡ false)
             × (1 ≤ done) × (done ≤ units) × (self.new.units ≡ self.old.units + done)) }
         ensures spent { result ≡ None →
@@ -274,4 +322,30 @@ fn add(answers: &mut Vec<Answer>, answer: Answer)
         Ok(()) => {}
         Err(_) => unreachable!(),
     }
+}
+
+// Moves answers behind others, for which there is room, and drops this many of the first ones.
+fn move_past(answers: &mut Vec<Answer>, skip: usize, into: &mut Vec<Answer>)
+    requires { vec_len into.old + (vec_len answers.old - skip) ≤ vec_capacity into.old }
+    ensures items { into.new.items ≡ into.old.items ++ drop skip answers.old.items }
+    ensures capacity { vec_capacity into.old ≤ vec_capacity into.new }
+    ensures none { answers.new.items ≡ [] }
+    ensures room { vec_capacity answers.new ≡ vec_capacity answers.old }
+{
+    drop_first(answers, skip);
+    match into.append(answers) {
+        Ok(()) => {}
+        Err(_) => unreachable!(),
+    }
+}
+
+// Drops this many of the first answers, or all.
+fn drop_first(answers: &mut Vec<Answer>, count: usize)
+    ensures items { answers.new.items ≡ drop count answers.old.items }
+    ensures capacity { vec_capacity answers.new ≡ vec_capacity answers.old }
+{
+    let count = count.min(answers.len());
+    let left = answers.len() - count;
+    answers.rotate_left(count);
+    answers.truncate(left);
 }

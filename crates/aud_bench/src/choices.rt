@@ -1,6 +1,6 @@
 // Choices of a schedule, as a user sends them.
 
-ghost use Rattle.std.specs.Prelude.{◌≡◌, ◌≤◌, ℕ, List, [], ◌∷◌, ◌++◌, All, OnOk, OnErr};
+ghost use Rattle.std.specs.Prelude.{◌≡◌, ◌≤◌, ℕ, List, [], ◌∷◌, ◌++◌, All, IfOk, OnOk, OnErr};
 ghost use Rattle.aud_text.specs.declared.limits.TheConstants.{CHOICE};
 
 use std::alloc::{AllocError, Global};
@@ -45,6 +45,18 @@ impl Choices {
     {
         self.numbers.push(choice)?;
         Ok(())
+    }
+
+    /// Another owner of the same choices.
+    ///
+    /// # Errors
+    ///
+    /// Where memory is refused.
+    pub fn try_clone(&self, alloc: Global) -> Result<Self, AllocError>
+        ensures { IfOk result (λ choices. choices ≡ self.now) }
+    {
+        let numbers = self.numbers.to_vec(alloc)?;
+        Ok(Choices { numbers })
     }
 
     /// The choices in order.

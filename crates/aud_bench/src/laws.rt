@@ -1,6 +1,7 @@
 // Laws of the definitions. Each function does nothing: its contract is the law.
 
 ghost use Rattle.aud_bench.specs.Ties.Kept.{FrontLaw, WholeLaw};
+ghost use Rattle.aud_bench.specs.Why.Made.{MoreLaw, GrowsLaw, ShortLaw, CostLaw};
 
 /// What a bench has made of the requests that it keeps is a front of the private server's answers to them.
 pub fn front_law()
@@ -10,4 +11,24 @@ pub fn front_law()
 /// With all the units that the requests cost, it is all of these answers.
 pub fn whole_law()
     ensures { WholeLaw }
+{}
+
+/// Requests that are given later change nothing of what is made of those before them.
+pub fn more_law()
+    ensures { MoreLaw }
+{}
+
+/// What more units make begins with what fewer make.
+pub fn grows_law()
+    ensures { GrowsLaw }
+{}
+
+/// There are at most as many answers as requests: fewer while units are left, and as many where none is.
+pub fn short_law()
+    ensures { ShortLaw }
+{}
+
+/// Each request that is given later costs a unit at least.
+pub fn cost_law()
+    ensures { CostLaw }
 {}

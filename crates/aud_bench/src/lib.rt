@@ -3,7 +3,7 @@
 
 pub mod bench;
 pub mod choices;
-mod journal;
+pub mod journal;
 pub mod laws;
 pub mod loading;
 pub mod request;

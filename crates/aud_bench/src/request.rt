@@ -1,7 +1,10 @@
 // Requests and answers.
 
-ghost use Rattle.std.specs.Prelude.{◌≡◌};
+ghost use Rattle.std.specs.Cmp.{partial_equiv_from_equiv};
+ghost use Rattle.std.specs.Prelude.{◌≡◌, IfOk};
+ghost use Rattle.aud_bench.proofs.Sameness.{same_requests};
 ghost use Rattle.aud_bench.specs.Alone.{refusal_of};
+ghost use Rattle.aud_bench.specs.Same.{same_request};
 
 use crate::choices::Choices;
 use aud_meaning::state::State;
@@ -10,6 +13,7 @@ use aud_text::place::Pos;
 use aud_text::raise::Raise;
 use aud_text::refusal::Refusal;
 use aud_text::text::Text;
+use std::alloc::{AllocError, Global};
 
 /// What a user asks.
 #[derive(Drop, Debug)]
@@ -26,6 +30,49 @@ pub enum Request {
     Quit,
     /// A malformed request.
     Bad(BadRequest),
+}
+
+impl Request {
+    /// Another owner of the same request.
+    ///
+    /// # Errors
+    ///
+    /// Where memory is refused.
+    pub fn try_clone(&self, alloc: Global) -> Result<Self, AllocError>
+        ensures { IfOk result (λ request. request ≡ self.now) }
+    {
+        match self {
+            Request::Load(source) => Ok(Request::Load(source.try_clone(alloc)?)),
+            Request::Run(steps) => Ok(Request::Run(*steps)),
+            Request::Choose(choices) => Ok(Request::Choose(choices.try_clone(alloc)?)),
+            Request::Output => Ok(Request::Output),
+            Request::Quit => Ok(Request::Quit),
+            Request::Bad(why) => Ok(Request::Bad(*why)),
+        }
+    }
+}
+
+impl PartialEq for Request {
+    ghost eq = { same_request };
+
+    ghost laws = { partial_equiv_from_equiv same_requests };
+
+    fn eq(&self, other: &Request) -> bool {
+        match (self, other) {
+            (Request::Load(source), Request::Load(text)) => source.as_bytes() == text.as_bytes(),
+            (Request::Run(steps), Request::Run(number)) => *steps == *number,
+            (Request::Choose(choices), Request::Choose(numbers)) => {
+                choices.as_slice() == numbers.as_slice()
+            }
+            (Request::Output, Request::Output) | (Request::Quit, Request::Quit) => true,
+            (Request::Bad(why), Request::Bad(reason)) => *why == *reason,
+            _ => false,
+        }
+    }
+}
+
+impl Eq for Request {
+    ghost laws = { same_requests };
 }
 
 /// Why a request is malformed.
@@ -62,12 +109,54 @@ pub enum Raised {
     Declared(Name),
 }
 
+impl Raised {
+    /// Another owner of the same exception.
+    ///
+    /// # Errors
+    ///
+    /// Where memory is refused.
+    pub fn try_clone(&self, alloc: Global) -> Result<Self, AllocError>
+        ensures { IfOk result (λ raised. raised ≡ self.now) }
+    {
+        match self {
+            Raised::Predefined(raise) => Ok(Raised::Predefined(*raise)),
+            Raised::Declared(name) => Ok(Raised::Declared(name.try_clone(alloc)?)),
+        }
+    }
+}
+
 /// What came of a RUN: the steps done, what can happen next, and the exception that ended the program.
 #[derive(Drop, Debug)]
 pub struct Report {
     pub steps: u32,
     pub state: State,
     pub raised: Option<Raised>,
+}
+
+impl Report {
+    /// Another owner of the same report.
+    ///
+    /// # Errors
+    ///
+    /// Where memory is refused.
+    pub fn try_clone(&self, alloc: Global) -> Result<Self, AllocError>
+        ensures { IfOk result (λ report. report ≡ self.now) }
+    {
+        Ok(Report {
+            steps: self.steps,
+            state: self.state,
+            raised: clone_if(alloc, &self.raised)?,
+        })
+    }
+}
+
+fn clone_if(alloc: Global, raised: &Option<Raised>) -> Result<Option<Raised>, AllocError>
+    ensures { IfOk result (λ clone. clone ≡ raised.now) }
+{
+    match raised {
+        None => Ok(None),
+        Some(raised) => Ok(Some(raised.try_clone(alloc)?)),
+    }
 }
 
 /// What a user is answered.
@@ -84,4 +173,25 @@ pub enum Answer {
     Refused(Refusal),
     /// A fault of the source text, and where it stands.
     RefusedAt(Refusal, Pos),
+}
+
+impl Answer {
+    /// Another owner of the same answer.
+    ///
+    /// # Errors
+    ///
+    /// Where memory is refused.
+    pub fn try_clone(&self, alloc: Global) -> Result<Self, AllocError>
+        ensures { IfOk result (λ answer. answer ≡ self.now) }
+    {
+        match self {
+            Answer::Loaded(name) => Ok(Answer::Loaded(name.try_clone(alloc)?)),
+            Answer::Ran(report) => Ok(Answer::Ran(report.try_clone(alloc)?)),
+            Answer::Choices(count) => Ok(Answer::Choices(*count)),
+            Answer::Output(text) => Ok(Answer::Output(text.try_clone(alloc)?)),
+            Answer::Done => Ok(Answer::Done),
+            Answer::Refused(refusal) => Ok(Answer::Refused(*refusal)),
+            Answer::RefusedAt(refusal, at) => Ok(Answer::RefusedAt(*refusal, *at)),
+        }
+    }
 }

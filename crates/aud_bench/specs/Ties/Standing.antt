@@ -1,12 +1,11 @@
 -- How far the work on a list of requests is.
 use Rattle.std.specs.Prelude.{◌≡◌, ℕ, ◌+◌, ◌≤◌, List, [], ◌∷◌, ◌++◌, length, take, drop, Option, None, Bool, true, false}
-use Rattle.aud_text.specs.declared.refusal.Refusal.TheVariants.{OutOfMemory}
 use Rattle.aud_text.specs.declared.limits.Limits.{Limits}
 use Rattle.aud_machine.specs.Shown.{Shown}
 use Rattle.aud_bench.specs.declared.request.Request.{Request}
 use Rattle.aud_bench.specs.declared.request.Answer.{Answer}
-use Rattle.aud_bench.specs.declared.request.Answer.TheVariants.{Refused}
 use Rattle.aud_bench.specs.Alone.{Loaded, replied, cost}
+use Rattle.aud_bench.specs.Seen.{told}
 use Rattle.aud_bench.specs.Ties.Serving.{IsLoaded, UnderWay}
 
 -- what is loaded after requests
@@ -28,15 +27,15 @@ abbrev pub AtFirst : Limits → Option Loaded → List Request → ℕ → Optio
 AtFirst limits loaded [] progress machine = (progress ≡ 0) × IsLoaded limits machine loaded
 AtFirst limits loaded (r ∷ rs) progress machine = UnderWay limits r loaded progress machine
 
--- what is answered where memory is refused
-abbrev pub told : Bool → List Answer
-told false = []
-told true = Refused OutOfMemory ∷ []
+-- the answers to the finished requests, and behind them, where memory is refused, that it is
+abbrev pub answers_at : Limits → List Request → (finished : ℕ) → Bool → List Answer
+answers_at limits journal finished spent = answers_to limits None (take finished journal) ++ told spent
 
--- the first requests are finished, and the next one is under way
-pub record IsAt (limits : Limits) (journal : List Request) (finished progress : ℕ) (answers : List Answer) (spent : Bool) (machine : Option Shown) : Type 0 where
+-- the first requests are finished, and the next one is under way; some of the answers were taken out, and these are the others
+pub record IsAt (limits : Limits) (journal : List Request) (finished progress taken : ℕ) (answers : List Answer) (spent : Bool) (machine : Option Shown) : Type 0 where
   pub known : finished ≤ length journal
-  pub answers_are : answers ≡ answers_to limits None (take finished journal) ++ told spent
+  pub taken_within : taken ≤ length (answers_at limits journal finished spent)
+  pub answers_are : answers ≡ drop taken (answers_at limits journal finished spent)
   -- a machine, which is the one at hand as long as memory is not refused
   pub shown : Option Shown
   pub at_hand : spent ≡ false → shown ≡ machine

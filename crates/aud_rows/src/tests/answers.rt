@@ -12,14 +12,14 @@ use aud_text::text::Text;
 use std::alloc::{AllocError, Global};
 use std::process::Abort;
 
-/// Tests that this is what the server writes for the answer.
+/// Tests that this is what the server writes for the answer, and for another owner of it.
 pub fn says(
     rt: &impl Abort,
     alloc: Global,
     answer: Answer,
     wanted: &[u8],
 ) -> Result<(), AllocError> {
-    let said = answer_text(alloc, &answer)?;
+    let said = answer_text(alloc, &answer.try_clone(alloc)?)?;
     finds(rt, "answer", &said, wanted);
     Ok(())
 }

@@ -61,7 +61,7 @@ fn word(given: Result<(), GiveFault>) -> &'static str {
 
 // Tests what comes of all that is done, and that the answers to it are these.
 fn meets(rt: &impl Abort, alloc: Global, rows: &[Row], answers: &[u8]) -> Result<(), AllocError> {
-    let mut bench = Bench::new(alloc, STANDARD);
+    let mut bench = Bench::new(alloc, STANDARD)?;
     goes(rt, alloc, &mut bench, rows, answers)
 }
 
@@ -184,6 +184,19 @@ const QUITS: [Row; 3] = [
         answered: 1,
     },
 ];
+
+#[test]
+fn tells_that_memory_is_out(rt: HostRuntime) -> Result<(), AllocError> {
+    let alloc = rt.alloc();
+    let mut bench = Bench::new(alloc, STANDARD)?;
+    bench.close();
+    assert!(rt; bench.is_spent() && bench.left() == 0 && bench.limits() == STANDARD);
+    assert_eq!(rt; bench.answered(), 1);
+    let mut taken = Vec::with_capacity(alloc, 1)?;
+    bench.take_answers(&mut taken, 0);
+    assert!(rt; bench.answers().is_empty());
+    are_said(&rt, alloc, &taken, b"- E90 out of memory\n")
+}
 
 #[test]
 fn takes_nothing_after_a_quit(rt: HostRuntime) -> Result<(), AllocError> {

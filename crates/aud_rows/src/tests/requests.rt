@@ -12,7 +12,7 @@ fn told(alloc: Global, bytes: &[u8]) -> Result<Vec<u8>, AllocError> {
     let requests = Feed::new(alloc).feed(alloc, bytes)?;
     let mut out = Vec::new(alloc);
     for request in &requests {
-        tell(&mut out, request)?;
+        tell(&mut out, &request.try_clone(alloc)?)?;
     }
     Ok(out)
 }

@@ -1,5 +1,5 @@
 -- A bench as its callers see it.
-use Rattle.std.specs.Prelude.{◌≡◌, ℕ, ◌-◌, List, [], ◌∷◌, ◌++◌, length, Bool, true, false, ◌||◌}
+use Rattle.std.specs.Prelude.{ℕ, ◌-◌, List, [], ◌∷◌, ◌++◌, length, drop, Bool, true, false, ◌||◌}
 use Rattle.aud_text.specs.declared.refusal.Refusal.TheVariants.{OutOfMemory}
 use Rattle.aud_text.specs.declared.limits.Limits.{Limits}
 use Rattle.aud_bench.specs.declared.request.Request.{Request}
@@ -8,12 +8,13 @@ use Rattle.aud_bench.specs.declared.request.Answer.TheVariants.{Refused}
 use Rattle.aud_bench.specs.Alone.{is_quit, fits, made}
 use Rattle.aud_bench.specs.Size.{bytes_of}
 
--- its limits, the requests given and kept, the units of work done on them, the answers, and whether it is spent, where memory is refused
+-- its limits, the requests given and kept, the units of work done on them, how many of its answers were taken out, and whether it is
+-- spent, where memory is refused
 pub record Seen : Type 0 where
   pub limits : Limits
   pub journal : List Request
   pub units : ℕ
-  pub answers : List Answer
+  pub taken : ℕ
   pub spent : Bool
 
 -- a QUIT is among the requests
@@ -33,11 +34,23 @@ fits_behind bench r = fits (length bench.journal) (bytes_of bench.journal) r
 abbrev pub with_request : Seen → Request → Seen
 with_request bench r = record bench { journal = bench.journal ++ r ∷ [] }
 
--- the answers are those that the units come to, and behind them, where memory is refused, that it is
-abbrev pub HasMade : Bool → Seen → Type 0
-HasMade false bench = bench.answers ≡ made bench.limits bench.journal bench.units
-HasMade true bench = bench.answers ≡ made bench.limits bench.journal bench.units ++ Refused OutOfMemory ∷ []
+-- the answers that the units come to
+abbrev pub made_by : Seen → List Answer
+made_by bench = made bench.limits bench.journal bench.units
+
+-- what is answered behind them where memory is refused
+abbrev pub told : Bool → List Answer
+told false = []
+told true = Refused OutOfMemory ∷ []
+
+-- all answers that the bench ever made
+abbrev pub answers_of : Seen → List Answer
+answers_of bench = made_by bench ++ told bench.spent
+
+-- those of them that it still holds
+abbrev pub untaken : Seen → List Answer
+untaken bench = drop bench.taken (answers_of bench)
 
 -- how many requests are not answered yet
 abbrev pub unanswered : Seen → ℕ
-unanswered bench = length bench.journal - length (made bench.limits bench.journal bench.units)
+unanswered bench = length bench.journal - length (made_by bench)

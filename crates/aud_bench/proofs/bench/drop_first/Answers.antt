@@ -1,0 +1,15 @@
+use Rattle.std.proofs.Common.{◌≡◌, ℕ, ◌-◌, List, length, take, drop, vec_len, ◌++◌, min, sym, ap, ◌∙◌, arith, length-drop}
+use Rattle.std.proofs.lemmas.List.{take_at, drop_min}
+use Rattle.aud_bench.specs.declared.request.Answer.{Answer}
+use Rattle.aud_bench.proofs.bench.drop_first.Goals as goal
+
+-- the first ones, turned behind the others, are cut off
+cut_off : (xs : List Answer) (count least left : ℕ) → least ≡ min count (length xs) → left ≡ length xs - least → take left (drop least xs ++ take least xs) ≡ drop count xs
+cut_off xs count least left least_is left_is =
+    take_at (drop least xs) (take least xs) left (length-drop least xs ∙ sym left_is) ∙ ap (λ n. drop n xs) least_is ∙ drop_min count xs
+
+pub returns-clause-items : goal.returns-clause-items
+returns-clause-items c =
+    let xs = c.args.answers.now.items in
+    c.truncate.ensures.items ∙ ap (take c.truncate.args.n) c.rotate_left.ensures.items
+    ∙ cut_off xs c.args.count c.min.result c.left (omega (arith, c.min.ensures)) (omega (arith, c.len-2.ensures))

@@ -1,0 +1,57 @@
+-- What holds of every world: each outbox is what its bench has made, and each parcel has its own truth.
+use Rattle.std.specs.Prelude.{◌≡◌, ◌<◌, ◌≤◌, List, ◌++◌, length, take, Option, Some, None, true}
+use Rattle.aud_text.specs.declared.limits.Limits.{Limits}
+use Rattle.aud_bench.specs.Alone.{alone, cost, made}
+use Rattle.aud_bench.specs.Ties.Kept.{is_kept}
+use Rattle.aud_bench.specs.Seen.{Seen as Bench, told}
+use Rattle.aud_hall.specs.Slices.{answered}
+use Rattle.aud_hall.specs.Seats.{Seat}
+use Rattle.aud_hall.specs.Halls.{Place}
+use Rattle.aud_hall.specs.World.{Parcel, World}
+use Rattle.aud_hall.specs.Headline.{Each}
+
+-- a list is a front of another one: as an equation, of which there is one proof at most
+abbrev pub Begins : {A : Type 0} → List A → List A → Type 0
+Begins front whole = take (length front) whole ≡ front
+
+-- a parcel is right by itself, whoever carries it
+pub record IsTrue (b : Bench) : Type 0 where
+  pub within : b.units ≤ cost b.limits b.journal
+  pub taken : b.taken ≤ answered b
+  pub short : b.spent ≡ true → answered b < length b.journal
+
+-- the outbox is what the bench at home has made of its journal, which is a front of the stored requests
+pub record IsHome (limits : Limits) (s : Seat) (b : Bench) : Type 0 where
+  pub limits_are : b.limits ≡ limits
+  pub front : Begins b.journal s.requests
+  pub within : b.units ≤ cost limits b.journal
+  pub outbox : s.outbox ≡ made limits b.journal b.units ++ told b.spent
+  pub taken : b.taken ≡ length s.outbox
+  pub short : b.spent ≡ true → length (made limits b.journal b.units) < length s.requests
+
+-- while the bench is out, a front of the answers: some bench had made it of a front of the requests
+pub record IsAway (limits : Limits) (s : Seat) : Type 0 where
+  pub outbox : Begins s.outbox (alone limits s.requests)
+
+abbrev pub IsMade : Limits → Seat → Option Bench → Type 0
+IsMade limits s None = IsAway limits s
+IsMade limits s (Some b) = IsHome limits s b
+
+pub record IsRight (limits : Limits) (s : Seat) : Type 0 where
+  pub kept : is_kept s.requests ≡ true
+  pub bench : IsMade limits s s.home
+
+abbrev pub IsRightSeat : Limits → Option Seat → Type 0
+IsRightSeat limits None = Unit {0}
+IsRightSeat limits (Some s) = IsRight limits s
+
+abbrev pub IsRightPlace : Place → Type 0
+IsRightPlace place = IsRightSeat place.limits place.seat
+
+abbrev pub IsRightSlot : Option Parcel → Type 0
+IsRightSlot None = Unit {0}
+IsRightSlot (Some p) = IsTrue p.bench
+
+pub record IsRightWorld (w : World) : Type 0 where
+  pub hall : Each IsRightPlace w.hall
+  pub out : Each IsRightSlot w.out

@@ -1,0 +1,73 @@
+-- What else holds of every list of events.
+use Rattle.std.specs.Prelude.{◌≡◌, ℕ, ◌<◌, ◌≤◌, List, length, Some, None, false}
+use Rattle.aud_text.specs.declared.limits.Limits.{Limits}
+use Rattle.aud_bench.specs.Seen.{Seen as Bench}
+use Rattle.aud_hall.specs.declared.next.Next.TheVariants.{More, Idle}
+use Rattle.aud_hall.specs.Replies.{Reply, Accepted, Refused, Sent, Worked, Taken, Stranger, Answers, Nothing}
+use Rattle.aud_hall.specs.Seats.{Seat, has_closed}
+use Rattle.aud_hall.specs.Halls.{Place, place_at}
+use Rattle.aud_hall.specs.World.{World, Event, CheckIn, happens}
+use Rattle.aud_hall.specs.Mine.{own_of, track_after, part_of}
+use Rattle.aud_hall.specs.Headline.{IsIdle, AnswersAlone, now_is, track_is}
+use Rattle.aud_hall.specs.Ties.Right.{IsRightWorld}
+
+-- outboxes and parcels are what they are said to be, in every world
+abbrev pub WorldLaw : Type 0
+WorldLaw = (limits : List Limits) (events : List Event) → IsRightWorld (now_is limits events)
+
+-- it holds of each claimed seat of a hall
+abbrev pub OfEachSeat : (Limits → Seat → Type 0) → List Place → Type 0
+OfEachSeat P hall = (k : ℕ) (place : Place) (s : Seat) → place_at hall k ≡ Some place → place.seat ≡ Some s → P place.limits s
+
+-- the answers at each seat are those of a private server to the requests that are stored there
+abbrev pub IsolationLaw : Type 0
+IsolationLaw = (limits : List Limits) (events : List Event) → OfEachSeat (λ l s. AnswersAlone l s.requests s) (now_is limits events).hall
+
+-- ## When no work is in hand
+
+-- an open bench is at home, and each request has its answer
+pub record IsDone (s : Seat) : Type 0 where
+  pub home : (b : Bench) × (s.home ≡ Some b)
+  pub open_there : has_closed s.home ≡ false
+  pub answers : length s.outbox ≡ length s.requests
+
+pub record CountsTell (limits : Limits) (s : Seat) : Type 0 where
+  pub done : IsIdle limits s.requests s → IsDone s
+  pub idle : IsDone s → IsIdle limits s.requests s
+
+-- so the counts of answers and requests tell whether work is in hand, and nobody has to know the units
+abbrev pub IdleLaw : Type 0
+IdleLaw = (limits : List Limits) (events : List Event) → OfEachSeat CountsTell (now_is limits events).hall
+
+-- and so does the reply to a parcel that is taken in, where its bench has not closed
+abbrev pub TellsIdleLaw : Type 0
+TellsIdleLaw = (limits : List Limits) (events : List Event) (n k : ℕ) (place : Place) (s : Seat)
+    → place_at (happens (CheckIn n k) (now_is limits events)).now.hall k ≡ Some place → place.seat ≡ Some s
+    → ((happens (CheckIn n k) (now_is limits events)).reply ≡ Taken Idle → has_closed s.home ≡ false → IsIdle place.limits s.requests s)
+    × ((happens (CheckIn n k) (now_is limits events)).reply ≡ Taken More → length s.outbox < length s.requests)
+
+-- an outbox is never longer than the stored requests, so that room kept for each of these is enough
+abbrev pub RoomLaw : Type 0
+RoomLaw = (limits : List Limits) (events : List Event) → OfEachSeat (λ l s. length s.outbox ≤ length s.requests) (now_is limits events).hall
+
+-- ## What changes nothing
+
+-- an event that is not a session's own changes nothing that is
+abbrev pub OthersLaw : Type 0
+OthersLaw = (limits : List Limits) (events : List Event) (k n : ℕ) (e : Event)
+    → own_of k (track_is k n limits events) (now_is limits events) e ≡ None
+    → part_of k (track_after k (track_is k n limits events) (now_is limits events) e) (happens e (now_is limits events)).now ≡ part_of k (track_is k n limits events) (now_is limits events)
+
+abbrev pub IsRefusal : Reply → Type 0
+IsRefusal (Refused fault) = Unit {0}
+IsRefusal (Stranger why) = Unit {0}
+IsRefusal (Answers answers) = Unit {0}
+IsRefusal Nothing = Unit {0}
+IsRefusal Accepted = ⊥
+IsRefusal (Sent gone) = ⊥
+IsRefusal (Worked done left) = ⊥
+IsRefusal (Taken next) = ⊥
+
+-- a call that is refused changes nothing, and neither does a look at the answers
+abbrev pub RefusalLaw : Type 0
+RefusalLaw = (e : Event) (w : World) → IsRefusal (happens e w).reply → (happens e w).now ≡ w

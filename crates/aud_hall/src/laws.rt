@@ -1,0 +1,75 @@
+// Laws of the definitions. Each function does nothing: its contract is the law.
+
+ghost use Rattle.aud_hall.specs.Headline.{HeadlineLaw, SliceLaw, SessionLaw, TwoWorldsLaw, AmpleLaw};
+ghost use Rattle.aud_hall.specs.Why.Laws.{WorldLaw, IsolationLaw, IdleLaw, TellsIdleLaw, RoomLaw, OthersLaw, RefusalLaw};
+ghost use Rattle.aud_hall.specs.Why.Rows.{Rows};
+
+pub use crate::run::world_run;
+
+/// The answers of every session are a beginning of those of a private server to the requests that were accepted of it,
+/// and all of them where no work is in hand.
+pub fn headline_law()
+    ensures { HeadlineLaw }
+{}
+
+/// A slice does exactly the lesser of its units and of what is left of the cost.
+pub fn slice_law()
+    ensures { SliceLaw }
+{}
+
+/// What is a session's own of the world is what its own events come to where nobody else is.
+pub fn session_law()
+    ensures { SessionLaw }
+{}
+
+/// Worlds that agree on a session answer the same later events of it alike.
+pub fn two_worlds_law()
+    ensures { TwoWorldsLaw }
+{}
+
+/// Where no memory is refused to a session's bench, and none comes to it that has closed, its answers are a front of
+/// those of a private server and nothing else.
+pub fn ample_law()
+    ensures { AmpleLaw }
+{}
+
+/// In every world each outbox is what its bench has made, and each parcel has its own truth.
+pub fn world_law()
+    ensures { WorldLaw }
+{}
+
+/// At every seat the answers so far are a beginning of those of a private server to the stored requests, and all of them
+/// where no work is in hand.
+pub fn isolation_law()
+    ensures { IsolationLaw }
+{}
+
+/// No work is in hand exactly where an open bench is at home and there are as many answers as requests.
+pub fn idle_law()
+    ensures { IdleLaw }
+{}
+
+/// After a parcel was taken in, the reply tells whether work is in hand.
+pub fn tells_idle_law()
+    ensures { TellsIdleLaw }
+{}
+
+/// No outbox is longer than the stored requests.
+pub fn room_law()
+    ensures { RoomLaw }
+{}
+
+/// An event that is not a session's own changes nothing that is.
+pub fn others_law()
+    ensures { OthersLaw }
+{}
+
+/// A call that is refused changes nothing.
+pub fn refusal_law()
+    ensures { RefusalLaw }
+{}
+
+/// What a hall replies to some lists of events.
+pub fn rows()
+    ensures { Rows }
+{}

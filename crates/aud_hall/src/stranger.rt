@@ -1,0 +1,29 @@
+// A parcel that is handed back.
+
+use crate::parcel::Parcel;
+use crate::why::Why;
+use std::error::Error;
+use std::fmt;
+
+/// A parcel that a seat does not take in, and why. Nothing has changed then.
+#[derive(Drop)]
+pub struct Stranger {
+    pub parcel: Parcel,
+    pub why: Why,
+}
+
+impl fmt::Debug for Stranger {
+    fn fmt<W: fmt::Write>(&self, f: &mut fmt::Formatter<W>) -> fmt::Result {
+        let why = self.why;
+        write!(f, "Stranger({why:?})")
+    }
+}
+
+impl fmt::Display for Stranger {
+    fn fmt<W: fmt::Write>(&self, f: &mut fmt::Formatter<W>) -> fmt::Result {
+        let why = self.why;
+        write!(f, "{why}")
+    }
+}
+
+impl Error for Stranger {}
