@@ -1,6 +1,6 @@
-"""Lists the definitions that the end-to-end theorem is made of, in an order in which each stands behind those that it uses.
+"""Lists the definitions that the end-to-end theorem and the headline on many users are made of, in an order in which each stands behind those that it uses.
 
-The theorem is the contract of `solo`; its words are `text`, `alone` and `requests`. From there the imports are followed
+The theorem is the contract of `solo`; its words are `text`, `alone` and `requests`. The headline is a law of `aud_hall`. From there the imports are followed
 through the folders specs/. What is not reached ties contracts to these words, or says why they are right: it stands in Ties/ or
 Why/, or in a crate that has nothing else, and this script stops where a file stands in the wrong folder.
 usage: believe.py [--ties]
@@ -10,7 +10,7 @@ import re
 import sys
 
 TOP = os.path.join(os.path.dirname(os.path.abspath(__file__)), "..", "crates")
-ROOTS = ("aud_server.specs.Solo", "aud_lines.specs.Requests", "aud_lines.specs.Text", "aud_server.specs.Program", "aud_bench.specs.Alone")
+ROOTS = ("aud_server.specs.Solo", "aud_lines.specs.Requests", "aud_lines.specs.Text", "aud_server.specs.Program", "aud_bench.specs.Alone", "aud_hall.specs.Headline")
 # crates whose words only tie contracts together
 TYING = ("aud_code", "aud_among", "aud_gen", "aud_exc", "aud_expr", "aud_masters", "aud_single", "aud_tasks", "aud_machine", "aud_worked")
 USE = re.compile(r"^use Rattle\.(aud_\w+)\.specs\.([\w.]+?)(?:\.\{.*\}| as \w+)$", re.MULTILINE)

@@ -6,10 +6,11 @@ use Rattle.aud_bench.specs.Alone.{alone}
 use Rattle.aud_bench.specs.Seen.{Seen as Bench, told}
 use Rattle.aud_hall.specs.declared.why.Why.{Why}
 use Rattle.aud_hall.specs.Seats.{Seat, has_closed, submitting, submitted, sending_by, sending, sent, collected}
-use Rattle.aud_hall.specs.CheckIns.{judged, checked}
+use Rattle.aud_hall.specs.Replies.{Reply, Taken}
+use Rattle.aud_hall.specs.CheckIns.{next, judged, checked}
 use Rattle.aud_hall.specs.Session.{Part, Own, Began, Submitted, SentOut, Sliced, Returned, Strayed, Collected, Freed, Held, bench_at, acts, at_held, own_sending, own_slicing, own_checking, asked, session_from, none_yet}
 use Rattle.aud_hall.specs.Mine.{mine}
-use Rattle.aud_hall.specs.Headline.{IsFront, Each, IsCalm, AmpleLaw}
+use Rattle.aud_hall.specs.Headline.{IsFront, IsCalm, IsAmple, AmpleLaw}
 use Rattle.aud_hall.proofs.Isolation.{headline_law}
 
 -- the bench at home has not closed
@@ -34,11 +35,11 @@ sent_open s h = by s.home h
     by None k = h
     by (Some b) k = stays (b.spent || nat_le (length s.requests) (length s.outbox)) b h
 
-checked_open : (why : Option Why) (b : Bench) (s : Seat) → b.spent ≡ false → has_closed s.home ≡ false → has_closed (checked why b s).now.home ≡ false
-checked_open (Some why) b s e h = h
-checked_open None b s e h = e
+checked_open : (why : Option Why) (number : Option ℕ) (b : Bench) (s : Seat) → IsCalm (Returned b number) (checked why b s).reply → has_closed s.home ≡ false → has_closed (checked why b s).now.home ≡ false
+checked_open (Some why) number b s calm h = h
+checked_open None number b s calm h = calm
 
-own_open : (o : Own) (p : Part) → IsCalm o → IsOpen p.held → IsOpen (acts o p).now.held
+own_open : (o : Own) (p : Part) → IsCalm o (acts o p).reply → IsOpen p.held → IsOpen (acts o p).now.held
 own_open (Began limits) p calm h = refl
 own_open (Submitted r refused) p calm h = by p.held h
   where
@@ -56,11 +57,11 @@ own_open (Sliced n units refused) p calm h = by (bench_at p.parcels n)
     by : (o : Option Bench) → IsOpen (own_slicing n units refused p o).now.held
     by None = h
     by (Some b) = h
-own_open (Returned b number) p calm h = by p.held h
+own_open (Returned b number) p calm h = by p.held calm h
   where
-    by : (o : Option Held) → IsOpen o → IsOpen (own_checking b number p o).now.held
-    by None k = h
-    by (Some held) k = checked_open (judged held.limits b held.seat) b held.seat calm k
+    by : (o : Option Held) → IsCalm (Returned b number) (own_checking b number p o).reply → IsOpen o → IsOpen (own_checking b number p o).now.held
+    by None c k = h
+    by (Some held) c k = checked_open (judged held.limits b held.seat) number b held.seat c k
 own_open (Strayed n reply) p calm h = h
 own_open (Collected from refused) p calm h = by p.held h
   where
@@ -69,7 +70,7 @@ own_open (Collected from refused) p calm h = by p.held h
     by (Some held) k = k
 own_open Freed p calm h = tt
 
-open_is : (p : Part) (os : List Own) → Each IsCalm os → IsOpen p.held → IsOpen (session_from p os).part.held
+open_is : (p : Part) (os : List Own) → IsAmple p os → IsOpen p.held → IsOpen (session_from p os).part.held
 open_is p [] calm h = h
 open_is p (o ∷ os) calm h = open_is (acts o p).now os calm.1 (own_open o p calm.0 h)
 

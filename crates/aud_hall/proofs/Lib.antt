@@ -7,6 +7,7 @@ pub mod Marks
 pub mod Sessions
 pub mod Isolation
 pub mod Idle
+pub mod Awaited
 pub mod Ample
 pub mod Refusals
 pub mod Calls
@@ -16,3 +17,5 @@ pub mod Places
 pub mod Parting
 pub mod Giving
 pub mod Counting
+pub mod Rooms
+pub mod Running

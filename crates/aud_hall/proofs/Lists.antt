@@ -2,8 +2,8 @@
 use Rattle.std.proofs.Common.{◌≡◌, ℕ, zero, suc, ◌≤◌, List, [], ◌∷◌, ◌++◌, length, take, drop, take-append-drop, Some, refl, sym, ap, ◌∙◌, subst, arith}
 use Rattle.aud_hall.specs.Numbered.{at, put}
 use Rattle.aud_hall.specs.Halls.{Place, place_at, put_place}
-use Rattle.aud_hall.specs.Headline.{IsFront, Each}
-use Rattle.aud_hall.specs.Ties.Right.{Begins}
+use Rattle.aud_hall.specs.Headline.{IsFront}
+use Rattle.aud_hall.specs.Ties.Right.{Each, Begins}
 
 pub each_at : {A : Type 0} (P : A → Type 0) (xs : List A) (n : ℕ) (x : A) → Each P xs → at xs n ≡ Some x → P x
 each_at P [] n x all e = absurd (cc)

@@ -54,7 +54,7 @@ claimed_right limits = record {
 
 -- ## Submit
 
-front_on : (journal requests : List Request) (r : Request) → IsFront journal requests → IsFront journal (requests ++ r ∷ [])
+pub front_on : (journal requests : List Request) (r : Request) → IsFront journal requests → IsFront journal (requests ++ r ∷ [])
 front_on journal requests r f = (f.0 ++ r ∷ [], ap (λ rs. rs ++ r ∷ []) f.1 ∙ append_assoc journal f.0 (r ∷ []))
 
 made_on : (limits : Limits) (s : Seat) (r : Request) (home : Option Bench) → is_kept s.requests ≡ true → is_kept (s.requests ++ r ∷ []) ≡ true → IsMade limits s home → IsMade limits (stored s r) home
@@ -133,10 +133,10 @@ open_outbox limits s b m e = m.outbox ∙ ap (λ c. made limits b.journal b.unit
 
 module _ (limits : Limits) (refused : Option ℕ) (s : Seat) (right : IsRight limits s) where
   module _ (b : Bench) (m : IsHome limits s b) (alive : b.spent ≡ false) (some : length s.outbox < length s.requests) where
-    abbrev full : Bench
+    abbrev pub full : Bench
     full = given s.requests refused b
 
-    made_is : s.outbox ≡ made limits full.journal full.units
+    pub made_is : s.outbox ≡ made limits full.journal full.units
     made_is = open_outbox limits s b m alive ∙ sym (goes_on limits b.journal (take (until refused (length (drop (length b.journal) s.requests))) (drop (length b.journal) s.requests)) b.units m.within).1
 
     within_is : full.units ≤ cost limits full.journal

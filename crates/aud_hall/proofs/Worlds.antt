@@ -9,8 +9,7 @@ use Rattle.aud_hall.specs.Seats.{Seat, submitted, sent, collected}
 use Rattle.aud_hall.specs.CheckIns.{judged, checked}
 use Rattle.aud_hall.specs.Halls.{Place, nobodys, place_at, put_place, at_place, at_seat, claiming, freeing, sends_out, sending_place, sending_seat, checking_place, checking_seat}
 use Rattle.aud_hall.specs.World.{World, Event, Parcel, Claim, Submit, SendOut, Slice, CheckIn, Collect, Free, happens, after_all, beginning, parcel_at, parcels, in_hall, sending_away, slicing, coming_in, checking, out_after}
-use Rattle.aud_hall.specs.Headline.{Each}
-use Rattle.aud_hall.specs.Ties.Right.{IsTrue, IsRight, IsRightSeat, IsRightPlace, IsRightSlot, IsRightWorld}
+use Rattle.aud_hall.specs.Ties.Right.{Each, IsTrue, IsRight, IsRightSeat, IsRightPlace, IsRightSlot, IsRightWorld}
 use Rattle.aud_hall.proofs.Lists.{each_at, each_put, each_append, each_place, each_put_place}
 use Rattle.aud_hall.proofs.Seats.{IsGone, claimed_right, submitted_right, sent_right}
 use Rattle.aud_hall.proofs.CheckIns.{sliced_true, checked_right}

@@ -1,15 +1,15 @@
 -- What holds of every user, whatever all users and workers do, and in whatever order.
-use Rattle.std.specs.Prelude.{◌≡◌, ℕ, List, ◌++◌, Option, Some, None, false}
+use Rattle.std.specs.Prelude.{◌≡◌, ℕ, List, [], ◌∷◌, ◌++◌, Option, Some, None, false}
 use Rattle.aud_text.specs.declared.limits.Limits.{Limits}
 use Rattle.aud_bench.specs.declared.request.Request.{Request}
 use Rattle.aud_bench.specs.declared.request.Answer.{Answer}
 use Rattle.aud_bench.specs.Alone.{alone, cost}
 use Rattle.aud_bench.specs.Seen.{Seen as Bench, told, unanswered}
 use Rattle.aud_hall.specs.Slices.{lesser, sliced}
-use Rattle.aud_hall.specs.Replies.{Worked}
+use Rattle.aud_hall.specs.Replies.{Reply, Worked, Taken}
 use Rattle.aud_hall.specs.Seats.{Seat, has_closed}
 use Rattle.aud_hall.specs.World.{World, Event, Slice, happens, after_all, beginning, parcel_at}
-use Rattle.aud_hall.specs.Session.{Held, Own, Began, Submitted, SentOut, Sliced, Returned, Strayed, Collected, Freed, session, asked}
+use Rattle.aud_hall.specs.Session.{Held, Part, Own, SentOut, Returned, acts, none_yet, session, asked}
 use Rattle.aud_hall.specs.Mine.{Track, outset, track_from, part_of, mine, mine_from, replies_from}
 
 abbrev pub IsFront : {A : Type 0} → List A → List A → Type 0
@@ -66,23 +66,17 @@ TwoWorldsLaw = (limits limits' : List Limits) (events events' : List Event) (k k
 
 -- ## Memory
 
-abbrev pub Each : {A : Type 0} → (A → Type 0) → List A → Type 0
-Each P [] = Unit {0}
-Each P (x ∷ xs) = P x × Each P xs
+-- no memory is refused where the session's bench is given requests, and no bench that has closed is taken in at its seat
+abbrev pub IsCalm : Own → Reply → Type 0
+IsCalm (SentOut (Some n)) reply = ⊥
+IsCalm (Returned b number) (Taken next) = b.spent ≡ false
+IsCalm _ reply = Unit {0}
 
--- no memory is refused where the session's bench is given requests, and no bench that has closed comes to its seat
-abbrev pub IsCalm : Own → Type 0
-IsCalm (Began limits) = Unit {0}
-IsCalm (Submitted r refused) = Unit {0}
-IsCalm (SentOut None) = Unit {0}
-IsCalm (SentOut (Some n)) = ⊥
-IsCalm (Sliced n units refused) = Unit {0}
-IsCalm (Returned b number) = b.spent ≡ false
-IsCalm (Strayed n reply) = Unit {0}
-IsCalm (Collected from refused) = Unit {0}
-IsCalm Freed = Unit {0}
+abbrev pub IsAmple : Part → List Own → Type 0
+IsAmple p [] = Unit {0}
+IsAmple p (o ∷ os) = IsCalm o (acts o p).reply × IsAmple (acts o p).now os
 
 -- then its answers are a front of those of a private server, and nothing else
 abbrev pub AmpleLaw : Type 0
-AmpleLaw = (limits : List Limits) (events : List Event) (k n : ℕ) (h : Held) → Each IsCalm (mine k n limits events) → (session (mine k n limits events)).part.held ≡ Some h
+AmpleLaw = (limits : List Limits) (events : List Event) (k n : ℕ) (h : Held) → IsAmple none_yet (mine k n limits events) → (session (mine k n limits events)).part.held ≡ Some h
     → IsFront h.seat.outbox (alone h.limits (asked (mine k n limits events)))

@@ -1,10 +1,10 @@
 // The hall: the seats of all users.
 
-ghost use Rattle.std.specs.Prelude.{◌≡◌, ℕ, ◌<◌, suc, length, Some, None, Option, IfOk, IfErr, IfSome, OnErr, MatchOption};
+ghost use Rattle.std.specs.Prelude.{◌≡◌, ℕ, ◌<◌, suc, length, true, Some, None, Option, IfOk, IfErr, IfSome, OnErr, MatchOption};
 ghost use Rattle.aud_hall.specs.Halls.{nobodys, place_at, claims, submits, sends_out, checks_in, collects, frees};
 ghost use Rattle.aud_hall.specs.Ties.Calls.{is_memory, said};
 ghost use Rattle.aud_hall.specs.Ties.Said.{said_answers, said_next, bench_of};
-ghost use Rattle.aud_hall.specs.Ties.Places.{asked_at};
+ghost use Rattle.aud_hall.specs.Ties.Places.{asked_at, outbox_at};
 
 use crate::fault::HallFault;
 use crate::next::Next;
@@ -46,8 +46,8 @@ impl Hall {
         ensures { IfOk result (λ h. h ≡ nobodys limits.items) }
     {
         let mut places = Vec::with_capacity(alloc, limits.len())?;
-        for limits in &limits {
-            places.push(Place::new(*limits))?;
+        for each in &limits {
+            places.push(Place::new(*each))?;
         }
         Ok(Hall { places })
     }
@@ -141,15 +141,18 @@ impl Hall {
     ///
     /// # Errors
     ///
-    /// Where the hall has no such seat, where it is not claimed, and where memory is refused.
+    /// Where the hall has no such seat, where it is not claimed, and where memory is refused, which is taken only where there are
+    /// answers from that number on.
     pub fn collect(
         &self,
         alloc: Global,
         seat: usize,
         from: usize,
     ) -> Result<Vec<Answer>, HallFault>
-        ensures { collects seat from (is_memory result) self.now
+        ensures collects { collects seat from (is_memory result) self.now
             ≡ record { now = self.now; reply = said_answers result } }
+        ensures some { is_memory result ≡ true →
+            from < length (outbox_at (place_at self.now seat)) }
     {
         let Some(index) = self.index_of(seat) else {
             return Err(HallFault::NoSuchSeat);

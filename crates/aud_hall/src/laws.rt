@@ -1,7 +1,7 @@
 // Laws of the definitions. Each function does nothing: its contract is the law.
 
 ghost use Rattle.aud_hall.specs.Headline.{HeadlineLaw, SliceLaw, SessionLaw, TwoWorldsLaw, AmpleLaw};
-ghost use Rattle.aud_hall.specs.Why.Laws.{WorldLaw, IsolationLaw, IdleLaw, TellsIdleLaw, RoomLaw, OthersLaw, RefusalLaw};
+ghost use Rattle.aud_hall.specs.Why.Laws.{WorldLaw, IsolationLaw, IdleLaw, TellsIdleLaw, AwaitedLaw, RoomLaw, OthersLaw, RefusalLaw};
 ghost use Rattle.aud_hall.specs.Why.Rows.{Rows};
 
 pub use crate::run::world_run;
@@ -27,8 +27,8 @@ pub fn two_worlds_law()
     ensures { TwoWorldsLaw }
 {}
 
-/// Where no memory is refused to a session's bench, and none comes to it that has closed, its answers are a front of
-/// those of a private server and nothing else.
+/// Where no memory is refused as a session's bench is given its requests, and no bench that has closed is taken in at its
+/// seat, its answers are a front of those of a private server and nothing else.
 pub fn ample_law()
     ensures { AmpleLaw }
 {}
@@ -52,6 +52,11 @@ pub fn idle_law()
 /// After a parcel was taken in, the reply tells whether work is in hand.
 pub fn tells_idle_law()
     ensures { TellsIdleLaw }
+{}
+
+/// A seat takes in the bench that it sent out, whatever work was done on it and whatever was asked since.
+pub fn awaited_law()
+    ensures { AwaitedLaw }
 {}
 
 /// No outbox is longer than the stored requests.

@@ -1,10 +1,10 @@
 // A place of the hall, claimed or not.
 
-ghost use Rattle.std.specs.Prelude.{◌≡◌, ℕ, Some, None, Option, IfErr, IfSome, OnErr, MatchOption};
+ghost use Rattle.std.specs.Prelude.{◌≡◌, ℕ, ◌<◌, length, true, Some, None, Option, IfErr, IfSome, OnErr, MatchOption};
 ghost use Rattle.aud_bench.specs.Same.{same_limits};
 ghost use Rattle.aud_hall.specs.Seats.{submitted, collected};
 ghost use Rattle.aud_hall.specs.Halls.{at_seat, claiming, freeing};
-ghost use Rattle.aud_hall.specs.Ties.Places.{SentFrom, judged_at, checked_at, asked_in};
+ghost use Rattle.aud_hall.specs.Ties.Places.{SentFrom, judged_at, checked_at, asked_in, outbox_in};
 ghost use Rattle.aud_hall.specs.Ties.Calls.{is_memory, said};
 ghost use Rattle.aud_hall.specs.Ties.Said.{said_answers, said_next, bench_of};
 
@@ -118,10 +118,12 @@ impl Place {
         }
     }
 
-    /// The answers from this number on; none where it is past the last.
+    /// The answers from this number on; none where it is past the last, and then no memory is taken.
     pub fn collect(&self, alloc: Global, from: usize) -> Result<Vec<Answer>, HallFault>
-        ensures { at_seat (λ s. record { now = s; reply = collected from (is_memory result) s })
+        ensures collects { at_seat
+            (λ s. record { now = s; reply = collected from (is_memory result) s })
             self.now self.now.seat ≡ record { now = self.now; reply = said_answers result } }
+        ensures some { is_memory result ≡ true → from < length (outbox_in self.now.seat) }
     {
         match &self.seat {
             Some(seat) => seat.collect(alloc, from),

@@ -193,8 +193,8 @@ impl Seat {
     {
         let next = self.next(&parcel);
         let mut bench = parcel.into_bench();
-        let known = self.outbox.len();
-        bench.take_answers(&mut self.outbox, known);
+        let from = self.outbox.len();
+        bench.take_answers(&mut self.outbox, from);
         self.home = Some(bench);
         next
     }
@@ -210,9 +210,10 @@ impl Seat {
         }
     }
 
-    /// The answers from this number on; none where it is past the last.
+    /// The answers from this number on; none where it is past the last, and then no memory is taken.
     pub fn collect(&self, alloc: Global, from: usize) -> Result<Vec<Answer>, HallFault>
-        ensures { collected from (is_memory result) self.now ≡ said_answers result }
+        ensures collects { collected from (is_memory result) self.now ≡ said_answers result }
+        ensures some { is_memory result ≡ true → from < length self.now.outbox }
     {
         match copied(alloc, &self.outbox, from) {
             Ok(answers) => Ok(answers),
@@ -269,7 +270,8 @@ fn give_rest(alloc: Global, bench: &mut Bench, requests: &[Request]) -> bool
 
 // Other owners of the answers from this number on.
 fn copied(alloc: Global, answers: &[Answer], from: usize) -> Result<Vec<Answer>, AllocError>
-    ensures { IfOk result (λ copy. copy.items ≡ drop from answers.now) }
+    ensures items { IfOk result (λ copy. copy.items ≡ drop from answers.now) }
+    ensures some { OnErr result (from < length answers.now) }
 {
     let mut copy = Vec::new(alloc);
     if answers.len() <= from {

@@ -4,6 +4,7 @@
 mod answers;
 mod benches;
 mod checks;
+mod halls;
 mod reading;
 mod requests;
 mod serving;

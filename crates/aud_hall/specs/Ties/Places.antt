@@ -1,7 +1,8 @@
 -- Calls at a place of the hall, as its methods make them.
-use Rattle.std.specs.Prelude.{◌≡◌, ℕ, List, Option, Some, None}
+use Rattle.std.specs.Prelude.{◌≡◌, ℕ, List, [], Option, Some, None}
 use Rattle.aud_text.specs.declared.limits.Limits.{Limits}
 use Rattle.aud_bench.specs.declared.request.Request.{Request}
+use Rattle.aud_bench.specs.declared.request.Answer.{Answer}
 use Rattle.aud_bench.specs.Seen.{Seen as Bench}
 use Rattle.aud_hall.specs.declared.why.Why.{Why}
 use Rattle.aud_hall.specs.Replies.{Stranger, Then}
@@ -37,3 +38,12 @@ asked_in (Some s) = Some s.requests
 abbrev pub asked_at : Option Place → Option (List Request)
 asked_at None = None
 asked_at (Some place) = asked_in place.seat
+
+abbrev pub outbox_in : Option Seat → List Answer
+outbox_in None = []
+outbox_in (Some s) = s.outbox
+
+-- the answers at a place of the hall; none where it is not claimed
+abbrev pub outbox_at : Option Place → List Answer
+outbox_at None = []
+outbox_at (Some place) = outbox_in place.seat

@@ -1,5 +1,5 @@
 -- What holds of every world: each outbox is what its bench has made, and each parcel has its own truth.
-use Rattle.std.specs.Prelude.{◌≡◌, ◌<◌, ◌≤◌, List, ◌++◌, length, take, Option, Some, None, true}
+use Rattle.std.specs.Prelude.{◌≡◌, ◌<◌, ◌≤◌, List, [], ◌∷◌, ◌++◌, length, take, Option, Some, None, true}
 use Rattle.aud_text.specs.declared.limits.Limits.{Limits}
 use Rattle.aud_bench.specs.Alone.{alone, cost, made}
 use Rattle.aud_bench.specs.Ties.Kept.{is_kept}
@@ -8,7 +8,10 @@ use Rattle.aud_hall.specs.Slices.{answered}
 use Rattle.aud_hall.specs.Seats.{Seat}
 use Rattle.aud_hall.specs.Halls.{Place}
 use Rattle.aud_hall.specs.World.{Parcel, World}
-use Rattle.aud_hall.specs.Headline.{Each}
+
+abbrev pub Each : {A : Type 0} → (A → Type 0) → List A → Type 0
+Each P [] = Unit {0}
+Each P (x ∷ xs) = P x × Each P xs
 
 -- a list is a front of another one: as an equation, of which there is one proof at most
 abbrev pub Begins : {A : Type 0} → List A → List A → Type 0

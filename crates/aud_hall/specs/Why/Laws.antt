@@ -1,10 +1,13 @@
 -- What else holds of every list of events.
-use Rattle.std.specs.Prelude.{◌≡◌, ℕ, ◌<◌, ◌≤◌, List, length, Some, None, false}
+use Rattle.std.specs.Prelude.{◌≡◌, ℕ, ◌<◌, ◌≤◌, List, [], ◌∷◌, length, Option, Some, None, Bool, false}
 use Rattle.aud_text.specs.declared.limits.Limits.{Limits}
+use Rattle.aud_bench.specs.declared.request.Request.{Request}
 use Rattle.aud_bench.specs.Seen.{Seen as Bench}
 use Rattle.aud_hall.specs.declared.next.Next.TheVariants.{More, Idle}
+use Rattle.aud_hall.specs.Slices.{sliced}
 use Rattle.aud_hall.specs.Replies.{Reply, Accepted, Refused, Sent, Worked, Taken, Stranger, Answers, Nothing}
-use Rattle.aud_hall.specs.Seats.{Seat, has_closed}
+use Rattle.aud_hall.specs.Seats.{Seat, has_closed, submitted, sent}
+use Rattle.aud_hall.specs.CheckIns.{judged}
 use Rattle.aud_hall.specs.Halls.{Place, place_at}
 use Rattle.aud_hall.specs.World.{World, Event, CheckIn, happens}
 use Rattle.aud_hall.specs.Mine.{own_of, track_after, part_of}
@@ -49,6 +52,24 @@ TellsIdleLaw = (limits : List Limits) (events : List Event) (n k : ℕ) (place :
 -- an outbox is never longer than the stored requests, so that room kept for each of these is enough
 abbrev pub RoomLaw : Type 0
 RoomLaw = (limits : List Limits) (events : List Event) → OfEachSeat (λ l s. length s.outbox ≤ length s.requests) (now_is limits events).hall
+
+-- ## What a seat takes in
+
+abbrev pub after_slices : List (ℕ × Option ℕ) → Bench → Bench
+after_slices [] b = b
+after_slices (x ∷ xs) b = after_slices xs (sliced x.0 x.1 b)
+
+abbrev pub after_submits : List (Request × Bool) → Seat → Seat
+after_submits [] s = s
+after_submits (x ∷ xs) s = after_submits xs (submitted x.0 x.1 s).now
+
+-- no reason holds against the bench that the seat sent out, after slices of it, and after requests that came to the seat meanwhile
+abbrev pub TakesBack : Limits → Seat → Type 0
+TakesBack limits s = (refused : Option ℕ) (b : Bench) → (sent refused s).gone ≡ Some b → (slices : List (ℕ × Option ℕ)) (submits : List (Request × Bool))
+    → judged limits (after_slices slices b) (after_submits submits (sent refused s).seat) ≡ None
+
+abbrev pub AwaitedLaw : Type 0
+AwaitedLaw = (limits : List Limits) (events : List Event) → OfEachSeat TakesBack (now_is limits events).hall
 
 -- ## What changes nothing
 

@@ -1,5 +1,6 @@
-use Rattle.std.proofs.Common.{List, vec_len, vec_capacity, true, sym, subst, arith}
+use Rattle.std.proofs.Common.{List, vec_len, vec_capacity, true, sym, ap, subst, arith}
 use Rattle.aud_bench.specs.declared.request.Answer.{Answer}
+use Rattle.aud_bench.specs.Seen.{Seen}
 use Rattle.aud_bench.specs.Ties.Standing.{IsAt}
 use Rattle.aud_bench.proofs.Benches.{room, refused}
 use Rattle.aud_bench.proofs.bench.Bench.close.Goals as goal
@@ -19,3 +20,6 @@ invariant_of-self c =
       c.self.invariant.3,
       c.self.invariant.4,
     )
+
+pub returns : goal.returns
+returns c = ap (λ (b : Seen). record b { spent = true }) c.self.view_is

@@ -22,7 +22,7 @@ pub invariant_of-self : goal.invariant_of-self
 invariant_of-self c =
     let s = c.self.inside in
     let count : s.taken + length s.answers.items ≡ s.taken + c.len.result = omega (arith, c.len.ensures, s.answers.ok.0) in (
-      subst (λ n. ∥ IsAt s.limits s.journal.items s.finished s.progress n c.move_past.new.self.items s.spent s.machine ∥₁) count
+      subst (λ n. ∥ IsAt s.limits s.journal.items s.finished s.progress n c.move_past.new.answers.items s.spent s.machine ∥₁) count
           (subst (λ (held : List Answer). ∥ IsAt s.limits s.journal.items s.finished s.progress (s.taken + length s.answers.items) held s.spent s.machine ∥₁) (sym c.move_past.ensures.none)
           (emptied _ _ _ _ _ _ _ _ c.self.invariant.0)),
       omega (arith, c.self.invariant.1, c.move_past.ensures.room),
@@ -40,4 +40,4 @@ returns-clause-bench c =
     let s = c.self.inside in
     let count : s.taken + c.len.result ≡ s.taken + length s.answers.items = omega (arith, c.len.ensures, s.answers.ok.0) in
     let all = all_made _ _ _ _ _ _ _ _ c.self.invariant.0 c.args.self.now c.self.view_is in
-    ap (λ n. record c.args.self.now { taken = n }) (count ∙ all)
+    ap (λ (b : Seen). record b { taken = s.taken + c.len.result }) c.self.view_is ∙ ap (λ n. record c.args.self.now { taken = n }) (count ∙ all)
