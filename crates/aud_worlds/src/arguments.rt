@@ -11,9 +11,15 @@ pub enum Task {
     All,
     Rows,
     /// Work off so many steps at each seat; a slice of 0 has one bench do as many.
-    Work { seats: usize, steps: u32, slice: u32 },
+    Work {
+        seats: usize,
+        steps: u32,
+        slice: u32,
+    },
     /// Leave so many seats idle.
-    Idle { seats: usize },
+    Idle {
+        seats: usize,
+    },
 }
 
 /// What the words of the command line ask for, the first of which is the program's own name.

@@ -1,7 +1,7 @@
 // Lists of random calls, in a hall and in a world in slow words.
 
 use crate::deed::{Deed, event};
-use crate::draws::{SEATS, draw};
+use crate::draws::{Draws, SEATS};
 use crate::fault::Fault;
 use crate::outboxes::{Beside, Outbox, outbox_at};
 use crate::plain::Plain;
@@ -14,8 +14,6 @@ use aud_hall::hall::Hall;
 use aud_hall::laws::world_run;
 use aud_hall::reply::Reply;
 use aud_text::limits::{Limits, STANDARD};
-use rand::SeedableRng;
-use rand::rngs::SmallRng;
 use std::alloc::{AllocError, Global};
 
 const LISTS: u64 = 1_000;
@@ -49,7 +47,7 @@ pub fn look_at_lists(rt: &(impl Print + AllocGlobal)) -> Result<(), Fault> {
 
 // The list of this number.
 fn drawn(alloc: Global, number: u64) -> Result<RandomList, AllocError> {
-    let mut rng = SmallRng::seed_from_u64(number);
+    let mut draws = Draws::new(alloc, number)?;
     let mut list = RandomList {
         number,
         deeds: Vec::new(alloc),
@@ -57,7 +55,7 @@ fn drawn(alloc: Global, number: u64) -> Result<RandomList, AllocError> {
         world: Plain::new(alloc, &LIMITS)?,
     };
     for _ in 0..CALLS {
-        let deed = draw(&mut rng, &list.world);
+        let deed = draws.draw(&list.world);
         let reply = list.world.call(alloc, deed)?;
         list.deeds.push(deed)?;
         list.wanted.push(reply)?;
@@ -117,7 +115,10 @@ fn differs(
     let deed = list.deeds.get(place);
     let told = words(rt.alloc(), reply)?;
     let wanted = words(rt.alloc(), wanted)?;
-    println!(rt; "list {}, call {place}: {deed:?} is answered '{told}', and not '{wanted}'", list.number)?;
+    println!(rt;
+        "list {}, call {place}: {deed:?} is answered '{told}', and not '{wanted}'",
+        list.number
+    )?;
     Err(Fault::Differs)
 }
 
@@ -165,7 +166,9 @@ fn tell(rt: &impl Print, tally: &Tally) -> Result<(), Fault> {
         worked,
         ..
     } = *tally;
-    println!(rt; "accepted {accepted}, refused {refused}, sent out {sent}, stayed {stayed}, slices {worked}")?;
+    println!(rt;
+        "accepted {accepted}, refused {refused}, sent out {sent}, stayed {stayed}, slices {worked}"
+    )?;
     let Tally {
         taken,
         answers,
@@ -177,7 +180,9 @@ fn tell(rt: &impl Print, tally: &Tally) -> Result<(), Fault> {
     let no_seat = strangers.no_seat;
     let other_limits = strangers.other_limits;
     let differs = strangers.differs;
-    println!(rt; "strangers: no seat {no_seat}, other limits {other_limits}, other requests {differs}")?;
+    println!(rt;
+        "strangers: no seat {no_seat}, other limits {other_limits}, other requests {differs}"
+    )?;
     let not_out = strangers.not_out;
     let behind = strangers.behind;
     println!(rt; "strangers: none is out {not_out}, behind {behind}")?;

@@ -5,8 +5,8 @@ use crate::deed::Deed;
 use crate::session::{Bench, Session};
 use aud_bench::bench::Work;
 use aud_hall::fault::HallFault;
-use aud_hall::why::Why;
 use aud_hall::reply::Reply;
+use aud_hall::why::Why;
 use aud_text::limits::Limits;
 use std::alloc::{AllocError, Global};
 
@@ -74,6 +74,17 @@ impl Plain {
         Some(parcel.seat)
     }
 
+    /// The last parcel that is out, of those that were sent out before the one of this number.
+    pub fn last_out(&self, number: usize) -> Option<usize> {
+        let mut last = None;
+        for (place, parcel) in self.parcels.iter().take(number).enumerate() {
+            if parcel.is_some() {
+                last = Some(place);
+            }
+        }
+        last
+    }
+
     /// The session at a seat, where it is claimed.
     pub fn session_at(&self, seat: usize) -> Option<&Session> {
         self.sessions.get(self.seat(seat)?.session?)
@@ -113,14 +124,18 @@ impl Plain {
     fn claim(&mut self, alloc: Global, seat: usize) -> Result<Reply, AllocError> {
         match self.seat(seat) {
             None => Ok(Reply::Refused(HallFault::NoSuchSeat)),
-            Some(Seat {
-                limits: _,
-                session: Some(_),
-            }) => Ok(Reply::Refused(HallFault::SeatInUse)),
-            Some(Seat {
-                limits,
-                session: None,
-            }) => self.begin(alloc, seat, limits),
+            Some(
+                Seat {
+                    limits: _,
+                    session: Some(_),
+                },
+            ) => Ok(Reply::Refused(HallFault::SeatInUse)),
+            Some(
+                Seat {
+                    limits,
+                    session: None,
+                },
+            ) => self.begin(alloc, seat, limits),
         }
     }
 
@@ -171,9 +186,7 @@ impl Plain {
         let rest = session.cost(bench.given).saturating_sub(bench.units);
         let done = units.min(rest);
         let units = bench.units.saturating_add(done);
-        let left = bench
-            .given
-            .saturating_sub(session.made(bench.given, units));
+        let left = bench.given.saturating_sub(session.made(bench.given, units));
         let bench = Bench { units, ..bench };
         self.set_parcel(number, Some(Parcel { seat, bench }));
         Reply::Worked(Work { done, left })

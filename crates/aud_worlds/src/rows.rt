@@ -20,7 +20,9 @@ pub fn look_at_rows(rt: &(impl Print + AllocGlobal)) -> Result<(), Fault> {
     }
     let lines = full(rt.alloc())?;
     look_at(rt, "a full journal", FOUR, &lines)?;
-    println!(rt; "{count} rows: each reply as it must be, each outbox a front of the private server's answers")?;
+    println!(rt;
+        "{count} rows: each reply as it must be, each outbox a front of the private server's answers"
+    )?;
     Ok(())
 }
 
@@ -281,10 +283,7 @@ const QUITS: &[Line] = &[
     (Deed::Slice(0, 5), "did 2, left 0"),
     (Deed::CheckIn(0, 1), "taken in, idle"),
     (Deed::Submit(1, Ask::Output), "E93 seat not claimed"),
-    (
-        Deed::Collect(1, 0),
-        "- E30 1:22 name not declared\n+ 0\n",
-    ),
+    (Deed::Collect(1, 0), "- E30 1:22 name not declared\n+ 0\n"),
     (Deed::Claim(1), "E91 seat in use"),
     (Deed::Free(1), "accepted"),
     (Deed::Claim(1), "accepted"),

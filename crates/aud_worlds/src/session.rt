@@ -7,8 +7,8 @@ use aud_bench::request::Answer;
 use aud_bench::session::Session as Server;
 use aud_hall::fault::HallFault;
 use aud_hall::next::Next;
-use aud_hall::why::Why;
 use aud_hall::reply::Reply;
+use aud_hall::why::Why;
 use aud_text::limits::Limits;
 use aud_text::refusal::Refusal;
 use std::alloc::{AllocError, Global};
@@ -73,12 +73,17 @@ impl Session {
         Ok(Reply::Accepted)
     }
 
-    /// The bench with all requests, where it is at home and one of them is unanswered.
+    /// Whether the bench is at home and a request is unanswered.
+    pub fn is_ready(&self) -> bool {
+        self.home.is_some() && self.got < self.asks.len()
+    }
+
+    /// The bench with all requests, where it can go out.
     pub fn send_out(&mut self) -> Option<Bench> {
-        let given = self.asks.len();
-        if given <= self.got {
+        if !self.is_ready() {
             return None;
         }
+        let given = self.asks.len();
         let bench = self.home.take()?;
         Some(Bench { given, ..bench })
     }

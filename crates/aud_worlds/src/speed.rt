@@ -111,7 +111,7 @@ pub fn turn(alloc: Global, hall: &mut Hall, seat: usize, slice: u64) -> Result<u
 ///
 /// `Memory` where memory is refused.
 pub fn work_alone(rt: &(impl Print + AllocGlobal), steps: u64) -> Result<(), Fault> {
-    let mut bench = Bench::new(rt.alloc(), STANDARD);
+    let mut bench = Bench::new(rt.alloc(), STANDARD)?;
     let mut units = 0u64;
     for request in requests(rt.alloc(), steps)? {
         units = units.saturating_add(serve(rt.alloc(), &mut bench, request)?);

@@ -1,8 +1,8 @@
 // How many replies of each kind there were, and outboxes.
 
 use crate::outboxes::Beside;
-use aud_hall::why::Why;
 use aud_hall::reply::Reply;
+use aud_hall::why::Why;
 
 /// The numbers of replies and outboxes, by their kinds.
 #[derive(Clone, Copy, PartialEq, Eq, Default, Debug)]
