@@ -9,7 +9,7 @@ use Rattle.aud_bench.specs.Ties.Standing.{answers_to}
 use Rattle.aud_bench.specs.Why.Made.{MoreLaw, GrowsLaw, ShortLaw, CostLaw}
 use Rattle.aud_bench.proofs.Serving.{costs_some}
 use Rattle.aud_bench.proofs.Standing.{paid, unpaid}
-use Rattle.aud_bench.proofs.Truths.{true_le}
+use Rattle.aud_bench.proofs.Truths.{true_le, false_le}
 
 if_case : (b : Bool) (x y z : List Answer) → (b ≡ true → x ≡ y) → (if b then x else z) ≡ (if b then y else z)
 if_case true x y z h = h refl
@@ -118,6 +118,11 @@ none_done limits = refl
 
 -- some request is not answered: some units are left
 pub some_left : (limits : Limits) (journal : List Request) (units : ℕ) → units ≤ cost limits journal → 1 ≤ length journal - length (made limits journal units) → units < cost limits journal
-some_left limits journal units within some =
-    let whole : units ≡ cost limits journal → length (made limits journal units) ≡ length journal = made_whole limits journal units in
-    omega (arith, whole)
+some_left limits journal units within some = by (nat_le (cost limits journal) units) refl
+  where
+    by : (b : Bool) → nat_le (cost limits journal) units ≡ b → units < cost limits journal
+    by false e = false_le _ _ e
+    by true e =
+        let all = true_le _ _ e in
+        let none = made_whole limits journal units (omega (arith, all, within)) in
+        absurd (omega (arith, none, some))

@@ -1,6 +1,7 @@
 -- What the answers of tests say.
-use Rattle.std.specs.Prelude.{nat_le, ◌==◌, ◌&&◌, ◌||◌}
+use Rattle.std.specs.Prelude.{nat_le, ◌&&◌, ◌||◌}
 use Rattle.std.proofs.Common.{◌≡◌, ℕ, ◌<◌, ◌≤◌, Bool, true, false, refl, ap, ◌∙◌, arith}
+pub use Rattle.aud_bench.specs.Ties.Sameness.{eq_true, eq_self}
 
 pub and_left : (a b : Bool) → (a && b) ≡ true → a ≡ true
 and_left true b h = refl
@@ -30,8 +31,5 @@ le_false a b h = grind (arith, h)
 pub true_le : (a b : ℕ) → nat_le a b ≡ true → a ≤ b
 true_le a b h = grind (arith, h)
 
-pub eq_true : (a b : ℕ) → (a == b) ≡ true → a ≡ b
-eq_true a b h = grind (arith, h)
-
-pub eq_self : (n : ℕ) → (n == n) ≡ true
-eq_self n = grind arith
+pub false_le : (a b : ℕ) → nat_le a b ≡ false → b < a
+false_le a b h = grind (arith, h)

@@ -1,5 +1,6 @@
 pub mod Answered
 pub mod Kept
 pub mod Loads
+pub mod Sameness
 pub mod Serving
 pub mod Standing

@@ -2,9 +2,9 @@
 
 ghost use Rattle.std.specs.Cmp.{partial_equiv_from_equiv};
 ghost use Rattle.std.specs.Prelude.{◌≡◌, IfOk};
-ghost use Rattle.aud_bench.proofs.Sameness.{same_requests};
 ghost use Rattle.aud_bench.specs.Alone.{refusal_of};
 ghost use Rattle.aud_bench.specs.Same.{same_request};
+ghost use Rattle.aud_bench.specs.Ties.Sameness.{same_requests};
 
 use crate::choices::Choices;
 use aud_meaning::state::State;
@@ -57,6 +57,7 @@ impl PartialEq for Request {
 
     ghost laws = { partial_equiv_from_equiv same_requests };
 
+    #[tactic(auto, unfolding(crate::specs::Same::same_request))]
     fn eq(&self, other: &Request) -> bool {
         match (self, other) {
             (Request::Load(source), Request::Load(text)) => source.as_bytes() == text.as_bytes(),

@@ -6,8 +6,7 @@ use Rattle.aud_bench.specs.Alone.{alone}
 use Rattle.aud_bench.specs.Seen.{Seen as Bench, told}
 use Rattle.aud_hall.specs.declared.why.Why.{Why}
 use Rattle.aud_hall.specs.Seats.{Seat, has_closed, submitting, submitted, sending_by, sending, sent, collected}
-use Rattle.aud_hall.specs.Replies.{Reply, Taken}
-use Rattle.aud_hall.specs.CheckIns.{next, judged, checked}
+use Rattle.aud_hall.specs.CheckIns.{judged, checked}
 use Rattle.aud_hall.specs.Session.{Part, Own, Began, Submitted, SentOut, Sliced, Returned, Strayed, Collected, Freed, Held, bench_at, acts, at_held, own_sending, own_slicing, own_checking, asked, session_from, none_yet}
 use Rattle.aud_hall.specs.Mine.{mine}
 use Rattle.aud_hall.specs.Headline.{IsFront, IsCalm, IsAmple, AmpleLaw}

@@ -1,6 +1,6 @@
 -- What is true of a parcel stays so, and a seat that takes one in is right as before.
 use Rattle.std.specs.Prelude.{nat_lt, ◌||◌, if◌then◌else◌}
-use Rattle.std.proofs.Common.{◌≡◌, ℕ, ◌+◌, ◌<◌, ◌≤◌, List, [], ◌∷◌, ◌++◌, length, drop, Option, Some, None, Bool, true, false, refl, sym, ap, ◌∙◌, subst, arith, length-append}
+use Rattle.std.proofs.Common.{◌≡◌, ℕ, ◌+◌, ◌<◌, ◌≤◌, List, [], ◌∷◌, length, drop, Option, Some, None, Bool, true, false, refl, sym, ap, ◌∙◌, subst, arith, length-append}
 use Rattle.aud_text.specs.declared.limits.Limits.{Limits}
 use Rattle.aud_bench.specs.declared.request.Request.{Request}
 use Rattle.aud_bench.specs.Alone.{alone, cost, made}
@@ -109,9 +109,9 @@ module _ (limits : Limits) (b : Bench) (s : Seat) (kept : is_kept s.requests ≡
   longer = (
     drop (length s.outbox) (made_by b),
     two_fronts s.outbox (made_by b) (alone limits s.requests)
-    (begins_front s.outbox (alone limits s.requests) away.outbox)
-    (subst (λ xs. IsFront xs (alone limits s.requests)) (sym made_here) (front_of_alone limits b.journal s.requests b.units w.front within_here kept))
-    w.ahead,
+        (begins_front s.outbox (alone limits s.requests) away.outbox)
+        (subst (λ xs. IsFront xs (alone limits s.requests)) (sym made_here) (front_of_alone limits b.journal s.requests b.units w.front within_here kept))
+        w.ahead,
   )
 
   taken_right : IsRight limits (taken_in b s)

@@ -1,11 +1,12 @@
 -- The rows compute.
+use Rattle.std.specs.Fmt.{digits}
 use Rattle.std.proofs.Common.{refl}
 use Rattle.aud_bench.specs.Alone.{cost, made}
 use Rattle.aud_bench.specs.Same.{same_request, same_limits}
 use Rattle.aud_hall.specs.Why.Rows.{Rows}
 
 pub rows : Rows
-unfolding cost made same_request same_limits
+unfolding cost made same_request same_limits digits
 rows = record {
   at_another_seat = refl;
   two_seats = refl;

@@ -1,6 +1,6 @@
 -- A bench is given requests, and goes out or stays.
 use Rattle.std.specs.Prelude.{nat_lt, nat_le, ◌||◌, MatchOption, min}
-use Rattle.std.proofs.Common.{◌≡◌, ℕ, ◌+◌, ◌-◌, ◌<◌, ◌≤◌, List, [], ◌∷◌, ◌++◌, length, take, drop, get_or, Option, Some, None, Bool, true, false, refl, sym, ap, ◌∙◌, arith, append-nil, append_assoc, length-drop}
+use Rattle.std.proofs.Common.{◌≡◌, ℕ, ◌+◌, ◌-◌, ◌<◌, ◌≤◌, List, [], ◌∷◌, ◌++◌, length, take, drop, get_or, Option, Some, None, Bool, true, false, refl, sym, ap, ◌∙◌, subst, arith, append-nil, append_assoc, length-drop}
 use Rattle.std.proofs.lemmas.List.{take_more, take_all, get_or-drop}
 use Rattle.aud_bench.specs.declared.request.Request.{Request}
 use Rattle.aud_bench.specs.Seen.{Seen as Bench, with_request}
@@ -73,3 +73,13 @@ module _ (s : Seat) where
 
     pub sent_cut : (n : ℕ) → n < length s.requests - length b.journal → sent (Some n) s ≡ record { seat = taken_in (given_cut s.requests b n) s; gone = None }
     sent_cut n less = sent_given (Some n) ∙ ap (sends_given s) (cut_is s.requests b n less)
+
+-- a bench that does not stay is open, and some request is unanswered
+pub goes_out : (s now : Seat) → s ≡ now → (b : Bench) → s.home ≡ Some b → (stays : Bool) → stays ≡ false → MatchOption now.home (stays ≡ true) (λ (x : Bench). stays ≡ (x.spent || nat_le (length now.requests) (length now.outbox)))
+    → (b.spent || nat_le (length s.requests) (length s.outbox)) ≡ false
+goes_out s now is b home stays not m =
+    let there : MatchOption s.home (stays ≡ true) (λ (x : Bench). stays ≡ (x.spent || nat_le (length s.requests) (length s.outbox))) =
+    subst (λ (t : Seat). MatchOption t.home (stays ≡ true) (λ (x : Bench). stays ≡ (x.spent || nat_le (length t.requests) (length t.outbox)))) (sym is) m in
+    let here : stays ≡ (b.spent || nat_le (length s.requests) (length s.outbox)) =
+    subst (λ (o : Option Bench). MatchOption o (stays ≡ true) (λ (x : Bench). stays ≡ (x.spent || nat_le (length s.requests) (length s.outbox)))) home there in
+    sym here ∙ not

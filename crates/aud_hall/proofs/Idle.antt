@@ -11,10 +11,10 @@ use Rattle.aud_hall.specs.Replies.{Reply, Taken, Then}
 use Rattle.aud_hall.specs.Seats.{Seat, has_closed, taken_in}
 use Rattle.aud_hall.specs.CheckIns.{next, judged, checked}
 use Rattle.aud_hall.specs.Halls.{Place, place_at, put_place, with_seat, with_place, checking_place, checking_seat}
-use Rattle.aud_hall.specs.World.{World, Parcel, CheckIn, happens, parcel_at, coming_in, checking}
+use Rattle.aud_hall.specs.World.{World, Parcel, CheckIn, parcel_at, coming_in, checking}
 use Rattle.aud_hall.specs.Headline.{IsIdle, now_is}
 use Rattle.aud_hall.specs.Ties.Right.{IsHome, IsMade, IsRight, IsRightPlace, IsRightWorld}
-use Rattle.aud_hall.specs.Why.Laws.{IsDone, CountsTell, IdleLaw, TellsIdleLaw}
+use Rattle.aud_hall.specs.Why.Laws.{CountsTell, IdleLaw, TellsIdleLaw}
 use Rattle.aud_bench.proofs.Made.{made_short, made_all, cost_more}
 use Rattle.aud_bench.proofs.Truths.{true_le}
 use Rattle.aud_hall.proofs.Truths.{true_lt, false_lt, false_le}
@@ -82,17 +82,17 @@ module _ (limits : Limits) (b : Bench) (t : Seat) (right : IsRight limits (taken
   next_tells true d e f = (λ _ alive. absurd (let never : true ≡ false = sym e ∙ alive in cc), λ h. absurd (cc))
   next_tells false true e f = (
     λ _ alive.
-    let m : IsHome limits (taken_in b t) home = right.bench in
-    let count = open_outbox limits (taken_in b t) right home m e in
-    (home, refl, all_done limits (taken_in b t) right home m e (omega (arith, true_le _ _ f, room limits (taken_in b t) right, count, made_is))),
+        let m : IsHome limits (taken_in b t) home = right.bench in
+        let count = open_outbox limits (taken_in b t) right home m e in
+        (home, refl, all_done limits (taken_in b t) right home m e (omega (arith, true_le _ _ f, room limits (taken_in b t) right, count, made_is))),
     λ h. absurd (cc),
   )
   next_tells false false e f = (
     λ h. absurd (cc),
     λ _.
-    let m : IsHome limits (taken_in b t) home = right.bench in
-    let count = open_outbox limits (taken_in b t) right home m e in
-    omega (arith, false_le _ _ f, count, made_is),
+        let m : IsHome limits (taken_in b t) home = right.bench in
+        let count = open_outbox limits (taken_in b t) right home m e in
+        omega (arith, false_le _ _ f, count, made_is),
   )
 
 module _ (n k : ℕ) (w : World) (place : Place) (s : Seat) (is : place.seat ≡ Some s) where

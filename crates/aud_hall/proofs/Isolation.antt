@@ -8,7 +8,7 @@ use Rattle.aud_bench.specs.Alone.{alone, cost, made}
 use Rattle.aud_bench.specs.Seen.{Seen as Bench, told, unanswered}
 use Rattle.aud_hall.specs.declared.why.Why.{Why}
 use Rattle.aud_hall.specs.Slices.{given, lesser, sliced}
-use Rattle.aud_hall.specs.Replies.{Reply, Worked}
+use Rattle.aud_hall.specs.Replies.{Worked}
 use Rattle.aud_hall.specs.Seats.{Seat, has_closed, submitting, submitted, sends, sending_by, sending, sent, collected}
 use Rattle.aud_hall.specs.CheckIns.{judged, checked}
 use Rattle.aud_hall.specs.Halls.{Place, place_at}

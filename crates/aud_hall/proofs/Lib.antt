@@ -19,3 +19,4 @@ pub mod Giving
 pub mod Counting
 pub mod Rooms
 pub mod Running
+pub mod Keeping

@@ -1,7 +1,7 @@
 -- The parcels that were sent out for a session, by its own numbers.
 use Rattle.std.proofs.Common.{◌≡◌, ℕ, zero, suc, List, [], ◌∷◌, ◌++◌, length, Option, Some, None, Bool, true, false, refl, sym, ap, ◌∙◌, arith, append-nil}
 use Rattle.aud_bench.specs.Seen.{Seen as Bench}
-use Rattle.aud_hall.specs.Numbered.{put, at, joined}
+use Rattle.aud_hall.specs.Numbered.{put}
 use Rattle.aud_hall.specs.Replies.{Reply, Accepted, Refused, Sent, Worked, Taken, Stranger, Answers, Nothing}
 use Rattle.aud_hall.specs.World.{Parcel, parcel_at, parcels, out_after}
 use Rattle.aud_hall.specs.Session.{bench_at, own_parcels, without}

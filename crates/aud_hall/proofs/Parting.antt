@@ -1,6 +1,6 @@
 -- Where a journal parts from the stored requests.
 use Rattle.std.specs.Prelude.{if◌then◌else◌}
-use Rattle.std.proofs.Common.{◌≡◌, ℕ, suc, ◌+◌, ◌<◌, ◌≤◌, List, [], ◌∷◌, length, drop, get_or, Option, Some, None, Bool, true, false, refl, sym, ap, ◌∙◌, arith}
+use Rattle.std.proofs.Common.{◌≡◌, ℕ, suc, ◌+◌, ◌<◌, ◌≤◌, List, [], ◌∷◌, length, drop, get_or, Option, Some, None, Bool, true, false, refl, sym, ap, ◌∙◌, arith, length-drop}
 use Rattle.std.proofs.lemmas.List.{drop_more, drop_all}
 use Rattle.aud_bench.specs.declared.request.Request.{Request}
 use Rattle.aud_bench.specs.Same.{same_request}
@@ -24,8 +24,12 @@ next_one xs i x below is = drop_more xs i x below ∙ ap (λ y. y ∷ drop (i + 
 
 module _ (journal requests : List Request) (i : ℕ) (below : i < length journal) where
   -- the requests end there
-  pub ends_there : length requests ≤ i → (x : Request) → x ≡ get_or journal i x → first_difference (drop i journal) (drop i requests) ≡ Some 0
-  ends_there none x is = ap (λ xs. first_difference xs (drop i requests)) (next_one journal i x below is) ∙ ap (first_difference (x ∷ drop (i + 1) journal)) (drop_all i requests none)
+  pub ends_there : length requests ≤ i → first_difference (drop i journal) (drop i requests) ≡ Some 0
+  ends_there none = by (drop i journal) (omega (arith, below, length-drop i journal))
+    where
+      by : (xs : List Request) → 1 ≤ length xs → first_difference xs (drop i requests) ≡ Some 0
+      by [] some = absurd (omega (arith, some))
+      by (x ∷ xs) some = ap (first_difference (x ∷ xs)) (drop_all i requests none)
 
   module _ (x r : Request) (is : x ≡ get_or journal i x) (too : i < length requests) (other : r ≡ get_or requests i r) where
     both : first_difference (drop i journal) (drop i requests) ≡ (if same_request x r then one_on (first_difference (drop (i + 1) journal) (drop (i + 1) requests)) else Some 0)

@@ -1,13 +1,12 @@
 -- A call that is refused changes nothing.
-use Rattle.std.proofs.Common.{◌≡◌, ℕ, List, Option, Some, None, Bool, true, false, refl, sym, ap, ◌∙◌}
+use Rattle.std.proofs.Common.{◌≡◌, ℕ, Option, Some, None, Bool, true, false, refl, sym, ap, ◌∙◌}
 use Rattle.aud_bench.specs.declared.request.Request.{Request}
-use Rattle.aud_bench.specs.Seen.{Seen as Bench}
 use Rattle.aud_hall.specs.declared.why.Why.{Why}
 use Rattle.aud_hall.specs.Replies.{Then}
 use Rattle.aud_hall.specs.Seats.{Seat, submitted, submitting, collected}
 use Rattle.aud_hall.specs.CheckIns.{judged, checked}
 use Rattle.aud_hall.specs.Halls.{Place, place_at, put_place, with_seat, with_place, at_place, at_seat, claiming, freeing, checking_place, checking_seat}
-use Rattle.aud_hall.specs.World.{World, Event, Parcel, Claim, Submit, SendOut, Slice, CheckIn, Collect, Free, happens, parcel_at, in_hall, slicing, coming_in, checking}
+use Rattle.aud_hall.specs.World.{World, Parcel, Claim, Submit, SendOut, Slice, CheckIn, Collect, Free, parcel_at, in_hall, slicing, coming_in, checking}
 use Rattle.aud_hall.specs.Why.Laws.{IsRefusal, RefusalLaw}
 use Rattle.aud_hall.proofs.Lists.{put_place_same}
 

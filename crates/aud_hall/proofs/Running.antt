@@ -2,12 +2,15 @@
 use Rattle.std.specs.Prelude.{map, is_some, IfSome}
 use Rattle.std.proofs.Common.{◌≡◌, ℕ, ◌<◌, ◌≤◌, List, [], ◌∷◌, ◌++◌, length, get_or, set, Option, Some, None, refl, sym, ap, ◌∙◌, subst}
 use Rattle.aud_text.specs.declared.limits.Limits.{Limits}
+use Rattle.aud_bench.specs.declared.bench.Work.{Work}
+use Rattle.aud_bench.specs.Seen.{unanswered}
 use Rattle.aud_hall.specs.declared.event.Event.{Event as Call}
 use Rattle.aud_hall.specs.declared.event.Event.TheVariants as call
 use Rattle.aud_hall.specs.declared.reply.Reply.{Reply as InMemory}
 use Rattle.aud_hall.specs.declared.reply.Reply.TheVariants as in_memory
 use Rattle.aud_hall.specs.Numbered.{at, joined, put}
 use Rattle.aud_hall.specs.Replies.{Reply, Accepted, Refused, Sent, Worked, Taken, Stranger, Answers, Nothing, Then}
+use Rattle.aud_hall.specs.Slices.{done, sliced}
 use Rattle.aud_hall.specs.Halls.{Place, HallSending, sends_out, checks_in}
 use Rattle.aud_hall.specs.World as world
 use Rattle.aud_hall.specs.World.{World, Parcel, SendOut, Slice, CheckIn, in_hall, sending_away, slicing, checking, coming_in, out_after, parcels}
@@ -144,3 +147,14 @@ module _ (n : ℕ) (hall : List Place) (out : List (Option Parcel)) where
             ∙ ap then (left_out reply p is ∙ ap (set out n) (sym now));
         tells = tells;
       }
+
+-- a slice of the parcel that is there
+pub slices_there : (units : ℕ) (p after : Parcel) (refused : Option ℕ) (work : Work) → after ≡ record p { bench = sliced units refused p.bench } → work.done ≡ done units refused p.bench → work.left ≡ unanswered after.bench
+    → (there : Option Parcel) → there ≡ Some p → SlicesThere units there (in_memory.Worked work) (Some after)
+slices_there units p after refused work e d l there is =
+    let told : ℕ → ℕ → Told = λ m n. told_by (Worked m n) in
+    subst (λ (t : Option Parcel). SlicesThere units t (in_memory.Worked work) (Some after)) (sym is) (
+      refused,
+      ap (λ q. Some q) e,
+      ap (λ (q : Parcel). told (done units refused p.bench) (unanswered q.bench)) (sym e) ∙ ap (λ m. told m (unanswered after.bench)) (sym d) ∙ ap (told work.done) (sym l),
+    )

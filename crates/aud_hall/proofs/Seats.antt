@@ -9,7 +9,7 @@ use Rattle.aud_bench.specs.Size.{bytes_of}
 use Rattle.aud_bench.specs.Ties.Kept.{is_kept}
 use Rattle.aud_bench.specs.Seen.{Seen as Bench, has_quit, told, made_by, answers_of}
 use Rattle.aud_hall.specs.Slices.{given, until}
-use Rattle.aud_hall.specs.Seats.{Seat, Sending, claimed, stored, has_closed, submitting, submitted, taken_in, sends, sending_by, sending, sent}
+use Rattle.aud_hall.specs.Seats.{Seat, claimed, stored, has_closed, submitting, submitted, taken_in, sends, sending_by, sending, sent}
 use Rattle.aud_hall.specs.Headline.{IsFront}
 use Rattle.aud_hall.specs.Ties.Right.{Begins, IsTrue, IsHome, IsMade, IsRight}
 use Rattle.aud_bench.proofs.Fronts.{front_law, whole_law, none_kept, kept_more}

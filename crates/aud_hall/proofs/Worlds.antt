@@ -2,12 +2,11 @@
 use Rattle.std.proofs.Common.{◌≡◌, ℕ, List, [], ◌∷◌, ◌++◌, Option, Some, None, Bool, true, false, refl, ap, ◌∙◌}
 use Rattle.aud_text.specs.declared.limits.Limits.{Limits}
 use Rattle.aud_bench.specs.Seen.{Seen as Bench}
-use Rattle.aud_hall.specs.Numbered.{at, put, joined}
-use Rattle.aud_hall.specs.Slices.{sliced}
+use Rattle.aud_hall.specs.Numbered.{at, joined}
 use Rattle.aud_hall.specs.Replies.{Reply, Taken, Then}
 use Rattle.aud_hall.specs.Seats.{Seat, submitted, sent, collected}
 use Rattle.aud_hall.specs.CheckIns.{judged, checked}
-use Rattle.aud_hall.specs.Halls.{Place, nobodys, place_at, put_place, at_place, at_seat, claiming, freeing, sends_out, sending_place, sending_seat, checking_place, checking_seat}
+use Rattle.aud_hall.specs.Halls.{Place, nobodys, place_at, at_place, at_seat, claiming, freeing, sends_out, sending_place, sending_seat, checking_place, checking_seat}
 use Rattle.aud_hall.specs.World.{World, Event, Parcel, Claim, Submit, SendOut, Slice, CheckIn, Collect, Free, happens, after_all, beginning, parcel_at, parcels, in_hall, sending_away, slicing, coming_in, checking, out_after}
 use Rattle.aud_hall.specs.Ties.Right.{Each, IsTrue, IsRight, IsRightSeat, IsRightPlace, IsRightSlot, IsRightWorld}
 use Rattle.aud_hall.proofs.Lists.{each_at, each_put, each_append, each_place, each_put_place}

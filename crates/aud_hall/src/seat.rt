@@ -260,10 +260,10 @@ fn give_rest(alloc: Global, bench: &mut Bench, requests: &[Request]) -> bool
         let Ok(request) = requests[next].try_clone(alloc) else {
             return false;
         };
-        if bench.give(request).is_err() {
-            return false;
+        match bench.give(request) {
+            Ok(()) => next += 1,
+            Err(_) => return false,
         }
-        next += 1;
     }
     true
 }

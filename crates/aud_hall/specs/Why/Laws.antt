@@ -85,7 +85,7 @@ IsRefusal (Stranger why) = Unit {0}
 IsRefusal (Answers answers) = Unit {0}
 IsRefusal Nothing = Unit {0}
 IsRefusal Accepted = ⊥
-IsRefusal (Sent gone) = ⊥
+IsRefusal (Sent _) = ⊥
 IsRefusal (Worked done left) = ⊥
 IsRefusal (Taken next) = ⊥
 

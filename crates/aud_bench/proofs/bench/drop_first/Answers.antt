@@ -1,4 +1,4 @@
-use Rattle.std.proofs.Common.{◌≡◌, ℕ, ◌-◌, List, length, take, drop, vec_len, ◌++◌, min, sym, ap, ◌∙◌, arith, length-drop}
+use Rattle.std.proofs.Common.{◌≡◌, ℕ, ◌-◌, List, ◌++◌, length, take, drop, min, sym, ap, ◌∙◌, length-drop}
 use Rattle.std.proofs.lemmas.List.{take_at, drop_min}
 use Rattle.aud_bench.specs.declared.request.Answer.{Answer}
 use Rattle.aud_bench.proofs.bench.drop_first.Goals as goal
@@ -11,5 +11,6 @@ cut_off xs count least left least_is left_is =
 pub returns-clause-items : goal.returns-clause-items
 returns-clause-items c =
     let xs = c.args.answers.now.items in
-    c.truncate.ensures.items ∙ ap (take c.truncate.args.n) c.rotate_left.ensures.items
-    ∙ cut_off xs c.args.count c.min.result c.left (omega (arith, c.min.ensures)) (omega (arith, c.len-2.ensures))
+    let least : c.min-count.result ≡ min c.args.count (length xs) = c.min-count.ensures ∙ ap (min c.args.count) (c.len.ensures ∙ c.args.answers.now.ok.0) in
+    let left : c.len-2.result - c.min-count.result ≡ length xs - c.min-count.result = ap (λ n. n - c.min-count.result) (c.len-2.ensures ∙ c.args.answers.now.ok.0) in
+    c.truncate.ensures.items ∙ ap (take (c.len-2.result - c.min-count.result)) c.rotate_left.ensures.items ∙ cut_off xs c.args.count c.min-count.result (c.len-2.result - c.min-count.result) least left
