@@ -6,6 +6,7 @@ the loop. The others time their loops themselves.
 Tasks: steps a second of programs whose tasks loop, in the order of the tasks and by choices.
 LOADs: the largest source text of several shapes, how the time grows from a quarter of it, and the memory; one of the most lines that
 there may be, of which each read gives a byte, and how the time grows from a quarter of them (where there is a C compiler).
+Halls: steps a second of many seats that take turns beside those of one bench, and the memory of a seat at which nothing is to be done.
 Each figure is the median of several processes, which take turns. benchmark.sh calls it.
 """
 import os
@@ -24,6 +25,8 @@ SOURCE = 32_768  # bytes of the largest source text
 LINES = 32_768  # the most lines of a LOAD
 LINE = 1_000  # bytes that are put on a line, which may have 1,024
 LOADS = 20  # LOADs in a session that times them
+SEATS = 64  # the most that a hall has
+SEAT_STEPS = 500_000  # steps at each of them
 
 
 @dataclass
@@ -523,7 +526,46 @@ def loads_beside(program, others):
         print(f"    {name:23}{median(seconds) * 1e3:8.2f} ms{beside}")
 
 
-def main(program):
+def of_hall(worlds, slice_units):
+    """The seconds that the steps of all seats take, in slices of so many units; with none, on one bench."""
+    words = [worlds, "--seats", str(SEATS), "--slice", str(slice_units), "--steps"]
+    alone, _ = measure([*words, "1"])
+    whole, wrote = measure([*words, str(SEAT_STEPS)])
+    loads = SEATS * (-(-SEAT_STEPS // 1_000_000) if slice_units else SEAT_STEPS / 1_000_000)
+    if f" {SEATS * SEAT_STEPS + int(loads)} units" not in wrote.decode():
+        sys.exit(f"benchmark: the hall said '{wrote.decode().strip()}'")
+    return whole - alone
+
+
+def resident(worlds, seats):
+    """The most memory in bytes that a hall of so many idle seats has: it waits until its input ends."""
+    process = subprocess.Popen([worlds, "--idle", str(seats)], stdin=subprocess.PIPE, stdout=subprocess.PIPE)
+    process.stdout.readline()
+    with open(f"/proc/{process.pid}/status") as file:
+        told = [line for line in file if line.startswith("VmHWM:")]
+    process.communicate()
+    if process.returncode != 0 or not told:
+        sys.exit(f"benchmark: {worlds} ended with status {process.returncode}")
+    return int(told[0].split()[1]) * 1024
+
+
+def halls(worlds):
+    print(f"A hall of {SEATS} seats, {SEAT_STEPS:,} steps at each, by one thread; steps a second:")
+    slices = (0, 1_000, 100)
+    times = {units: [] for units in slices}
+    for _ in range(TIMES):
+        for units in slices:
+            times[units].append(of_hall(worlds, units))
+    speed = {units: SEATS * SEAT_STEPS / median(times[units]) for units in slices}
+    for units in slices:
+        name = f"in slices of {units:,}" if units else "as many on one bench"
+        beside = f"   {speed[units] / speed[0]:.2f} of one bench" if units else ""
+        print(f"    {name:23}{fast(speed[units])}{beside}")
+    one, all_of = (median(resident(worlds, seats) for _ in range(TIMES)) for seats in (1, SEATS))
+    print(f"An idle seat takes {(all_of - one) / (SEATS - 1) / 1024:.1f} KiB")
+
+
+def main(program, worlds):
     with tempfile.TemporaryDirectory() as folder:
         others = {"python3": Other([sys.executable, "-c"], lambda loop: loop.python + PYTHON_LOOP, PYTHON_LOAD)}
         lua = shutil.which("lua5.4")
@@ -537,6 +579,7 @@ def main(program):
         loads_beside(program, others)
         loads(program)
         loads_in_bytes(program, folder)
+        halls(worlds)
 
 
-main(sys.argv[1])
+main(sys.argv[1], sys.argv[2])

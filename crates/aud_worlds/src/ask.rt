@@ -1,0 +1,63 @@
+// What the sessions of this program ask, in words that can be compared and told.
+
+use aud_bench::choices::Choices;
+use aud_bench::request::{BadRequest, Request};
+use aud_text::text::Text;
+use std::alloc::{AllocError, Global};
+
+/// A source text, of one line.
+#[derive(Clone, Copy, PartialEq, Eq, Debug)]
+pub enum Source {
+    /// Ends after three steps.
+    Ends,
+    Loops,
+    /// Two tasks that loop, and tell which of them goes on.
+    Tasks,
+    /// Creates one task more than 64, or all of them.
+    ManyTasks,
+    /// A name that is not declared.
+    Wrong,
+}
+
+/// A request.
+#[derive(Clone, Copy, PartialEq, Eq, Debug)]
+pub enum Ask {
+    Load(Source),
+    Run(u32),
+    Choose(u8),
+    Output,
+    Bad,
+    Quit,
+}
+
+fn text(source: Source) -> &'static [u8] {
+    match source {
+        Source::Ends => b"procedure M is begin null; end M;\n",
+        Source::Loops => b"procedure M is begin loop null; end loop; end M;\n",
+        Source::Tasks => {
+            b"procedure M is task A; task B; task body A is begin loop Put (\"a\"); end loop; end A; task body B is begin loop Put (\"b\"); end loop; end B; begin null; end M;\n"
+        }
+        Source::ManyTasks => {
+            b"procedure M is task type T; task body T is begin null; end T; begin declare A : array (1 .. 64) of T; begin Put (\"in\"); end; exception when Storage_Error => Put (\"full\"); end M;\n"
+        }
+        Source::Wrong => b"procedure M is begin X := 1; end M;\n",
+    }
+}
+
+/// The request itself.
+pub fn request(alloc: Global, ask: Ask) -> Result<Request, AllocError> {
+    Ok(match ask {
+        Ask::Load(source) => Request::Load(Text::from_slice(alloc, text(source))?),
+        Ask::Run(steps) => Request::Run(steps),
+        Ask::Choose(choice) => Request::Choose(one_choice(alloc, choice)?),
+        Ask::Output => Request::Output,
+        Ask::Bad => Request::Bad(BadRequest::UnknownCommand),
+        Ask::Quit => Request::Quit,
+    })
+}
+
+fn one_choice(alloc: Global, choice: u8) -> Result<Choices, AllocError> {
+    let mut choices = Choices::new(alloc);
+    choices.push(u32::from(choice))?;
+    Ok(choices)
+}

@@ -1,0 +1,129 @@
+// How fast halls and benches work.
+
+use crate::ask::{Ask, Source, request};
+use crate::fault::Fault;
+use aud_bench::bench::{Bench, GiveFault};
+use aud_bench::request::Request;
+use aud_hall::hall::Hall;
+use aud_text::limits::{Limits, RUN, STANDARD};
+use std::alloc::{AllocError, Global};
+
+// So many RUNs use up the steps of a LOAD.
+const RUNS: u64 = 10;
+
+// More requests than these are not made at a seat.
+const MOST: u64 = 4_000;
+
+/// Works off so many steps at each of the seats, in slices that go from seat to seat, and tells what was done.
+///
+/// # Errors
+///
+/// `Memory` where memory is refused; what a call is refused for that must succeed.
+pub fn work_in_turns(
+    rt: &(impl Print + AllocGlobal),
+    seats: usize,
+    steps: u32,
+    slice: u32,
+) -> Result<(), Fault> {
+    let mut hall = hall(rt.alloc(), seats)?;
+    for seat in 1..=seats {
+        open(rt.alloc(), &mut hall, seat, u64::from(steps))?;
+    }
+    let units = work(rt.alloc(), &mut hall, seats, u64::from(slice))?;
+    println!(rt; "{seats} seats, {units} units in slices of {slice}")?;
+    Ok(())
+}
+
+/// A hall of so many seats.
+pub fn hall(alloc: Global, seats: usize) -> Result<Hall, AllocError> {
+    let mut limits: Vec<Limits> = Vec::new(alloc);
+    for _ in 0..seats {
+        limits.push(STANDARD)?;
+    }
+    Hall::new(alloc, limits)
+}
+
+// Claims a seat, and asks for so many steps of a program that loops.
+fn open(alloc: Global, hall: &mut Hall, seat: usize, steps: u64) -> Result<(), Fault> {
+    hall.claim(alloc, seat)?;
+    for request in requests(alloc, steps)? {
+        hall.submit(seat, request)?;
+    }
+    Ok(())
+}
+
+// LOADs, and RUNs of so many steps together.
+fn requests(alloc: Global, steps: u64) -> Result<Vec<Request>, AllocError> {
+    let mut requests = Vec::new(alloc);
+    let mut left = steps;
+    for number in 0..MOST {
+        if left == 0 {
+            return Ok(requests);
+        }
+        if number % (RUNS + 1) == 0 {
+            requests.push(request(alloc, Ask::Load(Source::Loops))?)?;
+        } else {
+            let steps = u32::try_from(left).unwrap_or(RUN).min(RUN);
+            requests.push(Request::Run(steps))?;
+            left = left.saturating_sub(u64::from(steps));
+        }
+    }
+    Ok(requests)
+}
+
+// Slices at each seat in turn, until none sends a parcel out; how many units they did.
+fn work(alloc: Global, hall: &mut Hall, seats: usize, slice: u64) -> Result<u64, Fault> {
+    let mut units = 0u64;
+    for _ in 0..u64::MAX {
+        let done = work_once(alloc, hall, seats, slice)?;
+        if done == 0 {
+            return Ok(units);
+        }
+        units = units.saturating_add(done);
+    }
+    Ok(units)
+}
+
+// A slice at each seat.
+fn work_once(alloc: Global, hall: &mut Hall, seats: usize, slice: u64) -> Result<u64, Fault> {
+    let mut units = 0u64;
+    for seat in 1..=seats {
+        units = units.saturating_add(turn(alloc, hall, seat, slice)?);
+    }
+    Ok(units)
+}
+
+/// Sends the parcel of a seat out, works on it, and takes it in; how many units were done.
+pub fn turn(alloc: Global, hall: &mut Hall, seat: usize, slice: u64) -> Result<u64, Fault> {
+    let Some(mut parcel) = hall.send_out(alloc, seat) else {
+        return Ok(0);
+    };
+    let work = parcel.slice(alloc, slice);
+    match hall.check_in(seat, parcel) {
+        Ok(_) => Ok(work.done),
+        Err(_) => Err(Fault::Stranger),
+    }
+}
+
+/// Works off so many steps on one bench, a request at a time, and tells what was done.
+///
+/// # Errors
+///
+/// `Memory` where memory is refused.
+pub fn work_alone(rt: &(impl Print + AllocGlobal), steps: u64) -> Result<(), Fault> {
+    let mut bench = Bench::new(rt.alloc(), STANDARD)?;
+    let mut units = 0u64;
+    for request in requests(rt.alloc(), steps)? {
+        units = units.saturating_add(serve(rt.alloc(), &mut bench, request)?);
+    }
+    println!(rt; "one bench, {units} units")?;
+    Ok(())
+}
+
+fn serve(alloc: Global, bench: &mut Bench, request: Request) -> Result<u64, Fault> {
+    match bench.give(request) {
+        Ok(()) => Ok(bench.slice(alloc, u64::MAX).done),
+        Err(GiveFault::Memory) => Err(Fault::Memory),
+        Err(_) => Err(Fault::Stranger),
+    }
+}
