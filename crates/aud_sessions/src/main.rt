@@ -96,18 +96,13 @@ fn look_at_file(rt: &HostRuntime, file: &str) -> Result<usize, Fault> {
 // A server reads what a session sends whole, and in pieces of so many bytes.
 const PIECES: [usize; 4] = [usize::MAX, 1, 2, 7];
 
-// More bytes than these are read whole alone, as small pieces of them take long.
-const SHORT: usize = 1_024;
-
 // How many of the sessions are answered otherwise.
 fn look_at(rt: &HostRuntime, sessions: &[Session]) -> Result<usize, Fault> {
     let mut others = 0usize;
     for session in sessions {
         let mut is_same = true;
         for most in PIECES {
-            if most == usize::MAX || session.sent.len() <= SHORT {
-                is_same &= is_answered(rt, rt.alloc(), session, most)?;
-            }
+            is_same &= is_answered(rt, rt.alloc(), session, most)?;
         }
         others = others.saturating_add(usize::from(!is_same));
     }
