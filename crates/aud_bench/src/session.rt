@@ -1,6 +1,6 @@
 // A whole session, a request at a time.
 
-ghost use Rattle.std.specs.Prelude.{◌≡◌, ◌||◌, ◌++◌, List, [], ◌∷◌, false, IfOk, option_to_list};
+ghost use Rattle.std.specs.Prelude.{◌≡◌, ◌||◌, ◌++◌, List, [], ◌∷◌, true, false, IfOk, OnErr, option_to_list};
 ghost use Rattle.aud_bench.specs.Alone.{alone, is_quit};
 ghost use Rattle.aud_bench.specs.declared.request.Request.{Request};
 ghost use Rattle.aud_bench.specs.Ties.Answered.{HasAnswered};
@@ -20,6 +20,7 @@ pub struct Session {
     // The requests that are kept, and their bytes.
     requests: usize,
     bytes: usize,
+    // Whether a QUIT was answered, or memory was refused.
     over: bool,
 }
 
@@ -53,7 +54,7 @@ impl Session {
     }
 
     /// Answers a request; nothing where a QUIT was answered before. A request that does not fit the journal is answered so,
-    /// and is not kept. Where memory is refused the session is not to be asked again.
+    /// and is not kept. Where memory is refused the session is over: it answers nothing more.
     pub fn answer(&mut self, alloc: Global, request: &Request) -> Result<Option<Answer>, AllocError>
         ensures limits { self.new.limits ≡ self.old.limits }
         ensures answer { IfOk result (λ given. (asked : List Request) → HasAnswered asked self.old →
@@ -61,6 +62,7 @@ impl Session {
             ≡ alone self.old.limits asked ++ option_to_list given)
             × HasAnswered (asked ++ request.now ∷ []) self.new) }
         ensures over { IfOk result (λ _. self.new.over ≡ (self.old.over || is_quit request.now)) }
+        ensures refused { OnErr result (self.new.over ≡ true) }
     {
         if self.over {
             return Ok(None);
@@ -68,7 +70,10 @@ impl Session {
         if !fits(self.requests, self.bytes, request) {
             return Ok(Some(Answer::Refused(Refusal::JournalFull)));
         }
-        let given = answer(alloc, self.limits, &mut self.machine, request)?;
+        let Ok(given) = answer(alloc, self.limits, &mut self.machine, request) else {
+            self.over = true;
+            return Err(AllocError);
+        };
         if is_quit(request) {
             self.over = true;
             return Ok(Some(given));
@@ -78,7 +83,7 @@ impl Session {
         Ok(Some(given))
     }
 
-    /// Whether a QUIT was answered.
+    /// Whether a QUIT was answered, or memory was refused.
     pub fn is_over(&self) -> bool
         ensures { result ≡ self.now.over }
     {
