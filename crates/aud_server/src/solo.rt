@@ -52,12 +52,15 @@ pub const READS: u64 = 1_000_000_000_000;
 /// The most bytes of a read.
 pub const PIECE: usize = 4_096;
 
-/// Answers the requests of a reader: each before the next bytes are read, and at once. It reads to the end, or until it has
-/// answered a QUIT, and writes the answers of a private server.
+/// Answers the requests of a reader, turn by turn: each answer is written before more is read. It reads to the end, or until
+/// it has answered a QUIT, and writes the answers of a private server.
 ///
-/// Where a read fails, or one more than `READS` is needed, the requests that had come are answered, and `Read` is the
-/// result. `Write` comes where a write fails, and a front of what was to be written stands there. Where memory is refused,
-/// a front of the answers is written and after it that memory is out, and then `Memory` is the result.
+/// # Errors
+///
+/// - `Read` where a read fails, or one more than `READS` is needed. The answers to all that was read are written.
+/// - `Write` where a write fails, that of the last answer of `Memory` among them. A front of what was to be written stands
+///   there, and it may end within an answer.
+/// - `Memory` where memory is refused. A front of the answers is written, and behind it that memory is out.
 pub fn solo<S: Source, T: Sink>(
     alloc: Global,
     reader: &mut S,
@@ -125,8 +128,13 @@ fn serve_pieces<S: Source, T: Sink>(
 /// written when the turn is done. Gives whether another turn is due: not where a QUIT was answered, nor at the end of what
 /// is read.
 ///
-/// `Read` comes where the read fails, and then nothing else is done. Where `Write` or `Memory` comes, a front of the answers
-/// is written, which a failed write may have cut within an answer, and the session is not to be gone on with.
+/// # Errors
+///
+/// - `Read` where the read fails. Nothing else is done.
+/// - `Write` where a write fails. A front of the answers is written, and it may end within an answer.
+/// - `Memory` where memory is refused. A front of the answers is written.
+///
+/// Behind `Write` and `Memory` the session is not to be gone on with.
 pub fn turn<S: Source, T: Sink>(
     alloc: Global,
     session: &mut Session,

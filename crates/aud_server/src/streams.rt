@@ -21,7 +21,9 @@ pub trait Source {
 
     /// Reads bytes into the front of the piece, and tells how many: none only at the end, or where the piece is empty.
     ///
-    /// `Failed` where the bytes cannot be read; none is read then.
+    /// # Errors
+    ///
+    /// Where the bytes cannot be read. None is read then.
     fn pull(&mut self, piece: &mut [u8]) -> Result<usize, Failed>
         ensures bound { IfOk result (λ n. n ≤ length piece.new) }
         ensures bytes { ReadConsumes (remaining self.old) (remaining self.new) result piece.new }
@@ -39,8 +41,11 @@ pub trait Sink {
 
     ghost failures: { Self → ℕ };
 
-    /// Writes bytes of the front, hands them on at once, and tells how many. A call that takes none is one that failed;
-    /// behind a call that failed some may stand there.
+    /// Writes bytes of the front, hands them on at once, and tells how many: one at least.
+    ///
+    /// # Errors
+    ///
+    /// Where the bytes cannot be written or handed on, or none is taken. Some of them may stand there then.
     fn push(&mut self, bytes: &[u8]) -> Result<usize, Failed>
         requires { 0 < length bytes.now }
         ensures some { IfOk result (λ n. (1 ≤ n) × (n ≤ length bytes.now)) }
@@ -61,7 +66,8 @@ pub struct Stream<S> {
 }
 
 impl<S> Stream<S> {
-    /// Of these none was called.
+    /// Of a reader or a writer, with no call counted so far. A call is one of `pull` or `push`, however often what is
+    /// interrupted is tried again within it.
     pub fn new(inner: S) -> Stream<S>
         ensures { (result.inner ≡ inner) × (result.calls ≡ 0) × (result.failures ≡ 0) }
     {
