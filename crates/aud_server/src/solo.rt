@@ -145,8 +145,8 @@ pub fn turn<S: Source, T: Sink>(
     requires { session.old.over ≡ false }
     ensures one { S.calls reader.new ≡ counted (S.calls reader.old) }
     ensures serves { (left before : Option (List ℕ)) →
-        HasServed left (S.remaining reader.old) before (T.contents writer.old) feed.old session.old →
-        ServesTurn result left (S.remaining reader.new) before (T.contents writer.new)
+        HasServed left (S.remaining reader.old) before (T.contents writer.old) feed.old session.old
+        → ServesTurn result left (S.remaining reader.new) before (T.contents writer.new)
         feed.new session.new }
     ensures goes_on { IfOk result (λ on. GoesOn on session.new.over (S.remaining reader.new)) }
     ensures read { CountsReads result (S.failures reader.old) (S.failures reader.new) }
