@@ -1,7 +1,8 @@
 """Runs a session of `aud --solo` many times, and lets a growth, a read or a write fail, each in turn.
 
-Where memory is refused, some answers and then that memory is out have to be written (nothing, where the words of the command line are
-not read yet), and the status is 4. Where a read fails, the answers to all requests that had come, and where a write fails, those before it;
+Where memory is refused, a front of the answers and then that memory is out have to be written, and the status is 4. A growth that comes later
+leaves no shorter front, and each front but all of them is met. Only the first growths, by which the words of the command line are read, leave
+nothing written. Where a read fails, the answers to all requests that had come, and where a write fails, those before it;
 the status is 1. Reads give a byte each.
 usage: refused.py PROGRAM REQUESTS ANSWERS
 """
@@ -37,14 +38,23 @@ def told(name, number, found):
 def growths(built, program, given, answers, count):
     """How many runs end otherwise where memory is refused."""
     whole = (0, b"", b"".join(answers))
-    cut = [(4, b"aud: out of memory\n", front + OUT) for front in fronts(answers)] + [(4, b"aud: out of memory\n", b"")]
-    others, unneeded = 0, 0
+    # nothing, and behind it the fronts, from the shortest on
+    cut = [b""] + [front + OUT for front in fronts(answers)]
+    others, unneeded, last, met = 0, 0, 0, set()
     for number in range(1, count + 1):
         found = run(built, program, given, FAILS_GROWTH=number)
-        unneeded += found == whole
-        if found != whole and found not in cut:
+        if found == whole:
+            unneeded += 1
+        elif found[:2] == (4, b"aud: out of memory\n") and found[2] in cut[last:]:
+            last = cut.index(found[2], last)
+            met.add(last)
+        else:
             others += told("growth", number, found)
     print(f"refused: {count} growths, {unneeded} of which are not needed, {others} end otherwise")
+    for behind in range(len(answers)):
+        if behind + 1 not in met:
+            print(f"refused: no growth is refused behind {behind} answers")
+            others += 1
     return others
 
 

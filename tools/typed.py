@@ -49,8 +49,8 @@ def wrong(request, found, wanted):
     return 1
 
 
-def typed(program, requests, answers):
-    process = subprocess.Popen([program, "--solo"], stdin=subprocess.PIPE, stdout=subprocess.PIPE, bufsize=0)
+def answered(process, requests, answers):
+    """1 where something else is answered than there has to be, and else 0."""
     for request, answer in zip(requests, answers):
         for line in request[:-1]:
             process.stdin.write(line)
@@ -61,7 +61,28 @@ def typed(program, requests, answers):
         found = read_for(process.stdout, PATIENCE, len(answer)) + read_for(process.stdout, PAUSE, 1)
         if found != answer:
             return wrong(request[-1], found, answer)
-    return process.wait(timeout=PATIENCE)
+    return 0
+
+
+def ended(process):
+    """The status with which the program ends by itself."""
+    try:
+        status = process.wait(timeout=PATIENCE)
+    except subprocess.TimeoutExpired:
+        print(f"typed: {PATIENCE:.0f} seconds behind the last answer the program has not ended")
+        return 1
+    if status:
+        print(f"typed: the program ended with status {status}")
+    return status
+
+
+def typed(program, requests, answers):
+    process = subprocess.Popen([program, "--solo"], stdin=subprocess.PIPE, stdout=subprocess.PIPE, bufsize=0)
+    try:
+        return answered(process, requests, answers) or ended(process)
+    finally:
+        process.kill()
+        process.wait()
 
 
 def main():

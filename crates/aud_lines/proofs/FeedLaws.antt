@@ -1,5 +1,5 @@
 -- What a stream's bytes come to as more of them come.
-use Rattle.std.proofs.Common.{◌≡◌, ℕ, zero, suc, ◌+◌, ◌<◌, ◌≤◌, List, [], ◌∷◌, ◌++◌, length, Option, None, refl, sym, ◌∙◌, ap, append_assoc, append-nil, arith}
+use Rattle.std.proofs.Common.{◌≡◌, ℕ, zero, suc, ◌+◌, ◌<◌, ◌≤◌, List, [], ◌∷◌, ◌++◌, length, Option, None, refl, sym, ◌∙◌, ap, subst₂, append_assoc, append-nil, arith}
 use Rattle.std.specs.Prelude.{◌==◌, if◌then◌else◌}
 use Rattle.std.proofs.lemmas.List.{nil_from_length}
 use Rattle.aud_bench.specs.declared.request.BadRequest.{BadRequest}
@@ -8,6 +8,7 @@ use Rattle.aud_bench.specs.Size.{line_count}
 use Rattle.aud_lines.specs.Ties.Splits.{Splits}
 use Rattle.aud_lines.specs.Lines.{onto_line, lines_of, trimmed}
 use Rattle.aud_lines.specs.Requests.{Loads, command, line_fault, Ready, first_fault, gathered, requests_from, requests}
+use Rattle.aud_lines.specs.Pieces.{Piece, all_bytes, all_given, Feeds, PiecesLaw}
 use Rattle.aud_lines.specs.Ties.Waits.{Waits}
 use Rattle.aud_lines.proofs.LineLaws.{lines_counted, count_more}
 use Rattle.aud_lines.proofs.RequestLaws.{requests_first}
@@ -62,3 +63,27 @@ fed_all bytes rest given split =
     ∙ ap (λ xs. given ++ requests xs) (append-nil rest)
     ∙ ap (λ rs. given ++ rs) split.begun
     ∙ append-nil given
+
+-- ---- piece after piece
+
+pieces_behind : (before kept : List ℕ) (asked : List Request) (pieces : List Piece) (rest : List ℕ) →
+    ((more : List ℕ) → requests (before ++ more) ≡ asked ++ requests (kept ++ more)) → requests kept ≡ [] → Feeds kept pieces rest →
+    Splits (before ++ all_bytes pieces) (asked ++ all_given pieces) rest
+pieces_behind before kept asked [] rest so_far none is = record {
+  whole =
+      λ more.
+      ap (λ xs. requests (xs ++ more)) (append-nil before)
+      ∙ so_far more
+      ∙ ap (λ xs. asked ++ requests (xs ++ more)) (sym is)
+      ∙ ap (λ rs. rs ++ requests (rest ++ more)) (sym (append-nil asked));
+  begun = ap requests is ∙ none;
+}
+pieces_behind before kept asked (piece ∷ pieces) rest so_far none (next, split, others) =
+    let behind = pieces_behind (before ++ piece.bytes) next (asked ++ piece.given) pieces rest (fed_more before piece.bytes kept next asked piece.given so_far split) split.begun others in
+    subst₂ (λ xs rs. Splits xs rs rest) (append_assoc before piece.bytes (all_bytes pieces)) (append_assoc asked piece.given (all_given pieces)) behind
+
+pub pieces_law : PiecesLaw
+unfolding requests
+pieces_law pieces rest fed =
+    let split = pieces_behind [] [] [] pieces rest (λ more. refl) refl fed in
+    (sym (fed_all (all_bytes pieces) rest (all_given pieces) split), split)

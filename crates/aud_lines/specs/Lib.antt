@@ -1,4 +1,5 @@
 pub mod Lines
+pub mod Pieces
 pub mod Requests
 pub mod Text
 pub mod Ties

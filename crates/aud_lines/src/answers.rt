@@ -14,6 +14,10 @@ use std::alloc::{AllocError, Global};
 
 /// The text of an answer: `+` and the number of its lines, and the lines; or `-`, the code of the
 /// refusal and why.
+///
+/// # Errors
+///
+/// Where memory is refused.
 pub fn answer_text(alloc: Global, answer: &Answer) -> Result<Vec<u8>, AllocError>
     ensures { IfOk result (λ text. text.items ≡ answer_text answer.now) }
 {

@@ -45,6 +45,10 @@ fn has_high_byte(line: &[u8]) -> bool
 }
 
 /// What the first line of a request asks, as it came without its line feed.
+///
+/// # Errors
+///
+/// Where memory is refused.
 pub fn read_command(alloc: Global, line: &[u8]) -> Result<Command, AllocError>
     ensures { IfOk result (λ read. asked read ≡ command line.now) }
 {

@@ -40,8 +40,12 @@ impl Feed {
         }
     }
 
-    /// Takes the next bytes of the stream, however it is cut, and gives the requests that they complete, in order.
-    /// What they begin is kept. Where memory is refused, the feed is as it was.
+    /// Takes the next bytes of the stream, however it is cut, and gives the requests that they complete, in order. What they
+    /// begin is kept.
+    ///
+    /// # Errors
+    ///
+    /// Where memory is refused. The feed is as it was.
     pub fn feed(&mut self, alloc: Global, bytes: &[u8]) -> Result<Vec<Request>, AllocError>
         ensures given { IfOk result (λ given. Splits (self.old ++ bytes.now) given.items self.new) }
         ensures refused { OnErr result (self.new ≡ self.old) }
@@ -60,7 +64,7 @@ impl Feed {
     }
 }
 
-// The whole requests of a stream's bytes, and a feed to which the others were given.
+// The whole requests of a stream's bytes, and a feed that has kept the others.
 fn fed(alloc: Global, bytes: &[u8]) -> Result<(Vec<Request>, Feed), AllocError>
     ensures { IfOk result (λ fed. Splits bytes.now fed.0.items fed.1) }
 {

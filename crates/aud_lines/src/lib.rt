@@ -4,5 +4,6 @@
 pub mod answers;
 pub mod commands;
 pub mod feed;
+pub mod laws;
 pub mod lines;
 pub mod requests;

@@ -13,15 +13,15 @@ use aud_bench::request::{BadRequest, Request};
 use aud_text::text::Text;
 use std::alloc::{AllocError, Global};
 
-/// The whole requests of some bytes, in order, and what follows them.
+// The whole requests of some bytes, in order, and what follows them.
 #[derive(Drop)]
-pub struct Split<'a> {
+pub(crate) struct Split<'a> {
     pub requests: Vec<Request>,
     pub rest: &'a [u8],
 }
 
-/// The requests that are whole in the bytes of a stream, whatever follows.
-pub fn split_requests(alloc: Global, bytes: &[u8]) -> Result<Split<'_>, AllocError>
+// The requests that are whole in the bytes of a stream, whatever follows.
+pub(crate) fn split_requests(alloc: Global, bytes: &[u8]) -> Result<Split<'_>, AllocError>
     ensures { IfOk result (λ split. Splits bytes.now split.requests.items split.rest.now) }
 {
     let mut read = Vec::new(alloc);
@@ -83,8 +83,8 @@ fn load_of(source: Vec<u8>, fault: Option<BadRequest>) -> Request
     }
 }
 
-/// How many lines more have to end at least before a request is whole, where none is yet.
-pub fn lines_missing(alloc: Global, bytes: &[u8]) -> Result<usize, AllocError>
+// How many lines more have to end at least before a request is whole, where none is yet.
+pub(crate) fn lines_missing(alloc: Global, bytes: &[u8]) -> Result<usize, AllocError>
     requires { requests bytes.now ≡ [] }
     ensures { IfOk result (λ n. (1 ≤ n) × Waits bytes.now n) }
 {

@@ -1,5 +1,5 @@
 -- A session that answers requests as they come.
-use Rattle.std.proofs.Common.{◌≡◌, ℕ, ◌+◌, ◌<◌, ◌≤◌, ◌||◌, List, [], ◌∷◌, ◌++◌, length, take, drop, get_or, Option, Some, None, Bool, true, false, arith, refl, sym, ◌∙◌, ap, append_assoc, append-nil, subst}
+use Rattle.std.proofs.Common.{◌≡◌, inl, inr, not, ℕ, ◌+◌, ◌<◌, ◌≤◌, ◌||◌, List, [], ◌∷◌, ◌++◌, length, take, drop, get_or, Option, Some, None, Bool, true, false, arith, refl, sym, ◌∙◌, ap, append_assoc, append-nil, subst}
 use Rattle.std.proofs.lemmas.List.{take_more, take-append-drop}
 use Rattle.std.specs.List.{list_any}
 use Rattle.std.proofs.lemmas.List.Folds.{list_any-append, list_any_more}
@@ -21,7 +21,7 @@ use Rattle.aud_server.specs.declared.solo.SoloFault.{SoloFault}
 use Rattle.aud_server.specs.declared.solo.TheConstants.{PIECE}
 use Rattle.aud_server.specs.Solo.{StopsAtQuit, answers_to, WritesAll, WritesSome, WritesFront}
 use Rattle.aud_server.specs.Streams.{AppendsFront}
-use Rattle.aud_server.specs.Ties.Turns.{HasTold, Tells, HasServed}
+use Rattle.aud_server.specs.Ties.Turns.{HasTold, Tells, HasServed, GoesOn}
 use Rattle.aud_server.proofs.SoloLaws.{appends_none, appends_more, text_behind, some_some, front_front}
 use Rattle.aud_server.proofs.StreamLaws.{consumes_none, consumes_more}
 
@@ -81,7 +81,6 @@ tells_all r before now some more all session next is ok tells =
     let whole : alone STANDARD all ≡ alone STANDARD some ++ front.0 = ap (alone STANDARD) (sym is) ∙ front.1 in
     record {
       all = ok;
-      read = tells.read;
       memory = λ e. some_some before now (alone STANDARD all) (alone STANDARD some) front.0 whole (tells.memory e);
       write = λ e. front_front before now (alone STANDARD all) (alone STANDARD some) front.0 whole (tells.write e);
     }
@@ -94,31 +93,30 @@ over_more over rs i r below is =
     ap (λ b. over || b) (list_any_more is_quit rs i r below ∙ ap (λ x. list_any is_quit (take i rs) || is_quit x) (sym is))
     ∙ or_assoc over (list_any is_quit (take i rs)) (is_quit r)
 
--- none among these requests, and none among more
-pub quit_still_none : (over new : Bool) (asked given : List Request) → over ≡ false → new ≡ (over || list_any is_quit given) → new ≡ false →
-    list_any is_quit asked ≡ false → list_any is_quit (asked ++ given) ≡ false
-quit_still_none over new asked given none is still so_far =
-    let given_none : list_any is_quit given ≡ false = sym (is ∙ ap (λ b. b || list_any is_quit given) none) ∙ still in
-    list_any-append is_quit asked given ∙ ap (λ b. b || list_any is_quit given) so_far ∙ given_none
+-- among these requests, and among more
+pub quit_more : (old new : Bool) (asked given : List Request) → old ≡ list_any is_quit asked → new ≡ (old || list_any is_quit given) →
+    new ≡ list_any is_quit (asked ++ given)
+quit_more old new asked given so_far is = is ∙ ap (λ b. b || list_any is_quit given) so_far ∙ sym (list_any-append is_quit asked given)
+
+-- where the session is not over, a turn is due
+pub due : (over known : Bool) (remaining : Option (List ℕ)) → over ≡ known → GoesOn (not over) known remaining
+due true known remaining is = inl (sym is)
+due false known remaining is = sym is
 
 -- ---- bytes read
 
 pub served_start : (left before : Option (List ℕ)) (feed : List ℕ) (session : Session) → feed ≡ [] → session.limits ≡ STANDARD → HasAnswered [] session →
-    HasServed left left before before feed session
+    session.over ≡ false → HasServed left left before before feed session
 unfolding requests
-served_start left before feed session empty same none = record {
+served_start left before feed session empty same none over = record {
   input = [];
   asked = [];
   taken = consumes_none left;
   fed = λ more. ap (λ xs. requests (xs ++ more)) (sym empty);
   begun = ap requests empty;
   told = told_start before session same none;
+  quit = over;
 }
-
-pub start_no_quit : (left before : Option (List ℕ)) (feed : List ℕ) (session : Session) (empty : feed ≡ []) (same : session.limits ≡ STANDARD) (none : HasAnswered [] session) →
-    list_any is_quit (served_start left before feed session empty same none).asked ≡ false
-unfolding served_start
-start_no_quit left before feed session empty same none = refl
 
 module _ (left remaining before now : Option (List ℕ)) (feed : List ℕ) (session : Session) (h : HasServed left remaining before now feed session) where
   asked_all : requests h.input ≡ h.asked
@@ -133,18 +131,30 @@ module _ (left remaining before now : Option (List ℕ)) (feed : List ℕ) (sess
   pub wrote_all : WritesAll before now (answers_to h.input)
   wrote_all = subst (λ rs. Appends before now (text (alone STANDARD rs))) (sym asked_all) h.told.written
 
-  -- where none was answered, a piece more may be read, and nothing more
-  pub quit_behind : list_any is_quit h.asked ≡ false → (rest : Option (List ℕ)) (piece : List ℕ) → Consumes remaining rest piece → length piece ≤ PIECE → StopsAtQuit left rest
+  -- where no QUIT was answered, a piece more may be read, and nothing more
+  pub quit_behind : session.over ≡ false → (rest : Option (List ℕ)) (piece : List ℕ) → Consumes remaining rest piece → length piece ≤ PIECE → StopsAtQuit left rest
   quit_behind none rest piece taken short = record {
     before = h.input;
     piece = piece;
     taken = consumes_more left remaining rest h.input piece h.taken taken;
-    goes_on = ap (list_any is_quit) asked_all ∙ none;
+    goes_on = ap (list_any is_quit) asked_all ∙ sym h.quit ∙ none;
     short = short;
   }
 
-  pub quit_here : list_any is_quit h.asked ≡ false → StopsAtQuit left remaining
+  pub quit_here : session.over ≡ false → StopsAtQuit left remaining
   quit_here none = quit_behind none remaining [] (consumes_none remaining) (omega arith)
+
+  -- nothing more is read
+  pub served_still : (rest : Option (List ℕ)) → Consumes remaining rest [] → HasServed left rest before now feed session
+  served_still rest none = record {
+    input = h.input;
+    asked = h.asked;
+    taken = subst (Consumes left rest) (append-nil h.input) (consumes_more left remaining rest h.input [] h.taken none);
+    fed = h.fed;
+    begun = h.begun;
+    told = h.told;
+    quit = h.quit;
+  }
 
   -- where a QUIT was answered, all are written, whatever is left
   pub over_known : session.over ≡ true → IfSome left (λ all. WritesAll before now (answers_to all))
@@ -176,6 +186,12 @@ module _ (left remaining before now : Option (List ℕ)) (feed : List ℕ) (sess
           let whole : h.input ≡ all = sym (taken ∙ ap (λ xs. h.input ++ xs) end ∙ append-nil h.input) in
           subst (λ xs. WritesAll before now (answers_to xs)) whole wrote_all
 
+  -- so all is written where no other turn is due
+  pub ended_known : (on : Bool) → GoesOn on session.over remaining → on ≡ false → IfSome left (λ all. WritesAll before now (answers_to all))
+  ended_known true goes_on ended = cc
+  ended_known false (inl over) ended = over_known over
+  ended_known false (inr end) ended = end_known end
+
   -- bytes more, of which some requests are whole
   module _ (piece next : List ℕ) (given : List Request) (split : Splits (feed ++ piece) given next) where
     given_all : requests (h.input ++ piece) ≡ h.asked ++ given
@@ -187,15 +203,16 @@ module _ (left remaining before now : Option (List ℕ)) (feed : List ℕ) (sess
     pub front_given : (new : Option (List ℕ)) → WritesFront before new (alone STANDARD (h.asked ++ given)) → WritesFront before new (answers_to (h.input ++ piece))
     front_given new = subst (λ rs. WritesFront before new (alone STANDARD rs)) (sym given_all)
 
-    abbrev pub served_more : (rest new : Option (List ℕ)) (session' : Session) → Consumes remaining rest piece → HasTold before new (h.asked ++ given) session' →
-        HasServed left rest before new next session'
-    served_more rest new session' taken told = record {
+    pub served_more : (rest new : Option (List ℕ)) (session' : Session) → Consumes remaining rest piece → HasTold before new (h.asked ++ given) session' →
+        session'.over ≡ (session.over || list_any is_quit given) → HasServed left rest before new next session'
+    served_more rest new session' taken told over = record {
       input = h.input ++ piece;
       asked = h.asked ++ given;
       taken = consumes_more left remaining rest h.input piece h.taken taken;
       fed = fed_more h.input piece feed next h.asked given h.fed split;
       begun = split.begun;
       told = told;
+      quit = quit_more session.over session'.over h.asked given h.quit over;
     }
 
   -- bytes more that were not looked at

@@ -1,6 +1,6 @@
 -- What the server on one stream reads and writes. Of a reader and a writer a word takes what was left in it, or stood there, before the
 -- call and after it. Nothing is said where that is not known.
-use Rattle.std.specs.Prelude.{◌≡◌, ℕ, ◌≤◌, false, length, List, [], ◌∷◌, ◌++◌, Option, ◌⊎◌, Result, IfSome, OnOk, IsErrOf}
+use Rattle.std.specs.Prelude.{◌≡◌, ℕ, ◌≤◌, false, length, List, [], ◌∷◌, ◌++◌, Option, ◌⊎◌, Result, Ok, Err, IfSome, OnOk, IsErrOf}
 use Rattle.std.specs.Io.KnownBytes.{Appends, Consumes}
 use Rattle.std.specs.List.{list_any}
 use Rattle.aud_text.specs.declared.limits.TheConstants.{STANDARD}
@@ -13,7 +13,7 @@ use Rattle.aud_server.specs.declared.solo.SoloFault.{SoloFault}
 use Rattle.aud_server.specs.declared.solo.SoloFault.TheVariants as fault
 use Rattle.aud_lines.specs.Requests.{requests}
 use Rattle.aud_lines.specs.Text.{text}
-use Rattle.aud_server.specs.Streams.{AppendsFront}
+use Rattle.aud_server.specs.Streams.{counted, AppendsFront}
 
 -- the answers of a private server to the requests of all bytes
 abbrev pub answers_to : List ℕ → List Answer
@@ -70,3 +70,24 @@ pub record StopsAtQuit (left remaining : Option (List ℕ)) : Type 0 where
   pub taken : Consumes left remaining (before ++ piece)
   pub goes_on : list_any is_quit (requests before) ≡ false
   pub short : length piece ≤ PIECE
+
+-- The failures of a reader before and after a call that stops at the first one: one more where it answers Read, else as before.
+abbrev pub CountsReads : {A : Type 0} → Result A SoloFault → ℕ → ℕ → Type 0
+CountsReads (Ok x) before after = after ≡ before
+CountsReads (Err fault.Read) before after = after ≡ counted before
+CountsReads (Err fault.Write) before after = after ≡ before
+CountsReads (Err fault.Memory) before after = after ≡ before
+
+-- the same of a call that may also answer Read because its reads are used up
+abbrev pub CountsReadsTo : {A : Type 0} → Type 0 → Result A SoloFault → ℕ → ℕ → Type 0
+CountsReadsTo used (Ok x) before after = after ≡ before
+CountsReadsTo used (Err fault.Read) before after = (after ≡ counted before) ⊎ ((after ≡ before) × used)
+CountsReadsTo used (Err fault.Write) before after = after ≡ before
+CountsReadsTo used (Err fault.Memory) before after = after ≡ before
+
+-- the failures of a writer before and after a call that stops at the first one: one more where it answers Write, else as before
+abbrev pub CountsWrites : {A : Type 0} → Result A SoloFault → ℕ → ℕ → Type 0
+CountsWrites (Ok x) before after = after ≡ before
+CountsWrites (Err fault.Read) before after = after ≡ before
+CountsWrites (Err fault.Write) before after = after ≡ counted before
+CountsWrites (Err fault.Memory) before after = after ≡ before

@@ -1,6 +1,6 @@
 // The server on one stream of requests.
 
-ghost use Rattle.std.specs.Prelude.{◌≡◌, ◌⊎◌, ◌||◌, [], ◌∷◌, false, OnOk, IsErrOf};
+ghost use Rattle.std.specs.Prelude.{◌≡◌, ℕ, ◌||◌, List, [], ◌∷◌, Option, false, OnOk, IfOk, IsErrOf};
 ghost use Rattle.std.specs.Io.KnownBytes.{Appends};
 ghost use Rattle.std.specs.List.{list_any};
 ghost use Rattle.aud_text.specs.declared.limits.TheConstants.{STANDARD};
@@ -11,9 +11,9 @@ ghost use Rattle.aud_bench.specs.Ties.Answered.{HasAnswered};
 ghost use Rattle.aud_lines.specs.Text.{answer_text};
 ghost use Rattle.aud_server.specs.declared.solo.TheConstants.{READS};
 ghost use Rattle.aud_server.specs.declared.solo.SoloFault.TheVariants as fault;
-ghost use Rattle.aud_server.specs.Solo.{Serves, StopsAtQuit};
+ghost use Rattle.aud_server.specs.Solo.{Serves, StopsAtQuit, CountsReads, CountsReadsTo, CountsWrites};
 ghost use Rattle.aud_server.specs.Streams.{counted, counted_by, CountsUpTo, AppendsFront};
-ghost use Rattle.aud_server.specs.Ties.Turns.{TellsMore, ServesSome, CountsWrites};
+ghost use Rattle.aud_server.specs.Ties.Turns.{TellsMore, HasServed, ServesTurn, GoesOn, ServesSome};
 
 use crate::streams::{Sink, Source};
 use aud_bench::request::Request;
@@ -52,12 +52,15 @@ pub const READS: u64 = 1_000_000_000_000;
 /// The most bytes of a read.
 pub const PIECE: usize = 4_096;
 
-/// Answers the requests of a reader: each before the next bytes are read, and at once. It reads to the end, or until it has
-/// answered a QUIT, and writes the answers of a private server.
+/// Answers the requests of a reader, turn by turn: each answer is written before more is read. It reads to the end, or until
+/// it has answered a QUIT, and writes the answers of a private server.
 ///
-/// Where a read fails, or one more than `READS` is needed, the requests that had come are answered, and `Read` is the
-/// result. `Write` comes where a write fails, and a front of what was to be written stands there. Where memory is refused,
-/// a front of the answers is written and after it that memory is out, and then `Memory` is the result.
+/// # Errors
+///
+/// - `Read` where a read fails, or one more than `READS` is needed. The answers to all that was read are written.
+/// - `Write` where a write fails, that of the last answer of `Memory` among them. A front of what was to be written stands
+///   there, and it may end within an answer.
+/// - `Memory` where memory is refused. A front of the answers is written, and behind it that memory is out.
 pub fn solo<S: Source, T: Sink>(
     alloc: Global,
     reader: &mut S,
@@ -67,11 +70,9 @@ pub fn solo<S: Source, T: Sink>(
         (T.contents writer.old) (T.contents writer.new) }
     ensures quit { StopsAtQuit (S.remaining reader.old) (S.remaining reader.new) }
     ensures reads { CountsUpTo READS (S.calls reader.old) (S.calls reader.new) }
-    ensures read { IsErrOf result fault.Read →
-        (S.failures reader.new ≡ counted (S.failures reader.old))
-        ⊎ (S.calls reader.new ≡ counted_by READS (S.calls reader.old)) }
-    ensures write { IsErrOf result fault.Write →
-        T.failures writer.new ≡ counted (T.failures writer.old) }
+    ensures read { CountsReadsTo (S.calls reader.new ≡ counted_by READS (S.calls reader.old)) result
+        (S.failures reader.old) (S.failures reader.new) }
+    ensures write { CountsWrites result (T.failures writer.old) (T.failures writer.new) }
 {
     let served = serve(alloc, reader, writer);
     if matches!(served, Err(SoloFault::Memory)) {
@@ -86,9 +87,8 @@ fn serve<S: Source, T: Sink>(alloc: Global, reader: &mut S, writer: &mut T) -> R
         (T.contents writer.old) (T.contents writer.new) }
     ensures quit { StopsAtQuit (S.remaining reader.old) (S.remaining reader.new) }
     ensures reads { CountsUpTo READS (S.calls reader.old) (S.calls reader.new) }
-    ensures read { IsErrOf result fault.Read →
-        (S.failures reader.new ≡ counted (S.failures reader.old))
-        ⊎ (S.calls reader.new ≡ counted_by READS (S.calls reader.old)) }
+    ensures read { CountsReadsTo (S.calls reader.new ≡ counted_by READS (S.calls reader.old)) result
+        (S.failures reader.old) (S.failures reader.new) }
     ensures counts { CountsWrites result (T.failures writer.old) (T.failures writer.new) }
 {
     // Dropped here alone: each way out of the loop would prove the drop once more.
@@ -112,26 +112,56 @@ fn serve_pieces<S: Source, T: Sink>(
         (T.contents writer.old) (T.contents writer.new) }
     ensures quit { StopsAtQuit (S.remaining reader.old) (S.remaining reader.new) }
     ensures reads { CountsUpTo READS (S.calls reader.old) (S.calls reader.new) }
-    ensures read { IsErrOf result fault.Read →
-        (S.failures reader.new ≡ counted (S.failures reader.old))
-        ⊎ (S.calls reader.new ≡ counted_by READS (S.calls reader.old)) }
+    ensures read { CountsReadsTo (S.calls reader.new ≡ counted_by READS (S.calls reader.old)) result
+        (S.failures reader.old) (S.failures reader.new) }
     ensures counts { CountsWrites result (T.failures writer.old) (T.failures writer.new) }
 {
-    let mut piece = [0; PIECE];
     for _ in 0..READS {
-        let Ok(count) = reader.pull(&mut piece) else {
-            return Err(SoloFault::Read);
-        };
-        if count == 0 {
-            return Ok(());
-        }
-        let requests = feed.feed(alloc, &piece[..count])?;
-        answer_each(alloc, session, &requests, writer)?;
-        if session.is_over() {
+        if !turn(alloc, session, feed, reader, writer)? {
             return Ok(());
         }
     }
     Err(SoloFault::Read)
+}
+
+/// A turn of a session that is not over: one read, and the answers to all requests that it completes, each of which is
+/// written when the turn is done. Gives whether another turn is due: not where a QUIT was answered, nor at the end of what
+/// is read.
+///
+/// # Errors
+///
+/// - `Read` where the read fails. Nothing else is done.
+/// - `Write` where a write fails. A front of the answers is written, and it may end within an answer.
+/// - `Memory` where memory is refused. A front of the answers is written.
+///
+/// Behind `Write` and `Memory` the session is not to be gone on with.
+pub fn turn<S: Source, T: Sink>(
+    alloc: Global,
+    session: &mut Session,
+    feed: &mut Feed,
+    reader: &mut S,
+    writer: &mut T,
+) -> Result<bool, SoloFault>
+    requires { session.old.over ≡ false }
+    ensures one { S.calls reader.new ≡ counted (S.calls reader.old) }
+    ensures serves { (left before : Option (List ℕ)) →
+        HasServed left (S.remaining reader.old) before (T.contents writer.old) feed.old session.old
+        → ServesTurn result left (S.remaining reader.new) before (T.contents writer.new)
+        feed.new session.new }
+    ensures goes_on { IfOk result (λ on. GoesOn on session.new.over (S.remaining reader.new)) }
+    ensures read { CountsReads result (S.failures reader.old) (S.failures reader.new) }
+    ensures write { CountsWrites result (T.failures writer.old) (T.failures writer.new) }
+{
+    let mut piece = [0; PIECE];
+    let Ok(count) = reader.pull(&mut piece) else {
+        return Err(SoloFault::Read);
+    };
+    if count == 0 {
+        return Ok(false);
+    }
+    let requests = feed.feed(alloc, &piece[..count])?;
+    answer_each(alloc, session, &requests, writer)?;
+    Ok(!session.is_over())
 }
 
 fn answer_each<T: Sink>(
@@ -142,6 +172,7 @@ fn answer_each<T: Sink>(
 ) -> Result<(), SoloFault>
     ensures tells { TellsMore result (T.contents writer.old) (T.contents writer.new) requests.now
         session.old session.new }
+    ensures read { IsErrOf result fault.Read → ⊥ }
     ensures over { OnOk result
         (session.new.over ≡ (session.old.over || list_any is_quit requests.now)) }
     ensures counts { CountsWrites result (T.failures writer.old) (T.failures writer.new) }
@@ -161,6 +192,7 @@ fn answer<T: Sink>(
 ) -> Result<(), SoloFault>
     ensures tells { TellsMore result (T.contents writer.old) (T.contents writer.new)
         (request.now ∷ []) session.old session.new }
+    ensures read { IsErrOf result fault.Read → ⊥ }
     ensures over { OnOk result (session.new.over ≡ (session.old.over || is_quit request.now)) }
     ensures counts { CountsWrites result (T.failures writer.old) (T.failures writer.new) }
 {

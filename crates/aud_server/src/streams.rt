@@ -2,7 +2,7 @@
 
 ghost use Rattle.std.specs.Prelude.{◌≡◌, ℕ, ◌<◌, ◌≤◌, List, Option, length, take, IfOk, MatchResult};
 ghost use Rattle.std.specs.Io.KnownBytes.{Appends, Keeps, ReadConsumes, WriteAppends};
-ghost use Rattle.aud_server.specs.Streams.{counted, AppendsFront};
+ghost use Rattle.aud_server.specs.Streams.{counted, calls_before, Fails, AppendsFront};
 
 use std::io::{self, ErrorKind, Read, Write};
 
@@ -19,7 +19,11 @@ pub trait Source {
 
     ghost failures: { Self → ℕ };
 
-    /// Reads bytes into the front of the piece, and tells how many; none only at the end.
+    /// Reads bytes into the front of the piece, and tells how many: none only at the end, or where the piece is empty.
+    ///
+    /// # Errors
+    ///
+    /// Where the bytes cannot be read. None is read then.
     fn pull(&mut self, piece: &mut [u8]) -> Result<usize, Failed>
         ensures bound { IfOk result (λ n. n ≤ length piece.new) }
         ensures bytes { ReadConsumes (remaining self.old) (remaining self.new) result piece.new }
@@ -37,8 +41,11 @@ pub trait Sink {
 
     ghost failures: { Self → ℕ };
 
-    /// Writes bytes of the front, hands them on at once, and tells how many. A call that takes none is one that failed;
-    /// behind a call that failed some may stand there.
+    /// Writes bytes of the front, hands them on at once, and tells how many: one at least.
+    ///
+    /// # Errors
+    ///
+    /// Where the bytes cannot be written or handed on, or none is taken. Some of them may stand there then.
     fn push(&mut self, bytes: &[u8]) -> Result<usize, Failed>
         requires { 0 < length bytes.now }
         ensures some { IfOk result (λ n. (1 ≤ n) × (n ≤ length bytes.now)) }
@@ -59,7 +66,8 @@ pub struct Stream<S> {
 }
 
 impl<S> Stream<S> {
-    /// Of these none was called.
+    /// Of a reader or a writer, with no call counted so far. A call is one of `pull` or `push`, however often what is
+    /// interrupted is tried again within it.
     pub fn new(inner: S) -> Stream<S>
         ensures { (result.inner ≡ inner) × (result.calls ≡ 0) × (result.failures ≡ 0) }
     {
@@ -155,7 +163,7 @@ fn write_once<W: Write>(writer: &mut W, bytes: &[u8]) -> Result<usize, Failed>
     Err(Failed)
 }
 
-/// A reader or a writer of which one call fails, the one of this number, and no other. Calls are counted from 1.
+/// A reader or a writer of which one call fails, and no other.
 #[derive(Drop)]
 pub struct Fused<S> {
     inner: S,
@@ -164,9 +172,11 @@ pub struct Fused<S> {
 }
 
 impl<S> Fused<S> {
-    /// Of call 0 there is none, so none fails.
+    /// The call of this number fails; with 0 none does. Calls are counted from 1: each `read` of a reader, and each `write` of a
+    /// writer, whose `flush` is not counted.
     pub fn new(inner: S, call: u64) -> Fused<S>
-        ensures { result.inner ≡ inner }
+        ensures inner { result.inner ≡ inner }
+        ensures before { result.before ≡ calls_before call }
     {
         Fused {
             inner,
@@ -176,7 +186,8 @@ impl<S> Fused<S> {
 
     // Whether this call is the one that fails.
     fn fails(&mut self) -> bool
-        ensures { self.new.inner ≡ self.old.inner }
+        ensures inner { self.new.inner ≡ self.old.inner }
+        ensures fails { Fails result self.old.before self.new.before }
     {
         match self.before {
             None => false,

@@ -175,8 +175,40 @@ fn fails_at_each_write(rt: HostRuntime) {
     for (write, written) in BEFORE {
         fails_to_write(&rt, rt.alloc(), write, WRITTEN.len(), written);
     }
+    fails_behind_all(&rt, rt.alloc(), 5, WRITTEN.len());
     // A byte is one write: a front stands there, which may end within an answer.
     for written in 0..52 {
         fails_to_write(&rt, rt.alloc(), written as u64 + 1, 1, written);
     }
+    fails_behind_all(&rt, rt.alloc(), 53, 1);
+}
+
+// No write comes behind the last answer.
+fn fails_behind_all(rt: &impl Abort, alloc: Global, write: u64, most: usize) {
+    let calls = Calls {
+        read: 0,
+        write,
+        most,
+    };
+    ends(rt, alloc, calls, (WRITTEN, Ok(())));
+}
+
+// Of three calls the second fails, and no other.
+#[test]
+fn fails_at_one_call(rt: HostRuntime) {
+    let mut piece = [0; 1];
+    let mut reader = Fused::new(b"abc".as_slice(), 2);
+    let first = reader.read(&mut piece);
+    let second = reader.read(&mut piece);
+    let third = reader.read(&mut piece);
+    let reads = (first.is_ok(), second.is_ok(), third.is_ok(), piece[0]);
+    assert_eq!(rt; reads, (true, false, true, b'b'));
+    let mut written = Vec::new(rt.alloc());
+    let mut writer = Fused::new(&mut written, 2);
+    let first = writer.write(b"a");
+    let second = writer.write(b"b");
+    let third = writer.write(b"c");
+    let writes = (first.is_ok(), second.is_ok(), third.is_ok());
+    assert_eq!(rt; writes, (true, false, true));
+    finds(&rt, "what is written", &written, b"ac");
 }

@@ -17,11 +17,11 @@ fn told(alloc: Global, bytes: &[u8]) -> Result<Vec<u8>, AllocError> {
     Ok(out)
 }
 
-// A byte at a time.
-fn told_in_bytes(alloc: Global, bytes: &[u8]) -> Result<Vec<u8>, AllocError> {
+// The bytes come in pieces, none longer than `most`.
+fn told_in_pieces(alloc: Global, bytes: &[u8], most: usize) -> Result<Vec<u8>, AllocError> {
     let mut feed = Feed::new(alloc);
     let mut out = Vec::new(alloc);
-    for piece in bytes.chunks(1) {
+    for piece in bytes.chunks(most) {
         for request in &feed.feed(alloc, piece)? {
             tell(&mut out, request)?;
         }
@@ -59,9 +59,13 @@ fn between(out: &mut Vec<u8>, front: &[u8], middle: &[u8], end: &[u8]) -> Result
     out.extend_from_slice(end)
 }
 
+const PIECES: [usize; 3] = [1, 2, 7];
+
 fn reads(rt: &impl Abort, alloc: Global, bytes: &[u8], wanted: &[u8]) -> Result<(), AllocError> {
     finds_for(rt, bytes, &told(alloc, bytes)?, wanted);
-    finds_for(rt, bytes, &told_in_bytes(alloc, bytes)?, wanted);
+    for most in PIECES {
+        finds_for(rt, bytes, &told_in_pieces(alloc, bytes, most)?, wanted);
+    }
     Ok(())
 }
 
@@ -77,7 +81,14 @@ fn meets_long(rt: &impl Abort, alloc: Global, cases: &[LongCase]) -> Result<(), 
         let given = spelled(alloc, case.given)?;
         let wanted = spelled(alloc, case.wanted)?;
         finds(rt, case.name, &told(alloc, &given)?, &wanted);
-        finds(rt, case.name, &told_in_bytes(alloc, &given)?, &wanted);
+        for most in PIECES {
+            finds(
+                rt,
+                case.name,
+                &told_in_pieces(alloc, &given, most)?,
+                &wanted,
+            );
+        }
     }
     Ok(())
 }

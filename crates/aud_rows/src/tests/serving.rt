@@ -5,6 +5,7 @@ use aud_server::program::program;
 use aud_server::solo::{SoloFault, solo};
 use aud_server::streams::Stream;
 use std::alloc::{AllocError, Global};
+use std::cell::Cell;
 use std::io::{self, ErrorKind, Read, Write};
 
 // A reader whose error is that memory is out.
@@ -17,12 +18,13 @@ impl Read for Empty {
     }
 }
 
-// A writer that takes nothing.
+// A writer that takes nothing, and counts how often it is asked to.
 #[derive(Drop)]
-struct Full;
+struct Full<'a>(&'a Cell<u64>);
 
-impl Write for Full {
+impl Write for Full<'_> {
     fn write(&mut self, _buf: &[u8]) -> io::Result<usize> {
+        self.0.set(self.0.get().saturating_add(1));
         Err(io::Error::from(ErrorKind::StorageFull))
     }
 
@@ -31,21 +33,23 @@ impl Write for Full {
     }
 }
 
-// A reader that fails is told from memory that is refused, whatever its error says.
+// A reader that fails is told from memory that is refused, whatever its error says: nothing is written.
 #[test]
 fn tells_read_faults(rt: HostRuntime) {
     let mut written = Vec::new(rt.alloc());
     let mut writer = Stream::new(&mut written);
     let ended = solo(rt.alloc(), &mut Stream::new(Empty), &mut writer);
     assert_eq!(rt; ended, Err(SoloFault::Read));
+    finds(&rt, "no answer", &written, b"");
 }
 
-// A writer that takes no byte, which is no error of its own.
+// A writer that takes no byte, which is no error of its own, and counts the same.
 #[derive(Drop)]
-struct Idle;
+struct Idle<'a>(&'a Cell<u64>);
 
-impl Write for Idle {
+impl Write for Idle<'_> {
     fn write(&mut self, _buf: &[u8]) -> io::Result<usize> {
+        self.0.set(self.0.get().saturating_add(1));
         Ok(0)
     }
 
@@ -74,10 +78,14 @@ fn writes_to<W: Write + Drop>(alloc: Global, writer: W) -> Result<(), SoloFault>
     solo(alloc, &mut reader, &mut Stream::new(writer))
 }
 
+// The first answer fails, and nothing more is written.
 #[test]
 fn tells_write_faults(rt: HostRuntime) {
-    assert_eq!(rt; writes_to(rt.alloc(), Full), Err(SoloFault::Write));
-    assert_eq!(rt; writes_to(rt.alloc(), Idle), Err(SoloFault::Write));
+    let asked = Cell::new(0);
+    assert_eq!(rt; writes_to(rt.alloc(), Full(&asked)), Err(SoloFault::Write));
+    assert_eq!(rt; asked.get(), 1);
+    assert_eq!(rt; writes_to(rt.alloc(), Idle(&asked)), Err(SoloFault::Write));
+    assert_eq!(rt; asked.get(), 2);
     let mut written = Vec::new(rt.alloc());
     assert_eq!(rt;
         writes_to(rt.alloc(), Kept(&mut written)),

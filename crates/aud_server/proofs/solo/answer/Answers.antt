@@ -11,7 +11,6 @@ pub returns-in_err-answer-clause-tells : goal.returns-in_err-answer-clause-tells
 returns-in_err-answer-clause-tells g c =
     λ before asked told. record {
       all = search rules;
-      read = search rules;
       memory = λ e. some_told before (g.T.Sink.contents c.args.writer.now) asked (c.args.request.now ∷ []) c.args.session.now told;
       write = search rules;
     }
@@ -33,7 +32,6 @@ returns-in_ok-said-in-Some-clause-tells g c =
           on_ok_weaker c.write.result
           (λ k. told_next before old new asked r session next (a ∷ []) told given.0 c.in_ok-answer.ensures.limits given.1 (subst (Appends old new) said k))
           c.write.ensures.all;
-      read = search rules;
       memory = search rules;
       write = λ e. front_told before old new asked r session next (a ∷ []) told given.0 (subst (AppendsFront old new) said (c.write.ensures.write e));
     }
@@ -45,7 +43,6 @@ returns-in-None-clause-tells g c =
     let given = rw c.in-None.is at (c.in_ok-answer.ensures.answer asked told.answered) in
     record {
       all = told_next before old old asked c.args.request.now c.args.session.now c.answer.new.self [] told given.0 c.in_ok-answer.ensures.limits given.1 (none_said old);
-      read = search rules;
       memory = search rules;
       write = search rules;
     }

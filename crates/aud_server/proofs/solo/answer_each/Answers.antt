@@ -15,7 +15,7 @@ returns-in_err-answer-clause-tells g c =
     let some = (asked ++ take i requests) ++ r ∷ [] in
     let result = c.from_residual.result in
     tells_all result before new some (drop (i + 1) requests) (asked ++ requests) c.answer.new.session c.answer.new.session (all_of asked requests i r (omega arith) c.request-item.is) (search rules)
-    (record { all = search rules; read = search rules; memory = λ e. tells.memory (search rules); write = λ e. tells.write (search rules) })
+    (record { all = search rules; memory = λ e. tells.memory (search rules); write = λ e. tells.write (search rules) })
 
 pub loop-request-preserved : goal.loop-request-preserved
 loop-request-preserved g c =
