@@ -4,7 +4,8 @@ Loops: the same in each, the first once more with a handler around it that nothi
 whole sessions is taken, of a LOAD alone and of a LOAD with RUNs up to the program's end; the difference is
 the loop. The others time their loops themselves.
 Tasks: steps a second of programs whose tasks loop, in the order of the tasks and by choices.
-LOADs: the largest source text of several shapes, how the time grows from a quarter of it, and the memory.
+LOADs: the largest source text of several shapes, how the time grows from a quarter of it, and the memory; one of the most lines that
+there may be, of which each read gives a byte, and how the time grows from a quarter of them (where there is a C compiler).
 Halls: steps a second of many seats that take turns beside those of one bench, and the memory of a seat at which nothing is to be done.
 Each figure is the median of several processes, which take turns. benchmark.sh calls it.
 """
@@ -17,8 +18,11 @@ from collections.abc import Callable
 from dataclasses import dataclass
 from statistics import median
 
+from calls import library, surroundings
+
 TIMES = 9  # processes for each figure
 SOURCE = 32_768  # bytes of the largest source text
+LINES = 32_768  # the most lines of a LOAD
 LINE = 1_000  # bytes that are put on a line, which may have 1,024
 LOADS = 20  # LOADs in a session that times them
 SEATS = 64  # the most that a hall has
@@ -312,12 +316,12 @@ print((os.clock() - begin) / count)
 """
 
 
-def measure(words, given=b""):
+def measure(words, given=b"", env=None):
     """A process's processor time in seconds, and what it wrote."""
     with tempfile.TemporaryFile() as out, tempfile.TemporaryFile() as stdin:
         stdin.write(given)
         stdin.seek(0)
-        process = subprocess.Popen(words, stdin=stdin, stdout=out)
+        process = subprocess.Popen(words, stdin=stdin, stdout=out, env=env)
         _, status, used = os.wait4(process.pid, 0)
         process.returncode = os.waitstatus_to_exitcode(status)
         if process.returncode != 0:
@@ -487,6 +491,20 @@ def loads(program):
         print(f"  {name:30}{whole * 1e3:8.2f} ms   {whole / quarter:5.1f} times   at most {memory / 1e6:6.1f} MB")
 
 
+def loads_in_bytes(program, folder):
+    """LOADs of lines of one byte, which are refused, and before that read a byte at a time."""
+    if not shutil.which(os.environ.get("CC", "cc")):
+        print("LOAD a byte at a time: no C compiler")
+        return
+    env = surroundings(library(folder), MOST_READ=1)
+    times = {LINES: [], LINES // 4: []}
+    for _ in range(TIMES):
+        for lines in times:
+            times[lines].append(measure([program, "--solo"], (f"LOAD {lines}\n" + "x\n" * lines).encode(), env)[0])
+    whole, quarter = (median(times[lines]) for lines in times)
+    print(f"LOAD of {LINES:,} lines, a byte at a time: {whole * 1e3:.2f} ms, {whole / quarter:.1f} times a quarter of them")
+
+
 def loads_beside(program, others):
     print("LOAD of assignments:")
     count = (SOURCE - 60) // 7 - 40
@@ -559,6 +577,7 @@ def main(program, worlds):
         tasks(program)
         loads_beside(program, others)
         loads(program)
+        loads_in_bytes(program, folder)
         halls(worlds)
 
 

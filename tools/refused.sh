@@ -1,7 +1,11 @@
 #!/bin/sh
-# Whether `aud --solo` ends as it should where one allocation is refused, and where one read or write fails: each in turn, until a run meets none.
-# `rt try` tells each run that faults or hangs, or that ends with status 0 and other answers.
+# Whether `aud --solo` ends as it should where memory is refused once, or a read or a write fails: each growth, read and write of a session in turn.
+# It runs the program that `rt run` built last in crates/aud, or the one that is named, and needs a C compiler.
 set -eu
-cd "$(dirname "$0")/../crates/aud"
-rt try --fail-alloc 1.. -- --solo < "${1:-../../examples/first}"
-rt try --fail-io 1.. -- --solo < "${1:-../../examples/first}"
+top=$(cd "$(dirname "$0")/.." && pwd)
+program=${1:-$top/crates/aud/out/aud}
+if [ ! -x "$program" ]; then
+    echo "refused: no program at $program; build it by: cd crates/aud && rt run -- --solo < stdin" >&2
+    exit 2
+fi
+exec python3 "$top/tools/refused.py" "$program" "$top/crates/aud/stdin" "$top/crates/aud/stdout"

@@ -13,7 +13,7 @@ use Rattle.aud_bench.specs.declared.request.Answer.{Answer}
 use Rattle.aud_bench.specs.declared.request.Answer.TheVariants.{Refused}
 use Rattle.aud_bench.specs.contracts.request.Answer as contract
 use Rattle.aud_bench.specs.declared.service.Served.{Served}
-use Rattle.aud_bench.specs.Alone.{Loaded, replied, cost_from, cost, made}
+use Rattle.aud_bench.specs.Alone.{replied, cost_from, cost, made}
 use Rattle.aud_bench.specs.Ties.Serving.{UnderWay, ServesBy, GoesOn}
 use Rattle.aud_bench.specs.Seen.{Seen, told, unanswered, answers_of, untaken}
 use Rattle.aud_bench.specs.Ties.Standing.{loaded_after, answers_to, units_done, AtFirst, answers_at, IsAt}

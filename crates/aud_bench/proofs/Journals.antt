@@ -12,7 +12,7 @@ pub bytes_append : (journal : List Request) (r : Request) → bytes_of (journal 
 bytes_append [] r = omega arith
 bytes_append (x ∷ journal) r = omega (arith, bytes_append journal r)
 
-or_assoc : (a b c : Bool) → (a || (b || c)) ≡ ((a || b) || c)
+pub or_assoc : (a b c : Bool) → (a || (b || c)) ≡ ((a || b) || c)
 or_assoc true b c = refl
 or_assoc false b c = refl
 

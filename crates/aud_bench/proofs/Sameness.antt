@@ -1,5 +1,5 @@
 -- The tests of sameness hold of equal values alone.
-use Rattle.std.specs.Prelude.{◌==◌, ◌&&◌}
+use Rattle.std.specs.Prelude.{◌==◌}
 use Rattle.std.proofs.Common.{◌≡◌, true, ap, ◌∙◌}
 use Rattle.aud_text.specs.declared.limits.Limits.{Limits}
 use Rattle.aud_bench.specs.Same.{same_limits}

@@ -1,12 +1,14 @@
 -- The answer to one request of a session, and those to the ones after it.
 use Rattle.std.specs.Prelude.{if◌then◌else◌}
-use Rattle.std.proofs.Common.{◌≡◌, List, [], ◌∷◌, ◌++◌, Bool, true, false, refl, ap, ◌∙◌}
+use Rattle.std.proofs.Common.{◌≡◌, ℕ, List, [], ◌∷◌, ◌++◌, ◌||◌, Bool, true, false, refl, sym, ap, ◌∙◌}
 use Rattle.aud_text.specs.declared.refusal.Refusal.TheVariants as refusal
 use Rattle.aud_text.specs.declared.limits.Limits.{Limits}
 use Rattle.aud_bench.specs.declared.request.Request.{Request}
 use Rattle.aud_bench.specs.declared.request.Answer.{Answer}
 use Rattle.aud_bench.specs.declared.request.Answer.TheVariants as answer
-use Rattle.aud_bench.specs.Alone.{Server, is_quit, fits, fresh, kept, replied, answers_after, answers_from, alone}
+use Rattle.aud_bench.specs.Size.{size}
+use Rattle.aud_bench.specs.Alone.{Server, is_quit, has_room, fits, fresh, kept, replied, answers_after, answers_from, alone}
+use Rattle.aud_bench.proofs.Truths.{or_left}
 
 module _ (limits : Limits) (s : Server) (r : Request) (rs : List Request) where
   pub not_kept : fits s.requests s.bytes r ≡ false → answers_from limits s (r ∷ rs) ≡ answer.Refused refusal.JournalFull ∷ answers_from limits s rs
@@ -38,3 +40,21 @@ answers_front limits s (r ∷ some) more =
 pub alone_front : (limits : Limits) (some more : List Request) → (rest : List Answer) × (alone limits (some ++ more) ≡ alone limits some ++ rest)
 unfolding alone
 alone_front limits some more = answers_front limits fresh some more
+
+-- ---- whether a QUIT was answered
+
+pub quit_stays : (over quits : Bool) → over ≡ true → over ≡ (over || quits)
+quit_stays true quits e = refl
+quit_stays false quits e = absurd (cc)
+
+pub quit_comes : (over quits : Bool) → quits ≡ true → true ≡ (over || quits)
+quit_comes true quits e = refl
+quit_comes false quits e = sym e
+
+pub quit_none : (over quits : Bool) → quits ≡ false → over ≡ (over || quits)
+quit_none true quits e = refl
+quit_none false quits e = sym e
+
+-- a request that does not fit is no QUIT
+pub unfit_goes_on : (requests bytes : ℕ) (r : Request) → fits requests bytes r ≡ false → is_quit r ≡ false
+unfit_goes_on requests bytes r = or_left (is_quit r) (has_room requests bytes (size r))

@@ -1,7 +1,7 @@
 // A whole session, a request at a time.
 
-ghost use Rattle.std.specs.Prelude.{◌≡◌, ◌++◌, List, [], ◌∷◌, IfOk, option_to_list};
-ghost use Rattle.aud_bench.specs.Alone.{alone};
+ghost use Rattle.std.specs.Prelude.{◌≡◌, ◌||◌, ◌++◌, List, [], ◌∷◌, false, IfOk, option_to_list};
+ghost use Rattle.aud_bench.specs.Alone.{alone, is_quit};
 ghost use Rattle.aud_bench.specs.declared.request.Request.{Request};
 ghost use Rattle.aud_bench.specs.Ties.Answered.{HasAnswered};
 
@@ -41,6 +41,7 @@ impl Session {
     pub fn new(limits: Limits) -> Session
         ensures limits { result.limits ≡ limits }
         ensures asked { HasAnswered [] result }
+        ensures over { result.over ≡ false }
     {
         Session {
             limits,
@@ -53,16 +54,13 @@ impl Session {
 
     /// Answers a request; nothing where a QUIT was answered before. A request that does not fit the journal is answered so,
     /// and is not kept. Where memory is refused the session is not to be asked again.
-    pub fn answer(
-        &mut self,
-        alloc: Global,
-        request: &Request,
-    ) -> Result<Option<Answer>, AllocError>
+    pub fn answer(&mut self, alloc: Global, request: &Request) -> Result<Option<Answer>, AllocError>
         ensures limits { self.new.limits ≡ self.old.limits }
         ensures answer { IfOk result (λ given. (asked : List Request) → HasAnswered asked self.old →
             (alone self.old.limits (asked ++ request.now ∷ [])
-                ≡ alone self.old.limits asked ++ option_to_list given)
+            ≡ alone self.old.limits asked ++ option_to_list given)
             × HasAnswered (asked ++ request.now ∷ []) self.new) }
+        ensures over { IfOk result (λ _. self.new.over ≡ (self.old.over || is_quit request.now)) }
     {
         if self.over {
             return Ok(None);

@@ -10,7 +10,7 @@ use Rattle.aud_hall.specs.CheckIns.{judged, checked}
 use Rattle.aud_hall.specs.Session.{Part, Own, Began, Submitted, SentOut, Sliced, Returned, Strayed, Collected, Freed, Held, bench_at, acts, at_held, own_sending, own_slicing, own_checking, asked, session_from, none_yet}
 use Rattle.aud_hall.specs.Mine.{mine}
 use Rattle.aud_hall.specs.Headline.{IsFront, IsCalm, IsAmple, AmpleLaw}
-use Rattle.aud_hall.proofs.Isolation.{headline_law}
+use Rattle.aud_hall.proofs.Isolation.{held_own, headline_law}
 
 -- the bench at home has not closed
 abbrev IsOpen : Option Held → Type 0
@@ -76,7 +76,7 @@ open_is p (o ∷ os) calm h = open_is (acts o p).now os calm.1 (own_open o p cal
 pub ample_law : AmpleLaw
 ample_law limits events k n h calm e =
     let law = headline_law limits events k n h e in
-    let alive : has_closed h.seat.home ≡ false = subst IsOpen e (open_is none_yet (mine k n limits events) calm tt) in
+    let alive : has_closed h.seat.home ≡ false = subst IsOpen (held_own limits events k n h e) (open_is none_yet (mine k n limits events) calm tt) in
     let front = law.1.so_far.0 in
     let outbox_is : h.seat.outbox ≡ front = law.1.so_far.1 ∙ ap (λ c. front ++ told c) alive ∙ append-nil front in
     subst (λ xs. IsFront xs (alone h.limits (asked (mine k n limits events)))) (sym outbox_is) law.1.so_far.2

@@ -16,8 +16,7 @@ use Rattle.aud_hall.specs.Ties.Right.{IsHome, IsMade, IsRight}
 use Rattle.aud_hall.specs.Why.Laws.{after_slices, after_submits, TakesBack, AwaitedLaw}
 use Rattle.aud_bench.proofs.Made.{made_grows}
 use Rattle.aud_bench.proofs.Sameness.{same_self, same_limits_self}
-use Rattle.aud_bench.proofs.Truths.{or_left, or_right}
-use Rattle.aud_hall.proofs.Truths.{false_le}
+use Rattle.aud_bench.proofs.Truths.{or_left, or_right, false_le}
 use Rattle.aud_hall.proofs.Lists.{begins_front}
 use Rattle.aud_hall.proofs.Seats.{front_on, given_front, made_is}
 use Rattle.aud_hall.proofs.CheckIns.{Awaits}

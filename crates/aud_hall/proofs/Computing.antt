@@ -10,6 +10,7 @@ unfolding cost made same_request same_limits digits
 rows = record {
   at_another_seat = refl;
   two_seats = refl;
+  two_programs = refl;
   of_the_session_before = refl;
   fewer_answers = refl;
   at_nobodys = refl;

@@ -1,5 +1,5 @@
 -- How many answers a bench has.
-use Rattle.std.proofs.Common.{◌≡◌, ℕ, ◌+◌, ◌-◌, ◌≤◌, length, Bool, true, false, refl, arith, length-append, length-drop}
+use Rattle.std.proofs.Common.{◌≡◌, ◌+◌, ◌-◌, ◌≤◌, length, Bool, true, false, refl, arith, length-append, length-drop}
 use Rattle.aud_bench.specs.Seen.{Seen as Bench, made_by, told, answers_of, untaken}
 use Rattle.aud_hall.specs.Slices.{answered}
 

@@ -4,8 +4,8 @@ use Rattle.std.proofs.Common.{◌≡◌, ℕ, ◌+◌, ◌-◌, ◌<◌, ◌≤�
 use Rattle.std.proofs.lemmas.List.{take_more, take_all, get_or-drop}
 use Rattle.aud_bench.specs.declared.request.Request.{Request}
 use Rattle.aud_bench.specs.Seen.{Seen as Bench, with_request}
-use Rattle.aud_hall.specs.Slices.{given, until, is_cut}
-use Rattle.aud_hall.specs.Seats.{Seat, Sending, taken_in, sends_given, sending, sending_by, sent}
+use Rattle.aud_hall.specs.Slices.{given}
+use Rattle.aud_hall.specs.Seats.{Seat, taken_in, sends_given, sending, sending_by, sent}
 
 lt_true : (a b : ℕ) → a < b → nat_lt a b ≡ true
 lt_true a b h = grind (arith, h)

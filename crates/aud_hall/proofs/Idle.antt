@@ -16,8 +16,8 @@ use Rattle.aud_hall.specs.Headline.{IsIdle, now_is}
 use Rattle.aud_hall.specs.Ties.Right.{IsHome, IsMade, IsRight, IsRightPlace, IsRightWorld}
 use Rattle.aud_hall.specs.Why.Laws.{CountsTell, IdleLaw, TellsIdleLaw}
 use Rattle.aud_bench.proofs.Made.{made_short, made_all, cost_more}
-use Rattle.aud_bench.proofs.Truths.{true_le}
-use Rattle.aud_hall.proofs.Truths.{true_lt, false_lt, false_le}
+use Rattle.aud_bench.proofs.Truths.{true_le, false_le}
+use Rattle.aud_hall.proofs.Truths.{true_lt, false_lt}
 use Rattle.aud_hall.proofs.Lists.{each_place, place_put, begins_front}
 use Rattle.aud_hall.proofs.Seats.{made_of_front}
 use Rattle.aud_hall.proofs.Worlds.{happens_right}

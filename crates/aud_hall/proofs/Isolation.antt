@@ -15,7 +15,7 @@ use Rattle.aud_hall.specs.Halls.{Place, place_at}
 use Rattle.aud_hall.specs.World.{World, Event, beginning, after_all, happens, slicing}
 use Rattle.aud_hall.specs.Session.{Part, Own, Began, Submitted, SentOut, Sliced, Returned, Strayed, Collected, Freed, Held, Course, bench_at, acts, accepted, at_held, own_sending, own_slicing, own_checking, asked_from, asked, session_from, none_yet}
 use Rattle.aud_hall.specs.Mine.{Track, Phase, Waiting, Lasting, Over, part_of, held_in, with_limits, mine, mine_from, track_after, track_from, outset}
-use Rattle.aud_hall.specs.Headline.{IsFront, IsBeginning, IsIdle, AnswersAlone, HeadlineLaw, SliceLaw, SessionLaw, TwoWorldsLaw, now_is, track_is}
+use Rattle.aud_hall.specs.Headline.{IsFront, IsBeginning, IsIdle, AnswersAlone, HeadlineLaw, SliceLaw, SessionLaw, TwoWorldsLaw, now_is, track_is, part_is}
 use Rattle.aud_hall.specs.Ties.Right.{IsHome, IsMade, IsRight, IsRightSeat, IsRightPlace, IsRightWorld}
 use Rattle.aud_hall.specs.Why.Laws.{OfEachSeat, WorldLaw, IsolationLaw, RoomLaw, OthersLaw}
 use Rattle.aud_bench.proofs.Fronts.{whole_law}
@@ -197,10 +197,13 @@ held_right k t w h right e = by t.phase (place_at w.hall k) refl e
     by Lasting None e f = absurd (cc)
     by Lasting (Some place) e f = seated place place.seat (each_place IsRightPlace w.hall k place right.hall e) f
 
+-- what a session holds of the world, its own events come to
+pub held_own : (limits : List Limits) (events : List Event) (k n : ℕ) (h : Held) → (part_is k n limits events).held ≡ Some h → (session_from none_yet (mine k n limits events)).part.held ≡ Some h
+held_own limits events k n h e = ap (λ (c : Course). c.part.held) (session_law limits events k n) ∙ e
+
 pub headline_law : HeadlineLaw
 headline_law limits events k n h e =
-    let w = after_all (beginning limits) events in
-    let t = track_from k (outset n) (beginning limits) events in
-    let right = held_right k t w h (world_law limits events) (sym (ap (λ (c : Course). c.part.held) (session_law limits events k n)) ∙ e) in
-    let stored : h.seat.requests ≡ asked (mine k n limits events) = subst (λ o. IsAsked o (asked (mine k n limits events))) e (asked_is none_yet [] (mine k n limits events) tt) in
+    let right = held_right k (track_is k n limits events) (now_is limits events) h (world_law limits events) e in
+    let stored : h.seat.requests ≡ asked (mine k n limits events) =
+    subst (λ o. IsAsked o (asked (mine k n limits events))) (held_own limits events k n h e) (asked_is none_yet [] (mine k n limits events) tt) in
     (stored, subst (λ rs. AnswersAlone h.limits rs h.seat) stored (answers_alone h.limits h.seat right))

@@ -1,5 +1,5 @@
 -- What stays right at a place of the hall.
-use Rattle.std.proofs.Common.{◌≡◌, ℕ, length, Option, Some, None, true, sym, ap, ◌∙◌, subst}
+use Rattle.std.proofs.Common.{◌≡◌, ℕ, Option, Some, None, Bool, sym, ap, ◌∙◌, subst}
 use Rattle.std.proofs.Math.Logic.{∥∥₁_elim, ∥∥₁_map}
 use native.Mathlib.Bridge.{le_prop}
 use Rattle.aud_text.specs.declared.limits.Limits.{Limits}
@@ -38,6 +38,6 @@ module _ (limits : Limits) (o : Option Seat) (s : Seat) (is : o ≡ Some s) (rig
           }
 
     pub taken_kept : (b : Bench) → IsTrue b → judged limits b s ≡ None → after ≡ taken_in b s → ∥ IsRightSeat limits (Some after) ∥₁
-    taken_kept b true none e =
+    taken_kept b holds none e =
         ∥∥₁_map right_there
-        (λ (h : IsRight limits s). subst (IsRight limits) (ap (λ why. (checked why b s).now) none ∙ sym e) (checked_right limits b s h true))
+        (λ (h : IsRight limits s). subst (IsRight limits) (ap (λ why. (checked why b s).now) none ∙ sym e) (checked_right limits b s h holds))

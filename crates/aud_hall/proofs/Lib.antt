@@ -6,6 +6,7 @@ pub mod Worlds
 pub mod Marks
 pub mod Sessions
 pub mod Isolation
+pub mod Users
 pub mod Idle
 pub mod Awaited
 pub mod Ample
@@ -20,3 +21,4 @@ pub mod Counting
 pub mod Rooms
 pub mod Running
 pub mod Keeping
+pub mod Judging

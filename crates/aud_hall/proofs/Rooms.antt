@@ -1,15 +1,13 @@
 -- There is room in the outbox for the answers that a bench brings.
 use Rattle.std.specs.Prelude.{nat_le, ◌||◌, if◌then◌else◌}
-use Rattle.std.proofs.Common.{◌≡◌, ℕ, ◌+◌, ◌-◌, ◌<◌, ◌≤◌, ◌++◌, length, drop, Option, Some, None, Bool, true, false, refl, sym, ap, ◌∙◌, subst, arith, length-append, length-drop}
+use Rattle.std.proofs.Common.{◌≡◌, ℕ, ◌+◌, ◌-◌, ◌<◌, ◌≤◌, length, drop, Some, None, Bool, true, false, refl, ap, ◌∙◌, subst, arith, length-append, length-drop}
 use Rattle.std.proofs.Math.Logic.{∥∥₁_elim}
 use native.Mathlib.Bridge.{le_prop}
-use Rattle.aud_bench.specs.Same.{same_limits}
 use Rattle.aud_bench.specs.Seen.{Seen as Bench, answers_of}
 use Rattle.aud_bench.proofs.Made.{made_within}
 use Rattle.aud_bench.proofs.Sameness.{same_limits_self}
 use Rattle.aud_hall.specs.declared.why.Why.TheVariants.{OtherLimits}
-use Rattle.aud_hall.specs.Slices.{answered}
-use Rattle.aud_hall.specs.Seats.{Seat, Sending, taken_in, sent}
+use Rattle.aud_hall.specs.Seats.{Seat, Sending, taken_in}
 use Rattle.aud_hall.specs.CheckIns.{first_difference, not_awaited, or_differs}
 use Rattle.aud_hall.specs.Ties.Right.{IsTrue, IsHome, IsMade, IsRight}
 use Rattle.aud_hall.specs.Ties.Places.{IsRightThere}

@@ -8,13 +8,13 @@ use Rattle.aud_hall.specs.declared.event.Event.{Event as Call}
 use Rattle.aud_hall.specs.declared.event.Event.TheVariants as call
 use Rattle.aud_hall.specs.declared.reply.Reply.{Reply as InMemory}
 use Rattle.aud_hall.specs.declared.reply.Reply.TheVariants as in_memory
-use Rattle.aud_hall.specs.Numbered.{at, joined, put}
+use Rattle.aud_hall.specs.Numbered.{joined}
 use Rattle.aud_hall.specs.Replies.{Reply, Accepted, Refused, Sent, Worked, Taken, Stranger, Answers, Nothing, Then}
 use Rattle.aud_hall.specs.Slices.{done, sliced}
-use Rattle.aud_hall.specs.Halls.{Place, HallSending, sends_out, checks_in}
+use Rattle.aud_hall.specs.Halls.{Place, sends_out}
 use Rattle.aud_hall.specs.World as world
 use Rattle.aud_hall.specs.World.{World, Parcel, SendOut, Slice, CheckIn, in_hall, sending_away, slicing, checking, coming_in, out_after, parcels}
-use Rattle.aud_hall.specs.Ties.Calls.{Told, call_of, told_by, plain_reply, IsRun}
+use Rattle.aud_hall.specs.Ties.Calls.{Told, told_by, plain_reply, IsRun}
 use Rattle.aud_hall.specs.Ties.Said.{bench_of}
 use Rattle.aud_hall.specs.Ties.Runs.{seen, Makes, slicing_there, SlicesThere, left_after, ChecksThere}
 use Rattle.aud_hall.proofs.Calls.{one_call}

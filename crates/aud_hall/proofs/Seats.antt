@@ -14,8 +14,7 @@ use Rattle.aud_hall.specs.Headline.{IsFront}
 use Rattle.aud_hall.specs.Ties.Right.{Begins, IsTrue, IsHome, IsMade, IsRight}
 use Rattle.aud_bench.proofs.Fronts.{front_law, whole_law, none_kept, kept_more}
 use Rattle.aud_bench.proofs.Made.{made_more, cost_more, none_done}
-use Rattle.aud_bench.proofs.Truths.{or_left, or_right}
-use Rattle.aud_hall.proofs.Truths.{false_le}
+use Rattle.aud_bench.proofs.Truths.{or_left, or_right, false_le}
 use Rattle.aud_hall.proofs.Lists.{drop_front, front_rest, begins_front, front_begins}
 
 -- ## Fronts of the answers

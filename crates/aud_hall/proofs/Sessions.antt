@@ -45,7 +45,7 @@ pub record Follows (k : ℕ) (t : Track) (w : World) (o : Option Own) (after : T
   pub agrees : Agrees o (part_of k t w) (part_of k after x.now) x.reply
   pub tracked : IsTracked k after x.now
 
-eq_false : (a b : ℕ) → (a == b) ≡ false → a ≡ b → ⊥
+pub eq_false : (a b : ℕ) → (a == b) ≡ false → a ≡ b → ⊥
 eq_false a b h e = grind (arith, h, e)
 
 module _ (k : ℕ) (ms : List Bool) (w : World) (long : length ms ≡ length w.out) where

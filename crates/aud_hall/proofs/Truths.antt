@@ -1,9 +1,6 @@
 -- What the answers of tests say.
-use Rattle.std.specs.Prelude.{nat_lt, nat_le}
+use Rattle.std.specs.Prelude.{nat_lt}
 use Rattle.std.proofs.Common.{◌≡◌, ℕ, ◌<◌, ◌≤◌, true, false, arith}
-
-pub false_le : (a b : ℕ) → nat_le a b ≡ false → b < a
-false_le a b h = grind (arith, h)
 
 pub true_lt : (a b : ℕ) → nat_lt a b ≡ true → a < b
 true_lt a b h = grind (arith, h)

@@ -8,6 +8,7 @@ use Rattle.aud_bench.specs.Seen.{Seen as Bench, told, unanswered}
 use Rattle.aud_hall.specs.Slices.{lesser, sliced}
 use Rattle.aud_hall.specs.Replies.{Reply, Worked, Taken}
 use Rattle.aud_hall.specs.Seats.{Seat, has_closed}
+use Rattle.aud_hall.specs.Halls.{Place, place_at}
 use Rattle.aud_hall.specs.World.{World, Event, Slice, happens, after_all, beginning, parcel_at}
 use Rattle.aud_hall.specs.Session.{Held, Part, Own, SentOut, Returned, acts, none_yet, session, asked}
 use Rattle.aud_hall.specs.Mine.{Track, outset, track_from, part_of, mine, mine_from, replies_from}
@@ -29,10 +30,27 @@ pub record AnswersAlone (limits : Limits) (requests : List Request) (s : Seat) :
   pub so_far : IsBeginning limits requests s
   pub whole : IsIdle limits requests s → s.outbox ≡ alone limits requests
 
--- of every session: its answers are those of a private server to the requests that were accepted of it, and these are stored
+-- the world after these events, and what of it is the session's own that so many others came before at its seat
+abbrev pub now_is : List Limits → List Event → World
+now_is limits events = after_all (beginning limits) events
+
+abbrev pub track_is : (k n : ℕ) → List Limits → List Event → Track
+track_is k n limits events = track_from k (outset n) (beginning limits) events
+
+abbrev pub part_is : (k n : ℕ) → List Limits → List Event → Part
+part_is k n limits events = part_of k (track_is k n limits events) (now_is limits events)
+
+-- of every session that lasts: its answers are those of a private server to the requests that were accepted of it, and these are
+-- stored at its seat
 abbrev pub HeadlineLaw : Type 0
-HeadlineLaw = (limits : List Limits) (events : List Event) (k n : ℕ) (h : Held) → (session (mine k n limits events)).part.held ≡ Some h
+HeadlineLaw = (limits : List Limits) (events : List Event) (k n : ℕ) (h : Held) → (part_is k n limits events).held ≡ Some h
     → (h.seat.requests ≡ asked (mine k n limits events)) × AnswersAlone h.limits (asked (mine k n limits events)) h.seat
+
+-- and every seat that is claimed is a session's
+abbrev pub EverySeatLaw : Type 0
+EverySeatLaw = (limits : List Limits) (events : List Event) (k : ℕ) (place : Place) (s : Seat)
+    → place_at (now_is limits events).hall k ≡ Some place → place.seat ≡ Some s
+    → (n : ℕ) × ((part_is k n limits events).held ≡ Some (record { limits = place.limits; seat = s }))
 
 -- a slice does exactly the lesser of its units and of what is left of the cost
 abbrev pub SliceLaw : Type 0
@@ -41,24 +59,18 @@ SliceLaw = (w : World) (n units seat : ℕ) (b : Bench) → parcel_at w.out n �
 
 -- ## Nobody else is felt
 
-abbrev pub now_is : List Limits → List Event → World
-now_is limits events = after_all (beginning limits) events
-
-abbrev pub track_is : (k n : ℕ) → List Limits → List Event → Track
-track_is k n limits events = track_from k (outset n) (beginning limits) events
-
 -- what of the world is a session's own is what its own events come to where nobody else is, and so are the replies to them
 abbrev pub SessionLaw : Type 0
 SessionLaw = (limits : List Limits) (events : List Event) (k n : ℕ)
     → session (mine k n limits events) ≡ record {
-      part = part_of k (track_is k n limits events) (now_is limits events);
+      part = part_is k n limits events;
       replies = replies_from k (outset n) (beginning limits) events;
     }
 
 -- worlds that agree on a session answer the same later events of it alike, and agree on it then
 abbrev pub TwoWorldsLaw : Type 0
 TwoWorldsLaw = (limits limits' : List Limits) (events events' : List Event) (k k' n n' : ℕ) (later later' : List Event)
-    → part_of k (track_is k n limits events) (now_is limits events) ≡ part_of k' (track_is k' n' limits' events') (now_is limits' events')
+    → part_is k n limits events ≡ part_is k' n' limits' events'
     → mine_from k (track_is k n limits events) (now_is limits events) later ≡ mine_from k' (track_is k' n' limits' events') (now_is limits' events') later'
     → (replies_from k (track_is k n limits events) (now_is limits events) later ≡ replies_from k' (track_is k' n' limits' events') (now_is limits' events') later')
     × (part_of k (track_from k (track_is k n limits events) (now_is limits events) later) (after_all (now_is limits events) later)
@@ -78,5 +90,5 @@ IsAmple p (o ∷ os) = IsCalm o (acts o p).reply × IsAmple (acts o p).now os
 
 -- then its answers are a front of those of a private server, and nothing else
 abbrev pub AmpleLaw : Type 0
-AmpleLaw = (limits : List Limits) (events : List Event) (k n : ℕ) (h : Held) → IsAmple none_yet (mine k n limits events) → (session (mine k n limits events)).part.held ≡ Some h
+AmpleLaw = (limits : List Limits) (events : List Event) (k n : ℕ) (h : Held) → IsAmple none_yet (mine k n limits events) → (part_is k n limits events).held ≡ Some h
     → IsFront h.seat.outbox (alone h.limits (asked (mine k n limits events)))

@@ -38,9 +38,9 @@ submitting false false false r s = record { now = stored s r; reply = Accepted }
 abbrev pub submitted : Request → (refused : Bool) → Seat → Then Seat
 submitted r refused s = submitting (has_quit s.requests) (not (fits (length s.requests) (bytes_of s.requests) r)) (refused || has_closed s.home) r s
 
--- ## The bench goes out
+-- ## The bench comes home, and goes out
 
--- the bench comes home: the answers that it made past those of the seat are taken out of it
+-- a bench comes home: the answers that it made past those of the seat are taken out of it
 abbrev pub taken_in : Bench → Seat → Seat
 taken_in b s = record {
   requests = s.requests;

@@ -143,12 +143,7 @@ impl Hall {
     ///
     /// Where the hall has no such seat, where it is not claimed, and where memory is refused, which is taken only where there are
     /// answers from that number on.
-    pub fn collect(
-        &self,
-        alloc: Global,
-        seat: usize,
-        from: usize,
-    ) -> Result<Vec<Answer>, HallFault>
+    pub fn collect(&self, alloc: Global, seat: usize, from: usize) -> Result<Vec<Answer>, HallFault>
         ensures collects { collects seat from (is_memory result) self.now
             ≡ record { now = self.now; reply = said_answers result } }
         ensures some { is_memory result ≡ true →

@@ -1,6 +1,6 @@
 // Laws of the definitions. Each function does nothing: its contract is the law.
 
-ghost use Rattle.aud_hall.specs.Headline.{HeadlineLaw, SliceLaw, SessionLaw, TwoWorldsLaw, AmpleLaw};
+ghost use Rattle.aud_hall.specs.Headline.{HeadlineLaw, EverySeatLaw, SliceLaw, SessionLaw, TwoWorldsLaw, AmpleLaw};
 ghost use Rattle.aud_hall.specs.Why.Laws.{WorldLaw, IsolationLaw, IdleLaw, TellsIdleLaw, AwaitedLaw, RoomLaw, OthersLaw, RefusalLaw};
 ghost use Rattle.aud_hall.specs.Why.Rows.{Rows};
 
@@ -10,6 +10,11 @@ pub use crate::run::world_run;
 /// and all of them where no work is in hand.
 pub fn headline_law()
     ensures { HeadlineLaw }
+{}
+
+/// Every seat that is claimed is a session's.
+pub fn every_seat_law()
+    ensures { EverySeatLaw }
 {}
 
 /// A slice does exactly the lesser of its units and of what is left of the cost.

@@ -50,7 +50,8 @@ impl Parcel {
     /// and unanswered. Where memory is refused, the bench closes, and works no more.
     pub fn slice(&mut self, alloc: Global, units: u64) -> Work
         ensures parcel { self.new ≡ record self.old {
-            bench = sliced units (cut_in self.new.bench.spent result.done) self.old.bench } }
+          bench = sliced units (cut_in self.new.bench.spent result.done) self.old.bench;
+        } }
         ensures done { result.done
             ≡ done units (cut_in self.new.bench.spent result.done) self.old.bench }
         ensures left { result.left ≡ unanswered self.new.bench }

@@ -67,10 +67,10 @@ impl Place {
             ≡ record { now = self.new; reply = said result } }
         ensures err { OnErr result (self.new ≡ self.old) }
     {
-        match &mut self.seat {
-            Some(seat) => seat.submit(request),
-            None => Err(HallFault::NotClaimed),
-        }
+        let Some(seat) = &mut self.seat else {
+            return Err(HallFault::NotClaimed);
+        };
+        seat.submit(request)
     }
 
     /// Sends the bench out as a parcel of the seat of this number.

@@ -31,7 +31,7 @@ pub fn world_run(
 ) -> Result<World, AllocError>
     ensures runs { IfOk result (λ w.
         IsRun limits.items events.items (seen w.hall w.out.items)
-            (map plain_reply w.replies.items)) }
+        (map plain_reply w.replies.items)) }
     ensures headline { IfOk result (λ w.
         OfEachSeat (λ limits s. AnswersAlone limits s.requests s) w.hall) }
 {
@@ -122,12 +122,7 @@ fn slice_there(alloc: Global, there: &mut Option<Parcel>, units: u64) -> Reply
     }
 }
 
-fn check_in(
-    hall: &mut Hall,
-    out: &mut Vec<Option<Parcel>>,
-    parcel: usize,
-    seat: usize,
-) -> Reply
+fn check_in(hall: &mut Hall, out: &mut Vec<Option<Parcel>>, parcel: usize, seat: usize) -> Reply
     ensures { Makes (event.CheckIn parcel seat)
         (seen hall.old out.old.items) result (seen hall.new out.new.items) }
 {

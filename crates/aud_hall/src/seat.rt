@@ -253,7 +253,8 @@ fn give_rest(alloc: Global, bench: &mut Bench, requests: &[Request]) -> bool
     ensures cut { result ≡ false → (n : ℕ)
         × (n < length requests.now - length bench.old.journal)
         × (bench.new ≡ record bench.old {
-            journal = bench.old.journal ++ take n (drop (length bench.old.journal) requests.now) }) }
+          journal = bench.old.journal ++ take n (drop (length bench.old.journal) requests.now);
+        }) }
 {
     let mut next = bench.journal().len();
     while next < requests.len() {

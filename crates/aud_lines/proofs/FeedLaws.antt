@@ -1,13 +1,13 @@
 -- What a stream's bytes come to as more of them come.
-use Rattle.std.proofs.Common.{◌≡◌, ℕ, zero, suc, ◌+◌, ◌-◌, ◌<◌, ◌≤◌, List, [], ◌∷◌, ◌++◌, length, Option, None, refl, sym, ◌∙◌, ap, append_assoc, append-nil, arith}
+use Rattle.std.proofs.Common.{◌≡◌, ℕ, zero, suc, ◌+◌, ◌<◌, ◌≤◌, List, [], ◌∷◌, ◌++◌, length, Option, None, refl, sym, ◌∙◌, ap, append_assoc, append-nil, arith}
 use Rattle.std.specs.Prelude.{◌==◌, if◌then◌else◌}
 use Rattle.std.proofs.lemmas.List.{nil_from_length}
 use Rattle.aud_bench.specs.declared.request.BadRequest.{BadRequest}
 use Rattle.aud_bench.specs.declared.request.Request.{Request}
 use Rattle.aud_bench.specs.Size.{line_count}
-use Rattle.aud_lines.specs.Feed.{Splits}
+use Rattle.aud_lines.specs.Ties.Splits.{Splits}
 use Rattle.aud_lines.specs.Lines.{onto_line, lines_of, trimmed}
-use Rattle.aud_lines.specs.Requests.{Command, Loads, command, line_fault, Ready, first_fault, gathered, requests_from, requests}
+use Rattle.aud_lines.specs.Requests.{Loads, command, line_fault, Ready, first_fault, gathered, requests_from, requests}
 use Rattle.aud_lines.specs.Ties.Waits.{Waits}
 use Rattle.aud_lines.proofs.LineLaws.{lines_counted, count_more}
 use Rattle.aud_lines.proofs.RequestLaws.{requests_first}
@@ -42,16 +42,6 @@ waits_load bytes line behind k n first is fits more few =
     let counted = lines_counted (behind ++ more) ∙ count_more behind more in
     requests_first (bytes ++ more) line (behind ++ more) (Loads k) (first more) is
     ∙ gathered_short k [] None (lines_of (behind ++ more)) (omega arith)
-
--- lines of a request that does not end yet
-pub waits_less : (bytes piece : List ℕ) (n m : ℕ) → Waits bytes n → m + line_count piece ≡ n → Waits (bytes ++ piece) m
-waits_less bytes piece n m waits left more few =
-    let counted = count_more piece more in
-    ap requests (append_assoc bytes piece more) ∙ waits (piece ++ more) (omega arith)
-
--- bytes that complete no request
-pub splits_none : (bytes : List ℕ) → requests bytes ≡ [] → Splits bytes [] bytes
-splits_none bytes none = record { whole = λ more. refl; begun = none }
 
 -- what is given for a piece stands behind what was given before
 pub fed_more : (before piece rest next : List ℕ) (asked given : List Request) →

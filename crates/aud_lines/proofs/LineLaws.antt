@@ -63,10 +63,6 @@ word_until (b ∷ bs) (Some (suc k)) h some first =
     let same : words_of (drop k bs) ≡ words_of (drop (suc k) bs) = ap words_of behind ∙ ap (λ n. words_of (drop n bs)) (add-one k) in
     ap without_empty cut ∙ ap (λ ws. (b ∷ take k bs) ∷ ws) (sym same)
 
--- what is said of the bytes and whatever stands behind them, of the bytes alone
-pub lines_here : (bytes line rest : List ℕ) → ((more : List ℕ) → lines_of (bytes ++ more) ≡ line ∷ lines_of (rest ++ more)) → lines_of bytes ≡ line ∷ lines_of rest
-lines_here bytes line rest h = ap lines_of (sym (append-nil bytes)) ∙ h [] ∙ ap (λ xs. line ∷ lines_of xs) (append-nil rest)
-
 same_length : (b : ℕ) (lines : List (List ℕ)) → length (onto_line b lines) ≡ length lines
 same_length b [] = refl
 same_length b (line ∷ lines) = refl

@@ -25,10 +25,6 @@ unfolding requests
 requests_first bytes line rest c e is =
     ap (λ ls. requests_from ls Ready) e ∙ (after_first line (lines_of rest) ∙ ap (λ d. led_to d (requests_from (lines_of rest))) (sym is))
 
-pub requests_ready : (bytes : List ℕ) → requests bytes ≡ requests_from (lines_of bytes) Ready
-unfolding requests
-requests_ready bytes = refl
-
 pub first_of_two : (fault other : Option BadRequest) → option_or fault other ≡ first_fault fault other
 first_of_two None other = refl
 first_of_two (Some why) other = refl
@@ -62,7 +58,7 @@ gathered_here n k source fault rest bytes h =
 pub load_first : {X : Type 0} (o : Option X) (request : X → Request) (rest : X → List ℕ) (bytes behind : List ℕ) (n : ℕ) →
     ((more : List ℕ) → requests (bytes ++ more) ≡ gathered n [] None (requests_from (lines_of (behind ++ more)))) →
     MatchOption o (gathered n [] None (requests_from (lines_of behind)) ≡ [])
-        (λ f. (more : List ℕ) → gathered n [] None (requests_from (lines_of (behind ++ more))) ≡ request f ∷ requests (rest f ++ more)) →
+    (λ f. (more : List ℕ) → gathered n [] None (requests_from (lines_of (behind ++ more))) ≡ request f ∷ requests (rest f ++ more)) →
     MatchOption o (requests bytes ≡ []) (λ f. (more : List ℕ) → requests (bytes ++ more) ≡ request f ∷ requests (rest f ++ more))
 load_first None request rest bytes behind n is none =
     ap requests (sym (append-nil bytes)) ∙ is [] ∙ ap (λ xs. gathered n [] None (requests_from (lines_of xs))) (append-nil behind) ∙ none

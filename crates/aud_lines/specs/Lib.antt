@@ -1,4 +1,3 @@
-pub mod Feed
 pub mod Lines
 pub mod Requests
 pub mod Text

@@ -1,3 +1,4 @@
 pub mod Adds
 pub mod Asked
+pub mod Splits
 pub mod Waits

@@ -1,7 +1,7 @@
 // The requests of a stream that comes in pieces.
 
 ghost use Rattle.std.specs.Prelude.{◌≡◌, ◌++◌, [], IfOk, OnErr};
-ghost use Rattle.aud_lines.specs.Feed.{Splits};
+ghost use Rattle.aud_lines.specs.Ties.Splits.{Splits};
 
 use crate::requests::{Split, lines_missing, split_requests};
 use aud_bench::loading::line_count;

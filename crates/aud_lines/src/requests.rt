@@ -1,7 +1,7 @@
 // The requests of a stream of bytes.
 
 ghost use Rattle.std.specs.Prelude.{◌≡◌, ℕ, ◌<◌, ◌≤◌, List, [], ◌∷◌, ◌++◌, length, IfOk, IfSome, MatchOption};
-ghost use Rattle.aud_lines.specs.Feed.{Splits};
+ghost use Rattle.aud_lines.specs.Ties.Splits.{Splits};
 ghost use Rattle.aud_lines.specs.Requests.{load_of, requests};
 ghost use Rattle.aud_lines.specs.Ties.Asked.{load_requests};
 ghost use Rattle.aud_lines.specs.Ties.Waits.{Waits};
@@ -56,7 +56,7 @@ fn first_request(alloc: Global, bytes: &[u8]) -> Result<Option<(Request, &[u8])>
 fn load(alloc: Global, lines: u32, bytes: &[u8]) -> Result<Option<(Request, &[u8])>, AllocError>
     ensures first { IfOk result (λ found. MatchOption found (load_requests lines bytes.now ≡ [])
         (λ f. (more : List ℕ) →
-            load_requests lines (bytes.now ++ more) ≡ f.0 ∷ requests (f.1.now ++ more))) }
+        load_requests lines (bytes.now ++ more) ≡ f.0 ∷ requests (f.1.now ++ more))) }
     ensures shorter { IfOk result (λ found. IfSome found (λ f. length f.1.now ≤ length bytes.now)) }
 {
     let mut source = Vec::new(alloc);

@@ -1,7 +1,7 @@
 -- Texts that are written one after another.
 use Rattle.std.proofs.Common.{◌≡◌, ℕ, List, [], ◌∷◌, ◌++◌, take, drop, Option, Some, None, refl, sym, ◌∙◌, ap, append_assoc, append-nil, subst, inr}
 use Rattle.std.proofs.lemmas.List.{take-append-drop}
-use Rattle.std.specs.Io.KnownBytes.{Appends, Keeps}
+use Rattle.std.specs.Io.KnownBytes.{Appends}
 use Rattle.aud_bench.specs.declared.request.Answer.{Answer}
 use Rattle.aud_text.specs.declared.refusal.Refusal.TheVariants as refusal
 use Rattle.aud_bench.specs.declared.request.Answer.TheVariants as answer
@@ -36,9 +36,6 @@ text_one a = append-nil (answer_text a)
 pub none_said : (a : Option (List ℕ)) → Appends a a (text [])
 unfolding text
 none_said a = appends_none a
-
-pub appends_front : (old new : Option (List ℕ)) (bytes some rest : List ℕ) → Appends old new some → bytes ≡ some ++ rest → AppendsFront old new bytes
-appends_front old new bytes some rest h e = (some, rest, h, e)
 
 -- a front of a front
 pub front_front : (old new : Option (List ℕ)) (all some rest : List Answer) → all ≡ some ++ rest → WritesFront old new some → WritesFront old new all
@@ -85,18 +82,8 @@ written_more old middle new bytes rest n (some, h, e) k = (
   e ∙ ap (λ t. some ++ t) (sym (take-append-drop n rest)) ∙ sym (append_assoc some (take n rest) (drop n rest)),
 )
 
-keeps_appends : (a b : Option (List ℕ)) → Keeps a b → Appends a b []
-keeps_appends None b h = tt
-keeps_appends (Some xs) None h = absurd h
-keeps_appends (Some xs) (Some ys) h = h ∙ sym (append-nil xs)
-
-
 -- behind them a front of the others
 pub written_front : (old middle new : Option (List ℕ)) (bytes rest : List ℕ) → (some : List ℕ) × Appends old middle some × (bytes ≡ some ++ rest) →
     AppendsFront middle new rest → AppendsFront old new bytes
 written_front old middle new bytes rest (some, h, e) (xs, ys, k, f) =
     (some ++ xs, ys, appends_more old middle new some xs h k, e ∙ ap (λ t. some ++ t) f ∙ sym (append_assoc some xs ys))
-
--- all of them
-pub written_all : (old new : Option (List ℕ)) (bytes rest : List ℕ) → rest ≡ [] → (some : List ℕ) × Appends old new some × (bytes ≡ some ++ rest) → Appends old new bytes
-written_all old new bytes rest none (some, h, e) = subst (Appends old new) (sym (e ∙ ap (λ t. some ++ t) none ∙ append-nil some)) h

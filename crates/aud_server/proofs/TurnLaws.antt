@@ -1,24 +1,28 @@
 -- A session that answers requests as they come.
-use Rattle.std.proofs.Common.{◌≡◌, ℕ, ◌+◌, ◌<◌, List, [], ◌∷◌, ◌++◌, length, take, drop, get_or, Option, Some, None, true, refl, sym, ◌∙◌, ap, append_assoc, append-nil, subst}
-use Rattle.std.proofs.lemmas.List.{take_more, drop_more, take-append-drop}
+use Rattle.std.proofs.Common.{◌≡◌, ℕ, ◌+◌, ◌<◌, ◌≤◌, ◌||◌, List, [], ◌∷◌, ◌++◌, length, take, drop, get_or, Option, Some, None, Bool, true, false, arith, refl, sym, ◌∙◌, ap, append_assoc, append-nil, subst}
+use Rattle.std.proofs.lemmas.List.{take_more, take-append-drop}
+use Rattle.std.specs.List.{list_any}
+use Rattle.std.proofs.lemmas.List.Folds.{list_any-append, list_any_more}
 use Rattle.std.specs.Prelude.{Result, IfSome, OnOk, if◌then◌else◌}
 use Rattle.std.specs.Io.KnownBytes.{Appends, Consumes, IsAtEnd}
 use Rattle.aud_text.specs.declared.limits.TheConstants.{STANDARD}
 use Rattle.aud_bench.specs.declared.request.Request.{Request}
 use Rattle.aud_bench.specs.declared.request.Answer.{Answer}
 use Rattle.aud_bench.specs.declared.session.Session.{Session}
-use Rattle.aud_bench.specs.Alone.{answers_from, alone}
+use Rattle.aud_bench.specs.Alone.{is_quit, answers_from, alone}
 use Rattle.aud_bench.specs.Ties.Answered.{server, HasAnswered}
+use Rattle.aud_bench.proofs.Journals.{or_assoc}
 use Rattle.aud_bench.proofs.Sessions.{alone_front}
-use Rattle.aud_lines.specs.Feed.{Splits}
+use Rattle.aud_lines.specs.Ties.Splits.{Splits}
 use Rattle.aud_lines.specs.Requests.{requests}
-use Rattle.aud_lines.specs.Text.{answer_text, text}
+use Rattle.aud_lines.specs.Text.{text}
 use Rattle.aud_lines.proofs.FeedLaws.{fed_more, fed_all}
 use Rattle.aud_server.specs.declared.solo.SoloFault.{SoloFault}
-use Rattle.aud_server.specs.Solo.{answers_to, WritesAll, WritesSome, WritesFront}
+use Rattle.aud_server.specs.declared.solo.TheConstants.{PIECE}
+use Rattle.aud_server.specs.Solo.{StopsAtQuit, answers_to, WritesAll, WritesSome, WritesFront}
 use Rattle.aud_server.specs.Streams.{AppendsFront}
 use Rattle.aud_server.specs.Ties.Turns.{HasTold, Tells, HasServed}
-use Rattle.aud_server.proofs.SoloLaws.{appends_none, appends_more, text_behind, text_one, some_some, front_front}
+use Rattle.aud_server.proofs.SoloLaws.{appends_none, appends_more, text_behind, some_some, front_front}
 use Rattle.aud_server.proofs.StreamLaws.{consumes_none, consumes_more}
 
 -- ---- one request more
@@ -82,6 +86,21 @@ tells_all r before now some more all session next is ok tells =
       write = λ e. front_front before now (alone STANDARD all) (alone STANDARD some) front.0 whole (tells.write e);
     }
 
+-- ---- whether a QUIT was answered
+
+pub over_more : (over : Bool) (rs : List Request) (i : ℕ) (r : Request) → i < length rs → r ≡ get_or rs i r →
+    (over || list_any is_quit (take (i + 1) rs)) ≡ ((over || list_any is_quit (take i rs)) || is_quit r)
+over_more over rs i r below is =
+    ap (λ b. over || b) (list_any_more is_quit rs i r below ∙ ap (λ x. list_any is_quit (take i rs) || is_quit x) (sym is))
+    ∙ or_assoc over (list_any is_quit (take i rs)) (is_quit r)
+
+-- none among these requests, and none among more
+pub quit_still_none : (over new : Bool) (asked given : List Request) → over ≡ false → new ≡ (over || list_any is_quit given) → new ≡ false →
+    list_any is_quit asked ≡ false → list_any is_quit (asked ++ given) ≡ false
+quit_still_none over new asked given none is still so_far =
+    let given_none : list_any is_quit given ≡ false = sym (is ∙ ap (λ b. b || list_any is_quit given) none) ∙ still in
+    list_any-append is_quit asked given ∙ ap (λ b. b || list_any is_quit given) so_far ∙ given_none
+
 -- ---- bytes read
 
 pub served_start : (left before : Option (List ℕ)) (feed : List ℕ) (session : Session) → feed ≡ [] → session.limits ≡ STANDARD → HasAnswered [] session →
@@ -96,6 +115,11 @@ served_start left before feed session empty same none = record {
   told = told_start before session same none;
 }
 
+pub start_no_quit : (left before : Option (List ℕ)) (feed : List ℕ) (session : Session) (empty : feed ≡ []) (same : session.limits ≡ STANDARD) (none : HasAnswered [] session) →
+    list_any is_quit (served_start left before feed session empty same none).asked ≡ false
+unfolding served_start
+start_no_quit left before feed session empty same none = refl
+
 module _ (left remaining before now : Option (List ℕ)) (feed : List ℕ) (session : Session) (h : HasServed left remaining before now feed session) where
   asked_all : requests h.input ≡ h.asked
   asked_all =
@@ -108,6 +132,19 @@ module _ (left remaining before now : Option (List ℕ)) (feed : List ℕ) (sess
   -- the answers to all that was read are written
   pub wrote_all : WritesAll before now (answers_to h.input)
   wrote_all = subst (λ rs. Appends before now (text (alone STANDARD rs))) (sym asked_all) h.told.written
+
+  -- where none was answered, a piece more may be read, and nothing more
+  pub quit_behind : list_any is_quit h.asked ≡ false → (rest : Option (List ℕ)) (piece : List ℕ) → Consumes remaining rest piece → length piece ≤ PIECE → StopsAtQuit left rest
+  quit_behind none rest piece taken short = record {
+    before = h.input;
+    piece = piece;
+    taken = consumes_more left remaining rest h.input piece h.taken taken;
+    goes_on = ap (list_any is_quit) asked_all ∙ none;
+    short = short;
+  }
+
+  pub quit_here : list_any is_quit h.asked ≡ false → StopsAtQuit left remaining
+  quit_here none = quit_behind none remaining [] (consumes_none remaining) (omega arith)
 
   -- where a QUIT was answered, all are written, whatever is left
   pub over_known : session.over ≡ true → IfSome left (λ all. WritesAll before now (answers_to all))
@@ -150,7 +187,7 @@ module _ (left remaining before now : Option (List ℕ)) (feed : List ℕ) (sess
     pub front_given : (new : Option (List ℕ)) → WritesFront before new (alone STANDARD (h.asked ++ given)) → WritesFront before new (answers_to (h.input ++ piece))
     front_given new = subst (λ rs. WritesFront before new (alone STANDARD rs)) (sym given_all)
 
-    pub served_more : (rest new : Option (List ℕ)) (session' : Session) → Consumes remaining rest piece → HasTold before new (h.asked ++ given) session' →
+    abbrev pub served_more : (rest new : Option (List ℕ)) (session' : Session) → Consumes remaining rest piece → HasTold before new (h.asked ++ given) session' →
         HasServed left rest before new next session'
     served_more rest new session' taken told = record {
       input = h.input ++ piece;

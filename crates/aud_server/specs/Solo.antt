@@ -1,12 +1,14 @@
 -- What the server on one stream reads and writes. Of a reader and a writer a word takes what was left in it, or stood there, before the
 -- call and after it. Nothing is said where that is not known.
-use Rattle.std.specs.Prelude.{◌≡◌, ℕ, List, [], ◌∷◌, ◌++◌, Option, ◌⊎◌, Result, IfSome, OnOk, IsErrOf}
+use Rattle.std.specs.Prelude.{◌≡◌, ℕ, ◌≤◌, false, length, List, [], ◌∷◌, ◌++◌, Option, ◌⊎◌, Result, IfSome, OnOk, IsErrOf}
 use Rattle.std.specs.Io.KnownBytes.{Appends, Consumes}
+use Rattle.std.specs.List.{list_any}
 use Rattle.aud_text.specs.declared.limits.TheConstants.{STANDARD}
 use Rattle.aud_text.specs.declared.refusal.Refusal.TheVariants as refusal
 use Rattle.aud_bench.specs.declared.request.Answer.{Answer}
 use Rattle.aud_bench.specs.declared.request.Answer.TheVariants as answer
-use Rattle.aud_bench.specs.Alone.{alone}
+use Rattle.aud_bench.specs.Alone.{is_quit, alone}
+use Rattle.aud_server.specs.declared.solo.TheConstants.{PIECE}
 use Rattle.aud_server.specs.declared.solo.SoloFault.{SoloFault}
 use Rattle.aud_server.specs.declared.solo.SoloFault.TheVariants as fault
 use Rattle.aud_lines.specs.Requests.{requests}
@@ -59,3 +61,12 @@ pub record Serves {A : Type 0} (result : Result A SoloFault) (left remaining bef
   pub read : IsErrOf result fault.Read → HasRead left remaining (λ input. WritesAll before after (answers_to input))
   pub memory : IsErrOf result fault.Memory → HasRead left remaining (λ input. WritesCut before after (answers_to input))
   pub write : IsErrOf result fault.Write → HasRead left remaining (λ input. WritesPart before after (answers_to input))
+
+-- What is read, however the call ends: bytes whose requests have no QUIT, and besides at most the bytes of one read. So nothing is read
+-- behind a QUIT but what came with it.
+pub record StopsAtQuit (left remaining : Option (List ℕ)) : Type 0 where
+  pub before : List ℕ
+  pub piece : List ℕ
+  pub taken : Consumes left remaining (before ++ piece)
+  pub goes_on : list_any is_quit (requests before) ≡ false
+  pub short : length piece ≤ PIECE

@@ -1,10 +1,18 @@
 -- What readers and writers tell of their calls.
-use Rattle.std.specs.Prelude.{◌≡◌, ℕ, ◌+◌, ◌-◌, ◌^◌, min, List, ◌++◌, Option}
+use Rattle.std.specs.Prelude.{◌≡◌, ℕ, ◌+◌, ◌≤◌, ◌%◌, ◌^◌, List, ◌++◌, Option}
 use Rattle.std.specs.Io.KnownBytes.{Appends}
 
--- one call more; a count stops at the largest number of 64 bits
+-- A count behind n calls more. It has 64 bits: behind the largest number it begins again at 0.
+abbrev pub counted_by : ℕ → ℕ → ℕ
+counted_by n count = (count + n) % 2 ^ 64
+
+-- behind one call more
 abbrev pub counted : ℕ → ℕ
-counted n = min (n + 1) (2 ^ 64 - 1)
+counted count = counted_by 1 count
+
+-- at most so many calls were counted
+abbrev pub CountsUpTo : ℕ → ℕ → ℕ → Type 0
+CountsUpTo most old new = (n : ℕ) × (n ≤ most) × (new ≡ counted_by n old)
 
 -- a front of the bytes is written
 abbrev pub AppendsFront : Option (List ℕ) → Option (List ℕ) → List ℕ → Type 0

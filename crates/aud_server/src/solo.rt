@@ -1,16 +1,18 @@
 // The server on one stream of requests.
 
-ghost use Rattle.std.specs.Prelude.{◌≡◌, ◌+◌, ◌<◌, ◌≤◌, ◌^◌, ◌⊎◌, [], ◌∷◌, OnOk, IsErrOf};
+ghost use Rattle.std.specs.Prelude.{◌≡◌, ◌⊎◌, ◌||◌, [], ◌∷◌, false, OnOk, IsErrOf};
 ghost use Rattle.std.specs.Io.KnownBytes.{Appends};
+ghost use Rattle.std.specs.List.{list_any};
 ghost use Rattle.aud_text.specs.declared.limits.TheConstants.{STANDARD};
 ghost use Rattle.aud_text.specs.declared.refusal.Refusal.TheVariants as refusal;
 ghost use Rattle.aud_bench.specs.declared.request.Answer.TheVariants as answer;
+ghost use Rattle.aud_bench.specs.Alone.{is_quit};
 ghost use Rattle.aud_bench.specs.Ties.Answered.{HasAnswered};
 ghost use Rattle.aud_lines.specs.Text.{answer_text};
 ghost use Rattle.aud_server.specs.declared.solo.TheConstants.{READS};
 ghost use Rattle.aud_server.specs.declared.solo.SoloFault.TheVariants as fault;
-ghost use Rattle.aud_server.specs.Solo.{Serves};
-ghost use Rattle.aud_server.specs.Streams.{AppendsFront};
+ghost use Rattle.aud_server.specs.Solo.{Serves, StopsAtQuit};
+ghost use Rattle.aud_server.specs.Streams.{counted, counted_by, CountsUpTo, AppendsFront};
 ghost use Rattle.aud_server.specs.Ties.Turns.{TellsMore, ServesSome, CountsWrites};
 
 use crate::streams::{Sink, Source};
@@ -47,8 +49,8 @@ impl From<AllocError> for SoloFault {
 /// The most reads of a session.
 pub const READS: u64 = 1_000_000_000_000;
 
-// How many bytes are read at once, at most.
-const PIECE: usize = 4_096;
+/// The most bytes of a read.
+pub const PIECE: usize = 4_096;
 
 /// Answers the requests of a reader: each before the next bytes are read, and at once. It reads to the end, or until it has
 /// answered a QUIT, and writes the answers of a private server.
@@ -61,14 +63,15 @@ pub fn solo<S: Source, T: Sink>(
     reader: &mut S,
     writer: &mut T,
 ) -> Result<(), SoloFault>
-    requires calls { S.calls reader.old < 2 ^ 63 }
-    requires failures { (S.failures reader.old < 2 ^ 63) × (T.failures writer.old < 2 ^ 63) }
     ensures serves { Serves result (S.remaining reader.old) (S.remaining reader.new)
         (T.contents writer.old) (T.contents writer.new) }
-    ensures reads { S.calls reader.new ≤ S.calls reader.old + READS }
-    ensures read { IsErrOf result fault.Read → (S.failures reader.old < S.failures reader.new)
-        ⊎ (S.calls reader.new ≡ S.calls reader.old + READS) }
-    ensures write { IsErrOf result fault.Write → T.failures writer.old < T.failures writer.new }
+    ensures quit { StopsAtQuit (S.remaining reader.old) (S.remaining reader.new) }
+    ensures reads { CountsUpTo READS (S.calls reader.old) (S.calls reader.new) }
+    ensures read { IsErrOf result fault.Read →
+        (S.failures reader.new ≡ counted (S.failures reader.old))
+        ⊎ (S.calls reader.new ≡ counted_by READS (S.calls reader.old)) }
+    ensures write { IsErrOf result fault.Write →
+        T.failures writer.new ≡ counted (T.failures writer.old) }
 {
     let served = serve(alloc, reader, writer);
     if matches!(served, Err(SoloFault::Memory)) {
@@ -78,18 +81,14 @@ pub fn solo<S: Source, T: Sink>(
 }
 
 // The same, before it is written that memory is out.
-fn serve<S: Source, T: Sink>(
-    alloc: Global,
-    reader: &mut S,
-    writer: &mut T,
-) -> Result<(), SoloFault>
-    requires calls { S.calls reader.old < 2 ^ 63 }
-    requires failures { (S.failures reader.old < 2 ^ 63) × (T.failures writer.old < 2 ^ 63) }
+fn serve<S: Source, T: Sink>(alloc: Global, reader: &mut S, writer: &mut T) -> Result<(), SoloFault>
     ensures serves { ServesSome result (S.remaining reader.old) (S.remaining reader.new)
         (T.contents writer.old) (T.contents writer.new) }
-    ensures reads { S.calls reader.new ≤ S.calls reader.old + READS }
-    ensures read { IsErrOf result fault.Read → (S.failures reader.old < S.failures reader.new)
-        ⊎ (S.calls reader.new ≡ S.calls reader.old + READS) }
+    ensures quit { StopsAtQuit (S.remaining reader.old) (S.remaining reader.new) }
+    ensures reads { CountsUpTo READS (S.calls reader.old) (S.calls reader.new) }
+    ensures read { IsErrOf result fault.Read →
+        (S.failures reader.new ≡ counted (S.failures reader.old))
+        ⊎ (S.calls reader.new ≡ counted_by READS (S.calls reader.old)) }
     ensures counts { CountsWrites result (T.failures writer.old) (T.failures writer.new) }
 {
     // Dropped here alone: each way out of the loop would prove the drop once more.
@@ -107,14 +106,15 @@ fn serve_pieces<S: Source, T: Sink>(
     writer: &mut T,
 ) -> Result<(), SoloFault>
     requires session { (session.old.limits ≡ STANDARD) × HasAnswered [] session.old }
+    requires over { session.old.over ≡ false }
     requires feed { feed.old ≡ [] }
-    requires calls { S.calls reader.old < 2 ^ 63 }
-    requires failures { (S.failures reader.old < 2 ^ 63) × (T.failures writer.old < 2 ^ 63) }
     ensures serves { ServesSome result (S.remaining reader.old) (S.remaining reader.new)
         (T.contents writer.old) (T.contents writer.new) }
-    ensures reads { S.calls reader.new ≤ S.calls reader.old + READS }
-    ensures read { IsErrOf result fault.Read → (S.failures reader.old < S.failures reader.new)
-        ⊎ (S.calls reader.new ≡ S.calls reader.old + READS) }
+    ensures quit { StopsAtQuit (S.remaining reader.old) (S.remaining reader.new) }
+    ensures reads { CountsUpTo READS (S.calls reader.old) (S.calls reader.new) }
+    ensures read { IsErrOf result fault.Read →
+        (S.failures reader.new ≡ counted (S.failures reader.old))
+        ⊎ (S.calls reader.new ≡ counted_by READS (S.calls reader.old)) }
     ensures counts { CountsWrites result (T.failures writer.old) (T.failures writer.new) }
 {
     let mut piece = [0; PIECE];
@@ -140,9 +140,10 @@ fn answer_each<T: Sink>(
     requests: &[Request],
     writer: &mut T,
 ) -> Result<(), SoloFault>
-    requires { T.failures writer.old < 2 ^ 63 }
     ensures tells { TellsMore result (T.contents writer.old) (T.contents writer.new) requests.now
         session.old session.new }
+    ensures over { OnOk result
+        (session.new.over ≡ (session.old.over || list_any is_quit requests.now)) }
     ensures counts { CountsWrites result (T.failures writer.old) (T.failures writer.new) }
 {
     for request in requests {
@@ -158,9 +159,9 @@ fn answer<T: Sink>(
     request: &Request,
     writer: &mut T,
 ) -> Result<(), SoloFault>
-    requires { T.failures writer.old < 2 ^ 63 }
     ensures tells { TellsMore result (T.contents writer.old) (T.contents writer.new)
         (request.now ∷ []) session.old session.new }
+    ensures over { OnOk result (session.new.over ≡ (session.old.over || is_quit request.now)) }
     ensures counts { CountsWrites result (T.failures writer.old) (T.failures writer.new) }
 {
     match session.answer(alloc, request)? {
@@ -174,7 +175,6 @@ fn answer<T: Sink>(
 
 // Writes all the bytes, by as many calls as that takes.
 fn write<T: Sink>(writer: &mut T, bytes: &[u8]) -> Result<(), SoloFault>
-    requires { T.failures writer.old < 2 ^ 63 }
     ensures all { OnOk result (Appends (T.contents writer.old) (T.contents writer.new) bytes.now) }
     ensures read { IsErrOf result fault.Read → ⊥ }
     ensures memory { IsErrOf result fault.Memory → ⊥ }

@@ -10,10 +10,13 @@ use std::io::{self, ErrorKind, Read, Write};
 #[derive(Clone, Copy, PartialEq, Eq, Debug)]
 pub struct Failed;
 
-/// What bytes are read from. It tells them, where they are known, and counts its calls and those that failed.
+/// What bytes are read from. It tells them, where they are known, and counts its calls and those that failed. A count begins
+/// again at 0 behind the largest number of 64 bits.
 pub trait Source {
     ghost remaining: { Self → Option (List ℕ) };
+
     ghost calls: { Self → ℕ };
+
     ghost failures: { Self → ℕ };
 
     /// Reads bytes into the front of the piece, and tells how many; none only at the end.
@@ -25,10 +28,13 @@ pub trait Source {
             (λ _. failures self.new ≡ counted (failures self.old)) };
 }
 
-/// What bytes are written to. It tells them, where they are known, and counts its calls and those that failed.
+/// What bytes are written to. It tells them, where they are known, and counts its calls and those that failed, as a `Source`
+/// does.
 pub trait Sink {
     ghost contents: { Self → Option (List ℕ) };
+
     ghost calls: { Self → ℕ };
+
     ghost failures: { Self → ℕ };
 
     /// Writes bytes of the front, hands them on at once, and tells how many. A call that takes none is one that failed;
@@ -67,15 +73,17 @@ impl<S> Stream<S> {
 
 impl<R: Read> Source for Stream<R> {
     ghost remaining = { λ s. R.remaining s.inner };
+
     ghost calls = { λ s. s.calls };
+
     ghost failures = { λ s. s.failures };
 
     fn pull(&mut self, piece: &mut [u8]) -> Result<usize, Failed> {
-        self.calls = self.calls.saturating_add(1);
+        self.calls = self.calls.wrapping_add(1);
         match read(&mut self.inner, piece) {
             Ok(count) => Ok(count),
             Err(failed) => {
-                self.failures = self.failures.saturating_add(1);
+                self.failures = self.failures.wrapping_add(1);
                 Err(failed)
             }
         }
@@ -84,15 +92,17 @@ impl<R: Read> Source for Stream<R> {
 
 impl<W: Write> Sink for Stream<W> {
     ghost contents = { λ s. W.contents s.inner };
+
     ghost calls = { λ s. s.calls };
+
     ghost failures = { λ s. s.failures };
 
     fn push(&mut self, bytes: &[u8]) -> Result<usize, Failed> {
-        self.calls = self.calls.saturating_add(1);
+        self.calls = self.calls.wrapping_add(1);
         match write(&mut self.inner, bytes) {
             Ok(count) => Ok(count),
             Err(failed) => {
-                self.failures = self.failures.saturating_add(1);
+                self.failures = self.failures.wrapping_add(1);
                 Err(failed)
             }
         }

@@ -1,5 +1,5 @@
 -- How far the work on a list of requests is.
-use Rattle.std.specs.Prelude.{◌≡◌, ℕ, ◌+◌, ◌≤◌, List, [], ◌∷◌, ◌++◌, length, take, drop, Option, None, Bool, true, false}
+use Rattle.std.specs.Prelude.{◌≡◌, ℕ, ◌+◌, ◌≤◌, List, [], ◌∷◌, ◌++◌, length, take, drop, Option, None, Bool, false}
 use Rattle.aud_text.specs.declared.limits.Limits.{Limits}
 use Rattle.aud_machine.specs.Shown.{Shown}
 use Rattle.aud_bench.specs.declared.request.Request.{Request}

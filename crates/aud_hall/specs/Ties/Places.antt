@@ -6,7 +6,7 @@ use Rattle.aud_bench.specs.declared.request.Answer.{Answer}
 use Rattle.aud_bench.specs.Seen.{Seen as Bench}
 use Rattle.aud_hall.specs.declared.why.Why.{Why}
 use Rattle.aud_hall.specs.Replies.{Stranger, Then}
-use Rattle.aud_hall.specs.Seats.{Seat, Sending, sent}
+use Rattle.aud_hall.specs.Seats.{Seat, sent}
 use Rattle.aud_hall.specs.CheckIns.{judged, judged_vacant, checked}
 use Rattle.aud_hall.specs.Halls.{Place, with_seat}
 use Rattle.aud_hall.specs.Ties.Right.{IsRight}

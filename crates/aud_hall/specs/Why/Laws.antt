@@ -11,7 +11,7 @@ use Rattle.aud_hall.specs.CheckIns.{judged}
 use Rattle.aud_hall.specs.Halls.{Place, place_at}
 use Rattle.aud_hall.specs.World.{World, Event, CheckIn, happens}
 use Rattle.aud_hall.specs.Mine.{own_of, track_after, part_of}
-use Rattle.aud_hall.specs.Headline.{IsIdle, AnswersAlone, now_is, track_is}
+use Rattle.aud_hall.specs.Headline.{IsIdle, AnswersAlone, now_is, track_is, part_is}
 use Rattle.aud_hall.specs.Ties.Right.{IsRightWorld}
 
 -- outboxes and parcels are what they are said to be, in every world
@@ -77,7 +77,7 @@ AwaitedLaw = (limits : List Limits) (events : List Event) → OfEachSeat TakesBa
 abbrev pub OthersLaw : Type 0
 OthersLaw = (limits : List Limits) (events : List Event) (k n : ℕ) (e : Event)
     → own_of k (track_is k n limits events) (now_is limits events) e ≡ None
-    → part_of k (track_after k (track_is k n limits events) (now_is limits events) e) (happens e (now_is limits events)).now ≡ part_of k (track_is k n limits events) (now_is limits events)
+    → part_of k (track_after k (track_is k n limits events) (now_is limits events) e) (happens e (now_is limits events)).now ≡ part_is k n limits events
 
 abbrev pub IsRefusal : Reply → Type 0
 IsRefusal (Refused fault) = Unit {0}

@@ -1,9 +1,12 @@
 -- Worked rows: what a hall replies to a list of events.
-use Rattle.std.specs.Prelude.{◌≡◌, ℕ, List, [], ◌∷◌, Some, None, false}
+use Rattle.std.specs.Prelude.{◌≡◌, ℕ, List, [], ◌∷◌, Some, None, false, codes}
 use Rattle.aud_text.specs.declared.limits.Limits.{Limits}
 use Rattle.aud_text.specs.declared.limits.TheConstants.{STANDARD}
 use Rattle.aud_text.specs.declared.refusal.Refusal.TheVariants as refusal
-use Rattle.aud_bench.specs.declared.request.Request.TheVariants.{Run, Output}
+use Rattle.aud_meaning.specs.declared.state.State.{State}
+use Rattle.aud_meaning.specs.declared.state.State.TheVariants as state
+use Rattle.aud_bench.specs.declared.request.Request.{Request}
+use Rattle.aud_bench.specs.declared.request.Request.TheVariants.{Load, Run, Output}
 use Rattle.aud_bench.specs.declared.request.Answer.{Answer}
 use Rattle.aud_bench.specs.declared.request.Answer.TheVariants as answer
 use Rattle.aud_bench.specs.Seen.{Seen as Bench}
@@ -57,6 +60,30 @@ TwoSeats = gives two
     ∷ Sent (Some (record { limits = STANDARD; journal = Run 5 ∷ Output ∷ []; units = 0; taken = 0; spent = false })) ∷ Accepted ∷ Sent None ∷ Worked 1 1 ∷ Taken More
     ∷ Sent (Some (one_output 0 0)) ∷ Worked 1 0 ∷ Taken Idle ∷ Answers (no_program ∷ [])
     ∷ Sent (Some (record { limits = STANDARD; journal = Run 5 ∷ Output ∷ Output ∷ []; units = 1; taken = 1; spent = false })) ∷ Worked 2 0 ∷ Taken Idle ∷ Answers (no_program ∷ no_program ∷ []) ∷ Sent None ∷ [])
+
+-- two seats with a program each, which are run in turn
+abbrev pub ends : Request
+ends = Load (codes "procedure M is begin null; end M;\n")
+
+abbrev pub loops : Request
+loops = Load (codes "procedure M is begin loop null; end loop; end M;\n")
+
+abbrev pub program : List Request → (units taken : ℕ) → Bench
+program journal units taken = record { limits = STANDARD; journal = journal; units = units; taken = taken; spent = false }
+
+abbrev pub ran : (steps : ℕ) → State → Answer
+ran steps state = answer.Ran (record { steps = steps; state = state; raised = None })
+
+abbrev pub TwoPrograms : Type 0
+TwoPrograms = gives two
+    (Claim 1 false ∷ Claim 2 false ∷ Submit 1 ends false ∷ Submit 2 loops false ∷ Submit 1 (Run 10) false ∷ Submit 2 (Run 5) false
+    ∷ SendOut 2 None ∷ Slice 0 3 None ∷ CheckIn 0 2
+    ∷ SendOut 1 None ∷ Slice 1 9 None ∷ CheckIn 1 1 ∷ Collect 1 0 false
+    ∷ SendOut 2 None ∷ Slice 2 9 None ∷ CheckIn 2 2 ∷ Collect 2 1 false ∷ SendOut 2 None ∷ [])
+    (Accepted ∷ Accepted ∷ Accepted ∷ Accepted ∷ Accepted ∷ Accepted
+    ∷ Sent (Some (program (loops ∷ Run 5 ∷ []) 0 0)) ∷ Worked 3 1 ∷ Taken More
+    ∷ Sent (Some (program (ends ∷ Run 10 ∷ []) 0 0)) ∷ Worked 4 0 ∷ Taken Idle ∷ Answers (answer.Loaded (codes "M") ∷ ran 3 state.Ended ∷ [])
+    ∷ Sent (Some (program (loops ∷ Run 5 ∷ []) 3 1)) ∷ Worked 3 0 ∷ Taken Idle ∷ Answers (ran 5 state.More ∷ []) ∷ Sent None ∷ [])
 
 -- ## Parcels that come to where nobody waits for them
 
@@ -149,6 +176,7 @@ SecondPart = (session (mine 3 1 four two_sessions)).part ≡ record {
 pub record Rows : Type 0 where
   pub at_another_seat : AtAnotherSeat
   pub two_seats : TwoSeats
+  pub two_programs : TwoPrograms
   pub of_the_session_before : OfTheSessionBefore
   pub fewer_answers : FewerAnswers
   pub at_nobodys : AtNobodys

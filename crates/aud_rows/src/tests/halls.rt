@@ -93,9 +93,11 @@ fn meets(
 }
 
 const TWO: [Limits; 2] = [STANDARD; 2];
+
 const FOUR: [Limits; 4] = [STANDARD; 4];
 
 const NULL: &[u8] = b"procedure M is begin null; end M;\n";
+
 const LOOP: &[u8] = b"procedure M is begin loop null; end loop; end M;\n";
 
 #[test]

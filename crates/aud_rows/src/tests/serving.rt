@@ -1,5 +1,6 @@
 // The server where a stream fails, and the program.
 
+use crate::tests::finds;
 use aud_server::program::program;
 use aud_server::solo::{SoloFault, solo};
 use aud_server::streams::Stream;
@@ -39,11 +40,107 @@ fn tells_read_faults(rt: HostRuntime) {
     assert_eq!(rt; ended, Err(SoloFault::Read));
 }
 
+// A writer that takes no byte, which is no error of its own.
+#[derive(Drop)]
+struct Idle;
+
+impl Write for Idle {
+    fn write(&mut self, _buf: &[u8]) -> io::Result<usize> {
+        Ok(0)
+    }
+
+    fn flush(&mut self) -> io::Result<()> {
+        Ok(())
+    }
+}
+
+// A writer that takes all, and cannot hand it on.
+#[derive(Drop)]
+struct Kept<'a>(&'a mut Vec<u8>);
+
+impl Write for Kept<'_> {
+    fn write(&mut self, buf: &[u8]) -> io::Result<usize> {
+        self.0.extend_from_slice(buf)?;
+        Ok(buf.len())
+    }
+
+    fn flush(&mut self) -> io::Result<()> {
+        Err(io::Error::from(ErrorKind::BrokenPipe))
+    }
+}
+
+fn writes_to<W: Write + Drop>(alloc: Global, writer: W) -> Result<(), SoloFault> {
+    let mut reader = Stream::new(b"RUN 1\nRUN 1\n".as_slice());
+    solo(alloc, &mut reader, &mut Stream::new(writer))
+}
+
 #[test]
 fn tells_write_faults(rt: HostRuntime) {
-    let mut reader = Stream::new(b"RUN 1\n".as_slice());
-    let ended = solo(rt.alloc(), &mut reader, &mut Stream::new(Full));
-    assert_eq!(rt; ended, Err(SoloFault::Write));
+    assert_eq!(rt; writes_to(rt.alloc(), Full), Err(SoloFault::Write));
+    assert_eq!(rt; writes_to(rt.alloc(), Idle), Err(SoloFault::Write));
+    let mut written = Vec::new(rt.alloc());
+    assert_eq!(rt;
+        writes_to(rt.alloc(), Kept(&mut written)),
+        Err(SoloFault::Write)
+    );
+    finds(&rt, "the first answer", &written, b"- E14 no program\n");
+}
+
+// Bytes of which the first read, and a writer of which the first write is interrupted.
+#[derive(Drop)]
+struct Late<'a> {
+    rest: &'a [u8],
+    is_first: bool,
+}
+
+impl Read for Late<'_> {
+    fn read(&mut self, buf: &mut [u8]) -> io::Result<usize> {
+        if self.is_first {
+            self.is_first = false;
+            return Err(io::Error::from(ErrorKind::Interrupted));
+        }
+        let count = self.rest.len().min(buf.len());
+        buf[..count].copy_from_slice(&self.rest[..count]);
+        self.rest = &self.rest[count..];
+        Ok(count)
+    }
+}
+
+#[derive(Drop)]
+struct LateWriter<'a> {
+    written: &'a mut Vec<u8>,
+    is_first: bool,
+}
+
+impl Write for LateWriter<'_> {
+    fn write(&mut self, buf: &[u8]) -> io::Result<usize> {
+        if self.is_first {
+            self.is_first = false;
+            return Err(io::Error::from(ErrorKind::Interrupted));
+        }
+        self.written.extend_from_slice(buf)?;
+        Ok(buf.len())
+    }
+
+    fn flush(&mut self) -> io::Result<()> {
+        Ok(())
+    }
+}
+
+#[test]
+fn tries_again_what_is_interrupted(rt: HostRuntime) {
+    let mut written = Vec::new(rt.alloc());
+    let mut reader = Stream::new(Late {
+        rest: b"RUN 1\nQUIT\n",
+        is_first: true,
+    });
+    let mut writer = Stream::new(LateWriter {
+        written: &mut written,
+        is_first: true,
+    });
+    let ended = solo(rt.alloc(), &mut reader, &mut writer);
+    assert_eq!(rt; ended, Ok(()));
+    finds(&rt, "answers", &written, b"- E14 no program\n+ 0\n");
 }
 
 const OTHERS: [&[&str]; 9] = [

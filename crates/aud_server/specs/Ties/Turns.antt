@@ -1,5 +1,5 @@
 -- What a session over streams has read, answered and written, turn by turn.
-use Rattle.std.specs.Prelude.{◌≡◌, ℕ, ◌+◌, List, [], ◌++◌, Option, Result, Ok, Err, IfSome, OnOk, IsErrOf}
+use Rattle.std.specs.Prelude.{◌≡◌, ◌⊎◌, ℕ, List, [], ◌++◌, Option, Result, Ok, Err, IfSome, OnOk, IsErrOf}
 use Rattle.std.specs.Io.KnownBytes.{Appends, Consumes}
 use Rattle.aud_text.specs.declared.limits.TheConstants.{STANDARD}
 use Rattle.aud_bench.specs.declared.request.Request.{Request}
@@ -10,6 +10,7 @@ use Rattle.aud_lines.specs.Requests.{requests}
 use Rattle.aud_lines.specs.Text.{text}
 use Rattle.aud_server.specs.declared.solo.SoloFault.{SoloFault}
 use Rattle.aud_server.specs.declared.solo.SoloFault.TheVariants as fault
+use Rattle.aud_server.specs.Streams.{counted, counted_by}
 use Rattle.aud_server.specs.Solo.{answers_to, HasRead, WritesAll, WritesSome, WritesFront}
 
 -- the session has answered these requests, and their answers are written behind what stood there before
@@ -51,5 +52,9 @@ pub record ServesSome {A : Type 0} (result : Result A SoloFault) (left remaining
 abbrev pub CountsWrites : {A : Type 0} → Result A SoloFault → ℕ → ℕ → Type 0
 CountsWrites (Ok x) before after = after ≡ before
 CountsWrites (Err fault.Read) before after = after ≡ before
-CountsWrites (Err fault.Write) before after = after ≡ before + 1
+CountsWrites (Err fault.Write) before after = after ≡ counted before
 CountsWrites (Err fault.Memory) before after = after ≡ before
+
+-- the calls of a reader before and after so many turns, each of one call
+abbrev pub CountsTurns : ℕ → ℕ → ℕ → Type 0
+CountsTurns turns old new = ((turns ≡ 0) × (new ≡ old)) ⊎ (new ≡ counted_by turns old)

@@ -1,4 +1,4 @@
-use Rattle.std.proofs.Common.{◌+◌, Some, sym, ap, ◌∙◌, arith, add-zero}
+use Rattle.std.proofs.Common.{Some, sym, ap, ◌∙◌, arith, add-zero}
 use Rattle.aud_hall.proofs.Parting.{on_by, ends_there}
 use Rattle.aud_hall.proofs.seat.first_difference.Goals as goal
 

@@ -1,4 +1,4 @@
-use Rattle.std.proofs.Common.{◌≡◌, ◌≤◌, length, drop}
+use Rattle.std.proofs.Common.{◌≡◌, drop}
 use Rattle.aud_hall.specs.CheckIns.{first_difference}
 use Rattle.aud_hall.proofs.Parting.{on_by}
 use Rattle.aud_hall.proofs.seat.first_difference.Given as goal

@@ -14,6 +14,6 @@ returns-clause-line c =
     let bytes = c.args.bytes.now in
     let found = c.in-Some.ensures in
     λ more.
-        lines_first bytes more end found.0.high found.0.before found.1
-        ∙ (ap (λ n. take end bytes ∷ lines_of (drop n bytes ++ more)) (sym (add-one end))
-        ∙ ap (λ rest. take end bytes ∷ lines_of (rest ++ more)) (sym (take_rest bytes (end + 1))))
+    lines_first bytes more end found.0.high found.0.before found.1
+    ∙ (ap (λ n. take end bytes ∷ lines_of (drop n bytes ++ more)) (sym (add-one end))
+    ∙ ap (λ rest. take end bytes ∷ lines_of (rest ++ more)) (sym (take_rest bytes (end + 1))))

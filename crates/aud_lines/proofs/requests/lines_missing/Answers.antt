@@ -1,5 +1,4 @@
 use Rattle.std.proofs.Common.{◌-◌, sym, ap, ◌∙◌, arith}
-use Rattle.aud_lines.specs.Requests.{Loads}
 use Rattle.aud_lines.specs.Ties.Asked.{asked}
 use Rattle.aud_lines.proofs.FeedLaws.{waits_one, waits_load}
 use Rattle.aud_lines.proofs.requests.lines_missing.Goals as goal

@@ -20,10 +20,10 @@ loop-preserved c =
     record {
       rest =
           λ more.
-              ap (λ s. gathered m s c.or-fault.result (requests_from (lines_of (behind ++ more)))) items
-              ∙ (ap (λ f. gathered m (source ++ (trimmed line ++ 10 ∷ [])) f (requests_from (lines_of (behind ++ more)))) fault
-              ∙ (sym (gathered_more n m source c.loop.fault (c.loop.rest.now ++ more) line (behind ++ more) (omega arith) (c.in-Some.ensures.line more))
-              ∙ c.loop.invariant.rest more));
+          ap (λ s. gathered m s c.or-fault.result (requests_from (lines_of (behind ++ more)))) items
+          ∙ (ap (λ f. gathered m (source ++ (trimmed line ++ 10 ∷ [])) f (requests_from (lines_of (behind ++ more)))) fault
+          ∙ (sym (gathered_more n m source c.loop.fault (c.loop.rest.now ++ more) line (behind ++ more) (omega arith) (c.in-Some.ensures.line more))
+          ∙ c.loop.invariant.rest more));
       shorter = omega (arith, c.in-Some.ensures.shorter);
     }
 
@@ -38,6 +38,6 @@ pub returns-clause-first : goal.returns-clause-first
 returns-clause-first c =
     let rest = c.loop.rest.now in
     λ more.
-        sym (c.loop.invariant.rest more)
-        ∙ (gathered_all (c.args.lines - c.loop.counter) c.loop.source.items c.loop.fault (rest ++ more) (omega arith)
-        ∙ ap (λ r. r ∷ requests (rest ++ more)) (sym c.load_of.ensures))
+    sym (c.loop.invariant.rest more)
+    ∙ (gathered_all (c.args.lines - c.loop.counter) c.loop.source.items c.loop.fault (rest ++ more) (omega arith)
+    ∙ ap (λ r. r ∷ requests (rest ++ more)) (sym c.load_of.ensures))

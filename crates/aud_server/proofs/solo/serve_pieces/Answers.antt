@@ -1,18 +1,45 @@
-use Rattle.std.proofs.Common.{rules, ◌≡◌, ◌+◌, ◌++◌, [], take, ap, sym, ◌∙◌, subst, append-nil, arith}
+use Rattle.std.proofs.Common.{rules, ◌≡◌, ◌+◌, ◌++◌, [], inl, inr, take, refl, ap, sym, ◌∙◌, subst, append-nil, arith}
+use Rattle.std.proofs.lemmas.List.{length-take}
 use Rattle.std.specs.Io.KnownBytes.{Consumes}
-use Rattle.aud_lines.specs.Feed.{Splits}
+use Rattle.aud_lines.specs.Ties.Splits.{Splits}
+use Rattle.aud_server.specs.declared.solo.TheConstants.{READS}
+use Rattle.aud_server.specs.Streams.{counted}
 use Rattle.aud_server.specs.Ties.Turns.{HasServed}
-use Rattle.aud_server.proofs.StreamLaws.{consumes_kept, consumes_more}
-use Rattle.aud_server.proofs.TurnLaws.{served_start, wrote_all, over_known, end_known, some_given, front_given, served_more, some_read}
+use Rattle.aud_server.proofs.StreamLaws.{consumes_kept, consumes_more, keeps_consumes, turn_counted, turns_counted}
+use Rattle.aud_server.proofs.TurnLaws.{served_start, start_no_quit, quit_behind, quit_here, quit_still_none, wrote_all, over_known, end_known, some_given, front_given, served_more, some_read}
 use Rattle.aud_server.proofs.solo.serve_pieces.Goals as goal
 
 pub loop-init : goal.loop-init
 loop-init g c = record {
   served = served_start (g.S.Source.remaining c.args.reader.now) (g.T.Sink.contents c.args.writer.now) c.args.feed.now c.args.session.now c.requires.feed c.requires.session.0 c.requires.session.1;
-  calls = omega arith;
+  over = c.requires.over;
+  no_quit = start_no_quit (g.S.Source.remaining c.args.reader.now) (g.T.Sink.contents c.args.writer.now) c.args.feed.now c.args.session.now c.requires.feed c.requires.session.0 c.requires.session.1;
+  calls = inl (refl, refl);
   read = search rules;
   written = search rules;
 }
+
+-- a turn's call is one of so many
+pub returns-in_default-clause-reads : goal.returns-in_default-clause-reads
+returns-in_default-clause-reads g c = (
+  c.loop.counter + 1,
+  omega arith,
+  turn_counted c.loop.counter (g.S.Source.calls c.args.reader.now) (g.S.Source.calls c.loop.reader) (g.S.Source.calls c.pull.new.self) c.loop.invariant.calls c.in_default.ensures.calls,
+)
+
+pub returns-in_default-clause-read : goal.returns-in_default-clause-read
+returns-in_default-clause-read g c = λ e. inl (c.in_default.ensures.failures ∙ ap counted c.loop.invariant.read)
+
+pub returns-clause-reads : goal.returns-clause-reads
+returns-clause-reads g c = (
+  READS,
+  omega arith,
+  turns_counted c.loop.counter READS (g.S.Source.calls c.args.reader.now) (g.S.Source.calls c.loop.reader) c.loop.invariant.calls (omega arith) (omega arith),
+)
+
+pub returns-clause-read : goal.returns-clause-read
+returns-clause-read g c =
+    λ e. inr (turns_counted c.loop.counter READS (g.S.Source.calls c.args.reader.now) (g.S.Source.calls c.loop.reader) c.loop.invariant.calls (omega arith) (omega arith))
 
 pub returns-in_default-clause-serves : goal.returns-in_default-clause-serves
 returns-in_default-clause-serves g c =
@@ -146,7 +173,70 @@ loop-preserved g c =
     let told = (c.in_ok-answer_each.ensures.tells before h.asked h.told).all in
     record {
       served = served_more left middle before now c.loop.feed c.loop.session h piece next given split rest new c.answer_each.new.session c.in-Ok.ensures.bytes.0 told;
-      calls = omega (arith, c.in-Ok.ensures.calls, c.loop.invariant.calls, c.requires.calls);
+      over = sym c.is_over.ensures ∙ c.if-is_over.false;
+      no_quit = quit_still_none c.loop.session.over c.answer_each.new.session.over h.asked given c.loop.invariant.over c.in_ok-answer_each.ensures.over (sym c.is_over.ensures ∙ c.if-is_over.false) c.loop.invariant.no_quit;
+      calls =
+          inr (turn_counted c.loop.counter (g.S.Source.calls c.args.reader.now) (g.S.Source.calls c.loop.reader) (g.S.Source.calls c.pull.new.self) c.loop.invariant.calls c.in-Ok.ensures.calls);
       read = c.in-Ok.ensures.failures ∙ c.loop.invariant.read;
       written = c.in_ok-answer_each.ensures.counts ∙ c.loop.invariant.written;
     }
+
+pub returns-then-count-eq0-clause-reads : goal.returns-then-count-eq0-clause-reads
+returns-then-count-eq0-clause-reads g c = (
+  c.loop.counter + 1,
+  omega arith,
+  turn_counted c.loop.counter (g.S.Source.calls c.args.reader.now) (g.S.Source.calls c.loop.reader) (g.S.Source.calls c.pull.new.self) c.loop.invariant.calls c.in-Ok.ensures.calls,
+)
+
+pub returns-in_err-requests-clause-reads : goal.returns-in_err-requests-clause-reads
+returns-in_err-requests-clause-reads g c = (
+  c.loop.counter + 1,
+  omega arith,
+  turn_counted c.loop.counter (g.S.Source.calls c.args.reader.now) (g.S.Source.calls c.loop.reader) (g.S.Source.calls c.pull.new.self) c.loop.invariant.calls c.in-Ok.ensures.calls,
+)
+
+pub returns-in_err-answer_each-clause-reads : goal.returns-in_err-answer_each-clause-reads
+returns-in_err-answer_each-clause-reads g c = (
+  c.loop.counter + 1,
+  omega arith,
+  turn_counted c.loop.counter (g.S.Source.calls c.args.reader.now) (g.S.Source.calls c.loop.reader) (g.S.Source.calls c.pull.new.self) c.loop.invariant.calls c.in-Ok.ensures.calls,
+)
+
+pub returns-then-is_over-clause-reads : goal.returns-then-is_over-clause-reads
+returns-then-is_over-clause-reads g c = (
+  c.loop.counter + 1,
+  omega arith,
+  turn_counted c.loop.counter (g.S.Source.calls c.args.reader.now) (g.S.Source.calls c.loop.reader) (g.S.Source.calls c.pull.new.self) c.loop.invariant.calls c.in-Ok.ensures.calls,
+)
+
+-- ---- what is read behind a QUIT
+
+pub returns-in_default-clause-quit : goal.returns-in_default-clause-quit
+returns-in_default-clause-quit g c =
+    quit_behind (g.S.Source.remaining c.args.reader.now) (g.S.Source.remaining c.loop.reader) (g.T.Sink.contents c.args.writer.now) (g.T.Sink.contents c.loop.writer) c.loop.feed c.loop.session c.loop.invariant.served
+    c.loop.invariant.no_quit (g.S.Source.remaining c.pull.new.self) []
+    (keeps_consumes (g.S.Source.remaining c.loop.reader) (g.S.Source.remaining c.pull.new.self) c.in_default.ensures.bytes) (omega arith)
+
+pub returns-clause-quit : goal.returns-clause-quit
+returns-clause-quit g c =
+    quit_here (g.S.Source.remaining c.args.reader.now) (g.S.Source.remaining c.loop.reader) (g.T.Sink.contents c.args.writer.now) (g.T.Sink.contents c.loop.writer) c.loop.feed c.loop.session c.loop.invariant.served c.loop.invariant.no_quit
+
+pub returns-then-count-eq0-clause-quit : goal.returns-then-count-eq0-clause-quit
+returns-then-count-eq0-clause-quit g c =
+    quit_behind (g.S.Source.remaining c.args.reader.now) (g.S.Source.remaining c.loop.reader) (g.T.Sink.contents c.args.writer.now) (g.T.Sink.contents c.loop.writer) c.loop.feed c.loop.session c.loop.invariant.served
+    c.loop.invariant.no_quit (g.S.Source.remaining c.pull.new.self) (take c.in-Ok.count c.pull.new.piece) c.in-Ok.ensures.bytes.0 (omega (arith, length-take c.in-Ok.count c.pull.new.piece))
+
+pub returns-in_err-requests-clause-quit : goal.returns-in_err-requests-clause-quit
+returns-in_err-requests-clause-quit g c =
+    quit_behind (g.S.Source.remaining c.args.reader.now) (g.S.Source.remaining c.loop.reader) (g.T.Sink.contents c.args.writer.now) (g.T.Sink.contents c.loop.writer) c.loop.feed c.loop.session c.loop.invariant.served
+    c.loop.invariant.no_quit (g.S.Source.remaining c.pull.new.self) (take c.in-Ok.count c.pull.new.piece) c.in-Ok.ensures.bytes.0 (omega (arith, length-take c.in-Ok.count c.pull.new.piece))
+
+pub returns-in_err-answer_each-clause-quit : goal.returns-in_err-answer_each-clause-quit
+returns-in_err-answer_each-clause-quit g c =
+    quit_behind (g.S.Source.remaining c.args.reader.now) (g.S.Source.remaining c.loop.reader) (g.T.Sink.contents c.args.writer.now) (g.T.Sink.contents c.loop.writer) c.loop.feed c.loop.session c.loop.invariant.served
+    c.loop.invariant.no_quit (g.S.Source.remaining c.pull.new.self) (take c.in-Ok.count c.pull.new.piece) c.in-Ok.ensures.bytes.0 (omega (arith, length-take c.in-Ok.count c.pull.new.piece))
+
+pub returns-then-is_over-clause-quit : goal.returns-then-is_over-clause-quit
+returns-then-is_over-clause-quit g c =
+    quit_behind (g.S.Source.remaining c.args.reader.now) (g.S.Source.remaining c.loop.reader) (g.T.Sink.contents c.args.writer.now) (g.T.Sink.contents c.loop.writer) c.loop.feed c.loop.session c.loop.invariant.served
+    c.loop.invariant.no_quit (g.S.Source.remaining c.pull.new.self) (take c.in-Ok.count c.pull.new.piece) c.in-Ok.ensures.bytes.0 (omega (arith, length-take c.in-Ok.count c.pull.new.piece))

@@ -1,5 +1,7 @@
-use Rattle.std.proofs.Common.{◌≡◌, ◌+◌, length}
-use Rattle.aud_server.specs.Ties.Turns.{HasServed}
+use Rattle.std.proofs.Common.{◌≡◌, false}
+use Rattle.std.specs.List.{list_any}
+use Rattle.aud_bench.specs.Alone.{is_quit}
+use Rattle.aud_server.specs.Ties.Turns.{HasServed, CountsTurns}
 use Rattle.aud_server.proofs.solo.serve_pieces.Given as goal
 
 abbrev pub invariant-loop : goal.invariant-loop
@@ -8,7 +10,9 @@ invariant-loop g l =
     let sink = g.T.Sink in
     record {
       served : HasServed (source.remaining l.fn.reader) (source.remaining l.reader) (sink.contents l.fn.writer) (sink.contents l.writer) l.feed l.session;
-      calls : source.calls l.reader ≡ source.calls l.fn.reader + l.counter;
+      over : l.session.over ≡ false;
+      no_quit : list_any is_quit served.asked ≡ false;
+      calls : CountsTurns l.counter (source.calls l.fn.reader) (source.calls l.reader);
       read : source.failures l.reader ≡ source.failures l.fn.reader;
       written : sink.failures l.writer ≡ sink.failures l.fn.writer;
     }

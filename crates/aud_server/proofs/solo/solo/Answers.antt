@@ -1,4 +1,4 @@
-use Rattle.std.proofs.Common.{rules, ◌≡◌, subst, IsErrOf}
+use Rattle.std.proofs.Common.{rules, IsErrOf}
 use Rattle.std.specs.Io.KnownBytes.{Appends}
 use Rattle.aud_server.specs.declared.solo.SoloFault.TheVariants as fault
 use Rattle.aud_server.specs.Solo.{answers_to}

@@ -1,4 +1,4 @@
-use Rattle.std.proofs.Common.{◌≡◌, take, drop, sym}
+use Rattle.std.proofs.Common.{take, drop, sym}
 use Rattle.std.proofs.lemmas.List.{take-append-drop}
 use Rattle.aud_server.proofs.StreamLaws.{kept_behind}
 use Rattle.aud_server.proofs.streams.write.Goals as goal

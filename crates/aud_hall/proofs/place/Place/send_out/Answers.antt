@@ -1,4 +1,4 @@
-use Rattle.aud_hall.proofs.Keeping.{right_there, sent_kept, gone_true}
+use Rattle.aud_hall.proofs.Keeping.{sent_kept, gone_true}
 use Rattle.aud_hall.proofs.place.Place.send_out.Goals as goal
 
 pub new-requires : goal.new-requires

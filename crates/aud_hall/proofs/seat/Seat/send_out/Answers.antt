@@ -1,5 +1,4 @@
-use Rattle.std.specs.Prelude.{nat_le, ◌||◌, MatchOption}
-use Rattle.std.proofs.Common.{◌≡◌, ◌-◌, ◌<◌, ◌++◌, List, length, drop, Option, Some, None, true, false, sym, ap, ◌∙◌, subst, arith}
+use Rattle.std.proofs.Common.{◌≡◌, ◌-◌, ◌<◌, ◌++◌, List, length, drop, Some, None, true, sym, ap, ◌∙◌, subst, arith}
 use Rattle.aud_bench.specs.declared.request.Answer.{Answer}
 use Rattle.aud_bench.specs.Seen.{Seen as Bench, answers_of}
 use Rattle.aud_hall.specs.Seats.{Seat, Sending, sent}
@@ -49,8 +48,8 @@ returns c =
     let end : List Answer → Bench → Sending = λ outbox x. record { seat = record { requests = s.requests; outbox = outbox; home = Some x }; gone = None } in (
       Some n,
       ap (sent (Some n)) (sym c.self.view_is) ∙ sent_cut s b home goes n less
-      ∙ ap (λ (x : Bench). end (s.outbox ++ drop (length s.outbox) (answers_of x)) (record x { taken = length (answers_of x) })) (sym closed)
-      ∙ ap (λ k. end (s.outbox ++ drop k (answers_of shut)) (record shut { taken = length (answers_of shut) })) known
-      ∙ ap (λ xs. end xs (record shut { taken = length (answers_of shut) })) (sym c.take_answers.ensures.items)
-      ∙ ap (end c.take_answers.new.into.items) (sym c.take_answers.ensures.bench),
+          ∙ ap (λ (x : Bench). end (s.outbox ++ drop (length s.outbox) (answers_of x)) (record x { taken = length (answers_of x) })) (sym closed)
+          ∙ ap (λ k. end (s.outbox ++ drop k (answers_of shut)) (record shut { taken = length (answers_of shut) })) known
+          ∙ ap (λ xs. end xs (record shut { taken = length (answers_of shut) })) (sym c.take_answers.ensures.items)
+          ∙ ap (end c.take_answers.new.into.items) (sym c.take_answers.ensures.bench),
     )

@@ -1,4 +1,4 @@
-use Rattle.std.proofs.Common.{◌≡◌, ◌+◌, [], ◌∷◌, length, length-append, true, false, sym, ap, ◌∙◌, arith}
+use Rattle.std.proofs.Common.{◌≡◌, [], ◌∷◌, length, length-append, true, false, sym, ap, ◌∙◌, arith}
 use Rattle.aud_bench.specs.Alone.{fits}
 use Rattle.aud_bench.specs.Size.{bytes_of}
 use Rattle.aud_bench.specs.Seen.{has_quit}

@@ -1,4 +1,4 @@
-use Rattle.std.proofs.Common.{◌≡◌, None, sym, ap, ◌∙◌, subst, length, arith}
+use Rattle.std.proofs.Common.{◌≡◌, None, sym, ap, subst, length, arith}
 use Rattle.aud_bench.specs.Seen.{Seen as Bench, answers_of}
 use Rattle.aud_hall.specs.Seats.{Seat}
 use Rattle.aud_hall.specs.Ties.Right.{IsTrue}

@@ -1,0 +1,21 @@
+use Rattle.std.specs.Prelude.{map}
+use Rattle.std.proofs.Common.{◌++◌, ◌∷◌, [], List, sym, subst}
+use Rattle.aud_hall.specs.declared.reply.Reply.{Reply as InMemory}
+use Rattle.aud_hall.specs.Ties.Calls.{plain_reply, IsRun}
+use Rattle.aud_hall.specs.Ties.Runs.{seen}
+use Rattle.aud_hall.proofs.Calls.{run_answers}
+use Rattle.aud_hall.proofs.Running.{run_more}
+use Rattle.aud_hall.proofs.run.world_run.Goals as goal
+
+pub loop-event-preserved : goal.loop-event-preserved
+loop-event-preserved c =
+    let limits = c.args.limits.items in
+    let calls = c.loop-event.yielded in
+    let event = c.in-Some.event in
+    let after = seen c.happen.new.hall c.happen.new.out.items in
+    subst (λ (xs : List InMemory). IsRun limits (calls ++ event ∷ []) after (map plain_reply xs)) (sym c.in_ok-push.ensures.items)
+    (run_more limits calls event (seen c.loop-event.hall c.loop-event.out.items) after c.loop-event.replies.items c.in_ok-reply.reply c.loop-event.invariant c.in_ok-reply.ensures)
+
+pub returns-clause-headline : goal.returns-clause-headline
+returns-clause-headline c =
+    run_answers c.args.limits.items c.loop-event.yielded (seen c.loop-event.hall c.loop-event.out.items) (map plain_reply c.loop-event.replies.items) c.loop-event.invariant
