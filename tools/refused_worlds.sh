@@ -1,6 +1,11 @@
 #!/bin/sh
-# Whether the rows of crates/aud_worlds end as they should where one allocation is refused: each in turn, until a run meets none.
-# `rt try` tells each run that faults or hangs, or that ends with status 0 and other answers; it stops after 2,000 runs.
+# Whether the rows of crates/aud_worlds end as they should where memory is refused once: each growth in turn.
+# It runs the program that `rt run` built last there, or the one that is named, and needs a C compiler.
 set -eu
-cd "$(dirname "$0")/../crates/aud_worlds"
-rt try --fail-alloc "${1:-1}.." -- --rows
+top=$(cd "$(dirname "$0")/.." && pwd)
+program=${1:-$top/crates/aud_worlds/out/aud_worlds}
+if [ ! -x "$program" ]; then
+    echo "refused_worlds: no program at $program; build it by: cd crates/aud_worlds && rt run" >&2
+    exit 2
+fi
+exec python3 "$top/tools/refused_worlds.py" "$program"

@@ -1,25 +1,19 @@
 // The arguments of the program.
 
 use crate::fault::Fault;
+use crate::speed::Measure;
 use clap::{Arg, ArgAction, ArgMatches, Command, Error};
 use std::alloc::Global;
 
 /// What the program is to do.
 #[derive(Clone, Copy, PartialEq, Eq, Debug)]
 pub enum Task {
-    /// Look at the rows and at the lists of random calls.
-    All,
+    /// Look at the rows, and at so many lists of random calls.
+    All { lists: u32 },
     Rows,
-    /// Work off so many steps at each seat; a slice of 0 has one bench do as many.
-    Work {
-        seats: usize,
-        steps: u32,
-        slice: u32,
-    },
+    Work(Measure),
     /// Leave so many seats idle.
-    Idle {
-        seats: usize,
-    },
+    Idle { seats: usize },
 }
 
 /// What the words of the command line ask for, the first of which is the program's own name.
@@ -40,6 +34,8 @@ fn command<'a>(alloc: Global) -> Result<Command<'a>, Error> {
     let command = command.arg(count(alloc, "seats"))?;
     let command = command.arg(number(alloc, "steps"))?;
     let command = command.arg(number(alloc, "slice"))?;
+    let command = command.arg(number(alloc, "before"))?;
+    let command = command.arg(number(alloc, "lists"))?;
     Ok(command.arg(count(alloc, "idle"))?)
 }
 
@@ -64,11 +60,18 @@ fn chosen(matches: &ArgMatches<'_>) -> Task {
         return Task::Idle { seats };
     }
     match matches.get_one::<usize>("seats") {
-        Some(seats) => Task::Work {
+        Some(seats) => Task::Work(Measure {
             seats,
-            steps: matches.get_one::<u32>("steps").unwrap_or(100_000),
-            slice: matches.get_one::<u32>("slice").unwrap_or(1_000),
+            before: number_or(matches, "before", 0),
+            steps: number_or(matches, "steps", 100_000),
+            slice: number_or(matches, "slice", 1_000),
+        }),
+        None => Task::All {
+            lists: number_or(matches, "lists", 1_000),
         },
-        None => Task::All,
     }
+}
+
+fn number_or(matches: &ArgMatches<'_>, name: &str, other: u32) -> u32 {
+    matches.get_one::<u32>(name).unwrap_or(other)
 }

@@ -16,8 +16,6 @@ use aud_hall::reply::Reply;
 use aud_text::limits::{Limits, STANDARD};
 use std::alloc::{AllocError, Global};
 
-const LISTS: u64 = 1_000;
-
 const CALLS: usize = 100;
 
 const LIMITS: [Limits; SEATS] = [STANDARD, STANDARD, STANDARD, LARGE];
@@ -31,18 +29,18 @@ struct RandomList {
     world: Plain,
 }
 
-/// Looks at all lists, and tells what the replies were.
+/// Looks at so many lists, and tells what the replies were.
 ///
 /// # Errors
 ///
 /// `Differs` where a reply or an outbox is another than it must be, which is told; `Memory` where memory is refused.
-pub fn look_at_lists(rt: &(impl Print + AllocGlobal)) -> Result<(), Fault> {
+pub fn look_at_lists(rt: &(impl Print + AllocGlobal), lists: u32) -> Result<(), Fault> {
     let mut tally = Tally::default();
-    for number in 0..LISTS {
-        let list = drawn(rt.alloc(), number)?;
+    for number in 0..lists {
+        let list = drawn(rt.alloc(), u64::from(number))?;
         look_at_list(rt, &list, &mut tally)?;
     }
-    tell(rt, &tally)
+    tell(rt, lists, &tally)
 }
 
 // The list of this number.
@@ -156,8 +154,8 @@ fn is_right(found: Option<Outbox>, session: Option<&Session>) -> bool {
     }
 }
 
-fn tell(rt: &impl Print, tally: &Tally) -> Result<(), Fault> {
-    println!(rt; "{LISTS} lists of {CALLS} calls: each reply that of a world in slow words")?;
+fn tell(rt: &impl Print, lists: u32, tally: &Tally) -> Result<(), Fault> {
+    println!(rt; "{lists} lists of {CALLS} calls: each reply that of a world in slow words")?;
     let Tally {
         accepted,
         refused,

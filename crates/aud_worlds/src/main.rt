@@ -23,7 +23,7 @@ use crate::fault::Fault;
 use crate::idle::stay_idle;
 use crate::lists::look_at_lists;
 use crate::rows::look_at_rows;
-use crate::speed::{work_alone, work_in_turns};
+use crate::speed::work_off;
 use std::env;
 use std::process::ExitCode;
 
@@ -41,21 +41,12 @@ fn main(rt: HostRuntime) -> ExitCode {
 fn run(rt: &HostRuntime) -> Result<(), Fault> {
     let words: Vec<String> = env::args(rt)?.collect(rt.alloc())?;
     match task_of(rt.alloc(), &words)? {
-        Task::All => {
+        Task::All { lists } => {
             look_at_rows(rt)?;
-            look_at_lists(rt)
+            look_at_lists(rt, lists)
         }
         Task::Rows => look_at_rows(rt),
-        Task::Work {
-            seats,
-            steps,
-            slice: 0,
-        } => work_alone(rt, (seats as u64).saturating_mul(u64::from(steps))),
-        Task::Work {
-            seats,
-            steps,
-            slice,
-        } => work_in_turns(rt, seats, steps, slice),
+        Task::Work(measure) => work_off(rt, measure),
         Task::Idle { seats } => stay_idle(rt, seats),
     }
 }

@@ -14,20 +14,29 @@ const RUNS: u64 = 10;
 // More requests than these are not made at a seat.
 const MOST: u64 = 4_000;
 
-/// Works off so many steps at each of the seats, in slices that go from seat to seat, and tells what was done.
+/// What is worked off: so many steps at each of the seats, behind so many requests that cost a unit each, in slices of so
+/// many units; with none, on one bench.
+#[derive(Clone, Copy, PartialEq, Eq, Debug)]
+pub struct Measure {
+    pub seats: usize,
+    pub before: u32,
+    pub steps: u32,
+    pub slice: u32,
+}
+
+/// Works that off, and tells what was done.
 ///
 /// # Errors
 ///
 /// `Memory` where memory is refused; what a call is refused for that must succeed.
-pub fn work_in_turns(
-    rt: &(impl Print + AllocGlobal),
-    seats: usize,
-    steps: u32,
-    slice: u32,
-) -> Result<(), Fault> {
+pub fn work_off(rt: &(impl Print + AllocGlobal), measure: Measure) -> Result<(), Fault> {
+    if measure.slice == 0 {
+        return work_alone(rt, measure);
+    }
+    let Measure { seats, slice, .. } = measure;
     let mut hall = hall(rt.alloc(), seats)?;
     for seat in 1..=seats {
-        open(rt.alloc(), &mut hall, seat, u64::from(steps))?;
+        open(rt.alloc(), &mut hall, seat, measure)?;
     }
     let units = work(rt.alloc(), &mut hall, seats, u64::from(slice))?;
     println!(rt; "{seats} seats, {units} units in slices of {slice}")?;
@@ -44,9 +53,12 @@ pub fn hall(alloc: Global, seats: usize) -> Result<Hall, AllocError> {
 }
 
 // Claims a seat, and asks for so many steps of a program that loops.
-fn open(alloc: Global, hall: &mut Hall, seat: usize, steps: u64) -> Result<(), Fault> {
+fn open(alloc: Global, hall: &mut Hall, seat: usize, measure: Measure) -> Result<(), Fault> {
     hall.claim(alloc, seat)?;
-    for request in requests(alloc, steps)? {
+    for _ in 0..measure.before {
+        hall.submit(seat, Request::Output)?;
+    }
+    for request in requests(alloc, u64::from(measure.steps))? {
         hall.submit(seat, request)?;
     }
     Ok(())
@@ -105,14 +117,14 @@ pub fn turn(alloc: Global, hall: &mut Hall, seat: usize, slice: u64) -> Result<u
     }
 }
 
-/// Works off so many steps on one bench, a request at a time, and tells what was done.
-///
-/// # Errors
-///
-/// `Memory` where memory is refused.
-pub fn work_alone(rt: &(impl Print + AllocGlobal), steps: u64) -> Result<(), Fault> {
+// Works the steps of all seats off on one bench, a request at a time.
+fn work_alone(rt: &(impl Print + AllocGlobal), measure: Measure) -> Result<(), Fault> {
+    let steps = (measure.seats as u64).saturating_mul(u64::from(measure.steps));
     let mut bench = Bench::new(rt.alloc(), STANDARD)?;
     let mut units = 0u64;
+    for _ in 0..measure.before {
+        units = units.saturating_add(serve(rt.alloc(), &mut bench, Request::Output)?);
+    }
     for request in requests(rt.alloc(), steps)? {
         units = units.saturating_add(serve(rt.alloc(), &mut bench, request)?);
     }

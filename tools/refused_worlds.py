@@ -1,0 +1,39 @@
+"""Runs the rows of a hall many times, and refuses memory once, each growth in turn.
+
+The program itself looks at each world that came back: its outboxes must be fronts of the private server's answers, the last one that
+memory is out at most. It ends with status 4 then, and says nothing on standard output before its rows are done.
+usage: refused_worlds.py PROGRAM
+"""
+import subprocess
+import sys
+import tempfile
+from concurrent.futures import ThreadPoolExecutor
+
+from calls import counted, library, surroundings
+
+REFUSED = (4, b"aud_worlds: out of memory\n", b"")
+
+
+def run(built, words, number):
+    around = surroundings(built, FAILS_GROWTH=number)
+    done = subprocess.run(words, stdin=subprocess.DEVNULL, capture_output=True, env=around, timeout=60, check=False)
+    return done.returncode, done.stderr, done.stdout
+
+
+def main(program):
+    words, others, unneeded = [program, "--rows"], 0, 0
+    with tempfile.TemporaryDirectory() as folder, ThreadPoolExecutor(2) as runs:
+        built = library(folder)
+        (count, _, _), written = counted(built, words, b"")
+        numbers = range(1, count + 1)
+        for number, found in zip(numbers, runs.map(lambda number: run(built, words, number), numbers)):
+            unneeded += found == (0, b"", written)
+            if found not in (REFUSED, (0, b"", written)):
+                others += 1
+                print(f"refused: growth {number} fails: status {found[0]}, {found[1]!r}, {found[2]!r}")
+    print(f"refused: {count} growths, {unneeded} of which are not needed, {others} end otherwise")
+    return 1 if others else 0
+
+
+if __name__ == "__main__":
+    sys.exit(main(*sys.argv[1:]))
