@@ -2,8 +2,8 @@
 
 use crate::tests::finds;
 use aud_bench::request::{Answer, Raised, Report};
-use aud_meaning::state::State;
 use aud_lines::answers::answer_text;
+use aud_meaning::state::State;
 use aud_text::name::Name;
 use aud_text::place::Pos;
 use aud_text::raise::Raise;

@@ -21,7 +21,8 @@ impl Read for Counted<'_> {
         let count = 1.min(self.rest.len()).min(buf.len());
         buf[..count].copy_from_slice(&self.rest[..count]);
         self.rest = &self.rest[count..];
-        self.given.set(self.given.get().saturating_add(count as u64));
+        self.given
+            .set(self.given.get().saturating_add(count as u64));
         Ok(count)
     }
 }
@@ -47,8 +48,7 @@ impl Write for Noted<'_> {
 }
 
 // A LOAD of 41 bytes, RUNs of 7 and 6, a QUIT of 5, and a request that is not read.
-const SENT: &[u8] =
-    b"LOAD 1\nprocedure M is begin null; end M;\nRUN 10\nRUN x\nQUIT\nOUTPUT\n";
+const SENT: &[u8] = b"LOAD 1\nprocedure M is begin null; end M;\nRUN 10\nRUN x\nQUIT\nOUTPUT\n";
 
 const WRITTEN: &[u8] = b"+ 1\nloaded M\n+ 1\nran 3 ended\n- E11 bad argument\n+ 0\n";
 
@@ -70,8 +70,7 @@ fn answers_before_it_reads_on(rt: HostRuntime) -> Result<(), AllocError> {
     });
     let ended = solo(rt.alloc(), &mut reader, &mut writer);
     assert_eq!(rt; ended, Ok(()));
-    let wanted =
-        b"41: + 1\nloaded M\n48: + 1\nran 3 ended\n54: - E11 bad argument\n59: + 0\n";
+    let wanted = b"41: + 1\nloaded M\n48: + 1\nran 3 ended\n54: - E11 bad argument\n59: + 0\n";
     finds(&rt, "answers", &written, wanted);
     assert_eq!(rt; given.get(), 59);
     Ok(())
@@ -104,12 +103,7 @@ struct Calls {
 }
 
 // What is written where these calls fail, and how the session ends.
-fn ends(
-    rt: &impl Abort,
-    alloc: Global,
-    calls: Calls,
-    wanted: (&[u8], Result<(), SoloFault>),
-) {
+fn ends(rt: &impl Abort, alloc: Global, calls: Calls, wanted: (&[u8], Result<(), SoloFault>)) {
     let Calls { read, write, most } = calls;
     let given = Cell::new(0);
     let mut written = Vec::new(alloc);
@@ -128,7 +122,12 @@ fn ends(
     finds(rt, "answers", &written, wanted.0);
 }
 
-fn fails_to_read(rt: &impl Abort, alloc: Global, read: u64, wanted: (&[u8], Result<(), SoloFault>)) {
+fn fails_to_read(
+    rt: &impl Abort,
+    alloc: Global,
+    read: u64,
+    wanted: (&[u8], Result<(), SoloFault>),
+) {
     let calls = Calls {
         read,
         write: 0,

@@ -79,7 +79,10 @@ fn tells_write_faults(rt: HostRuntime) {
     assert_eq!(rt; writes_to(rt.alloc(), Full), Err(SoloFault::Write));
     assert_eq!(rt; writes_to(rt.alloc(), Idle), Err(SoloFault::Write));
     let mut written = Vec::new(rt.alloc());
-    assert_eq!(rt; writes_to(rt.alloc(), Kept(&mut written)), Err(SoloFault::Write));
+    assert_eq!(rt;
+        writes_to(rt.alloc(), Kept(&mut written)),
+        Err(SoloFault::Write)
+    );
     finds(&rt, "the first answer", &written, b"- E14 no program\n");
 }
 
