@@ -249,9 +249,9 @@ impl Bench {
         add(&mut self.answers, Answer::Refused(Refusal::OutOfMemory));
     }
 
-    /// Takes out all answers, those from this one on behind others, for which there has to be room. It is counted from 0 over
-    /// all answers that the bench ever made, and none that it still holds was taken out before; those before it are dropped.
-    /// This takes no memory.
+    /// Takes out all answers: those from this number on are moved behind others, for which there has to be room, and those
+    /// before it are dropped. Numbers count from 0 over all answers that the bench ever made, and this one is no less than how
+    /// many were taken out before. This takes no memory.
     pub fn take_answers(&mut self, into: &mut Vec<Answer>, from: usize)
         requires held { self.old.taken ≤ from }
         requires room { vec_len into.old + (length (answers_of self.old) - from)
