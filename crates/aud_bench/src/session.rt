@@ -53,12 +53,8 @@ impl Session {
         }
     }
 
-    /// Answers a request; nothing where the session is over. A request that does not fit the journal is answered so, and is
-    /// not kept.
-    ///
-    /// # Errors
-    ///
-    /// Where memory is refused. Then the session is over, and nothing more is answered.
+    /// Answers a request; nothing where a QUIT was answered before. A request that does not fit the journal is answered so,
+    /// and is not kept. Where memory is refused the session is over: it answers nothing more.
     pub fn answer(&mut self, alloc: Global, request: &Request) -> Result<Option<Answer>, AllocError>
         ensures limits { self.new.limits ≡ self.old.limits }
         ensures answer { IfOk result (λ given. (asked : List Request) → HasAnswered asked self.old →
