@@ -1,8 +1,10 @@
 // Readers and writers that count their calls.
 
-ghost use Rattle.std.specs.Prelude.{◌≡◌, ℕ, ◌<◌, ◌≤◌, List, Option, length, take, IfOk, MatchResult};
+ghost use Rattle.std.specs.Prelude.{◌≡◌, ◌≢◌, ◌↔◌, ℕ, ◌-◌, ◌<◌, ◌≤◌, List, Option, Some, length, take, IsTrue, IfOk, SomeIff, MatchResult};
+ghost use Rattle.std.specs.Io.{ReadsAtMost, WritesAtMost};
 ghost use Rattle.std.specs.Io.KnownBytes.{Appends, Keeps, ReadConsumes, WriteAppends};
-ghost use Rattle.aud_server.specs.Streams.{counted, calls_before, Fails, AppendsFront};
+ghost use Rattle.aud_server.specs.Streams.{counted, AppendsFront};
+ghost use Rattle.aud_server.specs.Ties.Fuses.{IsOneCallOn};
 
 use std::io::{self, ErrorKind, Read, Write};
 
@@ -176,7 +178,7 @@ impl<S> Fused<S> {
     /// writer, whose `flush` is not counted.
     pub fn new(inner: S, call: u64) -> Fused<S>
         ensures inner { result.inner ≡ inner }
-        ensures before { result.before ≡ calls_before call }
+        ensures before { SomeIff result.before (1 ≤ call) (call - 1) }
     {
         Fused {
             inner,
@@ -187,7 +189,8 @@ impl<S> Fused<S> {
     // Whether this call is the one that fails.
     fn fails(&mut self) -> bool
         ensures inner { self.new.inner ≡ self.old.inner }
-        ensures fails { Fails result self.old.before self.new.before }
+        ensures fails { IsTrue result ↔ (self.old.before ≡ Some 0) }
+        ensures before { IsOneCallOn self.old.before self.new.before }
     {
         match self.before {
             None => false,
@@ -206,7 +209,13 @@ impl<S> Fused<S> {
 impl<R: Read> Read for Fused<R> {
     ghost remaining = { λ s. R.remaining s.inner };
 
-    fn read(&mut self, buf: &mut [u8]) -> io::Result<usize> {
+    fn read(&mut self, buf: &mut [u8]) -> io::Result<usize>
+        ensures bound { ReadsAtMost result buf.new }
+        ensures bytes { ReadConsumes (R.remaining self.old.inner) (R.remaining self.new.inner)
+            result buf.new }
+        ensures fails { IfOk result (λ _. self.old.before ≢ Some 0) }
+        ensures before { IsOneCallOn self.old.before self.new.before }
+    {
         if self.fails() {
             return Err(io::Error::from(ErrorKind::ConnectionReset));
         }
@@ -217,14 +226,23 @@ impl<R: Read> Read for Fused<R> {
 impl<W: Write> Write for Fused<W> {
     ghost contents = { λ s. W.contents s.inner };
 
-    fn write(&mut self, buf: &[u8]) -> io::Result<usize> {
+    fn write(&mut self, buf: &[u8]) -> io::Result<usize>
+        ensures bound { WritesAtMost result buf.now }
+        ensures bytes { WriteAppends (W.contents self.old.inner) (W.contents self.new.inner)
+            result buf.now }
+        ensures fails { IfOk result (λ _. self.old.before ≢ Some 0) }
+        ensures before { IsOneCallOn self.old.before self.new.before }
+    {
         if self.fails() {
             return Err(io::Error::from(ErrorKind::StorageFull));
         }
         self.inner.write(buf)
     }
 
-    fn flush(&mut self) -> io::Result<()> {
+    fn flush(&mut self) -> io::Result<()>
+        ensures bytes { Keeps (W.contents self.old.inner) (W.contents self.new.inner) }
+        ensures before { self.new.before ≡ self.old.before }
+    {
         self.inner.flush()
     }
 }
