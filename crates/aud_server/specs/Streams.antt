@@ -1,5 +1,5 @@
 -- What readers and writers tell of their calls.
-use Rattle.std.specs.Prelude.{◌≡◌, ℕ, zero, suc, ◌+◌, ◌≤◌, ◌%◌, ◌^◌, Bool, true, false, List, ◌++◌, Option, Some, None}
+use Rattle.std.specs.Prelude.{◌≡◌, ℕ, ◌+◌, ◌≤◌, ◌%◌, ◌^◌, List, ◌++◌, Option}
 use Rattle.std.specs.Io.KnownBytes.{Appends}
 
 -- A count behind n calls more. It has 64 bits: behind the largest number it begins again at 0.
@@ -17,14 +17,3 @@ CountsUpTo most old new = (n : ℕ) × (n ≤ most) × (new ≡ counted_by n old
 -- a front of the bytes is written
 abbrev pub AppendsFront : Option (List ℕ) → Option (List ℕ) → List ℕ → Type 0
 AppendsFront old new bytes = (some rest : List ℕ) × Appends old new some × (bytes ≡ some ++ rest)
-
--- the calls before the one of a number that is to fail; of number 0 there is none
-abbrev pub calls_before : ℕ → Option ℕ
-calls_before zero = None
-calls_before (suc n) = Some n
-
--- whether a call fails, by the calls before the one that is to fail, and those that are left before it then
-abbrev pub Fails : Bool → Option ℕ → Option ℕ → Type 0
-Fails failed None after = (failed ≡ false) × (after ≡ None)
-Fails failed (Some zero) after = (failed ≡ true) × (after ≡ None)
-Fails failed (Some (suc n)) after = (failed ≡ false) × (after ≡ Some n)
