@@ -8,7 +8,7 @@ use Rattle.aud_bench.specs.Size.{line_count}
 use Rattle.aud_lines.specs.Ties.Splits.{Splits}
 use Rattle.aud_lines.specs.Lines.{onto_line, lines_of, trimmed}
 use Rattle.aud_lines.specs.Requests.{Loads, command, line_fault, Ready, first_fault, gathered, requests_from, requests}
-use Rattle.aud_lines.specs.Pieces.{Piece, all_bytes, all_given, Feeds, PiecesLaw}
+use Rattle.aud_lines.specs.Ties.Pieces.{Piece, all_bytes, all_given, Feeds, PiecesLaw}
 use Rattle.aud_lines.specs.Ties.Waits.{Waits}
 use Rattle.aud_lines.proofs.LineLaws.{lines_counted, count_more}
 use Rattle.aud_lines.proofs.RequestLaws.{requests_first}

@@ -1,4 +1,5 @@
 pub mod Adds
 pub mod Asked
+pub mod Pieces
 pub mod Splits
 pub mod Waits
