@@ -5,10 +5,11 @@ use Rattle.aud_text.specs.declared.limits.Limits.{Limits}
 use Rattle.aud_hall.specs.declared.event.Event.{Event as Call}
 use Rattle.aud_hall.specs.Replies.{Reply, Then}
 use Rattle.aud_hall.specs.World.{World, Event, happens, after_all, replies_to, beginning}
-use Rattle.aud_hall.specs.Headline.{AnswersAlone}
+use Rattle.aud_hall.specs.Headline.{AnswersAlone, now_is}
 use Rattle.aud_hall.specs.Ties.Calls.{Told, call_of, told_by, IsRun}
 use Rattle.aud_hall.specs.Why.Laws.{OfEachSeat}
-use Rattle.aud_hall.proofs.Isolation.{isolation_law}
+use Rattle.aud_hall.specs.Why.Runs.{KeepsApart, RunLaw}
+use Rattle.aud_hall.proofs.Isolation.{isolation_law, headline_law, session_law, two_worlds_law}
 
 pub none_run : (limits : List Limits) → IsRun limits [] (beginning limits) []
 none_run limits = record { events = []; calls_are = refl; world_is = refl; replies_are = refl }
@@ -40,3 +41,14 @@ one_call limits calls w replies e after reply run is = record {
 -- the answers at each seat are those of a private server
 pub run_answers : (limits : List Limits) (calls : List Call) (w : World) (replies : List Told) → IsRun limits calls w replies → OfEachSeat (λ l s. AnswersAlone l s.requests s) w.hall
 run_answers limits calls w replies run = subst (λ v. OfEachSeat (λ l s. AnswersAlone l s.requests s) v.hall) run.world_is (isolation_law limits run.events)
+
+keeps_apart : (limits : List Limits) (events : List Event) → KeepsApart limits events (now_is limits events)
+keeps_apart limits events = record {
+  headline = headline_law limits events;
+  session_is = session_law limits events;
+  two_worlds = λ limits' events'. two_worlds_law limits limits' events events';
+}
+
+-- no user is felt by another
+pub run_law : RunLaw
+run_law limits calls w replies run = subst (KeepsApart limits run.events) run.world_is (keeps_apart limits run.events)

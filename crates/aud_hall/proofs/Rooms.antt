@@ -1,8 +1,10 @@
 -- There is room in the outbox for the answers that a bench brings.
 use Rattle.std.specs.Prelude.{nat_le, ◌||◌, if◌then◌else◌}
-use Rattle.std.proofs.Common.{◌≡◌, ℕ, ◌+◌, ◌-◌, ◌<◌, ◌≤◌, length, drop, Some, None, Bool, true, false, refl, ap, ◌∙◌, subst, arith, length-append, length-drop}
+use Rattle.std.proofs.Common.{◌≡◌, ℕ, ◌+◌, ◌-◌, ◌<◌, ◌≤◌, ◌++◌, length, drop, Some, None, Bool, true, false, refl, ap, ◌∙◌, subst, sym, arith, length-append, length-drop, take-append-drop}
 use Rattle.std.proofs.Math.Logic.{∥∥₁_elim}
+use Rattle.std.specs.Coded.{Coded-set, coded_bool}
 use native.Mathlib.Bridge.{le_prop}
+use Rattle.aud_bench.specs.Ties.Kept.{is_kept}
 use Rattle.aud_bench.specs.Seen.{Seen as Bench, answers_of}
 use Rattle.aud_bench.proofs.Made.{made_within}
 use Rattle.aud_bench.proofs.Sameness.{same_limits_self}
@@ -58,3 +60,11 @@ room_in b s t w =
     let long : length b.journal ≤ length s.requests = omega (arith, ap length w.front.1, length-append b.journal w.front.0) in
     let known : length s.outbox ≤ length b.journal = omega (arith, w.ahead, made_within b.limits b.journal b.units) in
     omega (arith, few_answers b t, long, known)
+
+-- what a bench at home is to be given is kept
+pub kept_home : (s : Seat) (b : Bench) → s.home ≡ Some b → IsRightThere s → is_kept (b.journal ++ drop (length b.journal) s.requests) ≡ true
+kept_home s b home there =
+    ∥∥₁_elim there.1 (Coded-set coded_bool (is_kept (b.journal ++ drop (length b.journal) s.requests)) true)
+    (λ r.
+    let h : IsHome there.0 s b = subst (IsMade there.0 s) home r.bench in
+    ap is_kept (ap (λ rs. rs ++ drop (length b.journal) s.requests) (sym h.front) ∙ take-append-drop (length b.journal) s.requests) ∙ r.kept)

@@ -1,2 +1,3 @@
 pub mod Laws
 pub mod Rows
+pub mod Runs

@@ -3,6 +3,7 @@
 ghost use Rattle.aud_hall.specs.Headline.{HeadlineLaw, EverySeatLaw, SliceLaw, SessionLaw, TwoWorldsLaw, AmpleLaw};
 ghost use Rattle.aud_hall.specs.Why.Laws.{WorldLaw, IsolationLaw, IdleLaw, TellsIdleLaw, AwaitedLaw, RoomLaw, OthersLaw, RefusalLaw};
 ghost use Rattle.aud_hall.specs.Why.Rows.{Rows};
+ghost use Rattle.aud_hall.specs.Why.Runs.{RunLaw};
 
 pub use crate::run::world_run;
 
@@ -77,6 +78,11 @@ pub fn others_law()
 /// A call that is refused changes nothing.
 pub fn refusal_law()
     ensures { RefusalLaw }
+{}
+
+/// Whatever calls are made, in the world that they come to no user is felt by another.
+pub fn run_law()
+    ensures { RunLaw }
 {}
 
 /// What a hall replies to some lists of events.

@@ -4,6 +4,7 @@ ghost use Rattle.std.specs.Prelude.{◌≡◌, ℕ, ◌-◌, ◌<◌, ◌++◌, 
 ghost use Rattle.aud_bench.specs.Alone.{fits};
 ghost use Rattle.aud_bench.specs.Seen.{has_quit};
 ghost use Rattle.aud_bench.specs.Size.{bytes_of};
+ghost use Rattle.aud_bench.specs.Ties.Kept.{is_kept};
 ghost use Rattle.aud_hall.specs.Slices.{answered, given};
 ghost use Rattle.aud_hall.specs.Seats.{claimed, stored, submitted, has_closed, taken_in, sent, collected};
 ghost use Rattle.aud_hall.specs.CheckIns.{first_difference, not_awaited, or_differs, next};
@@ -16,7 +17,7 @@ use crate::fault::HallFault;
 use crate::next::Next;
 use crate::parcel::Parcel;
 use crate::why::Why;
-use aud_bench::bench::Bench;
+use aud_bench::bench::{Bench, GiveFault};
 use aud_bench::journal::{fits, is_quit, size};
 use aud_bench::request::{Answer, Request};
 use aud_text::limits::Limits;
@@ -245,10 +246,12 @@ fn first_difference(journal: &[Request], requests: &[Request]) -> Option<usize>
     None
 }
 
-// Gives the requests that are not yet given, and tells whether all are. Since they fit behind one another, nothing but want of
+// Gives the requests that are not yet given, and tells whether all are. They fit behind one another, so nothing but want of
 // memory keeps one back.
 fn give_rest(alloc: Global, bench: &mut Bench, requests: &[Request]) -> bool
-    requires { bench.old.spent ≡ false }
+    requires open { bench.old.spent ≡ false }
+    requires kept { is_kept (bench.old.journal
+        ++ drop (length bench.old.journal) requests.now) ≡ true }
     ensures all { result ≡ true → bench.new ≡ given requests.now None bench.old }
     ensures cut { result ≡ false → (n : ℕ)
         × (n < length requests.now - length bench.old.journal)
@@ -263,7 +266,9 @@ fn give_rest(alloc: Global, bench: &mut Bench, requests: &[Request]) -> bool
         };
         match bench.give(request) {
             Ok(()) => next += 1,
-            Err(_) => return false,
+            Err(GiveFault::Memory) => return false,
+            Err(GiveFault::Full) => unreachable!(),
+            Err(GiveFault::Closed) => unreachable!(),
         }
     }
     true

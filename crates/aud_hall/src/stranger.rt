@@ -2,11 +2,12 @@
 
 use crate::parcel::Parcel;
 use crate::why::Why;
-use std::error::Error;
 use std::fmt;
+use thiserror::Error;
 
 /// A parcel that a seat does not take in, and why. Nothing has changed then.
-#[derive(Drop)]
+#[derive(Drop, Error)]
+#[error("{why}")]
 pub struct Stranger {
     pub parcel: Parcel,
     pub why: Why,
@@ -18,12 +19,3 @@ impl fmt::Debug for Stranger {
         write!(f, "Stranger({why:?})")
     }
 }
-
-impl fmt::Display for Stranger {
-    fn fmt<W: fmt::Write>(&self, f: &mut fmt::Formatter<W>) -> fmt::Result {
-        let why = self.why;
-        write!(f, "{why}")
-    }
-}
-
-impl Error for Stranger {}

@@ -1,11 +1,21 @@
 use Rattle.std.proofs.Common.{◌≡◌, ◌-◌, ◌<◌, ◌++◌, List, length, drop, Some, None, true, sym, ap, ◌∙◌, subst, arith}
+use Rattle.aud_bench.specs.declared.request.Request.{Request}
 use Rattle.aud_bench.specs.declared.request.Answer.{Answer}
+use Rattle.aud_bench.specs.Ties.Kept.{is_kept}
 use Rattle.aud_bench.specs.Seen.{Seen as Bench, answers_of}
 use Rattle.aud_hall.specs.Seats.{Seat, Sending, sent}
 use Rattle.aud_hall.specs.Ties.Places.{IsRightThere}
 use Rattle.aud_hall.proofs.Giving.{given_cut, sent_cut, goes_out}
-use Rattle.aud_hall.proofs.Rooms.{held_home, room_home}
+use Rattle.aud_hall.proofs.Rooms.{held_home, kept_home, room_home}
 use Rattle.aud_hall.proofs.seat.Seat.send_out.Goals as goal
+
+pub give_rest-requires-clause-kept : goal.give_rest-requires-clause-kept
+give_rest-requires-clause-kept c =
+    let s : Seat = record { requests = c.self.inside.requests.items; outbox = c.self.inside.outbox.items; home = c.self.inside.home } in
+    let b : Bench = c.in-Some.bench in
+    let home : s.home ≡ Some b = sym c.take.ensures.value ∙ c.in-Some.is in
+    let there : IsRightThere s = subst IsRightThere (sym c.self.view_is) c.requires in
+    ap (λ (rs : List Request). is_kept (b.journal ++ drop (length b.journal) rs)) c.deref.ensures.value ∙ kept_home s b home there
 
 pub take_answers-requires-clause-held : goal.take_answers-requires-clause-held
 take_answers-requires-clause-held c =
