@@ -526,13 +526,14 @@ def loads_beside(program, others):
         print(f"    {name:23}{median(seconds) * 1e3:8.2f} ms{beside}")
 
 
-def of_hall(worlds, slice_units):
-    """The seconds that the steps of all seats take, in slices of so many units; with none, on one bench."""
-    words = [worlds, "--seats", str(SEATS), "--slice", str(slice_units), "--steps"]
+def of_hall(worlds, slice_units, before):
+    """The seconds that the steps of all seats take, in slices of so many units, behind so many other requests at each; with no units, on one bench."""
+    words = [worlds, "--seats", str(SEATS), "--slice", str(slice_units), "--before", str(before), "--steps"]
     alone, _ = measure([*words, "1"])
     whole, wrote = measure([*words, str(SEAT_STEPS)])
-    loads = SEATS * (-(-SEAT_STEPS // 1_000_000) if slice_units else SEAT_STEPS / 1_000_000)
-    if f" {SEATS * SEAT_STEPS + int(loads)} units" not in wrote.decode():
+    steps = SEATS * SEAT_STEPS
+    wanted = SEATS * (before + 1) + steps if slice_units else before + steps // 1_000_000 + steps
+    if f" {wanted} units" not in wrote.decode():
         sys.exit(f"benchmark: the hall said '{wrote.decode().strip()}'")
     return whole - alone
 
@@ -551,16 +552,18 @@ def resident(worlds, seats):
 
 def halls(worlds):
     print(f"A hall of {SEATS} seats, {SEAT_STEPS:,} steps at each, by one thread; steps a second:")
-    slices = (0, 1_000, 100)
-    times = {units: [] for units in slices}
+    shapes = [(0, 0), (1_000, 0), (100, 0), (1_000, 1_000), (1_000, 4_000)]
+    times = {shape: [] for shape in shapes}
     for _ in range(TIMES):
-        for units in slices:
-            times[units].append(of_hall(worlds, units))
-    speed = {units: SEATS * SEAT_STEPS / median(times[units]) for units in slices}
-    for units in slices:
-        name = f"in slices of {units:,}" if units else "as many on one bench"
-        beside = f"   {speed[units] / speed[0]:.2f} of one bench" if units else ""
-        print(f"    {name:23}{fast(speed[units])}{beside}")
+        for shape in shapes:
+            times[shape].append(of_hall(worlds, *shape))
+    speed = {shape: SEATS * SEAT_STEPS / median(seconds) for shape, seconds in times.items()}
+    for slice_units, before in shapes:
+        name = f"in slices of {slice_units:,}" if slice_units else "as many on one bench"
+        name += f", behind {before:,} requests" if before else ""
+        each = speed[slice_units, before]
+        beside = f"   {each / speed[0, 0]:.2f} of one bench" if slice_units else ""
+        print(f"    {name:43}{fast(each)}{beside}")
     one, all_of = (median(resident(worlds, seats) for _ in range(TIMES)) for seats in (1, SEATS))
     print(f"An idle seat takes {(all_of - one) / (SEATS - 1) / 1024:.1f} KiB")
 
