@@ -15,7 +15,7 @@ pub record IsSlice (units : ℕ) (b after : Bench) (d : ℕ) : Type 0 where
   pub exact : after.spent ≡ false → d ≡ lesser units b
   pub cut : b.spent ≡ false → after.spent ≡ true → d < lesser units b
 
-same_bench : (x y : Bench) → x.limits ≡ y.limits → x.journal ≡ y.journal → x.units ≡ y.units → x.taken ≡ y.taken → x.spent ≡ y.spent → x ≡ y
+pub same_bench : (x y : Bench) → x.limits ≡ y.limits → x.journal ≡ y.journal → x.units ≡ y.units → x.taken ≡ y.taken → x.spent ≡ y.spent → x ≡ y
 same_bench x y l j u t c =
     ap (λ v. record { limits = v; journal = x.journal; units = x.units; taken = x.taken; spent = x.spent }) l
     ∙ ap (λ v. record { limits = y.limits; journal = v; units = x.units; taken = x.taken; spent = x.spent }) j

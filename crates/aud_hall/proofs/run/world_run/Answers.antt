@@ -3,7 +3,7 @@ use Rattle.std.proofs.Common.{◌++◌, ◌∷◌, [], List, sym, subst}
 use Rattle.aud_hall.specs.declared.reply.Reply.{Reply as InMemory}
 use Rattle.aud_hall.specs.Ties.Calls.{plain_reply, IsRun}
 use Rattle.aud_hall.specs.Ties.Runs.{seen}
-use Rattle.aud_hall.proofs.Calls.{run_answers}
+use Rattle.aud_hall.proofs.Calls.{run_answers, run_law}
 use Rattle.aud_hall.proofs.Running.{run_more}
 use Rattle.aud_hall.proofs.run.world_run.Goals as goal
 
@@ -15,6 +15,11 @@ loop-event-preserved c =
     let after = seen c.happen.new.hall c.happen.new.out.items in
     subst (λ (xs : List InMemory). IsRun limits (calls ++ event ∷ []) after (map plain_reply xs)) (sym c.in_ok-push.ensures.items)
     (run_more limits calls event (seen c.loop-event.hall c.loop-event.out.items) after c.loop-event.replies.items c.in_ok-reply.reply c.loop-event.invariant c.in_ok-reply.ensures)
+
+pub returns-clause-apart : goal.returns-clause-apart
+returns-clause-apart c =
+    let run = c.loop-event.invariant in
+    (run, run_law c.args.limits.items c.loop-event.yielded (seen c.loop-event.hall c.loop-event.out.items) (map plain_reply c.loop-event.replies.items) run)
 
 pub returns-clause-headline : goal.returns-clause-headline
 returns-clause-headline c =
