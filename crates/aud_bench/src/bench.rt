@@ -144,8 +144,8 @@ impl Bench {
         self.journal.as_slice()
     }
 
-    /// The answers made and not yet taken out. There is one for each of the first requests: those that the units of work
-    /// come to. Where memory is refused, the last one says so.
+    /// Those made and not yet taken out, in their order. One is made for each of the first requests: those that the units of
+    /// work come to. Where memory is refused, the last one says so.
     pub fn answers(&self) -> &[Answer]
         ensures { result.now ≡ untaken self.now }
     {
@@ -239,8 +239,8 @@ impl Bench {
         }
     }
 
-    /// Closes the bench, as a refusal of memory does: its last answer tells it, and those before it stay. This takes no
-    /// memory.
+    /// Closes a bench that has not closed, as a refusal of memory does: its last answer tells it, and those before it stay.
+    /// This takes no memory.
     pub fn close(&mut self)
         requires { self.old.spent ≡ false }
         ensures { self.new ≡ record self.old { spent = true } }
@@ -250,7 +250,8 @@ impl Bench {
     }
 
     /// Takes out all answers, those from this one on behind others, for which there has to be room. Those before it are
-    /// dropped. This takes no memory.
+    /// dropped. It is counted from 0 over all answers that the bench ever made, and is at least the number of those that were
+    /// taken out before. This takes no memory.
     pub fn take_answers(&mut self, into: &mut Vec<Answer>, from: usize)
         requires held { self.old.taken ≤ from }
         requires room { vec_len into.old + (length (answers_of self.old) - from)

@@ -1,4 +1,5 @@
-// Laws of the definitions. Each function does nothing: its contract is the law.
+// Laws of the definitions: each of these functions does nothing, and its contract is the law. `world_run` makes the calls of a
+// list.
 
 ghost use Rattle.aud_hall.specs.Headline.{HeadlineLaw, EverySeatLaw, SliceLaw, SessionLaw, TwoWorldsLaw, AmpleLaw};
 ghost use Rattle.aud_hall.specs.Why.Laws.{WorldLaw, IsolationLaw, IdleLaw, TellsIdleLaw, AwaitedLaw, RoomLaw, OthersLaw, RefusalLaw};

@@ -13,6 +13,9 @@ use std::alloc::Global;
 use std::marker::Model;
 
 /// A bench that is out, and the seat that sent it.
+///
+/// Any seat takes it in where it fits. Where it is dropped, or taken in elsewhere, the seat that sent it stays without a bench
+/// until it is freed, or takes in another parcel that fits.
 #[derive(Drop)]
 pub struct Parcel {
     seat: usize,
