@@ -11,7 +11,8 @@ use Rattle.aud_hall.specs.declared.why.Why.{Why}
 use Rattle.aud_hall.specs.declared.why.Why.TheVariants.{OtherLimits, Behind}
 use Rattle.aud_hall.specs.Slices.{answered, lesser, until, is_cut, done, sliced}
 use Rattle.aud_hall.specs.Seats.{Seat, taken_in}
-use Rattle.aud_hall.specs.CheckIns.{one_on, first_difference, not_awaited, or_differs, judged, checked}
+use Rattle.aud_hall.specs.Numbered.{one_on}
+use Rattle.aud_hall.specs.CheckIns.{first_difference, not_awaited, or_differs, judged, checked}
 use Rattle.aud_hall.specs.Headline.{IsFront}
 use Rattle.aud_hall.specs.Ties.Right.{IsTrue, IsAway, IsMade, IsRight}
 use Rattle.aud_bench.proofs.Made.{made_grows, made_short}

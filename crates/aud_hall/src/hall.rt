@@ -3,7 +3,8 @@
 ghost use Rattle.std.specs.Prelude.{◌≡◌, ℕ, ◌<◌, suc, length, true, Some, None, Option, IfOk, IfErr, IfSome, OnErr, MatchOption};
 ghost use Rattle.aud_hall.specs.Halls.{nobodys, place_at, claims, submits, sends_out, checks_in, collects, frees};
 ghost use Rattle.aud_hall.specs.Ties.Calls.{is_memory, said};
-ghost use Rattle.aud_hall.specs.Ties.Said.{said_answers, said_next, bench_of};
+ghost use Rattle.aud_hall.specs.Ties.Said.{said_answers, said_next};
+ghost use Rattle.aud_hall.specs.Mine.{bench_of};
 ghost use Rattle.aud_hall.specs.Ties.Places.{asked_at, outbox_at};
 
 use crate::fault::HallFault;

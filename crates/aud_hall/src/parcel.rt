@@ -52,11 +52,11 @@ impl Parcel {
     /// Does this many units of work on the bench, or all that is left, and tells how many, and how many requests are given
     /// and unanswered. Where memory is refused, the bench closes, and works no more.
     pub fn slice(&mut self, alloc: Global, units: u64) -> Work
+        ensures done { result.done
+            ≡ done units (cut_in self.new.bench.spent result.done) self.old.bench }
         ensures parcel { self.new ≡ record self.old {
           bench = sliced units (cut_in self.new.bench.spent result.done) self.old.bench;
         } }
-        ensures done { result.done
-            ≡ done units (cut_in self.new.bench.spent result.done) self.old.bench }
         ensures left { result.left ≡ unanswered self.new.bench }
         ensures within { result.done ≤ units }
     {
