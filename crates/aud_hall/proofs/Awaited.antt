@@ -10,7 +10,8 @@ use Rattle.aud_bench.specs.Seen.{Seen as Bench, has_quit}
 use Rattle.aud_hall.specs.declared.why.Why.TheVariants.{OtherLimits, Behind}
 use Rattle.aud_hall.specs.Slices.{answered, given, done, sliced}
 use Rattle.aud_hall.specs.Seats.{Seat, Sending, has_closed, submitting, submitted, sends, sending_by, sending, sent}
-use Rattle.aud_hall.specs.CheckIns.{one_on, first_difference, not_awaited, or_differs, judged}
+use Rattle.aud_hall.specs.Numbered.{one_on}
+use Rattle.aud_hall.specs.CheckIns.{first_difference, not_awaited, or_differs, judged}
 use Rattle.aud_hall.specs.Headline.{IsFront, now_is}
 use Rattle.aud_hall.specs.Ties.Right.{IsHome, IsMade, IsRight}
 use Rattle.aud_hall.specs.Why.Laws.{after_slices, after_submits, TakesBack, AwaitedLaw}

@@ -9,7 +9,8 @@ use Rattle.aud_hall.specs.Headline.{AnswersAlone, now_is}
 use Rattle.aud_hall.specs.Ties.Calls.{Told, call_of, told_by, IsRun}
 use Rattle.aud_hall.specs.Why.Laws.{OfEachSeat}
 use Rattle.aud_hall.specs.Why.Runs.{KeepsApart, RunLaw}
-use Rattle.aud_hall.proofs.Isolation.{isolation_law, headline_law, session_law, two_worlds_law}
+use Rattle.aud_hall.proofs.Isolation.{isolation_law, headline_law, slice_law, session_law, two_worlds_law}
+use Rattle.aud_hall.proofs.Users.{every_seat_law}
 
 pub none_run : (limits : List Limits) → IsRun limits [] (beginning limits) []
 none_run limits = record { events = []; calls_are = refl; world_is = refl; replies_are = refl }
@@ -45,6 +46,8 @@ run_answers limits calls w replies run = subst (λ v. OfEachSeat (λ l s. Answer
 keeps_apart : (limits : List Limits) (events : List Event) → KeepsApart limits events (now_is limits events)
 keeps_apart limits events = record {
   headline = headline_law limits events;
+  every_seat = every_seat_law limits events;
+  slices = slice_law (now_is limits events);
   session_is = session_law limits events;
   two_worlds = λ limits' events'. two_worlds_law limits limits' events events';
 }

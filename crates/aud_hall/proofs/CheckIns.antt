@@ -1,5 +1,5 @@
 -- What is true of a parcel stays so, and a seat that takes one in is right as before.
-use Rattle.std.specs.Prelude.{nat_lt, ◌||◌, if◌then◌else◌}
+use Rattle.std.specs.Prelude.{nat_lt, ◌-◌, ◌||◌, if◌then◌else◌}
 use Rattle.std.proofs.Common.{◌≡◌, ℕ, ◌+◌, ◌<◌, ◌≤◌, List, [], ◌∷◌, length, drop, Option, Some, None, Bool, true, false, refl, sym, ap, ◌∙◌, subst, arith, length-append}
 use Rattle.aud_text.specs.declared.limits.Limits.{Limits}
 use Rattle.aud_bench.specs.declared.request.Request.{Request}
@@ -11,12 +11,14 @@ use Rattle.aud_hall.specs.declared.why.Why.{Why}
 use Rattle.aud_hall.specs.declared.why.Why.TheVariants.{OtherLimits, Behind}
 use Rattle.aud_hall.specs.Slices.{answered, lesser, until, is_cut, done, sliced}
 use Rattle.aud_hall.specs.Seats.{Seat, taken_in}
-use Rattle.aud_hall.specs.CheckIns.{one_on, first_difference, not_awaited, or_differs, judged, checked}
+use Rattle.aud_hall.specs.Numbered.{one_on}
+use Rattle.aud_hall.specs.CheckIns.{first_difference, not_awaited, or_differs, judged, checked}
 use Rattle.aud_hall.specs.Headline.{IsFront}
 use Rattle.aud_hall.specs.Ties.Right.{IsTrue, IsAway, IsMade, IsRight}
 use Rattle.aud_bench.proofs.Made.{made_grows, made_short}
 use Rattle.aud_bench.proofs.Sameness.{same_is, same_limits_is}
 use Rattle.aud_hall.proofs.Truths.{true_lt, false_lt}
+use Rattle.aud_hall.proofs.Slices.{same_bench}
 use Rattle.aud_hall.proofs.Lists.{two_fronts, begins_front, front_begins}
 use Rattle.aud_hall.proofs.Seats.{front_of_alone, taken_home}
 
@@ -57,6 +59,37 @@ sliced_true units refused b t = by b.spent refl
               let less = cut_less refused (lesser units b) (or_true b.spent (is_cut refused (lesser units b)) e h) in
               made_short b.limits b.journal (b.units + done units refused b) (omega (arith, some, less, t.within));
         }
+
+-- what the clauses of a slice say of a bench, whatever its units were
+pub record IsWork (b after : Bench) (d : ℕ) : Type 0 where
+  pub limits : after.limits ≡ b.limits
+  pub journal : after.journal ≡ b.journal
+  pub taken : after.taken ≡ b.taken
+  pub units_are : after.units ≡ b.units + d
+  pub spent : b.spent ≡ true → after ≡ b
+  pub exact : after.spent ≡ false → d ≤ cost b.limits b.journal - b.units
+  pub cut : b.spent ≡ false → after.spent ≡ true → d < cost b.limits b.journal - b.units
+
+pub worked_true : (b after : Bench) (d : ℕ) → IsWork b after d → IsTrue b → IsTrue after
+worked_true b after d w t = by b.spent after.spent refl refl
+  where
+    same : after ≡ record { limits = b.limits; journal = b.journal; units = b.units + d; taken = b.taken; spent = after.spent }
+    same = same_bench after (record { limits = b.limits; journal = b.journal; units = b.units + d; taken = b.taken; spent = after.spent }) w.limits w.journal w.units_are w.taken refl
+
+    grown : d ≤ cost b.limits b.journal - b.units → (after.spent ≡ true → d < cost b.limits b.journal - b.units) → IsTrue after
+    grown fits less =
+        let more = made_grows b.limits b.journal b.units (b.units + d) (omega arith) in
+        let longer : length (made b.limits b.journal b.units) ≤ length (made b.limits b.journal (b.units + d)) = omega (arith, ap length more.1, length-append (made b.limits b.journal b.units) more.0) in
+        subst IsTrue (sym same) (record {
+          within = omega (arith, fits, t.within);
+          taken = omega (arith, longer, t.taken);
+          short = λ h. made_short b.limits b.journal (b.units + d) (omega (arith, less h, t.within));
+        })
+
+    by : (c c' : Bool) → b.spent ≡ c → after.spent ≡ c' → IsTrue after
+    by true c' e f = subst IsTrue (sym (w.spent e)) t
+    by false false e f = grown (w.exact f) (w.cut e)
+    by false true e f = grown (omega (arith, w.cut e f)) (w.cut e)
 
 -- ## CheckIn
 

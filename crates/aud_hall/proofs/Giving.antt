@@ -8,11 +8,9 @@ use Rattle.aud_bench.specs.Size.{size, bytes_of}
 use Rattle.aud_bench.specs.Ties.Kept.{ends_there, kept_behind, is_kept}
 use Rattle.aud_bench.specs.Seen.{Seen as Bench, has_quit, is_closed, fits_behind, with_request}
 use Rattle.aud_bench.proofs.Truths.{and_left, and_right}
+use Rattle.aud_hall.proofs.Truths.{lt_true}
 use Rattle.aud_hall.specs.Slices.{given}
 use Rattle.aud_hall.specs.Seats.{Seat, taken_in, sends_given, sending, sending_by, sent}
-
-lt_true : (a b : ℕ) → a < b → nat_lt a b ≡ true
-lt_true a b h = grind (arith, h)
 
 -- ## Kept requests can be given
 

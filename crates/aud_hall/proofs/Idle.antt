@@ -19,7 +19,7 @@ use Rattle.aud_bench.proofs.Made.{made_short, made_all, cost_more}
 use Rattle.aud_bench.proofs.Truths.{true_le, false_le}
 use Rattle.aud_hall.proofs.Truths.{true_lt, false_lt}
 use Rattle.aud_hall.proofs.Lists.{each_place, place_put, begins_front}
-use Rattle.aud_hall.proofs.Seats.{made_of_front}
+use Rattle.aud_hall.proofs.Seats.{made_of_front, open_outbox}
 use Rattle.aud_hall.proofs.Worlds.{happens_right}
 use Rattle.aud_hall.proofs.Isolation.{world_law, at_each_seat, room}
 
@@ -40,17 +40,17 @@ module _ (limits : Limits) (s : Seat) (right : IsRight limits s) (b : Bench) (m 
       let f = begins_front b.journal s.requests m.front in
       omega (arith, m.within, cost_more limits b.journal f.0, ap (cost limits) f.1)
 
-  open_outbox : b.spent ≡ false → length s.outbox ≡ length (made limits b.journal b.units)
-  open_outbox e = ap length (m.outbox ∙ ap (λ c. made limits b.journal b.units ++ told c) e ∙ append-nil (made limits b.journal b.units))
+  open_count : b.spent ≡ false → length s.outbox ≡ length (made limits b.journal b.units)
+  open_count e = ap length (open_outbox limits s b m e)
 
   all_open : b.units ≡ cost limits s.requests → (c : Bool) → b.spent ≡ c → (b.spent ≡ false) × (length s.outbox ≡ length s.requests)
   all_open e true f = absurd (omega (arith, m.short f, ap length made_here, ap (λ n. length (made limits s.requests n)) e, made_all limits s.requests))
-  all_open e false f = (f, open_outbox f ∙ ap length made_here ∙ ap (λ n. length (made limits s.requests n)) e ∙ made_all limits s.requests)
+  all_open e false f = (f, open_count f ∙ ap length made_here ∙ ap (λ n. length (made limits s.requests n)) e ∙ made_all limits s.requests)
 
   all_done : b.spent ≡ false → length s.outbox ≡ length s.requests → b.units ≡ cost limits s.requests
   all_done e same =
       no_less b.units (cost limits s.requests) within_here
-      (λ less. omega (arith, made_short limits s.requests b.units less, ap length made_here, open_outbox e, same))
+      (λ less. omega (arith, made_short limits s.requests b.units less, ap length made_here, open_count e, same))
 
 counts_tell : (limits : Limits) (s : Seat) → IsRight limits s → CountsTell limits s
 counts_tell limits s right = record {
@@ -83,7 +83,7 @@ module _ (limits : Limits) (b : Bench) (t : Seat) (right : IsRight limits (taken
   next_tells false true e f = (
     λ _ alive.
         let m : IsHome limits (taken_in b t) home = right.bench in
-        let count = open_outbox limits (taken_in b t) right home m e in
+        let count = open_count limits (taken_in b t) right home m e in
         (home, refl, all_done limits (taken_in b t) right home m e (omega (arith, true_le _ _ f, room limits (taken_in b t) right, count, made_is))),
     λ h. absurd (cc),
   )
@@ -91,7 +91,7 @@ module _ (limits : Limits) (b : Bench) (t : Seat) (right : IsRight limits (taken
     λ h. absurd (cc),
     λ _.
         let m : IsHome limits (taken_in b t) home = right.bench in
-        let count = open_outbox limits (taken_in b t) right home m e in
+        let count = open_count limits (taken_in b t) right home m e in
         omega (arith, false_le _ _ f, count, made_is),
   )
 

@@ -12,14 +12,11 @@ use Rattle.aud_hall.specs.Seats.{Seat}
 use Rattle.aud_hall.specs.CheckIns.{first_difference, not_awaited, or_differs, at_nobodys}
 use Rattle.aud_hall.specs.Halls.{Place}
 use Rattle.aud_hall.specs.Ties.Places.{judged_at}
+use Rattle.aud_hall.proofs.Truths.{not_false}
 
 not_true : (b : Bool) → not b ≡ true → b ≡ false
 not_true false e = refl
 not_true true e = absurd (cc)
-
-not_false : (b : Bool) → not b ≡ false → b ≡ true
-not_false true e = refl
-not_false false e = absurd (cc)
 
 other_limits : (a b : Limits) → not ((a.tasks == b.tasks) && (a.source == b.source)) ≡ true → same_limits a b ≡ false
 unfolding same_limits

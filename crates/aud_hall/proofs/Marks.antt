@@ -1,11 +1,11 @@
 -- The parcels that were sent out for a session, by its own numbers.
 use Rattle.std.proofs.Common.{◌≡◌, ℕ, zero, suc, List, [], ◌∷◌, ◌++◌, length, Option, Some, None, Bool, true, false, refl, sym, ap, ◌∙◌, arith, append-nil}
 use Rattle.aud_bench.specs.Seen.{Seen as Bench}
-use Rattle.aud_hall.specs.Numbered.{put}
+use Rattle.aud_hall.specs.Numbered.{put, one_on}
 use Rattle.aud_hall.specs.Replies.{Reply, Accepted, Refused, Sent, Worked, Taken, Stranger, Answers, Nothing}
 use Rattle.aud_hall.specs.World.{Parcel, parcel_at, parcels, out_after}
 use Rattle.aud_hall.specs.Session.{bench_at, own_parcels, without}
-use Rattle.aud_hall.specs.Mine.{bench_of, marked, own_number, number_on, marks_of}
+use Rattle.aud_hall.specs.Mine.{bench_of, marked, own_number, marks_of}
 
 abbrev pub put_own : List (Option Bench) → Option ℕ → Option Bench → List (Option Bench)
 put_own xs None y = xs
@@ -15,7 +15,7 @@ put_none : (o : Option ℕ) (y : Option Bench) → put_own [] o y ≡ []
 put_none None y = refl
 put_none (Some i) y = refl
 
-put_later : (x : Option Bench) (xs : List (Option Bench)) (o : Option ℕ) (y : Option Bench) → x ∷ put_own xs o y ≡ put_own (x ∷ xs) (number_on o) y
+put_later : (x : Option Bench) (xs : List (Option Bench)) (o : Option ℕ) (y : Option Bench) → x ∷ put_own xs o y ≡ put_own (x ∷ xs) (one_on o) y
 put_later x xs None y = refl
 put_later x xs (Some i) y = refl
 
@@ -38,7 +38,7 @@ marked_at (true ∷ ms) (x ∷ out) zero i e = by i (cc)
 marked_at (false ∷ ms) (x ∷ out) zero i e = absurd (cc)
 marked_at (true ∷ ms) (x ∷ out) (suc n) i e = by (own_number ms n) i refl e (λ j f. marked_at ms out n j f)
   where
-    by : (o : Option ℕ) (i : ℕ) → own_number ms n ≡ o → number_on o ≡ Some i → ((j : ℕ) → own_number ms n ≡ Some j → bench_at (marked ms out) j ≡ bench_of (parcel_at out n)) → bench_at (bench_of x ∷ marked ms out) i ≡ bench_of (parcel_at out n)
+    by : (o : Option ℕ) (i : ℕ) → own_number ms n ≡ o → one_on o ≡ Some i → ((j : ℕ) → own_number ms n ≡ Some j → bench_at (marked ms out) j ≡ bench_of (parcel_at out n)) → bench_at (bench_of x ∷ marked ms out) i ≡ bench_of (parcel_at out n)
     by None i f e rest = absurd (cc)
     by (Some j) zero f e rest = absurd (let same : suc j ≡ 0 = cc in omega (arith, same))
     by (Some j) (suc i) f e rest = let same : suc j ≡ suc i = cc in let less : j ≡ i = omega (arith, same) in rest i (f ∙ ap Some less)

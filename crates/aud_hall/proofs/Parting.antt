@@ -4,7 +4,8 @@ use Rattle.std.proofs.Common.{◌≡◌, ℕ, ◌+◌, ◌<◌, ◌≤◌, List,
 use Rattle.std.proofs.lemmas.List.{drop_more, drop_all}
 use Rattle.aud_bench.specs.declared.request.Request.{Request}
 use Rattle.aud_bench.specs.Same.{same_request}
-use Rattle.aud_hall.specs.CheckIns.{one_on, first_difference}
+use Rattle.aud_hall.specs.Numbered.{one_on}
+use Rattle.aud_hall.specs.CheckIns.{first_difference}
 
 -- a place, counted from this one on
 abbrev pub on_by : ℕ → Option ℕ → Option ℕ

@@ -15,7 +15,7 @@ use Rattle.aud_hall.specs.Halls.{Place, sends_out}
 use Rattle.aud_hall.specs.World as world
 use Rattle.aud_hall.specs.World.{World, Parcel, SendOut, Slice, CheckIn, in_hall, sending_away, slicing, checking, coming_in, out_after, parcels}
 use Rattle.aud_hall.specs.Ties.Calls.{Told, told_by, plain_reply, IsRun}
-use Rattle.aud_hall.specs.Ties.Said.{bench_of}
+use Rattle.aud_hall.specs.Mine.{bench_of}
 use Rattle.aud_hall.specs.Ties.Runs.{seen, Makes, slicing_there, SlicesThere, left_after, ChecksThere}
 use Rattle.aud_hall.proofs.Calls.{one_call}
 use Rattle.aud_hall.proofs.Places.{at_here, at_past, put_is, set_same}

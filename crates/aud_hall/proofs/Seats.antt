@@ -15,6 +15,7 @@ use Rattle.aud_hall.specs.Ties.Right.{Begins, IsTrue, IsHome, IsMade, IsRight}
 use Rattle.aud_bench.proofs.Fronts.{front_law, whole_law, none_kept, kept_more}
 use Rattle.aud_bench.proofs.Made.{made_more, cost_more, none_done}
 use Rattle.aud_bench.proofs.Truths.{or_left, or_right, false_le}
+use Rattle.aud_hall.proofs.Truths.{not_false}
 use Rattle.aud_hall.proofs.Lists.{drop_front, front_rest, begins_front, front_begins}
 
 -- ## Fronts of the answers
@@ -76,10 +77,6 @@ stored_right limits s r right going fitting =
     let more = kept_more s.requests r right.kept going fitting in
     record { kept = more; bench = made_on limits s r s.home right.kept more right.bench }
 
-not_false : (b : Bool) → not b ≡ false → b ≡ true
-not_false true h = refl
-not_false false h = absurd (cc)
-
 pub submitted_right : (limits : Limits) (r : Request) (refused : Bool) (s : Seat) → IsRight limits s → IsRight limits (submitted r refused s).now
 submitted_right limits r refused s right = by (has_quit s.requests) (not (fits (length s.requests) (bytes_of s.requests) r)) (refused || has_closed s.home) refl refl
   where
@@ -127,7 +124,7 @@ IsGone None = Unit {0}
 IsGone (Some b) = IsTrue b
 
 -- what a bench at home that has not closed has made is the outbox
-open_outbox : (limits : Limits) (s : Seat) (b : Bench) → IsHome limits s b → b.spent ≡ false → s.outbox ≡ made limits b.journal b.units
+pub open_outbox : (limits : Limits) (s : Seat) (b : Bench) → IsHome limits s b → b.spent ≡ false → s.outbox ≡ made limits b.journal b.units
 open_outbox limits s b m e = m.outbox ∙ ap (λ c. made limits b.journal b.units ++ told c) e ∙ append-nil (made limits b.journal b.units)
 
 module _ (limits : Limits) (refused : Option ℕ) (s : Seat) (right : IsRight limits s) where

@@ -4,6 +4,7 @@ use Rattle.std.proofs.Common.{◌≡◌, ℕ, ◌+◌, ◌<◌, Option, Some, No
 use Rattle.aud_bench.specs.Seen.{Seen as Bench}
 use Rattle.aud_hall.specs.Slices.{sliced, done, lesser, until, is_cut}
 use Rattle.aud_hall.specs.Ties.Calls.{cut_in}
+use Rattle.aud_hall.proofs.Truths.{lt_true}
 
 -- the clauses of a slice of so many units, which did d of them
 pub record IsSlice (units : ℕ) (b after : Bench) (d : ℕ) : Type 0 where
@@ -15,16 +16,13 @@ pub record IsSlice (units : ℕ) (b after : Bench) (d : ℕ) : Type 0 where
   pub exact : after.spent ≡ false → d ≡ lesser units b
   pub cut : b.spent ≡ false → after.spent ≡ true → d < lesser units b
 
-same_bench : (x y : Bench) → x.limits ≡ y.limits → x.journal ≡ y.journal → x.units ≡ y.units → x.taken ≡ y.taken → x.spent ≡ y.spent → x ≡ y
+pub same_bench : (x y : Bench) → x.limits ≡ y.limits → x.journal ≡ y.journal → x.units ≡ y.units → x.taken ≡ y.taken → x.spent ≡ y.spent → x ≡ y
 same_bench x y l j u t c =
     ap (λ v. record { limits = v; journal = x.journal; units = x.units; taken = x.taken; spent = x.spent }) l
     ∙ ap (λ v. record { limits = y.limits; journal = v; units = x.units; taken = x.taken; spent = x.spent }) j
     ∙ ap (λ v. record { limits = y.limits; journal = y.journal; units = v; taken = x.taken; spent = x.spent }) u
     ∙ ap (λ v. record { limits = y.limits; journal = y.journal; units = y.units; taken = v; spent = x.spent }) t
     ∙ ap (λ v. record { limits = y.limits; journal = y.journal; units = y.units; taken = y.taken; spent = v }) c
-
-lt_true : (a b : ℕ) → a < b → nat_lt a b ≡ true
-lt_true a b h = grind (arith, h)
 
 pub slice_is : (units : ℕ) (b after : Bench) (d : ℕ) → IsSlice units b after d → (after ≡ sliced units (cut_in after.spent d) b) × (d ≡ done units (cut_in after.spent d) b)
 slice_is units b after d s = by b.spent after.spent refl refl

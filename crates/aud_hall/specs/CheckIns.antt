@@ -1,5 +1,5 @@
 -- A parcel comes to a seat, which takes its bench in, or says why not.
-use Rattle.std.specs.Prelude.{ℕ, suc, List, [], ◌∷◌, length, Option, Some, None, Bool, nat_lt, nat_le, ◌||◌, if◌then◌else◌}
+use Rattle.std.specs.Prelude.{ℕ, List, [], ◌∷◌, length, Option, Some, None, Bool, nat_lt, nat_le, ◌||◌, if◌then◌else◌}
 use Rattle.aud_text.specs.declared.limits.Limits.{Limits}
 use Rattle.aud_bench.specs.declared.request.Request.{Request}
 use Rattle.aud_bench.specs.declared.request.Answer.{Answer}
@@ -9,13 +9,10 @@ use Rattle.aud_hall.specs.declared.why.Why.{Why}
 use Rattle.aud_hall.specs.declared.why.Why.TheVariants.{OtherLimits, Differs, NotOut, Behind}
 use Rattle.aud_hall.specs.declared.next.Next.{Next}
 use Rattle.aud_hall.specs.declared.next.Next.TheVariants.{More, Idle}
+use Rattle.aud_hall.specs.Numbered.{one_on}
 use Rattle.aud_hall.specs.Slices.{answered}
 use Rattle.aud_hall.specs.Replies.{Stranger, Taken, Then}
 use Rattle.aud_hall.specs.Seats.{Seat, taken_in}
-
-abbrev pub one_on : Option ℕ → Option ℕ
-one_on None = None
-one_on (Some n) = Some (suc n)
 
 -- the first place where a journal parts from the stored requests, or where these end
 abbrev pub first_difference : (journal requests : List Request) → Option ℕ

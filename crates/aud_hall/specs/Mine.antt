@@ -2,6 +2,7 @@
 use Rattle.std.specs.Prelude.{ℕ, zero, suc, List, [], ◌∷◌, ◌++◌, Option, Some, None, Bool, true, false, ◌==◌, if◌then◌else◌}
 use Rattle.aud_text.specs.declared.limits.Limits.{Limits}
 use Rattle.aud_bench.specs.Seen.{Seen as Bench}
+use Rattle.aud_hall.specs.Numbered.{one_on}
 use Rattle.aud_hall.specs.Replies.{Reply, Accepted, Sent}
 use Rattle.aud_hall.specs.Seats.{Seat}
 use Rattle.aud_hall.specs.Halls.{Place, place_at}
@@ -34,6 +35,7 @@ held_in (Waiting n) place = None
 held_in Lasting place = held_of place
 held_in Over place = None
 
+-- the bench of a parcel that is out
 abbrev pub bench_of : Option Parcel → Option Bench
 bench_of None = None
 bench_of (Some p) = Some p.bench
@@ -47,16 +49,12 @@ marked (false ∷ marks) (x ∷ out) = marked marks out
 abbrev pub part_of : (k : ℕ) → Track → World → Part
 part_of k t w = record { held = held_in t.phase (place_at w.hall k); parcels = marked t.marks w.out }
 
-abbrev pub number_on : Option ℕ → Option ℕ
-number_on None = None
-number_on (Some n) = Some (suc n)
-
 -- the session's own number of a parcel
 abbrev pub own_number : List Bool → ℕ → Option ℕ
 own_number [] n = None
 own_number (true ∷ marks) zero = Some 0
 own_number (false ∷ marks) zero = None
-own_number (true ∷ marks) (suc n) = number_on (own_number marks n)
+own_number (true ∷ marks) (suc n) = one_on (own_number marks n)
 own_number (false ∷ marks) (suc n) = own_number marks n
 
 -- ## Which events are

@@ -15,3 +15,8 @@ put (x ∷ xs) (suc n) y = x ∷ put xs n y
 abbrev pub joined : {A : Type 0} → Option (Option A) → Option A
 joined None = None
 joined (Some x) = x
+
+-- a number counted from one item further in front
+abbrev pub one_on : Option ℕ → Option ℕ
+one_on None = None
+one_on (Some n) = Some (suc n)

@@ -57,7 +57,10 @@ own_parcels None = []
 own_parcels (Some b) = Some b ∷ []
 
 abbrev pub with_own_sending : Limits → List (Option Bench) → Sending → Then Part
-with_own_sending limits parcels s = record { now = record { held = Some (record { limits = limits; seat = s.seat }); parcels = parcels ++ own_parcels s.gone }; reply = Sent s.gone }
+with_own_sending limits parcels s = record {
+  now = record { held = Some (record { limits = limits; seat = s.seat }); parcels = parcels ++ own_parcels s.gone };
+  reply = Sent s.gone;
+}
 
 abbrev pub own_sending : (refused : Option ℕ) → Part → Option Held → Then Part
 own_sending refused p None = impossible p

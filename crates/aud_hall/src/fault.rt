@@ -17,7 +17,7 @@ pub enum HallFault {
     /// The request does not fit the journal.
     #[error("E13 journal full")]
     Full,
-    /// Where memory is refused.
+    /// Memory is refused, or the bench at home has closed.
     #[error("E90 out of memory")]
     Memory,
 }

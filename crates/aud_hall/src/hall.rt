@@ -3,7 +3,8 @@
 ghost use Rattle.std.specs.Prelude.{◌≡◌, ℕ, ◌<◌, suc, length, true, Some, None, Option, IfOk, IfErr, IfSome, OnErr, MatchOption};
 ghost use Rattle.aud_hall.specs.Halls.{nobodys, place_at, claims, submits, sends_out, checks_in, collects, frees};
 ghost use Rattle.aud_hall.specs.Ties.Calls.{is_memory, said};
-ghost use Rattle.aud_hall.specs.Ties.Said.{said_answers, said_next, bench_of};
+ghost use Rattle.aud_hall.specs.Ties.Said.{said_answers, said_next};
+ghost use Rattle.aud_hall.specs.Mine.{bench_of};
 ghost use Rattle.aud_hall.specs.Ties.Places.{asked_at, outbox_at};
 
 use crate::fault::HallFault;
@@ -37,7 +38,8 @@ impl Model for Hall {
 }
 
 impl Hall {
-    /// A hall with a seat for each of these limits, which nobody has claimed.
+    /// A hall with a seat for each of these limits, which nobody has claimed. From 1 to 64 seats are meant, and nothing is asked
+    /// of their number.
     ///
     /// # Errors
     ///
@@ -67,7 +69,7 @@ impl Hall {
     ///
     /// # Errors
     ///
-    /// Where the hall has no such seat, where a session is under way there, and where memory is refused. Nothing has changed
+    /// The first that holds of: the hall has no such seat; a session is under way there; memory is refused. Nothing has changed
     /// then.
     pub fn claim(&mut self, alloc: Global, seat: usize) -> Result<(), HallFault>
         ensures claims { claims seat (is_memory result) self.old
@@ -85,8 +87,8 @@ impl Hall {
     ///
     /// # Errors
     ///
-    /// Where the hall has no such seat, where it is not claimed or a QUIT was stored, where the request does not fit behind the
-    /// others, and where memory is refused, or was to the bench that is at home. Nothing has changed then.
+    /// The first that holds of: the hall has no such seat; it is not claimed, or a QUIT was stored; the request does not fit
+    /// behind the others; memory is refused, or was to the bench that is at home. Nothing has changed then.
     pub fn submit(&mut self, seat: usize, request: Request) -> Result<(), HallFault>
         ensures submits { submits seat request (is_memory result) self.old
             ≡ record { now = self.new; reply = said result } }
@@ -118,9 +120,10 @@ impl Hall {
     ///
     /// # Errors
     ///
-    /// The parcel comes back with the first reason that holds: there is no such seat; its limits are others; the parcel's
-    /// requests are no front of the stored ones, at the first place where they part (a seat that nobody has claimed has none);
-    /// its bench is not out; the parcel has fewer answers than it, or not all past these. Nothing has changed then.
+    /// The parcel comes back with the first that holds of: there is no such seat; its limits are others; the parcel's requests
+    /// are no front of the stored ones, at the first place where they part (a seat that nobody has claimed has none); its bench
+    /// is not out; the parcel has fewer answers than the seat has, or no longer holds some of those past them. Nothing has
+    /// changed then.
     pub fn check_in(&mut self, seat: usize, parcel: Parcel) -> Result<Next, Stranger>
         ensures checks { checks_in seat parcel.bench self.old
             ≡ record { now = self.new; reply = said_next result } }
@@ -141,8 +144,8 @@ impl Hall {
     ///
     /// # Errors
     ///
-    /// Where the hall has no such seat, where it is not claimed, and where memory is refused, which is taken only where there are
-    /// answers from that number on.
+    /// The first that holds of: the hall has no such seat; it is not claimed; memory is refused, which is taken only where there
+    /// are answers from that number on.
     pub fn collect(&self, alloc: Global, seat: usize, from: usize) -> Result<Vec<Answer>, HallFault>
         ensures collects { collects seat from (is_memory result) self.now
             ≡ record { now = self.now; reply = said_answers result } }
@@ -155,11 +158,12 @@ impl Hall {
         self.places[index].collect(alloc, from)
     }
 
-    /// Ends the session at a seat. A parcel of it that is out is a stranger from then on, or as good as one. No memory is taken.
+    /// Ends the session at a seat. A parcel of it that is out is judged when it comes: a later session that asked the same
+    /// takes it in. No memory is taken.
     ///
     /// # Errors
     ///
-    /// Where the hall has no such seat, or it is not claimed.
+    /// The first that holds of: the hall has no such seat; it is not claimed. Nothing has changed then.
     pub fn free(&mut self, seat: usize) -> Result<(), HallFault>
         ensures frees { frees seat self.old ≡ record { now = self.new; reply = said result } }
         ensures err { OnErr result (self.new ≡ self.old) }

@@ -1,4 +1,5 @@
-// Laws of the definitions. Each function does nothing: its contract is the law.
+// Laws of the definitions: each of these functions does nothing, and its contract is the law. `world_run` makes the calls of a
+// list.
 
 ghost use Rattle.aud_hall.specs.Headline.{HeadlineLaw, EverySeatLaw, SliceLaw, SessionLaw, TwoWorldsLaw, AmpleLaw};
 ghost use Rattle.aud_hall.specs.Why.Laws.{WorldLaw, IsolationLaw, IdleLaw, TellsIdleLaw, AwaitedLaw, RoomLaw, OthersLaw, RefusalLaw};
@@ -39,7 +40,8 @@ pub fn ample_law()
     ensures { AmpleLaw }
 {}
 
-/// In every world each outbox is what its bench has made, and each parcel has its own truth.
+/// In every world each outbox is what the bench at home has made, or while that is out a front of the answers to the stored
+/// requests, and each parcel has its own truth.
 pub fn world_law()
     ensures { WorldLaw }
 {}

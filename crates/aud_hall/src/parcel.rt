@@ -13,6 +13,9 @@ use std::alloc::Global;
 use std::marker::Model;
 
 /// A bench that is out, and the seat that sent it.
+///
+/// Any seat takes it in where it fits. Where it is dropped, or taken in elsewhere, the seat that sent it stays without a bench
+/// until it is freed, or takes in another parcel that fits.
 #[derive(Drop)]
 pub struct Parcel {
     seat: usize,
@@ -49,11 +52,11 @@ impl Parcel {
     /// Does this many units of work on the bench, or all that is left, and tells how many, and how many requests are given
     /// and unanswered. Where memory is refused, the bench closes, and works no more.
     pub fn slice(&mut self, alloc: Global, units: u64) -> Work
+        ensures done { result.done
+            ≡ done units (cut_in self.new.bench.spent result.done) self.old.bench }
         ensures parcel { self.new ≡ record self.old {
           bench = sliced units (cut_in self.new.bench.spent result.done) self.old.bench;
         } }
-        ensures done { result.done
-            ≡ done units (cut_in self.new.bench.spent result.done) self.old.bench }
         ensures left { result.left ≡ unanswered self.new.bench }
         ensures within { result.done ≤ units }
     {

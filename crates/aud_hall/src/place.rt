@@ -6,7 +6,8 @@ ghost use Rattle.aud_hall.specs.Seats.{submitted, collected};
 ghost use Rattle.aud_hall.specs.Halls.{at_seat, claiming, freeing};
 ghost use Rattle.aud_hall.specs.Ties.Places.{SentFrom, judged_at, checked_at, asked_in, outbox_in};
 ghost use Rattle.aud_hall.specs.Ties.Calls.{is_memory, said};
-ghost use Rattle.aud_hall.specs.Ties.Said.{said_answers, said_next, bench_of};
+ghost use Rattle.aud_hall.specs.Ties.Said.{said_answers, said_next};
+ghost use Rattle.aud_hall.specs.Mine.{bench_of};
 
 use crate::fault::HallFault;
 use crate::next::Next;

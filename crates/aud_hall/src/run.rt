@@ -5,6 +5,7 @@ ghost use Rattle.aud_hall.specs.Halls as halls;
 ghost use Rattle.aud_hall.specs.Ties.Runs.{seen, Makes, SlicesThere, ChecksThere};
 ghost use Rattle.aud_hall.specs.Headline.{AnswersAlone};
 ghost use Rattle.aud_hall.specs.Why.Laws.{OfEachSeat};
+ghost use Rattle.aud_hall.specs.Why.Runs.{KeepsApart};
 ghost use Rattle.aud_hall.specs.Ties.Calls.{said, told_by, plain_reply, IsRun};
 ghost use Rattle.aud_hall.specs.Ties.Said.{said_answers};
 ghost use Rattle.aud_hall.specs.declared.event.Event.TheVariants as event;
@@ -29,9 +30,10 @@ pub fn world_run(
     limits: Vec<Limits>,
     events: Vec<Event>,
 ) -> Result<World, AllocError>
-    ensures runs { IfOk result (λ w.
-        IsRun limits.items events.items (seen w.hall w.out.items)
-        (map plain_reply w.replies.items)) }
+    ensures apart { IfOk result (λ w.
+        (run : IsRun limits.items events.items (seen w.hall w.out.items)
+        (map plain_reply w.replies.items))
+        × KeepsApart limits.items run.events (seen w.hall w.out.items)) }
     ensures headline { IfOk result (λ w.
         OfEachSeat (λ limits s. AnswersAlone limits s.requests s) w.hall) }
 {

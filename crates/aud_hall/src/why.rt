@@ -17,7 +17,7 @@ pub enum Why {
     /// The seat's bench is at home.
     #[error("no parcel is out")]
     NotOut,
-    /// The seat has so many answers, and the parcel does not go on from them.
+    /// The seat has so many answers, and the parcel fewer, or it no longer holds some of those past them.
     #[error("behind {0} answers")]
     Behind(usize),
 }

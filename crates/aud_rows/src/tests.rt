@@ -4,7 +4,6 @@
 mod answers;
 mod benches;
 mod checks;
-mod halls;
 mod reading;
 mod requests;
 mod serving;

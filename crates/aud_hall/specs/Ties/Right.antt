@@ -1,4 +1,5 @@
--- What holds of every world: each outbox is what its bench has made, and each parcel has its own truth.
+-- What holds of every world: each outbox is what the bench at home has made, or while that is out a front of the answers to the stored
+-- requests; and each parcel has its own truth.
 use Rattle.std.specs.Prelude.{◌≡◌, ◌<◌, ◌≤◌, List, [], ◌∷◌, ◌++◌, length, take, Option, Some, None, true}
 use Rattle.aud_text.specs.declared.limits.Limits.{Limits}
 use Rattle.aud_bench.specs.Alone.{alone, cost, made}
@@ -32,7 +33,7 @@ pub record IsHome (limits : Limits) (s : Seat) (b : Bench) : Type 0 where
   pub taken : b.taken ≡ length s.outbox
   pub short : b.spent ≡ true → length (made limits b.journal b.units) < length s.requests
 
--- while the bench is out, a front of the answers: some bench had made it of a front of the requests
+-- while the bench is out, a front of the answers to the stored requests
 pub record IsAway (limits : Limits) (s : Seat) : Type 0 where
   pub outbox : Begins s.outbox (alone limits s.requests)
 

@@ -24,7 +24,10 @@ pub record Makes (call : Call) (before : World) (x : InMemory) (after : World) :
 
 abbrev pub slicing_there : (units : ℕ) (refused : Option ℕ) → Option Parcel → Then (Option Parcel)
 slicing_there units refused None = record { now = None; reply = Nothing }
-slicing_there units refused (Some p) = record { now = Some (record p { bench = sliced units refused p.bench }); reply = worked units refused p.bench }
+slicing_there units refused (Some p) = record {
+  now = Some (record p { bench = sliced units refused p.bench });
+  reply = worked units refused p.bench;
+}
 
 -- a slice of the parcel there
 abbrev pub SlicesThere : ℕ → Option Parcel → InMemory → Option Parcel → Type 0

@@ -59,7 +59,8 @@ TwoSeats = gives two
     (Accepted ∷ Accepted ∷ Accepted ∷ Accepted ∷ Accepted
     ∷ Sent (Some (record { limits = STANDARD; journal = Run 5 ∷ Output ∷ []; units = 0; taken = 0; spent = false })) ∷ Accepted ∷ Sent None ∷ Worked 1 1 ∷ Taken More
     ∷ Sent (Some (one_output 0 0)) ∷ Worked 1 0 ∷ Taken Idle ∷ Answers (no_program ∷ [])
-    ∷ Sent (Some (record { limits = STANDARD; journal = Run 5 ∷ Output ∷ Output ∷ []; units = 1; taken = 1; spent = false })) ∷ Worked 2 0 ∷ Taken Idle ∷ Answers (no_program ∷ no_program ∷ []) ∷ Sent None ∷ [])
+    ∷ Sent (Some (record { limits = STANDARD; journal = Run 5 ∷ Output ∷ Output ∷ []; units = 1; taken = 1; spent = false })) ∷ Worked 2 0 ∷ Taken Idle
+    ∷ Answers (no_program ∷ no_program ∷ []) ∷ Sent None ∷ [])
 
 -- two seats with a program each, which are run in turn
 abbrev pub ends : Request

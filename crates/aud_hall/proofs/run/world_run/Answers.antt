@@ -1,9 +1,10 @@
 use Rattle.std.specs.Prelude.{map}
-use Rattle.std.proofs.Common.{◌++◌, ◌∷◌, [], List, sym, subst}
+use Rattle.std.proofs.Common.{◌≡◌, ◌++◌, ◌∷◌, [], List, sym, ◌∙◌, subst}
+use Rattle.std.proofs.IntoIterSteps.{All-taken}
 use Rattle.aud_hall.specs.declared.reply.Reply.{Reply as InMemory}
 use Rattle.aud_hall.specs.Ties.Calls.{plain_reply, IsRun}
 use Rattle.aud_hall.specs.Ties.Runs.{seen}
-use Rattle.aud_hall.proofs.Calls.{run_answers}
+use Rattle.aud_hall.proofs.Calls.{run_answers, run_law}
 use Rattle.aud_hall.proofs.Running.{run_more}
 use Rattle.aud_hall.proofs.run.world_run.Goals as goal
 
@@ -19,3 +20,14 @@ loop-event-preserved c =
 pub returns-clause-headline : goal.returns-clause-headline
 returns-clause-headline c =
     run_answers c.args.limits.items c.loop-event.yielded (seen c.loop-event.hall c.loop-event.out.items) (map plain_reply c.loop-event.replies.items) c.loop-event.invariant
+
+pub returns-clause-apart : goal.returns-clause-apart
+returns-clause-apart c =
+    let began = c.into_iter-event-iterator in
+    let each = All-taken began.result c.loop-event.yielded (c.next.new.self, (c.loop-event.event-iterator, c.loop-event.yielded_by, c.in-None.ensures.steps)) in
+    let made : began.result.rest.items ≡ c.args.events.items = began.ensures.into_iter_gives.0 in
+    let all : c.loop-event.yielded ≡ c.args.events.items = each ∙ made in
+    let hall = seen c.loop-event.hall c.loop-event.out.items in
+    let replies = map plain_reply c.loop-event.replies.items in
+    let run = subst (λ calls. IsRun c.args.limits.items calls hall replies) all c.loop-event.invariant in
+    (run, run_law c.args.limits.items c.args.events.items hall replies run)

@@ -1,6 +1,6 @@
 use Rattle.std.proofs.Common.{length, sym, ap, ◌∙◌, arith}
 use Rattle.aud_hall.specs.Halls.{sends_out}
-use Rattle.aud_hall.specs.Ties.Said.{bench_of}
+use Rattle.aud_hall.specs.Mine.{bench_of}
 use Rattle.aud_hall.proofs.Places.{sends_out_is}
 use Rattle.aud_hall.proofs.hall.Hall.send_out.Goals as goal
 
