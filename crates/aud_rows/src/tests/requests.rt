@@ -21,7 +21,7 @@ fn told(alloc: Global, bytes: &[u8]) -> Result<Vec<u8>, AllocError> {
 fn told_in_pieces(alloc: Global, bytes: &[u8], most: usize) -> Result<Vec<u8>, AllocError> {
     let mut feed = Feed::new(alloc);
     let mut out = Vec::new(alloc);
-    for piece in bytes.chunks(most) {
+    for piece in bytes.chunks(most.max(1)) {
         for request in &feed.feed(alloc, piece)? {
             tell(&mut out, request)?;
         }
