@@ -20,7 +20,7 @@ use Rattle.aud_bench.proofs.Sameness.{same_is, same_limits_is}
 use Rattle.aud_hall.proofs.Truths.{true_lt, false_lt}
 use Rattle.aud_hall.proofs.Slices.{same_bench}
 use Rattle.aud_hall.proofs.Lists.{two_fronts, begins_front, front_begins}
-use Rattle.aud_hall.proofs.Seats.{front_of_alone, taken_home}
+use Rattle.aud_hall.proofs.Seats.{front_of_alone, away_front, taken_home}
 
 -- ## Slice
 
@@ -142,7 +142,7 @@ module _ (limits : Limits) (b : Bench) (s : Seat) (kept : is_kept s.requests ≡
   longer = (
     drop (length s.outbox) (made_by b),
     two_fronts s.outbox (made_by b) (alone limits s.requests)
-        (begins_front s.outbox (alone limits s.requests) away.outbox)
+        (away_front limits s kept away)
         (subst (λ xs. IsFront xs (alone limits s.requests)) (sym made_here) (front_of_alone limits b.journal s.requests b.units w.front within_here kept))
         w.ahead,
   )

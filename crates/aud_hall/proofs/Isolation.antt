@@ -21,7 +21,7 @@ use Rattle.aud_hall.specs.Why.Laws.{OfEachSeat, WorldLaw, IsolationLaw, RoomLaw,
 use Rattle.aud_bench.proofs.Fronts.{whole_law}
 use Rattle.aud_bench.proofs.Made.{made_within, made_all}
 use Rattle.aud_hall.proofs.Lists.{each_place, begins_front}
-use Rattle.aud_hall.proofs.Seats.{made_of_front, front_of_alone}
+use Rattle.aud_hall.proofs.Seats.{made_of_front, front_of_alone, away_front}
 use Rattle.aud_hall.proofs.Worlds.{all_right, beginning_right}
 use Rattle.aud_hall.proofs.Sessions.{IsTracked, Agrees, course, course_of, follows}
 
@@ -34,7 +34,7 @@ so_far : (limits : Limits) (s : Seat) → IsRight limits s → IsBeginning limit
 so_far limits s right = by s.home right.bench
   where
     by : (o : Option Bench) → IsMade limits s o → (front : List Answer) × (s.outbox ≡ front ++ told (has_closed o)) × IsFront front (alone limits s.requests)
-    by None m = (s.outbox, sym (append-nil s.outbox), begins_front s.outbox (alone limits s.requests) m.outbox)
+    by None m = (s.outbox, sym (append-nil s.outbox), away_front limits s right.kept m)
     by (Some b) m = (made limits b.journal b.units, m.outbox, front_of_alone limits b.journal s.requests b.units (begins_front b.journal s.requests m.front) m.within right.kept)
 
 whole : (limits : Limits) (s : Seat) → IsRight limits s → IsIdle limits s.requests s → s.outbox ≡ alone limits s.requests
@@ -68,7 +68,7 @@ room limits s right = by s.home right.bench
 
     by : (o : Option Bench) → IsMade limits s o → length s.outbox ≤ length s.requests
     by None m =
-        let f = begins_front s.outbox (alone limits s.requests) m.outbox in
+        let f = away_front limits s right.kept m in
         omega (arith, ap length f.1, length-append s.outbox f.0, ap length (whole_law limits s.requests right.kept), made_all limits s.requests)
     by (Some b) m =
         let f = begins_front b.journal s.requests m.front in

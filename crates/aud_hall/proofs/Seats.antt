@@ -11,8 +11,8 @@ use Rattle.aud_bench.specs.Seen.{Seen as Bench, has_quit, told, made_by, answers
 use Rattle.aud_hall.specs.Slices.{given, until}
 use Rattle.aud_hall.specs.Seats.{Seat, claimed, stored, has_closed, submitting, submitted, taken_in, sends, sending_by, sending, sent}
 use Rattle.aud_hall.specs.Headline.{IsFront}
-use Rattle.aud_hall.specs.Ties.Right.{Begins, IsTrue, IsHome, IsMade, IsRight}
-use Rattle.aud_bench.proofs.Fronts.{front_law, whole_law, none_kept, kept_more}
+use Rattle.aud_hall.specs.Ties.Right.{Begins, IsTrue, IsAway, IsHome, IsMade, IsRight}
+use Rattle.aud_bench.proofs.Fronts.{front_law, none_kept, kept_more}
 use Rattle.aud_bench.proofs.Made.{made_more, cost_more, none_done}
 use Rattle.aud_bench.proofs.Truths.{or_left, or_right, false_le}
 use Rattle.aud_hall.proofs.Truths.{not_false}
@@ -32,10 +32,9 @@ front_of_alone limits journal requests units f h kept =
 front_more : (xs ys zs : List Answer) → IsFront xs ys → IsFront ys zs → IsFront xs zs
 front_more xs ys zs f g = (f.0 ++ g.0, g.1 ∙ ap (λ us. us ++ g.0) f.1 ∙ append_assoc xs f.0 g.0)
 
--- one request more
-alone_on : (limits : Limits) (requests : List Request) (r : Request) → is_kept requests ≡ true → is_kept (requests ++ r ∷ []) ≡ true → IsFront (alone limits requests) (alone limits (requests ++ r ∷ []))
-alone_on limits requests r kept more =
-    subst (λ xs. IsFront xs (alone limits (requests ++ r ∷ []))) (sym (whole_law limits requests kept)) (front_of_alone limits requests (requests ++ r ∷ []) (cost limits requests) (r ∷ [], refl) (omega arith) more)
+-- while the bench is out the outbox is a front of the answers
+pub away_front : (limits : Limits) (s : Seat) → is_kept s.requests ≡ true → IsAway limits s → IsFront s.outbox (alone limits s.requests)
+away_front limits s kept m = subst (λ xs. IsFront xs (alone limits s.requests)) (sym m.outbox) (front_of_alone limits m.journal s.requests m.units (begins_front m.journal s.requests m.front) m.within kept)
 
 -- ## Claim
 
@@ -57,13 +56,15 @@ claimed_right limits = record {
 pub front_on : (journal requests : List Request) (r : Request) → IsFront journal requests → IsFront journal (requests ++ r ∷ [])
 front_on journal requests r f = (f.0 ++ r ∷ [], ap (λ rs. rs ++ r ∷ []) f.1 ∙ append_assoc journal f.0 (r ∷ []))
 
-made_on : (limits : Limits) (s : Seat) (r : Request) (home : Option Bench) → is_kept s.requests ≡ true → is_kept (s.requests ++ r ∷ []) ≡ true → IsMade limits s home → IsMade limits (stored s r) home
-made_on limits s r None kept more m = record {
-  outbox =
-      front_begins s.outbox (alone limits (s.requests ++ r ∷ []))
-      (front_more s.outbox (alone limits s.requests) (alone limits (s.requests ++ r ∷ [])) (begins_front s.outbox (alone limits s.requests) m.outbox) (alone_on limits s.requests r kept more));
+made_on : (limits : Limits) (s : Seat) (r : Request) (home : Option Bench) → IsMade limits s home → IsMade limits (stored s r) home
+made_on limits s r None m = record {
+  journal = m.journal;
+  units = m.units;
+  front = front_begins m.journal (s.requests ++ r ∷ []) (front_on m.journal s.requests r (begins_front m.journal s.requests m.front));
+  within = m.within;
+  outbox = m.outbox;
 }
-made_on limits s r (Some b) kept more m = record {
+made_on limits s r (Some b) m = record {
   limits_are = m.limits_are;
   front = front_begins b.journal (s.requests ++ r ∷ []) (front_on b.journal s.requests r (begins_front b.journal s.requests m.front));
   within = m.within;
@@ -75,7 +76,7 @@ made_on limits s r (Some b) kept more m = record {
 stored_right : (limits : Limits) (s : Seat) (r : Request) → IsRight limits s → has_quit s.requests ≡ false → fits (length s.requests) (bytes_of s.requests) r ≡ true → IsRight limits (stored s r)
 stored_right limits s r right going fitting =
     let more = kept_more s.requests r right.kept going fitting in
-    record { kept = more; bench = made_on limits s r s.home right.kept more right.bench }
+    record { kept = more; bench = made_on limits s r s.home right.bench }
 
 pub submitted_right : (limits : Limits) (r : Request) (refused : Bool) (s : Seat) → IsRight limits s → IsRight limits (submitted r refused s).now
 submitted_right limits r refused s right = by (has_quit s.requests) (not (fits (length s.requests) (bytes_of s.requests) r)) (refused || has_closed s.home) refl refl
@@ -154,10 +155,11 @@ module _ (limits : Limits) (refused : Option ℕ) (s : Seat) (right : IsRight li
           record {
             kept = right.kept;
             bench = record {
-              outbox =
-                  front_begins s.outbox (alone limits s.requests)
-                  (subst (λ xs. IsFront xs (alone limits s.requests)) (sym made_is)
-                  (front_of_alone limits full.journal s.requests full.units (given_front s.requests refused b (begins_front b.journal s.requests m.front)) within_is right.kept));
+              journal = full.journal;
+              units = full.units;
+              front = front_begins full.journal s.requests (given_front s.requests refused b (begins_front b.journal s.requests m.front));
+              within = within_is;
+              outbox = made_is;
             };
           },
           record {

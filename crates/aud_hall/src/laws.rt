@@ -40,8 +40,7 @@ pub fn ample_law()
     ensures { AmpleLaw }
 {}
 
-/// In every world each outbox is what the bench at home has made, or while that is out a front of the answers to the stored
-/// requests, and each parcel has its own truth.
+/// In every world each outbox is what its bench has made, and each parcel has its own truth.
 pub fn world_law()
     ensures { WorldLaw }
 {}

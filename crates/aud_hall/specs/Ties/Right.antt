@@ -1,8 +1,8 @@
--- What holds of every world: each outbox is what the bench at home has made, or while that is out a front of the answers to the stored
--- requests; and each parcel has its own truth.
-use Rattle.std.specs.Prelude.{◌≡◌, ◌<◌, ◌≤◌, List, [], ◌∷◌, ◌++◌, length, take, Option, Some, None, true}
+-- What holds of every world: each outbox is what its bench has made, and each parcel has its own truth.
+use Rattle.std.specs.Prelude.{◌≡◌, ℕ, ◌<◌, ◌≤◌, List, [], ◌∷◌, ◌++◌, length, take, Option, Some, None, true}
 use Rattle.aud_text.specs.declared.limits.Limits.{Limits}
-use Rattle.aud_bench.specs.Alone.{alone, cost, made}
+use Rattle.aud_bench.specs.declared.request.Request.{Request}
+use Rattle.aud_bench.specs.Alone.{cost, made}
 use Rattle.aud_bench.specs.Ties.Kept.{is_kept}
 use Rattle.aud_bench.specs.Seen.{Seen as Bench, told}
 use Rattle.aud_hall.specs.Slices.{answered}
@@ -33,9 +33,13 @@ pub record IsHome (limits : Limits) (s : Seat) (b : Bench) : Type 0 where
   pub taken : b.taken ≡ length s.outbox
   pub short : b.spent ≡ true → length (made limits b.journal b.units) < length s.requests
 
--- while the bench is out, a front of the answers to the stored requests
+-- while the bench is out, the outbox is what it had made of a front of the stored requests when it was last at home
 pub record IsAway (limits : Limits) (s : Seat) : Type 0 where
-  pub outbox : Begins s.outbox (alone limits s.requests)
+  pub journal : List Request
+  pub units : ℕ
+  pub front : Begins journal s.requests
+  pub within : units ≤ cost limits journal
+  pub outbox : s.outbox ≡ made limits journal units
 
 abbrev pub IsMade : Limits → Seat → Option Bench → Type 0
 IsMade limits s None = IsAway limits s
