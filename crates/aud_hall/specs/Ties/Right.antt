@@ -33,7 +33,7 @@ pub record IsHome (limits : Limits) (s : Seat) (b : Bench) : Type 0 where
   pub taken : b.taken ≡ length s.outbox
   pub short : b.spent ≡ true → length (made limits b.journal b.units) < length s.requests
 
--- while the bench is out, the outbox is what it had made of a front of the stored requests when it was last at home
+-- while the bench is out, the outbox is what some units make of a front of the stored requests
 pub record IsAway (limits : Limits) (s : Seat) : Type 0 where
   pub journal : List Request
   pub units : ℕ
