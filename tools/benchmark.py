@@ -533,7 +533,7 @@ def of_hall(worlds, slice_units, before):
     whole, wrote = measure([*words, str(SEAT_STEPS)])
     steps = SEATS * SEAT_STEPS
     wanted = SEATS * (before + 1) + steps if slice_units else before + steps // 1_000_000 + steps
-    if f" {wanted} units" not in wrote.decode():
+    if wrote.decode().strip() != f"{wanted} units":
         sys.exit(f"benchmark: the hall said '{wrote.decode().strip()}'")
     return whole - alone
 

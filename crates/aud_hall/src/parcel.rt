@@ -19,7 +19,7 @@ use std::marker::Model;
 #[derive(Drop)]
 pub struct Parcel {
     seat: usize,
-    bench: Bench,
+    bench: Box<Bench>,
 }
 
 impl Model for Parcel {
@@ -28,16 +28,16 @@ impl Model for Parcel {
 
     ghost Value = { world.Parcel };
 
-    ghost view = { λ p. record { seat = p.seat; bench = p.bench } };
+    ghost view = { λ p. record { seat = p.seat; bench = p.bench.value } };
 
-    ghost invariant = { λ p. IsTrue p.bench };
+    ghost invariant = { λ p. IsTrue p.bench.value };
 }
 
 impl Parcel {
     // A bench that this seat sends out.
-    pub(crate) fn new(seat: usize, bench: Bench) -> Self
-        requires { IsTrue bench }
-        ensures { result ≡ record { seat = seat; bench = bench } }
+    pub(crate) fn new(seat: usize, bench: Box<Bench>) -> Self
+        requires { IsTrue bench.value }
+        ensures { result ≡ record { seat = seat; bench = bench.value } }
     {
         Parcel { seat, bench }
     }
@@ -100,9 +100,9 @@ impl Parcel {
         self.bench.answered() - self.bench.answers().len()
     }
 
-    pub(crate) fn into_bench(self) -> Bench
-        ensures bench { result ≡ self.bench }
-        ensures right { IsTrue result }
+    pub(crate) fn into_bench(self) -> Box<Bench>
+        ensures bench { result.value ≡ self.bench }
+        ensures right { IsTrue result.value }
     {
         self.bench
     }

@@ -10,7 +10,7 @@ ghost use Rattle.aud_hall.specs.Seats.{claimed, stored, submitted, has_closed, t
 ghost use Rattle.aud_hall.specs.CheckIns.{first_difference, not_awaited, or_differs, next};
 ghost use Rattle.aud_hall.specs.Ties.Calls.{is_memory, said};
 ghost use Rattle.aud_hall.specs.Ties.Said.{said_answers};
-ghost use Rattle.aud_hall.specs.Ties.Places.{IsRightThere};
+ghost use Rattle.aud_hall.specs.Ties.Places.{IsRightThere, unboxed};
 ghost use Rattle.aud_hall.specs.Ties.Right.{IsTrue};
 
 use crate::fault::HallFault;
@@ -32,7 +32,8 @@ pub struct Seat {
     quit: bool,
     // There is room for an answer to each request.
     outbox: Vec<Answer>,
-    home: Option<Bench>,
+    // In a box, so that a bench goes out and comes in by a pointer.
+    home: Option<Box<Bench>>,
 }
 
 impl Model for Seat {
@@ -41,13 +42,14 @@ impl Model for Seat {
     ghost use Rattle.aud_bench.specs.Seen.{has_quit};
     ghost use Rattle.aud_bench.specs.Size.{bytes_of};
     ghost use Rattle.aud_hall.specs.Seats as seats;
+    ghost use Rattle.aud_hall.specs.Ties.Places.{unboxed};
 
     ghost Value = { seats.Seat };
 
     ghost view = { λ s. record {
       requests = s.requests.items;
       outbox = s.outbox.items;
-      home = s.home;
+      home = unboxed s.home;
     } };
 
     ghost invariant = { λ s.
@@ -65,7 +67,7 @@ impl Seat {
     pub fn new(alloc: Global, limits: Limits) -> Result<Self, AllocError>
         ensures { IfOk result (λ s. s ≡ claimed limits) }
     {
-        let bench = Bench::new(alloc, limits)?;
+        let bench = Box::new(alloc, Bench::new(alloc, limits)?)?;
         Ok(Seat {
             requests: Vec::new(alloc),
             bytes: 0,
@@ -133,24 +135,25 @@ impl Seat {
 
     /// Sends the bench out with all stored requests, where it is at home and open and a request is unanswered. Where memory
     /// is refused, it closes and stays, and the last answer tells it.
-    pub fn send_out(&mut self, alloc: Global) -> Option<Bench>
+    pub fn send_out(&mut self, alloc: Global) -> Option<Box<Bench>>
         requires { IsRightThere self.old }
         ensures { (refused : Option ℕ) × (sent refused self.old
-            ≡ record { seat = self.new; gone = result }) }
+            ≡ record { seat = self.new; gone = unboxed result }) }
     {
         if self.stays() {
             return None;
         }
-        let Some(mut bench) = self.home.take() else {
+        let Some(mut home) = self.home.take() else {
             return None;
         };
-        if give_rest(alloc, &mut bench, &self.requests) {
-            return Some(bench);
+        let bench: &mut Bench = &mut home;
+        if give_rest(alloc, bench, &self.requests) {
+            return Some(home);
         }
         bench.close();
         let known = self.outbox.len();
         bench.take_answers(&mut self.outbox, known);
-        self.home = Some(bench);
+        self.home = Some(home);
         None
     }
 
@@ -193,10 +196,11 @@ impl Seat {
         ensures right { IsTrue parcel.bench }
     {
         let next = self.next(&parcel);
-        let mut bench = parcel.into_bench();
+        let mut home = parcel.into_bench();
+        let bench: &mut Bench = &mut home;
         let from = self.outbox.len();
         bench.take_answers(&mut self.outbox, from);
-        self.home = Some(bench);
+        self.home = Some(home);
         next
     }
 

@@ -6,15 +6,18 @@ use clap::{Arg, ArgAction, ArgMatches, Command, Error};
 use std::alloc::Global;
 
 /// What the program is to do.
-#[derive(Clone, Copy, PartialEq, Eq, Debug)]
+#[derive(Clone, Copy)]
 pub enum Task {
     /// Look at the rows, and at so many lists of random calls.
     All { lists: u32 },
     Rows,
     Work(Measure),
     /// Leave so many seats idle.
-    Idle { seats: usize },
+    Idle { seats: u32 },
 }
+
+// The arguments that are numbers.
+const NUMBERS: [&str; 6] = ["lists", "seats", "steps", "slice", "before", "idle"];
 
 /// What the words of the command line ask for, the first of which is the program's own name.
 pub fn task_of(alloc: Global, words: &[String]) -> Result<Task, Fault> {
@@ -27,23 +30,11 @@ fn command<'a>(alloc: Global) -> Result<Command<'a>, Error> {
     let rows = Arg::new(alloc, "rows")
         .long("rows")
         .action(ArgAction::SetTrue);
-    let command = Command::new(alloc, "aud_worlds")
-        .disable_help_flag(true)
-        .disable_version_flag(true)
-        .arg(rows)?;
-    let command = command.arg(count(alloc, "seats"))?;
-    let command = command.arg(number(alloc, "steps"))?;
-    let command = command.arg(number(alloc, "slice"))?;
-    let command = command.arg(number(alloc, "before"))?;
-    let command = command.arg(number(alloc, "lists"))?;
-    Ok(command.arg(count(alloc, "idle"))?)
-}
-
-// An argument that is a number of seats.
-fn count(alloc: Global, name: &'static str) -> Arg<'static> {
-    Arg::new(alloc, name)
-        .long(name)
-        .value_parser(clap::value_parser!(usize).range(1..=64))
+    let mut command = Command::new(alloc, "aud_worlds").arg(rows)?;
+    for name in NUMBERS {
+        command = command.arg(number(alloc, name))?;
+    }
+    Ok(command)
 }
 
 fn number(alloc: Global, name: &'static str) -> Arg<'static> {
@@ -56,12 +47,12 @@ fn chosen(matches: &ArgMatches<'_>) -> Task {
     if matches.get_flag("rows") {
         return Task::Rows;
     }
-    if let Some(seats) = matches.get_one::<usize>("idle") {
+    if let Some(seats) = matches.get_one::<u32>("idle") {
         return Task::Idle { seats };
     }
-    match matches.get_one::<usize>("seats") {
+    match matches.get_one::<u32>("seats") {
         Some(seats) => Task::Work(Measure {
-            seats,
+            seats: seats as usize,
             before: number_or(matches, "before", 0),
             steps: number_or(matches, "steps", 100_000),
             slice: number_or(matches, "slice", 1_000),

@@ -6,7 +6,7 @@ use aud_text::text::Text;
 use std::alloc::{AllocError, Global};
 
 /// A source text, of one line.
-#[derive(Clone, Copy, PartialEq, Eq, Debug)]
+#[derive(Clone, Copy, PartialEq, Debug)]
 pub enum Source {
     /// Ends after three steps.
     Ends,
@@ -20,7 +20,7 @@ pub enum Source {
 }
 
 /// A request.
-#[derive(Clone, Copy, PartialEq, Eq, Debug)]
+#[derive(Clone, Copy, PartialEq, Debug)]
 pub enum Ask {
     Load(Source),
     Run(u32),

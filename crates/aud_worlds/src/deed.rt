@@ -5,7 +5,7 @@ use aud_hall::event::Event;
 use std::alloc::{AllocError, Global};
 
 /// A call of a hall, or of a parcel that is out.
-#[derive(Clone, Copy, PartialEq, Eq, Debug)]
+#[derive(Clone, Copy, Debug)]
 pub enum Deed {
     /// At this seat.
     Claim(usize),

@@ -15,7 +15,7 @@ pub const SEATS: usize = 4;
 const COMMON: usize = 12;
 
 // A seat of which a call is to be made.
-#[derive(Clone, Copy, PartialEq, Eq, Debug)]
+#[derive(Clone, Copy)]
 enum Wanted {
     Vacant,
     Claimed,

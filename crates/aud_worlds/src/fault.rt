@@ -9,9 +9,9 @@ use thiserror::Error;
 
 #[derive(Debug, Drop, Error)]
 pub enum Fault {
-    /// A reply or an outbox is another than it must be: it was told which.
-    #[error("a hall that does not as it must")]
-    Differs,
+    /// A reply, a parcel or an outbox is another than it must be: which.
+    #[error("{0}")]
+    Differs(String),
     /// A call that must succeed was refused.
     #[error("refused: {0}")]
     Refused(HallFault),
@@ -30,7 +30,7 @@ impl Fault {
     /// The status with which the program ends.
     pub fn status(&self) -> u8 {
         match self {
-            Fault::Differs | Fault::Refused(_) | Fault::Stranger => 1,
+            Fault::Differs(_) | Fault::Refused(_) | Fault::Stranger => 1,
             Fault::Arguments => 2,
             Fault::Words(_) => 3,
             Fault::Memory => 4,

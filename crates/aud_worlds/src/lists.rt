@@ -3,51 +3,52 @@
 use crate::deed::{Deed, event};
 use crate::draws::{Draws, SEATS};
 use crate::fault::Fault;
-use crate::outboxes::{Beside, Outbox, outbox_at};
 use crate::plain::Plain;
-use crate::replies::{same_reply, words};
+use crate::replies::{other_reply, same_answers, same_reply, words};
 use crate::rows::LARGE;
 use crate::session::Session;
 use crate::tally::Tally;
 use aud_hall::event::Event;
 use aud_hall::hall::Hall;
 use aud_hall::laws::world_run;
+use aud_hall::parcel::Parcel;
 use aud_hall::reply::Reply;
 use aud_text::limits::{Limits, STANDARD};
 use std::alloc::{AllocError, Global};
 
-const CALLS: usize = 100;
+/// The calls of a list.
+pub const CALLS: usize = 100;
 
 const LIMITS: [Limits; SEATS] = [STANDARD, STANDARD, STANDARD, LARGE];
 
 // A list, and the replies that must come.
 #[derive(Drop)]
 struct RandomList {
-    number: u64,
+    name: String,
     deeds: Vec<Deed>,
     wanted: Vec<Reply>,
     world: Plain,
 }
 
-/// Looks at so many lists, and tells what the replies were.
+/// Looks at so many lists, and counts the replies and the outboxes.
 ///
 /// # Errors
 ///
-/// `Differs` where a reply or an outbox is another than it must be, which is told; `Memory` where memory is refused.
-pub fn look_at_lists(rt: &(impl Print + AllocGlobal), lists: u32) -> Result<(), Fault> {
+/// `Differs` where a reply, a parcel or an outbox is another than it must be; `Memory` where memory is refused.
+pub fn look_at_lists(alloc: Global, lists: u32) -> Result<Tally, Fault> {
     let mut tally = Tally::default();
     for number in 0..lists {
-        let list = drawn(rt.alloc(), u64::from(number))?;
-        look_at_list(rt, &list, &mut tally)?;
+        let list = drawn(alloc, u64::from(number))?;
+        look_at_list(alloc, &list, &mut tally)?;
     }
-    tell(rt, lists, &tally)
+    Ok(tally)
 }
 
 // The list of this number.
 fn drawn(alloc: Global, number: u64) -> Result<RandomList, AllocError> {
     let mut draws = Draws::new(alloc, number)?;
     let mut list = RandomList {
-        number,
+        name: format!(in alloc; "list {number}")?,
         deeds: Vec::new(alloc),
         wanted: Vec::new(alloc),
         world: Plain::new(alloc, &LIMITS)?,
@@ -61,19 +62,16 @@ fn drawn(alloc: Global, number: u64) -> Result<RandomList, AllocError> {
     Ok(list)
 }
 
-fn look_at_list(
-    rt: &(impl Print + AllocGlobal),
-    list: &RandomList,
-    tally: &mut Tally,
-) -> Result<(), Fault> {
-    let alloc = rt.alloc();
+fn look_at_list(alloc: Global, list: &RandomList, tally: &mut Tally) -> Result<(), Fault> {
     let events = events(alloc, &list.deeds)?;
     let world = world_run(alloc, LIMITS.to_vec(alloc)?, events)?;
-    look_at_replies(rt, list, &world.replies)?;
+    look_at_replies(alloc, list, &world.replies)?;
+    look_at_parcels(alloc, list, &world.out)?;
+    look_at_outboxes(alloc, list, &world.hall, tally)?;
     for reply in &world.replies {
         tally.count(reply);
     }
-    look_at_outboxes(rt, list, &world.hall, tally)
+    Ok(())
 }
 
 fn events(alloc: Global, deeds: &[Deed]) -> Result<Vec<Event>, AllocError> {
@@ -84,108 +82,73 @@ fn events(alloc: Global, deeds: &[Deed]) -> Result<Vec<Event>, AllocError> {
     Ok(events)
 }
 
-fn look_at_replies(
-    rt: &(impl Print + AllocGlobal),
-    list: &RandomList,
-    replies: &[Reply],
-) -> Result<(), Fault> {
-    for (place, reply) in replies.iter().enumerate() {
-        match list.wanted.get(place) {
-            Some(wanted) if same_reply(reply, wanted) => {}
-            Some(wanted) => return differs(rt, list, place, reply, wanted),
-            None => return Err(Fault::Differs),
+fn look_at_replies(alloc: Global, list: &RandomList, replies: &[Reply]) -> Result<(), Fault> {
+    for ((deed, wanted), reply) in list.deeds.iter().zip(&list.wanted).zip(replies) {
+        if !same_reply(reply, wanted) {
+            let reply = words(alloc, reply)?;
+            let wanted = words(alloc, wanted)?;
+            return Err(other_reply(alloc, &list.name, *deed, &reply, &wanted)?);
         }
     }
     if replies.len() == list.wanted.len() {
         return Ok(());
     }
-    println!(rt; "list {}: too few replies", list.number)?;
-    Err(Fault::Differs)
+    let told = format!(in alloc; "{}: too few replies or too many", list.name)?;
+    Err(Fault::Differs(told))
 }
 
-fn differs(
-    rt: &(impl Print + AllocGlobal),
-    list: &RandomList,
-    place: usize,
-    reply: &Reply,
-    wanted: &Reply,
-) -> Result<(), Fault> {
-    let deed = list.deeds.get(place);
-    let told = words(rt.alloc(), reply)?;
-    let wanted = words(rt.alloc(), wanted)?;
-    println!(rt;
-        "list {}, call {place}: {deed:?} is answered '{told}', and not '{wanted}'",
-        list.number
-    )?;
-    Err(Fault::Differs)
+// Each parcel that is out tells the seat that sent it.
+fn look_at_parcels(alloc: Global, list: &RandomList, out: &[Option<Parcel>]) -> Result<(), Fault> {
+    for (number, parcel) in out.iter().enumerate() {
+        if sender(parcel) != list.world.sender(number) {
+            let told = format!(in alloc; "{}: parcel {number} tells another seat", list.name)?;
+            return Err(Fault::Differs(told));
+        }
+    }
+    Ok(())
+}
+
+fn sender(parcel: &Option<Parcel>) -> Option<usize> {
+    match parcel {
+        Some(parcel) => Some(parcel.seat()),
+        None => None,
+    }
 }
 
 fn look_at_outboxes(
-    rt: &(impl Print + AllocGlobal),
+    alloc: Global,
     list: &RandomList,
     hall: &Hall,
     tally: &mut Tally,
 ) -> Result<(), Fault> {
-    for (place, limits) in LIMITS.iter().enumerate() {
-        let seat = place.saturating_add(1);
-        let found = outbox_at(rt.alloc(), hall, *limits, seat)?;
-        if !is_right(found, list.world.session_at(seat)) {
-            println!(rt; "list {}: at seat {seat} stands {found:?}", list.number)?;
-            return Err(Fault::Differs);
+    for seat in 1..=SEATS {
+        let session = list.world.session_at(seat);
+        if !has_answers(alloc, hall, seat, session)? {
+            let told = format!(in alloc; "{}: the answers at seat {seat} are others", list.name)?;
+            return Err(Fault::Differs(told));
         }
-        if let Some(found) = found {
-            tally.count_outbox(found.beside);
+        if let Some(session) = session {
+            tally.count_outbox(session.has_all());
         }
     }
     Ok(())
 }
 
-// Whether an outbox is that of the session, and whole where no work is in hand.
-fn is_right(found: Option<Outbox>, session: Option<&Session>) -> bool {
-    match (found, session) {
-        (None, None) => true,
-        (Some(found), Some(session)) => {
-            found.asked == session.asks.len()
-                && found.got == session.got
-                && (found.beside == Beside::Whole
-                    || found.beside == Beside::Front && !session.is_idle())
-        }
-        _ => false,
-    }
-}
-
-fn tell(rt: &impl Print, lists: u32, tally: &Tally) -> Result<(), Fault> {
-    println!(rt; "{lists} lists of {CALLS} calls: each reply that of a world in slow words")?;
-    let Tally {
-        accepted,
-        refused,
-        sent,
-        stayed,
-        worked,
-        ..
-    } = *tally;
-    println!(rt;
-        "accepted {accepted}, refused {refused}, sent out {sent}, stayed {stayed}, slices {worked}"
-    )?;
-    let Tally {
-        taken,
-        answers,
-        nothing,
-        strangers,
-        ..
-    } = *tally;
-    println!(rt; "taken in {taken}, collected {answers}, of no parcel {nothing}")?;
-    let no_seat = strangers.no_seat;
-    let other_limits = strangers.other_limits;
-    let differs = strangers.differs;
-    println!(rt;
-        "strangers: no seat {no_seat}, other limits {other_limits}, other requests {differs}"
-    )?;
-    let not_out = strangers.not_out;
-    let behind = strangers.behind;
-    println!(rt; "strangers: none is out {not_out}, behind {behind}")?;
-    let whole = tally.whole;
-    let fronts = tally.fronts;
-    println!(rt; "outboxes: all of the private server's answers {whole}, the first ones {fronts}")?;
-    Ok(())
+// Whether there are as many requests at a seat as the session has in slow words, and the same answers: those of the private
+// server, and all of them where no work is in hand.
+fn has_answers(
+    alloc: Global,
+    hall: &Hall,
+    seat: usize,
+    session: Option<&Session>,
+) -> Result<bool, Fault> {
+    let (asked, session) = match (hall.asked(seat), session) {
+        (Some(asked), Some(session)) => (asked, session),
+        (None, None) => return Ok(true),
+        _ => return Ok(false),
+    };
+    let answers = hall.collect(alloc, seat, 0)?;
+    let is_whole = session.has_all() || !session.is_idle();
+    let is_same = same_answers(&answers, &session.collected(alloc, 0)?);
+    Ok(is_same && is_whole && asked.len() == session.asks.len())
 }

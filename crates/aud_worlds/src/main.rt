@@ -20,8 +20,8 @@ mod tally;
 
 use crate::arguments::{Task, task_of};
 use crate::fault::Fault;
-use crate::idle::stay_idle;
-use crate::lists::look_at_lists;
+use crate::idle::idle_hall;
+use crate::lists::{CALLS, look_at_lists};
 use crate::rows::look_at_rows;
 use crate::speed::work_off;
 use std::env;
@@ -42,11 +42,38 @@ fn run(rt: &HostRuntime) -> Result<(), Fault> {
     let words: Vec<String> = env::args(rt)?.collect(rt.alloc())?;
     match task_of(rt.alloc(), &words)? {
         Task::All { lists } => {
-            look_at_rows(rt)?;
-            look_at_lists(rt, lists)
+            tell_rows(rt)?;
+            tell_lists(rt, lists)
         }
-        Task::Rows => look_at_rows(rt),
-        Task::Work(measure) => work_off(rt, measure),
+        Task::Rows => tell_rows(rt),
+        Task::Work(measure) => {
+            let units = work_off(rt.alloc(), measure)?;
+            println!(rt; "{units} units")?;
+            Ok(())
+        }
         Task::Idle { seats } => stay_idle(rt, seats),
     }
+}
+
+fn tell_rows(rt: &HostRuntime) -> Result<(), Fault> {
+    let rows = look_at_rows(rt.alloc())?;
+    println!(rt;
+        "{rows} rows: each reply as it must be, each outbox a front of the private server's answers"
+    )?;
+    Ok(())
+}
+
+fn tell_lists(rt: &HostRuntime, lists: u32) -> Result<(), Fault> {
+    let tally = look_at_lists(rt.alloc(), lists)?;
+    println!(rt; "{lists} lists of {CALLS} calls: all as in a world in slow words; {tally:?}")?;
+    Ok(())
+}
+
+// Has so many seats stay idle until a line of the input comes or its end.
+fn stay_idle(rt: &HostRuntime, seats: u32) -> Result<(), Fault> {
+    let _hall = idle_hall(rt.alloc(), seats as usize)?;
+    println!(rt; "{seats} seats are idle")?;
+    let mut line = String::new(rt.alloc());
+    let _length = rt.read_line(&mut line)?;
+    Ok(())
 }

@@ -1,5 +1,7 @@
 // Replies of a hall: whether they are the same, and their words.
 
+use crate::deed::Deed;
+use crate::fault::Fault;
 use aud_bench::bench::Work;
 use aud_bench::request::{Answer, Raised, Report};
 use aud_hall::next::Next;
@@ -22,7 +24,8 @@ pub fn same_reply(one: &Reply, other: &Reply) -> bool {
     }
 }
 
-fn same_answers(one: &[Answer], other: &[Answer]) -> bool {
+/// Whether two lists of answers are the same.
+pub fn same_answers(one: &[Answer], other: &[Answer]) -> bool {
     one.len() == other.len() && same_front(one, other) == one.len()
 }
 
@@ -111,4 +114,16 @@ pub fn says(alloc: Global, reply: &Reply, wanted: &str) -> Result<bool, AllocErr
         Reply::Accepted => Ok(wanted == "accepted"),
         _ => Ok(words(alloc, reply)?.as_str() == wanted),
     }
+}
+
+/// A reply to a call of a row or a list that is another than it must be.
+pub fn other_reply(
+    alloc: Global,
+    name: &str,
+    deed: Deed,
+    reply: &str,
+    wanted: &str,
+) -> Result<Fault, AllocError> {
+    let told = format!(in alloc; "{name}: {deed:?} is answered '{reply}', and not '{wanted}'")?;
+    Ok(Fault::Differs(told))
 }

@@ -3,7 +3,7 @@
 use crate::deed::{Deed, Line, event};
 use crate::fault::Fault;
 use crate::outboxes::{Beside, outbox_at};
-use crate::replies::{says, words};
+use crate::replies::{other_reply, says, words};
 use aud_hall::event::Event;
 use aud_hall::fault::HallFault;
 use aud_hall::hall::Hall;
@@ -24,19 +24,13 @@ pub struct Row {
 ///
 /// # Errors
 ///
-/// `Differs` where one is another than it must be, which is told; `Memory` where memory is refused. If it is refused to the
-/// hall, each outbox must be a front of the private server's answers all the same, with at most one more that tells it.
-pub fn look_at(
-    rt: &(impl Print + AllocGlobal),
-    name: &str,
-    limits: &[Limits],
-    lines: &[Line],
-) -> Result<(), Fault> {
-    let alloc = rt.alloc();
+/// `Differs` where one is another than it must be; `Memory` where memory is refused. If it is refused to the hall, each outbox
+/// must be a front of the private server's answers all the same, with at most one more that tells it.
+pub fn look_at(alloc: Global, name: &str, limits: &[Limits], lines: &[Line]) -> Result<(), Fault> {
     let events = events(alloc, lines)?;
     let world = world_run(alloc, limits.to_vec(alloc)?, events)?;
-    let is_refused = look_at_replies(rt, name, lines, &world.replies)?;
-    look_at_outboxes(rt, name, &world.hall, limits, is_refused)?;
+    let is_refused = look_at_replies(alloc, name, lines, &world.replies)?;
+    look_at_outboxes(alloc, name, &world.hall, limits, is_refused)?;
     if is_refused {
         return Err(Fault::Memory);
     }
@@ -53,37 +47,31 @@ fn events(alloc: Global, lines: &[Line]) -> Result<Vec<Event>, AllocError> {
 
 // Whether memory was refused: the replies are looked at up to the first one that tells it.
 fn look_at_replies(
-    rt: &(impl Print + AllocGlobal),
+    alloc: Global,
     name: &str,
     lines: &[Line],
     replies: &[Reply],
 ) -> Result<bool, Fault> {
     for (line, reply) in lines.iter().zip(replies) {
-        if !says(rt.alloc(), reply, line.1)? {
-            return is_refusal(rt, name, *line, reply);
+        if !says(alloc, reply, line.1)? {
+            return is_refusal(alloc, name, *line, reply);
         }
     }
     if lines.len() == replies.len() {
         return Ok(false);
     }
-    println!(rt; "{name}: too few replies or too many")?;
-    Err(Fault::Differs)
+    let told = format!(in alloc; "{name}: too few replies or too many")?;
+    Err(Fault::Differs(told))
 }
 
 // Whether a reply that is another tells that memory was refused.
-fn is_refusal(
-    rt: &(impl Print + AllocGlobal),
-    name: &str,
-    line: Line,
-    reply: &Reply,
-) -> Result<bool, Fault> {
+fn is_refusal(alloc: Global, name: &str, line: Line, reply: &Reply) -> Result<bool, Fault> {
     let (deed, wanted) = line;
     if tells_refusal(deed, reply) {
         return Ok(true);
     }
-    let told = words(rt.alloc(), reply)?;
-    println!(rt; "{name}: {deed:?} is answered '{told}', and not '{wanted}'")?;
-    Err(Fault::Differs)
+    let reply = words(alloc, reply)?;
+    Err(other_reply(alloc, name, deed, &reply, wanted)?)
 }
 
 // A bench that closes stays where it is to be sent out, and a slice of one that is out does less than it must.
@@ -97,7 +85,7 @@ fn tells_refusal(deed: Deed, reply: &Reply) -> bool {
 }
 
 fn look_at_outboxes(
-    rt: &(impl Print + AllocGlobal),
+    alloc: Global,
     name: &str,
     hall: &Hall,
     limits: &[Limits],
@@ -105,21 +93,19 @@ fn look_at_outboxes(
 ) -> Result<(), Fault> {
     for (place, limits) in limits.iter().enumerate() {
         let seat = place.saturating_add(1);
-        let Some(found) = outbox_at(rt.alloc(), hall, *limits, seat)? else {
-            continue;
-        };
-        if !is_front(found.beside, is_refused) {
-            println!(rt; "{name}: at seat {seat} stands {found:?}")?;
-            return Err(Fault::Differs);
+        let found = outbox_at(alloc, hall, *limits, seat)?;
+        if !is_front(found, is_refused) {
+            let told = format!(in alloc; "{name}: the answers at seat {seat} are others")?;
+            return Err(Fault::Differs(told));
         }
     }
     Ok(())
 }
 
-fn is_front(beside: Beside, is_refused: bool) -> bool {
-    match beside {
-        Beside::Whole | Beside::Front => true,
-        Beside::Closed => is_refused,
-        Beside::Other => false,
+fn is_front(found: Option<Beside>, is_refused: bool) -> bool {
+    match found {
+        None | Some(Beside::Front) => true,
+        Some(Beside::Closed) => is_refused,
+        Some(Beside::Other) => false,
     }
 }

@@ -7,23 +7,18 @@ use crate::row::{Row, look_at};
 use aud_text::limits::{Limits, REQUESTS, STANDARD};
 use std::alloc::{AllocError, Global};
 
-/// Looks at all rows, and tells how many they are.
+/// Looks at all rows, and counts them.
 ///
 /// # Errors
 ///
 /// Those of `look_at`, at the first row that has one.
-pub fn look_at_rows(rt: &(impl Print + AllocGlobal)) -> Result<(), Fault> {
-    let mut count = 1usize;
-    for row in ROWS {
-        look_at(rt, row.name, row.limits, row.lines)?;
-        count = count.saturating_add(1);
+pub fn look_at_rows(alloc: Global) -> Result<usize, Fault> {
+    for row in &ROWS {
+        look_at(alloc, row.name, row.limits, row.lines)?;
     }
-    let lines = full(rt.alloc())?;
-    look_at(rt, "a full journal", FOUR, &lines)?;
-    println!(rt;
-        "{count} rows: each reply as it must be, each outbox a front of the private server's answers"
-    )?;
-    Ok(())
+    let lines = full(alloc)?;
+    look_at(alloc, "a full journal", FOUR, &lines)?;
+    Ok(ROWS.len() + 1)
 }
 
 /// The largest limits that a seat may have.
@@ -316,6 +311,7 @@ const REASONS: &[Line] = &[
     (Deed::Submit(1, Ask::Output), "accepted"),
     (Deed::SendOut(1), "sent"),
     (Deed::CheckIn(0, 9), "stranger: no such seat"),
+    (Deed::CheckIn(0, 0), "stranger: no such seat"),
     // Nobody has claimed it, but the limits come first.
     (Deed::CheckIn(0, 2), "stranger: other limits"),
     (Deed::CheckIn(0, 3), "stranger: request 0 differs"),

@@ -14,7 +14,7 @@ use aud_text::refusal::Refusal;
 use std::alloc::{AllocError, Global};
 
 /// A bench: the session whose first requests it was given, how many these are, the units done, and the answers taken out.
-#[derive(Clone, Copy, PartialEq, Eq, Debug)]
+#[derive(Clone, Copy)]
 pub struct Bench {
     pub session: usize,
     pub given: usize,
@@ -32,7 +32,7 @@ pub struct Session {
     costs: Vec<u64>,
     server: Server,
     // How many of the answers the outbox has.
-    pub got: usize,
+    got: usize,
     home: Option<Bench>,
 }
 
@@ -144,6 +144,11 @@ impl Session {
             answers.push(answer.try_clone(alloc)?)?;
         }
         Ok(answers)
+    }
+
+    /// Whether the outbox has all answers.
+    pub fn has_all(&self) -> bool {
+        self.got == self.asks.len()
     }
 
     /// Whether no work is in hand: the bench is at home, and its units are all that the requests cost.

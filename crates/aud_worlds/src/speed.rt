@@ -16,7 +16,7 @@ const MOST: u64 = 4_000;
 
 /// What is worked off: so many steps at each of the seats, behind so many requests that cost a unit each, in slices of so
 /// many units; with none, on one bench.
-#[derive(Clone, Copy, PartialEq, Eq, Debug)]
+#[derive(Clone, Copy)]
 pub struct Measure {
     pub seats: usize,
     pub before: u32,
@@ -24,23 +24,21 @@ pub struct Measure {
     pub slice: u32,
 }
 
-/// Works that off, and tells what was done.
+/// Works that off; how many units were done.
 ///
 /// # Errors
 ///
 /// `Memory` where memory is refused; what a call is refused for that must succeed.
-pub fn work_off(rt: &(impl Print + AllocGlobal), measure: Measure) -> Result<(), Fault> {
+pub fn work_off(alloc: Global, measure: Measure) -> Result<u64, Fault> {
     if measure.slice == 0 {
-        return work_alone(rt, measure);
+        return work_alone(alloc, measure);
     }
-    let Measure { seats, slice, .. } = measure;
-    let mut hall = hall(rt.alloc(), seats)?;
+    let seats = measure.seats;
+    let mut hall = hall(alloc, seats)?;
     for seat in 1..=seats {
-        open(rt.alloc(), &mut hall, seat, measure)?;
+        open(alloc, &mut hall, seat, measure)?;
     }
-    let units = work(rt.alloc(), &mut hall, seats, u64::from(slice))?;
-    println!(rt; "{seats} seats, {units} units in slices of {slice}")?;
-    Ok(())
+    work(alloc, &mut hall, seats, u64::from(measure.slice))
 }
 
 /// A hall of so many seats.
@@ -111,25 +109,24 @@ pub fn turn(alloc: Global, hall: &mut Hall, seat: usize, slice: u64) -> Result<u
         return Ok(0);
     };
     let work = parcel.slice(alloc, slice);
-    match hall.check_in(seat, parcel) {
+    match hall.check_in(parcel.seat(), parcel) {
         Ok(_) => Ok(work.done),
         Err(_) => Err(Fault::Stranger),
     }
 }
 
 // Works the steps of all seats off on one bench, a request at a time.
-fn work_alone(rt: &(impl Print + AllocGlobal), measure: Measure) -> Result<(), Fault> {
+fn work_alone(alloc: Global, measure: Measure) -> Result<u64, Fault> {
     let steps = (measure.seats as u64).saturating_mul(u64::from(measure.steps));
-    let mut bench = Bench::new(rt.alloc(), STANDARD)?;
+    let mut bench = Bench::new(alloc, STANDARD)?;
     let mut units = 0u64;
     for _ in 0..measure.before {
-        units = units.saturating_add(serve(rt.alloc(), &mut bench, Request::Output)?);
+        units = units.saturating_add(serve(alloc, &mut bench, Request::Output)?);
     }
-    for request in requests(rt.alloc(), steps)? {
-        units = units.saturating_add(serve(rt.alloc(), &mut bench, request)?);
+    for request in requests(alloc, steps)? {
+        units = units.saturating_add(serve(alloc, &mut bench, request)?);
     }
-    println!(rt; "one bench, {units} units")?;
-    Ok(())
+    Ok(units)
 }
 
 fn serve(alloc: Global, bench: &mut Bench, request: Request) -> Result<u64, Fault> {

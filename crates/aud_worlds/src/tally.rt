@@ -1,11 +1,10 @@
 // How many replies of each kind there were, and outboxes.
 
-use crate::outboxes::Beside;
 use aud_hall::reply::Reply;
 use aud_hall::why::Why;
 
 /// The numbers of replies and outboxes, by their kinds.
-#[derive(Clone, Copy, PartialEq, Eq, Default, Debug)]
+#[derive(Clone, Copy, Default, Debug)]
 pub struct Tally {
     pub accepted: usize,
     pub refused: usize,
@@ -21,7 +20,7 @@ pub struct Tally {
 }
 
 /// The numbers of parcels that were not taken in, by the reasons.
-#[derive(Clone, Copy, PartialEq, Eq, Default, Debug)]
+#[derive(Clone, Copy, Default, Debug)]
 pub struct Strangers {
     pub no_seat: usize,
     pub other_limits: usize,
@@ -46,11 +45,12 @@ impl Tally {
         }
     }
 
-    /// Counts an outbox.
-    pub fn count_outbox(&mut self, beside: Beside) {
-        match beside {
-            Beside::Whole => add(&mut self.whole),
-            _ => add(&mut self.fronts),
+    /// Counts an outbox, which has all of the private server's answers or the first ones.
+    pub fn count_outbox(&mut self, is_whole: bool) {
+        if is_whole {
+            add(&mut self.whole);
+        } else {
+            add(&mut self.fronts);
         }
     }
 }

@@ -1,5 +1,6 @@
 -- Calls at a place of the hall, as its methods make them.
-use Rattle.std.specs.Prelude.{◌≡◌, ℕ, List, [], Option, Some, None}
+use Rattle.std.specs.Prelude.{◌≡◌, ℕ, List, [], Option, Some, None, Box}
+use Rattle.std.specs.Global.{Global}
 use Rattle.aud_text.specs.declared.limits.Limits.{Limits}
 use Rattle.aud_bench.specs.declared.request.Request.{Request}
 use Rattle.aud_bench.specs.declared.request.Answer.{Answer}
@@ -10,6 +11,11 @@ use Rattle.aud_hall.specs.Seats.{Seat, sent}
 use Rattle.aud_hall.specs.CheckIns.{judged, judged_vacant, checked}
 use Rattle.aud_hall.specs.Halls.{Place, with_seat}
 use Rattle.aud_hall.specs.Ties.Right.{IsRight}
+
+-- the bench in a box, where there is one
+abbrev pub unboxed : Option (Box Bench Global) → Option Bench
+unboxed None = None
+unboxed (Some b) = Some b.value
 
 -- the seat is right, by the limits of its place
 abbrev pub IsRightThere : Seat → Type 0
