@@ -113,14 +113,15 @@ def table(seen, total, unit):
 
 
 def main():
-    if sys.argv[1:]:
-        sys.exit("usage: price.sh (it takes no words, and runs the gate)")
+    if sys.argv[1:] not in ([], ["--kept"]):
+        sys.exit("usage: price.sh [--kept] (it runs the gate: all of it, or what no earlier run has kept)")
+    gate = ["rt", "ci"] if sys.argv[1:] else ["rt", "ci", "--anew"]
     alone = median(selftest("alone") for _ in range(ALONE))
     seen, units, ended, began = {}, [], threading.Event(), time.time()
     beside = [threading.Thread(target=watch, args=(seen, ended)), threading.Thread(target=selftests_beside, args=(units, ended))]
     for it in beside:
         it.start()
-    total, said = spent(["rt", "ci", "--anew"], "/tmp/price-gate.log")
+    total, said = spent(gate, "/tmp/price-gate.log")
     minutes = (time.time() - began) / 60
     ended.set()
     for it in beside:

@@ -1,4 +1,4 @@
-use Rattle.std.proofs.Common.{◌∷◌, sym, ap, ◌∙◌, rules}
+use Rattle.std.proofs.Common.{◌∷◌, sym, ap, ◌∙◌, arith}
 use Rattle.std.specs.Prelude.{Vec}
 use Rattle.std.specs.Global.{Global}
 use Rattle.aud_syntax.specs.declared.tree.Ident.{Ident}
@@ -30,5 +30,5 @@ returns c =
           to (c.in_ok-name.ensures.reads _ _ _ _ (j.reads _ _ _ (c.in_ok-parts.ensures.reads.1 _ _ _ _ o)))
           (ap (λ z. an_ident z ∷ vec_item formal_item c.in_ok-name-2.formals ∷ ds) (sym j.first)
           ∙ ap (λ (z : Ident × Vec Formal Global). an_ident z.0 ∷ vec_item formal_item z.1 ∷ ds) (sym c.in_ok-parts.ensures.reads.0));
-      shorter = search rules;
+      shorter = omega (arith, c.in_ok-name.ensures.shorter, c.in_ok-parts.ensures.shorter);
     }

@@ -1,4 +1,4 @@
-use Rattle.std.proofs.Common.{rules}
+use Rattle.std.proofs.Common.{arith}
 use Rattle.aud_grammar.specs.Ties.Outcome.{o_rule}
 use Rattle.aud_grammar.specs.Actions.{token}
 use Rattle.aud_cursor.proofs.Passing.{to, exit}
@@ -24,4 +24,4 @@ pub returns-in_err-body : goal.returns-in_err-body
 returns-in_err-body c = exit _ _ _ c.from_residual-in_err-body.ensures.1 c.in_err-body.ensures.reads (λ k ds v o. o_rule (c.in_ok-context.ensures.reads _ _ _ _ (c.in_ok-first.ensures.reads _ _ _ _ (c.in_ok-name.ensures.reads _ _ _ _ (c.in_ok-rest.ensures.reads _ _ _ _ (c.in_ok-declarations.ensures.reads _ _ _ o))))))
 
 pub returns : goal.returns
-returns c = record { reads = λ k ds v o. rw (c.at.ensures, c.into_inner.ensures) (to (o_rule (c.in_ok-context.ensures.reads _ _ _ _ (c.in_ok-first.ensures.reads _ _ _ _ (c.in_ok-name.ensures.reads _ _ _ _ (c.in_ok-rest.ensures.reads _ _ _ _ (c.in_ok-declarations.ensures.reads _ _ _ (c.in_ok-body.ensures.reads _ _ _ o))))))) (unit_items c.in_ok-context.context (token c.in_ok-first.first.now) _ c.in_ok-declarations.declarations c.in_ok-body.body.value ds)); shorter = search rules }
+returns c = record { reads = λ k ds v o. rw (c.at.ensures, c.into_inner.ensures) (to (o_rule (c.in_ok-context.ensures.reads _ _ _ _ (c.in_ok-first.ensures.reads _ _ _ _ (c.in_ok-name.ensures.reads _ _ _ _ (c.in_ok-rest.ensures.reads _ _ _ _ (c.in_ok-declarations.ensures.reads _ _ _ (c.in_ok-body.ensures.reads _ _ _ o))))))) (unit_items c.in_ok-context.context (token c.in_ok-first.first.now) _ c.in_ok-declarations.declarations c.in_ok-body.body.value ds)); shorter = omega (arith, c.in_ok-context.ensures.shorter, c.in_ok-first.ensures.shorter, c.in_ok-name.ensures.shorter, c.in_ok-rest.ensures.shorter, c.in_ok-declarations.ensures.shorter, c.in_ok-body.ensures.shorter) }

@@ -1,4 +1,4 @@
-use Rattle.std.proofs.Common.{ap, sym, ◌∙◌, ◌∷◌, rules}
+use Rattle.std.proofs.Common.{ap, sym, ◌∙◌, ◌∷◌, arith}
 use Rattle.std.specs.Prelude.{Option, Box, Vec}
 use Rattle.std.specs.Global.{Global}
 use Rattle.aud_syntax.specs.declared.tree.Arm.{Arm}
@@ -31,5 +31,5 @@ returns c = λ room. record {
         (sym (c.in_ok-first.ensures.reads.0 ∙ c.in_ok-parts-2.ensures.reads.0 ∙ c.in_ok-parts.ensures.reads.0))
         ∙ if_items c.in_ok-statement.statement (token c.args.begin.now) c.in_ok-first.first.0 c.in_ok-first.first.1 c.in_ok-first.others c.in_ok-first.otherwise ds (rw (sym c.at.ensures) c.in_ok-statement.ensures),
   );
-  shorter = search rules;
+  shorter = omega (arith, c.in_ok-parts.ensures.shorter, c.in_ok-parts-2.ensures.shorter, c.in_ok-first.ensures.shorter);
 }

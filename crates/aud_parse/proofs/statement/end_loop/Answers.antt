@@ -1,4 +1,4 @@
-use Rattle.std.proofs.Common.{ap, sym, ◌∙◌, ◌∷◌, rules}
+use Rattle.std.proofs.Common.{ap, sym, ◌∙◌, ◌∷◌, arith}
 use Rattle.std.specs.Prelude.{Option, Box}
 use Rattle.std.specs.Global.{Global}
 use Rattle.aud_text.specs.declared.place.Pos.{Pos}
@@ -41,5 +41,5 @@ returns c = λ room.
             (sym (i.first ∙ j.first ∙ c.in_ok-parts-2.ensures.reads.0 ∙ c.in_ok-parts.ensures.reads.0))
             ∙ loop_items c.in_ok-statement.statement c.in_ok-label.label c.in_ok-label.scheme (token c.args.begin.now) c.in_ok-label.inner c.in_ok-parts-3.name (token c.in_ok-label.last.now) ds (rw (sym c.at.ensures, sym c.at-2.ensures) c.in_ok-statement.ensures),
       );
-      shorter = search rules;
+      shorter = omega (arith, c.in_ok-parts.ensures.shorter, c.in_ok-parts-2.ensures.shorter);
     }

@@ -1,4 +1,4 @@
-use Rattle.std.proofs.Common.{rules}
+use Rattle.std.proofs.Common.{arith}
 use Rattle.aud_grammar.specs.Ties.Outcome.{o_rule}
 use Rattle.aud_parse.proofs.Completing.{exit_in}
 use Rattle.aud_phrase.proofs.Joined.{joined, not_joined}
@@ -23,5 +23,5 @@ returns c =
         o_rule (c.in_ok-args.ensures.reads _ _ _ (c.in_ok-others.ensures.reads _ _ _ (j.reads _ _ _ o))),
         begun_items c.in_ok-statement.statement c.in_ok-name.name c.args.ident c.in_ok-args.args c.in_ok-others.others c.in_ok-name.value ds c.in_ok-statement.ensures j.first,
       );
-      shorter = search rules;
+      shorter = omega (arith, c.in_ok-args.ensures.shorter, c.in_ok-others.ensures.shorter);
     }

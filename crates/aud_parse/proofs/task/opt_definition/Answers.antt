@@ -1,4 +1,4 @@
-use Rattle.std.proofs.Common.{rules}
+use Rattle.std.proofs.Common.{arith}
 use Rattle.aud_grammar.specs.Ties.Outcome.{o_rule, o_yes, o_no}
 use Rattle.aud_cursor.proofs.Passing.{to, exit_flat, word_passes}
 use Rattle.aud_parse.proofs.Rolls.{definition_items}
@@ -11,7 +11,7 @@ pub returns-in_err-end_name : goal.returns-in_err-end_name
 returns-in_err-end_name c = exit_flat _ _ _ c.from_residual-in_err-end_name.ensures.1 (λ room. c.in_err-end_name.ensures.reads room) (λ room k ds v o. o_yes c.in-Some.ensures.reads.0 (o_rule (word_passes c.in-Some.ensures.reads _ _ _ (c.in_ok-rest.ensures.reads _ _ _ _ o))))
 
 pub returns-in-Some : goal.returns-in-Some
-returns-in-Some c = record { reads = λ room k ds v o. to (o_yes c.in-Some.ensures.reads.0 (o_rule (word_passes c.in-Some.ensures.reads _ _ _ (c.in_ok-rest.ensures.reads _ _ _ _ (c.in_ok-end_name.ensures.reads _ _ _ _ o))))) (definition_items c.in_ok-end_name.end_name ds); shorter = search rules }
+returns-in-Some c = record { reads = λ room k ds v o. to (o_yes c.in-Some.ensures.reads.0 (o_rule (word_passes c.in-Some.ensures.reads _ _ _ (c.in_ok-rest.ensures.reads _ _ _ _ (c.in_ok-end_name.ensures.reads _ _ _ _ o))))) (definition_items c.in_ok-end_name.end_name ds); shorter = omega (arith, c.in-Some.ensures.shorter, c.in_ok-rest.ensures.shorter, c.in_ok-end_name.ensures.shorter) }
 
 pub returns : goal.returns
-returns c = record { reads = λ room k ds v o. o_no c.in_default.ensures.reads o; shorter = search rules }
+returns c = record { reads = λ room k ds v o. o_no c.in_default.ensures.reads o; shorter = omega arith }

@@ -1,4 +1,4 @@
-use Rattle.std.proofs.Common.{rules}
+use Rattle.std.proofs.Common.{arith}
 use Rattle.aud_grammar.specs.Actions.{token}
 use Rattle.aud_parse.proofs.Completing.{exit_in}
 use Rattle.aud_parse.proofs.Rolls.{declared_task_items}
@@ -14,5 +14,5 @@ returns c = λ room. record {
     c.in_ok-is_type.ensures.reads _ _ _ _ o,
     declared_task_items c.in_ok-boxed.boxed (token c.args.begin.now) c.at.result c.in_ok-is_type.is_type c.in_ok-is_type.name c.in_ok-is_type.definition ds c.in_ok-boxed.ensures.ok c.at.ensures,
   );
-  shorter = search rules;
+  shorter = omega (arith, c.in_ok-is_type.ensures.shorter);
 }
