@@ -10,7 +10,7 @@ use Rattle.aud_typed.specs.declared.program.Program.{Program}
 use Rattle.aud_typed.specs.Tree as tree
 use Rattle.aud_typed.specs.Tree.{before, part_of, activation, Part}
 use Rattle.aud_typed.specs.Ties.View.{plain_statement, plain_row, plain_if, plain_arms, plain_block, plain_handlers, plain_body, plain_unit, plain_program}
-use Rattle.aud_gen.specs.Activations.{StatementActivates, PartActivates, HandlersActivate, BodyActivates, BodiesActivate, ActivatesInParts}
+use Rattle.aud_layout.specs.Activations.{StatementActivates, PartActivates, HandlersActivate, BodyActivates, BodiesActivate, ActivatesInParts}
 
 -- Of a list.
 

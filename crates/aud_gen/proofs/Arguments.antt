@@ -7,7 +7,7 @@ use Rattle.aud_typed.specs.declared.program.Subtype.{Subtype}
 use Rattle.aud_typed.specs.Ties.View.{plain_argument, plain_arguments}
 use Rattle.aud_code.specs.Instruction.{Instruction, PassCopy}
 use Rattle.aud_code.specs.Flat.{FlatLine, instructs}
-use Rattle.aud_gen.specs.Instructions.{copied_code, argument_code, arguments_code}
+use Rattle.aud_layout.specs.Instructions.{copied_code, argument_code, arguments_code}
 use Rattle.aud_gen.proofs.Loops.{dropped}
 use Rattle.aud_gen.proofs.Writing.{Adds}
 

@@ -17,14 +17,14 @@ use Rattle.aud_code.specs.View.{plain_way}
 use Rattle.aud_code.specs.declared.line.Way.{Way as Away}
 use Rattle.aud_code.specs.declared.line.Last.TheVariants.{Does, Ends}
 use Rattle.aud_code.specs.declared.line.Ending.TheVariants.{Block}
-use Rattle.aud_gen.specs.Instructions.{integer_code}
-use Rattle.aud_gen.specs.Layout.{Line, Around, in_for, in_block, stub_ways, in_call, around_out, ways_count, continues, line, end_line, stubs, stubs_of, guard_line_by, body_size_by, end_place_by, main_size_by, statement_size_by, part_size_by, statement_code_by, part_code_by, handlers_code_by, body_code_by}
-use Rattle.aud_gen.specs.Assembly.{end_line as moved_end, step_lines}
-use Rattle.aud_gen.specs.Written.{flat_step, written}
+use Rattle.aud_layout.specs.Instructions.{integer_code}
+use Rattle.aud_layout.specs.Layout.{Line, Around, in_for, in_block, stub_ways, in_call, around_out, ways_count, continues, line, end_line, stubs, stubs_of, guard_line_by, body_size_by, end_place_by, main_size_by, statement_size_by, part_size_by, statement_code_by, part_code_by, handlers_code_by, body_code_by}
+use Rattle.aud_layout.specs.Assembly.{end_line as moved_end, step_lines}
+use Rattle.aud_layout.specs.Written.{flat_step, written}
+use Rattle.aud_layout.proofs.Flat.Assembly.{assembled_append, its_length}
+use Rattle.aud_layout.proofs.Standing.Sizes.{count-block}
 use Rattle.aud_gen.specs.Writes.{ended, Writes, all_ways, statement_lines, part_lines, for_lines, stub_lines, guard_lines, handlers_lines, body_lines}
-use Rattle.aud_gen.proofs.Flat.Assembly.{assembled_append, its_length}
 use Rattle.aud_gen.proofs.Writing.{Adds, written_more, instructions_written}
-use Rattle.aud_gen.proofs.Standing.Sizes.{count-block}
 use Rattle.aud_gen.proofs.Lines.{continued, statement_length, part_written, body_written}
 
 -- A `for`: its two steps, and its statements.

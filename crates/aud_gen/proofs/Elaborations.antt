@@ -7,10 +7,10 @@ use Rattle.aud_typed.specs.Tree as tree
 use Rattle.aud_typed.specs.Tree.{before, part_of, activate, sequence, activation}
 use Rattle.aud_code.specs.Flat.{FlatLine}
 use Rattle.aud_code.specs.declared.line.Last.TheVariants.{Activates}
-use Rattle.aud_gen.specs.Layout.{Around, ways_count, statement_size_by, part_size_by, statement_code_by}
-use Rattle.aud_gen.specs.Written.{flat_step}
+use Rattle.aud_layout.specs.Layout.{Around, ways_count, statement_size_by, part_size_by, statement_code_by}
+use Rattle.aud_layout.specs.Written.{flat_step}
+use Rattle.aud_layout.proofs.Flat.Assembly.{assembled_append}
 use Rattle.aud_gen.specs.Writes.{ended, Writes, statement_lines, part_lines}
-use Rattle.aud_gen.proofs.Flat.Assembly.{assembled_append}
 use Rattle.aud_gen.proofs.Lists.{before_length}
 
 abbrev size : tree.Statement → ℕ → ℕ

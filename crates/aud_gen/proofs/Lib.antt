@@ -7,7 +7,3 @@ pub mod Activations
 pub mod Constructs
 pub mod Arguments
 pub mod Units
-pub mod Asking
-pub mod ByKind
-pub mod Standing
-pub mod Flat

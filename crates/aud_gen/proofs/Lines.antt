@@ -13,15 +13,15 @@ use Rattle.aud_meaning.specs.declared.state.Construct.{Construct}
 use Rattle.aud_code.specs.declared.line.Ending.TheVariants.{If, While}
 use Rattle.aud_code.specs.declared.line.Last.TheVariants.{Does}
 use Rattle.aud_code.specs.Flat.{FlatLine, instructs}
-use Rattle.aud_gen.specs.Instructions.{condition_code}
-use Rattle.aud_gen.specs.Layout.{Line, Around, in_loop, ways_count, line, part_place, body_size_by, statement_size_by, part_size_by, statement_code_by, part_code_by, body_code_by}
-use Rattle.aud_gen.specs.Assembly.{instructions_by, end_line as moved_end, step_lines}
-use Rattle.aud_gen.specs.Written.{flat_step, written}
+use Rattle.aud_layout.specs.Instructions.{condition_code}
+use Rattle.aud_layout.specs.Layout.{Line, Around, in_loop, ways_count, line, part_place, body_size_by, statement_size_by, part_size_by, statement_code_by, part_code_by, body_code_by}
+use Rattle.aud_layout.specs.Assembly.{instructions_by, end_line as moved_end, step_lines}
+use Rattle.aud_layout.specs.Written.{flat_step, written}
+use Rattle.aud_layout.proofs.Flat.Assembly.{assembled_append, its_length}
+use Rattle.aud_layout.proofs.Flat.Behind.{adds, total_more}
+use Rattle.aud_layout.proofs.Standing.Sizes.{total, total-statement, total-part, total-body}
 use Rattle.aud_gen.specs.Writes.{ended, Writes, has_statements, statement_lines, part_lines, listed_lines, arm_length, arm_lines, while_lines}
-use Rattle.aud_gen.proofs.Flat.Assembly.{assembled_append, its_length}
-use Rattle.aud_gen.proofs.Flat.Behind.{adds, total_more}
 use Rattle.aud_gen.proofs.Writing.{Adds, written_more}
-use Rattle.aud_gen.proofs.Standing.Sizes.{total, total-statement, total-part, total-body}
 
 pub chosen : (b : Bool) (x y : ℕ) → IsTrue b → (if b then x else y) ≡ x
 chosen b x y h = ap (λ m. if m then x else y) h

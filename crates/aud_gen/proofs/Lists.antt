@@ -6,8 +6,8 @@ use Rattle.aud_typed.specs.declared.program.Statement.{Statement}
 use Rattle.aud_typed.specs.Ties.View.{plain_statement, plain_statements, part_of_arms, if_in}
 use Rattle.aud_typed.specs.Tree as tree
 use Rattle.aud_typed.specs.Tree.{before, part_of}
-use Rattle.aud_gen.specs.Layout.{statement_size_by, part_size_by}
-use Rattle.aud_gen.specs.Written.{flat_step}
+use Rattle.aud_layout.specs.Layout.{statement_size_by, part_size_by}
+use Rattle.aud_layout.specs.Written.{flat_step}
 use Rattle.aud_gen.specs.Writes.{arm_length}
 use Rattle.aud_gen.proofs.Loops.{dropped}
 

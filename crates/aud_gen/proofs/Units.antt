@@ -9,10 +9,10 @@ use Rattle.aud_typed.specs.Tree as tree
 use Rattle.aud_meaning.specs.declared.state.Construct.TheVariants as construct
 use Rattle.aud_meaning.specs.Items.{no_body}
 use Rattle.aud_code.specs.Flat.{FlatLine}
-use Rattle.aud_gen.specs.Layout.{Around, in_call, body_size_by, end_place_by, unit_code_by, units_code_by, starts_from_by, spare_from_by}
-use Rattle.aud_gen.specs.Written.{flat_step, written, written_bodies}
+use Rattle.aud_layout.specs.Layout.{Around, in_call, body_size_by, end_place_by, unit_code_by, units_code_by, starts_from_by, spare_from_by}
+use Rattle.aud_layout.specs.Written.{flat_step, written, written_bodies}
+use Rattle.aud_layout.proofs.Flat.Assembly.{assembled_append}
 use Rattle.aud_gen.specs.Writes.{body_lines, unit_lines, bodies_in, Writes}
-use Rattle.aud_gen.proofs.Flat.Assembly.{assembled_append}
 use Rattle.aud_gen.proofs.Lines.{continued, body_written}
 use Rattle.aud_gen.proofs.Constructs.{body_laid}
 

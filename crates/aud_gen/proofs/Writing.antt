@@ -17,8 +17,8 @@ use Rattle.aud_typed.specs.Tree as tree
 use Rattle.aud_typed.proofs.Chains.{plain_operation, chain_open, connection_open, join_open}
 use Rattle.aud_code.specs.Instruction.{Instruction, OnTwo, Combine}
 use Rattle.aud_code.specs.Flat.{FlatLine, instructs}
-use Rattle.aud_gen.specs.Instructions.{integer_code, condition_code, text_code}
-use Rattle.aud_gen.specs.Assembly.{within_moved}
+use Rattle.aud_layout.specs.Instructions.{integer_code, condition_code, text_code}
+use Rattle.aud_layout.specs.Assembly.{within_moved}
 use Rattle.aud_gen.specs.Writes.{right_code}
 use Rattle.aud_gen.proofs.Loops.{dropped}
 

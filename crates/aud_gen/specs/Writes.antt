@@ -18,11 +18,11 @@ use Rattle.aud_code.specs.Flat as flat
 use Rattle.aud_code.specs.Flat.{FlatLine, Flat}
 use Rattle.aud_code.specs.View.{plain_way, plain_end}
 use Rattle.aud_code.specs.declared.line.Last.{Last}
+use Rattle.aud_layout.specs.Instructions.{condition_code}
+use Rattle.aud_layout.specs.Layout.{Around, ways_count, around_out, in_call, continues, line, end_line, stubs, guard_line_by, statement_size_by, part_size_by, statement_code_by, part_code_by, handlers_code_by, unit_code_by}
+use Rattle.aud_layout.specs.Assembly.{within_moved, step_lines}
+use Rattle.aud_layout.specs.Written.{flat_step, written, written_bodies}
 use Rattle.aud_gen.specs.declared.ways.Ways.{Ways}
-use Rattle.aud_gen.specs.Instructions.{condition_code}
-use Rattle.aud_gen.specs.Layout.{Around, ways_count, around_out, in_call, continues, line, end_line, stubs, guard_line_by, statement_size_by, part_size_by, statement_code_by, part_code_by, handlers_code_by, unit_code_by}
-use Rattle.aud_gen.specs.Assembly.{within_moved, step_lines}
-use Rattle.aud_gen.specs.Written.{flat_step, written, written_bodies}
 
 -- Lengths.
 

@@ -3,8 +3,8 @@
 ghost use Rattle.std.specs.Prelude.{◌≡◌, ◌∷◌, [], map, length, IfOk};
 ghost use Rattle.aud_typed.specs.Ties.View.{handlers_in};
 ghost use Rattle.aud_code.specs.View.{plain_guard, plain_way};
-ghost use Rattle.aud_gen.specs.Layout.{guards_of_by};
-ghost use Rattle.aud_gen.specs.Written.{flat_step};
+ghost use Rattle.aud_layout.specs.Layout.{guards_of_by};
+ghost use Rattle.aud_layout.specs.Written.{flat_step};
 ghost use Rattle.aud_gen.specs.Writes.{around, all_ways, guard_lines, stub_lines, idle_lines, Writes};
 
 use crate::lengths::{statements_length, sum};

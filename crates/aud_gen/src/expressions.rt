@@ -4,8 +4,8 @@ ghost use Rattle.std.specs.Prelude.{map};
 ghost use Rattle.aud_typed.specs.Ties.View.{plain_argument, plain_arguments};
 ghost use Rattle.aud_typed.specs.Ties.View.{plain_integer, plain_task, plain_boolean, plain_value, plain_reference, plain_text};
 ghost use Rattle.aud_code.specs.Flat.{instructs};
-ghost use Rattle.aud_gen.specs.Instructions.{argument_code, arguments_code, copied_code};
-ghost use Rattle.aud_gen.specs.Instructions.{integer_code, task_code, condition_code, value_code, reference_code, text_code};
+ghost use Rattle.aud_layout.specs.Instructions.{argument_code, arguments_code, copied_code};
+ghost use Rattle.aud_layout.specs.Instructions.{integer_code, task_code, condition_code, value_code, reference_code, text_code};
 ghost use Rattle.aud_gen.specs.Writes.{right_code, Writes};
 
 use crate::lengths::boolean_length;

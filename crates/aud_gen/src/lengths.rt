@@ -5,10 +5,10 @@ ghost use Rattle.aud_typed.specs.Tree.{part_of};
 ghost use Rattle.aud_typed.specs.Ties.View.{plain_argument, plain_arguments};
 ghost use Rattle.aud_typed.specs.Ties.View.{plain_integer, plain_task, plain_boolean, plain_value, plain_reference, plain_text, plain_statement, plain_statements, statements_in, if_in, for_in, handlers_in, elaborations_in, body_in, block_in};
 ghost use Rattle.aud_typed.specs.declared.program.Subtype.{Subtype};
-ghost use Rattle.aud_gen.specs.Instructions.{argument_code, arguments_code, copied_code};
-ghost use Rattle.aud_gen.specs.Instructions.{integer_code, task_code, condition_code, value_code, reference_code, text_code};
-ghost use Rattle.aud_gen.specs.Layout.{statement_size_by, part_size_by, handlers_size_by, body_size_by, end_place_by};
-ghost use Rattle.aud_gen.specs.Written.{flat_step};
+ghost use Rattle.aud_layout.specs.Instructions.{argument_code, arguments_code, copied_code};
+ghost use Rattle.aud_layout.specs.Instructions.{integer_code, task_code, condition_code, value_code, reference_code, text_code};
+ghost use Rattle.aud_layout.specs.Layout.{statement_size_by, part_size_by, handlers_size_by, body_size_by, end_place_by};
+ghost use Rattle.aud_layout.specs.Written.{flat_step};
 ghost use Rattle.aud_gen.specs.Writes.{arm_length};
 
 use aud_typed::program::{

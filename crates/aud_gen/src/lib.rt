@@ -1,9 +1,8 @@
-// From typed programs to code, and the laws that tie its steps to the program's.
+// From typed programs to their code.
 #![tactic(auto)]
 
 mod bodies;
 mod expressions;
-pub mod laws;
 mod lengths;
 mod program;
 mod statements;

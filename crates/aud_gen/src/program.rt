@@ -3,7 +3,7 @@
 ghost use Rattle.std.specs.Prelude.{◌≡◌, length, IfOk};
 ghost use Rattle.aud_typed.specs.Ties.View.{body_in, plain_program};
 ghost use Rattle.aud_code.specs.View.{plain_code};
-ghost use Rattle.aud_gen.specs.Assembly.{flat_program};
+ghost use Rattle.aud_layout.specs.Assembly.{flat_program};
 ghost use Rattle.aud_gen.specs.Writes.{unit_lines, units_code, Writes};
 
 use crate::lengths::place_of_end;

@@ -4,7 +4,7 @@ ghost use Rattle.std.specs.Prelude.{◌≡◌, List, length};
 ghost use Rattle.aud_typed.specs.declared.program.Arm.{Arm as Arms};
 ghost use Rattle.aud_typed.specs.Tree.{part_of};
 ghost use Rattle.aud_typed.specs.Ties.View.{plain_boolean, plain_statement, plain_statements, statements_in, part_of_arms, if_in, for_in, handlers_in, elaborations_in, body_in, block_in};
-ghost use Rattle.aud_gen.specs.Layout.{in_loop};
+ghost use Rattle.aud_layout.specs.Layout.{in_loop};
 ghost use Rattle.aud_gen.specs.Writes.{around, statement_lines, part_lines, has_statements, listed_lines, arm_lines, while_lines, for_lines, handlers_lines, body_lines, Writes, WritesInside};
 
 use crate::lengths::{

@@ -14,10 +14,10 @@ use Rattle.aud_meaning.specs.Parts.{nobody, own_of, owns}
 use Rattle.aud_meaning.specs.Run.{Move, own_move, seen, seen_from, moves_at, state_at, step_with, run_with, moves_in, state_in, step, run, opening, opening_with, main_raised}
 use Rattle.aud_meaning.specs.Listings.{coming_step, coming_step_at, coming_step_in}
 use Rattle.aud_code.specs.Flat.{Flat, FlatLine, flat_controls}
-use Rattle.aud_gen.specs.Assembly.{flat_program}
-use Rattle.aud_gen.specs.Law.{flat}
-use Rattle.aud_gen.specs.Law as code
-use Rattle.aud_gen.proofs.Flat.Laws.{agreement_law, seen_law, moves_law, state_law, step_law, run_law, opening_law, raised_law}
+use Rattle.aud_layout.specs.Assembly.{flat_program}
+use Rattle.aud_layout.specs.Law.{flat}
+use Rattle.aud_layout.specs.Law as code
+use Rattle.aud_layout.proofs.Flat.Laws.{agreement_law, seen_law, moves_law, state_law, step_law, run_law, opening_law, raised_law}
 use Rattle.aud_tasks.specs.declared.run.Ran.{Ran}
 use Rattle.aud_tasks.specs.Kept.{Kept, all_of, Fits}
 use Rattle.aud_tasks.specs.Moving.{moves_of, AreEnabled, ComesNext, IsIn}

@@ -46,7 +46,7 @@ impl Drop for Machine {
 impl Model for Machine {
     ghost use Rattle.std.specs.Prelude.{◌≡◌, false};
     ghost use Rattle.aud_typed.specs.Ties.View.{plain_program};
-    ghost use Rattle.aud_gen.specs.Assembly.{flat_program};
+    ghost use Rattle.aud_layout.specs.Assembly.{flat_program};
     ghost use Rattle.aud_tasks.specs.Kept.{all_of, Fits};
     ghost use Rattle.aud_machine.specs.Shown.{Shown};
     ghost use Rattle.std.specs.Coded.{codes};

@@ -13,7 +13,7 @@ use Rattle.aud_meaning.specs.declared.state.State.TheVariants as state
 use Rattle.aud_meaning.specs.Configuration.{All}
 use Rattle.aud_meaning.specs.Control.{Controls}
 use Rattle.aud_code.specs.Places.{Spot}
-use Rattle.aud_gen.specs.Law.{flat}
+use Rattle.aud_layout.specs.Law.{flat}
 use Rattle.aud_meaning.specs.Statements.{controls}
 use Rattle.aud_meaning.specs.Run.{own_move, moves_at, state_at, seen, step_with, run_with, main_raised, supplied, advanced, opening_with}
 use Rattle.aud_meaning.specs.Listings.{spaced, state_words, exception_name, vars, queues, tasks_view, moves_view}

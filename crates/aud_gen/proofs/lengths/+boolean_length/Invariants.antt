@@ -1,6 +1,6 @@
 use Rattle.std.proofs.Common.{◌≡◌, ◌+◌, length, drop}
 use Rattle.aud_typed.specs.Ties.View.{plain_boolean}
-use Rattle.aud_gen.specs.Instructions.{condition_code}
+use Rattle.aud_layout.specs.Instructions.{condition_code}
 use Rattle.aud_gen.proofs.Writing.{rights_length}
 use Rattle.aud_gen.proofs.lengths.+boolean_length.Given as goal
 

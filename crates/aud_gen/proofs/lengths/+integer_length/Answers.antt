@@ -2,7 +2,7 @@ use Rattle.std.proofs.Common.{◌≡◌, length, refl, arith}
 use Rattle.aud_typed.specs.Tree.{chained, binary}
 use Rattle.aud_typed.specs.Ties.View.{plain_integer}
 use Rattle.aud_typed.proofs.Chains.{plain_operation}
-use Rattle.aud_gen.specs.Instructions.{integer_code}
+use Rattle.aud_layout.specs.Instructions.{integer_code}
 use Rattle.aud_gen.proofs.Loops.{loop_begins, loop_goes_on, loop_ends}
 use Rattle.aud_gen.proofs.Writing.{whole_chain, operation_length}
 use Rattle.aud_gen.proofs.lengths.+integer_length.Goals as goal

@@ -3,8 +3,8 @@ use Rattle.aud_typed.proofs.Opened.{loop_open, while_open, if_open, for_open, bl
 use Rattle.aud_typed.specs.declared.program.Body.{out-Body}
 use Rattle.aud_typed.specs.Tree.{part_of, activation}
 use Rattle.aud_typed.specs.Ties.View.{plain_statement, plain_statements, statements_in, if_in, for_in, block_in}
-use Rattle.aud_gen.specs.Layout.{statement_size_by, part_size_by}
-use Rattle.aud_gen.specs.Written.{flat_step}
+use Rattle.aud_layout.specs.Layout.{statement_size_by, part_size_by}
+use Rattle.aud_layout.specs.Written.{flat_step}
 use Rattle.aud_gen.proofs.Elaborations.{activated_length}
 use Rattle.aud_gen.proofs.Loops.{if_ok}
 use Rattle.aud_gen.proofs.Lists.{arms_length, if_length}

@@ -1,8 +1,8 @@
 use Rattle.std.proofs.Common.{◌≡◌, ◌+◌, drop}
 use Rattle.aud_typed.specs.Tree.{part_of}
 use Rattle.aud_typed.specs.Ties.View.{plain_statements, if_in, handlers_in}
-use Rattle.aud_gen.specs.Layout.{statement_size_by, part_size_by, handlers_size_by}
-use Rattle.aud_gen.specs.Written.{flat_step}
+use Rattle.aud_layout.specs.Layout.{statement_size_by, part_size_by, handlers_size_by}
+use Rattle.aud_layout.specs.Written.{flat_step}
 use Rattle.aud_gen.proofs.Lists.{arms_length}
 use Rattle.aud_gen.proofs.lengths.+lengths.Given as goal
 

@@ -1,7 +1,7 @@
 use Rattle.std.proofs.Common.{◌≡◌, length, refl, arith}
 use Rattle.aud_typed.specs.Tree.{joined, join}
 use Rattle.aud_typed.specs.Ties.View.{plain_text}
-use Rattle.aud_gen.specs.Instructions.{text_code}
+use Rattle.aud_layout.specs.Instructions.{text_code}
 use Rattle.aud_gen.proofs.Loops.{loop_begins, loop_goes_on, loop_ends}
 use Rattle.aud_gen.proofs.Writing.{whole_join, join_length}
 use Rattle.aud_gen.proofs.lengths.+text_length.Goals as goal

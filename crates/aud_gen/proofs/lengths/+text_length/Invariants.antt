@@ -1,7 +1,7 @@
 use Rattle.std.proofs.Common.{◌≡◌, length}
 use Rattle.aud_typed.specs.Tree.{joined}
 use Rattle.aud_typed.specs.Ties.View.{plain_text}
-use Rattle.aud_gen.specs.Instructions.{text_code}
+use Rattle.aud_layout.specs.Instructions.{text_code}
 use Rattle.aud_gen.proofs.Loops.{SoFar}
 use Rattle.aud_gen.proofs.lengths.+text_length.Given as goal
 

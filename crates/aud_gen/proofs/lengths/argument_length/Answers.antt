@@ -1,6 +1,6 @@
 use Rattle.std.proofs.Common.{length, ap, arith}
 use Rattle.aud_typed.specs.Ties.View.{plain_argument, plain_reference}
-use Rattle.aud_gen.specs.Instructions.{argument_code, reference_code}
+use Rattle.aud_layout.specs.Instructions.{argument_code, reference_code}
 use Rattle.aud_gen.proofs.Arguments.{copy_length}
 use Rattle.aud_gen.proofs.Loops.{if_ok}
 use Rattle.aud_gen.proofs.lengths.argument_length.Goals as goal

@@ -1,7 +1,7 @@
 use Rattle.std.proofs.Common.{length, ap, arith}
 use Rattle.std.proofs.lemmas.List.{drop_all}
 use Rattle.aud_typed.specs.Ties.View.{plain_arguments}
-use Rattle.aud_gen.specs.Instructions.{arguments_code}
+use Rattle.aud_layout.specs.Instructions.{arguments_code}
 use Rattle.aud_gen.proofs.Arguments.{next_argument_length}
 use Rattle.aud_gen.proofs.lengths.arguments_length.Goals as goal
 

@@ -4,12 +4,12 @@ use Rattle.std.proofs.lemmas.Bool.{false≢true}
 use Rattle.aud_typed.specs.declared.program.Program.{Program}
 use Rattle.aud_typed.specs.Ties.View.{plain_program}
 use Rattle.aud_code.specs.Sound.{IsSound}
-use Rattle.aud_gen.specs.Assembly.{flat_program}
-use Rattle.aud_gen.specs.Written.{written_bodies}
+use Rattle.aud_layout.specs.Assembly.{flat_program}
+use Rattle.aud_layout.specs.Written.{written_bodies}
+use Rattle.aud_layout.proofs.Flat.Sound.{code_is_sound}
+use Rattle.aud_layout.proofs.Flat.Written.{written_law}
 use Rattle.aud_gen.specs.Writes.{units_code}
 use Rattle.aud_gen.proofs.Activations.{program_activates}
-use Rattle.aud_gen.proofs.Flat.Sound.{code_is_sound}
-use Rattle.aud_gen.proofs.Flat.Written.{written_law}
 use Rattle.aud_gen.proofs.Units.{bodies_open}
 use Rattle.aud_gen.proofs.program.generate.Goals as goal
 

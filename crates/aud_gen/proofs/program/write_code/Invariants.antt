@@ -1,6 +1,6 @@
 use Rattle.std.proofs.Common.{◌≡◌, drop}
-use Rattle.aud_gen.specs.Layout.{units_code_by, starts_from_by, spare_from_by}
-use Rattle.aud_gen.specs.Written.{flat_step, written}
+use Rattle.aud_layout.specs.Layout.{units_code_by, starts_from_by, spare_from_by}
+use Rattle.aud_layout.specs.Written.{flat_step, written}
 use Rattle.aud_gen.specs.Writes.{bodies_in}
 use Rattle.aud_gen.proofs.Units.{with_units, with_starts, with_spare}
 use Rattle.aud_gen.proofs.program.write_code.Given as goal

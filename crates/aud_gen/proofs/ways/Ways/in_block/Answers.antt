@@ -2,7 +2,7 @@ use Rattle.std.proofs.Common.{◌≡◌, suc, ◌+◌, [], ◌∷◌, ◌++◌, 
 use Rattle.std.specs.Prelude.{map}
 use Rattle.std.proofs.lemmas.List.{map-append}
 use Rattle.aud_code.specs.View.{plain_way}
-use Rattle.aud_gen.specs.Layout.{stub_ways}
+use Rattle.aud_layout.specs.Layout.{stub_ways}
 use Rattle.aud_gen.proofs.Constructs.{next_stub}
 use Rattle.aud_gen.proofs.ways.Ways.in_block.Goals as goal
 

@@ -1,7 +1,7 @@
 use Rattle.std.proofs.Common.{◌≡◌, ◌∷◌, ◌++◌, drop}
 use Rattle.std.specs.Prelude.{map}
 use Rattle.aud_code.specs.View.{plain_way}
-use Rattle.aud_gen.specs.Layout.{one_more}
+use Rattle.aud_layout.specs.Layout.{one_more}
 use Rattle.aud_gen.proofs.ways.Ways.in_for.Given as goal
 
 abbrev pub invariant-loop-way : goal.invariant-loop-way

@@ -1,6 +1,6 @@
 use Rattle.std.proofs.Common.{refl, arith}
 use Rattle.aud_typed.specs.Ties.View.{plain_boolean, connected, all_connected}
-use Rattle.aud_gen.specs.Instructions.{condition_code}
+use Rattle.aud_layout.specs.Instructions.{condition_code}
 use Rattle.aud_gen.proofs.Loops.{loop_begins, loop_goes_on, loop_ends}
 use Rattle.aud_gen.proofs.Writing.{Adds, whole_connection, connection_written}
 use Rattle.aud_gen.proofs.writer.Writer.+boolean.Goals as goal

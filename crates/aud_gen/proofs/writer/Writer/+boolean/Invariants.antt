@@ -1,5 +1,5 @@
 use Rattle.aud_typed.specs.Ties.View.{plain_boolean, all_connected}
-use Rattle.aud_gen.specs.Instructions.{condition_code}
+use Rattle.aud_layout.specs.Instructions.{condition_code}
 use Rattle.aud_gen.proofs.Loops.{SoFar}
 use Rattle.aud_gen.proofs.Writing.{Adds}
 use Rattle.aud_gen.proofs.writer.Writer.+boolean.Given as goal

@@ -7,9 +7,9 @@ use Rattle.aud_typed.specs.declared.program.Body.{out-Body}
 use Rattle.aud_typed.proofs.Opened.{loop_open, while_open, if_open, for_open, block_open}
 use Rattle.aud_typed.specs.Tree.{part_of, activation, while_loop, plain_loop}
 use Rattle.aud_typed.specs.Ties.View.{plain_boolean, plain_statement, plain_statements, statements_in, part_of_arms, if_in, for_in, handlers_in, elaborations_in, body_in, block_in}
-use Rattle.aud_gen.specs.Instructions.{condition_code}
-use Rattle.aud_gen.specs.Layout.{statement_size_by, part_size_by, end_place_by, ways_count, in_loop}
-use Rattle.aud_gen.specs.Written.{flat_step}
+use Rattle.aud_layout.specs.Instructions.{condition_code}
+use Rattle.aud_layout.specs.Layout.{statement_size_by, part_size_by, end_place_by, ways_count, in_loop}
+use Rattle.aud_layout.specs.Written.{flat_step}
 use Rattle.aud_gen.specs.Writes.{has_statements, around, statement_lines, part_lines, guard_lines, handlers_lines, Writes}
 use Rattle.aud_gen.proofs.Elaborations.{whole_activated}
 use Rattle.aud_gen.proofs.Loops.{dropped}

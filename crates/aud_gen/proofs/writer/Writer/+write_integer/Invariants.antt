@@ -1,7 +1,7 @@
 use Rattle.aud_typed.specs.Tree.{chained}
 use Rattle.aud_typed.specs.Ties.View.{plain_integer}
 use Rattle.aud_typed.proofs.Chains.{plain_operation}
-use Rattle.aud_gen.specs.Instructions.{integer_code}
+use Rattle.aud_layout.specs.Instructions.{integer_code}
 use Rattle.aud_gen.proofs.Loops.{SoFar}
 use Rattle.aud_gen.proofs.Writing.{Adds}
 use Rattle.aud_gen.proofs.writer.Writer.+write_integer.Given as goal

@@ -1,7 +1,7 @@
 use Rattle.std.proofs.Common.{refl, arith}
 use Rattle.aud_typed.specs.Tree.{joined, join}
 use Rattle.aud_typed.specs.Ties.View.{plain_text}
-use Rattle.aud_gen.specs.Instructions.{text_code}
+use Rattle.aud_layout.specs.Instructions.{text_code}
 use Rattle.aud_gen.proofs.Loops.{loop_begins, loop_goes_on, loop_ends}
 use Rattle.aud_gen.proofs.Writing.{Adds, whole_join, instructions_written}
 use Rattle.aud_gen.proofs.writer.Writer.+write_text.Goals as goal

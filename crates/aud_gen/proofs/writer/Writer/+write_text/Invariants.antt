@@ -1,6 +1,6 @@
 use Rattle.aud_typed.specs.Tree.{joined}
 use Rattle.aud_typed.specs.Ties.View.{plain_text}
-use Rattle.aud_gen.specs.Instructions.{text_code}
+use Rattle.aud_layout.specs.Instructions.{text_code}
 use Rattle.aud_gen.proofs.Loops.{SoFar}
 use Rattle.aud_gen.proofs.Writing.{Adds}
 use Rattle.aud_gen.proofs.writer.Writer.+write_text.Given as goal

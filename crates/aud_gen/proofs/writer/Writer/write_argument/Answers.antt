@@ -1,7 +1,7 @@
 use Rattle.std.proofs.Common.{◌∷◌, [], ◌++◌}
 use Rattle.aud_typed.specs.Ties.View.{plain_value, plain_reference}
 use Rattle.aud_code.specs.Instruction.{Pass, PassCopy}
-use Rattle.aud_gen.specs.Instructions.{value_code, reference_code, copied_code}
+use Rattle.aud_layout.specs.Instructions.{value_code, reference_code, copied_code}
 use Rattle.aud_gen.proofs.Loops.{on_ok}
 use Rattle.aud_gen.proofs.Writing.{instructions_written}
 use Rattle.aud_gen.proofs.writer.Writer.write_argument.Goals as goal

@@ -2,7 +2,7 @@ use Rattle.std.proofs.Common.{◌++◌, map, ap, sym, ◌∙◌, arith, append-n
 use Rattle.std.proofs.lemmas.List.{drop_all}
 use Rattle.aud_typed.specs.Ties.View.{plain_arguments}
 use Rattle.aud_code.specs.Flat.{instructs}
-use Rattle.aud_gen.specs.Instructions.{arguments_code}
+use Rattle.aud_layout.specs.Instructions.{arguments_code}
 use Rattle.aud_gen.proofs.Arguments.{one_argument}
 use Rattle.aud_gen.proofs.writer.Writer.write_arguments.Goals as goal
 

@@ -4,7 +4,7 @@ use Rattle.aud_typed.specs.Ties.View.{plain_integer}
 use Rattle.aud_code.specs.declared.line.ForLoop.{ForLoop}
 use Rattle.aud_code.specs.declared.line.Last.TheVariants.{Does, Continues}
 use Rattle.aud_code.specs.declared.line.Ending.TheVariants.{Loop}
-use Rattle.aud_gen.specs.Instructions.{integer_code}
+use Rattle.aud_layout.specs.Instructions.{integer_code}
 use Rattle.aud_gen.specs.Writes.{ended}
 use Rattle.aud_gen.proofs.Constructs.{whole_control}
 use Rattle.aud_gen.proofs.writer.Writer.write_control.Goals as goal

@@ -2,10 +2,10 @@ use Rattle.std.proofs.Common.{◌≡◌, suc, List, [], ◌∷◌, ◌++◌, len
 use Rattle.std.specs.Prelude.{None}
 use Rattle.aud_typed.specs.Ties.View.{handlers_in}
 use Rattle.aud_code.specs.Flat.{end, Guards}
-use Rattle.aud_gen.specs.Layout.{guards_of_by}
+use Rattle.aud_layout.specs.Layout.{guards_of_by}
 use Rattle.aud_code.specs.Places.{Guard}
-use Rattle.aud_gen.specs.Assembly.{within_moved}
-use Rattle.aud_gen.specs.Written.{flat_step}
+use Rattle.aud_layout.specs.Assembly.{within_moved}
+use Rattle.aud_layout.specs.Written.{flat_step}
 use Rattle.aud_gen.proofs.Constructs.{guards_moved}
 use Rattle.aud_gen.proofs.Loops.{on_ok}
 use Rattle.aud_gen.proofs.writer.Writer.write_guards.Goals as goal

@@ -1,6 +1,6 @@
 use Rattle.std.proofs.Common.{◌≡◌, suc, ◌+◌, length, arith}
 use Rattle.aud_typed.specs.Ties.View.{plain_boolean}
-use Rattle.aud_gen.specs.Instructions.{condition_code}
+use Rattle.aud_layout.specs.Instructions.{condition_code}
 use Rattle.aud_gen.proofs.Lines.{whole_test}
 use Rattle.aud_gen.proofs.writer.Writer.write_while.Goals as goal
 

@@ -1,5 +1,0 @@
-use Rattle.aud_gen.proofs.Asking.Steps.{asked_law}
-use Rattle.aud_gen.proofs.laws.asked_law.Goals as goal
-
-pub returns : goal.returns
-returns c = asked_law

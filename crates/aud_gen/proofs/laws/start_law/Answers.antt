@@ -1,5 +1,0 @@
-use Rattle.aud_gen.proofs.Flat.Laws.{start_law}
-use Rattle.aud_gen.proofs.laws.start_law.Goals as goal
-
-pub returns : goal.returns
-returns c = start_law

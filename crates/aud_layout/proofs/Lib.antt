@@ -1,0 +1,4 @@
+pub mod Asking
+pub mod ByKind
+pub mod Standing
+pub mod Flat
