@@ -4,12 +4,13 @@ use Rattle.std.proofs.Common.{◌≡◌, ℕ, List, [], ◌∷◌, ◌++◌, len
 use Rattle.aud_bench.specs.declared.request.Request.{Request}
 use Rattle.aud_bench.specs.Alone.{alone}
 use Rattle.aud_bench.specs.Seen.{Seen as Bench, told}
-use Rattle.aud_hall.specs.declared.why.Why.{Why}
-use Rattle.aud_hall.specs.Seats.{Seat, has_closed, submitting, submitted, sending_by, sending, sent, collected}
-use Rattle.aud_hall.specs.CheckIns.{judged, checked}
+use Rattle.aud_seats.specs.declared.why.Why.{Why}
+use Rattle.aud_seats.specs.Seats.{Seat, has_closed, submitting, submitted, sending_by, sending, sent, collected}
+use Rattle.aud_seats.specs.CheckIns.{judged, checked}
+use Rattle.aud_seats.specs.Numbered.{IsFront}
 use Rattle.aud_hall.specs.Session.{Part, Own, Began, Submitted, SentOut, Sliced, Returned, Strayed, Collected, Freed, Held, bench_at, acts, at_held, own_sending, own_slicing, own_checking, asked, session_from, none_yet}
 use Rattle.aud_hall.specs.Mine.{mine}
-use Rattle.aud_hall.specs.Headline.{IsFront, IsCalm, IsAmple, AmpleLaw}
+use Rattle.aud_hall.specs.Headline.{IsCalm, IsAmple, AmpleLaw}
 use Rattle.aud_hall.proofs.Isolation.{held_own, headline_law}
 
 -- the bench at home has not closed

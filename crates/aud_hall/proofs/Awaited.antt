@@ -7,20 +7,20 @@ use Rattle.aud_bench.specs.Alone.{fits, made}
 use Rattle.aud_bench.specs.Size.{bytes_of}
 use Rattle.aud_bench.specs.Same.{same_request, same_limits}
 use Rattle.aud_bench.specs.Seen.{Seen as Bench, has_quit}
-use Rattle.aud_hall.specs.declared.why.Why.TheVariants.{OtherLimits, Behind}
-use Rattle.aud_hall.specs.Slices.{answered, given, done, sliced}
-use Rattle.aud_hall.specs.Seats.{Seat, Sending, has_closed, submitting, submitted, sends, sending_by, sending, sent}
-use Rattle.aud_hall.specs.Numbered.{one_on}
-use Rattle.aud_hall.specs.CheckIns.{first_difference, not_awaited, or_differs, judged}
-use Rattle.aud_hall.specs.Headline.{IsFront, now_is}
-use Rattle.aud_hall.specs.Ties.Right.{IsHome, IsMade, IsRight}
+use Rattle.aud_seats.specs.declared.why.Why.TheVariants.{OtherLimits, Behind}
+use Rattle.aud_seats.specs.Slices.{answered, given, done, sliced}
+use Rattle.aud_seats.specs.Seats.{Seat, Sending, has_closed, submitting, submitted, sends, sending_by, sending, sent}
+use Rattle.aud_seats.specs.Numbered.{one_on, IsFront}
+use Rattle.aud_seats.specs.CheckIns.{first_difference, not_awaited, or_differs, judged}
+use Rattle.aud_seats.specs.Ties.Right.{IsHome, IsMade, IsRight}
+use Rattle.aud_hall.specs.Headline.{now_is}
 use Rattle.aud_hall.specs.Why.Laws.{after_slices, after_submits, TakesBack, AwaitedLaw}
 use Rattle.aud_bench.proofs.Made.{made_grows}
 use Rattle.aud_bench.proofs.Sameness.{same_self, same_limits_self}
 use Rattle.aud_bench.proofs.Truths.{or_left, or_right, false_le}
-use Rattle.aud_hall.proofs.Lists.{begins_front}
-use Rattle.aud_hall.proofs.Seats.{front_on, given_front, made_is}
-use Rattle.aud_hall.proofs.CheckIns.{Awaits}
+use Rattle.aud_seats.proofs.Lists.{begins_front}
+use Rattle.aud_seats.proofs.Seats.{front_on, given_front, made_is}
+use Rattle.aud_seats.proofs.CheckIns.{Awaits}
 use Rattle.aud_hall.proofs.Isolation.{world_law, at_each_seat}
 
 abbrev pub Awaited : Limits → Sending → Option Bench → Type 0

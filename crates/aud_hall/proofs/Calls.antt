@@ -2,8 +2,8 @@
 use Rattle.std.specs.Prelude.{map}
 use Rattle.std.proofs.Common.{◌≡◌, List, [], ◌∷◌, ◌++◌, refl, ap, ◌∙◌, subst}
 use Rattle.aud_text.specs.declared.limits.Limits.{Limits}
+use Rattle.aud_seats.specs.Replies.{Reply, Then}
 use Rattle.aud_hall.specs.declared.event.Event.{Event as Call}
-use Rattle.aud_hall.specs.Replies.{Reply, Then}
 use Rattle.aud_hall.specs.World.{World, Event, happens, after_all, replies_to, beginning}
 use Rattle.aud_hall.specs.Headline.{AnswersAlone, now_is}
 use Rattle.aud_hall.specs.Ties.Calls.{Told, call_of, told_by, IsRun}

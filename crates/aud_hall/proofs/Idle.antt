@@ -1,27 +1,31 @@
 -- When no work is in hand, as the counts of answers tell it, and the reply to a parcel that is taken in.
 use Rattle.std.specs.Prelude.{nat_lt, nat_le, ◌||◌, if◌then◌else◌}
-use Rattle.std.proofs.Common.{◌≡◌, ℕ, ◌<◌, ◌≤◌, List, ◌++◌, length, Option, Some, None, Bool, true, false, refl, sym, ap, ◌∙◌, subst, arith, append-nil}
+use Rattle.std.proofs.Common.{◌≡◌, ℕ, ◌<◌, ◌≤◌, List, length, Option, Some, None, Bool, true, false, refl, sym, ap, ◌∙◌, subst, arith}
 use Rattle.aud_text.specs.declared.limits.Limits.{Limits}
 use Rattle.aud_bench.specs.Alone.{cost, made}
-use Rattle.aud_bench.specs.Seen.{Seen as Bench, told, answers_of}
-use Rattle.aud_hall.specs.declared.why.Why.{Why}
-use Rattle.aud_hall.specs.declared.next.Next.TheVariants.{More, Idle}
-use Rattle.aud_hall.specs.Slices.{answered}
-use Rattle.aud_hall.specs.Replies.{Reply, Taken, Then}
-use Rattle.aud_hall.specs.Seats.{Seat, has_closed, taken_in}
-use Rattle.aud_hall.specs.CheckIns.{next, judged, checked}
-use Rattle.aud_hall.specs.Halls.{Place, place_at, put_place, with_seat, with_place, checking_place, checking_seat}
-use Rattle.aud_hall.specs.World.{World, Parcel, CheckIn, parcel_at, coming_in, checking}
+use Rattle.aud_bench.specs.Seen.{Seen as Bench, answers_of}
+use Rattle.aud_seats.specs.declared.why.Why.{Why}
+use Rattle.aud_seats.specs.declared.next.Next.TheVariants.{More, Idle}
+use Rattle.aud_seats.specs.Slices.{answered}
+use Rattle.aud_seats.specs.Replies.{Reply, Taken, Then}
+use Rattle.aud_seats.specs.Seats.{Seat, has_closed, taken_in}
+use Rattle.aud_seats.specs.CheckIns.{next, judged, checked}
+use Rattle.aud_seats.specs.Halls.{Place, place_at, put_place, with_seat, with_place, checking_place, checking_seat}
+use Rattle.aud_seats.specs.Parcels.{Parcel}
+use Rattle.aud_seats.specs.Ties.Right.{IsHome, IsMade, IsRight}
+use Rattle.aud_hall.specs.World.{World, CheckIn, parcel_at, coming_in, checking}
 use Rattle.aud_hall.specs.Headline.{IsIdle, now_is}
-use Rattle.aud_hall.specs.Ties.Right.{IsHome, IsMade, IsRight, IsRightPlace, IsRightWorld}
+use Rattle.aud_hall.specs.Ties.Worlds.{IsRightPlace, IsRightWorld}
 use Rattle.aud_hall.specs.Why.Laws.{CountsTell, IdleLaw, TellsIdleLaw}
 use Rattle.aud_bench.proofs.Made.{made_short, made_all, cost_more}
 use Rattle.aud_bench.proofs.Truths.{true_le, false_le}
-use Rattle.aud_hall.proofs.Truths.{true_lt, false_lt}
-use Rattle.aud_hall.proofs.Lists.{each_place, place_put, begins_front}
-use Rattle.aud_hall.proofs.Seats.{made_of_front, open_outbox}
+use Rattle.aud_seats.proofs.Truths.{true_lt, false_lt}
+use Rattle.aud_seats.proofs.Lists.{begins_front}
+use Rattle.aud_seats.proofs.Seats.{made_of_front, open_outbox}
+use Rattle.aud_seats.proofs.Rooms.{room}
+use Rattle.aud_hall.proofs.Numbered.{each_place, place_put}
 use Rattle.aud_hall.proofs.Worlds.{happens_right}
-use Rattle.aud_hall.proofs.Isolation.{world_law, at_each_seat, room}
+use Rattle.aud_hall.proofs.Isolation.{world_law, at_each_seat}
 
 no_less : (a b : ℕ) → a ≤ b → (a < b → ⊥) → a ≡ b
 no_less a b h never = by (nat_lt a b) refl

@@ -1,27 +1,31 @@
 -- The laws of every list of events.
 use Rattle.std.specs.Prelude.{nat_le, ◌||◌, if◌then◌else◌}
-use Rattle.std.proofs.Common.{◌≡◌, ℕ, ◌<◌, ◌≤◌, List, [], ◌∷◌, ◌++◌, length, Option, Some, None, Bool, true, false, refl, sym, ap, ◌∙◌, subst, arith, append-nil, length-append}
+use Rattle.std.proofs.Common.{◌≡◌, ℕ, ◌≤◌, List, [], ◌∷◌, ◌++◌, length, Option, Some, None, Bool, true, false, refl, sym, ap, ◌∙◌, subst, arith, append-nil}
 use Rattle.aud_text.specs.declared.limits.Limits.{Limits}
 use Rattle.aud_bench.specs.declared.request.Request.{Request}
 use Rattle.aud_bench.specs.declared.request.Answer.{Answer}
 use Rattle.aud_bench.specs.Alone.{alone, cost, made}
 use Rattle.aud_bench.specs.Seen.{Seen as Bench, told, unanswered}
-use Rattle.aud_hall.specs.declared.why.Why.{Why}
-use Rattle.aud_hall.specs.Slices.{given, lesser, sliced}
-use Rattle.aud_hall.specs.Replies.{Worked}
-use Rattle.aud_hall.specs.Seats.{Seat, has_closed, submitting, submitted, sends, sending_by, sending, sent, collected}
-use Rattle.aud_hall.specs.CheckIns.{judged, checked}
-use Rattle.aud_hall.specs.Halls.{Place, place_at}
+use Rattle.aud_seats.specs.declared.why.Why.{Why}
+use Rattle.aud_seats.specs.Slices.{given, lesser, sliced}
+use Rattle.aud_seats.specs.Replies.{Worked}
+use Rattle.aud_seats.specs.Seats.{Seat, has_closed, submitting, submitted, sends, sending_by, sending, sent, collected}
+use Rattle.aud_seats.specs.CheckIns.{judged, checked}
+use Rattle.aud_seats.specs.Halls.{Place, place_at}
+use Rattle.aud_seats.specs.Numbered.{IsFront}
+use Rattle.aud_seats.specs.Ties.Right.{IsHome, IsMade, IsRight, IsRightSeat}
 use Rattle.aud_hall.specs.World.{World, Event, beginning, after_all, happens, slicing}
 use Rattle.aud_hall.specs.Session.{Part, Own, Began, Submitted, SentOut, Sliced, Returned, Strayed, Collected, Freed, Held, Course, bench_at, acts, accepted, at_held, own_sending, own_slicing, own_checking, asked_from, asked, session_from, none_yet}
 use Rattle.aud_hall.specs.Mine.{Track, Phase, Waiting, Lasting, Over, part_of, held_in, with_limits, mine, mine_from, track_after, track_from, outset}
-use Rattle.aud_hall.specs.Headline.{IsFront, IsBeginning, IsIdle, AnswersAlone, HeadlineLaw, SliceLaw, SessionLaw, TwoWorldsLaw, now_is, track_is, part_is}
-use Rattle.aud_hall.specs.Ties.Right.{IsHome, IsMade, IsRight, IsRightSeat, IsRightPlace, IsRightWorld}
+use Rattle.aud_hall.specs.Headline.{IsBeginning, IsIdle, AnswersAlone, HeadlineLaw, SliceLaw, SessionLaw, TwoWorldsLaw, now_is, track_is, part_is}
+use Rattle.aud_hall.specs.Ties.Worlds.{IsRightPlace, IsRightWorld}
 use Rattle.aud_hall.specs.Why.Laws.{OfEachSeat, WorldLaw, IsolationLaw, RoomLaw, OthersLaw}
 use Rattle.aud_bench.proofs.Fronts.{whole_law}
-use Rattle.aud_bench.proofs.Made.{made_within, made_all}
-use Rattle.aud_hall.proofs.Lists.{each_place, begins_front}
-use Rattle.aud_hall.proofs.Seats.{made_of_front, front_of_alone, away_front}
+use Rattle.aud_bench.proofs.Made.{made_all}
+use Rattle.aud_seats.proofs.Lists.{begins_front}
+use Rattle.aud_seats.proofs.Seats.{made_of_front, front_of_alone, away_front}
+use Rattle.aud_seats.proofs.Rooms.{room}
+use Rattle.aud_hall.proofs.Numbered.{each_place}
 use Rattle.aud_hall.proofs.Worlds.{all_right, beginning_right}
 use Rattle.aud_hall.proofs.Sessions.{IsTracked, Agrees, course, course_of, follows}
 
@@ -58,23 +62,6 @@ at_each_seat P holds w right k place s e f = holds place.limits s (subst (IsRigh
 
 pub isolation_law : IsolationLaw
 isolation_law limits events = at_each_seat (λ l s. AnswersAlone l s.requests s) answers_alone (now_is limits events) (world_law limits events)
-
-pub room : (limits : Limits) (s : Seat) → IsRight limits s → length s.outbox ≤ length s.requests
-room limits s right = by s.home right.bench
-  where
-    closed_or : (made_so : List Answer) (b : Bench) (c : Bool) → b.spent ≡ c → (b.spent ≡ true → length made_so < length s.requests) → length made_so ≤ length s.requests → length (made_so ++ told c) ≤ length s.requests
-    closed_or made_so b true e short within = omega (arith, short e, length-append made_so (told true))
-    closed_or made_so b false e short within = omega (arith, within, length-append made_so (told false))
-
-    by : (o : Option Bench) → IsMade limits s o → length s.outbox ≤ length s.requests
-    by None m =
-        let f = away_front limits s right.kept m in
-        omega (arith, ap length f.1, length-append s.outbox f.0, ap length (whole_law limits s.requests right.kept), made_all limits s.requests)
-    by (Some b) m =
-        let f = begins_front b.journal s.requests m.front in
-        let front_length : length b.journal ≤ length s.requests = omega (arith, ap length f.1, length-append b.journal f.0) in
-        let within : length (made limits b.journal b.units) ≤ length s.requests = omega (arith, made_within limits b.journal b.units, front_length) in
-        omega (arith, ap length m.outbox, closed_or (made limits b.journal b.units) b b.spent refl m.short within)
 
 pub room_law : RoomLaw
 room_law limits events = at_each_seat (λ l s. length s.outbox ≤ length s.requests) room (now_is limits events) (world_law limits events)

@@ -1,7 +1,4 @@
-pub mod Truths
-pub mod Lists
-pub mod Seats
-pub mod CheckIns
+pub mod Numbered
 pub mod Worlds
 pub mod Marks
 pub mod Sessions
@@ -12,13 +9,5 @@ pub mod Awaited
 pub mod Ample
 pub mod Refusals
 pub mod Calls
-pub mod Slices
 pub mod Computing
-pub mod Places
-pub mod Parting
-pub mod Giving
-pub mod Counting
-pub mod Rooms
 pub mod Running
-pub mod Keeping
-pub mod Judging

@@ -1,11 +1,12 @@
 -- The parcels that were sent out for a session, by its own numbers.
 use Rattle.std.proofs.Common.{◌≡◌, ℕ, zero, suc, List, [], ◌∷◌, ◌++◌, length, Option, Some, None, Bool, true, false, refl, sym, ap, ◌∙◌, arith, append-nil}
 use Rattle.aud_bench.specs.Seen.{Seen as Bench}
-use Rattle.aud_hall.specs.Numbered.{put, one_on}
-use Rattle.aud_hall.specs.Replies.{Reply, Accepted, Refused, Sent, Worked, Taken, Stranger, Answers, Nothing}
-use Rattle.aud_hall.specs.World.{Parcel, parcel_at, parcels, out_after}
+use Rattle.aud_seats.specs.Numbered.{put, one_on}
+use Rattle.aud_seats.specs.Replies.{Reply, Accepted, Refused, Sent, Worked, Taken, Stranger, Answers, Nothing}
+use Rattle.aud_seats.specs.Parcels.{Parcel, bench_of}
+use Rattle.aud_hall.specs.World.{parcel_at, parcels, out_after}
 use Rattle.aud_hall.specs.Session.{bench_at, own_parcels, without}
-use Rattle.aud_hall.specs.Mine.{bench_of, marked, own_number, marks_of}
+use Rattle.aud_hall.specs.Mine.{marked, own_number, marks_of}
 
 abbrev pub put_own : List (Option Bench) → Option ℕ → Option Bench → List (Option Bench)
 put_own xs None y = xs

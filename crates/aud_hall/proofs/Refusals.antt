@@ -1,14 +1,15 @@
 -- A call that is refused changes nothing.
 use Rattle.std.proofs.Common.{◌≡◌, ℕ, Option, Some, None, Bool, true, false, refl, sym, ap, ◌∙◌}
 use Rattle.aud_bench.specs.declared.request.Request.{Request}
-use Rattle.aud_hall.specs.declared.why.Why.{Why}
-use Rattle.aud_hall.specs.Replies.{Then}
-use Rattle.aud_hall.specs.Seats.{Seat, submitted, submitting, collected}
-use Rattle.aud_hall.specs.CheckIns.{judged, checked}
-use Rattle.aud_hall.specs.Halls.{Place, place_at, put_place, with_seat, with_place, at_place, at_seat, claiming, freeing, checking_place, checking_seat}
-use Rattle.aud_hall.specs.World.{World, Parcel, Claim, Submit, SendOut, Slice, CheckIn, Collect, Free, parcel_at, in_hall, slicing, coming_in, checking}
+use Rattle.aud_seats.specs.declared.why.Why.{Why}
+use Rattle.aud_seats.specs.Replies.{Then}
+use Rattle.aud_seats.specs.Seats.{Seat, submitted, submitting, collected}
+use Rattle.aud_seats.specs.CheckIns.{judged, checked}
+use Rattle.aud_seats.specs.Halls.{Place, place_at, put_place, with_seat, with_place, at_place, at_seat, claiming, freeing, checking_place, checking_seat}
+use Rattle.aud_seats.specs.Parcels.{Parcel}
+use Rattle.aud_hall.specs.World.{World, Claim, Submit, SendOut, Slice, CheckIn, Collect, Free, parcel_at, in_hall, slicing, coming_in, checking}
 use Rattle.aud_hall.specs.Why.Laws.{IsRefusal, RefusalLaw}
-use Rattle.aud_hall.proofs.Lists.{put_place_same}
+use Rattle.aud_hall.proofs.Numbered.{put_place_same}
 
 abbrev SamePlace : (Place → Option Seat → Then Place) → Type 0
 SamePlace call = (place : Place) → IsRefusal (call place place.seat).reply → (call place place.seat).now ≡ place

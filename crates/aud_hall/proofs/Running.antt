@@ -4,21 +4,21 @@ use Rattle.std.proofs.Common.{◌≡◌, ℕ, ◌<◌, ◌≤◌, List, [], ◌�
 use Rattle.aud_text.specs.declared.limits.Limits.{Limits}
 use Rattle.aud_bench.specs.declared.bench.Work.{Work}
 use Rattle.aud_bench.specs.Seen.{unanswered}
+use Rattle.aud_seats.specs.Numbered.{joined}
+use Rattle.aud_seats.specs.Replies.{Reply, Accepted, Refused, Sent, Worked, Taken, Stranger, Answers, Nothing, Then}
+use Rattle.aud_seats.specs.Slices.{done, sliced}
+use Rattle.aud_seats.specs.Halls.{Place, sends_out}
+use Rattle.aud_seats.specs.Parcels.{Parcel, bench_of}
 use Rattle.aud_hall.specs.declared.event.Event.{Event as Call}
 use Rattle.aud_hall.specs.declared.event.Event.TheVariants as call
 use Rattle.aud_hall.specs.declared.reply.Reply.{Reply as InMemory}
 use Rattle.aud_hall.specs.declared.reply.Reply.TheVariants as in_memory
-use Rattle.aud_hall.specs.Numbered.{joined}
-use Rattle.aud_hall.specs.Replies.{Reply, Accepted, Refused, Sent, Worked, Taken, Stranger, Answers, Nothing, Then}
-use Rattle.aud_hall.specs.Slices.{done, sliced}
-use Rattle.aud_hall.specs.Halls.{Place, sends_out}
 use Rattle.aud_hall.specs.World as world
-use Rattle.aud_hall.specs.World.{World, Parcel, SendOut, Slice, CheckIn, in_hall, sending_away, slicing, checking, coming_in, out_after, parcels}
+use Rattle.aud_hall.specs.World.{World, SendOut, Slice, CheckIn, in_hall, sending_away, slicing, checking, coming_in, out_after, parcels}
 use Rattle.aud_hall.specs.Ties.Calls.{Told, told_by, plain_reply, IsRun}
-use Rattle.aud_hall.specs.Mine.{bench_of}
 use Rattle.aud_hall.specs.Ties.Runs.{seen, Makes, slicing_there, SlicesThere, left_after, ChecksThere}
+use Rattle.aud_seats.proofs.Places.{at_here, at_past, put_is, set_same}
 use Rattle.aud_hall.proofs.Calls.{one_call}
-use Rattle.aud_hall.proofs.Places.{at_here, at_past, put_is, set_same}
 
 -- ## A list of calls
 
@@ -115,7 +115,7 @@ module _ (n : ℕ) (hall : List Place) (out : List (Option Parcel)) where
   left_out (Taken next) p is = put_is out n None
   left_out Accepted p is = sym (set_same out n (Some p) is)
   left_out (Refused fault) p is = sym (set_same out n (Some p) is)
-  left_out (Sent gone) p is = sym (set_same out n (Some p) is)
+  left_out (Sent _) p is = sym (set_same out n (Some p) is)
   left_out (Worked done left) p is = sym (set_same out n (Some p) is)
   left_out (Stranger why) p is = sym (set_same out n (Some p) is)
   left_out (Answers answers) p is = sym (set_same out n (Some p) is)

@@ -2,17 +2,18 @@
 use Rattle.std.specs.Prelude.{◌==◌, if◌then◌else◌}
 use Rattle.std.proofs.Common.{◌≡◌, ℕ, zero, suc, List, [], ◌∷◌, ◌++◌, length, Option, Some, None, Bool, true, false, refl, sym, ap, ◌∙◌, subst, arith, append-nil, length-append}
 use Rattle.aud_bench.specs.Seen.{Seen as Bench}
-use Rattle.aud_hall.specs.Numbered.{put}
-use Rattle.aud_hall.specs.Slices.{sliced}
-use Rattle.aud_hall.specs.Replies.{Reply, Accepted, Sent, Taken, Nothing, Then}
-use Rattle.aud_hall.specs.Seats.{Seat, claimed, submitted, sent, collected}
-use Rattle.aud_hall.specs.CheckIns.{judged, checked}
-use Rattle.aud_hall.specs.Halls.{Place, HallSending, place_at, put_place, with_seat, with_place, at_place, at_seat, claiming, freeing, sends_out, sending_place, sending_seat, checks_in, checking_place, checking_seat}
-use Rattle.aud_hall.specs.World.{World, Event, Parcel, Claim, Submit, SendOut, Slice, CheckIn, Collect, Free, happens, after_all, parcel_at, parcels, in_hall, sending_away, slicing, worked, coming_in, checking, out_after}
+use Rattle.aud_seats.specs.Numbered.{put}
+use Rattle.aud_seats.specs.Slices.{sliced}
+use Rattle.aud_seats.specs.Replies.{Reply, Accepted, Sent, Taken, Nothing, Then}
+use Rattle.aud_seats.specs.Seats.{Seat, claimed, submitted, sent, collected}
+use Rattle.aud_seats.specs.CheckIns.{judged, checked}
+use Rattle.aud_seats.specs.Halls.{Place, HallSending, place_at, put_place, with_seat, with_place, at_place, at_seat, claiming, freeing, sends_out, sending_place, sending_seat, checks_in, checking_place, checking_seat}
+use Rattle.aud_seats.specs.Parcels.{Parcel, bench_of}
+use Rattle.aud_hall.specs.World.{World, Event, Claim, Submit, SendOut, Slice, CheckIn, Collect, Free, happens, after_all, parcel_at, parcels, in_hall, sending_away, slicing, worked, coming_in, checking, out_after}
 use Rattle.aud_hall.specs.Session.{Part, Own, Submitted, SentOut, Returned, Collected, Freed, Course, acts, at_held, own_slicing, own_sending, own_checking, own_parcels, without, session_from}
-use Rattle.aud_hall.specs.Mine.{Track, Phase, Waiting, Lasting, Over, held_of, held_in, marked, bench_of, part_of, own_number, own_of, lasting, slice_of, stray_of, return_of, is_here, is_lasting, marks_of, phase_begun, phase_ended, track_after, track_from, mine_from, replies_from, with_limits, begins, begins_place, begins_seat, with_own, with_reply}
+use Rattle.aud_hall.specs.Mine.{Track, Phase, Waiting, Lasting, Over, held_of, held_in, marked, part_of, own_number, own_of, lasting, slice_of, stray_of, return_of, is_here, is_lasting, marks_of, phase_begun, phase_ended, track_after, track_from, mine_from, replies_from, with_limits, begins, begins_place, begins_seat, with_own, with_reply}
 use Rattle.aud_bench.proofs.Truths.{eq_true}
-use Rattle.aud_hall.proofs.Lists.{place_put, place_put_other, length_put}
+use Rattle.aud_hall.proofs.Numbered.{place_put, place_put_other, length_put}
 use Rattle.aud_hall.proofs.Marks.{put_own, marked_put, marked_at, marked_sent, marked_out_after}
 
 abbrev pub track : Phase → List Bool → Track

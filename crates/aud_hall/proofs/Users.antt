@@ -2,18 +2,19 @@
 use Rattle.std.specs.Prelude.{◌==◌, if◌then◌else◌}
 use Rattle.std.proofs.Common.{◌≡◌, ℕ, zero, suc, ◌+◌, List, [], ◌∷◌, Option, Some, None, Bool, true, false, refl, sym, ap, ◌∙◌, subst, arith}
 use Rattle.aud_text.specs.declared.limits.Limits.{Limits}
-use Rattle.aud_hall.specs.declared.fault.HallFault.{HallFault}
-use Rattle.aud_hall.specs.declared.fault.HallFault.TheVariants.{NoSuchSeat, SeatInUse, Memory}
-use Rattle.aud_hall.specs.Numbered.{at}
-use Rattle.aud_hall.specs.Replies.{Accepted, Refused, Then}
-use Rattle.aud_hall.specs.Seats.{Seat, claimed, submitted, sent, collected}
-use Rattle.aud_hall.specs.CheckIns.{judged, checked}
-use Rattle.aud_hall.specs.Halls.{Place, nobodys, place_at, put_place, with_seat, at_place, at_seat, claiming, freeing, sends_out, sending_place, sending_seat, checking_place, checking_seat}
-use Rattle.aud_hall.specs.World.{World, Event, Parcel, Claim, Submit, SendOut, Slice, CheckIn, Collect, Free, happens, after_all, beginning, parcel_at, in_hall, slicing, checking}
+use Rattle.aud_seats.specs.declared.fault.HallFault.{HallFault}
+use Rattle.aud_seats.specs.declared.fault.HallFault.TheVariants.{NoSuchSeat, SeatInUse, Memory}
+use Rattle.aud_seats.specs.Numbered.{at}
+use Rattle.aud_seats.specs.Replies.{Accepted, Refused, Then}
+use Rattle.aud_seats.specs.Seats.{Seat, claimed, submitted, sent, collected}
+use Rattle.aud_seats.specs.CheckIns.{judged, checked}
+use Rattle.aud_seats.specs.Halls.{Place, nobodys, place_at, put_place, with_seat, at_place, at_seat, claiming, freeing, sends_out, sending_place, sending_seat, checking_place, checking_seat}
+use Rattle.aud_seats.specs.Parcels.{Parcel}
+use Rattle.aud_hall.specs.World.{World, Event, Claim, Submit, SendOut, Slice, CheckIn, Collect, Free, happens, after_all, beginning, parcel_at, in_hall, slicing, checking}
 use Rattle.aud_hall.specs.Mine.{Track, Phase, Waiting, Lasting, Over, held_in, held_of, with_limits, phase_begun, phase_ended, track_after, track_from, outset}
 use Rattle.aud_hall.specs.Headline.{EverySeatLaw, now_is}
 use Rattle.aud_bench.proofs.Truths.{eq_true}
-use Rattle.aud_hall.proofs.Lists.{place_put, place_put_other}
+use Rattle.aud_hall.proofs.Numbered.{place_put, place_put_other}
 use Rattle.aud_hall.proofs.Sessions.{IsSeated, IsHeld, eq_false}
 
 -- so many sessions have begun: those behind them still wait, and one of them lasts where the seat is claimed

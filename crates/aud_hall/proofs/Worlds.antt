@@ -1,17 +1,24 @@
 -- Every event keeps what holds of a world.
-use Rattle.std.proofs.Common.{◌≡◌, ℕ, List, [], ◌∷◌, ◌++◌, Option, Some, None, Bool, true, false, refl, ap, ◌∙◌}
+use Rattle.std.specs.Prelude.{◌||◌, if◌then◌else◌}
+use Rattle.std.proofs.Common.{◌≡◌, ℕ, ◌+◌, ◌<◌, ◌≤◌, List, [], ◌∷◌, ◌++◌, length, Option, Some, None, Bool, true, false, refl, sym, ap, ◌∙◌, subst, arith, length-append}
 use Rattle.aud_text.specs.declared.limits.Limits.{Limits}
+use Rattle.aud_bench.specs.Alone.{made}
 use Rattle.aud_bench.specs.Seen.{Seen as Bench}
-use Rattle.aud_hall.specs.Numbered.{at, joined}
-use Rattle.aud_hall.specs.Replies.{Reply, Taken, Then}
-use Rattle.aud_hall.specs.Seats.{Seat, submitted, sent, collected}
-use Rattle.aud_hall.specs.CheckIns.{judged, checked}
-use Rattle.aud_hall.specs.Halls.{Place, nobodys, place_at, at_place, at_seat, claiming, freeing, sends_out, sending_place, sending_seat, checking_place, checking_seat}
-use Rattle.aud_hall.specs.World.{World, Event, Parcel, Claim, Submit, SendOut, Slice, CheckIn, Collect, Free, happens, after_all, beginning, parcel_at, parcels, in_hall, sending_away, slicing, coming_in, checking, out_after}
-use Rattle.aud_hall.specs.Ties.Right.{Each, IsTrue, IsRight, IsRightSeat, IsRightPlace, IsRightSlot, IsRightWorld}
-use Rattle.aud_hall.proofs.Lists.{each_at, each_put, each_append, each_place, each_put_place}
-use Rattle.aud_hall.proofs.Seats.{IsGone, claimed_right, submitted_right, sent_right}
-use Rattle.aud_hall.proofs.CheckIns.{sliced_true, checked_right}
+use Rattle.aud_seats.specs.Numbered.{at, joined}
+use Rattle.aud_seats.specs.Slices.{lesser, until, is_cut, done, sliced}
+use Rattle.aud_seats.specs.Replies.{Reply, Taken, Then}
+use Rattle.aud_seats.specs.Seats.{Seat, submitted, sent, collected}
+use Rattle.aud_seats.specs.CheckIns.{judged, checked}
+use Rattle.aud_seats.specs.Halls.{Place, nobodys, place_at, at_place, at_seat, claiming, freeing, sends_out, sending_place, sending_seat, checking_place, checking_seat}
+use Rattle.aud_seats.specs.Parcels.{Parcel}
+use Rattle.aud_seats.specs.Ties.Right.{IsTrue, IsRight, IsRightSeat}
+use Rattle.aud_hall.specs.World.{World, Event, Claim, Submit, SendOut, Slice, CheckIn, Collect, Free, happens, after_all, beginning, parcel_at, parcels, in_hall, sending_away, slicing, coming_in, checking, out_after}
+use Rattle.aud_hall.specs.Ties.Worlds.{Each, IsRightPlace, IsRightSlot, IsRightWorld}
+use Rattle.aud_bench.proofs.Made.{made_grows, made_short}
+use Rattle.aud_seats.proofs.Truths.{true_lt}
+use Rattle.aud_seats.proofs.Seats.{IsGone, claimed_right, submitted_right, sent_right}
+use Rattle.aud_seats.proofs.CheckIns.{checked_right}
+use Rattle.aud_hall.proofs.Numbered.{each_at, each_put, each_append, each_place, each_put_place}
 
 KeepsPlace : (Place → Option Seat → Then Place) → Type 0
 KeepsPlace call = (place : Place) → IsRightPlace place → IsRightPlace (call place place.seat).now
@@ -68,6 +75,44 @@ send_right k refused w right = by (place_at w.hall k) refl
     by : (o : Option Place) → place_at w.hall k ≡ o → IsRightWorld (sending_away k w (sending_place k refused w.hall o)).now
     by None e = record { hall = right.hall; out = out_right None tt }
     by (Some place) e = seated place place.seat (each_place IsRightPlace w.hall k place right.hall e)
+
+-- ## Slice
+
+until_le : (o : Option ℕ) (n : ℕ) → until o n ≤ n
+until_le None n = omega arith
+until_le (Some m) n = omega arith
+
+cut_less : (o : Option ℕ) (n : ℕ) → is_cut o n ≡ true → until o n < n
+cut_less None n h = absurd (cc)
+cut_less (Some m) n h = let less = true_lt m n h in omega (arith, less)
+
+or_true : (a b : Bool) → a ≡ false → (a || b) ≡ true → b ≡ true
+or_true a b e h = sym (ap (λ x. x || b) e) ∙ h
+
+sliced_true : (units : ℕ) (refused : Option ℕ) (b : Bench) → IsTrue b → IsTrue (sliced units refused b)
+sliced_true units refused b t = by b.spent refl
+  where
+    by : (c : Bool) → b.spent ≡ c → IsTrue (sliced units refused b)
+    by true e =
+        let none : done units refused b ≡ 0 = ap (λ c. if c then 0 else until refused (lesser units b)) e in
+        let same : b.units + done units refused b ≡ b.units = omega (arith, none) in
+        record {
+          within = omega (arith, same, t.within);
+          taken = subst (λ u. b.taken ≤ length (made b.limits b.journal u)) (sym same) t.taken;
+          short = λ _. subst (λ u. length (made b.limits b.journal u) < length b.journal) (sym same) (t.short e);
+        }
+    by false e =
+        let some : done units refused b ≡ until refused (lesser units b) = ap (λ c. if c then 0 else until refused (lesser units b)) e in
+        let below = until_le refused (lesser units b) in
+        let grown = made_grows b.limits b.journal b.units (b.units + done units refused b) (omega arith) in
+        let longer : length (made b.limits b.journal b.units) ≤ length (made b.limits b.journal (b.units + done units refused b)) = omega (arith, ap length grown.1, length-append (made b.limits b.journal b.units) grown.0) in
+        record {
+          within = omega (arith, some, below, t.within);
+          taken = omega (arith, longer, t.taken);
+          short = λ h.
+              let less = cut_less refused (lesser units b) (or_true b.spent (is_cut refused (lesser units b)) e h) in
+              made_short b.limits b.journal (b.units + done units refused b) (omega (arith, some, less, t.within));
+        }
 
 slot_right : (out : List (Option Parcel)) (n : ℕ) (p : Parcel) → Each IsRightSlot out → parcel_at out n ≡ Some p → IsTrue p.bench
 slot_right out n p all e = by (at out n) refl e

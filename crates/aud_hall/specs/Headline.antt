@@ -5,16 +5,14 @@ use Rattle.aud_bench.specs.declared.request.Request.{Request}
 use Rattle.aud_bench.specs.declared.request.Answer.{Answer}
 use Rattle.aud_bench.specs.Alone.{alone, cost}
 use Rattle.aud_bench.specs.Seen.{Seen as Bench, told, unanswered}
-use Rattle.aud_hall.specs.Slices.{lesser, sliced}
-use Rattle.aud_hall.specs.Replies.{Reply, Worked, Taken}
-use Rattle.aud_hall.specs.Seats.{Seat, has_closed}
-use Rattle.aud_hall.specs.Halls.{Place, place_at}
+use Rattle.aud_seats.specs.Numbered.{IsFront}
+use Rattle.aud_seats.specs.Slices.{lesser, sliced}
+use Rattle.aud_seats.specs.Replies.{Reply, Worked, Taken}
+use Rattle.aud_seats.specs.Seats.{Seat, has_closed}
+use Rattle.aud_seats.specs.Halls.{Place, place_at}
 use Rattle.aud_hall.specs.World.{World, Event, Slice, happens, after_all, beginning, parcel_at}
 use Rattle.aud_hall.specs.Session.{Held, Part, Own, SentOut, Returned, acts, none_yet, session, asked}
 use Rattle.aud_hall.specs.Mine.{Track, outset, track_from, part_of, mine, mine_from, replies_from}
-
-abbrev pub IsFront : {A : Type 0} → List A → List A → Type 0
-IsFront {A} front whole = (rest : List A) × (whole ≡ front ++ rest)
 
 -- the answers so far are a front of those of a private server, and where memory was refused to the bench that is at home, that is
 -- the last one

@@ -1,9 +1,3 @@
-pub mod Numbered
-pub mod Slices
-pub mod Replies
-pub mod Seats
-pub mod CheckIns
-pub mod Halls
 pub mod World
 pub mod Session
 pub mod Mine

@@ -2,11 +2,12 @@
 use Rattle.std.specs.Prelude.{ℕ, zero, suc, List, [], ◌∷◌, ◌++◌, Option, Some, None, Bool, true, false, ◌==◌, if◌then◌else◌}
 use Rattle.aud_text.specs.declared.limits.Limits.{Limits}
 use Rattle.aud_bench.specs.Seen.{Seen as Bench}
-use Rattle.aud_hall.specs.Numbered.{one_on}
-use Rattle.aud_hall.specs.Replies.{Reply, Accepted, Sent}
-use Rattle.aud_hall.specs.Seats.{Seat}
-use Rattle.aud_hall.specs.Halls.{Place, place_at}
-use Rattle.aud_hall.specs.World.{Parcel, World, Event, Claim, Submit, SendOut, Slice, CheckIn, Collect, Free, parcel_at, happens, beginning}
+use Rattle.aud_seats.specs.Numbered.{one_on}
+use Rattle.aud_seats.specs.Replies.{Reply, Accepted, Sent}
+use Rattle.aud_seats.specs.Seats.{Seat}
+use Rattle.aud_seats.specs.Halls.{Place, place_at}
+use Rattle.aud_seats.specs.Parcels.{Parcel, bench_of}
+use Rattle.aud_hall.specs.World.{World, Event, Claim, Submit, SendOut, Slice, CheckIn, Collect, Free, parcel_at, happens, beginning}
 use Rattle.aud_hall.specs.Session.{Held, Part, Own, Began, Submitted, SentOut, Sliced, Returned, Strayed, Collected, Freed}
 
 -- so many sessions begin at the seat before it; it lasts; it is over
@@ -34,11 +35,6 @@ abbrev pub held_in : Phase → Option Place → Option Held
 held_in (Waiting n) place = None
 held_in Lasting place = held_of place
 held_in Over place = None
-
--- the bench of a parcel that is out
-abbrev pub bench_of : Option Parcel → Option Bench
-bench_of None = None
-bench_of (Some p) = Some p.bench
 
 abbrev pub marked : List Bool → List (Option Parcel) → List (Option Bench)
 marked [] out = []

@@ -4,11 +4,11 @@ use Rattle.std.specs.Prelude.{ℕ, List, [], ◌∷◌, ◌++◌, Option, Some, 
 use Rattle.aud_text.specs.declared.limits.Limits.{Limits}
 use Rattle.aud_bench.specs.declared.request.Request.{Request}
 use Rattle.aud_bench.specs.Seen.{Seen as Bench}
-use Rattle.aud_hall.specs.Numbered.{at, put, joined}
-use Rattle.aud_hall.specs.Slices.{sliced}
-use Rattle.aud_hall.specs.Replies.{Reply, Accepted, Sent, Nothing, Then}
-use Rattle.aud_hall.specs.Seats.{Seat, Sending, claimed, submitted, sent, collected}
-use Rattle.aud_hall.specs.CheckIns.{judged, checked}
+use Rattle.aud_seats.specs.Numbered.{at, put, joined}
+use Rattle.aud_seats.specs.Slices.{sliced}
+use Rattle.aud_seats.specs.Replies.{Reply, Accepted, Sent, Nothing, Then}
+use Rattle.aud_seats.specs.Seats.{Seat, Sending, claimed, submitted, sent, collected}
+use Rattle.aud_seats.specs.CheckIns.{judged, checked}
 use Rattle.aud_hall.specs.World.{worked, out_after}
 
 -- a claimed seat and its limits

@@ -1,5 +1,3 @@
 pub mod Calls
-pub mod Places
-pub mod Right
 pub mod Runs
-pub mod Said
+pub mod Worlds

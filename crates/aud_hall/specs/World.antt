@@ -3,15 +3,11 @@ use Rattle.std.specs.Prelude.{ℕ, List, [], ◌∷◌, ◌++◌, Option, Some, 
 use Rattle.aud_text.specs.declared.limits.Limits.{Limits}
 use Rattle.aud_bench.specs.declared.request.Request.{Request}
 use Rattle.aud_bench.specs.Seen.{Seen as Bench, unanswered}
-use Rattle.aud_hall.specs.Numbered.{at, put, joined}
-use Rattle.aud_hall.specs.Slices.{done, sliced}
-use Rattle.aud_hall.specs.Replies.{Reply, Sent, Worked, Taken, Nothing, Then}
-use Rattle.aud_hall.specs.Halls.{Place, HallSending, nobodys, claims, submits, sends_out, checks_in, collects, frees}
-
--- a bench that is out, and the seat that sent it
-pub record Parcel : Type 0 where
-  pub seat : ℕ
-  pub bench : Bench
+use Rattle.aud_seats.specs.Numbered.{at, put, joined}
+use Rattle.aud_seats.specs.Slices.{done, sliced}
+use Rattle.aud_seats.specs.Replies.{Reply, Sent, Worked, Taken, Nothing, Then}
+use Rattle.aud_seats.specs.Parcels.{Parcel}
+use Rattle.aud_seats.specs.Halls.{Place, HallSending, nobodys, claims, submits, sends_out, checks_in, collects, frees}
 
 -- parcels are numbered from 0, in the order in which they were sent out; nothing stands where one was taken in
 pub record World : Type 0 where

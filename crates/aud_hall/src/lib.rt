@@ -1,16 +1,11 @@
-// The hall: the private servers of many users at once. Each user has a seat, and the work for it goes out as a parcel.
+// What a hall is to its users: worlds, which are a hall and the parcels that are out, and what holds of them after any calls. The
+// hall and its calls are those of `aud_seats`.
 #![tactic(auto)]
 
 pub mod event;
-pub mod fault;
-pub mod hall;
 pub mod laws;
-pub mod next;
-pub mod parcel;
-mod place;
 pub mod reply;
 mod run;
-mod seat;
-pub mod stranger;
-pub mod why;
 pub mod world;
+
+pub use aud_seats::{fault, hall, next, parcel, stranger, why};

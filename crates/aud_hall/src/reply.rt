@@ -1,10 +1,10 @@
 // What the calls of a list are answered.
 
-use crate::fault::HallFault;
-use crate::next::Next;
-use crate::why::Why;
 use aud_bench::bench::Work;
 use aud_bench::request::Answer;
+use aud_seats::fault::HallFault;
+use aud_seats::next::Next;
+use aud_seats::why::Why;
 
 /// The answer to a call.
 #[derive(Drop, Debug)]

@@ -1,22 +1,22 @@
 // Events, one after the other.
 
 ghost use Rattle.std.specs.Prelude.{◌≡◌, List, Option, IfOk, map};
-ghost use Rattle.aud_hall.specs.Halls as halls;
+ghost use Rattle.aud_seats.specs.Halls as halls;
+ghost use Rattle.aud_seats.specs.Ties.Said.{said, said_answers};
 ghost use Rattle.aud_hall.specs.Ties.Runs.{seen, Makes, SlicesThere, ChecksThere};
 ghost use Rattle.aud_hall.specs.Headline.{AnswersAlone};
 ghost use Rattle.aud_hall.specs.Why.Laws.{OfEachSeat};
 ghost use Rattle.aud_hall.specs.Why.Runs.{KeepsApart};
-ghost use Rattle.aud_hall.specs.Ties.Calls.{said, told_by, plain_reply, IsRun};
-ghost use Rattle.aud_hall.specs.Ties.Said.{said_answers};
+ghost use Rattle.aud_hall.specs.Ties.Calls.{told_by, plain_reply, IsRun};
 ghost use Rattle.aud_hall.specs.declared.event.Event.TheVariants as event;
 
 use crate::event::Event;
-use crate::fault::HallFault;
-use crate::hall::Hall;
-use crate::parcel::Parcel;
 use crate::reply::Reply;
 use crate::world::World;
 use aud_bench::request::Answer;
+use aud_seats::fault::HallFault;
+use aud_seats::hall::Hall;
+use aud_seats::parcel::Parcel;
 use aud_text::limits::Limits;
 use std::alloc::{AllocError, Global};
 

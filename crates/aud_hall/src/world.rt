@@ -1,8 +1,8 @@
 // A hall, and the parcels that are out.
 
-use crate::hall::Hall;
-use crate::parcel::Parcel;
 use crate::reply::Reply;
+use aud_seats::hall::Hall;
+use aud_seats::parcel::Parcel;
 
 /// The hall, the parcels that were sent out, by their numbers, as long as they are out, and the replies.
 #[derive(Drop)]

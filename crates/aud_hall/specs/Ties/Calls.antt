@@ -1,36 +1,17 @@
 -- Lists of calls as a caller makes them, and the worlds that they come to: memory may be refused in any of them.
-use Rattle.std.specs.Prelude.{◌≡◌, ℕ, List, Option, Some, None, Bool, true, false, Result, Ok, Err, map, is_some}
+use Rattle.std.specs.Prelude.{◌≡◌, ℕ, List, Bool, map, is_some}
 use Rattle.aud_text.specs.declared.limits.Limits.{Limits}
 use Rattle.aud_bench.specs.declared.request.Answer.{Answer}
-use Rattle.aud_hall.specs.declared.fault.HallFault.{HallFault}
-use Rattle.aud_hall.specs.declared.fault.HallFault.TheVariants.{Memory}
-use Rattle.aud_hall.specs.declared.why.Why.{Why}
-use Rattle.aud_hall.specs.declared.next.Next.{Next}
+use Rattle.aud_seats.specs.declared.fault.HallFault.{HallFault}
+use Rattle.aud_seats.specs.declared.why.Why.{Why}
+use Rattle.aud_seats.specs.declared.next.Next.{Next}
+use Rattle.aud_seats.specs.Replies.{Reply}
+use Rattle.aud_seats.specs.Replies as reply
 use Rattle.aud_hall.specs.declared.event.Event.{Event as Call}
 use Rattle.aud_hall.specs.declared.event.Event.TheVariants as call
 use Rattle.aud_hall.specs.declared.reply.Reply.{Reply as InMemory}
 use Rattle.aud_hall.specs.declared.reply.Reply.TheVariants as in_memory
-use Rattle.aud_hall.specs.Replies.{Reply}
-use Rattle.aud_hall.specs.Replies as reply
 use Rattle.aud_hall.specs.World.{World, Event, Claim, Submit, SendOut, Slice, CheckIn, Collect, Free, after_all, replies_to, beginning}
-
--- ## A call
-
--- memory was refused in a call that answers so
-abbrev pub is_memory : {A : Type 0} → Result A HallFault → Bool
-is_memory (Err Memory) = true
-is_memory _ = false
-
-abbrev pub said : {A : Type 0} → Result A HallFault → Reply
-said (Ok done) = reply.Accepted
-said (Err fault) = reply.Refused fault
-
--- where memory was refused in a slice that did so many units
-abbrev pub cut_in : (closed : Bool) → (done : ℕ) → Option ℕ
-cut_in true done = Some done
-cut_in false done = None
-
--- ## A list of calls
 
 -- the call that an event is, whether or not memory was refused in it
 abbrev pub call_of : Event → Call

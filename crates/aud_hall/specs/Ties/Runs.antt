@@ -1,12 +1,13 @@
 -- A world in memory, and one call more.
 use Rattle.std.specs.Prelude.{◌≡◌, ℕ, List, Option, Some, None}
+use Rattle.aud_seats.specs.Replies.{Reply, Taken, Nothing, Then}
+use Rattle.aud_seats.specs.Slices.{sliced}
+use Rattle.aud_seats.specs.Halls.{Place, checks_in}
+use Rattle.aud_seats.specs.Parcels.{Parcel}
 use Rattle.aud_hall.specs.declared.event.Event.{Event as Call}
 use Rattle.aud_hall.specs.declared.reply.Reply.{Reply as InMemory}
 use Rattle.aud_hall.specs.declared.reply.Reply.TheVariants as in_memory
-use Rattle.aud_hall.specs.Replies.{Reply, Taken, Nothing, Then}
-use Rattle.aud_hall.specs.Slices.{sliced}
-use Rattle.aud_hall.specs.Halls.{Place, checks_in}
-use Rattle.aud_hall.specs.World.{World, Event, Parcel, happens, worked}
+use Rattle.aud_hall.specs.World.{World, Event, happens, worked}
 use Rattle.aud_hall.specs.Ties.Calls.{call_of, told_by, plain_reply}
 
 abbrev pub seen : List Place → List (Option Parcel) → World

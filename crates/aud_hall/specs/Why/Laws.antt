@@ -3,16 +3,16 @@ use Rattle.std.specs.Prelude.{◌≡◌, ℕ, ◌<◌, ◌≤◌, List, [], ◌�
 use Rattle.aud_text.specs.declared.limits.Limits.{Limits}
 use Rattle.aud_bench.specs.declared.request.Request.{Request}
 use Rattle.aud_bench.specs.Seen.{Seen as Bench}
-use Rattle.aud_hall.specs.declared.next.Next.TheVariants.{More, Idle}
-use Rattle.aud_hall.specs.Slices.{sliced}
-use Rattle.aud_hall.specs.Replies.{Reply, Accepted, Refused, Sent, Worked, Taken, Stranger, Answers, Nothing}
-use Rattle.aud_hall.specs.Seats.{Seat, has_closed, submitted, sent}
-use Rattle.aud_hall.specs.CheckIns.{judged}
-use Rattle.aud_hall.specs.Halls.{Place, place_at}
+use Rattle.aud_seats.specs.declared.next.Next.TheVariants.{More, Idle}
+use Rattle.aud_seats.specs.Slices.{sliced}
+use Rattle.aud_seats.specs.Replies.{Reply, Accepted, Refused, Sent, Worked, Taken, Stranger, Answers, Nothing}
+use Rattle.aud_seats.specs.Seats.{Seat, has_closed, submitted, sent}
+use Rattle.aud_seats.specs.CheckIns.{judged}
+use Rattle.aud_seats.specs.Halls.{Place, place_at}
 use Rattle.aud_hall.specs.World.{World, Event, CheckIn, happens}
 use Rattle.aud_hall.specs.Mine.{own_of, track_after, part_of}
 use Rattle.aud_hall.specs.Headline.{IsIdle, AnswersAlone, now_is, track_is, part_is}
-use Rattle.aud_hall.specs.Ties.Right.{IsRightWorld}
+use Rattle.aud_hall.specs.Ties.Worlds.{IsRightWorld}
 
 -- outboxes and parcels are what they are said to be, in every world
 abbrev pub WorldLaw : Type 0

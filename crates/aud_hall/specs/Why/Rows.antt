@@ -10,10 +10,10 @@ use Rattle.aud_bench.specs.declared.request.Request.TheVariants.{Load, Run, Outp
 use Rattle.aud_bench.specs.declared.request.Answer.{Answer}
 use Rattle.aud_bench.specs.declared.request.Answer.TheVariants as answer
 use Rattle.aud_bench.specs.Seen.{Seen as Bench}
-use Rattle.aud_hall.specs.declared.fault.HallFault.TheVariants.{Memory}
-use Rattle.aud_hall.specs.declared.why.Why.TheVariants.{NoSeat, OtherLimits, Differs, NotOut, Behind}
-use Rattle.aud_hall.specs.declared.next.Next.TheVariants.{More, Idle}
-use Rattle.aud_hall.specs.Replies.{Reply, Accepted, Refused, Sent, Worked, Taken, Stranger, Answers}
+use Rattle.aud_seats.specs.declared.fault.HallFault.TheVariants.{Memory}
+use Rattle.aud_seats.specs.declared.why.Why.TheVariants.{NoSeat, OtherLimits, Differs, NotOut, Behind}
+use Rattle.aud_seats.specs.declared.next.Next.TheVariants.{More, Idle}
+use Rattle.aud_seats.specs.Replies.{Reply, Accepted, Refused, Sent, Worked, Taken, Stranger, Answers}
 use Rattle.aud_hall.specs.World.{Event, Claim, Submit, SendOut, Slice, CheckIn, Collect, Free, beginning, replies_to}
 use Rattle.aud_hall.specs.Session.{Began, Submitted, SentOut, Sliced, Returned, Strayed, Freed, session}
 use Rattle.aud_hall.specs.Mine.{mine}

@@ -1,12 +1,12 @@
 -- What holds of the world that a list of calls comes to, whatever memory was refused in it.
 use Rattle.std.specs.Prelude.{◌≡◌, ℕ, List, Some, None, false}
 use Rattle.aud_text.specs.declared.limits.Limits.{Limits}
-use Rattle.aud_hall.specs.declared.event.Event.{Event as Call}
 use Rattle.aud_bench.specs.Seen.{Seen as Bench, unanswered}
-use Rattle.aud_hall.specs.Slices.{lesser, sliced}
-use Rattle.aud_hall.specs.Replies.{Worked}
-use Rattle.aud_hall.specs.Seats.{Seat}
-use Rattle.aud_hall.specs.Halls.{Place, place_at}
+use Rattle.aud_seats.specs.Slices.{lesser, sliced}
+use Rattle.aud_seats.specs.Replies.{Worked}
+use Rattle.aud_seats.specs.Seats.{Seat}
+use Rattle.aud_seats.specs.Halls.{Place, place_at}
+use Rattle.aud_hall.specs.declared.event.Event.{Event as Call}
 use Rattle.aud_hall.specs.World.{World, Event, Slice, happens, after_all, beginning, parcel_at}
 use Rattle.aud_hall.specs.Session.{Held, session, asked}
 use Rattle.aud_hall.specs.Mine.{outset, track_from, part_of, mine, mine_from, replies_from}

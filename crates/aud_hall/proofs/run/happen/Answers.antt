@@ -1,9 +1,8 @@
 use Rattle.std.proofs.Common.{refl, sym, ap, subst}
+use Rattle.aud_seats.specs.Ties.Said.{is_memory, said, said_answers}
 use Rattle.aud_hall.specs.declared.event.Event.{Event as Call}
 use Rattle.aud_hall.specs.declared.event.Event.TheVariants as call
 use Rattle.aud_hall.specs.World.{World, Claim, Submit, Collect, Free, in_hall}
-use Rattle.aud_hall.specs.Ties.Calls.{is_memory, said}
-use Rattle.aud_hall.specs.Ties.Said.{said_answers}
 use Rattle.aud_hall.specs.Ties.Runs.{seen, Makes}
 use Rattle.aud_hall.proofs.run.happen.Goals as goal
 

@@ -1,5 +1,5 @@
 use Rattle.std.proofs.Common.{List, Option, Some, None, sym, subst, append-nil}
-use Rattle.aud_hall.specs.World.{Parcel}
+use Rattle.aud_seats.specs.Parcels.{Parcel}
 use Rattle.aud_hall.specs.Ties.Runs.{seen, Makes}
 use Rattle.aud_hall.specs.declared.event.Event.TheVariants as event
 use Rattle.aud_hall.specs.declared.reply.Reply.TheVariants as in_memory

@@ -1,4 +1,4 @@
-use Rattle.aud_hall.specs.Ties.Calls.{cut_in}
+use Rattle.aud_seats.specs.Ties.Said.{cut_in}
 use Rattle.aud_hall.proofs.Running.{slices_there}
 use Rattle.aud_hall.proofs.run.slice_there.Goals as goal
 

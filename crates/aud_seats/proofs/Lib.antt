@@ -1,0 +1,12 @@
+pub mod Truths
+pub mod Lists
+pub mod Seats
+pub mod CheckIns
+pub mod Parting
+pub mod Giving
+pub mod Counting
+pub mod Rooms
+pub mod Keeping
+pub mod Judging
+pub mod Places
+pub mod Slices
