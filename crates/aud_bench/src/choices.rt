@@ -7,7 +7,7 @@ use std::alloc::{AllocError, Global};
 use std::marker::Model;
 
 /// Choices in order, each a number of at most 9,999.
-#[derive(Debug, Drop)]
+#[derive(Drop)]
 pub struct Choices {
     numbers: Vec<u32>,
 }

@@ -30,7 +30,7 @@ use aud_typed::program::Program;
 use std::alloc::Global;
 
 /// Why a source text is not loaded.
-#[derive(Drop, Debug)]
+#[derive(Drop)]
 pub enum LoadFault {
     /// Where memory is refused.
     Memory,

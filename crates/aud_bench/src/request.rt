@@ -16,7 +16,7 @@ use aud_text::text::Text;
 use std::alloc::{AllocError, Global};
 
 /// What a user asks.
-#[derive(Drop, Debug)]
+#[derive(Drop)]
 pub enum Request {
     /// Take this source text: its lines, each followed by a line feed.
     Load(Text),
@@ -77,7 +77,7 @@ impl Eq for Request {
 }
 
 /// Why a request is malformed.
-#[derive(Clone, Copy, PartialEq, Eq, Debug)]
+#[derive(Clone, Copy, PartialEq, Eq)]
 pub enum BadRequest {
     /// Its first word is no command.
     UnknownCommand,
@@ -104,7 +104,7 @@ impl BadRequest {
 }
 
 /// An exception: a predefined one, or one that the program declares, by its name (RM 11.1).
-#[derive(Drop, Debug)]
+#[derive(Drop)]
 pub enum Raised {
     Predefined(Raise),
     Declared(Name),
@@ -127,7 +127,7 @@ impl Raised {
 }
 
 /// What came of a RUN: the steps done, what can happen next, and the exception that ended the program.
-#[derive(Drop, Debug)]
+#[derive(Drop)]
 pub struct Report {
     pub steps: u32,
     pub state: State,
@@ -161,7 +161,7 @@ fn clone_if(alloc: Global, raised: &Option<Raised>) -> Result<Option<Raised>, Al
 }
 
 /// What a user is answered.
-#[derive(Drop, Debug)]
+#[derive(Drop)]
 pub enum Answer {
     /// The program of this name is loaded.
     Loaded(Name),

@@ -23,7 +23,7 @@ use std::alloc::{AllocError, Global};
 
 /// What some work on a request came to: its answer, if it is done, the steps that a RUN under way has done, and the
 /// units that the work cost.
-#[derive(Drop, Debug)]
+#[derive(Drop)]
 pub struct Served {
     pub answer: Option<Answer>,
     pub progress: u32,

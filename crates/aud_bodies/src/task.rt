@@ -29,7 +29,7 @@ use aud_typed::program::{Statement, Tasks};
 use std::alloc::{AllocError, Global};
 
 /// What the tasks of each name of a declaration are: their type, and of arrays the lower bound and the length (RM 9.1).
-#[derive(Clone, Copy, PartialEq, Eq, Debug)]
+#[derive(Clone, Copy, PartialEq, Eq)]
 pub struct Creation {
     pub task_type: usize,
     pub low: i32,

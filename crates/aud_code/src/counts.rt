@@ -11,7 +11,7 @@ use crate::instruction::Instruction;
 use crate::line::{Ending, Last};
 
 /// How many Integers, truth values and targets.
-#[derive(Clone, Copy, PartialEq, Eq, Debug)]
+#[derive(Clone, Copy, PartialEq, Eq)]
 pub struct Counts {
     pub integers: usize,
     pub booleans: usize,

@@ -6,7 +6,7 @@ use aud_typed::program::{ArrayAt, Binary, Logical, Relation, Subtype, Unary, Var
 
 /// An instruction. They work on the operands of a step: Integers, truth values and targets, of which the newest is taken
 /// first, the arguments of a call, and a text that grows at its end.
-#[derive(Drop, Debug)]
+#[derive(Drop)]
 pub enum Instruction {
     /// One more Integer.
     Push(Int32),

@@ -6,7 +6,7 @@ use aud_text::place::Pos;
 use aud_typed::program::{Exception, Subtype, Tasks};
 
 /// A way out of loops or a body: the place, and how many loops' frames are left at once.
-#[derive(Clone, Copy, PartialEq, Eq, Debug)]
+#[derive(Clone, Copy, PartialEq, Eq)]
 pub struct Way {
     pub to: usize,
     pub loops: usize,
@@ -14,7 +14,7 @@ pub struct Way {
 
 /// A `for` loop (RM 5.5): where it begins and where its `for` stands, the number of its parameter's table, and whether it goes
 /// from the last value to the first.
-#[derive(Clone, Copy, PartialEq, Eq, Debug)]
+#[derive(Clone, Copy, PartialEq, Eq)]
 pub struct ForLoop {
     pub at: Pos,
     pub next_at: Pos,
@@ -23,7 +23,7 @@ pub struct ForLoop {
 }
 
 /// What a statement's step does with its operands.
-#[derive(Clone, Copy, PartialEq, Eq, Debug)]
+#[derive(Clone, Copy, PartialEq, Eq)]
 pub enum Ending {
     /// The next variable of the innermost frame has the newest Integer. While fewer than `up_to` of them are elaborated, the
     /// step leads to the place where it began, `again` (RM 3.3.1(7)).
@@ -57,7 +57,7 @@ pub enum Ending {
 }
 
 /// The place of the statements that handle these exceptions, or all others where the flag holds (RM 11.2).
-#[derive(Drop, Debug)]
+#[derive(Drop)]
 pub struct Guard {
     pub others: bool,
     pub choices: Vec<Exception>,
@@ -65,7 +65,7 @@ pub struct Guard {
 }
 
 /// How a step ends.
-#[derive(Drop, Debug)]
+#[derive(Drop)]
 pub enum Last {
     /// A statement's step, and the place where the next one begins, unless it leads elsewhere.
     Does(Ending, usize),
@@ -94,7 +94,7 @@ pub enum Last {
 
 /// The ending of a step: where the step stands in the text, the place where an exception goes that is pending here, and the
 /// place of the step that opened the innermost frame that is open here (directly in a body there is none).
-#[derive(Drop, Debug)]
+#[derive(Drop)]
 pub struct EndLine {
     pub last: Last,
     pub at: Pos,
@@ -103,7 +103,7 @@ pub struct EndLine {
 }
 
 /// What stands at a place. The ending of the step that begins at a place is the first one from there on.
-#[derive(Drop, Debug)]
+#[derive(Drop)]
 pub enum Line {
     Instruction(Instruction),
     End(EndLine),
@@ -111,7 +111,7 @@ pub enum Line {
 
 /// A program's code: its lines, the place where each body begins, by the bodies' numbers, and the place for a number that
 /// no body has.
-#[derive(Drop, Debug)]
+#[derive(Drop)]
 pub struct Code {
     pub lines: Vec<Line>,
     pub starts: Vec<usize>,

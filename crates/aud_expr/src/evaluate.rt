@@ -23,14 +23,14 @@ use aud_text::raise::Raise;
 use std::alloc::AllocError;
 
 /// How an evaluation ended, and how many instructions it executed.
-#[derive(Clone, Copy, PartialEq, Eq, Debug)]
+#[derive(Clone, Copy, PartialEq, Eq)]
 pub struct Evaluation {
     pub outcome: Outcome,
     pub ticks: u64,
 }
 
 /// How an evaluation ends: at the place of the step's ending, or by an exception.
-#[derive(Clone, Copy, PartialEq, Eq, Debug)]
+#[derive(Clone, Copy, PartialEq, Eq)]
 pub enum Outcome {
     Reaches(usize),
     Fails(Raise),

@@ -12,7 +12,7 @@ use aud_text::int32::Int32;
 use std::alloc::AllocError;
 
 /// What an expression sees of a task (RM 9.9).
-#[derive(Clone, Copy, PartialEq, Eq, Debug)]
+#[derive(Clone, Copy, PartialEq, Eq)]
 pub struct Known {
     pub is_callable: bool,
     pub is_terminated: bool,

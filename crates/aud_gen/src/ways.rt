@@ -11,7 +11,7 @@ use std::alloc::{AllocError, Global};
 
 /// The place of the step that opened the innermost frame, the ways of exits, out of the innermost loop first, and the way out
 /// of the body.
-#[derive(Drop, Debug)]
+#[derive(Drop)]
 pub struct Ways {
     pub within: Option<usize>,
     pub exits: Vec<Way>,

@@ -3,7 +3,7 @@
 use aud_bench::request::Request;
 
 /// A call. Seats are numbered from 1, and parcels from 0, in the order in which they go out.
-#[derive(Drop, Debug)]
+#[derive(Drop)]
 pub enum Event {
     Claim { seat: usize },
     Submit { seat: usize, request: Request },

@@ -7,7 +7,7 @@ use aud_seats::next::Next;
 use aud_seats::why::Why;
 
 /// The answer to a call.
-#[derive(Drop, Debug)]
+#[derive(Drop)]
 pub enum Reply {
     Accepted,
     Refused(HallFault),

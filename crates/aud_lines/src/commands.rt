@@ -16,7 +16,7 @@ use aud_text::limits::{CHOICE, LINE, LINES, RUN};
 use std::alloc::{AllocError, Global};
 
 /// What a request's first line asks.
-#[derive(Drop, Debug)]
+#[derive(Drop)]
 pub enum Command {
     /// A request of one line.
     Whole(Request),

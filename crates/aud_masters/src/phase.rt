@@ -7,7 +7,7 @@ ghost use Rattle.aud_masters.specs.Lives.{is_awake, status_of};
 use aud_meaning::state::Status;
 
 /// How far a task is (RM 9.1): before the first entry call it can only be blocked by activation.
-#[derive(Clone, Copy, PartialEq, Eq, Debug)]
+#[derive(Clone, Copy, PartialEq, Eq)]
 pub enum Phase {
     /// It isn't activated yet.
     Created,

@@ -12,14 +12,14 @@ use aud_text::int32::Int32;
 use aud_typed::program::{ArrayAt, Subtype, Variable};
 
 /// What a declaration declares: the subtype, where that is known, and whether constants (RM 3.3.1(5)).
-#[derive(Clone, Copy, PartialEq, Eq, Debug)]
+#[derive(Clone, Copy, PartialEq, Eq)]
 pub struct Scalar {
     pub subtype: Option<Subtype>,
     pub constant: bool,
 }
 
 /// The bounds of arrays, and the subtype of their elements, where that is known (RM 3.6).
-#[derive(Clone, Copy, PartialEq, Eq, Debug)]
+#[derive(Clone, Copy, PartialEq, Eq)]
 pub struct Row {
     pub low: i32,
     pub high: i32,
@@ -27,14 +27,14 @@ pub struct Row {
 }
 
 /// The bounds of arrays of tasks.
-#[derive(Clone, Copy, PartialEq, Eq, Debug)]
+#[derive(Clone, Copy, PartialEq, Eq)]
 pub struct TaskRow {
     pub low: i32,
     pub high: i32,
 }
 
 /// What the names of a declaration are declared to be.
-#[derive(Clone, Copy, PartialEq, Eq, Debug)]
+#[derive(Clone, Copy, PartialEq, Eq)]
 pub enum Kind {
     /// Variables or constants.
     Scalar(Scalar),

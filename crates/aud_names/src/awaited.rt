@@ -7,7 +7,7 @@ use aud_text::name::Name;
 use aud_text::place::Pos;
 
 /// A task or task type whose body is still to come (RM 3.11.1): its name, the number of its unit, and where the name stands.
-#[derive(Drop, Debug)]
+#[derive(Drop)]
 pub struct Awaited {
     pub name: Name,
     pub unit: usize,

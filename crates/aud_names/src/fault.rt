@@ -16,7 +16,7 @@ pub struct Fault {
 }
 
 /// The first of the faults that were noted, if there were any.
-#[derive(Clone, Copy, PartialEq, Eq, Debug)]
+#[derive(Clone, Copy, PartialEq, Eq)]
 pub struct Least {
     first: Option<Fault>,
 }

@@ -18,7 +18,7 @@ use std::alloc::{AllocError, Global};
 use std::marker::Model;
 
 /// What a visible name stands for (RM 8.3).
-#[derive(Clone, Copy, PartialEq, Eq, Debug)]
+#[derive(Clone, Copy, PartialEq, Eq)]
 pub enum Meaning {
     /// Integer, Natural, Positive or Boolean (RM 3.5.3, 3.5.4).
     ScalarType(Subtype),
@@ -39,7 +39,7 @@ pub enum Meaning {
 }
 
 /// A variable or constant (RM 3.3.1): its subtype, which is not known where its declaration is faulty.
-#[derive(Clone, Copy, PartialEq, Eq, Debug)]
+#[derive(Clone, Copy, PartialEq, Eq)]
 pub struct Object {
     pub variable: Variable,
     pub subtype: Option<Subtype>,
@@ -48,7 +48,7 @@ pub struct Object {
 
 /// An array (RM 3.6): the cell of its first element, its bounds, and the subtype of its elements, which is not
 /// known where its declaration is faulty.
-#[derive(Clone, Copy, PartialEq, Eq, Debug)]
+#[derive(Clone, Copy, PartialEq, Eq)]
 pub struct Array {
     pub first: Variable,
     pub low: i32,
@@ -57,7 +57,7 @@ pub struct Array {
 }
 
 /// An array of tasks (RM 9.1, 3.6): the cell of its first element, and its bounds.
-#[derive(Clone, Copy, PartialEq, Eq, Debug)]
+#[derive(Clone, Copy, PartialEq, Eq)]
 pub struct TaskArray {
     pub first: Variable,
     pub low: i32,
@@ -65,14 +65,14 @@ pub struct TaskArray {
 }
 
 /// A formal parameter as calls see it (RM 6.1): its subtype is not known where its declaration is faulty.
-#[derive(Clone, Copy, PartialEq, Eq, Debug)]
+#[derive(Clone, Copy, PartialEq, Eq)]
 pub struct Parameter {
     pub mode: Mode,
     pub subtype: Option<Subtype>,
 }
 
 /// The procedures that put out texts (RM A.10).
-#[derive(Clone, Copy, PartialEq, Eq, Debug)]
+#[derive(Clone, Copy, PartialEq, Eq)]
 pub enum Builtin {
     Put,
     PutLine,

@@ -1,7 +1,5 @@
-// The tests of the server and the private server.
+// The tests of all crates.
 #![tactic(auto)]
 
-#[cfg(test)]
-mod case;
 #[cfg(test)]
 mod tests;

@@ -1,21 +1,33 @@
-// What no contract says of the server and the private server: each call once where it succeeds. The tests stand here for every
-// crate that a request goes through, since a crate that has tests of its own is proved twice.
+// What no contract says, and no session of `aud_sessions` shows: each call that no session goes through, once where it succeeds;
+// what is printed, and done at once, of programs worked out by hand; and streams that fail. The tests stand here for all crates, since a
+// crate that has tests of its own is proved twice.
 
 mod answers;
 mod benches;
-mod checks;
+mod fusing;
+mod machines;
+mod masters;
 mod reading;
-mod requests;
 mod serving;
+mod sound;
+mod tokens;
+mod trees;
 
+use aud_bench::loading::load;
+use aud_text::limits::STANDARD;
+use aud_typed::program::Program;
+use std::alloc::{AllocError, Global};
 use std::process::Abort;
+
+// The program of a source text. A text that has faults fails the test as refused memory does.
+fn loaded(alloc: Global, source: &[u8]) -> Result<Program, AllocError> {
+    match load(alloc, STANDARD, source) {
+        Ok(program) => Ok(program),
+        Err(_) => Err(AllocError),
+    }
+}
 
 // Tests that these bytes were found.
 fn finds(rt: &impl Abort, name: &str, found: &[u8], wanted: &[u8]) {
     assert_eq!(rt; found, wanted, "{name}");
-}
-
-// Tests that these bytes were found for what was given.
-fn finds_for(rt: &impl Abort, given: &[u8], found: &[u8], wanted: &[u8]) {
-    assert_eq!(rt; found, wanted, "{given:?}");
 }

@@ -7,7 +7,7 @@ use aud_exc::raised::Raised;
 use aud_typed::program::Exception;
 
 /// How far a program is.
-#[derive(Clone, Copy, PartialEq, Eq, Debug)]
+#[derive(Clone, Copy, PartialEq, Eq)]
 pub enum Stage {
     /// Declarations and statements are done, with this exception pending.
     Runs(Option<Raised>),

@@ -31,7 +31,7 @@ use aud_typed::program::{Exception, Unit};
 use std::alloc::AllocError;
 
 /// What a step came to, and how many instructions were executed, each a tick.
-#[derive(Clone, Copy, PartialEq, Eq, Debug)]
+#[derive(Clone, Copy, PartialEq, Eq)]
 pub enum Step {
     Taken(u64),
     /// It is one on other tasks, and is left to be done: nothing is changed.

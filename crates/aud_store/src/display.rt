@@ -8,7 +8,7 @@ use std::alloc::{AllocError, Global};
 use std::marker::Model;
 
 /// What a frame's number stands in place of: the number that stood there before, if one did, and how many frames were seen.
-#[derive(Clone, Copy, PartialEq, Eq, Debug)]
+#[derive(Clone, Copy, PartialEq, Eq)]
 pub struct Replaced {
     pub(crate) number: Option<usize>,
     pub(crate) seen: usize,

@@ -16,7 +16,7 @@ use std::alloc::{AllocError, Global};
 use std::marker::Model;
 
 /// What a frame was opened for.
-#[derive(Clone, Copy, PartialEq, Eq, Debug)]
+#[derive(Clone, Copy, PartialEq, Eq)]
 pub enum Purpose {
     Body,
     Block,
@@ -70,7 +70,7 @@ impl Purpose {
 
 /// An open frame: its number, the table of its variables, how many of their names are elaborated; the exception that its
 /// construct handles; the place of the statement that opened it, and what for; what its number stands in place of.
-#[derive(Clone, Copy, PartialEq, Eq, Debug)]
+#[derive(Clone, Copy, PartialEq, Eq)]
 pub struct Open {
     pub frame: usize,
     pub region: usize,

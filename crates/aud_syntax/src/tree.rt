@@ -13,7 +13,7 @@ pub struct Ident {
 }
 
 /// A whole number (RM 2.4): its value, none where it is larger than any Integer, and where it stands.
-#[derive(Clone, Copy, PartialEq, Eq, Debug)]
+#[derive(Clone, Copy, PartialEq, Eq)]
 pub struct Number {
     pub value: Option<Int32>,
     pub at: Pos,
@@ -27,21 +27,21 @@ pub struct Literal {
 }
 
 /// A unary adding operator (RM 4.5.4).
-#[derive(Clone, Copy, PartialEq, Eq, Debug)]
+#[derive(Clone, Copy, PartialEq, Eq)]
 pub enum Sign {
     Plus,
     Minus,
 }
 
 /// A sign before the first term, and where it stands.
-#[derive(Clone, Copy, PartialEq, Eq, Debug)]
+#[derive(Clone, Copy, PartialEq, Eq)]
 pub struct Signed {
     pub sign: Sign,
     pub at: Pos,
 }
 
 /// A binary adding operator (RM 4.5.3).
-#[derive(Clone, Copy, PartialEq, Eq, Debug)]
+#[derive(Clone, Copy, PartialEq, Eq)]
 pub enum Adding {
     Plus,
     Minus,
@@ -49,7 +49,7 @@ pub enum Adding {
 }
 
 /// A multiplying operator (RM 4.5.5).
-#[derive(Clone, Copy, PartialEq, Eq, Debug)]
+#[derive(Clone, Copy, PartialEq, Eq)]
 pub enum Multiplying {
     Times,
     Divide,
@@ -58,21 +58,21 @@ pub enum Multiplying {
 }
 
 /// A highest precedence operator (RM 4.5.6).
-#[derive(Clone, Copy, PartialEq, Eq, Debug)]
+#[derive(Clone, Copy, PartialEq, Eq)]
 pub enum Highest {
     Magnitude,
     Not,
 }
 
 /// An operator before a primary, and where it stands.
-#[derive(Clone, Copy, PartialEq, Eq, Debug)]
+#[derive(Clone, Copy, PartialEq, Eq)]
 pub struct Operator {
     pub highest: Highest,
     pub at: Pos,
 }
 
 /// A relational operator (RM 4.5.2).
-#[derive(Clone, Copy, PartialEq, Eq, Debug)]
+#[derive(Clone, Copy, PartialEq, Eq)]
 pub enum Relational {
     Equal,
     Unequal,
@@ -83,7 +83,7 @@ pub enum Relational {
 }
 
 /// A logical operator, or a short-circuit control form (RM 4.5.1).
-#[derive(Clone, Copy, PartialEq, Eq, Debug)]
+#[derive(Clone, Copy, PartialEq, Eq)]
 pub enum Connective {
     And,
     Or,
@@ -209,14 +209,14 @@ pub struct Identifiers {
 }
 
 /// A bound of an array (RM 3.6.1): whether a minus stands before it, and its number.
-#[derive(Clone, Copy, PartialEq, Eq, Debug)]
+#[derive(Clone, Copy, PartialEq, Eq)]
 pub struct Bound {
     pub negative: bool,
     pub number: Number,
 }
 
 /// How formal parameters are passed (RM 6.1), and where that is written.
-#[derive(Clone, Copy, PartialEq, Eq, Debug)]
+#[derive(Clone, Copy, PartialEq, Eq)]
 pub enum Mode {
     /// It is not written, which means `in`.
     Unstated,
@@ -410,7 +410,7 @@ pub enum Choices {
 }
 
 /// A context clause for Ada.Text_IO, and where it begins.
-#[derive(Clone, Copy, PartialEq, Eq, Debug)]
+#[derive(Clone, Copy, PartialEq, Eq)]
 pub enum Context {
     /// A with clause (RM 10.1.2).
     With(Pos),

@@ -12,14 +12,14 @@ use aud_text::text::Text;
 use std::alloc::{AllocError, Global};
 
 /// A variable: the level of its frame, the main procedure's being 0, and its number there, by declaration.
-#[derive(Clone, Copy, PartialEq, Eq, Debug)]
+#[derive(Clone, Copy, PartialEq, Eq)]
 pub struct Variable {
     pub level: usize,
     pub index: usize,
 }
 
 /// A one-dimensional array: the cell of its first element, its lower bound and its length (RM 3.6).
-#[derive(Clone, Copy, PartialEq, Eq, Debug)]
+#[derive(Clone, Copy, PartialEq, Eq)]
 pub struct ArrayAt {
     pub first: Variable,
     pub low: i32,
@@ -27,7 +27,7 @@ pub struct ArrayAt {
 }
 
 /// A scalar subtype (RM 3.5).
-#[derive(Clone, Copy, PartialEq, Eq, Debug)]
+#[derive(Clone, Copy, PartialEq, Eq)]
 pub enum Subtype {
     Integer,
     Natural,
@@ -36,14 +36,14 @@ pub enum Subtype {
 }
 
 /// An operator on one Integer.
-#[derive(Clone, Copy, PartialEq, Eq, Debug)]
+#[derive(Clone, Copy, PartialEq, Eq)]
 pub enum Unary {
     Negative,
     Magnitude,
 }
 
 /// An operator on two Integers.
-#[derive(Clone, Copy, PartialEq, Eq, Debug)]
+#[derive(Clone, Copy, PartialEq, Eq)]
 pub enum Binary {
     Sum,
     Difference,
@@ -54,7 +54,7 @@ pub enum Binary {
 }
 
 /// A relation (RM 4.5.2).
-#[derive(Clone, Copy, PartialEq, Eq, Debug)]
+#[derive(Clone, Copy, PartialEq, Eq)]
 pub enum Relation {
     Equal,
     Unequal,
@@ -65,7 +65,7 @@ pub enum Relation {
 }
 
 /// A logical operator that evaluates both sides (RM 4.5.1).
-#[derive(Clone, Copy, PartialEq, Eq, Debug)]
+#[derive(Clone, Copy, PartialEq, Eq)]
 pub enum Logical {
     And,
     Or,
@@ -73,14 +73,14 @@ pub enum Logical {
 }
 
 /// An exception: a predefined one, or a declared one by its number (RM 11.1).
-#[derive(Clone, Copy, PartialEq, Eq, Debug)]
+#[derive(Clone, Copy, PartialEq, Eq)]
 pub enum Exception {
     Predefined(Raise),
     Declared(usize),
 }
 
 /// An expression of type Integer.
-#[derive(Drop, Debug)]
+#[derive(Drop)]
 #[cycle(integer)]
 pub enum IntegerExpression {
     Number(Int32),
@@ -93,7 +93,7 @@ pub enum IntegerExpression {
 }
 
 /// An operator and its right operand; the left one is all that stands before it in its chain.
-#[derive(Drop, Debug)]
+#[derive(Drop)]
 #[cycle(integer)]
 pub struct Operation {
     pub operator: Binary,
@@ -101,14 +101,14 @@ pub struct Operation {
 }
 
 /// A task, whose number is in a cell: a variable, or an element of an array, by its index (RM 9.1).
-#[derive(Drop, Debug)]
+#[derive(Drop)]
 pub enum TaskName {
     Single(Variable),
     Element(ArrayAt, IntegerExpression),
 }
 
 /// An operator of a logical expression (RM 4.4(2)): one that evaluates both sides, or a short circuit.
-#[derive(Clone, Copy, PartialEq, Eq, Debug)]
+#[derive(Clone, Copy, PartialEq, Eq)]
 pub enum Connective {
     Logical(Logical),
     AndThen,
@@ -116,7 +116,7 @@ pub enum Connective {
 }
 
 /// An expression of type Boolean.
-#[derive(Drop, Debug)]
+#[derive(Drop)]
 pub enum BooleanExpression {
     Truth(bool),
     Variable(Variable),
@@ -136,7 +136,7 @@ pub enum BooleanExpression {
 }
 
 /// A value for a place that asks for a subtype.
-#[derive(Drop, Debug)]
+#[derive(Drop)]
 pub enum ValueExpression {
     /// Constraint_Error is raised where it is not in the subtype's range (RM 4.6(51)).
     Whole(Subtype, IntegerExpression),
@@ -144,14 +144,14 @@ pub enum ValueExpression {
 }
 
 /// What is assigned, with its subtype: a variable, or an element of an array, by its index.
-#[derive(Drop, Debug)]
+#[derive(Drop)]
 pub enum Reference {
     Scalar(Variable, Subtype),
     Element(ArrayAt, IntegerExpression, Subtype),
 }
 
 /// An argument of a call (RM 6.4.1).
-#[derive(Drop, Debug)]
+#[derive(Drop)]
 pub enum Argument {
     /// The value of a formal of mode in.
     ByValue(ValueExpression),
@@ -160,7 +160,7 @@ pub enum Argument {
 }
 
 /// A text, which is put out.
-#[derive(Drop, Debug)]
+#[derive(Drop)]
 pub enum TextExpression {
     Literal(Text),
     /// Integer'Image of a value (RM 4.10).
@@ -174,7 +174,7 @@ pub enum TextExpression {
 }
 
 /// The tasks of one name: a single one, or the elements of an array from its lower bound on (RM 9.1).
-#[derive(Drop, Debug)]
+#[derive(Drop)]
 pub struct Tasks {
     /// The number of their type.
     pub task_type: usize,
@@ -200,7 +200,7 @@ impl Tasks {
 }
 
 /// A statement, or the elaboration of an object declaration, with the place of its first token.
-#[derive(Drop, Debug)]
+#[derive(Drop)]
 #[cycle(statement)]
 pub enum Statement {
     /// The next variables of the innermost frame, until this number of them is elaborated, each with an initial value of its own
@@ -237,7 +237,7 @@ pub enum Statement {
 
 /// The condition and statements behind `if`, those behind each `elsif`, and the statements behind `else`, which are none where
 /// there is no `else` (RM 5.3).
-#[derive(Drop, Debug)]
+#[derive(Drop)]
 #[cycle(statement)]
 pub struct IfStatement {
     pub first: Arm,
@@ -246,7 +246,7 @@ pub struct IfStatement {
 }
 
 /// A condition, where its `if` or `elsif` stands, and the statements that are done where it is true.
-#[derive(Drop, Debug)]
+#[derive(Drop)]
 #[cycle(statement)]
 pub struct Arm {
     pub at: Pos,
@@ -256,7 +256,7 @@ pub struct Arm {
 
 /// A `for` loop (RM 5.5): where it begins and where its `for` stands, the number of its parameter's table, and whether it goes
 /// from the last value to the first.
-#[derive(Drop, Debug)]
+#[derive(Drop)]
 #[cycle(statement)]
 pub struct ForStatement {
     pub at: Pos,
@@ -269,7 +269,7 @@ pub struct ForStatement {
 }
 
 /// A block, with the number of the table of its variables (RM 5.6).
-#[derive(Drop, Debug)]
+#[derive(Drop)]
 #[cycle(statement)]
 pub struct BlockStatement {
     pub at: Pos,
@@ -278,7 +278,7 @@ pub struct BlockStatement {
 }
 
 /// Declarations, a `begin`, statements and their handlers, and an `end` (RM 11.2).
-#[derive(Drop, Debug)]
+#[derive(Drop)]
 #[cycle(statement)]
 pub struct Body {
     pub declarations: Vec<Statement>,
@@ -293,7 +293,7 @@ pub struct Body {
 }
 
 /// What is done for these exceptions, or for all others where the flag holds (RM 11.2).
-#[derive(Drop, Debug)]
+#[derive(Drop)]
 #[cycle(statement)]
 pub struct Handler {
     pub others: bool,
@@ -302,7 +302,7 @@ pub struct Handler {
 }
 
 /// A sequence of statements (RM 5.1(2)): the first, and those behind it.
-#[derive(Drop, Debug)]
+#[derive(Drop)]
 #[cycle(statement)]
 pub struct Statements {
     pub first: Statement,
@@ -310,7 +310,7 @@ pub struct Statements {
 }
 
 /// How a variable is shown: as a number or as False or True, or as this many of them, or not at all where it has this many cells.
-#[derive(Clone, Copy, PartialEq, Eq, Debug)]
+#[derive(Clone, Copy, PartialEq, Eq)]
 pub enum Shown {
     Whole,
     Truth,
@@ -320,7 +320,7 @@ pub enum Shown {
 }
 
 /// The name of a variable, constant or task, and how its value is shown.
-#[derive(Drop, Debug)]
+#[derive(Drop)]
 pub struct Named {
     pub name: Name,
     pub shown: Shown,
@@ -328,7 +328,7 @@ pub struct Named {
 
 /// A procedure's body (RM 6.3), or a task's (RM 9.1): how many frames it sees besides its own, the number of the table of its
 /// formals and variables, and where it begins. The first variable of a task's body is the task's own number.
-#[derive(Drop, Debug)]
+#[derive(Drop)]
 pub struct Unit {
     pub level: usize,
     pub region: usize,
@@ -337,13 +337,12 @@ pub struct Unit {
 }
 
 /// A task type, or the type of a single task: the unit that is its body (RM 9.1).
-#[derive(Clone, Copy, PartialEq, Eq, Debug)]
+#[derive(Clone, Copy, PartialEq, Eq)]
 pub struct TaskType {
     pub unit: usize,
 }
 
 /// A typed program: its procedures and tasks, which have blocks and `for` loops.
-#[derive(Debug)]
 pub struct Program {
     pub name: Name,
     /// The bodies of the procedures and tasks, in the order of their declarations: that of the main procedure first.

@@ -26,7 +26,7 @@ use aud_typed::program::{BooleanExpression, IntegerExpression, Subtype, TaskName
 use std::alloc::Global;
 
 /// An attribute of the language.
-#[derive(Clone, Copy, PartialEq, Eq, Debug)]
+#[derive(Clone, Copy, PartialEq, Eq)]
 pub enum Attribute {
     Image,
     First,

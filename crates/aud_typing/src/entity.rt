@@ -22,7 +22,7 @@ use aud_typed::program::{ArrayAt, BooleanExpression, IntegerExpression, Subtype}
 use std::alloc::Global;
 
 /// An element of an array: its index, and its subtype, where that is known (RM 4.1.1).
-#[derive(Drop, Debug)]
+#[derive(Drop)]
 pub struct Element {
     pub array: ArrayAt,
     pub index: IntegerExpression,
@@ -30,7 +30,7 @@ pub struct Element {
 }
 
 /// What a name denotes.
-#[derive(Drop, Debug)]
+#[derive(Drop)]
 pub enum Entity {
     /// The name is faulty.
     Nothing,
@@ -41,7 +41,7 @@ pub enum Entity {
 }
 
 /// What a name denotes, and where the identifier stands that decides.
-#[derive(Drop, Debug)]
+#[derive(Drop)]
 pub struct Denoting {
     pub entity: Entity,
     pub at: Pos,

@@ -20,7 +20,7 @@ use aud_typed::program::{
 use std::alloc::Global;
 
 /// An expression with its type. Nothing is known of the type of a faulty one.
-#[derive(Drop, Debug)]
+#[derive(Drop)]
 pub enum Typed {
     Number(IntegerExpression),
     Truth(BooleanExpression),
@@ -29,7 +29,6 @@ pub enum Typed {
 }
 
 /// An expression that is checked, and where it begins.
-#[derive(Debug)]
 pub struct Operand {
     pub at: Pos,
     pub typed: Box<Typed>,
@@ -60,7 +59,7 @@ impl Operand {
 }
 
 /// An operator on two operands (RM 4.5).
-#[derive(Clone, Copy, PartialEq, Eq, Debug)]
+#[derive(Clone, Copy, PartialEq, Eq)]
 pub enum Operator {
     Arithmetic(Binary),
     Join,

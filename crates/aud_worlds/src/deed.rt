@@ -23,9 +23,6 @@ pub enum Deed {
     Free(usize),
 }
 
-/// A call of a row, and the words of the reply that must come.
-pub type Line = (Deed, &'static str);
-
 /// The call itself.
 pub fn event(alloc: Global, deed: Deed) -> Result<Event, AllocError> {
     Ok(match deed {

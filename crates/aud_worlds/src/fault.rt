@@ -3,7 +3,7 @@
 use aud_hall::fault::HallFault;
 use clap::Error as ClapError;
 use clap::error::ErrorKind;
-use std::alloc::AllocError;
+use std::alloc::{AllocError, Global};
 use std::io;
 use thiserror::Error;
 
@@ -68,5 +68,13 @@ impl From<ClapError> for Fault {
             ErrorKind::OutOfMemory => Fault::Memory,
             _ => Fault::Arguments,
         }
+    }
+}
+
+/// A reply, a parcel or an outbox of a row or a list is another than it must be: what, or that there is no memory to tell it.
+pub fn differs(alloc: Global, name: &str, what: &str) -> Fault {
+    match format!(in alloc; "{name}: {what}") {
+        Ok(told) => Fault::Differs(told),
+        Err(_) => Fault::Memory,
     }
 }

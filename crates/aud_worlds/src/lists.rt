@@ -1,19 +1,16 @@
 // Lists of random calls, in a hall and in a world in slow words.
 
-use crate::deed::{Deed, event};
+use crate::calls::{Line, make};
 use crate::draws::{Draws, SEATS};
-use crate::fault::Fault;
+use crate::fault::{Fault, differs};
 use crate::plain::Plain;
-use crate::replies::{other_reply, same_answers, same_reply, words};
 use crate::rows::LARGE;
 use crate::session::Session;
-use crate::tally::Tally;
-use aud_hall::event::Event;
+use crate::words::{kind, texts, words};
 use aud_hall::hall::Hall;
-use aud_hall::laws::world_run;
 use aud_hall::parcel::Parcel;
-use aud_hall::reply::Reply;
 use aud_text::limits::{Limits, STANDARD};
+use indexmap::IndexMap;
 use std::alloc::{AllocError, Global};
 
 /// The calls of a list.
@@ -21,22 +18,24 @@ pub const CALLS: usize = 100;
 
 const LIMITS: [Limits; SEATS] = [STANDARD, STANDARD, STANDARD, LARGE];
 
-// A list, and the replies that must come.
+/// How many replies of each kind there were.
+pub type Tally = IndexMap<&'static str, usize>;
+
+// A list, with the replies that must come, and the world that it leaves.
 #[derive(Drop)]
 struct RandomList {
     name: String,
-    deeds: Vec<Deed>,
-    wanted: Vec<Reply>,
+    lines: Vec<Line>,
     world: Plain,
 }
 
-/// Looks at so many lists, and counts the replies and the outboxes.
+/// Looks at so many lists, and counts the replies.
 ///
 /// # Errors
 ///
 /// `Differs` where a reply, a parcel or an outbox is another than it must be; `Memory` where memory is refused.
 pub fn look_at_lists(alloc: Global, lists: u32) -> Result<Tally, Fault> {
-    let mut tally = Tally::default();
+    let mut tally = IndexMap::new(alloc);
     for number in 0..lists {
         let list = drawn(alloc, u64::from(number))?;
         look_at_list(alloc, &list, &mut tally)?;
@@ -49,86 +48,52 @@ fn drawn(alloc: Global, number: u64) -> Result<RandomList, AllocError> {
     let mut draws = Draws::new(alloc, number)?;
     let mut list = RandomList {
         name: format!(in alloc; "list {number}")?,
-        deeds: Vec::new(alloc),
-        wanted: Vec::new(alloc),
+        lines: Vec::new(alloc),
         world: Plain::new(alloc, &LIMITS)?,
     };
     for _ in 0..CALLS {
         let deed = draws.draw(&list.world);
-        let reply = list.world.call(alloc, deed)?;
-        list.deeds.push(deed)?;
-        list.wanted.push(reply)?;
+        let wanted = words(alloc, &list.world.call(alloc, deed)?)?;
+        list.lines.push(Line { deed, wanted })?;
     }
     Ok(list)
 }
 
 fn look_at_list(alloc: Global, list: &RandomList, tally: &mut Tally) -> Result<(), Fault> {
-    let events = events(alloc, &list.deeds)?;
-    let world = world_run(alloc, LIMITS.to_vec(alloc)?, events)?;
-    look_at_replies(alloc, list, &world.replies)?;
-    look_at_parcels(alloc, list, &world.out)?;
-    look_at_outboxes(alloc, list, &world.hall, tally)?;
-    for reply in &world.replies {
-        tally.count(reply);
+    let left = make(alloc, &list.name, &LIMITS, &list.lines)?;
+    if left.is_refused {
+        return Err(Fault::Memory);
+    }
+    look_at_parcels(alloc, list, &left.world.out)?;
+    look_at_outboxes(alloc, list, &left.world.hall)?;
+    for reply in &left.world.replies {
+        count(tally, kind(reply))?;
     }
     Ok(())
 }
 
-fn events(alloc: Global, deeds: &[Deed]) -> Result<Vec<Event>, AllocError> {
-    let mut events = Vec::new(alloc);
-    for deed in deeds {
-        events.push(event(alloc, *deed)?)?;
-    }
-    Ok(events)
-}
-
-fn look_at_replies(alloc: Global, list: &RandomList, replies: &[Reply]) -> Result<(), Fault> {
-    for ((deed, wanted), reply) in list.deeds.iter().zip(&list.wanted).zip(replies) {
-        if !same_reply(reply, wanted) {
-            let reply = words(alloc, reply)?;
-            let wanted = words(alloc, wanted)?;
-            return Err(other_reply(alloc, &list.name, *deed, &reply, &wanted)?);
-        }
-    }
-    if replies.len() == list.wanted.len() {
-        return Ok(());
-    }
-    let told = format!(in alloc; "{}: too few replies or too many", list.name)?;
-    Err(Fault::Differs(told))
+fn count(tally: &mut Tally, kind: &'static str) -> Result<(), Fault> {
+    let entry = tally.entry(kind).map_err(|_| Fault::Memory)?;
+    let number = entry.or_insert(0);
+    *number = number.saturating_add(1);
+    Ok(())
 }
 
 // Each parcel that is out tells the seat that sent it.
 fn look_at_parcels(alloc: Global, list: &RandomList, out: &[Option<Parcel>]) -> Result<(), Fault> {
     for (number, parcel) in out.iter().enumerate() {
-        if sender(parcel) != list.world.sender(number) {
-            let told = format!(in alloc; "{}: parcel {number} tells another seat", list.name)?;
-            return Err(Fault::Differs(told));
+        let sender = parcel.as_ref().map(|parcel| parcel.seat());
+        if sender != list.world.sender(number) {
+            return Err(differs(alloc, &list.name, "a parcel tells another seat"));
         }
     }
     Ok(())
 }
 
-fn sender(parcel: &Option<Parcel>) -> Option<usize> {
-    match parcel {
-        Some(parcel) => Some(parcel.seat()),
-        None => None,
-    }
-}
-
-fn look_at_outboxes(
-    alloc: Global,
-    list: &RandomList,
-    hall: &Hall,
-    tally: &mut Tally,
-) -> Result<(), Fault> {
+fn look_at_outboxes(alloc: Global, list: &RandomList, hall: &Hall) -> Result<(), Fault> {
     for seat in 1..=SEATS {
-        let session = list.world.session_at(seat);
-        if !has_answers(alloc, hall, seat, session)? {
-            let told = format!(in alloc; "{}: the answers at seat {seat} are others", list.name)?;
-            return Err(Fault::Differs(told));
-        }
-        if let Some(session) = session {
-            tally.count_outbox(session.has_all());
+        if !has_answers(alloc, hall, seat, list.world.session_at(seat))? {
+            return Err(differs(alloc, &list.name, "an outbox has other answers"));
         }
     }
     Ok(())
@@ -147,8 +112,8 @@ fn has_answers(
         (None, None) => return Ok(true),
         _ => return Ok(false),
     };
-    let answers = hall.collect(alloc, seat, 0)?;
+    let found = texts(alloc, &hall.collect(alloc, seat, 0)?)?;
+    let wanted = texts(alloc, &session.collected(alloc, 0)?)?;
     let is_whole = session.has_all() || !session.is_idle();
-    let is_same = same_answers(&answers, &session.collected(alloc, 0)?);
-    Ok(is_same && is_whole && asked.len() == session.asks.len())
+    Ok(found == wanted && is_whole && asked.len() == session.asks.len())
 }

@@ -1,29 +1,25 @@
 // Runs halls of many users: rows that are known, lists of random calls beside a world in slow words, and measures.
 #![tactic(auto)]
 
-mod alone;
 mod arguments;
 mod ask;
+mod calls;
 mod deed;
 mod draws;
 mod fault;
-mod idle;
 mod lists;
-mod outboxes;
 mod plain;
-mod replies;
 mod row;
 mod rows;
 mod session;
 mod speed;
-mod tally;
+mod words;
 
 use crate::arguments::{Task, task_of};
 use crate::fault::Fault;
-use crate::idle::idle_hall;
 use crate::lists::{CALLS, look_at_lists};
 use crate::rows::look_at_rows;
-use crate::speed::work_off;
+use crate::speed::{idle_hall, work_off};
 use std::env;
 use std::process::ExitCode;
 

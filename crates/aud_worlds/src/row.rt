@@ -1,24 +1,23 @@
 // A row: calls, and the replies that must come.
 
-use crate::deed::{Deed, Line, event};
-use crate::fault::Fault;
-use crate::outboxes::{Beside, outbox_at};
-use crate::replies::{other_reply, says, words};
-use aud_hall::event::Event;
-use aud_hall::fault::HallFault;
-use aud_hall::hall::Hall;
-use aud_hall::laws::world_run;
-use aud_hall::reply::Reply;
+use crate::calls::{Left, Line, make};
+use crate::deed::Deed;
+use crate::fault::{Fault, differs};
+use crate::session::answers_to;
+use crate::words::texts;
 use aud_text::limits::Limits;
 use std::alloc::{AllocError, Global};
 
-/// The calls of a row in a hall of seats with these limits.
+/// The calls of a row in a hall of seats with these limits, each with the words of the reply that must come.
 #[derive(Clone, Copy)]
-pub struct Row {
+pub struct Row<'a> {
     pub name: &'static str,
     pub limits: &'static [Limits],
-    pub lines: &'static [Line],
+    pub lines: &'a [(Deed, &'static str)],
 }
+
+// What is said at the end of answers where memory was refused.
+const OUT_OF_MEMORY: &str = "- E90 out of memory\n";
 
 /// Makes the calls in a new hall, and looks at the replies, and at the outboxes that they leave.
 ///
@@ -26,86 +25,46 @@ pub struct Row {
 ///
 /// `Differs` where one is another than it must be; `Memory` where memory is refused. If it is refused to the hall, each outbox
 /// must be a front of the private server's answers all the same, with at most one more that tells it.
-pub fn look_at(alloc: Global, name: &str, limits: &[Limits], lines: &[Line]) -> Result<(), Fault> {
-    let events = events(alloc, lines)?;
-    let world = world_run(alloc, limits.to_vec(alloc)?, events)?;
-    let is_refused = look_at_replies(alloc, name, lines, &world.replies)?;
-    look_at_outboxes(alloc, name, &world.hall, limits, is_refused)?;
-    if is_refused {
+pub fn look_at(alloc: Global, row: Row) -> Result<(), Fault> {
+    let lines = lines(alloc, row.lines)?;
+    let left = make(alloc, row.name, row.limits, &lines)?;
+    for (place, limits) in row.limits.iter().enumerate() {
+        if !is_front(alloc, &left, *limits, place.saturating_add(1))? {
+            return Err(differs(alloc, row.name, "an outbox has other answers"));
+        }
+    }
+    if left.is_refused {
         return Err(Fault::Memory);
     }
     Ok(())
 }
 
-fn events(alloc: Global, lines: &[Line]) -> Result<Vec<Event>, AllocError> {
-    let mut events = Vec::new(alloc);
-    for (deed, _) in lines {
-        events.push(event(alloc, *deed)?)?;
+fn lines(alloc: Global, row: &[(Deed, &str)]) -> Result<Vec<Line>, AllocError> {
+    let mut lines = Vec::new(alloc);
+    for (deed, words) in row {
+        let wanted = String::from_str(alloc, words)?;
+        lines.push(Line {
+            deed: *deed,
+            wanted,
+        })?;
     }
-    Ok(events)
+    Ok(lines)
 }
 
-// Whether memory was refused: the replies are looked at up to the first one that tells it.
-fn look_at_replies(
-    alloc: Global,
-    name: &str,
-    lines: &[Line],
-    replies: &[Reply],
-) -> Result<bool, Fault> {
-    for (line, reply) in lines.iter().zip(replies) {
-        if !says(alloc, reply, line.1)? {
-            return is_refusal(alloc, name, *line, reply);
-        }
-    }
-    if lines.len() == replies.len() {
-        return Ok(false);
-    }
-    let told = format!(in alloc; "{name}: too few replies or too many")?;
-    Err(Fault::Differs(told))
-}
-
-// Whether a reply that is another tells that memory was refused.
-fn is_refusal(alloc: Global, name: &str, line: Line, reply: &Reply) -> Result<bool, Fault> {
-    let (deed, wanted) = line;
-    if tells_refusal(deed, reply) {
+// Whether the answers at a seat are a front of the private server's to what was asked there.
+fn is_front(alloc: Global, left: &Left, limits: Limits, seat: usize) -> Result<bool, Fault> {
+    let Some(asked) = left.world.hall.asked(seat) else {
         return Ok(true);
-    }
-    let reply = words(alloc, reply)?;
-    Err(other_reply(alloc, name, deed, &reply, wanted)?)
+    };
+    let all = texts(alloc, &answers_to(alloc, limits, asked)?)?;
+    let found = texts(alloc, &left.world.hall.collect(alloc, seat, 0)?)?;
+    Ok(all.starts_with(found.as_str()) || left.is_refused && is_closed_front(&all, &found))
 }
 
-// A bench that closes stays where it is to be sent out, and a slice of one that is out does less than it must.
-fn tells_refusal(deed: Deed, reply: &Reply) -> bool {
-    match (deed, reply) {
-        (_, Reply::Refused(HallFault::Memory)) => true,
-        (Deed::SendOut(_), Reply::Sent(false)) => true,
-        (Deed::Slice(_, units), Reply::Worked(work)) => work.done < units && work.left > 0,
-        _ => false,
-    }
-}
-
-fn look_at_outboxes(
-    alloc: Global,
-    name: &str,
-    hall: &Hall,
-    limits: &[Limits],
-    is_refused: bool,
-) -> Result<(), Fault> {
-    for (place, limits) in limits.iter().enumerate() {
-        let seat = place.saturating_add(1);
-        let found = outbox_at(alloc, hall, *limits, seat)?;
-        if !is_front(found, is_refused) {
-            let told = format!(in alloc; "{name}: the answers at seat {seat} are others")?;
-            return Err(Fault::Differs(told));
-        }
-    }
-    Ok(())
-}
-
-fn is_front(found: Option<Beside>, is_refused: bool) -> bool {
-    match found {
-        None | Some(Beside::Front) => true,
-        Some(Beside::Closed) => is_refused,
-        Some(Beside::Other) => false,
+// Whether the one is a front of the other but for its last answer, which tells that memory is out.
+fn is_closed_front(all: &str, found: &str) -> bool {
+    match found.strip_suffix(OUT_OF_MEMORY) {
+        Some(front) => all.starts_with(front),
+        None => false,
     }
 }

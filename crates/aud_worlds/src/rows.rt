@@ -1,7 +1,7 @@
 // Rows that are known.
 
 use crate::ask::{Ask, Source};
-use crate::deed::{Deed, Line};
+use crate::deed::Deed;
 use crate::fault::Fault;
 use crate::row::{Row, look_at};
 use aud_text::limits::{Limits, REQUESTS, STANDARD};
@@ -13,13 +13,23 @@ use std::alloc::{AllocError, Global};
 ///
 /// Those of `look_at`, at the first row that has one.
 pub fn look_at_rows(alloc: Global) -> Result<usize, Fault> {
-    for row in &ROWS {
-        look_at(alloc, row.name, row.limits, row.lines)?;
+    for row in ROWS {
+        look_at(alloc, row)?;
     }
     let lines = full(alloc)?;
-    look_at(alloc, "a full journal", FOUR, &lines)?;
+    look_at(
+        alloc,
+        Row {
+            name: "a full journal",
+            limits: FOUR,
+            lines: &lines,
+        },
+    )?;
     Ok(ROWS.len() + 1)
 }
+
+// A call, and the words of the reply that must come.
+type Line = (Deed, &'static str);
 
 /// The largest limits that a seat may have.
 pub const LARGE: Limits = Limits {
@@ -31,7 +41,7 @@ const FOUR: &[Limits] = &[STANDARD, STANDARD, STANDARD, STANDARD];
 
 const UNLIKE: &[Limits] = &[STANDARD, LARGE, STANDARD];
 
-const ROWS: [Row; 13] = [
+const ROWS: [Row<'static>; 13] = [
     Row {
         name: "a parcel at another seat",
         limits: FOUR,

@@ -1,9 +1,8 @@
 // A session in slow words: a private server answers each request as soon as it is submitted, and what a bench has made is
 // counted from its units.
 
-use crate::alone::cost;
 use crate::ask::{Ask, request};
-use aud_bench::request::Answer;
+use aud_bench::request::{Answer, Request};
 use aud_bench::session::Session as Server;
 use aud_hall::fault::HallFault;
 use aud_hall::next::Next;
@@ -158,4 +157,28 @@ impl Session {
             None => false,
         }
     }
+}
+
+// The units that a request costs which is answered so: a RUN its steps, at least one, and any other request one.
+fn cost(answer: &Answer) -> u64 {
+    match answer {
+        Answer::Ran(report) => u64::from(report.steps).max(1),
+        _ => 1,
+    }
+}
+
+/// The private server's answers to requests, up to that to a QUIT.
+pub fn answers_to(
+    alloc: Global,
+    limits: Limits,
+    requests: &[Request],
+) -> Result<Vec<Answer>, AllocError> {
+    let mut server = Server::new(limits);
+    let mut answers = Vec::new(alloc);
+    for request in requests {
+        if let Some(answer) = server.answer(alloc, request)? {
+            answers.push(answer)?;
+        }
+    }
+    Ok(answers)
 }

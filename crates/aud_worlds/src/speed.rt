@@ -1,4 +1,4 @@
-// How fast halls and benches work.
+// How fast halls and benches work, and halls in which nothing is to be done.
 
 use crate::ask::{Ask, Source, request};
 use crate::fault::Fault;
@@ -41,8 +41,8 @@ pub fn work_off(alloc: Global, measure: Measure) -> Result<u64, Fault> {
     work(alloc, &mut hall, seats, u64::from(measure.slice))
 }
 
-/// A hall of so many seats.
-pub fn hall(alloc: Global, seats: usize) -> Result<Hall, AllocError> {
+// A hall of so many seats.
+fn hall(alloc: Global, seats: usize) -> Result<Hall, AllocError> {
     let mut limits: Vec<Limits> = Vec::new(alloc);
     for _ in 0..seats {
         limits.push(STANDARD)?;
@@ -103,8 +103,23 @@ fn work_once(alloc: Global, hall: &mut Hall, seats: usize, slice: u64) -> Result
     Ok(units)
 }
 
-/// Sends the parcel of a seat out, works on it, and takes it in; how many units were done.
-pub fn turn(alloc: Global, hall: &mut Hall, seat: usize, slice: u64) -> Result<u64, Fault> {
+/// A hall of so many claimed seats, each of which has loaded a small program.
+///
+/// # Errors
+///
+/// `Memory` where memory is refused; what a call is refused for that must succeed.
+pub fn idle_hall(alloc: Global, seats: usize) -> Result<Hall, Fault> {
+    let mut hall = hall(alloc, seats)?;
+    for seat in 1..=seats {
+        hall.claim(alloc, seat)?;
+        hall.submit(seat, request(alloc, Ask::Load(Source::Ends))?)?;
+        let _done = turn(alloc, &mut hall, seat, 1)?;
+    }
+    Ok(hall)
+}
+
+// Sends the parcel of a seat out, works on it, and takes it in; how many units were done.
+fn turn(alloc: Global, hall: &mut Hall, seat: usize, slice: u64) -> Result<u64, Fault> {
     let Some(mut parcel) = hall.send_out(alloc, seat) else {
         return Ok(0);
     };

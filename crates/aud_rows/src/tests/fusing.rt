@@ -1,10 +1,9 @@
 // What is done at once: from the beginning of each step of a program on, in the order of its code.
 
-use aud_bench::loading::load;
+use crate::tests::loaded;
 use aud_code::fused::Fused;
 use aud_code::sound_code::SoundCode;
 use aud_gen::generate;
-use aud_text::limits::STANDARD;
 use std::process::Abort;
 use std::test::Fail;
 
@@ -64,7 +63,7 @@ fn begins_as_told(rt: &impl Abort, code: &SoundCode, wanted: &[&str]) {
 
 #[test]
 fn fuses_whole_steps(rt: HostRuntime) -> Result<(), Fail> {
-    let program = load(rt.alloc(), STANDARD, LOOPS)?;
+    let program = loaded(rt.alloc(), LOOPS)?;
     let code = generate(rt.alloc(), &program)?;
     begins_as_told(&rt, &code, &STEPS_AT_ONCE);
     Ok(())

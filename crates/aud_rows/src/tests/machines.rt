@@ -1,12 +1,11 @@
 // Machines with ample memory.
 
-use crate::tests::finds;
-use aud_bench::loading::load;
+use crate::tests::{finds, loaded};
 use aud_machine::machine::{Machine, Ran};
 use aud_meaning::state::{NextStep, State, StepKind};
 use aud_single::stage::Stage;
 use aud_text::int32::Int32;
-use aud_text::limits::{CHOICES, CLOCK, Limits, STANDARD, STEPS};
+use aud_text::limits::{CHOICES, CLOCK, Limits, STEPS};
 use aud_text::place::Pos;
 use aud_text::raise::Raise;
 use aud_typed::program::Exception;
@@ -40,7 +39,7 @@ enum Act {
 }
 
 // What a machine tells of itself.
-#[derive(Clone, Copy, PartialEq, Eq, Debug)]
+#[derive(Clone, Copy, PartialEq, Eq)]
 struct Told {
     steps: u32,
     state: State,
@@ -122,7 +121,7 @@ fn tells(rt: &impl Abort, machine: &Machine, wanted: Told) {
         clock: machine.clock(),
         is_cut: machine.is_cut(),
     };
-    assert_eq!(rt; told, wanted);
+    assert!(rt; told == wanted);
 }
 
 fn goes(
@@ -145,14 +144,14 @@ fn goes_on(
     row: &Row,
 ) -> Result<(), AllocError> {
     let ran = does(rt, alloc, machine, row.act)?;
-    assert_eq!(rt; ran, row.ran);
+    assert!(rt; ran == row.ran);
     tells(rt, machine, row.told);
     finds(rt, "output", machine.output(), row.output);
     Ok(())
 }
 
 fn meets(rt: &impl Abort, alloc: Global, source: &[u8], rows: &[Row]) -> Result<(), Fail> {
-    let mut machine = Machine::new(alloc, load(alloc, STANDARD, source)?, SMALL)?;
+    let mut machine = Machine::new(alloc, loaded(alloc, source)?, SMALL)?;
     goes(rt, alloc, &mut machine, rows)?;
     Ok(())
 }
@@ -178,7 +177,7 @@ const COMING: [Option<NextStep>; 4] = [
 #[test]
 fn tells_what_comes_next(rt: HostRuntime) -> Result<(), Fail> {
     let alloc = rt.alloc();
-    let mut machine = Machine::new(alloc, load(alloc, STANDARD, FAILING)?, SMALL)?;
+    let mut machine = Machine::new(alloc, loaded(alloc, FAILING)?, SMALL)?;
     comes(&rt, alloc, &mut machine, &COMING)?;
     Ok(())
 }
@@ -190,10 +189,10 @@ fn comes(
     steps: &[Option<NextStep>],
 ) -> Result<(), AllocError> {
     for wanted in steps {
-        assert_eq!(rt; machine.coming(0), *wanted);
+        assert!(rt; machine.coming(0) == *wanted);
         does(rt, alloc, machine, Act::Slice(1))?;
     }
-    assert_eq!(rt; machine.coming(1), None);
+    assert!(rt; machine.coming(1).is_none());
     Ok(())
 }
 
@@ -215,7 +214,7 @@ const MOVES: [(Act, &[usize]); 6] = [
 #[test]
 fn lists_its_moves(rt: HostRuntime) -> Result<(), Fail> {
     let alloc = rt.alloc();
-    let mut machine = Machine::new(alloc, load(alloc, STANDARD, TWO_TASKS)?, SMALL)?;
+    let mut machine = Machine::new(alloc, loaded(alloc, TWO_TASKS)?, SMALL)?;
     lists(&rt, alloc, &mut machine, &MOVES)?;
     Ok(())
 }
@@ -229,14 +228,9 @@ fn lists(
     for (act, wanted) in rows {
         does(rt, alloc, machine, *act)?;
         let tasks = machine.moves(alloc)?;
-        assert_eq!(rt; tasks.as_slice(), *wanted);
+        assert!(rt; tasks.as_slice() == *wanted);
     }
     Ok(())
-}
-
-#[test]
-fn puts_the_answer(rt: HostRuntime) -> Result<(), Fail> {
-    meets(&rt, rt.alloc(), SUM, &PUTS)
 }
 
 const PUTS: [Row; 2] = [
@@ -268,11 +262,6 @@ const PUTS: [Row; 2] = [
     },
 ];
 
-#[test]
-fn raises_at_a_division(rt: HostRuntime) -> Result<(), Fail> {
-    meets(&rt, rt.alloc(), FAILING, &RAISES)
-}
-
 const RAISES: [Row; 1] = [Row {
     act: Act::Slice(100),
     // the division is the third instruction, and the other two steps have none
@@ -289,11 +278,6 @@ const RAISES: [Row; 1] = [Row {
     },
     output: b"",
 }];
-
-#[test]
-fn takes_one_move(rt: HostRuntime) -> Result<(), Fail> {
-    meets(&rt, rt.alloc(), SUM, &TAKES)
-}
 
 const TAKES: [Row; 2] = [
     Row {
@@ -322,11 +306,6 @@ const ALL: Option<Ran> = Some(Ran {
 });
 
 // With one task no choice is ever used up, and no step takes time.
-#[test]
-fn takes_what_is_supplied(rt: HostRuntime) -> Result<(), Fail> {
-    meets(&rt, rt.alloc(), SUM, &SUPPLIED)
-}
-
 const SUPPLIED: [Row; 4] = [
     Row {
         act: Act::Choose(&[3, 1]),
@@ -365,11 +344,6 @@ const SUPPLIED: [Row; 4] = [
 ];
 
 // The clock goes on by more than the longest delay, and as many choices wait as may.
-#[test]
-fn takes_as_much_as_it_may(rt: HostRuntime) -> Result<(), Fail> {
-    meets(&rt, rt.alloc(), SUM, &MOST)
-}
-
 const MOST: [Row; 6] = [
     Row {
         act: Act::Advance(1_000_000_000),
@@ -431,11 +405,6 @@ const MOST: [Row; 6] = [
     },
 ];
 
-#[test]
-fn begins_anew(rt: HostRuntime) -> Result<(), Fail> {
-    meets(&rt, rt.alloc(), SUM, &ANEW)
-}
-
 const ANEW: [Row; 4] = [
     Row {
         act: Act::Choose(&[3]),
@@ -472,11 +441,6 @@ const ANEW: [Row; 4] = [
     },
 ];
 
-#[test]
-fn lends_its_parts(rt: HostRuntime) -> Result<(), Fail> {
-    meets(&rt, rt.alloc(), SUM, &LENT)
-}
-
 const LENT: [Row; 2] = [
     Row {
         act: Act::Slice(2),
@@ -495,3 +459,22 @@ const LENT: [Row; 2] = [
         output: b"",
     },
 ];
+
+// Programs, and what is done with a machine of each.
+const MACHINES: [(&[u8], &[Row]); 7] = [
+    (SUM, &PUTS),
+    (FAILING, &RAISES),
+    (SUM, &TAKES),
+    (SUM, &SUPPLIED),
+    (SUM, &MOST),
+    (SUM, &ANEW),
+    (SUM, &LENT),
+];
+
+#[test]
+fn each_row(rt: HostRuntime) -> Result<(), Fail> {
+    for (source, rows) in MACHINES {
+        meets(&rt, rt.alloc(), source, rows)?;
+    }
+    Ok(())
+}

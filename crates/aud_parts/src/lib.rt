@@ -1,5 +1,0 @@
-// The tests of the crates below the server.
-#![tactic(auto)]
-
-#[cfg(test)]
-mod tests;
