@@ -433,11 +433,15 @@ pub struct Unit {
 impl Drop for Unit {
     fn drop(self) {
         let Unit {
-            context: _,
+            context,
             at: _,
-            name: _,
-            declarations: _,
-            body: _,
+            name,
+            declarations,
+            body,
         } = self;
+        drop(context);
+        drop(name);
+        drop(declarations);
+        drop(body);
     }
 }

@@ -3,10 +3,12 @@
 use aud_bench::choices::Choices;
 use aud_bench::request::{BadRequest, Request};
 use aud_text::text::Text;
+use rand::RngExt;
+use rand::rngs::SmallRng;
 use std::alloc::{AllocError, Global};
 
 /// A source text, of one line.
-#[derive(Clone, Copy, PartialEq, Debug)]
+#[derive(Clone, Copy, Debug)]
 pub enum Source {
     /// Ends after three steps.
     Ends,
@@ -20,7 +22,7 @@ pub enum Source {
 }
 
 /// A request.
-#[derive(Clone, Copy, PartialEq, Debug)]
+#[derive(Clone, Copy, Debug)]
 pub enum Ask {
     Load(Source),
     Run(u32),
@@ -60,4 +62,19 @@ fn one_choice(alloc: Global, choice: u8) -> Result<Choices, AllocError> {
     let mut choices = Choices::new(alloc);
     choices.push(u32::from(choice))?;
     Ok(choices)
+}
+
+/// A random request.
+pub fn drawn(rng: &mut SmallRng) -> Ask {
+    match rng.random_range(0u32..60) {
+        0..=1 => Ask::Load(Source::Ends),
+        2..=7 => Ask::Load(Source::Loops),
+        8..=13 => Ask::Load(Source::Tasks),
+        14..=15 => Ask::Load(Source::Wrong),
+        16..=35 => Ask::Run(rng.random_range(1u32..21)),
+        36..=39 => Ask::Choose(rng.random_range(0u8..4)),
+        40..=55 => Ask::Output,
+        56..=58 => Ask::Bad,
+        _ => Ask::Quit,
+    }
 }

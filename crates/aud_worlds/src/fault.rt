@@ -1,17 +1,29 @@
 // Why the program ends with another status than 0.
 
+use crate::deed::Deed;
 use aud_hall::fault::HallFault;
 use clap::Error as ClapError;
 use clap::error::ErrorKind;
-use std::alloc::{AllocError, Global};
+use std::alloc::AllocError;
 use std::io;
 use thiserror::Error;
 
 #[derive(Debug, Drop, Error)]
 pub enum Fault {
-    /// A reply, a parcel or an outbox is another than it must be: which.
-    #[error("{0}")]
-    Differs(String),
+    /// A reply of a row is another than it must be.
+    #[error("{row}: {deed:?} is answered '{found}', and not '{wanted}'")]
+    Reply {
+        row: &'static str,
+        deed: Deed,
+        found: String,
+        wanted: &'static str,
+    },
+    /// An outbox of a row has others than the private server's answers.
+    #[error("{0}: an outbox has other answers")]
+    Outbox(&'static str),
+    /// So has one of the list of this number, or it has too few.
+    #[error("list {0}: an outbox has other answers, or too few")]
+    List(u32),
     /// A call that must succeed was refused.
     #[error("refused: {0}")]
     Refused(HallFault),
@@ -30,7 +42,11 @@ impl Fault {
     /// The status with which the program ends.
     pub fn status(&self) -> u8 {
         match self {
-            Fault::Differs(_) | Fault::Refused(_) | Fault::Stranger => 1,
+            Fault::Reply { .. }
+            | Fault::Outbox(_)
+            | Fault::List(_)
+            | Fault::Refused(_)
+            | Fault::Stranger => 1,
             Fault::Arguments => 2,
             Fault::Words(_) => 3,
             Fault::Memory => 4,
@@ -68,13 +84,5 @@ impl From<ClapError> for Fault {
             ErrorKind::OutOfMemory => Fault::Memory,
             _ => Fault::Arguments,
         }
-    }
-}
-
-/// A reply, a parcel or an outbox of a row or a list is another than it must be: what, or that there is no memory to tell it.
-pub fn differs(alloc: Global, name: &str, what: &str) -> Fault {
-    match format!(in alloc; "{name}: {what}") {
-        Ok(told) => Fault::Differs(told),
-        Err(_) => Fault::Memory,
     }
 }

@@ -1,17 +1,13 @@
-// Runs halls of many users: rows that are known, lists of random calls beside a world in slow words, and measures.
+// Runs halls of many users: rows that are known, lists of random calls, and measures.
 #![tactic(auto)]
 
 mod arguments;
 mod ask;
-mod calls;
 mod deed;
-mod draws;
 mod fault;
 mod lists;
-mod plain;
 mod row;
 mod rows;
-mod session;
 mod speed;
 mod words;
 
@@ -61,7 +57,9 @@ fn tell_rows(rt: &HostRuntime) -> Result<(), Fault> {
 
 fn tell_lists(rt: &HostRuntime, lists: u32) -> Result<(), Fault> {
     let tally = look_at_lists(rt.alloc(), lists)?;
-    println!(rt; "{lists} lists of {CALLS} calls: all as in a world in slow words; {tally:?}")?;
+    println!(rt;
+        "{lists} lists of {CALLS} calls: each outbox as the private server answers; {tally:?}"
+    )?;
     Ok(())
 }
 

@@ -3,7 +3,7 @@
 use crate::ask::{Ask, Source};
 use crate::deed::Deed;
 use crate::fault::Fault;
-use crate::row::{Row, look_at};
+use crate::row::{Line, Row, look_at};
 use aud_text::limits::{Limits, REQUESTS, STANDARD};
 use std::alloc::{AllocError, Global};
 
@@ -27,9 +27,6 @@ pub fn look_at_rows(alloc: Global) -> Result<usize, Fault> {
     )?;
     Ok(ROWS.len() + 1)
 }
-
-// A call, and the words of the reply that must come.
-type Line = (Deed, &'static str);
 
 /// The largest limits that a seat may have.
 pub const LARGE: Limits = Limits {

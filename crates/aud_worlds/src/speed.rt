@@ -118,8 +118,12 @@ pub fn idle_hall(alloc: Global, seats: usize) -> Result<Hall, Fault> {
     Ok(hall)
 }
 
-// Sends the parcel of a seat out, works on it, and takes it in; how many units were done.
-fn turn(alloc: Global, hall: &mut Hall, seat: usize, slice: u64) -> Result<u64, Fault> {
+/// Sends the parcel of a seat out, if it can go out, does so many units of work on it, and takes it in; how many were done.
+///
+/// # Errors
+///
+/// `Stranger` where it is not taken in.
+pub fn turn(alloc: Global, hall: &mut Hall, seat: usize, slice: u64) -> Result<u64, Fault> {
     let Some(mut parcel) = hall.send_out(alloc, seat) else {
         return Ok(0);
     };

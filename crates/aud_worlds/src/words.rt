@@ -1,11 +1,12 @@
 // Replies and answers in words, by which they are told and compared.
 
 use aud_bench::bench::Work;
-use aud_bench::request::Answer;
+use aud_bench::request::{Answer, Request};
+use aud_bench::session::Session;
 use aud_hall::next::Next;
 use aud_hall::reply::Reply;
-use aud_hall::why::Why;
 use aud_lines::answers::answer_text;
+use aud_text::limits::Limits;
 use std::alloc::{AllocError, Global};
 
 /// The words of a reply; of answers, their texts.
@@ -15,7 +16,20 @@ pub fn words(alloc: Global, reply: &Reply) -> Result<String, AllocError> {
         Reply::Worked(Work { done, left }) => format!(in alloc; "did {done}, left {left}"),
         Reply::Stranger(why) => format!(in alloc; "stranger: {why}"),
         Reply::Answers(answers) if !answers.is_empty() => texts(alloc, answers),
-        _ => String::from_str(alloc, kind(reply)),
+        _ => String::from_str(alloc, plain(reply)),
+    }
+}
+
+// Those of a reply without numbers and answers.
+fn plain(reply: &Reply) -> &'static str {
+    match reply {
+        Reply::Accepted => "accepted",
+        Reply::Sent(true) => "sent",
+        Reply::Sent(false) => "stays",
+        Reply::Taken(Next::More) => "taken in, more",
+        Reply::Taken(Next::Idle) => "taken in, idle",
+        Reply::Answers(_) => "no answer",
+        _ => "nothing",
     }
 }
 
@@ -28,23 +42,14 @@ pub fn texts(alloc: Global, answers: &[Answer]) -> Result<String, AllocError> {
     String::from_utf8_lossy(alloc, &text)
 }
 
-/// What a reply is, without its numbers and answers.
-pub fn kind(reply: &Reply) -> &'static str {
-    match reply {
-        Reply::Accepted => "accepted",
-        Reply::Refused(_) => "refused",
-        Reply::Sent(true) => "sent",
-        Reply::Sent(false) => "stays",
-        Reply::Worked(_) => "worked",
-        Reply::Taken(Next::More) => "taken in, more",
-        Reply::Taken(Next::Idle) => "taken in, idle",
-        Reply::Stranger(Why::NoSeat) => "no seat",
-        Reply::Stranger(Why::OtherLimits) => "other limits",
-        Reply::Stranger(Why::Differs(_)) => "differs",
-        Reply::Stranger(Why::NotOut) => "not out",
-        Reply::Stranger(Why::Behind(_)) => "behind",
-        Reply::Answers(answers) if !answers.is_empty() => "answers",
-        Reply::Answers(_) => "no answer",
-        Reply::Nothing => "nothing",
+/// The texts of the private server's answers to requests, up to that to a QUIT.
+pub fn alone(alloc: Global, limits: Limits, requests: &[Request]) -> Result<String, AllocError> {
+    let mut server = Session::new(limits);
+    let mut answers = Vec::new(alloc);
+    for request in requests {
+        if let Some(answer) = server.answer(alloc, request)? {
+            answers.push(answer)?;
+        }
     }
+    texts(alloc, &answers)
 }
