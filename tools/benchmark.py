@@ -27,6 +27,7 @@ LINE = 1_000  # bytes that are put on a line, which may have 1,024
 LOADS = 20  # LOADs in a session that times them
 SEATS = 64  # the most that a hall has
 SEAT_STEPS = 500_000  # steps at each of them
+PAIRS = 31  # measures of a hall, each between two of one bench
 
 
 @dataclass
@@ -528,9 +529,8 @@ def loads_beside(program, others):
 
 def of_hall(worlds, slice_units, before):
     """The seconds that the steps of all seats take, in slices of so many units, behind so many other requests at each; with no units, on one bench."""
-    words = [worlds, "--seats", str(SEATS), "--slice", str(slice_units), "--before", str(before), "--steps"]
-    alone, _ = measure([*words, "1"])
-    whole, wrote = measure([*words, str(SEAT_STEPS)])
+    alone, _ = measure([worlds, "--work", str(SEATS), str(before), "1", str(slice_units)])
+    whole, wrote = measure([worlds, "--work", str(SEATS), str(before), str(SEAT_STEPS), str(slice_units)])
     steps = SEATS * SEAT_STEPS
     wanted = SEATS * (before + 1) + steps if slice_units else before + steps // 1_000_000 + steps
     if wrote.decode().strip() != f"{wanted} units":
@@ -551,19 +551,19 @@ def resident(worlds, seats):
 
 
 def halls(worlds):
-    print(f"A hall of {SEATS} seats, {SEAT_STEPS:,} steps at each, by one thread; steps a second:")
-    shapes = [(0, 0), (1_000, 0), (100, 0), (1_000, 1_000), (1_000, 4_000)]
-    times = {shape: [] for shape in shapes}
-    for _ in range(TIMES):
-        for shape in shapes:
-            times[shape].append(of_hall(worlds, *shape))
-    speed = {shape: SEATS * SEAT_STEPS / median(seconds) for shape, seconds in times.items()}
-    for slice_units, before in shapes:
-        name = f"in slices of {slice_units:,}" if slice_units else "as many on one bench"
-        name += f", behind {before:,} requests" if before else ""
-        each = speed[slice_units, before]
-        beside = f"   {each / speed[0, 0]:.2f} of one bench" if slice_units else ""
-        print(f"    {name:43}{fast(each)}{beside}")
+    """Each measure of a hall stands between two of one bench, since a machine may be faster now and slower then; what is told beside it is the
+    median of the measures' parts of the two around them."""
+    print(f"A hall of {SEATS} seats, {SEAT_STEPS:,} steps at each, by one thread; steps a second, and the part of one bench's right before and behind it:")
+    for slice_units, before in [(1_000, 0), (100, 0), (1_000, 1_000), (1_000, 4_000)]:
+        alone, hall = [of_hall(worlds, 0, 0)], []
+        for _ in range(PAIRS):
+            hall.append(of_hall(worlds, slice_units, before))
+            alone.append(of_hall(worlds, 0, 0))
+        parts = sorted((first + second) / 2 / own for first, second, own in zip(alone, alone[1:], hall))
+        name = f"in slices of {slice_units:,}" + (f", behind {before:,} requests" if before else "")
+        speed, bench = (fast(SEATS * SEAT_STEPS / median(seconds)) for seconds in (hall, alone))
+        half = f"half of them {parts[PAIRS // 4]:.2f} to {parts[-1 - PAIRS // 4]:.2f}"
+        print(f"    {name:43}{speed}   one bench {bench}   {median(parts):.2f} of it ({half})")
     one, all_of = (median(resident(worlds, seats) for _ in range(TIMES)) for seats in (1, SEATS))
     print(f"An idle seat takes {(all_of - one) / (SEATS - 1) / 1024:.1f} KiB")
 

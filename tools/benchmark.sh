@@ -1,16 +1,16 @@
 #!/bin/sh
 # How fast `aud --solo` runs loops and loads source texts, beside python3, and lua5.4 where it is there; and how fast a hall works.
-# It times the programs that `rt run` built last in crates/aud and crates/aud_worlds, or those that are named.
+# It times the programs that `rt run` built last in crates/aud and crates/aud_sessions, or those that are named.
 set -eu
 top=$(cd "$(dirname "$0")/.." && pwd)
 program=${1:-$top/crates/aud/out/aud}
-worlds=${2:-$top/crates/aud_worlds/out/aud_worlds}
+worlds=${2:-$top/crates/aud_sessions/out/aud_sessions}
 if [ ! -x "$program" ]; then
     echo "benchmark: no program at $program; build it by: cd crates/aud && rt run -- --solo < stdin" >&2
     exit 2
 fi
 if [ ! -x "$worlds" ]; then
-    echo "benchmark: no program at $worlds; build it by: cd crates/aud_worlds && rt run" >&2
+    echo "benchmark: no program at $worlds; build it by: cd crates/aud_sessions && rt run" >&2
     exit 2
 fi
 exec python3 "$top/tools/benchmark.py" "$program" "$worlds"

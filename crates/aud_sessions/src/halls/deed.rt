@@ -1,6 +1,6 @@
 // The calls of lists and rows, in words that can be compared and told.
 
-use crate::ask::{Ask, request};
+use crate::halls::ask::{Ask, request};
 use aud_hall::event::Event;
 use std::alloc::{AllocError, Global};
 

@@ -2,7 +2,7 @@
 
 The program itself looks at each world that came back: its outboxes must be fronts of the private server's answers, the last one that
 memory is out at most. It ends with status 4 then, and says nothing on standard output before its rows are done.
-usage: refused_worlds.py PROGRAM
+usage: refused_halls.py PROGRAM
 """
 import subprocess
 import sys
@@ -11,7 +11,7 @@ from concurrent.futures import ThreadPoolExecutor
 
 from calls import counted, library, surroundings
 
-REFUSED = (4, b"aud_worlds: out of memory\n", b"")
+REFUSED = (4, b"aud_sessions: out of memory\n", b"")
 
 
 def run(built, words, number):

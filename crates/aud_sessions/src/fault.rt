@@ -1,15 +1,23 @@
-// Why the program ends with another status than 0.
+// Why the program ends with another status than 0, or does not look at a file.
 
-use crate::deed::Deed;
+use crate::halls::deed::Deed;
+use crate::session::LineFault;
 use aud_hall::fault::HallFault;
-use clap::Error as ClapError;
-use clap::error::ErrorKind;
+use aud_server::solo::SoloFault;
 use std::alloc::AllocError;
 use std::io;
 use thiserror::Error;
 
 #[derive(Debug, Drop, Error)]
 pub enum Fault {
+    #[error("{0}")]
+    Stream(io::Error),
+    #[error("line {0} is none of a session")]
+    Line(usize),
+    #[error("line {0} has no form of a line that is sent or written")]
+    Form(usize),
+    #[error("a server ended: {0}")]
+    Server(SoloFault),
     /// A reply of a row is another than it must be.
     #[error("{row}: {deed:?} is answered '{found}', and not '{wanted}'")]
     Reply {
@@ -32,8 +40,6 @@ pub enum Fault {
     Stranger,
     #[error("bad arguments")]
     Arguments,
-    #[error("{0}")]
-    Words(io::Error),
     #[error("out of memory")]
     Memory,
 }
@@ -42,14 +48,10 @@ impl Fault {
     /// The status with which the program ends.
     pub fn status(&self) -> u8 {
         match self {
-            Fault::Reply { .. }
-            | Fault::Outbox(_)
-            | Fault::List(_)
-            | Fault::Refused(_)
-            | Fault::Stranger => 1,
             Fault::Arguments => 2,
-            Fault::Words(_) => 3,
+            Fault::Stream(_) => 3,
             Fault::Memory => 4,
+            _ => 1,
         }
     }
 }
@@ -69,20 +71,27 @@ impl From<HallFault> for Fault {
     }
 }
 
-impl From<io::Error> for Fault {
-    fn from(error: io::Error) -> Fault {
-        match error.kind() {
-            io::ErrorKind::OutOfMemory => Fault::Memory,
-            _ => Fault::Words(error),
+impl From<SoloFault> for Fault {
+    fn from(fault: SoloFault) -> Fault {
+        Fault::Server(fault)
+    }
+}
+
+impl From<LineFault> for Fault {
+    fn from(fault: LineFault) -> Fault {
+        match fault {
+            LineFault::Memory => Fault::Memory,
+            LineFault::Line(number) => Fault::Line(number),
+            LineFault::Form(number) => Fault::Form(number),
         }
     }
 }
 
-impl From<ClapError> for Fault {
-    fn from(error: ClapError) -> Fault {
+impl From<io::Error> for Fault {
+    fn from(error: io::Error) -> Fault {
         match error.kind() {
-            ErrorKind::OutOfMemory => Fault::Memory,
-            _ => Fault::Arguments,
+            io::ErrorKind::OutOfMemory => Fault::Memory,
+            _ => Fault::Stream(error),
         }
     }
 }

@@ -1,8 +1,8 @@
 // A row: calls, and the replies that must come.
 
-use crate::deed::{Deed, event};
 use crate::fault::Fault;
-use crate::words::{alone, texts, words};
+use crate::halls::deed::{Deed, event};
+use crate::halls::words::{alone, texts, words};
 use aud_bench::bench::Work;
 use aud_hall::event::Event;
 use aud_hall::fault::HallFault;

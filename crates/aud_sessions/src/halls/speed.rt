@@ -1,7 +1,7 @@
 // How fast halls and benches work, and halls in which nothing is to be done.
 
-use crate::ask::{Ask, Source, request};
 use crate::fault::Fault;
+use crate::halls::ask::{Ask, Source, request};
 use aud_bench::bench::{Bench, GiveFault};
 use aud_bench::request::Request;
 use aud_hall::hall::Hall;

@@ -1,10 +1,10 @@
 // Lists of random calls.
 
-use crate::ask::{Ask, drawn, request};
 use crate::fault::Fault;
-use crate::rows::LARGE;
-use crate::speed::turn;
-use crate::words::{alone, texts};
+use crate::halls::ask::{Ask, drawn, request};
+use crate::halls::rows::LARGE;
+use crate::halls::speed::turn;
+use crate::halls::words::{alone, texts};
 use aud_hall::fault::HallFault;
 use aud_hall::hall::Hall;
 use aud_hall::parcel::Parcel;

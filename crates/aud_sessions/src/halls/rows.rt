@@ -1,9 +1,9 @@
 // Rows that are known.
 
-use crate::ask::{Ask, Source};
-use crate::deed::Deed;
 use crate::fault::Fault;
-use crate::row::{Line, Row, look_at};
+use crate::halls::ask::{Ask, Source};
+use crate::halls::deed::Deed;
+use crate::halls::row::{Line, Row, look_at};
 use aud_text::limits::{Limits, REQUESTS, STANDARD};
 use std::alloc::{AllocError, Global};
 

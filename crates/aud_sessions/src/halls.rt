@@ -1,0 +1,9 @@
+// Halls of many users: rows that are known, lists of random calls, and measures.
+
+mod ask;
+pub mod deed;
+pub mod lists;
+mod row;
+pub mod rows;
+pub mod speed;
+mod words;
