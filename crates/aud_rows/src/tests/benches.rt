@@ -1,4 +1,4 @@
-// A bench that is closed, with ample memory. What is done with open ones `aud_worlds` shows.
+// A bench that is closed, with ample memory. What is done with open ones the rows of halls in `aud_sessions` show.
 
 use crate::tests::finds;
 use aud_bench::bench::Bench;
