@@ -2,6 +2,7 @@
 
 ghost use Rattle.std.specs.Prelude.{◌≡◌};
 ghost use Rattle.aud_syntax.specs.Ties.View.{plain_expression, plain_name};
+ghost use Rattle.aud_typed.specs.Tree.{null};
 ghost use Rattle.aud_typed.specs.Ties.View.{plain_integer, plain_statement as plain_typed_statement};
 ghost use Rattle.aud_names.specs.Least.{noted};
 ghost use Rattle.aud_bodies.specs.Assignments.{meaning_base, target_base, changed_faults, target_faults, assigned_faults, meaning_assigned, assigned_at, assigned, assign_faults, typed_assign};
@@ -19,6 +20,14 @@ use aud_typed::program::{Reference, Statement as TypedStatement};
 use aud_typing::entity::{Denoting, Element, Entity, name_denotes};
 use aud_typing::expression::{arguments, expression, expression_at};
 use aud_typing::typed::{Operand, Typed, base_of};
+
+/// What a faulty statement is left as. What there is of it is dropped by one call, and not by its parts' drops at each place.
+pub fn null_for<T: Drop>(at: Pos, faulty: T) -> TypedStatement
+    ensures { plain_typed_statement result ≡ null at }
+{
+    drop(faulty);
+    TypedStatement::Null(at)
+}
 
 fn meaning_base(meaning: Meaning) -> Option<Base>
     ensures { result ≡ meaning_base meaning }
@@ -91,10 +100,10 @@ fn meaning_assigned(meaning: Meaning, at: Pos, value: Typed) -> TypedStatement
     ensures { plain_typed_statement result ≡ meaning_assigned meaning at (plain_typed value) }
 {
     let Meaning::Object(object) = meaning else {
-        return TypedStatement::Null(at);
+        return null_for(at, value);
     };
     match object.subtype {
-        None => TypedStatement::Null(at),
+        None => null_for(at, value),
         Some(subtype) => {
             let reference = Reference::Scalar(object.variable, subtype);
             TypedStatement::Assign(at, reference, value_for(subtype, value))
@@ -113,7 +122,7 @@ fn element_assigned(element: Element, at: Pos, value: Typed) -> TypedStatement
         subtype,
     } = element;
     match subtype {
-        None => TypedStatement::Null(at),
+        None => null_for(at, (index, value)),
         Some(subtype) => {
             let reference = Reference::Element(array, index, subtype);
             TypedStatement::Assign(at, reference, value_for(subtype, value))
@@ -128,9 +137,9 @@ fn assigned(target: Entity, at: Pos, value: Operand) -> TypedStatement
 {
     let value = value.opened();
     match target {
-        Entity::Nothing | Entity::Task(_, _) => TypedStatement::Null(at),
         Entity::Whole(meaning) => meaning_assigned(meaning, at, value),
         Entity::Element(element) => element_assigned(element, at, value),
+        other => null_for(at, (other, value)),
     }
 }
 

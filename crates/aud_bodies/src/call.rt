@@ -15,6 +15,7 @@ ghost use Rattle.aud_typing.specs.Ties.Typing.{plain_typed, in_box, Leaves};
 ghost use Rattle.aud_names.specs.declared.names.Builtin.TheVariants as builtin;
 
 use crate::argument::{all_passed, are_as_many};
+use crate::assignment::null_for;
 use crate::tables::Tables;
 use aud_names::behind::{Left, Made, boxed};
 use aud_names::fault::Least;
@@ -106,7 +107,10 @@ fn put_out(alloc: Global, builtin: Builtin, at: Pos, last: Typed) -> Made<TypedS
     match builtin {
         Builtin::Put => Ok(put(at, last)),
         Builtin::PutLine => put_line(alloc, at, last),
-        Builtin::NewLine => Ok(TypedStatement::Put(at, TextExpression::NewLine)),
+        Builtin::NewLine => {
+            drop(last);
+            Ok(TypedStatement::Put(at, TextExpression::NewLine))
+        }
     }
 }
 
@@ -115,7 +119,7 @@ fn put(at: Pos, last: Typed) -> TypedStatement
 {
     match last {
         Typed::Text(text) => TypedStatement::Put(at, text),
-        Typed::Number(_) | Typed::Truth(_) | Typed::Unknown => TypedStatement::Null(at),
+        other => null_for(at, other),
     }
 }
 
@@ -128,7 +132,7 @@ fn put_line(alloc: Global, at: Pos, last: Typed) -> Made<TypedStatement>
             let line = with_text(alloc, text, TextExpression::NewLine)?;
             Ok(TypedStatement::Put(at, line))
         }
-        Typed::Number(_) | Typed::Truth(_) | Typed::Unknown => Ok(TypedStatement::Null(at)),
+        other => Ok(null_for(at, other)),
     }
 }
 
@@ -138,7 +142,7 @@ fn called(alloc: Global, meaning: Option<Meaning>, at: Pos, last: Typed) -> Made
 {
     match meaning {
         Some(Meaning::Builtin(builtin)) => put_out(alloc, builtin, at, last),
-        _ => Ok(TypedStatement::Null(at)),
+        _ => Ok(null_for(at, last)),
     }
 }
 

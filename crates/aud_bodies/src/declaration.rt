@@ -92,7 +92,10 @@ pub fn value_for(subtype: Subtype, value: Typed) -> ValueExpression
     match value {
         Typed::Number(value) => ValueExpression::Whole(subtype, value),
         Typed::Truth(value) => ValueExpression::Truth(value),
-        _ => default_value(subtype),
+        other => {
+            drop(other);
+            default_value(subtype)
+        }
     }
 }
 

@@ -32,7 +32,10 @@ fn integer_of(typed: Typed) -> IntegerExpression
 {
     match typed {
         Typed::Number(value) => value,
-        _ => IntegerExpression::Number(Int32::new(0)),
+        other => {
+            drop(other);
+            IntegerExpression::Number(Int32::new(0))
+        }
     }
 }
 

@@ -17,6 +17,7 @@ use aud_typed::program::{
     Body, Named, Shown, Statement, Statements, Subtype, TaskType, Unit, Variable,
 };
 use std::alloc::Global;
+use std::mem::replace;
 
 /// The variables and constants of each region that has been entered, by the regions' numbers, and the
 /// names of the exceptions, by theirs; of each procedure and task that has been declared its formals, and its body,
@@ -109,7 +110,9 @@ impl Tables {
             ≡ with_unit number (plain_unit unit) (plain_tables self.old) }
     {
         if number < self.units.len() {
-            self.units[number] = unit;
+            drop(replace(&mut self.units[number], unit));
+        } else {
+            drop(unit);
         }
     }
 

@@ -85,7 +85,6 @@ pub type Symbols = IndexMap<Name, Meaning>;
 /// A region of declarations (RM 8.1): its names, how many frames are further out than its own, the cells
 /// and the names of variables, constants and tasks that its frame has so far, the tasks whose bodies are still
 /// to come, and what allocates them.
-#[derive(Drop)]
 pub struct Region {
     pub alloc: Global,
     pub symbols: Symbols,
@@ -93,6 +92,22 @@ pub struct Region {
     pub cells: usize,
     pub names: usize,
     pub awaited: Vec<Awaited>,
+}
+
+// One call wherever it is dropped.
+impl Drop for Region {
+    fn drop(self) {
+        let Region {
+            alloc: _,
+            symbols,
+            level: _,
+            cells: _,
+            names: _,
+            awaited,
+        } = self;
+        drop(symbols);
+        drop(awaited);
+    }
 }
 
 impl Region {

@@ -11,7 +11,7 @@ ghost use Rattle.aud_typing.specs.Ties.Typing.{plain_typed, plain_argument, Leav
 ghost use Rattle.aud_typing.specs.Ties.Entities.{plain_entity};
 
 use crate::entity::{Denoting, Entity, stored_at};
-use crate::typed::{Operand, Typed, stored, wants};
+use crate::typed::{Operand, Typed, stored, unknown, wants};
 use aud_names::array::length_between;
 use aud_names::behind::Made;
 use aud_names::fault::Least;
@@ -90,23 +90,17 @@ fn image_of(value: Typed) -> Typed
     match value {
         Typed::Number(x) => Typed::Text(TextExpression::Image(x)),
         Typed::Truth(x) => Typed::Text(TextExpression::ImageTruth(x)),
-        _ => Typed::Unknown,
+        other => unknown(other),
     }
 }
 
 fn image_of_type(base: Base, value: Typed) -> Typed
     ensures { plain_typed result ≡ image_of_type base (plain_typed value) }
 {
-    match base {
-        Base::Whole => match value {
-            Typed::Number(x) => Typed::Text(TextExpression::Image(x)),
-            _ => Typed::Unknown,
-        },
-        Base::Truth => match value {
-            Typed::Truth(x) => Typed::Text(TextExpression::ImageTruth(x)),
-            _ => Typed::Unknown,
-        },
-        Base::Text => Typed::Unknown,
+    match (base, value) {
+        (Base::Whole, Typed::Number(x)) => Typed::Text(TextExpression::Image(x)),
+        (Base::Truth, Typed::Truth(x)) => Typed::Text(TextExpression::ImageTruth(x)),
+        (_, other) => unknown(other),
     }
 }
 

@@ -20,7 +20,10 @@ fn truth_of(typed: Typed) -> BooleanExpression
 {
     match typed {
         Typed::Truth(value) => value,
-        _ => BooleanExpression::Truth(false),
+        other => {
+            drop(other);
+            BooleanExpression::Truth(false)
+        }
     }
 }
 

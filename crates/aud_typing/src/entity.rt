@@ -4,7 +4,7 @@ ghost use Rattle.std.specs.Prelude.{◌≡◌, IfOk};
 ghost use Rattle.aud_syntax.specs.Ties.View.{plain_name, plain_part, part_list, plain_expressions};
 ghost use Rattle.aud_typed.specs.Ties.View.{plain_integer};
 ghost use Rattle.aud_names.specs.Least.{noted};
-ghost use Rattle.aud_typing.specs.Expressions.{element_with, array_indexed, task_with, tasks_indexed, before_point, prefix_faults, indexed, denoting, read_faults, name_faults, stored_at, meaning_read, value_read};
+ghost use Rattle.aud_typing.specs.Expressions.{no_entity, element_with, array_indexed, task_with, tasks_indexed, before_point, prefix_faults, indexed, denoting, read_faults, name_faults, stored_at, meaning_read, value_read};
 ghost use Rattle.aud_typing.specs.Ties.Typing.{plain_typed};
 ghost use Rattle.aud_typing.specs.Ties.Entities.{plain_entity};
 
@@ -47,6 +47,14 @@ pub struct Denoting {
     pub at: Pos,
 }
 
+// What an index denotes that is no number.
+fn nothing(index: Typed) -> Entity
+    ensures { plain_entity result ≡ no_entity }
+{
+    drop(index);
+    Entity::Nothing
+}
+
 fn element_with(array: Array, index: Typed) -> Entity
     ensures { plain_entity result ≡ element_with array (plain_typed index) }
 {
@@ -56,7 +64,7 @@ fn element_with(array: Array, index: Typed) -> Entity
             index,
             subtype: array.subtype,
         }),
-        _ => Entity::Nothing,
+        other => nothing(other),
     }
 }
 
@@ -97,7 +105,7 @@ fn task_with(array: TaskArray, index: Typed) -> Entity
 {
     match index {
         Typed::Number(index) => Entity::Task(task_array_at(array), index),
-        _ => Entity::Nothing,
+        other => nothing(other),
     }
 }
 

@@ -5,7 +5,7 @@ ghost use Rattle.aud_typed.specs.Tree.{binary, join};
 ghost use Rattle.aud_typed.specs.declared.program.Operation.{out-Operation};
 ghost use Rattle.aud_typed.specs.Ties.View.{plain_integer, plain_boolean, plain_text, connected};
 ghost use Rattle.aud_names.specs.Least.{noted};
-ghost use Rattle.aud_typing.specs.Expressions.{base_of, wants, combined, joined, one, integer_only, negated, relation_of, compared, related_to, operand_faults, both, stored, signed, highest};
+ghost use Rattle.aud_typing.specs.Expressions.{unknown, base_of, wants, combined, joined, one, integer_only, negated, relation_of, compared, related_to, operand_faults, both, stored, signed, highest};
 ghost use Rattle.aud_typing.specs.Ties.Typing.{plain_typed, typed_connective, operation, Shows};
 
 use aud_names::behind::{Left, Made, boxed};
@@ -79,6 +79,24 @@ pub fn base_of(typed: &Typed) -> Option<Base>
     }
 }
 
+/// What is left of what has not the right type: nothing is known of it. It is dropped by one call, and not by its parts' drops at
+/// each place.
+pub fn unknown<T: Drop>(wrong: T) -> Typed
+    ensures { plain_typed result ≡ unknown }
+{
+    drop(wrong);
+    Typed::Unknown
+}
+
+// Two expressions in boxes.
+fn both_boxed<T: Drop>(alloc: Global, left: T, right: T) -> Made<(Box<T>, Box<T>)>
+    ensures { IfOk result (λ boxes. (boxes.0.value ≡ left) × (boxes.1.value ≡ right)) }
+{
+    let left = Box::new(alloc, left)?;
+    let right = Box::new(alloc, right)?;
+    Ok((left, right))
+}
+
 /// The value of a variable or constant.
 pub fn stored(variable: Variable, subtype: Option<Subtype>) -> Typed
     ensures { plain_typed result ≡ stored variable subtype }
@@ -145,15 +163,15 @@ fn combined(alloc: Global, operator: Binary, left: Operand, right: Operand) -> M
     ensures { IfOk result (λ typed. plain_typed typed
         ≡ combined operator (plain_typed left.typed.value) (plain_typed right.typed.value)) }
 {
-    let Typed::Number(left) = left.opened() else {
-        return Ok(Typed::Unknown);
-    };
-    match right.opened() {
-        Typed::Number(right) => {
-            let value = with_operation(alloc, left, Operation { operator, right })?;
-            Ok(Typed::Number(value))
-        }
-        _ => Ok(Typed::Unknown),
+    match left.opened() {
+        Typed::Number(left) => match right.opened() {
+            Typed::Number(right) => {
+                let value = with_operation(alloc, left, Operation { operator, right })?;
+                Ok(Typed::Number(value))
+            }
+            other => Ok(unknown((left, other))),
+        },
+        other => Ok(unknown((other, right))),
     }
 }
 
@@ -174,15 +192,15 @@ fn joined(alloc: Global, left: Operand, right: Operand) -> Made<Typed>
     ensures { IfOk result (λ typed. plain_typed typed
         ≡ joined (plain_typed left.typed.value) (plain_typed right.typed.value)) }
 {
-    let Typed::Text(left) = left.opened() else {
-        return Ok(Typed::Unknown);
-    };
-    match right.opened() {
-        Typed::Text(right) => {
-            let text = with_text(alloc, left, right)?;
-            Ok(Typed::Text(text))
-        }
-        _ => Ok(Typed::Unknown),
+    match left.opened() {
+        Typed::Text(left) => match right.opened() {
+            Typed::Text(right) => {
+                let text = with_text(alloc, left, right)?;
+                Ok(Typed::Text(text))
+            }
+            other => Ok(unknown((left, other))),
+        },
+        other => Ok(unknown((other, right))),
     }
 }
 
@@ -194,7 +212,7 @@ fn one(alloc: Global, operator: Unary, operand: Typed) -> Made<Typed>
             let x = Box::new(alloc, x)?;
             Ok(Typed::Number(IntegerExpression::Unary(operator, x)))
         }
-        _ => Ok(Typed::Unknown),
+        other => Ok(unknown(other)),
     }
 }
 
@@ -203,7 +221,7 @@ fn integer_only(typed: Typed) -> Typed
 {
     match typed {
         Typed::Number(x) => Typed::Number(x),
-        _ => Typed::Unknown,
+        other => unknown(other),
     }
 }
 
@@ -215,7 +233,7 @@ fn negated(alloc: Global, operand: Typed) -> Made<Typed>
             let x = Box::new(alloc, x)?;
             Ok(Typed::Truth(BooleanExpression::Not(x)))
         }
-        _ => Ok(Typed::Unknown),
+        other => Ok(unknown(other)),
     }
 }
 
@@ -279,27 +297,26 @@ fn compared(alloc: Global, operator: Relational, left: Operand, right: Operand) 
 {
     let relation = relation_of(operator);
     match left.opened() {
-        Typed::Number(left) => Ok(related_to(relation, left, right)),
+        Typed::Number(left) => Ok(related_to(relation, left, right.opened())),
         Typed::Truth(left) => match right.opened() {
             Typed::Truth(right) => {
-                let left = Box::new(alloc, left)?;
-                let right = Box::new(alloc, right)?;
+                let (left, right) = both_boxed(alloc, left, right)?;
                 Ok(Typed::Truth(BooleanExpression::Comparison(relation, left, right)))
             }
-            _ => Ok(Typed::Unknown),
+            other => Ok(unknown((left, other))),
         },
-        _ => Ok(Typed::Unknown),
+        other => Ok(unknown((other, right))),
     }
 }
 
 // An Integer that is compared.
-fn related_to(relation: Relation, left: IntegerExpression, right: Operand) -> Typed
+fn related_to(relation: Relation, left: IntegerExpression, right: Typed) -> Typed
     ensures { plain_typed result
-        ≡ related_to relation (plain_integer left) (plain_typed right.typed.value) }
+        ≡ related_to relation (plain_integer left) (plain_typed right) }
 {
-    match right.opened() {
+    match right {
         Typed::Number(right) => Typed::Truth(BooleanExpression::Relation(relation, left, right)),
-        _ => Typed::Unknown,
+        other => unknown((left, other)),
     }
 }
 
@@ -347,15 +364,15 @@ fn both(alloc: Global, connective: Connective, left: Operand, right: Operand) ->
         ≡ both connective (plain_typed left.typed.value) (plain_typed right.typed.value)) }
 {
     let connective = typed_connective(connective);
-    let Typed::Truth(left) = left.opened() else {
-        return Ok(Typed::Unknown);
-    };
-    match right.opened() {
-        Typed::Truth(right) => {
-            let value = with_operand(alloc, connective, left, right)?;
-            Ok(Typed::Truth(value))
-        }
-        _ => Ok(Typed::Unknown),
+    match left.opened() {
+        Typed::Truth(left) => match right.opened() {
+            Typed::Truth(right) => {
+                let value = with_operand(alloc, connective, left, right)?;
+                Ok(Typed::Truth(value))
+            }
+            other => Ok(unknown((left, other))),
+        },
+        other => Ok(unknown((other, right))),
     }
 }
 
