@@ -9,7 +9,7 @@ use Rattle.aud_lex.specs.Lexed.{lexed}
 use Rattle.aud_grammar.specs.Parsed as syntax
 use Rattle.aud_syntax.specs.Plain as plain
 use Rattle.aud_typed.specs.Tree as tree
-use Rattle.aud_names.specs.declared.fault.Fault.{Fault}
+use Rattle.aud_fault.specs.declared.fault.Fault.{Fault}
 use Rattle.aud_check.specs.Checked.{checked}
 use Rattle.aud_bench.specs.declared.request.Answer.{Answer}
 use Rattle.aud_bench.specs.declared.request.Answer.TheVariants.{Refused, RefusedAt}

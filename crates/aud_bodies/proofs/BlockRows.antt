@@ -11,7 +11,7 @@ use Rattle.aud_syntax.specs.Why.Shorthand.{at, id, one, var, var_at, num, only, 
 use Rattle.aud_typed.specs.declared.program.Exception.TheVariants.{Predefined}
 use Rattle.aud_typed.specs.declared.program.Subtype.TheVariants.{Integer}
 use Rattle.aud_typed.specs.Tree as tree
-use Rattle.aud_names.specs.declared.fault.Fault.{Fault}
+use Rattle.aud_fault.specs.declared.fault.Fault.{Fault}
 use Rattle.aud_names.specs.Names.{main_place}
 use Rattle.aud_bodies.specs.Tables.{Tables, Outcome, no_body}
 use Rattle.aud_bodies.specs.Statements.{nothing_around, checked_statement}

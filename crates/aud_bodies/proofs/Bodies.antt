@@ -13,8 +13,8 @@ use Rattle.aud_typed.specs.declared.program.Statement as memory
 use Rattle.aud_typed.specs.declared.program.Statements.{Statements}
 use Rattle.aud_typed.specs.Tree as tree
 use Rattle.aud_typed.specs.Ties.View.{plain_statement, plain_body, plain_statements as plain_typed_statements, statements_in, handlers_in}
-use Rattle.aud_names.specs.declared.fault.Fault.{Fault}
-use Rattle.aud_names.specs.Least.{noted}
+use Rattle.aud_fault.specs.declared.fault.Fault.{Fault}
+use Rattle.aud_fault.specs.Least.{noted}
 use Rattle.aud_bodies.specs.declared.declaration.DeclarativePart.{DeclarativePart}
 use Rattle.aud_names.specs.declared.names.Region.{Region}
 use Rattle.aud_names.specs.Names.{Place, innermost, in_frame, place_in, task_place}

@@ -14,8 +14,8 @@ use Rattle.aud_names.specs.declared.names.Region.{Region}
 use Rattle.aud_names.specs.Ties.Regions.{plain_region, plain_regions, plain_place}
 use Rattle.aud_names.specs.Rules.{declared_once, right_name_at_end}
 use Rattle.aud_bodies.specs.declared.declaration.DeclarativePart.{DeclarativePart}
-use Rattle.aud_names.specs.declared.fault.Fault.{Fault}
-use Rattle.aud_names.specs.Least.{noted}
+use Rattle.aud_fault.specs.declared.fault.Fault.{Fault}
+use Rattle.aud_fault.specs.Least.{noted}
 use Rattle.aud_bodies.specs.Tables.{Tables, Outcome, no_tables, next_unit, next_task, task_kept}
 use Rattle.aud_bodies.specs.Declarations.{Declared, Objects, leaving, Exceptions, declared_exceptions, exceptions_twice, checked_exceptions}
 use Rattle.aud_bodies.specs.Tasks.{name_behind, with_task, created_by, checked_task}

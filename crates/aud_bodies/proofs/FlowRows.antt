@@ -8,7 +8,7 @@ use Rattle.aud_syntax.specs.declared.tree.Ident.{Ident}
 use Rattle.aud_syntax.specs.Plain.{Expression, no_expression, an_expression, Statement, null, if_then, loop, exit, no_arms, more_arms, forever, while, Statements}
 use Rattle.aud_syntax.specs.Why.Shorthand.{at, id, var, num, only, more, statements}
 use Rattle.aud_typed.specs.Tree as tree
-use Rattle.aud_names.specs.declared.fault.Fault.{Fault}
+use Rattle.aud_fault.specs.declared.fault.Fault.{Fault}
 use Rattle.aud_names.specs.Names.{Place, main_place}
 use Rattle.aud_bodies.specs.Statements.{nothing_around, checked_statement}
 use Rattle.aud_bodies.specs.Tables.{no_tables}

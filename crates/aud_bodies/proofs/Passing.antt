@@ -13,9 +13,9 @@ use Rattle.aud_syntax.specs.Plain as m
 use Rattle.aud_syntax.specs.Ties.View.{plain_expressions, plain_simple, plain_term, plain_factor}
 use Rattle.aud_syntax.proofs.Opened.{multiplied_list, added_list, term_open, simple_open}
 use Rattle.aud_typed.specs.Tree.{Argument}
-use Rattle.aud_names.specs.declared.fault.Fault.{Fault}
+use Rattle.aud_fault.specs.declared.fault.Fault.{Fault}
 use Rattle.aud_names.specs.declared.names.Parameter.{Parameter}
-use Rattle.aud_names.specs.Least.{noted}
+use Rattle.aud_fault.specs.Least.{noted}
 use Rattle.aud_names.specs.Names.{Region, Place}
 use Rattle.aud_bodies.specs.Arguments.{factor_name, term_name, unsigned_name, are_as_many, passed, passed_faults, with_passed, all_passed, all_passed_faults}
 use Rattle.aud_bodies.specs.Formals.{Formals, checked_formal, checked_formals}

@@ -11,7 +11,7 @@ use Rattle.aud_syntax.specs.Plain.{Expression, group, named, no_parts, part, Arg
 use Rattle.aud_syntax.specs.Why.Shorthand.{at, id, var_at, one, num, str, var, sum, adding, only, statements, declarations}
 use Rattle.aud_typed.specs.declared.program.Subtype.TheVariants.{Integer}
 use Rattle.aud_typed.specs.Tree as tree
-use Rattle.aud_names.specs.declared.fault.Fault.{Fault}
+use Rattle.aud_fault.specs.declared.fault.Fault.{Fault}
 use Rattle.aud_bodies.specs.Programs.{faults, typed}
 
 abbrev fault : Pos → Refusal → Fault

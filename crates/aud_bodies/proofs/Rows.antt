@@ -20,7 +20,7 @@ use Rattle.aud_typed.specs.declared.program.Binary.TheVariants.{Sum, Difference}
 use Rattle.aud_typed.specs.declared.program.Subtype.TheVariants.{Integer}
 use Rattle.aud_typed.specs.declared.program.Relation.TheVariants as relation
 use Rattle.aud_typed.specs.Tree as tree
-use Rattle.aud_names.specs.declared.fault.Fault.{Fault}
+use Rattle.aud_fault.specs.declared.fault.Fault.{Fault}
 use Rattle.aud_bodies.specs.Programs.{faults, typed}
 
 abbrev fault : Pos → Refusal → Fault

@@ -9,7 +9,7 @@ use Rattle.aud_syntax.specs.Why.Shorthand.{at, id, only, var_at, var, called, nu
 use Rattle.aud_typed.specs.declared.program.Variable.{Variable}
 use Rattle.aud_typed.specs.declared.program.Subtype.TheVariants.{Integer, Natural, Positive, Boolean}
 use Rattle.aud_typed.specs.Tree as tree
-use Rattle.aud_names.specs.declared.fault.Fault.{Fault}
+use Rattle.aud_fault.specs.declared.fault.Fault.{Fault}
 use Rattle.aud_bodies.specs.Programs.{faults, typed}
 
 abbrev fault : Pos → Refusal → Fault

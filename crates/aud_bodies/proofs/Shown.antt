@@ -9,8 +9,8 @@ use Rattle.aud_typed.specs.declared.program.Exception.{Exception}
 use Rattle.aud_typed.specs.Tree as tree
 use Rattle.aud_names.specs.Names.{Symbol, Place, visible}
 use Rattle.aud_bodies.specs.Regions.{shown, shown_before}
-use Rattle.aud_names.specs.declared.fault.Fault.{Fault}
-use Rattle.aud_names.specs.Least.{noted}
+use Rattle.aud_fault.specs.declared.fault.Fault.{Fault}
+use Rattle.aud_fault.specs.Least.{noted}
 use Rattle.aud_bodies.specs.Handlers.{exception_meant, with_meant, exceptions_of, Chosen, is_last, choices_faults, chosen_after, all_choices_faults}
 use Rattle.aud_typing.proofs.Notes.{noted_append}
 

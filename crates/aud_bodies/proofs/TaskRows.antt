@@ -8,7 +8,7 @@ use Rattle.aud_syntax.specs.declared.tree.Bound.{Bound}
 use Rattle.aud_syntax.specs.Plain.{attribute, no_expression, Declaration, object, array, task, task_body, Statement, null, return, if_then, no_arms, no_statements, body, no_handlers, Unit, unit}
 use Rattle.aud_syntax.specs.Why.Shorthand.{at, id, var_at, only, statements, declarations}
 use Rattle.aud_typed.specs.Tree as tree
-use Rattle.aud_names.specs.declared.fault.Fault.{Fault}
+use Rattle.aud_fault.specs.declared.fault.Fault.{Fault}
 use Rattle.aud_bodies.specs.Programs.{faults, typed}
 
 abbrev fault : Pos → Refusal → Fault

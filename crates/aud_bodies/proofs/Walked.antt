@@ -3,8 +3,8 @@ use Rattle.std.specs.Prelude.{List, [], ◌∷◌, ◌++◌, map, Option, Result
 use Rattle.std.specs.declared.alloc.AllocError.{AllocError}
 use Rattle.std.proofs.Common.{◌≡◌, refl, sym, ◌∙◌, ap, subst, append_assoc, append-nil}
 use Rattle.std.proofs.lemmas.List.{map-append}
-use Rattle.aud_names.specs.declared.fault.Fault.{Fault}
-use Rattle.aud_names.specs.Least.{noted}
+use Rattle.aud_fault.specs.declared.fault.Fault.{Fault}
+use Rattle.aud_fault.specs.Least.{noted}
 use Rattle.aud_bodies.specs.Tables.{Tables, Outcome, fine, after, and_then}
 use Rattle.aud_typing.specs.Ties.Typing.{Leaves}
 use Rattle.aud_bodies.specs.Ties.Within.{Checks}

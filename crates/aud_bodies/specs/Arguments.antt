@@ -7,7 +7,7 @@ use Rattle.aud_syntax.specs.Plain.{Expression, alone, connected, Relation, unrel
 use Rattle.aud_typed.specs.declared.program.Subtype.{Subtype}
 use Rattle.aud_typed.specs.declared.program.Variable.{Variable}
 use Rattle.aud_typed.specs.Tree as tree
-use Rattle.aud_names.specs.declared.fault.Fault.{Fault}
+use Rattle.aud_fault.specs.declared.fault.Fault.{Fault}
 use Rattle.aud_names.specs.declared.names.Meaning.{Meaning}
 use Rattle.aud_names.specs.declared.names.Meaning.TheVariants.{Object}
 use Rattle.aud_names.specs.declared.names.Parameter.{Parameter}

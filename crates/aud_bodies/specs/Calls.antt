@@ -3,7 +3,7 @@ use Rattle.std.specs.Prelude.{ℕ, List, [], ◌++◌, Option, Some, None, if◌
 use Rattle.aud_text.specs.declared.place.Pos.{Pos}
 use Rattle.aud_syntax.specs.Plain.{Name, Expression, Args, no_args, more_args}
 use Rattle.aud_typed.specs.Tree as tree
-use Rattle.aud_names.specs.declared.fault.Fault.{Fault}
+use Rattle.aud_fault.specs.declared.fault.Fault.{Fault}
 use Rattle.aud_names.specs.declared.names.Meaning.{Meaning}
 use Rattle.aud_names.specs.declared.names.Meaning.TheVariants as meaning
 use Rattle.aud_names.specs.declared.names.Builtin.{Builtin}

@@ -2,7 +2,7 @@
 use Rattle.std.specs.Prelude.{ℕ, false, List, []}
 use Rattle.aud_syntax.specs.Plain.{Unit, unit}
 use Rattle.aud_typed.specs.Tree as tree
-use Rattle.aud_names.specs.declared.fault.Fault.{Fault}
+use Rattle.aud_fault.specs.declared.fault.Fault.{Fault}
 use Rattle.aud_names.specs.Names.{main_place}
 use Rattle.aud_bodies.specs.Tables.{Tables, no_tables, Outcome, unit_kept, with_unit}
 use Rattle.aud_bodies.specs.Statements.{checked_unit}

@@ -5,7 +5,7 @@ use Rattle.aud_syntax.specs.declared.tree.Ident.{Ident}
 use Rattle.aud_syntax.specs.Plain.{Expression, MaybeExpression, no_expression, an_expression, Formal, Declaration, object, constant, array, exception, procedure, task, task_body, no_declarations, more_declarations, Statement, null, assign, call, if_then, loop, exit, block, return, raise, Arms, no_arms, more_arms, Iteration, forever, while, for, Statements, in_order, MoreStatements, no_statements, more_statements, Declarations, Body, body, Handlers, no_handlers, more_handlers, Choices, Simple}
 use Rattle.aud_typed.specs.declared.program.Exception.{Exception}
 use Rattle.aud_typed.specs.Tree as tree
-use Rattle.aud_names.specs.declared.fault.Fault.{Fault}
+use Rattle.aud_fault.specs.declared.fault.Fault.{Fault}
 use Rattle.aud_names.specs.declared.rules.Base.TheVariants.{Whole}
 use Rattle.aud_names.specs.Names.{Place, innermost, in_region, place_in, next_frame, in_frame, hiding}
 use Rattle.aud_bodies.specs.Labels.{Labels, exit_loop}

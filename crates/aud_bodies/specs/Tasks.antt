@@ -5,7 +5,7 @@ use Rattle.aud_text.specs.declared.place.Pos.{Pos}
 use Rattle.aud_syntax.specs.declared.tree.Ident.{Ident}
 use Rattle.aud_syntax.specs.Plain.{TaskDefinition}
 use Rattle.aud_typed.specs.Tree as tree
-use Rattle.aud_names.specs.declared.fault.Fault.{Fault}
+use Rattle.aud_fault.specs.declared.fault.Fault.{Fault}
 use Rattle.aud_names.specs.declared.awaited.Awaited.{Awaited}
 use Rattle.aud_names.specs.declared.names.Meaning.TheVariants.{TaskType}
 use Rattle.aud_names.specs.declared.array.Kind.TheVariants.{Task}

@@ -2,7 +2,7 @@
 
 ghost use Rattle.std.specs.Prelude.{◌≡◌, IfOk, Some, None};
 ghost use Rattle.aud_syntax.specs.Ties.View.{plain_expression, plain_expressions, plain_relation, plain_simple, plain_term, plain_factor, plain_primary, plain_name};
-ghost use Rattle.aud_names.specs.Least.{noted};
+ghost use Rattle.aud_fault.specs.Least.{noted};
 ghost use Rattle.aud_bodies.specs.Arguments.{primary_name, factor_name, term_name, unsigned_name, simple_name, relation_name, expression_name, variable_faults, unnamed_faults, copied_faults, object_reference, meaning_reference, reference_of, is_copied_in, copied_to, copied, passed_faults, passed, are_as_many, all_passed_faults, all_passed};
 ghost use Rattle.aud_typing.specs.Ties.Entities.{plain_entity};
 ghost use Rattle.aud_bodies.specs.Ties.Passed.{plain_found, plain_target, plain_passed, plain_all_passed, one_more_passed};
@@ -11,8 +11,8 @@ ghost use Rattle.aud_typing.specs.Ties.Typing.{Leaves};
 use crate::assignment::{check_target, target_base};
 use crate::declaration::{given_value, known};
 use crate::formal::is_in;
+use aud_fault::fault::Least;
 use aud_names::behind::Made;
-use aud_names::fault::Least;
 use aud_names::names::{Meaning, Object, Parameter, Scope};
 use aud_names::rules::{Base, base_asked, not_a_variable, right_type};
 use aud_syntax::tree::{Expression, Factor, Mode, Name, Primary, Relation, Simple, Term};

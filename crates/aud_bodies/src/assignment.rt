@@ -4,14 +4,14 @@ ghost use Rattle.std.specs.Prelude.{◌≡◌};
 ghost use Rattle.aud_syntax.specs.Ties.View.{plain_expression, plain_name};
 ghost use Rattle.aud_typed.specs.Tree.{null};
 ghost use Rattle.aud_typed.specs.Ties.View.{plain_integer, plain_statement as plain_typed_statement};
-ghost use Rattle.aud_names.specs.Least.{noted};
+ghost use Rattle.aud_fault.specs.Least.{noted};
 ghost use Rattle.aud_bodies.specs.Assignments.{meaning_base, target_base, changed_faults, target_faults, assigned_faults, meaning_assigned, assigned_at, assigned, assign_faults, typed_assign};
 ghost use Rattle.aud_typing.specs.Ties.Typing.{plain_typed, in_box, Leaves};
 ghost use Rattle.aud_typing.specs.Ties.Entities.{plain_entity};
 
 use crate::declaration::value_for;
+use aud_fault::fault::Least;
 use aud_names::behind::{Left, boxed};
-use aud_names::fault::Least;
 use aud_names::names::{Meaning, Scope};
 use aud_names::rules::{Base, base_asked, not_a_variable, right_type, wrong_kind_of_name};
 use aud_syntax::tree::{Expression, Name};

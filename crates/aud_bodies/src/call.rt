@@ -3,7 +3,7 @@
 ghost use Rattle.std.specs.Prelude.{◌≡◌, ◌++◌, IfOk, OnOk};
 ghost use Rattle.aud_syntax.specs.Ties.View.{plain_name, plain_expression, plain_expressions};
 ghost use Rattle.aud_typed.specs.Ties.View.{plain_statement as plain_typed_statement};
-ghost use Rattle.aud_names.specs.Least.{noted};
+ghost use Rattle.aud_fault.specs.Least.{noted};
 ghost use Rattle.aud_names.specs.Rules.{wrong_number_of_arguments};
 ghost use Rattle.aud_names.specs.Resolution.{name_ident, last_args};
 ghost use Rattle.aud_typing.specs.Expressions.{checked_arguments};
@@ -17,8 +17,8 @@ ghost use Rattle.aud_names.specs.declared.names.Builtin.TheVariants as builtin;
 use crate::argument::{all_passed, are_as_many};
 use crate::assignment::null_for;
 use crate::tables::Tables;
+use aud_fault::fault::Least;
 use aud_names::behind::{Left, Made, boxed};
-use aud_names::fault::Least;
 use aud_names::names::{Builtin, Meaning, Parameter, Scope};
 use aud_names::resolution::{Denoted, are_none, last_args, resolve};
 use aud_names::rules::{Base, wrong_kind_of_name, wrong_number_of_arguments};

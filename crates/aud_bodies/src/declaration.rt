@@ -4,7 +4,7 @@ ghost use Rattle.std.specs.Prelude.{◌≡◌, [], ◌∷◌, ◌++◌, map, fal
 ghost use Rattle.aud_typed.specs.Tree.{declare_array};
 ghost use Rattle.aud_syntax.specs.Ties.View.{plain_expression};
 ghost use Rattle.aud_typed.specs.Ties.View.{plain_value, plain_statements as plain_typed_statements};
-ghost use Rattle.aud_names.specs.Least.{noted};
+ghost use Rattle.aud_fault.specs.Least.{noted};
 ghost use Rattle.aud_names.specs.Names.{visible, is_declared};
 ghost use Rattle.aud_bodies.specs.Tables.{no_tables};
 ghost use Rattle.aud_names.specs.Rules.{declared_once};
@@ -14,9 +14,9 @@ ghost use Rattle.aud_bodies.specs.Ties.DeclarativePart.{Declares, plain_initial,
 ghost use Rattle.aud_names.specs.Ties.Regions.{plain_region, plain_place, names_in};
 
 use crate::task::{task_rows, tasks};
+use aud_fault::fault::Least;
 use aud_names::array::{Kind, Scalar, bound, cells_of, new_meaning, row_between};
 use aud_names::behind::Made;
-use aud_names::fault::Least;
 use aud_names::names::{Meaning, Object, Region, Scope};
 use aud_names::rules::{
     base_asked, declared_once, name_not_declared, right_type, wrong_kind_of_name,

@@ -2,16 +2,16 @@
 
 ghost use Rattle.std.specs.Prelude.{◌≡◌, [], ◌++◌, IfOk, OnOk, map};
 ghost use Rattle.aud_syntax.specs.Ties.View.{plain_formal};
-ghost use Rattle.aud_names.specs.Least.{noted};
+ghost use Rattle.aud_fault.specs.Least.{noted};
 ghost use Rattle.aud_bodies.specs.Declarations.{subtype_faults, subtype_meant};
 ghost use Rattle.aud_bodies.specs.Formals.{is_in, mark_meant, parameters_of, checked_formal, checked_formals};
 ghost use Rattle.aud_bodies.specs.Ties.DeclarativePart.{DeclaresFormals};
 ghost use Rattle.aud_names.specs.Ties.Regions.{plain_region, plain_regions, names_in};
 
 use crate::declaration::{declare, subtype_mark};
+use aud_fault::fault::Least;
 use aud_names::array::{Kind, Scalar};
 use aud_names::behind::Made;
-use aud_names::fault::Least;
 use aud_names::names::{Parameter, Region, Scope};
 use aud_syntax::tree::{Formal, Ident, Identifiers, Mode};
 use aud_typed::program::Subtype;

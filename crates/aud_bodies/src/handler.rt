@@ -3,13 +3,13 @@
 ghost use Rattle.std.specs.Prelude.{◌≡◌, ◌++◌, ◌∷◌, [], IfOk, OnOk};
 ghost use Rattle.aud_syntax.specs.Ties.View.{plain_choices, handler_list};
 ghost use Rattle.aud_typed.specs.Ties.View.{plain_statement as plain_typed_statement};
-ghost use Rattle.aud_names.specs.Least.{noted};
+ghost use Rattle.aud_fault.specs.Least.{noted};
 ghost use Rattle.aud_bodies.specs.Handlers.{exception_meant, exception_faults, raise_faults, typed_raise, raised_by, is_chosen, Chosen as Plain, none_chosen, chosen_once, with_exception, name_chosen, name_chosen_faults, names_chosen, names_chosen_faults, choices_faults, chosen_after, all_choices_faults, exceptions_of, choices_of, is_others};
 ghost use Rattle.aud_names.specs.Ties.Regions.{names_in};
 ghost use Rattle.aud_typing.specs.Ties.Typing.{in_box, Leaves};
 
+use aud_fault::fault::Least;
 use aud_names::behind::{Left, Made, boxed};
-use aud_names::fault::Least;
 use aud_names::names::{Meaning, Scope};
 use aud_names::rules::{good_choice, name_not_declared, raise_in_handler, wrong_kind_of_name};
 use aud_syntax::tree::{Choices, Handler, Ident, Identifiers};

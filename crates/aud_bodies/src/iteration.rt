@@ -9,8 +9,8 @@ ghost use Rattle.aud_bodies.specs.Statements.{integer_of, bound_faults, bound_of
 ghost use Rattle.aud_bodies.specs.Ties.Loops.{plain_bounds, plain_for};
 ghost use Rattle.aud_typing.specs.Ties.Typing.{plain_typed, in_box, Leaves};
 
+use aud_fault::fault::Least;
 use aud_names::behind::{Left, Made, both, boxed};
-use aud_names::fault::Least;
 use aud_names::names::Scope;
 use aud_names::rules::Base;
 use aud_syntax::tree::{LoopParameter, Simple};

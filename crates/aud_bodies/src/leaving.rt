@@ -9,8 +9,8 @@ ghost use Rattle.aud_typing.specs.Conditions.{maybe_condition_faults, maybe_cond
 ghost use Rattle.aud_bodies.specs.Statements.{loop_number, return_faults, typed_return};
 ghost use Rattle.aud_typing.specs.Ties.Typing.{in_box, Leaves};
 
+use aud_fault::fault::Least;
 use aud_names::behind::{Left, boxed};
-use aud_names::fault::Least;
 use aud_names::names::Scope;
 use aud_names::rules::{exit_in_loop, return_in_place};
 use aud_syntax::tree::Expression;

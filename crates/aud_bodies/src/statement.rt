@@ -28,8 +28,8 @@ use crate::made::{
 use crate::tables::{Tables, loop_region};
 use crate::task::{body_unit, declare_task, running_within, with_activation, without_bodies};
 use crate::within::{Entering, Within};
+use aud_fault::fault::Least;
 use aud_names::behind::{Left, Made, both, push};
-use aud_names::fault::Least;
 use aud_names::names::{Region, Scope, frame_within, task_within};
 use aud_names::rules::{right_label_at_end, right_name_at_end};
 use aud_syntax::tree::{

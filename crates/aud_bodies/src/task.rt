@@ -4,7 +4,7 @@ ghost use Rattle.std.specs.Prelude.{◌≡◌, ◌+◌, ◌++◌, ◌∷◌, [],
 ghost use Rattle.aud_syntax.specs.Ties.View.{plain_definition};
 ghost use Rattle.aud_typed.specs.Tree.{activation};
 ghost use Rattle.aud_typed.specs.Ties.View.{plain_statement, plain_statements as plain_typed_statements};
-ghost use Rattle.aud_names.specs.Least.{noted};
+ghost use Rattle.aud_fault.specs.Least.{noted};
 ghost use Rattle.aud_names.specs.Names.{is_declared, awaited_unit, body_come, running};
 ghost use Rattle.aud_names.specs.Rules.{declared_once, right_name_at_end};
 ghost use Rattle.aud_names.specs.Ties.Regions.{plain_region, plain_place, names_in};
@@ -16,10 +16,10 @@ ghost use Rattle.aud_bodies.specs.Ties.Tables.{plain_tables};
 
 use crate::declaration::{DeclarativePart, add_symbol, declare};
 use crate::tables::Tables;
+use aud_fault::fault::Least;
 use aud_names::array::{Kind, TaskRow, bound, cells_of, or_zero};
 use aud_names::awaited::Awaited;
 use aud_names::behind::Made;
-use aud_names::fault::Least;
 use aud_names::names::{Meaning, Region};
 use aud_names::rules::{declared_once, no_matching_body, right_name_at_end};
 use aud_syntax::tree::{Bound, Ident, Identifiers, TaskDeclaration, TaskDefinition};

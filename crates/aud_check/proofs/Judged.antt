@@ -2,8 +2,8 @@
 use Rattle.std.specs.Prelude.{List, [], ◌∷◌, Some, None, Ok, Err}
 use Rattle.std.proofs.Common.{◌≡◌, refl, sym, ◌∙◌, ap}
 use Rattle.aud_typed.specs.Tree as tree
-use Rattle.aud_names.specs.declared.fault.Fault.{Fault}
-use Rattle.aud_names.specs.Least.{earlier, least, noted}
+use Rattle.aud_fault.specs.declared.fault.Fault.{Fault}
+use Rattle.aud_fault.specs.Least.{earlier, least, noted}
 use Rattle.aud_check.specs.Checked.{judged}
 
 noted_least : (f : Fault) (fs : List Fault) → noted (Some f) fs ≡ Some (least f fs)

@@ -2,8 +2,8 @@
 use Rattle.std.specs.Prelude.{List, [], ◌∷◌, Result, Ok, Err}
 use Rattle.aud_syntax.specs.Plain.{Unit}
 use Rattle.aud_typed.specs.Tree as tree
-use Rattle.aud_names.specs.declared.fault.Fault.{Fault}
-use Rattle.aud_names.specs.Least.{least}
+use Rattle.aud_fault.specs.declared.fault.Fault.{Fault}
+use Rattle.aud_fault.specs.Least.{least}
 use Rattle.aud_bodies.specs.Programs.{faults, typed}
 
 abbrev pub judged : List Fault → tree.Program → Result tree.Program Fault

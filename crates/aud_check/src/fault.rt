@@ -2,7 +2,7 @@
 
 ghost use Rattle.std.specs.Prelude.{◌≡◌};
 
-use aud_names::fault::Fault;
+use aud_fault::fault::Fault;
 use std::alloc::{AllocError, AllocFailed};
 use thiserror::Error;
 

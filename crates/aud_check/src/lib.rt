@@ -12,7 +12,7 @@ pub mod fault;
 
 use crate::fault::CheckFault;
 use aud_bodies::unit::typed;
-use aud_names::fault::Least;
+use aud_fault::fault::Least;
 use aud_syntax::tree::Unit;
 use aud_typed::program::Program;
 use std::alloc::Global;

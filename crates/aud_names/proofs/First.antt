@@ -4,8 +4,8 @@ use Rattle.std.proofs.Common.{◌≡◌, ◌<◌, refl, sym, ◌∙◌, inl, inr
 use Rattle.std.proofs.lemmas.Bool.{false≢true}
 use Rattle.std.proofs.lemmas.Bool.Decides.{nat_tests}
 use Rattle.aud_text.specs.Refusal.{number}
-use Rattle.aud_names.specs.declared.fault.Fault.{Fault}
-use Rattle.aud_names.specs.Least.{before, earlier, least, IsOneOf, NoneBefore}
+use Rattle.aud_fault.specs.declared.fault.Fault.{Fault}
+use Rattle.aud_fault.specs.Least.{before, earlier, least, IsOneOf, NoneBefore}
 
 abbrev less : ℕ → ℕ → ℕ → ℕ → ℕ → ℕ → Bool
 less a b c d e f = (nat_lt a d || (nat_eq a d && nat_lt b e)) || ((nat_eq a d && nat_eq b e) && nat_lt c f)

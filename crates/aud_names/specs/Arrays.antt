@@ -5,7 +5,7 @@ use Rattle.aud_text.specs.declared.raise.Raise.{Raise}
 use Rattle.aud_syntax.specs.declared.tree.Bound.{Bound}
 use Rattle.aud_typed.specs.declared.program.ArrayAt.{ArrayAt}
 use Rattle.aud_typed.specs.declared.program.Subtype.{Subtype}
-use Rattle.aud_names.specs.declared.fault.Fault.{Fault}
+use Rattle.aud_fault.specs.declared.fault.Fault.{Fault}
 use Rattle.aud_names.specs.declared.names.Array.{Array}
 use Rattle.aud_names.specs.declared.names.TaskArray.{TaskArray}
 use Rattle.aud_names.specs.declared.names.Meaning.{Meaning}

@@ -1,4 +1,3 @@
-pub mod Least
 pub mod Names
 pub mod Rules
 pub mod Arrays

@@ -4,7 +4,7 @@ use Rattle.std.specs.Str.{bytes_eq}
 use Rattle.aud_text.specs.declared.place.Pos.{Pos}
 use Rattle.aud_text.specs.declared.refusal.Refusal.TheVariants.{NameNotDeclared, DeclaredTwice, WrongKindOfName, WrongType, WrongNumberOfArguments, NotAVariable, WrongNameAtEnd, NoMatchingBody, ExitWithoutLoop, ReturnOutOfPlace, RaiseWithoutHandler, BadHandlerChoice, NumberTooLarge}
 use Rattle.aud_syntax.specs.declared.tree.Ident.{Ident}
-use Rattle.aud_names.specs.declared.fault.Fault.{Fault}
+use Rattle.aud_fault.specs.declared.fault.Fault.{Fault}
 use Rattle.aud_names.specs.declared.rules.Base.{Base}
 use Rattle.aud_names.specs.declared.rules.Base.TheVariants.{Whole, Truth, Text}
 use Rattle.aud_names.specs.Names.{Symbol, is_declared}

@@ -1,12 +1,12 @@
 // Bounds of arrays, and what declarations of variables, constants, arrays and tasks declare.
 
 ghost use Rattle.std.specs.Prelude.{◌≡◌};
-ghost use Rattle.aud_names.specs.Least.{noted};
+ghost use Rattle.aud_fault.specs.Least.{noted};
 ghost use Rattle.aud_names.specs.Arrays.{with_sign, bound_value, bound_faults, or_zero, length_between, array_at, task_array_at, row_between, new_meaning, cells_of};
 
-use crate::fault::Least;
 use crate::names::{Array, Meaning, Object, TaskArray};
 use crate::rules::number_too_large;
+use aud_fault::fault::Least;
 use aud_syntax::tree::Bound;
 use aud_text::int32::Int32;
 use aud_typed::program::{ArrayAt, Subtype, Variable};

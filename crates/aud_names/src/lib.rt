@@ -1,10 +1,9 @@
-// What names denote, the rules that a program may break, and the least of its faults.
+// What names denote, and the rules that a program may break.
 #![tactic(auto)]
 
 pub mod array;
 pub mod awaited;
 pub mod behind;
-pub mod fault;
 mod hidden;
 pub mod laws;
 pub mod names;

@@ -3,14 +3,14 @@
 ghost use Rattle.std.specs.Prelude.{◌≡◌, None, if◌then◌else◌};
 ghost use Rattle.aud_syntax.specs.Plain.{more_parts};
 ghost use Rattle.aud_syntax.specs.Ties.View.{plain_name, plain_part, part_list, plain_expressions};
-ghost use Rattle.aud_names.specs.Least.{noted};
+ghost use Rattle.aud_fault.specs.Least.{noted};
 ghost use Rattle.aud_names.specs.Names.{named_in, predefined};
 ghost use Rattle.aud_names.specs.Rules.{name_not_declared};
 ghost use Rattle.aud_names.specs.Resolution.{resolved, or_in_library, in_library, in_text_io, no_entry, selected, denoted_by, takes_arguments, is_plainly, is_text_io, is_last, may_stand, are_none, last_of, last_args};
 
-use crate::fault::Least;
 use crate::names::{Meaning, Scope, predefined};
 use crate::rules::{name_not_declared, wrong_kind_of_name};
+use aud_fault::fault::Least;
 use aud_syntax::tree::{Expression, Name, NamePart};
 use aud_text::place::Pos;
 

@@ -1,12 +1,12 @@
 // The rules of the language that a program may break: each function notes a breach of one of them.
 
 ghost use Rattle.std.specs.Prelude.{◌≡◌, not};
-ghost use Rattle.aud_names.specs.Least.{noted};
+ghost use Rattle.aud_fault.specs.Least.{noted};
 ghost use Rattle.aud_names.specs.Names.{is_declared};
 ghost use Rattle.aud_names.specs.Rules.{base_of_subtype, base_asked, name_not_declared, declared_once, wrong_kind_of_name, fits, right_type, wrong_number_of_arguments, not_a_variable, right_name_at_end, right_label_at_end, no_matching_body, exit_in_loop, return_in_place, raise_in_handler, good_choice, number_too_large};
 
-use crate::fault::Least;
 use crate::names::Symbols;
+use aud_fault::fault::Least;
 use aud_syntax::tree::Ident;
 use aud_text::name::Name;
 use aud_text::place::Pos;

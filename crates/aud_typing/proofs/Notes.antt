@@ -3,9 +3,9 @@ use Rattle.std.specs.Prelude.{List, [], ◌∷◌, ◌++◌, Option, Box, Result
 use Rattle.std.specs.Global.{Global}
 use Rattle.std.specs.declared.alloc.AllocError.{AllocError}
 use Rattle.std.proofs.Common.{◌≡◌, refl, sym, ◌∙◌, ap}
-use Rattle.aud_names.specs.declared.fault.Fault.{Fault}
+use Rattle.aud_fault.specs.declared.fault.Fault.{Fault}
 use Rattle.aud_typing.specs.declared.typed.Typed as memory
-use Rattle.aud_names.specs.Least.{note, noted}
+use Rattle.aud_fault.specs.Least.{note, noted}
 use Rattle.aud_typing.specs.Expressions.{Typed, Checked, after, with}
 use Rattle.aud_typing.specs.Ties.Typing.{plain_typed, in_box, Leaves, Shows}
 

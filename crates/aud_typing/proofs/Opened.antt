@@ -20,9 +20,9 @@ use Rattle.aud_syntax.specs.Ties.View.{plain_expression, plain_expressions, plai
 use Rattle.aud_syntax.proofs.Opened.{multiplied_list, added_list, term_open, simple_open, name_open, attribute_open}
 use Rattle.aud_syntax.specs.Plain as m
 use Rattle.std.specs.Prelude.{Ok}
-use Rattle.aud_names.specs.declared.fault.Fault.{Fault}
+use Rattle.aud_fault.specs.declared.fault.Fault.{Fault}
 use Rattle.aud_typing.specs.declared.typed.Typed as memory
-use Rattle.aud_names.specs.Least.{noted}
+use Rattle.aud_fault.specs.Least.{noted}
 use Rattle.aud_names.specs.Names.{Place}
 use Rattle.aud_typing.specs.Expressions.{primary_at, Typed, unknown, Checked, after, with, prefix_faults, checked_arguments, checked_parts, checked_part, checked_args, simple_at, term_at, signed_at, factor_at, relation_at, signed, further, checked_expression, checked_relations, checked_relation, checked_simple, checked_addeds, checked_added, checked_term, checked_multiplieds, checked_multiplied, checked_factor}
 use Rattle.aud_typing.specs.Ties.Typing.{plain_typed, Shows}

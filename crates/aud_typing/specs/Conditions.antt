@@ -2,7 +2,7 @@
 use Rattle.std.specs.Prelude.{List, [], ◌++◌, true, false}
 use Rattle.aud_syntax.specs.Plain.{Expression, MaybeExpression, no_expression, an_expression}
 use Rattle.aud_typed.specs.Tree as tree
-use Rattle.aud_names.specs.declared.fault.Fault.{Fault}
+use Rattle.aud_fault.specs.declared.fault.Fault.{Fault}
 use Rattle.aud_names.specs.declared.rules.Base.TheVariants.{Truth}
 use Rattle.aud_names.specs.Names.{Place}
 use Rattle.aud_typing.specs.Expressions.{Typed, boolean, checked_expression, expression_at, wants}

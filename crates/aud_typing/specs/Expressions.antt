@@ -29,7 +29,7 @@ use Rattle.aud_typed.specs.declared.program.Relation as typed
 use Rattle.aud_typed.specs.declared.program.Relation.TheVariants as relation
 use Rattle.aud_typed.specs.declared.program.Logical.TheVariants as logical
 use Rattle.aud_typed.specs.Tree as tree
-use Rattle.aud_names.specs.declared.fault.Fault.{Fault}
+use Rattle.aud_fault.specs.declared.fault.Fault.{Fault}
 use Rattle.aud_names.specs.declared.names.Meaning.{Meaning}
 use Rattle.aud_names.specs.declared.names.Meaning.TheVariants.{ScalarType, Literal, Object, Array, Exception, Builtin, Procedure, TaskType, Task, TaskArray}
 use Rattle.aud_names.specs.declared.names.Array as array

@@ -6,15 +6,15 @@ ghost use Rattle.std.specs.Map.{lookup};
 ghost use Rattle.aud_names.specs.Rules.{wrong_kind_of_name};
 ghost use Rattle.aud_typing.specs.Expressions.{unknown, attributes, without_argument, image_of, image_of_type, image_with, image, first_of, last_of, at_most_last, length_of, bound, callable_of, terminated_of, asked, attribute_of, entity, element_attribute, task_attribute, attribute_if};
 ghost use Rattle.aud_typed.specs.Ties.View.{plain_boolean, plain_task};
-ghost use Rattle.aud_names.specs.Least.{noted};
+ghost use Rattle.aud_fault.specs.Least.{noted};
 ghost use Rattle.aud_typing.specs.Ties.Typing.{plain_typed, plain_argument, Leaves};
 ghost use Rattle.aud_typing.specs.Ties.Entities.{plain_entity};
 
 use crate::entity::{Denoting, Entity, stored_at};
 use crate::typed::{Operand, Typed, stored, unknown, wants};
+use aud_fault::fault::Least;
 use aud_names::array::length_between;
 use aud_names::behind::Made;
-use aud_names::fault::Least;
 use aud_names::names::Meaning;
 use aud_names::rules::{Base, base_of_subtype, wrong_kind_of_name, wrong_number_of_arguments};
 use aud_names::table::listed;

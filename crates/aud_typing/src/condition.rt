@@ -8,8 +8,8 @@ ghost use Rattle.aud_typing.specs.Ties.Typing.{plain_typed, in_box, Leaves};
 
 use crate::expression::{expression, expression_at};
 use crate::typed::{Typed, wants};
+use aud_fault::fault::Least;
 use aud_names::behind::{Left, boxed};
-use aud_names::fault::Least;
 use aud_names::names::Scope;
 use aud_names::rules::Base;
 use aud_syntax::tree::Expression;

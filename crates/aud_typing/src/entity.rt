@@ -3,16 +3,16 @@
 ghost use Rattle.std.specs.Prelude.{◌≡◌, IfOk};
 ghost use Rattle.aud_syntax.specs.Ties.View.{plain_name, plain_part, part_list, plain_expressions};
 ghost use Rattle.aud_typed.specs.Ties.View.{plain_integer};
-ghost use Rattle.aud_names.specs.Least.{noted};
+ghost use Rattle.aud_fault.specs.Least.{noted};
 ghost use Rattle.aud_typing.specs.Expressions.{no_entity, element_with, array_indexed, task_with, tasks_indexed, before_point, prefix_faults, indexed, denoting, read_faults, name_faults, stored_at, meaning_read, value_read};
 ghost use Rattle.aud_typing.specs.Ties.Typing.{plain_typed};
 ghost use Rattle.aud_typing.specs.Ties.Entities.{plain_entity};
 
 use crate::expression::expression_at;
 use crate::typed::{Typed, stored, wants};
+use aud_fault::fault::Least;
 use aud_names::array::{array_at, task_array_at};
 use aud_names::behind::Made;
-use aud_names::fault::Least;
 use aud_names::names::{Array, Meaning, Scope, TaskArray};
 use aud_names::resolution::{last_args, resolve};
 use aud_names::rules::{Base, wrong_kind_of_name, wrong_number_of_arguments};

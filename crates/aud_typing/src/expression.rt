@@ -4,14 +4,14 @@ ghost use Rattle.std.specs.Prelude.{◌≡◌, IfOk};
 ghost use Rattle.aud_typed.specs.Tree as tree;
 ghost use Rattle.aud_syntax.specs.Ties.View.{plain_expression, plain_chain, plain_relation, plain_comparison, plain_simple, plain_added, plain_term, plain_multiplied, plain_factor, plain_primary, plain_name, plain_part};
 ghost use Rattle.aud_typing.specs.Expressions.{expression_at, relation_at, simple_at, term_at, factor_at, primary_at, multiplying, adding_operator, checked_number, string, denoting, checked_name, checked_attribute, checked_expression, checked_relation, checked_simple, checked_added, checked_term, checked_multiplied, checked_factor, checked_primary, checked_arguments, checked_part, further};
-ghost use Rattle.aud_names.specs.Least.{noted};
+ghost use Rattle.aud_fault.specs.Least.{noted};
 ghost use Rattle.aud_typing.specs.Ties.Typing.{plain_typed, plain_argument, operation, Shows};
 
 use crate::attribute::attribute_value;
 use crate::entity::{check_name, check_prefix, name_denotes, value_read};
 use crate::typed::{Operand, Operator, Typed, highest, operation, signed};
+use aud_fault::fault::Least;
 use aud_names::behind::{Left, boxed};
-use aud_names::fault::Least;
 use aud_names::names::Scope;
 use aud_names::rules::number_too_large;
 use aud_syntax::tree::{

@@ -4,12 +4,12 @@ ghost use Rattle.std.specs.Prelude.{◌≡◌, [], ◌∷◌, ◌++◌, IfOk};
 ghost use Rattle.aud_typed.specs.Tree.{binary, join};
 ghost use Rattle.aud_typed.specs.declared.program.Operation.{out-Operation};
 ghost use Rattle.aud_typed.specs.Ties.View.{plain_integer, plain_boolean, plain_text, connected};
-ghost use Rattle.aud_names.specs.Least.{noted};
+ghost use Rattle.aud_fault.specs.Least.{noted};
 ghost use Rattle.aud_typing.specs.Expressions.{unknown, base_of, wants, combined, joined, one, integer_only, negated, relation_of, compared, related_to, operand_faults, both, stored, signed, highest};
 ghost use Rattle.aud_typing.specs.Ties.Typing.{plain_typed, typed_connective, operation, Shows};
 
+use aud_fault::fault::Least;
 use aud_names::behind::{Left, Made, boxed};
-use aud_names::fault::Least;
 use aud_names::rules::{Base, right_type};
 use aud_syntax::tree::{Connective, Highest, Relational, Sign, Signed};
 use aud_text::place::Pos;

@@ -12,7 +12,7 @@ use Rattle.aud_typed.specs.declared.program.Subtype.TheVariants.{Integer, Natura
 use Rattle.aud_typed.specs.declared.program.Exception.TheVariants as exception_of
 use Rattle.aud_typed.specs.Tree as tree
 use Rattle.aud_typed.specs.Why.Scoped.{Elaborated, Scope, none_yet, cells_at, in_innermost, declared_up_to, declared_with, scope_after, shown_cells, cells_of, all_of_table, StatementScoped}
-use Rattle.aud_names.specs.declared.fault.Fault.{Fault}
+use Rattle.aud_fault.specs.declared.fault.Fault.{Fault}
 use Rattle.aud_names.specs.declared.names.Parameter.{Parameter}
 use Rattle.aud_names.specs.declared.awaited.Awaited.{Awaited}
 use Rattle.aud_names.specs.declared.names.Meaning.{Meaning}

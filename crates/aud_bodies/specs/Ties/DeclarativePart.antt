@@ -10,8 +10,8 @@ use Rattle.aud_typed.specs.Ties.View.{plain_statements}
 use Rattle.aud_bodies.specs.declared.declaration.DeclarativePart.{DeclarativePart}
 use Rattle.aud_names.specs.declared.names.Region.{Region}
 use Rattle.aud_names.specs.declared.names.Parameter.{Parameter}
-use Rattle.aud_names.specs.declared.fault.Fault.{Fault}
-use Rattle.aud_names.specs.Least.{noted}
+use Rattle.aud_fault.specs.declared.fault.Fault.{Fault}
+use Rattle.aud_fault.specs.Least.{noted}
 use Rattle.aud_names.specs.Names.{innermost}
 use Rattle.aud_bodies.specs.Tables.{Tables, Outcome, region_named}
 use Rattle.aud_bodies.specs.Regions.{shown_names}

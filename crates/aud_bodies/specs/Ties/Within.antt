@@ -5,10 +5,10 @@ use Rattle.std.specs.declared.alloc.AllocError.{AllocError}
 use Rattle.aud_syntax.specs.Plain.{Statement}
 use Rattle.aud_typed.specs.declared.program.Statement as memory
 use Rattle.aud_typed.specs.Ties.View.{plain_statement}
-use Rattle.aud_names.specs.declared.fault.Fault.{Fault}
+use Rattle.aud_fault.specs.declared.fault.Fault.{Fault}
 use Rattle.aud_bodies.specs.declared.within.Within.{Within}
 use Rattle.aud_bodies.specs.declared.within.Entering.{Entering}
-use Rattle.aud_names.specs.Least.{noted}
+use Rattle.aud_fault.specs.Least.{noted}
 use Rattle.aud_bodies.specs.Tables.{Tables, Outcome}
 use Rattle.aud_bodies.specs.Statements.{Around, checked_statement}
 use Rattle.aud_bodies.specs.Ties.Labels.{plain_labels}

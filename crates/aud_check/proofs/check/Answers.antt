@@ -3,8 +3,8 @@ use Rattle.std.proofs.Common.{◌≡◌, ◌∙◌, ap, subst, sym}
 use Rattle.aud_syntax.specs.Ties.View.{plain_unit}
 use Rattle.aud_syntax.specs.Plain.{Unit}
 use Rattle.aud_typed.specs.Why.Scoped.{IsScoped}
-use Rattle.aud_names.specs.declared.fault.Fault.{Fault}
-use Rattle.aud_names.specs.Least.{noted}
+use Rattle.aud_fault.specs.declared.fault.Fault.{Fault}
+use Rattle.aud_fault.specs.Least.{noted}
 use Rattle.aud_bodies.specs.Programs.{faults, typed}
 use Rattle.aud_check.proofs.Judged.{none_noted, judged_fine, judged_wrong}
 use Rattle.aud_bodies.proofs.Scoping.{typed_scoped}

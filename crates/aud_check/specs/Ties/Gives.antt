@@ -2,7 +2,7 @@
 use Rattle.std.specs.Prelude.{◌≡◌, Result, Ok, Err}
 use Rattle.aud_check.specs.declared.fault.CheckFault.{CheckFault}
 use Rattle.aud_check.specs.declared.fault.CheckFault.TheVariants.{Memory, Wrong}
-use Rattle.aud_names.specs.declared.fault.Fault.{Fault}
+use Rattle.aud_fault.specs.declared.fault.Fault.{Fault}
 
 -- the very answer of the definition; nothing is said where memory is refused
 abbrev pub Gives : {X Y : Type 0} → (X → Y) → Result Y Fault → Result X CheckFault → Type 0

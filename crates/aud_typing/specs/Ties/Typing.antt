@@ -9,13 +9,13 @@ use Rattle.aud_typed.specs.declared.program.Connective.TheVariants as connective
 use Rattle.aud_typed.specs.declared.program.Logical.TheVariants as logical
 use Rattle.aud_typed.specs.Ties.View.{plain_integer, plain_boolean, plain_text}
 use Rattle.aud_text.specs.declared.place.Pos.{Pos}
-use Rattle.aud_names.specs.declared.fault.Fault.{Fault}
+use Rattle.aud_fault.specs.declared.fault.Fault.{Fault}
 use Rattle.aud_typing.specs.declared.typed.Typed as memory
 use Rattle.aud_typing.specs.declared.typed.Typed.TheVariants.{Number, Truth, Text, Unknown}
 use Rattle.aud_typing.specs.declared.typed.Operand.{Operand}
 use Rattle.aud_typing.specs.declared.typed.Operator.{Operator}
 use Rattle.aud_typing.specs.declared.typed.Operator.TheVariants.{Arithmetic, Join, Relation, Connective}
-use Rattle.aud_names.specs.Least.{noted}
+use Rattle.aud_fault.specs.Least.{noted}
 use Rattle.aud_typing.specs.Expressions.{Typed, number, boolean, string, unknown, Checked, arithmetic, joining, relating, connecting}
 
 -- the operator of a chain in memory

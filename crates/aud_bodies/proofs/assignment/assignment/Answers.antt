@@ -3,7 +3,7 @@ use Rattle.aud_text.specs.declared.place.Pos.{Pos}
 use Rattle.aud_syntax.specs.declared.tree.Name.{out-Name}
 use Rattle.aud_syntax.specs.Ties.View.{plain_name, plain_expression}
 use Rattle.aud_names.specs.Names.{Place}
-use Rattle.aud_names.specs.Least.{noted}
+use Rattle.aud_fault.specs.Least.{noted}
 use Rattle.aud_typing.specs.Expressions.{Typed, Checked, Entity, Denoting, denoting, checked_arguments, checked_expression, expression_at}
 use Rattle.aud_bodies.specs.Assignments.{assigned_faults, assigned}
 use Rattle.aud_typing.specs.Ties.Typing.{plain_typed}

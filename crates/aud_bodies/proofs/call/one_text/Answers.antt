@@ -1,5 +1,5 @@
 use Rattle.std.proofs.Common.{sym, ap, ◌∙◌}
-use Rattle.aud_names.specs.Least.{noted}
+use Rattle.aud_fault.specs.Least.{noted}
 use Rattle.aud_typing.specs.Ties.Typing.{plain_typed}
 use Rattle.aud_bodies.proofs.Called.{other_texts}
 use Rattle.aud_bodies.proofs.call.one_text.Goals as goal

@@ -5,7 +5,7 @@ use Rattle.aud_syntax.specs.declared.tree.Name.{out-Name}
 use Rattle.aud_syntax.specs.Plain.{Args}
 use Rattle.aud_syntax.specs.Ties.View.{plain_name}
 use Rattle.aud_typed.specs.Ties.View.{plain_statement}
-use Rattle.aud_names.specs.Least.{noted}
+use Rattle.aud_fault.specs.Least.{noted}
 use Rattle.aud_names.specs.Resolution.{name_ident, last_args}
 use Rattle.aud_typing.specs.Expressions.{Typed, Checked, checked_arguments}
 use Rattle.aud_bodies.specs.Calls.{callee_faults, called}

@@ -1,5 +1,5 @@
 use Rattle.std.proofs.Common.{◌≡◌, drop}
-use Rattle.aud_names.specs.Least.{noted}
+use Rattle.aud_fault.specs.Least.{noted}
 use Rattle.aud_bodies.specs.Declarations.{declared_names, twice_faults}
 use Rattle.aud_names.specs.Ties.Regions.{plain_region, names_in}
 use Rattle.aud_bodies.proofs.declaration.declare.Given as goal

@@ -1,5 +1,5 @@
 use Rattle.std.proofs.Common.{◌≡◌, drop}
-use Rattle.aud_names.specs.Least.{noted}
+use Rattle.aud_fault.specs.Least.{noted}
 use Rattle.aud_bodies.specs.Declarations.{declared_exceptions, exceptions_twice}
 use Rattle.aud_names.specs.Ties.Regions.{names_in}
 use Rattle.aud_bodies.specs.Ties.DeclarativePart.{plain_exceptions}

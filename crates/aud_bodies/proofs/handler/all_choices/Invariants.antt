@@ -1,6 +1,6 @@
 use Rattle.std.proofs.Common.{◌≡◌, length}
 use Rattle.aud_syntax.specs.Ties.View.{handler_list}
-use Rattle.aud_names.specs.Least.{noted}
+use Rattle.aud_fault.specs.Least.{noted}
 use Rattle.aud_bodies.specs.Handlers.{none_chosen, all_choices_faults}
 use Rattle.aud_bodies.proofs.handler.all_choices.Given as goal
 

@@ -15,8 +15,8 @@ use Rattle.aud_syntax.specs.Ties.View.{plain_expression, plain_name, plain_maybe
 use Rattle.aud_syntax.proofs.Opened.{if_open, loop_open, block_open, body_open, procedure_open, task_body_open}
 use Rattle.aud_syntax.proofs.Written.{dropped}
 use Rattle.aud_typed.specs.Ties.View.{plain_statement as plain_typed_statement, plain_statements as plain_typed_statements, plain_body as plain_typed_body, plain_unit as plain_typed_unit, plain_integer, plain_boolean, statements_in}
-use Rattle.aud_names.specs.declared.fault.Fault.{Fault}
-use Rattle.aud_names.specs.Least.{noted}
+use Rattle.aud_fault.specs.declared.fault.Fault.{Fault}
+use Rattle.aud_fault.specs.Least.{noted}
 use Rattle.aud_names.specs.Names.{Region, Place, innermost, place_in, next_frame, in_frame, task_place, task_region, running, body_come}
 use Rattle.aud_bodies.specs.Regions.{shown_names, loop_region, in_loop}
 use Rattle.aud_bodies.specs.declared.declaration.DeclarativePart.{DeclarativePart}

@@ -1,5 +1,5 @@
 use Rattle.std.proofs.Common.{◌≡◌, drop}
-use Rattle.aud_names.specs.Least.{noted}
+use Rattle.aud_fault.specs.Least.{noted}
 use Rattle.aud_bodies.specs.Tasks.{without_bodies}
 use Rattle.aud_bodies.proofs.task.without_bodies.Given as goal
 

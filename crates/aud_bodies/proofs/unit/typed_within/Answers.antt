@@ -5,7 +5,7 @@ use Rattle.aud_syntax.specs.Ties.View.{plain_declarations, plain_body}
 use Rattle.aud_syntax.proofs.Opened.{body_open}
 use Rattle.aud_typed.specs.Tree as tree
 use Rattle.aud_typed.specs.Ties.View.{plain_body as plain_typed_body, plain_unit as plain_typed_unit}
-use Rattle.aud_names.specs.Least.{noted}
+use Rattle.aud_fault.specs.Least.{noted}
 use Rattle.aud_names.specs.Names.{Place, empty_region, place_in, main_place}
 use Rattle.aud_names.specs.Rules.{right_name_at_end}
 use Rattle.aud_bodies.specs.Tables.{Tables, Outcome, next_region, region_kept, unit_kept, with_unit}

@@ -2,7 +2,7 @@ use Rattle.std.proofs.Common.{◌≡◌, ap, ◌∙◌}
 use Rattle.aud_syntax.specs.Plain.{Args}
 use Rattle.aud_syntax.specs.Ties.View.{plain_name, plain_expressions}
 use Rattle.aud_names.specs.declared.resolution.Denoted.{Denoted}
-use Rattle.aud_names.specs.Least.{noted}
+use Rattle.aud_fault.specs.Least.{noted}
 use Rattle.aud_names.specs.Resolution.{Resolved, resolved, last_args}
 use Rattle.aud_typing.specs.Expressions.{Indexed, indexed}
 use Rattle.aud_typing.specs.Ties.Typing.{plain_typed}

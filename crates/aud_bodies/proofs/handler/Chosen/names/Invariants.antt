@@ -1,5 +1,5 @@
 use Rattle.std.proofs.Common.{◌≡◌, drop}
-use Rattle.aud_names.specs.Least.{noted}
+use Rattle.aud_fault.specs.Least.{noted}
 use Rattle.aud_bodies.specs.Handlers.{names_chosen, names_chosen_faults}
 use Rattle.aud_names.specs.Ties.Regions.{names_in}
 use Rattle.aud_bodies.proofs.handler.Chosen.names.Given as goal

@@ -1,8 +1,8 @@
 // Faults of a program.
 
 ghost use Rattle.std.specs.Prelude.{◌≡◌, Option, None};
-ghost use Rattle.aud_names.specs.declared.fault.Fault.{Fault};
-ghost use Rattle.aud_names.specs.Least.{before, note};
+ghost use Rattle.aud_fault.specs.declared.fault.Fault.{Fault};
+ghost use Rattle.aud_fault.specs.Least.{before, note};
 
 use aud_text::place::Pos;
 use aud_text::refusal::Refusal;

@@ -2,7 +2,7 @@
 use Rattle.std.specs.Prelude.{◌≡◌, ◌⊎◌, Bool, false, ◌&&◌, ◌||◌, nat_eq, nat_lt, List, [], ◌∷◌, Option, Some, None, if◌then◌else◌}
 use Rattle.aud_text.specs.declared.place.Pos.{Pos}
 use Rattle.aud_text.specs.Refusal.{number}
-use Rattle.aud_names.specs.declared.fault.Fault.{Fault}
+use Rattle.aud_fault.specs.declared.fault.Fault.{Fault}
 
 -- a place before another in the text (RM 2.2: a text is a sequence of lines)
 abbrev pub place_before : Pos → Pos → Bool
