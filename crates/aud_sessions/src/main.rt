@@ -7,7 +7,7 @@ mod session;
 
 use crate::server::answers;
 use crate::session::{LineFault, Session, sessions};
-use aud_server::solo::SoloFault;
+use aud_solo::solo::SoloFault;
 use std::alloc::{AllocError, Global};
 use std::process::ExitCode;
 use std::{env, fs, io};
