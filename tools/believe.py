@@ -10,7 +10,7 @@ import re
 import sys
 
 TOP = os.path.join(os.path.dirname(os.path.abspath(__file__)), "..", "crates")
-ROOTS = ("aud_server.specs.Solo", "aud_lines.specs.Requests", "aud_lines.specs.Text", "aud_server.specs.Program", "aud_bench.specs.Alone", "aud_hall.specs.Headline")
+ROOTS = ("aud_solo.specs.Solo", "aud_lines.specs.Requests", "aud_lines.specs.Text", "aud_server.specs.Program", "aud_bench.specs.Alone", "aud_hall.specs.Headline")
 # crates whose words only tie contracts together
 TYING = ("aud_code", "aud_among", "aud_layout", "aud_gen", "aud_exc", "aud_expr", "aud_masters", "aud_single", "aud_tasks", "aud_machine", "aud_worked")
 USE = re.compile(r"^use Rattle\.(aud_\w+)\.specs\.([\w.]+?)(?:\.\{.*\}| as \w+)$", re.MULTILINE)

@@ -2,7 +2,7 @@
 #![tactic(auto)]
 
 use aud_server::program::{ProgramFault, program, refuse};
-use aud_server::solo::SoloFault;
+use aud_solo::solo::SoloFault;
 use std::process::ExitCode;
 use std::rt::Env;
 use std::{env, io};

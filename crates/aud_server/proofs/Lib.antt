@@ -1,4 +1,1 @@
 pub mod ArgumentLaws
-pub mod SoloLaws
-pub mod StreamLaws
-pub mod TurnLaws

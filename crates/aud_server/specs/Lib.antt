@@ -1,4 +1,1 @@
 pub mod Program
-pub mod Solo
-pub mod Streams
-pub mod Ties

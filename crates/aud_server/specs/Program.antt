@@ -2,7 +2,7 @@
 use Rattle.std.specs.Prelude.{◌≡◌, ℕ, List, [], ◌∷◌, codes}
 use Rattle.clap.specs.declared.error.ErrorKind.{ErrorKind}
 use Rattle.clap.specs.declared.error.ErrorKind.TheVariants.{OutOfMemory}
-use Rattle.aud_server.specs.declared.solo.SoloFault.TheVariants as server
+use Rattle.aud_solo.specs.declared.solo.SoloFault.TheVariants as server
 use Rattle.aud_server.specs.declared.program.ProgramFault.{ProgramFault}
 use Rattle.aud_server.specs.declared.program.ProgramFault.TheVariants.{Arguments, Server}
 

@@ -3,11 +3,11 @@
 ghost use Rattle.std.specs.Prelude.{◌≡◌, ◌≢◌, ◌⊎◌, ◌↔◌, length, map, string_bytes, IsTrue, IfOk, IfErr, IsErrOf};
 ghost use Rattle.clap.specs.Words.{kind_of};
 ghost use Rattle.aud_server.specs.declared.program.ProgramFault.TheVariants as fault;
-ghost use Rattle.aud_server.specs.declared.solo.SoloFault.TheVariants as server;
+ghost use Rattle.aud_solo.specs.declared.solo.SoloFault.TheVariants as server;
 ghost use Rattle.aud_server.specs.Program.{AsksSolo, status, of_kind};
 
-use crate::solo::{SoloFault, solo};
-use crate::streams::Stream;
+use aud_solo::solo::{SoloFault, solo};
+use aud_solo::streams::Stream;
 use clap::error::ErrorKind;
 use clap::{Arg, ArgAction, Command, Error as ClapError};
 use std::alloc::{AllocError, Global};

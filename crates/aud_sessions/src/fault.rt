@@ -3,7 +3,7 @@
 use crate::halls::deed::Deed;
 use crate::session::LineFault;
 use aud_hall::fault::HallFault;
-use aud_server::solo::SoloFault;
+use aud_solo::solo::SoloFault;
 use std::alloc::AllocError;
 use std::io;
 use thiserror::Error;

@@ -1,7 +1,7 @@
 // A server in memory.
 
-use aud_server::solo::{SoloFault, solo};
-use aud_server::streams::Stream;
+use aud_solo::solo::{SoloFault, solo};
+use aud_solo::streams::Stream;
 use std::alloc::Global;
 use std::io;
 use std::io::Read;

@@ -1,8 +1,8 @@
 // The server where it reads and writes by turns.
 
 use crate::tests::finds;
-use aud_server::solo::solo;
-use aud_server::streams::{Fused, Stream};
+use aud_solo::solo::solo;
+use aud_solo::streams::{Fused, Stream};
 use aud_text::digits::push_decimal;
 use std::alloc::{AllocError, Global};
 use std::cell::Cell;

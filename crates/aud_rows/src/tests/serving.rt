@@ -2,8 +2,8 @@
 
 use crate::tests::finds;
 use aud_server::program::program;
-use aud_server::solo::{SoloFault, solo};
-use aud_server::streams::Stream;
+use aud_solo::solo::{SoloFault, solo};
+use aud_solo::streams::Stream;
 use std::alloc::{AllocError, Global};
 use std::cell::Cell;
 use std::io::{self, ErrorKind, Read, Write};

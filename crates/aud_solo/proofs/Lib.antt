@@ -1,0 +1,3 @@
+pub mod SoloLaws
+pub mod StreamLaws
+pub mod TurnLaws

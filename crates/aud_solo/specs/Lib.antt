@@ -1,0 +1,3 @@
+pub mod Solo
+pub mod Streams
+pub mod Ties
