@@ -10,7 +10,6 @@ mod repeated;
 mod server;
 mod session;
 
-<<<<<<< HEAD
 use crate::arguments::{Task, task_of};
 use crate::fault::Fault;
 use crate::files::look_at_files;
@@ -18,12 +17,6 @@ use crate::halls::lists::{CALLS, look_at_lists};
 use crate::halls::rows::look_at_rows;
 use crate::halls::speed::{idle_hall, work_off};
 use std::env;
-=======
-use crate::server::answers;
-use crate::session::{LineFault, Session, sessions};
-use aud_solo::solo::SoloFault;
-use std::alloc::{AllocError, Global};
->>>>>>> d1673398c9a9be92c1caf97b3c126083de3bf54e
 use std::process::ExitCode;
 
 fn main(rt: HostRuntime) -> ExitCode {
