@@ -23,7 +23,8 @@ use Rattle.aud_layout.specs.Assembly.{end_line as moved_end, step_lines}
 use Rattle.aud_layout.specs.Written.{flat_step, written}
 use Rattle.aud_layout.proofs.Flat.Assembly.{assembled_append, its_length}
 use Rattle.aud_layout.proofs.Standing.Sizes.{count-block}
-use Rattle.aud_gen.specs.Writes.{ended, Writes, all_ways, statement_lines, part_lines, for_lines, stub_lines, guard_lines, handlers_lines, body_lines}
+use Rattle.aud_layout.specs.Leading.{all_ways}
+use Rattle.aud_gen.specs.Writes.{ended, Writes, statement_lines, part_lines, for_lines, stub_lines, guard_lines, handlers_lines, body_lines}
 use Rattle.aud_gen.proofs.Writing.{Adds, written_more, instructions_written}
 use Rattle.aud_gen.proofs.Lines.{continued, statement_length, part_written, body_written}
 
@@ -211,8 +212,3 @@ one_stub x rest stop within now new whole h left =
     continued now new _ (stub_lines (x ∷ []) stop within (length now)) (λ n. stub_lines rest stop within n) 1 h refl refl
     ∙ ap (λ n. now ++ (stub_lines (x ∷ []) stop within (length now) ++ stub_lines rest stop within n)) inside
     ∙ left
-
-pub next_stub : (ways : List Away) (i place : ℕ) → i < length ways → stub_ways (map plain_way (drop i ways)) place ≡ record { to = place; loops = 0 } ∷ stub_ways (map plain_way (drop (suc i) ways)) (suc place)
-next_stub [] i place h = absurd (omega (arith, h))
-next_stub (w ∷ ways) zero place h = refl
-next_stub (w ∷ ways) (suc i) place h = next_stub ways i place (omega (arith, h))

@@ -22,7 +22,6 @@ use Rattle.aud_layout.specs.Instructions.{condition_code}
 use Rattle.aud_layout.specs.Layout.{Around, ways_count, around_out, in_call, continues, line, end_line, stubs, guard_line_by, statement_size_by, part_size_by, statement_code_by, part_code_by, handlers_code_by, unit_code_by}
 use Rattle.aud_layout.specs.Assembly.{within_moved, step_lines}
 use Rattle.aud_layout.specs.Written.{flat_step, written, written_bodies}
-use Rattle.aud_gen.specs.declared.ways.Ways.{Ways}
 
 -- Lengths.
 
@@ -31,17 +30,6 @@ abbrev pub arm_length : Arm → ℕ → ℕ
 arm_length arm ways = suc (statement_size_by flat_step (statements_in arm.statements) ways + length (condition_code (plain_boolean arm.condition)))
 
 -- Lines.
-
--- to a place, with no frame of a loop that is left
-abbrev pub way_to : ℕ → Way
-way_to place = record { to = place; loops = 0 }
-
--- what surrounds statements out of which these ways lead, and of which exceptions go to out
-abbrev pub around : ℕ → Ways → Around
-around out w = record { out = out; within = w.within; exits = map plain_way w.exits.items; back = plain_way w.back }
-
-abbrev pub all_ways : Around → List Way
-all_ways a = a.exits ++ a.back ∷ []
 
 -- the ending of a step, as the layout's stand in code
 abbrev pub ended : Last → Pos → ℕ → Option ℕ → List FlatLine

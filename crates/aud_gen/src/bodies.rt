@@ -5,12 +5,14 @@ ghost use Rattle.aud_typed.specs.Ties.View.{handlers_in};
 ghost use Rattle.aud_code.specs.View.{plain_guard, plain_way};
 ghost use Rattle.aud_layout.specs.Layout.{guards_of_by};
 ghost use Rattle.aud_layout.specs.Written.{flat_step};
-ghost use Rattle.aud_gen.specs.Writes.{around, all_ways, guard_lines, stub_lines, idle_lines, Writes};
+ghost use Rattle.aud_layout.specs.Leading.{around, all_ways};
+ghost use Rattle.aud_gen.specs.Writes.{guard_lines, stub_lines, idle_lines, Writes};
 
-use crate::lengths::{statements_length, sum};
-use crate::ways::Ways;
+use crate::lengths::statements_length;
 use crate::writer::{Writer, Written};
 use aud_code::line::{Ending, Guard, Last, Way};
+use aud_layout::sum::sum;
+use aud_layout::ways::Ways;
 use aud_meaning::state::Construct;
 use aud_text::place::Pos;
 use aud_typed::program::Handler;

@@ -11,18 +11,12 @@ ghost use Rattle.aud_layout.specs.Layout.{statement_size_by, part_size_by, handl
 ghost use Rattle.aud_layout.specs.Written.{flat_step};
 ghost use Rattle.aud_gen.specs.Writes.{arm_length};
 
+use aud_layout::sum::sum;
 use aud_typed::program::{
     Argument, Arm, BlockStatement, Body, BooleanExpression, ForStatement, Handler, IfStatement,
     IntegerExpression, Reference, Statement, Statements, TaskName, TextExpression, ValueExpression,
 };
 use std::alloc::AllocError;
-
-/// A sum of lengths; memory is refused where it passes the type, since no memory holds such code.
-pub fn sum(a: usize, b: usize) -> Result<usize, AllocError>
-    ensures { IfOk result (λ n. n ≡ a + b) }
-{
-    a.checked_add(b).ok_or(AllocError)
-}
 
 /// Of an expression of type Integer.
 pub fn integer_length(e: &IntegerExpression) -> Result<usize, AllocError>

@@ -6,7 +6,6 @@ mod expressions;
 mod lengths;
 mod program;
 mod statements;
-mod ways;
 mod writer;
 
 pub use program::generate;

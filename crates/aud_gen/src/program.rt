@@ -7,10 +7,10 @@ ghost use Rattle.aud_layout.specs.Assembly.{flat_program};
 ghost use Rattle.aud_gen.specs.Writes.{unit_lines, units_code, Writes};
 
 use crate::lengths::place_of_end;
-use crate::ways::Ways;
 use crate::writer::{Writer, Written};
 use aud_code::line::Code;
 use aud_code::sound_code::{SoundCode, verify};
+use aud_layout::ways::Ways;
 use aud_meaning::state::Construct;
 use aud_typed::program::{Body, Program, Unit};
 use std::alloc::{AllocError, Global};

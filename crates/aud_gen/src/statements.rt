@@ -5,15 +5,17 @@ ghost use Rattle.aud_typed.specs.declared.program.Arm.{Arm as Arms};
 ghost use Rattle.aud_typed.specs.Tree.{part_of};
 ghost use Rattle.aud_typed.specs.Ties.View.{plain_boolean, plain_statement, plain_statements, statements_in, part_of_arms, if_in, for_in, handlers_in, elaborations_in, body_in, block_in};
 ghost use Rattle.aud_layout.specs.Layout.{in_loop};
-ghost use Rattle.aud_gen.specs.Writes.{around, statement_lines, part_lines, has_statements, listed_lines, arm_lines, while_lines, for_lines, handlers_lines, body_lines, Writes, WritesInside};
+ghost use Rattle.aud_layout.specs.Leading.{around};
+ghost use Rattle.aud_gen.specs.Writes.{statement_lines, part_lines, has_statements, listed_lines, arm_lines, while_lines, for_lines, handlers_lines, body_lines, Writes, WritesInside};
 
 use crate::lengths::{
     boolean_length, elaborations_length, integer_length, list_length, place_of_end,
-    statement_length, statements_length, sum,
+    statement_length, statements_length,
 };
-use crate::ways::Ways;
 use crate::writer::{Writer, Written};
 use aud_code::line::{Ending, ForLoop, Last};
+use aud_layout::sum::sum;
+use aud_layout::ways::Ways;
 use aud_meaning::state::Construct;
 use aud_text::place::Pos;
 use aud_typed::program::{

@@ -2,3 +2,4 @@ pub mod Asking
 pub mod ByKind
 pub mod Standing
 pub mod Flat
+pub mod Stubs

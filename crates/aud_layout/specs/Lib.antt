@@ -1,6 +1,7 @@
 pub mod Instructions
 pub mod Asking
 pub mod Layout
+pub mod Leading
 pub mod Shows
 pub mod Assembly
 pub mod Activations

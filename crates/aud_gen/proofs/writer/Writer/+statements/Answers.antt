@@ -10,7 +10,8 @@ use Rattle.aud_typed.specs.Ties.View.{plain_boolean, plain_statement, plain_stat
 use Rattle.aud_layout.specs.Instructions.{condition_code}
 use Rattle.aud_layout.specs.Layout.{statement_size_by, part_size_by, end_place_by, ways_count, in_loop}
 use Rattle.aud_layout.specs.Written.{flat_step}
-use Rattle.aud_gen.specs.Writes.{has_statements, around, statement_lines, part_lines, guard_lines, handlers_lines, Writes}
+use Rattle.aud_layout.specs.Leading.{around}
+use Rattle.aud_gen.specs.Writes.{has_statements, statement_lines, part_lines, guard_lines, handlers_lines, Writes}
 use Rattle.aud_gen.proofs.Elaborations.{whole_activated}
 use Rattle.aud_gen.proofs.Loops.{dropped}
 use Rattle.aud_gen.proofs.Lines.{chosen, passed_over, none_left, with_part, one_listed, one_arm, same_lines, same_around, same_loop, whole_while, whole_list, whole_arm, if_by}

@@ -2,7 +2,7 @@ use Rattle.std.proofs.Common.{◌≡◌, ◌+◌, length, drop}
 use Rattle.aud_typed.specs.declared.program.IfStatement.{out-IfStatement}
 use Rattle.aud_typed.specs.Tree.{part_of, some}
 use Rattle.aud_typed.specs.Ties.View.{plain_statements, part_of_arms, if_in}
-use Rattle.aud_gen.specs.Writes.{around}
+use Rattle.aud_layout.specs.Leading.{around}
 use Rattle.aud_gen.proofs.Lines.{with_part}
 use Rattle.aud_gen.proofs.Constructs.{with_handlers}
 use Rattle.aud_gen.proofs.writer.Writer.+statements.Given as goal

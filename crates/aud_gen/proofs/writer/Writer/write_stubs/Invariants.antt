@@ -1,7 +1,7 @@
 use Rattle.std.proofs.Common.{◌≡◌, [], ◌∷◌, ◌++◌, drop}
 use Rattle.std.specs.Prelude.{map}
 use Rattle.aud_code.specs.View.{plain_way}
-use Rattle.aud_gen.specs.Writes.{around, all_ways}
+use Rattle.aud_layout.specs.Leading.{around, all_ways}
 use Rattle.aud_gen.proofs.Constructs.{with_stubs}
 use Rattle.aud_gen.proofs.writer.Writer.write_stubs.Given as goal
 

@@ -2,7 +2,7 @@ use Rattle.std.proofs.Common.{ap, ◌∙◌}
 use Rattle.aud_typed.specs.Ties.View.{body_in}
 use Rattle.aud_layout.specs.Layout.{end_place_by}
 use Rattle.aud_layout.specs.Written.{flat_step}
-use Rattle.aud_gen.specs.Writes.{around}
+use Rattle.aud_layout.specs.Leading.{around}
 use Rattle.aud_gen.proofs.Units.{whole_unit}
 use Rattle.aud_gen.proofs.writer.Writer.write_unit.Goals as goal
 

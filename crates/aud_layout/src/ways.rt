@@ -3,9 +3,9 @@
 ghost use Rattle.std.specs.Prelude.{◌≡◌, ℕ, map, None, IfOk, slice_index_or};
 ghost use Rattle.aud_code.specs.View.{plain_way};
 ghost use Rattle.aud_layout.specs.Layout.{one_more, ways_count, in_call, in_loop, in_for, in_block};
-ghost use Rattle.aud_gen.specs.Writes.{around, way_to};
+ghost use Rattle.aud_layout.specs.Leading.{around, way_to};
 
-use crate::lengths::sum;
+use crate::sum::sum;
 use aud_code::line::Way;
 use std::alloc::{AllocError, Global};
 

@@ -2,7 +2,7 @@ use Rattle.std.proofs.Common.{◌≡◌, suc, ◌+◌, ◌++◌, drop}
 use Rattle.std.specs.Prelude.{map}
 use Rattle.aud_code.specs.View.{plain_way}
 use Rattle.aud_layout.specs.Layout.{stub_ways}
-use Rattle.aud_gen.proofs.ways.Ways.in_block.Given as goal
+use Rattle.aud_layout.proofs.ways.Ways.in_block.Given as goal
 
 abbrev pub invariant-loop : goal.invariant-loop
 invariant-loop l =

@@ -3,8 +3,8 @@ use Rattle.std.specs.Prelude.{map}
 use Rattle.std.proofs.lemmas.List.{map-append}
 use Rattle.aud_code.specs.View.{plain_way}
 use Rattle.aud_layout.specs.Layout.{stub_ways}
-use Rattle.aud_gen.proofs.Constructs.{next_stub}
-use Rattle.aud_gen.proofs.ways.Ways.in_block.Goals as goal
+use Rattle.aud_layout.proofs.Stubs.{next_stub}
+use Rattle.aud_layout.proofs.ways.Ways.in_block.Goals as goal
 
 pub loop-preserved : goal.loop-preserved
 loop-preserved c =
