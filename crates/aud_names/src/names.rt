@@ -6,7 +6,7 @@ ghost use Rattle.aud_names.specs.Names.{Place as Plain, empty_region, named_in, 
 ghost use Rattle.aud_names.specs.Ties.Regions.{plain_region, plain_regions, plain_place, names_in, hidden_names};
 
 use crate::awaited::{Awaited, index_of};
-use crate::behind::Made;
+use crate::behind::{Made, both};
 use crate::hidden::Hidden;
 use crate::table::listed;
 use aud_syntax::tree::{Ident, Identifiers, Mode};
@@ -331,9 +331,7 @@ pub fn frame_within<'a>(
         ≡ next_frame (plain_place innermost.now outer.now)) }
 {
     let scope = Scope::new(innermost, outer);
-    let regions = scope.regions()?;
-    let region = scope.frame()?;
-    Ok((regions, region))
+    both(scope.regions()?, scope.frame())
 }
 
 /// The regions around the body of a task that is declared in this region, which lies in those: first that in which its name
