@@ -7,7 +7,9 @@ Tasks: steps a second of programs whose tasks loop, in the order of the tasks an
 LOADs: the largest source text of several shapes, how the time grows from a quarter of it, and the memory; one of the most lines that
 there may be, of which each read gives a byte, and how the time grows from a quarter of them (where there is a C compiler).
 Halls: steps a second of many seats that take turns beside those of one bench, and the memory of a seat at which nothing is to be done.
+Desk: steps a second of the listening program with all seats busy, by several numbers of workers, beside those of one bench.
 Each figure is the median of several processes, which take turns. benchmark.sh calls it.
+usage: benchmark.py PROGRAM WORLDS, or benchmark.py desk PROGRAM
 """
 import os
 import shutil
@@ -17,8 +19,10 @@ import tempfile
 from collections.abc import Callable
 from dataclasses import dataclass
 from statistics import median
+from time import perf_counter
 
 from calls import library, surroundings
+from load import CLAIMED, MOST_WORKERS, connected, listening, processors
 
 TIMES = 9  # processes for each figure
 SOURCE = 32_768  # bytes of the largest source text
@@ -28,6 +32,12 @@ LOADS = 20  # LOADs in a session that times them
 SEATS = 64  # the most that a hall has
 SEAT_STEPS = 500_000  # steps at each of them
 PAIRS = 31  # measures of a hall, each between two of one bench
+DESK_PAIRS = 7  # measures of a desk, each between two of one bench
+DESK_ROUNDS = 20  # LOADs at each seat, each with all of its steps
+DESK_STEPS = DESK_ROUNDS * 1_000_000
+DESK_SENT = (b"LOAD 1\nprocedure M is begin loop null; end loop; end M;\n" + b"RUN 100000\n" * 10) * DESK_ROUNDS + b"QUIT\n"
+DESK_TOLD = (b"+ 1\nloaded M\n" + b"+ 1\nran 100000 more\n" * 10) * DESK_ROUNDS + b"+ 0\n"
+SESSIONS_ALONE = 12  # sessions of one bench, one behind the other, that are measured together
 
 
 @dataclass
@@ -568,6 +578,72 @@ def halls(worlds):
     print(f"An idle seat takes {(all_of - one) / (SEATS - 1) / 1024:.1f} KiB")
 
 
+def of_desk(program, workers):
+    """Steps a second of the listening program where each seat has the same to do. All requests are sent at once, and the answers read
+    later: the client has next to nothing to do meanwhile."""
+    server, port = listening(program, workers)
+    try:
+        links = [connected(port) for _ in range(SEATS)]
+        for seat, link in enumerate(links, 1):
+            link.sendall(b"SEAT %d\n" % seat)
+            if link.recv(LINE) != CLAIMED:
+                sys.exit(f"benchmark: seat {seat} is not to be had")
+        begin = perf_counter()
+        for link in links:
+            link.sendall(DESK_SENT)
+        for link in links:
+            with link, link.makefile("rb") as answers:
+                if answers.read() != DESK_TOLD:
+                    sys.exit("benchmark: a seat of the desk is answered otherwise than it must be")
+        return SEATS * DESK_STEPS / (perf_counter() - begin)
+    finally:
+        server.kill()
+        server.wait()
+
+
+def session_at_once(program, count):
+    """The seconds that the session of a seat takes, in so many `aud --solo` at once."""
+    benches = [subprocess.Popen([program, "--solo"], stdin=subprocess.PIPE, stdout=subprocess.PIPE) for _ in range(count)]
+    for bench in benches:  # an empty line is answered by one line
+        bench.stdin.write(b"\n")
+        bench.stdin.flush()
+        bench.stdout.readline()
+    begin = perf_counter()
+    for bench in benches:
+        bench.stdin.write(DESK_SENT)
+        bench.stdin.flush()
+    for bench in benches:
+        if bench.stdout.read() != DESK_TOLD:
+            sys.exit("benchmark: a bench is answered otherwise than it must be")
+    seconds = perf_counter() - begin
+    for bench in benches:
+        bench.communicate()
+    return seconds
+
+
+def of_benches(program, count):
+    """Steps a second of so many `aud --solo` at once, all together."""
+    return count * SESSIONS_ALONE * DESK_STEPS / sum(session_at_once(program, count) for _ in range(SESSIONS_ALONE))
+
+
+def desk(program):
+    """Each measure of a desk stands between two of one bench, as those of a hall do. Beside it is measured what as many benches at once
+    as there are workers come to: how much more than one the machine can do."""
+    most = min(MOST_WORKERS, processors())
+    print(f"A desk of {SEATS} busy seats, {DESK_STEPS:,} steps at each; steps a second, and the part of one bench's that each worker does (wanted: 0.90):")
+    for workers in sorted({most, *(1 << power for power in range(most.bit_length()))}):
+        alone, busy, benches = [of_benches(program, 1)], [], []
+        for _ in range(DESK_PAIRS):
+            busy.append(of_desk(program, workers))
+            alone.append(of_benches(program, 1))
+            benches.append(of_benches(program, workers))
+        parts = sorted(own * (1 / first + 1 / second) / 2 / workers for first, second, own in zip(alone, alone[1:], busy))
+        half = f"half of them {parts[DESK_PAIRS // 4]:.2f} to {parts[-1 - DESK_PAIRS // 4]:.2f}"
+        name = f"{workers} worker{'s' if workers > 1 else ''}"
+        beside = f"one bench {fast(median(alone))}, {workers} at once {fast(median(benches))}"
+        print(f"    {name:11}{fast(median(busy))}   {beside}   {median(parts):.2f} ({half})", flush=True)
+
+
 def main(program, worlds):
     with tempfile.TemporaryDirectory() as folder:
         others = {"python3": Other([sys.executable, "-c"], lambda loop: loop.python + PYTHON_LOOP, PYTHON_LOAD)}
@@ -583,6 +659,10 @@ def main(program, worlds):
         loads(program)
         loads_in_bytes(program, folder)
         halls(worlds)
+        desk(program)
 
 
-main(sys.argv[1], sys.argv[2])
+if sys.argv[1] == "desk":
+    desk(sys.argv[2])
+else:
+    main(sys.argv[1], sys.argv[2])

@@ -115,7 +115,9 @@ def table(seen, total, unit):
 def main():
     if sys.argv[1:] not in ([], ["--kept"]):
         sys.exit("usage: price.sh [--kept] (it runs the gate: all of it, or what no earlier run has kept)")
-    gate = ["rt", "ci"] if sys.argv[1:] else ["rt", "ci", "--anew"]
+    # (a kit that keeps nothing from one run to the next has no such flag)
+    keeps = "--anew" in subprocess.run(["rt", "help"], capture_output=True, text=True).stderr
+    gate = ["rt", "ci", "--anew"] if keeps and not sys.argv[1:] else ["rt", "ci"]
     alone = median(selftest("alone") for _ in range(ALONE))
     seen, units, ended, began = {}, [], threading.Event(), time.time()
     beside = [threading.Thread(target=watch, args=(seen, ended)), threading.Thread(target=selftests_beside, args=(units, ended))]

@@ -49,6 +49,7 @@ def compare_programs(program, first, count, with_tasks):
     other = refused = 0
     for seed in range(first, first + count):
         sent = chance.session(seed, with_tasks)
+        sent[-3:-3] = [f"SEAT {seed * 4_999 % 20_000:05}"] * (seed % 3 == 0)
         wanted = meaning.answers(sent)
         done = subprocess.run([program, "--solo"], input="".join(line + "\n" for line in sent), capture_output=True, text=True, encoding="latin-1")
         told = done.stdout.split("\n")[:-1]

@@ -7,3 +7,6 @@ pub mod Serving
 pub mod Sessions
 pub mod Standing
 pub mod Truths
+pub mod Told
+pub mod Loads
+pub mod Sent

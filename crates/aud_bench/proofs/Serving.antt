@@ -68,6 +68,7 @@ costs_some limits (request.Run n) (Some l) = by (steps_left l.now == 0)
     by false = omega arith
 costs_some limits (request.Choose choices) loaded = omega (arith, choose_costs choices loaded)
 costs_some limits request.Output loaded = omega (arith, output_costs loaded)
+costs_some limits (request.Seat number) loaded = omega arith
 costs_some limits request.Quit loaded = omega arith
 costs_some limits (request.Bad why) loaded = omega arith
 

@@ -61,6 +61,7 @@ module _ (limits : Limits) where
       by (request.Run n) (Some l) h = record { unanswered = some (request.Run n) (Some l); is_behind = h; stepped = record { steps = omega arith; room = inl refl } }
       by (request.Choose choices) loaded h = record { unanswered = some (request.Choose choices) loaded; is_behind = h; stepped = tt }
       by request.Output loaded h = record { unanswered = some request.Output loaded; is_behind = h; stepped = tt }
+      by (request.Seat number) loaded h = record { unanswered = some (request.Seat number) loaded; is_behind = h; stepped = tt }
       by request.Quit loaded h = record { unanswered = some request.Quit loaded; is_behind = h; stepped = tt }
       by (request.Bad why) loaded h = record { unanswered = some (request.Bad why) loaded; is_behind = h; stepped = tt }
 

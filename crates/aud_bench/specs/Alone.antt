@@ -115,6 +115,7 @@ replied limits loaded (request.Load source) = load_reply (program_of limits sour
 replied limits loaded (request.Run n) = run_reply limits n loaded
 replied limits loaded (request.Choose choices) = choose_reply choices loaded
 replied limits loaded request.Output = output_reply loaded
+replied limits loaded (request.Seat number) = answers_only (answer.Refused refusal.UnknownCommand) loaded
 replied limits loaded request.Quit = answers_only answer.Done loaded
 replied limits loaded (request.Bad why) = answers_only (answer.Refused (refusal_of why)) loaded
 
@@ -124,6 +125,7 @@ is_quit (request.Load source) = false
 is_quit (request.Run n) = false
 is_quit (request.Choose choices) = false
 is_quit request.Output = false
+is_quit (request.Seat number) = false
 is_quit (request.Bad why) = false
 
 abbrev pub has_room : (requests bytes more : ℕ) → Bool

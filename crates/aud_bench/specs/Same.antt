@@ -3,7 +3,7 @@ use Rattle.std.specs.Prelude.{Bool, true, false, ◌==◌, ◌&&◌}
 use Rattle.std.specs.Str.{bytes_eq}
 use Rattle.aud_text.specs.declared.limits.Limits.{Limits}
 use Rattle.aud_bench.specs.declared.request.Request.{Request}
-use Rattle.aud_bench.specs.declared.request.Request.TheVariants.{Load, Run, Choose, Output, Quit, Bad}
+use Rattle.aud_bench.specs.declared.request.Request.TheVariants.{Load, Run, Choose, Output, Seat, Quit, Bad}
 use Rattle.aud_bench.specs.declared.request.BadRequest.{BadRequest}
 use Rattle.aud_bench.specs.declared.request.BadRequest.TheVariants.{UnknownCommand, BadArgument, LineTooLong, NotAscii}
 
@@ -19,6 +19,7 @@ same_request (Load source) (Load other) = bytes_eq source other
 same_request (Run steps) (Run others) = steps == others
 same_request (Choose choices) (Choose others) = bytes_eq choices others
 same_request Output Output = true
+same_request (Seat number) (Seat other) = number == other
 same_request Quit Quit = true
 same_request (Bad why) (Bad other) = same_reason why other
 same_request _ _ = false

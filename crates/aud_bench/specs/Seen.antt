@@ -43,6 +43,11 @@ abbrev pub told : Bool → List Answer
 told false = []
 told true = Refused OutOfMemory ∷ []
 
+-- whether an answer tells that
+abbrev pub tells_memory : Answer → Bool
+tells_memory (Refused OutOfMemory) = true
+tells_memory _ = false
+
 -- all answers that the bench ever made
 abbrev pub answers_of : Seen → List Answer
 answers_of bench = made_by bench ++ told bench.spent

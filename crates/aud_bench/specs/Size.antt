@@ -2,7 +2,7 @@
 use Rattle.std.specs.Prelude.{ℕ, ◌+◌, List, [], ◌∷◌, length, ◌==◌, count_by, sum_by}
 use Rattle.std.specs.Fmt.{decimal}
 use Rattle.aud_bench.specs.declared.request.Request.{Request}
-use Rattle.aud_bench.specs.declared.request.Request.TheVariants.{Load, Run, Choose, Output, Quit, Bad}
+use Rattle.aud_bench.specs.declared.request.Request.TheVariants.{Load, Run, Choose, Output, Seat, Quit, Bad}
 
 -- the lines of a source text, each ended by a line feed
 abbrev pub line_count : List ℕ → ℕ
@@ -17,6 +17,7 @@ size (Load source) = 6 + length (decimal (line_count source)) + length source
 size (Run steps) = 5 + length (decimal steps)
 size (Choose choices) = 7 + numbers_size choices
 size Output = 7
+size (Seat number) = 6 + length (decimal number)
 size Quit = 5
 size (Bad why) = 1
 

@@ -23,6 +23,7 @@ pub fn size(request: &Request) -> usize
         Request::Run(steps) => 5 + digit_count(u64::from(*steps)),
         Request::Choose(choices) => 7 + numbers_size(choices.as_slice()),
         Request::Output => 7,
+        Request::Seat(number) => 6 + digit_count(u64::from(*number)),
         Request::Quit => 5,
         Request::Bad(_) => 1,
     }

@@ -1,6 +1,6 @@
 // Laws of the definitions. Each function does nothing: its contract is the law.
 
-ghost use Rattle.aud_bench.specs.Ties.Kept.{FrontLaw, WholeLaw};
+ghost use Rattle.aud_bench.specs.Ties.Kept.{FrontLaw, WholeLaw, NeverLaw, CountLaw};
 ghost use Rattle.aud_bench.specs.Why.Made.{MoreLaw, GrowsLaw, ShortLaw, CostLaw};
 
 /// What a bench has made of the requests that it keeps is a front of the private server's answers to them.
@@ -31,4 +31,14 @@ pub fn short_law()
 /// Each request that is given later costs a unit at least.
 pub fn cost_law()
     ensures { CostLaw }
+{}
+
+/// A private server never answers that memory is out.
+pub fn never_law()
+    ensures { NeverLaw }
+{}
+
+/// A private server gives no more answers than there are requests.
+pub fn count_law()
+    ensures { CountLaw }
 {}

@@ -26,6 +26,8 @@ pub enum Request {
     Choose(Choices),
     /// Tell what the program has put out.
     Output,
+    /// Claim the seat of this number. A private server has no seats, and knows no such command.
+    Seat(u32),
     /// End the session.
     Quit,
     /// A malformed request.
@@ -46,6 +48,7 @@ impl Request {
             Request::Run(steps) => Ok(Request::Run(*steps)),
             Request::Choose(choices) => Ok(Request::Choose(choices.try_clone(alloc)?)),
             Request::Output => Ok(Request::Output),
+            Request::Seat(number) => Ok(Request::Seat(*number)),
             Request::Quit => Ok(Request::Quit),
             Request::Bad(why) => Ok(Request::Bad(*why)),
         }
@@ -62,6 +65,7 @@ impl PartialEq for Request {
         match (self, other) {
             (Request::Load(source), Request::Load(text)) => source.as_bytes() == text.as_bytes(),
             (Request::Run(steps), Request::Run(number)) => *steps == *number,
+            (Request::Seat(seat), Request::Seat(number)) => *seat == *number,
             (Request::Choose(choices), Request::Choose(numbers)) => {
                 choices.as_slice() == numbers.as_slice()
             }

@@ -55,6 +55,7 @@ pub fn serve(
         },
         Request::Choose(choices) => Ok(answered(choose(machine, choices.as_slice())?)),
         Request::Output => Ok(answered(output(alloc, machine)?)),
+        Request::Seat(_) => Ok(answered(Answer::Refused(Refusal::UnknownCommand))),
         Request::Quit => Ok(answered(Answer::Done)),
         Request::Bad(why) => Ok(answered(Answer::Refused(why.refusal()))),
     }

@@ -3,3 +3,4 @@ pub mod FeedLaws
 pub mod LineLaws
 pub mod OutputLaws
 pub mod RequestLaws
+pub mod HeldLaws

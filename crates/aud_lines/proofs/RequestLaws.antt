@@ -16,7 +16,7 @@ pub requests_none : (bytes : List ℕ) → lines_of bytes ≡ [] → requests by
 unfolding requests
 requests_none bytes e = ap (λ ls. requests_from ls Ready) e
 
-after_first : (line : List ℕ) (lines : List (List ℕ)) → requests_from (line ∷ lines) Ready ≡ led_to (command line) (requests_from lines)
+pub after_first : (line : List ℕ) (lines : List (List ℕ)) → requests_from (line ∷ lines) Ready ≡ led_to (command line) (requests_from lines)
 after_first line lines =
     elim (command line) as (λ d. (elim d as (λ _. List Request) [ Whole r ↦ r ∷ requests_from lines Ready | Loads k ↦ gathered k [] None (requests_from lines) ]) ≡ led_to d (requests_from lines)) [ Whole r ↦ refl | Loads k ↦ refl ]
 

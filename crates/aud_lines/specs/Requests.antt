@@ -1,7 +1,7 @@
 -- The requests of a stream of bytes.
 use Rattle.std.specs.Prelude.{ℕ, zero, suc, List, [], ◌∷◌, ◌++◌, length, Option, Some, None, Bool, true, false, nat_le, nat_lt, ◌&&◌, if◌then◌else◌, codes}
 use Rattle.std.specs.Str.{bytes_eq}
-use Rattle.aud_text.specs.declared.limits.TheConstants.{CHOICE, LINE, LINES, RUN}
+use Rattle.aud_text.specs.declared.limits.TheConstants.{CHOICE, LINE, LINES, RUN, SEAT}
 use Rattle.aud_bench.specs.declared.request.BadRequest.{BadRequest}
 use Rattle.aud_bench.specs.declared.request.BadRequest.TheVariants as bad
 use Rattle.aud_bench.specs.declared.request.Request.{Request}
@@ -57,6 +57,7 @@ command_of (word ∷ arguments) =
     else if bytes_eq word (codes "RUN") then one_number 1 RUN arguments (λ n. Whole (request.Run n))
     else if bytes_eq word (codes "CHOOSE") then some_numbers 0 CHOICE arguments (λ choices. Whole (request.Choose choices))
     else if bytes_eq word (codes "OUTPUT") then no_argument arguments request.Output
+    else if bytes_eq word (codes "SEAT") then one_number 0 SEAT arguments (λ n. Whole (request.Seat n))
     else if bytes_eq word (codes "QUIT") then no_argument arguments request.Quit
     else Whole (request.Bad bad.UnknownCommand)
 

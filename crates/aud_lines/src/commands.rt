@@ -2,7 +2,7 @@
 
 ghost use Rattle.std.specs.Prelude.{◌≡◌, ◌≤◌, ℕ, List, [], ◌∷◌, IfOk, IfSome};
 ghost use Rattle.std.specs.Str.{bytes_eq};
-ghost use Rattle.aud_text.specs.declared.limits.TheConstants.{CHOICE};
+ghost use Rattle.aud_text.specs.declared.limits.TheConstants.{CHOICE, SEAT};
 ghost use Rattle.aud_bench.specs.declared.request.BadRequest.TheVariants as bad;
 ghost use Rattle.aud_bench.specs.declared.request.Request.TheVariants as request;
 ghost use Rattle.aud_lines.specs.Ties.Asked.{asked, given};
@@ -12,7 +12,7 @@ ghost use Rattle.aud_lines.specs.Requests.{has_high_byte, line_fault, Command as
 use crate::lines::{first_word, number, trimmed};
 use aud_bench::choices::Choices;
 use aud_bench::request::{BadRequest, Request};
-use aud_text::limits::{CHOICE, LINE, LINES, RUN};
+use aud_text::limits::{CHOICE, LINE, LINES, RUN, SEAT};
 use std::alloc::{AllocError, Global};
 
 /// What a request's first line asks.
@@ -79,6 +79,8 @@ fn command_with(alloc: Global, word: &[u8], arguments: &[u8]) -> Result<Command,
         choose(alloc, arguments)
     } else if is(word, b"OUTPUT") {
         Ok(no_argument(arguments, Request::Output))
+    } else if is(word, b"SEAT") {
+        Ok(seat(arguments))
     } else if is(word, b"QUIT") {
         Ok(no_argument(arguments, Request::Quit))
     } else {
@@ -113,6 +115,16 @@ fn run(arguments: &[u8]) -> Command
 {
     match number_within(1, RUN, arguments) {
         Some(steps) => Command::Whole(Request::Run(steps)),
+        None => wrong_argument(),
+    }
+}
+
+fn seat(arguments: &[u8]) -> Command
+    ensures { asked result
+        ≡ one_number 0 SEAT (words_of arguments.now) (λ n. Whole (request.Seat n)) }
+{
+    match number_within(0, SEAT, arguments) {
+        Some(number) => Command::Whole(Request::Seat(number)),
         None => wrong_argument(),
     }
 }

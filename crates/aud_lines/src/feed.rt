@@ -2,17 +2,21 @@
 
 ghost use Rattle.std.specs.Prelude.{◌≡◌, ◌++◌, [], IfOk, OnErr};
 ghost use Rattle.aud_lines.specs.Ties.Splits.{Splits};
+ghost use Rattle.aud_lines.specs.Ties.Held.{held};
 
+use crate::held::hold;
 use crate::requests::{Split, lines_missing, split_requests};
 use aud_bench::loading::line_count;
 use aud_bench::request::Request;
 use std::alloc::{AllocError, Global};
 use std::marker::Model;
 
-/// What a stream has begun: the bytes behind its last whole request.
+/// What a stream has begun: the bytes behind its last whole request, but of a line that is too long no more than shows that it is.
 #[derive(Drop)]
 pub struct Feed {
     begun: Vec<u8>,
+    // How many of them are of a line that has not ended.
+    unended: usize,
     // No request is whole before so many lines more have ended: until then the bytes need not be read.
     missing: usize,
 }
@@ -20,12 +24,14 @@ pub struct Feed {
 impl Model for Feed {
     ghost use Rattle.std.specs.Prelude.{ℕ, ◌≤◌, List};
     ghost use Rattle.aud_lines.specs.Ties.Waits.{Waits};
+    ghost use Rattle.aud_lines.specs.Ties.Held.{IsHeld};
 
     ghost Value = { List ℕ };
 
     ghost view = { λ f. f.begun.items };
 
-    ghost invariant = { λ f. (1 ≤ f.missing) × Waits f.begun.items f.missing };
+    ghost invariant = { λ f. (1 ≤ f.missing) × Waits f.begun.items f.missing
+        × IsHeld f.begun.items f.unended };
 }
 
 impl Feed {
@@ -36,12 +42,13 @@ impl Feed {
     {
         Feed {
             begun: Vec::new(alloc),
+            unended: 0,
             missing: 1,
         }
     }
 
     /// Takes the next bytes of the stream, however it is cut, and gives the requests that they complete, in order. What they
-    /// begin is kept.
+    /// begin is kept, at most 1,025 bytes of each line and its line feed: of a line that is too long the others change nothing.
     ///
     /// # Errors
     ///
@@ -49,10 +56,11 @@ impl Feed {
     pub fn feed(&mut self, alloc: Global, bytes: &[u8]) -> Result<Vec<Request>, AllocError>
         ensures given { IfOk result (λ given. Splits (self.old ++ bytes.now) given.items self.new) }
         ensures refused { OnErr result (self.new ≡ self.old) }
+        ensures held { held self.new ≡ self.new }
     {
         let ended = line_count(bytes);
         if ended < self.missing {
-            self.begun.extend_from_slice(bytes)?;
+            self.unended = hold(&mut self.begun, self.unended, bytes)?;
             self.missing -= ended;
             return Ok(Vec::new(alloc));
         }
@@ -70,6 +78,14 @@ fn fed(alloc: Global, bytes: &[u8]) -> Result<(Vec<Request>, Feed), AllocError>
 {
     let Split { requests, rest } = split_requests(alloc, bytes)?;
     let missing = lines_missing(alloc, rest)?;
-    let begun = Vec::from_slice(alloc, rest)?;
-    Ok((requests, Feed { begun, missing }))
+    let mut begun = Vec::new(alloc);
+    let unended = hold(&mut begun, 0, rest)?;
+    Ok((
+        requests,
+        Feed {
+            begun,
+            unended,
+            missing,
+        },
+    ))
 }

@@ -1,1 +1,2 @@
 mod Bridges
+pub mod Sent

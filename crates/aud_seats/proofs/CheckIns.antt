@@ -64,7 +64,7 @@ pub record Awaits (limits : Limits) (b : Bench) (s : Seat) : Type 0 where
   pub ahead : length s.outbox ≤ answered b
   pub joins : b.taken ≤ length s.outbox
 
-first_none : (journal requests : List Request) → first_difference journal requests ≡ None → IsFront journal requests
+pub first_none : (journal requests : List Request) → first_difference journal requests ≡ None → IsFront journal requests
 first_none [] requests h = (requests, refl)
 first_none (x ∷ journal) [] h = absurd (cc)
 first_none (x ∷ journal) (r ∷ requests) h = by (same_request x r) (first_difference journal requests) refl refl h (first_none journal requests)

@@ -18,11 +18,11 @@ not_true : (b : Bool) → not b ≡ true → b ≡ false
 not_true false e = refl
 not_true true e = absurd (cc)
 
-other_limits : (a b : Limits) → not ((a.tasks == b.tasks) && (a.source == b.source)) ≡ true → same_limits a b ≡ false
+pub other_limits : (a b : Limits) → not ((a.tasks == b.tasks) && (a.source == b.source)) ≡ true → same_limits a b ≡ false
 unfolding same_limits
 other_limits a b e = not_true ((a.tasks == b.tasks) && (a.source == b.source)) e
 
-own_limits : (a b : Limits) → not ((a.tasks == b.tasks) && (a.source == b.source)) ≡ false → same_limits a b ≡ true
+pub own_limits : (a b : Limits) → not ((a.tasks == b.tasks) && (a.source == b.source)) ≡ false → same_limits a b ≡ true
 unfolding same_limits
 own_limits a b e = not_false ((a.tasks == b.tasks) && (a.source == b.source)) e
 

@@ -10,3 +10,5 @@ pub mod Keeping
 pub mod Judging
 pub mod Places
 pub mod Slices
+pub mod Told
+pub mod Sent

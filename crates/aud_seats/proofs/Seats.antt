@@ -29,7 +29,7 @@ front_of_alone limits journal requests units f h kept =
     let law = front_law limits requests units kept in
     (law.0, law.1 ∙ ap (λ xs. xs ++ law.0) (sym (made_of_front limits journal requests units f h)))
 
-front_more : (xs ys zs : List Answer) → IsFront xs ys → IsFront ys zs → IsFront xs zs
+pub front_more : (xs ys zs : List Answer) → IsFront xs ys → IsFront ys zs → IsFront xs zs
 front_more xs ys zs f g = (f.0 ++ g.0, g.1 ∙ ap (λ us. us ++ g.0) f.1 ∙ append_assoc xs f.0 g.0)
 
 -- while the bench is out the outbox is a front of the answers

@@ -5,4 +5,5 @@ pub mod Parcels
 pub mod Seats
 pub mod CheckIns
 pub mod Halls
+pub mod Told
 pub mod Ties

@@ -1,10 +1,11 @@
 // The hall: the seats of all users.
 
-ghost use Rattle.std.specs.Prelude.{◌≡◌, ℕ, ◌<◌, suc, length, true, Some, None, Option, IfOk, IfErr, IfSome, OnErr, MatchOption};
+ghost use Rattle.std.specs.Prelude.{◌≡◌, ℕ, ◌<◌, suc, length, true, false, Some, None, Option, IfOk, IfErr, IfSome, OnErr, MatchOption};
 ghost use Rattle.aud_seats.specs.Halls.{nobodys, place_at, claims, submits, sends_out, checks_in, collects, frees};
 ghost use Rattle.aud_seats.specs.Ties.Said.{is_memory, said, said_answers, said_next};
 ghost use Rattle.aud_seats.specs.Parcels.{bench_of};
-ghost use Rattle.aud_seats.specs.Ties.Places.{asked_at, outbox_at};
+ghost use Rattle.aud_seats.specs.Told.{IsToldAt};
+ghost use Rattle.aud_seats.specs.Ties.Places.{asked_at, outbox_at, limits_at};
 
 use crate::fault::HallFault;
 use crate::next::Next;
@@ -80,6 +81,21 @@ impl Hall {
         };
         let place = &mut self.places[index];
         place.claim(alloc)
+    }
+
+    /// Whether a request would be stored at a seat, memory that it takes apart. No memory is taken.
+    ///
+    /// # Errors
+    ///
+    /// The first that holds of: the hall has no such seat; it is not claimed, or a QUIT was stored; the request does not fit
+    /// behind the others; memory was refused to the bench that is at home.
+    pub fn admit(&self, seat: usize, request: &Request) -> Result<(), HallFault>
+        ensures { said result ≡ (submits seat request.now false self.now).reply }
+    {
+        let Some(index) = self.index_of(seat) else {
+            return Err(HallFault::NoSuchSeat);
+        };
+        self.places[index].admit(request)
     }
 
     /// Stores a request of the session at a seat.
@@ -174,10 +190,20 @@ impl Hall {
         place.free()
     }
 
-    /// The stored requests of the session at a seat, where there is one. No memory is taken.
+    /// The limits of a seat, where there is one. No memory is taken.
+    pub fn limits(&self, seat: usize) -> Option<Limits>
+        ensures { result ≡ limits_at (place_at self.now seat) }
+    {
+        let index = self.index_of(seat)?;
+        Some(self.places[index].limits())
+    }
+
+    /// The stored requests of the session at a seat, where there is one. No memory is taken. The answers there are those of a
+    /// private server to them: so many of the first ones, and behind them, where memory was refused to the bench at home, that it is.
     pub fn asked(&self, seat: usize) -> Option<&[Request]>
-        ensures { MatchOption result (asked_at (place_at self.now seat) ≡ None)
+        ensures requests { MatchOption result (asked_at (place_at self.now seat) ≡ None)
             (λ r. asked_at (place_at self.now seat) ≡ Some r.now) }
+        ensures answers { IsToldAt (place_at self.now seat) }
     {
         let index = self.index_of(seat)?;
         self.places[index].asked()

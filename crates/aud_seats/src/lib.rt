@@ -2,6 +2,7 @@
 // come to for each user, whatever all others do, is told in `aud_hall`.
 #![tactic(auto)]
 
+pub mod difference;
 pub mod fault;
 pub mod hall;
 pub mod next;

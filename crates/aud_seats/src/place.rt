@@ -1,9 +1,10 @@
 // A place of the hall, claimed or not.
 
-ghost use Rattle.std.specs.Prelude.{◌≡◌, ℕ, ◌<◌, length, true, Some, None, Option, IfErr, IfSome, OnErr, MatchOption};
+ghost use Rattle.std.specs.Prelude.{◌≡◌, ℕ, ◌<◌, length, true, false, Some, None, Option, IfErr, IfSome, OnErr, MatchOption};
 ghost use Rattle.aud_bench.specs.Same.{same_limits};
 ghost use Rattle.aud_seats.specs.Seats.{submitted, collected};
 ghost use Rattle.aud_seats.specs.Halls.{at_seat, claiming, freeing};
+ghost use Rattle.aud_seats.specs.Told.{IsToldIn};
 ghost use Rattle.aud_seats.specs.Ties.Places.{SentFrom, judged_at, checked_at, asked_in, outbox_in};
 ghost use Rattle.aud_seats.specs.Ties.Said.{is_memory, said, said_answers, said_next};
 ghost use Rattle.aud_seats.specs.Parcels.{bench_of};
@@ -59,6 +60,17 @@ impl Place {
         };
         self.seat = Some(seat);
         Ok(())
+    }
+
+    /// Whether a request would be stored, memory that it takes apart.
+    pub fn admit(&self, request: &Request) -> Result<(), HallFault>
+        ensures { said result
+            ≡ (at_seat (submitted request.now false) self.now self.now.seat).reply }
+    {
+        match &self.seat {
+            Some(seat) => seat.admit(request),
+            None => Err(HallFault::NotClaimed),
+        }
     }
 
     /// Stores a request.
@@ -144,10 +156,18 @@ impl Place {
         Ok(())
     }
 
-    /// The stored requests, where the place is claimed. No memory is taken.
+    /// The limits of the place. No memory is taken.
+    pub fn limits(&self) -> Limits
+        ensures { result ≡ self.now.limits }
+    {
+        self.limits
+    }
+
+    /// The stored requests, where the place is claimed. No memory is taken. Its answers are those of a private server to them.
     pub fn asked(&self) -> Option<&[Request]>
-        ensures { MatchOption result (asked_in self.now.seat ≡ None)
+        ensures requests { MatchOption result (asked_in self.now.seat ≡ None)
             (λ requests. asked_in self.now.seat ≡ Some requests.now) }
+        ensures answers { IsToldIn self.now.limits self.now.seat }
     {
         match &self.seat {
             Some(seat) => Some(seat.requests()),

@@ -12,6 +12,7 @@ ghost use Rattle.aud_seats.specs.Ties.Said.{is_memory, said, said_answers};
 ghost use Rattle.aud_seats.specs.Ties.Places.{IsRightThere, unboxed};
 ghost use Rattle.aud_seats.specs.Ties.Right.{IsTrue};
 
+use crate::difference::first_difference;
 use crate::fault::HallFault;
 use crate::next::Next;
 use crate::parcel::Parcel;
@@ -93,20 +94,37 @@ impl Seat {
         }
     }
 
+    /// Whether a request would be stored, memory that it takes apart: not behind a QUIT, nor where it does not fit behind the
+    /// others, nor while the bench at home has closed.
+    pub fn admit(&self, request: &Request) -> Result<(), HallFault>
+        ensures said { (submitted request.now false self.now).reply ≡ said result }
+        ensures refused { OnErr result (submitted request.now (is_memory result) self.now
+            ≡ record { now = self.now; reply = said result }) }
+        ensures open { OnOk result (has_quit self.now.requests ≡ false) }
+        ensures fits { OnOk result
+            (fits (length self.now.requests) (bytes_of self.now.requests) request.now ≡ true) }
+        ensures home { OnOk result (has_closed self.now.home ≡ false) }
+    {
+        if self.quit {
+            return Err(HallFault::NotClaimed);
+        }
+        if !fits(self.requests.len(), self.bytes, request) {
+            return Err(HallFault::Full);
+        }
+        if self.has_closed() {
+            return Err(HallFault::Memory);
+        }
+        Ok(())
+    }
+
     /// Stores a request that no QUIT stands before, and that fits behind the others.
     pub fn submit(&mut self, request: Request) -> Result<(), HallFault>
         ensures submits { submitted request (is_memory result) self.old
             ≡ record { now = self.new; reply = said result } }
         ensures err { OnErr result (self.new ≡ self.old) }
     {
-        if self.quit {
-            return Err(HallFault::NotClaimed);
-        }
-        if !fits(self.requests.len(), self.bytes, &request) {
-            return Err(HallFault::Full);
-        }
-        if self.has_closed() {
-            return Err(HallFault::Memory);
+        if let Err(fault) = self.admit(&request) {
+            return Err(fault);
         }
         match self.store(request) {
             Ok(()) => Ok(()),
@@ -232,21 +250,6 @@ fn is_behind(parcel: &Parcel, known: usize) -> bool
         || nat_lt known parcel.now.bench.taken) }
 {
     parcel.answered() < known || known < parcel.taken()
-}
-
-// The first place where a journal parts from the requests, or where these end.
-fn first_difference(journal: &[Request], requests: &[Request]) -> Option<usize>
-    ensures { result ≡ first_difference journal.now requests.now }
-{
-    for place in 0..journal.len() {
-        if requests.len() <= place {
-            return Some(place);
-        }
-        if journal[place] != requests[place] {
-            return Some(place);
-        }
-    }
-    None
 }
 
 // Gives the requests that are not yet given, and tells whether all are. They fit behind one another, so nothing but want of

@@ -4,7 +4,7 @@ use Rattle.clap.specs.declared.error.ErrorKind.{ErrorKind}
 use Rattle.clap.specs.declared.error.ErrorKind.TheVariants.{OutOfMemory}
 use Rattle.aud_solo.specs.declared.solo.SoloFault.TheVariants as server
 use Rattle.aud_server.specs.declared.program.ProgramFault.{ProgramFault}
-use Rattle.aud_server.specs.declared.program.ProgramFault.TheVariants.{Arguments, Server}
+use Rattle.aud_server.specs.declared.program.ProgramFault.TheVariants.{Arguments, Listen, Server}
 
 -- the words of a command line, the first of which is the program's own name, ask for the server: there is one more, and it is
 -- `--solo` in full
@@ -15,6 +15,7 @@ AsksSolo _ = ⊥
 -- the status with which it ends
 abbrev pub status : ProgramFault → ℕ
 status Arguments = 2
+status Listen = 3
 status (Server server.Read) = 1
 status (Server server.Write) = 1
 status (Server server.Memory) = 4

@@ -1,4 +1,9 @@
-// The program on standard input and output: its command line, and how it ends. The session that it serves is that of `aud_solo`.
+// The program: its command line, and how it ends. On standard input and output it serves the session of `aud_solo`; else it listens,
+// and serves connections at a desk.
 #![tactic(auto)]
 
+pub mod host;
+mod listen;
+mod options;
 pub mod program;
+mod turnstile;

@@ -6,12 +6,17 @@ ghost use Rattle.aud_server.specs.declared.program.ProgramFault.TheVariants as f
 ghost use Rattle.aud_solo.specs.declared.solo.SoloFault.TheVariants as server;
 ghost use Rattle.aud_server.specs.Program.{AsksSolo, status, of_kind};
 
+use crate::listen::{ListenFault, listen};
+use crate::options::read_options;
 use aud_solo::solo::{SoloFault, solo};
 use aud_solo::streams::Stream;
 use clap::error::ErrorKind;
 use clap::{Arg, ArgAction, Command, Error as ClapError};
 use std::alloc::{AllocError, Global};
 use std::io;
+use std::net::{Net, TcpListener, TcpStream};
+use std::sync::Wait;
+use std::thread::Threads;
 use thiserror::Error;
 
 /// Why the program ends with another status than 0.
@@ -20,6 +25,9 @@ pub enum ProgramFault {
     /// The arguments are not those of the program.
     #[error("bad arguments")]
     Arguments,
+    /// The port cannot be listened on, or a connection not be accepted.
+    #[error("cannot listen")]
+    Listen,
     /// What ends the server, or memory is refused before it begins.
     #[error(transparent)]
     Server(SoloFault),
@@ -60,18 +68,27 @@ impl ProgramFault {
         match self {
             ProgramFault::Server(SoloFault::Read | SoloFault::Write) => 1,
             ProgramFault::Arguments => 2,
+            ProgramFault::Listen => 3,
             ProgramFault::Server(SoloFault::Memory) => 4,
         }
     }
 }
 
-/// Runs the program on the words of its command line, the first of which is its own name, and gives
-/// its status. `--solo` alone serves the standard input; any other list of words is refused.
-pub fn program<R: Input + Print + Eprint + AllocGlobal>(rt: &R, words: &[String]) -> u8
-    ensures solo { AsksSolo (map string_bytes words.now) → result ≢ 2 }
-    ensures other { (AsksSolo (map string_bytes words.now) → ⊥) → (result ≡ 2) ⊎ (result ≡ 4) }
-    ensures count { length words.now ≢ 2 → result ≡ 2 }
-    ensures known { (result ≡ 0) ⊎ (result ≡ 1) ⊎ (result ≡ 2) ⊎ (result ≡ 4) }
+/// Runs the program on the words of its command line, the first of which is its own name, and gives its status. `--solo` alone
+/// serves the standard input; other words ask it to listen, or are refused.
+pub fn program<R>(rt: &R, words: &[String]) -> u8
+where
+    R: Input
+        + Print
+        + Eprint
+        + AllocGlobal
+        + Net<Listener = TcpListener, Stream = TcpStream>
+        + Threads
+        + Wait
+        + Sync,
+    ensures solo { AsksSolo (map string_bytes words.now) → (result ≢ 2) × (result ≢ 3) }
+    ensures other { (AsksSolo (map string_bytes words.now) → ⊥) → result ≢ 1 }
+    ensures known { (result ≡ 0) ⊎ (result ≡ 1) ⊎ (result ≡ 2) ⊎ (result ≡ 3) ⊎ (result ≡ 4) }
 {
     match run(rt, words) {
         Ok(()) => 0,
@@ -88,20 +105,48 @@ pub fn refuse(rt: &impl Eprint, fault: ProgramFault) -> u8
     fault.status()
 }
 
-fn run<R: Input + Print + AllocGlobal>(rt: &R, words: &[String]) -> Result<(), ProgramFault>
-    ensures solo { AsksSolo (map string_bytes words.now) → IsErrOf result fault.Arguments → ⊥ }
+fn run<R>(rt: &R, words: &[String]) -> Result<(), ProgramFault>
+where
+    R: Input
+        + Print
+        + AllocGlobal
+        + Net<Listener = TcpListener, Stream = TcpStream>
+        + Threads
+        + Wait
+        + Sync,
+    ensures solo { AsksSolo (map string_bytes words.now) →
+        (IsErrOf result fault.Arguments → ⊥) × (IsErrOf result fault.Listen → ⊥) }
     ensures other { (AsksSolo (map string_bytes words.now) → ⊥) →
-        IsErrOf result fault.Arguments ⊎ IsErrOf result (fault.Server server.Memory) }
-    ensures count { length words.now ≢ 2 → IsErrOf result fault.Arguments }
+        (IsErrOf result (fault.Server server.Read) → ⊥)
+        × (IsErrOf result (fault.Server server.Write) → ⊥) }
+{
+    if asks_solo(rt.alloc(), words)? {
+        let mut reader = Stream::new(rt.reader());
+        let mut writer = Stream::new(io::writer(rt));
+        solo(rt.alloc(), &mut reader, &mut writer)?;
+        return Ok(());
+    }
+    let options = read_options(rt.alloc(), words)?;
+    match listen(rt, rt.alloc(), options) {
+        Ok(()) => Ok(()),
+        Err(ListenFault::Listen) => Err(ProgramFault::Listen),
+        Err(ListenFault::Memory) => Err(ProgramFault::Server(SoloFault::Memory)),
+    }
+}
+
+// Whether `--solo` is all that is asked.
+fn asks_solo(alloc: Global, words: &[String]) -> Result<bool, ProgramFault>
+    ensures asked { IfOk result (λ r. IsTrue r ↔ AsksSolo (map string_bytes words.now)) }
+    ensures memory { IfErr result (λ e. e ≡ fault.Server server.Memory) }
 {
     // The name of the program, and one argument.
-    if words.len() != 2 || !is_solo(rt.alloc(), words)? {
-        return Err(ProgramFault::Arguments);
+    if words.len() != 2 {
+        return Ok(false);
     }
-    let mut reader = Stream::new(rt.reader());
-    let mut writer = Stream::new(io::writer(rt));
-    solo(rt.alloc(), &mut reader, &mut writer)?;
-    Ok(())
+    match is_solo(alloc, words) {
+        Err(ProgramFault::Arguments) => Ok(false),
+        asked => asked,
+    }
 }
 
 // Whether the one argument is `--solo`.

@@ -205,8 +205,12 @@ fn answer<T: Sink>(
     }
 }
 
-// Writes all the bytes, by as many calls as that takes.
-fn write<T: Sink>(writer: &mut T, bytes: &[u8]) -> Result<(), SoloFault>
+/// Writes all the bytes, by as many calls as that takes.
+///
+/// # Errors
+///
+/// `Write` where one of them fails. A front of the bytes stands there then.
+pub fn write<T: Sink>(writer: &mut T, bytes: &[u8]) -> Result<(), SoloFault>
     ensures all { OnOk result (Appends (T.contents writer.old) (T.contents writer.new) bytes.now) }
     ensures read { IsErrOf result fault.Read → ⊥ }
     ensures memory { IsErrOf result fault.Memory → ⊥ }
@@ -224,8 +228,8 @@ fn write<T: Sink>(writer: &mut T, bytes: &[u8]) -> Result<(), SoloFault>
     Ok(())
 }
 
-// The text of the answer that memory is out, for which no memory is needed.
-fn out_of_memory() -> &'static [u8]
+/// The text of the answer that memory is out, for which no memory is needed.
+pub fn out_of_memory() -> &'static [u8]
     ensures { result.now ≡ answer_text (answer.Refused refusal.OutOfMemory) }
 {
     b"- E90 out of memory\n"

@@ -1,9 +1,11 @@
 -- The requests that a bench keeps, and what that makes of its answers.
-use Rattle.std.specs.Prelude.{◌≡◌, ℕ, ◌+◌, List, [], ◌∷◌, ◌++◌, Bool, true, false, ◌&&◌}
+use Rattle.std.specs.Prelude.{◌≡◌, ℕ, ◌+◌, ◌≤◌, length, List, [], ◌∷◌, ◌++◌, Bool, true, false, ◌&&◌}
+use Rattle.std.specs.List.{list_any}
 use Rattle.aud_text.specs.declared.limits.Limits.{Limits}
 use Rattle.aud_bench.specs.declared.request.Request.{Request}
 use Rattle.aud_bench.specs.declared.request.Answer.{Answer}
 use Rattle.aud_bench.specs.Alone.{is_quit, fits, cost, made, alone}
+use Rattle.aud_bench.specs.Seen.{tells_memory}
 use Rattle.aud_bench.specs.Size.{size}
 
 -- no request follows one that ends the session
@@ -27,3 +29,11 @@ FrontLaw = (limits : Limits) (journal : List Request) (units : ℕ) → is_kept 
 -- and all of it, where all units are done that they cost
 abbrev pub WholeLaw : Type 0
 WholeLaw = (limits : Limits) (journal : List Request) → is_kept journal ≡ true → alone limits journal ≡ made limits journal (cost limits journal)
+
+-- a private server never answers that memory is out
+abbrev pub NeverLaw : Type 0
+NeverLaw = (limits : Limits) (requests : List Request) → list_any tells_memory (alone limits requests) ≡ false
+
+-- and gives no more answers than there are requests
+abbrev pub CountLaw : Type 0
+CountLaw = (limits : Limits) (requests : List Request) → length (alone limits requests) ≤ length requests

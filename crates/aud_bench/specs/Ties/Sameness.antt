@@ -4,7 +4,7 @@ use Rattle.std.specs.Cmp.{IsEquivalence, both_ways}
 use Rattle.std.specs.Cmp.Lexicographic.{bytes_decides}
 use Rattle.std.proofs.Common.{◌≡◌, ℕ, true, refl, ap, ◌∙◌, arith}
 use Rattle.aud_bench.specs.declared.request.Request.{Request}
-use Rattle.aud_bench.specs.declared.request.Request.TheVariants.{Load, Run, Choose, Output, Quit, Bad}
+use Rattle.aud_bench.specs.declared.request.Request.TheVariants.{Load, Run, Choose, Output, Seat, Quit, Bad}
 use Rattle.aud_bench.specs.declared.request.BadRequest.{BadRequest}
 use Rattle.aud_bench.specs.declared.request.BadRequest.TheVariants.{UnknownCommand, BadArgument, LineTooLong, NotAscii}
 use Rattle.aud_bench.specs.Same.{same_reason, same_request}
@@ -34,6 +34,7 @@ same_is (Load source) (Load other) h = ap Load ((bytes_decides source other).0 h
 same_is (Run steps) (Run other) h = ap Run (eq_true steps other h)
 same_is (Choose choices) (Choose other) h = ap Choose ((bytes_decides choices other).0 h)
 same_is Output Output h = refl
+same_is (Seat number) (Seat other) h = ap Seat (eq_true number other h)
 same_is Quit Quit h = refl
 same_is (Bad why) (Bad other) h = ap Bad (reason_is why other h)
 same_is _ _ h = absurd (cc)
@@ -44,6 +45,7 @@ same_self (Load source) = (bytes_decides source source).1 refl
 same_self (Run steps) = eq_self steps
 same_self (Choose choices) = (bytes_decides choices choices).1 refl
 same_self Output = refl
+same_self (Seat number) = eq_self number
 same_self Quit = refl
 same_self (Bad why) = reason_self why
 

@@ -44,6 +44,7 @@ behind limits (request.Load source) done loaded = loaded
 behind limits (request.Run n) done loaded = behind_steps limits done loaded
 behind limits (request.Choose choices) done loaded = loaded
 behind limits request.Output done loaded = loaded
+behind limits (request.Seat number) done loaded = loaded
 behind limits request.Quit done loaded = loaded
 behind limits (request.Bad why) done loaded = loaded
 
@@ -58,6 +59,7 @@ EachStepped limits (request.Run n) done None = Unit {0}
 EachStepped limits (request.Load source) done loaded = Unit {0}
 EachStepped limits (request.Choose choices) done loaded = Unit {0}
 EachStepped limits request.Output done loaded = Unit {0}
+EachStepped limits (request.Seat number) done loaded = Unit {0}
 EachStepped limits request.Quit done loaded = Unit {0}
 EachStepped limits (request.Bad why) done loaded = Unit {0}
 

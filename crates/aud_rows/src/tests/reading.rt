@@ -1,50 +1,12 @@
 // The server where it reads and writes by turns.
 
+use crate::tests::counted::{Counted, Noted};
 use crate::tests::finds;
 use aud_solo::solo::solo;
 use aud_solo::streams::{Fused, Stream};
-use aud_text::digits::push_decimal;
 use std::alloc::{AllocError, Global};
 use std::cell::Cell;
-use std::io::{self, Read, Write};
-
-// Gives a byte at a time, and counts them.
-#[derive(Drop)]
-struct Counted<'a> {
-    rest: &'a [u8],
-    given: &'a Cell<u64>,
-}
-
-impl Read for Counted<'_> {
-    fn read(&mut self, buf: &mut [u8]) -> io::Result<usize> {
-        let count = 1.min(self.rest.len()).min(buf.len());
-        buf[..count].copy_from_slice(&self.rest[..count]);
-        self.rest = &self.rest[count..];
-        self.given
-            .set(self.given.get().saturating_add(count as u64));
-        Ok(count)
-    }
-}
-
-// Writes before each piece how many bytes were given then.
-#[derive(Drop)]
-struct Noted<'a> {
-    written: &'a mut Vec<u8>,
-    given: &'a Cell<u64>,
-}
-
-impl Write for Noted<'_> {
-    fn write(&mut self, buf: &[u8]) -> io::Result<usize> {
-        push_decimal(self.written, self.given.get())?;
-        self.written.extend_from_slice(b": ")?;
-        self.written.extend_from_slice(buf)?;
-        Ok(buf.len())
-    }
-
-    fn flush(&mut self) -> io::Result<()> {
-        Ok(())
-    }
-}
+use std::io::{Read, Write};
 
 // A LOAD of 41 bytes, RUNs of 7 and 6, a QUIT of 5, and a request that is not read.
 const SENT: &[u8] = b"LOAD 1\nprocedure M is begin null; end M;\nRUN 10\nRUN x\nQUIT\nOUTPUT\n";

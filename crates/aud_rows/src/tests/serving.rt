@@ -1,10 +1,9 @@
-// The server where a stream fails, and the program.
+// The server where a stream fails.
 
 use crate::tests::finds;
-use aud_server::program::program;
 use aud_solo::solo::{SoloFault, solo};
 use aud_solo::streams::Stream;
-use std::alloc::{AllocError, Global};
+use std::alloc::Global;
 use std::cell::Cell;
 use std::io::{self, ErrorKind, Read, Write};
 
@@ -149,33 +148,4 @@ fn tries_again_what_is_interrupted(rt: HostRuntime) {
     let ended = solo(rt.alloc(), &mut reader, &mut writer);
     assert_eq!(rt; ended, Ok(()));
     finds(&rt, "answers", &written, b"- E14 no program\n+ 0\n");
-}
-
-const OTHERS: [&[&str]; 9] = [
-    &[],
-    &["aud"],
-    &["aud", "--help"],
-    &["aud", "-h"],
-    &["aud", "--version"],
-    &["aud", "solo"],
-    &["aud", "--solo", "x"],
-    &["aud", "--solo", "--"],
-    &["aud", "--solo=1"],
-];
-
-fn strings(alloc: Global, list: &[&str]) -> Result<Vec<String>, AllocError> {
-    let mut words = Vec::new(alloc);
-    for word in list {
-        words.push(String::from_str(alloc, word)?)?;
-    }
-    Ok(words)
-}
-
-#[test]
-fn refuses_other_arguments(rt: HostRuntime) -> Result<(), AllocError> {
-    for list in OTHERS {
-        let words = strings(rt.alloc(), list)?;
-        assert_eq!(rt; program(&rt, &words), 2, "{list:?}");
-    }
-    Ok(())
 }

@@ -53,3 +53,8 @@ outbox_in (Some s) = s.outbox
 abbrev pub outbox_at : Option Place → List Answer
 outbox_at None = []
 outbox_at (Some place) = outbox_in place.seat
+
+-- the limits of a place of the hall
+abbrev pub limits_at : Option Place → Option Limits
+limits_at None = None
+limits_at (Some place) = Some place.limits

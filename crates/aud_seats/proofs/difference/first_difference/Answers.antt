@@ -1,6 +1,6 @@
 use Rattle.std.proofs.Common.{Some, sym, ap, ◌∙◌, arith, add-zero}
 use Rattle.aud_seats.proofs.Parting.{on_by, ends_there}
-use Rattle.aud_seats.proofs.seat.first_difference.Goals as goal
+use Rattle.aud_seats.proofs.difference.first_difference.Goals as goal
 
 pub returns-then-requests-place : goal.returns-then-requests-place
 returns-then-requests-place c =

@@ -1,0 +1,5 @@
+pub mod Following
+pub mod Fronts
+pub mod Texts
+pub mod Visits
+pub mod Turning

@@ -1,0 +1,63 @@
+use Rattle.std.specs.Prelude.{slice_get}
+use Rattle.std.proofs.Common.{rules, ◌≡◌, ◌-◌, inl, inr, ◌∷◌, ◌++◌, [], List, length, Some, refl, sym, ap, ◌∙◌, subst}
+use Rattle.std.specs.Option.{option_copied}
+use Rattle.aud_text.specs.declared.refusal.Refusal.TheVariants as refusal
+use Rattle.aud_bench.specs.declared.request.Answer.{Answer}
+use Rattle.aud_bench.specs.declared.request.Answer.TheVariants.{Refused}
+use Rattle.aud_bench.specs.Alone.{alone}
+use Rattle.aud_desk.specs.Passed.{Passed}
+use Rattle.aud_desk.specs.Replies.{Fits, Overflows, FitsBy}
+use Rattle.aud_connection.specs.Told.{Answered, Faulted}
+use Rattle.aud_connection.proofs.Following.{ends_so}
+use Rattle.aud_connection.proofs.Fronts.{fits_lost, ends_lost}
+use Rattle.aud_connection.proofs.visit.converse.Goals as goal
+
+pub returns-in-Err-Full-clause-told : goal.returns-in-Err-Full-clause-told
+returns-in-Err-Full-clause-told g c =
+    let p : Passed = c.args.pass.now in
+    let told = c.in-Err-Full in
+    let same : c.submit.new.pass ≡ p = told.ensures.err in
+    let full : Overflows p c.in_ok-request.request = subst (λ f. FitsBy (Some f) p c.in_ok-request.request) told.field-0-is told.ensures.fits in (
+      Answered (Refused refusal.JournalFull),
+      c.in_ok-answer_text-in-Err-Full.ensures,
+      (
+        ap (λ (x : Passed). x.limits) same,
+        inr (record {
+          full = subst (λ r. Overflows p r) c.in_ok-request.ensures full;
+          sent = ap (λ (x : Passed). x.sent) same;
+          answer = refl;
+        }),
+      ),
+    )
+
+pub returns-in-Err : goal.returns-in-Err
+returns-in-Err g c = record { told = (Faulted c.in-Err.refused, c.in_ok-fault_text-in-Err.ensures, (fits_lost c.in-Err.refused c.args.pass.now c.in_ok-request.request c.in-Err.ensures.fits (search rules) (search rules), ap (λ (x : Passed). x.limits) c.in-Err.ensures.err)); memory = tt }
+
+pub returns-in-Err-finish : goal.returns-in-Err-finish
+returns-in-Err-finish g c = record { told = (Faulted c.in-Err-finish.refused, c.in_ok-fault_text-in-Err-finish.ensures, (ends_lost c.in-Err-finish.refused c.in-Err-finish.ensures.0 (search rules), c.in-Err-finish.ensures.1 ∙ ap (λ (x : Passed). x.limits) c.in-Ok.ensures.ok)); memory = tt }
+
+pub returns-clause-told : goal.returns-clause-told
+returns-clause-told g c =
+    let p : Passed = c.args.pass.now in
+    let q : Passed = c.finish.new.pass in
+    let r = c.in_ok-request.request in
+    let a = c.in-Some.answer.now in
+    let (limits, sent, whole) = c.in-Ok-finish.ensures in
+    let stored = c.in-Ok.ensures.ok in
+    let fits : Fits p r = c.in-Ok.ensures.fits in
+    let got : c.got.result.now ≡ alone q.limits q.sent = c.got.ensures.got ∙ whole.all in
+    let last : slice_get (alone q.limits q.sent) (length (alone q.limits q.sent) - 1) ≡ Some a =
+    ap (λ (xs : List Answer). slice_get xs (length xs - 1)) (sym got) ∙ sym c.last.ensures.value ∙ ap option_copied c.in-Some.is in
+    let end = ends_so (alone q.limits q.sent) a last in (
+      Answered a,
+      c.in_ok-answer_text-in-Some.ensures,
+      (
+        limits ∙ ap (λ (x : Passed). x.limits) stored,
+        inl (record {
+          fits = subst (λ x. Fits p x) c.in_ok-request.ensures fits;
+          sent = sent ∙ ap (λ (x : Passed). x.sent) stored ∙ ap (λ x. p.sent ++ x ∷ []) c.in_ok-request.ensures;
+          front = end.0;
+          last = end.1;
+        }),
+      ),
+    )

@@ -1,0 +1,3 @@
+pub mod Told
+pub mod Served
+pub mod Ties

@@ -1,0 +1,6 @@
+// The session of one connection at a desk: SEAT takes a seat, and what is asked then is answered request by request.
+#![tactic(auto)]
+
+pub mod serve;
+mod told;
+mod visit;

@@ -1,0 +1,134 @@
+// What is told for each request of a connection.
+
+ghost use Rattle.std.specs.Prelude.{◌≡◌, ◌++◌, [], ◌∷◌, false, true, Some, None, length, IfOk, OnOk, IfErr};
+ghost use Rattle.aud_bench.specs.Alone.{is_quit};
+ghost use Rattle.aud_solo.specs.declared.solo.SoloFault.TheVariants as fault;
+ghost use Rattle.aud_connection.specs.Told.{Told, told_text};
+ghost use Rattle.aud_connection.specs.Ties.Visits.{Finishes, Converses, Admits, Replies};
+ghost use Rattle.aud_desk.specs.Replies.{IsWhole};
+
+use crate::told::fault_text;
+use aud_bench::journal::is_quit;
+use aud_bench::request::{Answer, Request};
+use aud_desk::desk::Desk;
+use aud_desk::fault::DeskFault;
+use aud_desk::pass::Pass;
+use aud_lines::answers::answer_text;
+use aud_solo::solo::SoloFault;
+use aud_text::refusal::Refusal;
+use std::alloc::Global;
+use std::sync::Wait;
+
+/// How far a connection is: its pass, once it has a seat, and whether its QUIT was told of.
+#[derive(Drop)]
+pub struct Visit {
+    pub pass: Option<Pass>,
+    pub over: bool,
+}
+
+impl Visit {
+    /// A connection without a seat.
+    pub fn new() -> Visit
+        ensures { (result.pass ≡ None) × (result.over ≡ false) }
+    {
+        Visit {
+            pass: None,
+            over: false,
+        }
+    }
+
+    /// The text of what is told for a request: without a seat, that of a SEAT that takes one, or of a refusal; then the answer,
+    /// or why the desk refuses it.
+    ///
+    /// # Errors
+    ///
+    /// Where memory is refused.
+    pub fn reply<R: Wait>(
+        &mut self,
+        rt: &R,
+        alloc: Global,
+        desk: &Desk,
+        request: &Request,
+    ) -> Result<Vec<u8>, SoloFault>
+        ensures told { IfOk result (λ text. Replies request.now self.old text.items self.new) }
+        ensures memory { IfErr result (λ e. e ≡ fault.Memory) }
+    {
+        match &mut self.pass {
+            Some(pass) => {
+                self.over = is_quit(request);
+                converse(rt, alloc, desk, pass, request)
+            }
+            None => admit(rt, alloc, desk, &mut self.pass, request),
+        }
+    }
+}
+
+// Takes a seat, or says why not.
+fn admit<R: Wait>(
+    rt: &R,
+    alloc: Global,
+    desk: &Desk,
+    pass: &mut Option<Pass>,
+    request: &Request,
+) -> Result<Vec<u8>, SoloFault>
+    requires { pass.old ≡ None }
+    ensures told { IfOk result (λ text. Admits request.now text.items pass.new) }
+    ensures memory { IfErr result (λ e. e ≡ fault.Memory) }
+{
+    let Request::Seat(number) = request else {
+        return Ok(fault_text(alloc, DeskFault::NotClaimed)?);
+    };
+    match desk.open(rt, alloc, *number as usize) {
+        Ok(opened) => {
+            *pass = Some(opened);
+            Ok(answer_text(alloc, &Answer::Done)?)
+        }
+        Err(DeskFault::Memory) => Err(SoloFault::Memory),
+        Err(refused) => Ok(fault_text(alloc, refused)?),
+    }
+}
+
+// Sends a request, and gives the text of its answer.
+fn converse<R: Wait>(
+    rt: &R,
+    alloc: Global,
+    desk: &Desk,
+    pass: &mut Pass,
+    request: &Request,
+) -> Result<Vec<u8>, SoloFault>
+    ensures told { IfOk result (λ text. (told : Told) × (text.items ≡ told_text told)
+        × Converses request.now pass.old told pass.new) }
+    ensures memory { IfErr result (λ e. e ≡ fault.Memory) }
+{
+    let request = request.try_clone(alloc)?;
+    match desk.submit(rt, alloc, pass, request) {
+        Ok(()) => {}
+        Err(DeskFault::Memory) => return Err(SoloFault::Memory),
+        Err(DeskFault::Full) => {
+            return Ok(answer_text(alloc, &Answer::Refused(Refusal::JournalFull))?);
+        }
+        Err(refused) => return Ok(fault_text(alloc, refused)?),
+    }
+    match finish(rt, alloc, desk, pass) {
+        Ok(()) => {}
+        Err(DeskFault::Memory) => return Err(SoloFault::Memory),
+        Err(refused) => return Ok(fault_text(alloc, refused)?),
+    }
+    match pass.got().last() {
+        Some(answer) => Ok(answer_text(alloc, answer)?),
+        None => unreachable!(),
+    }
+}
+
+// Waits until all that was sent is answered.
+fn finish<R: Wait>(rt: &R, alloc: Global, desk: &Desk, pass: &mut Pass) -> Result<(), DeskFault>
+    ensures { Finishes result pass.old pass.new }
+{
+    for _ in rt.forever() {
+        let _ = desk.wait(rt, alloc, pass)?;
+        if pass.has_all() && !pass.is_over() {
+            return Ok(());
+        }
+    }
+    unreachable!()
+}

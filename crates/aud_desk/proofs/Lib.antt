@@ -1,0 +1,6 @@
+pub mod Overs
+pub mod Places
+pub mod Passes
+pub mod Fitting
+pub mod Looks
+pub mod Shared

@@ -1,0 +1,4 @@
+pub mod Passed
+pub mod Replies
+pub mod Faults
+pub mod Sections

@@ -1,0 +1,204 @@
+// The desk: what many threads share.
+
+ghost use Rattle.std.specs.Prelude.{◌≡◌, ◌++◌, [], ◌∷◌, IfOk, IfErr, OnOk, OnErr};
+ghost use Rattle.aud_desk.specs.Passed.{Passed, IsGot, IsOpened};
+ghost use Rattle.aud_desk.specs.Replies.{Collects, IsNotBusy, IsLost, OpensNot, Tells};
+
+use crate::fault::DeskFault;
+use crate::gate::{Direct, Gate, work_off};
+use crate::got::Got;
+use crate::pass::Pass;
+use crate::sections::{close_in, collect_in, open_in, return_in, submit_in};
+use aud_bench::request::Request;
+use aud_seats::hall::Hall;
+use aud_seats::parcel::Parcel;
+use crossbeam_channel::{Receiver, Sender};
+use std::alloc::{AllocError, Global};
+use std::array;
+use std::sync::{Condvar, Mutex, Wait};
+
+// A change at one seat wakes nobody who waits at another, in a hall of at most so many seats.
+const BELLS: usize = 64;
+
+/// A hall that many threads share, and the parcels that wait for a worker.
+///
+/// A user opens a seat and has a pass then, by which requests are sent and answers are got. Workers work on parcels without the
+/// lock. What of it all a user is told is right whatever the others do; nothing is promised of when, or whether, it is told.
+#[derive(Drop)]
+pub struct Desk {
+    hall: Mutex<Hall>,
+    // None once the desk has stopped. Never locked together with the hall.
+    orders: Mutex<Option<Sender<Parcel>>>,
+    parcels: Receiver<Parcel>,
+    // Each is told whenever answers may have come to its seats, or a session there have ended.
+    changed: [Condvar; BELLS],
+}
+
+impl Desk {
+    /// A desk of this hall, without workers.
+    ///
+    /// # Errors
+    ///
+    /// Where memory is refused.
+    pub fn new(alloc: Global, hall: Hall) -> Result<Desk, AllocError> {
+        let (orders, parcels) = crossbeam_channel::unbounded(alloc)?;
+        Ok(Desk {
+            hall: Mutex::new(hall),
+            orders: Mutex::new(Some(orders)),
+            parcels,
+            changed: array::from_fn(|_| Condvar::new()),
+        })
+    }
+
+    /// Begins a session at a seat, and gives a pass of it.
+    ///
+    /// # Errors
+    ///
+    /// The first that holds of: the desk has no such seat; a session is under way there; memory is refused.
+    pub fn open<R: Wait>(&self, rt: &R, alloc: Global, seat: usize) -> Result<Pass, DeskFault>
+        ensures opened { IfOk result (λ p. IsOpened seat p) }
+        ensures refused { IfErr result OpensNot }
+    {
+        let opened = open_in(alloc, &mut self.hall.lock(rt), seat);
+        self.changed_at(seat).notify_all();
+        opened
+    }
+
+    /// Ends the session of a pass. No memory is taken.
+    ///
+    /// # Errors
+    ///
+    /// The first that holds of: the desk has no such seat; it is not claimed; what the pass has sent is not what is stored there.
+    /// The pass comes back, and nothing is freed.
+    pub fn close<R: Wait>(&self, rt: &R, pass: Pass) -> Result<(), (Pass, DeskFault)>
+        ensures { IfErr result (λ refused. (refused.0 ≡ pass) × IsLost refused.1) }
+    {
+        let closed = close_in(&mut self.hall.lock(rt), &pass);
+        self.changed_at(pass.seat()).notify_all();
+        match closed {
+            Ok(()) => Ok(()),
+            Err(fault) => Err((pass, fault)),
+        }
+    }
+
+    /// Sends a request. Where no worker can be told, the work is done before this returns.
+    ///
+    /// # Errors
+    ///
+    /// The first that holds of: the desk has no such seat; it is not claimed, or a QUIT was sent; what the pass has sent is not
+    /// what is stored there; the request does not fit behind the others; memory is refused, or was to the bench of the seat. The
+    /// pass and the seat are as they were.
+    pub fn submit<R: Wait>(
+        &self,
+        rt: &R,
+        alloc: Global,
+        pass: &mut Pass,
+        request: Request,
+    ) -> Result<(), DeskFault>
+        ensures ok { OnOk result
+            (pass.new ≡ record pass.old { sent = pass.old.sent ++ request ∷ [] }) }
+        ensures err { OnErr result (pass.new ≡ pass.old) }
+        ensures fits { Tells result pass.old request }
+    {
+        let parcel = submit_in(alloc, &mut self.hall.lock(rt), pass, request)?;
+        self.changed_at(pass.seat()).notify_all();
+        self.hand_over(rt, alloc, &Direct, parcel);
+        Ok(())
+    }
+
+    /// Takes the answers that are there and were not got before.
+    ///
+    /// # Errors
+    ///
+    /// The first that holds of: the desk has no such seat; it is not claimed; what the pass has sent is not what is stored there;
+    /// that memory is out was got as the last answer; memory is refused. The pass is as it was.
+    pub fn collect<R: Wait>(&self, rt: &R, alloc: Global, pass: &mut Pass) -> Result<Got, DeskFault>
+        ensures got { Collects pass.old result pass.new }
+        ensures right { IsGot pass.new.limits pass.new.sent pass.new.got }
+    {
+        let found = collect_in(alloc, &self.hall.lock(rt), pass);
+        let _ = pass.got();
+        found
+    }
+
+    /// Takes answers once some are there, or there are none to come.
+    ///
+    /// # Errors
+    ///
+    /// As `collect`.
+    pub fn wait<R: Wait>(&self, rt: &R, alloc: Global, pass: &mut Pass) -> Result<Got, DeskFault>
+        ensures got { Collects pass.old result pass.new }
+        ensures right { IsGot pass.new.limits pass.new.sent pass.new.got }
+        ensures waited { IfOk result IsNotBusy }
+    {
+        let mut hall = self.hall.lock(rt);
+        for _ in rt.forever() {
+            let found = collect_in(alloc, &hall, pass);
+            let _ = pass.got();
+            match found? {
+                Got::Busy => hall = self.changed_at(pass.seat()).wait(rt, hall),
+                found => return Ok(found),
+            }
+        }
+        unreachable!()
+    }
+
+    /// Works on parcels through a gate, until the desk has stopped and none is left.
+    pub fn work<R: Wait, G: Gate>(&self, rt: &R, alloc: Global, gate: &G) {
+        for _ in rt.forever() {
+            let Ok(mut parcel) = self.parcels.recv(rt) else {
+                return;
+            };
+            work_off(alloc, gate, &mut parcel);
+            let next = self.take_back(rt, alloc, parcel);
+            self.hand_over(rt, alloc, gate, next);
+        }
+        unreachable!()
+    }
+
+    /// From now on no worker is told of parcels: whoever sends one out works it off. No memory is taken.
+    pub fn stop<R: Wait>(&self, rt: &R) {
+        let _ = self.orders.lock(rt).take();
+    }
+
+    // Tells a worker of a parcel. Where that is refused, works it off here, and so those that follow it.
+    fn hand_over<R: Wait, G: Gate>(&self, rt: &R, alloc: Global, gate: &G, parcel: Option<Parcel>) {
+        let mut next = parcel;
+        for _ in rt.forever() {
+            let Some(parcel) = next else {
+                return;
+            };
+            let Err(mut refused) = self.send(rt, parcel) else {
+                return;
+            };
+            work_off(alloc, gate, &mut refused);
+            next = self.take_back(rt, alloc, refused);
+        }
+        unreachable!()
+    }
+
+    // Takes a parcel in at its seat, and gives the one that goes out from there next.
+    fn take_back<R: Wait>(&self, rt: &R, alloc: Global, parcel: Parcel) -> Option<Parcel> {
+        let seat = parcel.seat();
+        let next = return_in(alloc, &mut self.hall.lock(rt), parcel);
+        self.changed_at(seat).notify_all();
+        next
+    }
+
+    fn changed_at(&self, seat: usize) -> &Condvar {
+        &self.changed[seat % BELLS]
+    }
+
+    // Sends a parcel to the workers, or hands it back.
+    fn send<R: Wait>(&self, rt: &R, parcel: Parcel) -> Result<(), Parcel>
+        ensures { IfErr result (λ p. p ≡ parcel) }
+    {
+        match &*self.orders.lock(rt) {
+            Some(orders) => match orders.send(rt, parcel) {
+                Ok(()) => Ok(()),
+                Err(refused) => Err(refused.into_inner()),
+            },
+            None => Err(parcel),
+        }
+    }
+}
