@@ -2,7 +2,7 @@
 
 The theorem is the contract of `solo`; its words are `text`, `alone` and `requests`. The headline is a law of `aud_hall`. From there the imports are followed
 through the folders specs/. What is not reached ties contracts to these words, or says why they are right: it stands in Ties/ or
-Why/, or in a crate that has nothing else, and this script stops where a file stands in the wrong folder.
+Why/, or in what TYING and TYING_MODULES name, and this script stops where a file stands in the wrong folder.
 usage: believe.py [--ties]
 """
 import os
@@ -11,8 +11,9 @@ import sys
 
 TOP = os.path.join(os.path.dirname(os.path.abspath(__file__)), "..", "crates")
 ROOTS = ("aud_solo.specs.Solo", "aud_lines.specs.Requests", "aud_lines.specs.Text", "aud_server.specs.Program", "aud_bench.specs.Alone", "aud_hall.specs.Headline")
-# crates whose words only tie contracts together
-TYING = ("aud_code", "aud_among", "aud_layout", "aud_gen", "aud_exc", "aud_expr", "aud_masters", "aud_single", "aud_tasks", "aud_machine", "aud_worked")
+# crates whose words only tie contracts together, or say what a desk and a connection promise
+TYING = ("aud_code", "aud_state", "aud_layout", "aud_gen", "aud_exc", "aud_expr", "aud_masters", "aud_single", "aud_tasks", "aud_machine", "aud_worked", "aud_desk", "aud_connection")
+TYING_MODULES = ("aud_seats.specs.Told",)
 USE = re.compile(r"^use Rattle\.(aud_\w+)\.specs\.([\w.]+?)(?:\.\{.*\}| as \w+)$", re.MULTILINE)
 
 
@@ -72,7 +73,7 @@ def every():
 
 def ties(module):
     crate, _, rest = module.partition(".specs.")
-    return crate in TYING or rest.startswith(("Ties.", "Why."))
+    return crate in TYING or module in TYING_MODULES or rest.startswith(("Ties.", "Why."))
 
 
 def main():

@@ -6,3 +6,4 @@ pub mod Passing
 pub mod Verifying
 pub mod Plainly
 pub mod Standing
+pub mod Starts

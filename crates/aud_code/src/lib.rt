@@ -1,6 +1,7 @@
 // Bytecode. Each step of a task is some instructions that evaluate and one that ends the step.
 #![tactic(auto)]
 
+pub mod control;
 mod counts;
 mod frames;
 pub mod fused;

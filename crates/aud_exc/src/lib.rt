@@ -2,4 +2,3 @@
 #![tactic(auto)]
 
 pub mod propagation;
-pub mod raised;

@@ -2,11 +2,11 @@
 
 ghost use Rattle.std.specs.Prelude.{◌≡◌, List, ℕ, map, IfSome, ◌||◌};
 ghost use Rattle.aud_meaning.specs.Items.{names_it};
+ghost use Rattle.aud_code.specs.Control.{come_out};
 ghost use Rattle.aud_code.specs.Places.{guarded};
 ghost use Rattle.aud_code.specs.Flat.{end_at, end_by, handler_at, left_by};
 ghost use Rattle.aud_code.specs.Sound.{IsStart};
 ghost use Rattle.aud_code.specs.View.{plain_guard};
-ghost use Rattle.aud_exc.specs.Unwound.{unwound};
 
 use aud_code::line::{Guard, Last};
 use aud_code::sound_code::SoundCode;
@@ -28,7 +28,7 @@ pub fn find_handler(code: &SoundCode, place: usize, exception: Exception) -> Opt
 /// Where a task stands once a pending exception has left the innermost construct around its place; none where that was a body,
 /// from which it goes back.
 pub fn unwind(code: &SoundCode, place: usize) -> Option<usize>
-    ensures value { (returns : List ℕ) → unwound code.now result returns
+    ensures value { (returns : List ℕ) → come_out code.now result returns
         ≡ left_by code.now (end_at code.now place).out
         (record { place = place; returns = returns }) }
     ensures begins { IsStart code.now.lines place →

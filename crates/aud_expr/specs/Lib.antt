@@ -1,6 +1,6 @@
 pub mod Operands
-pub mod Facts
 pub mod Flow
 pub mod Ticks
+pub mod Size
 pub mod Found
 pub mod Fused

@@ -1,14 +1,15 @@
 // One instruction after the other, up to the ending of the step.
 
-ghost use Rattle.std.specs.Prelude.{◌≡◌, ◌+◌, ◌<◌, ◌≤◌, length, IfOk};
+ghost use Rattle.std.specs.Prelude.{◌≡◌, ◌+◌, ◌<◌, ◌≤◌, IfOk};
 ghost use Rattle.aud_code.specs.Sound.{counts_of, IsStart};
 ghost use Rattle.aud_code.specs.View.{plain_instruction};
 ghost use Rattle.aud_expr.specs.Flow.{InSight, FindsOperands, Acts, ended, evaluated_at, ReachesEnd, FitsEnd};
+ghost use Rattle.aud_expr.specs.Size.{size};
 ghost use Rattle.aud_expr.specs.Ticks.{ticks_at};
 
 use crate::arguments::{load_found, pass, pass_copy};
 use crate::elements::{find_element, load_element};
-use crate::facts::{Known, is_callable, is_terminated};
+use crate::facts::{Facts, is_callable, is_terminated};
 use crate::flow::Flow;
 use crate::integers::{check, on_one, on_two};
 use crate::operands::Operands;
@@ -36,10 +37,10 @@ pub enum Outcome {
     Fails(Raise),
 }
 
-/// One instruction, which is one tick, where this is known of the tasks.
-pub fn eval_step(
+/// One instruction, which is one tick.
+pub fn eval_step<F: Facts>(
     instruction: &Instruction,
-    known: &[Known],
+    facts: &F,
     display: &[usize],
     frames: &Frames,
     operands: &mut Operands,
@@ -48,7 +49,7 @@ pub fn eval_step(
     requires finds { FindsOperands (plain_instruction instruction.now) (counts_of operands.old) }
     requires room { ticks.old < u64.MAX }
     ensures acts { IfOk result (λ flow.
-        Acts known.now display.now frames.now (plain_instruction instruction.now) flow
+        Acts (F.facts facts.now) display.now frames.now (plain_instruction instruction.now) flow
         operands.old operands.new) }
     ensures tick { ticks.new ≡ ticks.old + 1 }
 {
@@ -67,8 +68,8 @@ pub fn eval_step(
         Instruction::Relate(relation) => relate(*relation, operands)?,
         Instruction::Compare(relation) => compare(*relation, operands)?,
         Instruction::Combine(operator) => combine(*operator, operands)?,
-        Instruction::IsCallable => is_callable(known, operands)?,
-        Instruction::IsTerminated => is_terminated(known, operands)?,
+        Instruction::IsCallable => is_callable(facts, operands)?,
+        Instruction::IsTerminated => is_terminated(facts, operands)?,
         Instruction::PassIfFalse(count) => return pass_if(false, *count, operands),
         Instruction::PassIfTrue(count) => return pass_if(true, *count, operands),
         Instruction::Find(variable, subtype) => {
@@ -88,25 +89,24 @@ pub fn eval_step(
     Ok(Flow::Passes(0))
 }
 
-/// From the first place of a step to its ending, or to an exception, where this is known of the tasks, by their numbers. Code may
-/// end without an ending; then its end is reached.
-pub fn evaluate(
+/// From the first place of a step to its ending, or to an exception. Code may end without an ending; then its end is reached.
+pub fn evaluate<F: Facts>(
     code: &SoundCode,
     first: usize,
-    known: &[Known],
+    facts: &F,
     display: &[usize],
     frames: &Frames,
     operands: &mut Operands,
 ) -> Result<Evaluation, AllocError>
     requires begins { IsStart code.now.lines first }
-    ensures ends { IfOk result (λ evaluation. InSight known.now display.now frames.now (λ s.
+    ensures ends { IfOk result (λ evaluation. InSight (F.facts facts.now) display.now frames.now (λ s.
         ended evaluation.outcome operands.new ≡ evaluated_at code.now first s)) }
     ensures reaches { IfOk result (λ evaluation. ReachesEnd evaluation.outcome code.now first) }
     ensures fits { IfOk result (λ evaluation.
         FitsEnd evaluation.outcome code.now first operands.new) }
-    ensures ticks { IfOk result (λ evaluation. InSight known.now display.now frames.now (λ s.
+    ensures ticks { IfOk result (λ evaluation. InSight (F.facts facts.now) display.now frames.now (λ s.
         evaluation.ticks ≡ ticks_at code.now first s)) }
-    ensures few { IfOk result (λ evaluation. evaluation.ticks ≤ length code.now.lines) }
+    ensures few { IfOk result (λ evaluation. evaluation.ticks ≤ size code.now) }
 {
     operands.clear();
     let mut ticks = 0;
@@ -123,7 +123,7 @@ pub fn evaluate(
             passed -= 1;
             continue;
         }
-        match eval_step(instruction, known, display, frames, operands, &mut ticks)? {
+        match eval_step(instruction, facts, display, frames, operands, &mut ticks)? {
             Flow::Passes(count) => passed = count,
             Flow::Raises(raise) => {
                 let outcome = Outcome::Fails(raise);

@@ -5,7 +5,8 @@ use Rattle.aud_typed.specs.Tree.{Program}
 use Rattle.aud_meaning.specs.Configuration.{Item, All, Configuration}
 use Rattle.aud_meaning.specs.Control.{Moved, Controls, ordered}
 use Rattle.aud_meaning.specs.Statements.{controls}
-use Rattle.aud_meaning.specs.Run.{Move, seen, moves_at, state_at, step_with, run_with, run, step, supplied, advanced, opening, opening_with, main_raised}
+use Rattle.aud_meaning.specs.declared.state.Move.{Move}
+use Rattle.aud_meaning.specs.Run.{seen, moves_at, state_at, step_with, run_with, run, step, supplied, advanced, opening, opening_with, main_raised}
 use Rattle.aud_meaning.specs.Why.Agree.{Agrees, ShowsAll}
 use Rattle.aud_code.specs.Places.{Spot}
 use Rattle.aud_code.specs.Flat.{flat_controls}

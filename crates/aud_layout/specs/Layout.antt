@@ -9,7 +9,7 @@ use Rattle.aud_meaning.specs.declared.state.Construct.TheVariants as construct
 use Rattle.aud_meaning.specs.Evaluation.{decided}
 use Rattle.aud_meaning.specs.Items.{no_body, statement_at}
 use Rattle.aud_meaning.specs.Statements.{asked_statement, coming_statement, coming_raised, handled_or_left}
-use Rattle.aud_meaning.specs.Configuration.{Pending}
+use Rattle.aud_meaning.specs.declared.state.Pending.{Pending}
 use Rattle.aud_meaning.specs.Evaluation.{Sight}
 use Rattle.aud_meaning.specs.Control.{Coming, simply, ending, Asked, goes_on, next_of_loop, Scene, Controls}
 use Rattle.aud_meaning.specs.Control as asked

@@ -14,7 +14,7 @@ use Rattle.aud_typed.proofs.program.BooleanExpression.TheLaws.TheKnot.{crosses a
 use Rattle.aud_typed.proofs.program.TextExpression.TheLaws.TheKnot.{crosses as texts}
 use Rattle.aud_typed.proofs.program.Statement.TheLaws.TheKnot.{crosses as statements}
 use Rattle.aud_code.proofs.sound_code.SoundCode.TheSendSync.{the_send as code_send}
-use Rattle.aud_tasks.proofs.execution.Execution.TheSendSync.{the_send as execution_send}
+use Rattle.aud_state.proofs.state.State.TheSendSync.{the_send as state_send}
 
 integer_send : IsSend integer.the_row
 integer_send = search (crosses, integers, sendable) depth 60 fits 20000
@@ -47,7 +47,7 @@ program_field : IsSend (program.the_field).row
 program_field = search (crosses, body_send, body_field, program_send, sendable) depth 60 fits 20000
 
 parts : IsSend inside.the_row
-parts = search (crosses, program_send, program_field, code_send, execution_send, sendable) depth 60 fits 20000
+parts = search (crosses, program_send, program_field, code_send, state_send, sendable) depth 60 fits 20000
 
 pub machine_send : IsSend machine.the_row
 machine_send = view_send inside.the_row _ _ _ _ parts

@@ -3,7 +3,8 @@ use Rattle.std.specs.Prelude.{◌≡◌, ℕ, ◌+◌, Option, Some, None, Resul
 use Rattle.aud_text.specs.declared.limits.Limits.{Limits}
 use Rattle.aud_typed.specs.Tree.{Program}
 use Rattle.aud_meaning.specs.Configuration.{Configuration}
-use Rattle.aud_meaning.specs.Run.{Move, step, run, state_in}
+use Rattle.aud_meaning.specs.declared.state.Move.{Move}
+use Rattle.aud_meaning.specs.Run.{step, run, state_in}
 use Rattle.aud_layout.specs.Law as code
 use Rattle.aud_tasks.specs.declared.run.Ran.{Ran}
 use Rattle.aud_machine.specs.Shown.{Shown, program_in}

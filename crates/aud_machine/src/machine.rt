@@ -1,21 +1,28 @@
 // A machine and its runs.
 
-ghost use Rattle.std.specs.Prelude.{◌≡◌, ◌+◌, ◌*◌, ◌<◌, ◌≤◌, length, map, min, true, slice_get, IfOk, IfSome, IsErr, OnOk};
+ghost use Rattle.std.specs.Prelude.{◌≡◌, ◌+◌, ◌*◌, ◌<◌, ◌≤◌, false, length, true, slice_get, IfOk, IfSome, IsErr, OnOk};
 ghost use Rattle.aud_typed.specs.Ties.View.{plain_program};
-ghost use Rattle.aud_meaning.specs.Parts.{own_of};
-ghost use Rattle.aud_meaning.specs.Run.{own_move, moves_in, state_in, main_raised, supplied, advanced, opening};
+ghost use Rattle.aud_meaning.specs.Parts.{owns};
+ghost use Rattle.aud_meaning.specs.Run.{moves_in, state_in, main_raised, supplied, advanced, opening, opening_with};
 ghost use Rattle.aud_meaning.specs.Listings.{coming_step_in};
-ghost use Rattle.aud_single.specs.Shown.{pending_in, plain_stage, raised_in};
-ghost use Rattle.aud_machine.specs.Shown.{program_in, ticks_of_step, ticks_of_run};
+ghost use Rattle.aud_meaning.specs.Why.Limits.{IsWithin};
+ghost use Rattle.aud_code.specs.Flat.{flat_controls};
+ghost use Rattle.aud_code.specs.Places.{Spot};
+ghost use Rattle.aud_code.specs.Starts.{AreSpots};
+ghost use Rattle.aud_expr.specs.Size.{size};
+ghost use Rattle.aud_machine.specs.Shown.{program_in};
 ghost use Rattle.aud_machine.specs.Shows.{Shows, IfShows, Leaves, RunsFrom, Takes};
 
-use crate::parts::Parts;
 use aud_code::sound_code::SoundCode;
 use aud_expr::operands::Operands;
 use aud_gen::generate;
-use aud_meaning::state::{NextStep, State};
-use aud_tasks::execution::{Compiled, Execution};
+use aud_meaning::state::{Move, NextStep, State as Standing};
+use aud_state::state::State;
+use aud_tasks::coming::coming;
+use aud_tasks::compiled::Compiled;
+use aud_tasks::moves::{moves, state_of};
 pub use aud_tasks::run::Ran;
+use aud_tasks::run::{run, take};
 use aud_text::limits::{CHOICES, CLOCK, Limits, OUTPUT, STEPS};
 use aud_typed::program::{Exception, Program};
 use std::alloc::{AllocError, Global};
@@ -26,7 +33,7 @@ pub struct Machine {
     program: Program,
     code: SoundCode,
     limits: Limits,
-    execution: Execution,
+    state: State,
     spent: bool,
 }
 
@@ -37,17 +44,19 @@ impl Drop for Machine {
             program: _,
             code: _,
             limits: _,
-            execution: _,
+            state: _,
             spent: _,
         } = self;
     }
 }
 
 impl Model for Machine {
-    ghost use Rattle.std.specs.Prelude.{◌≡◌, false};
+    ghost use Rattle.std.specs.Prelude.{◌≡◌, ◌≤◌, false};
     ghost use Rattle.aud_typed.specs.Ties.View.{plain_program};
     ghost use Rattle.aud_layout.specs.Assembly.{flat_program};
-    ghost use Rattle.aud_tasks.specs.Kept.{all_of, Fits};
+    ghost use Rattle.aud_meaning.specs.Why.Limits.{IsWithin};
+    ghost use Rattle.aud_code.specs.Places.{Spot};
+    ghost use Rattle.aud_code.specs.Starts.{AreSpots};
     ghost use Rattle.aud_machine.specs.Shown.{Shown};
     ghost use Rattle.std.specs.Coded.{codes};
     ghost use Rattle.aud_typed.specs.contracts.program.Body as body;
@@ -60,12 +69,13 @@ impl Model for Machine {
       program = m.program;
       code = m.code;
       limits = m.limits;
-      all = all_of m.execution;
+      all = m.state;
       spent = m.spent;
     } };
 
     ghost invariant = { λ m. (m.code ≡ flat_program (plain_program m.program))
-        × (m.spent ≡ false → Fits m.code.lines m.execution) };
+        × (m.spent ≡ false → AreSpots m.code.lines m.state.tasks)
+        × (m.spent ≡ false → 1 ≤ m.limits.tasks → IsWithin Spot m.limits m.state) };
 }
 
 impl Machine {
@@ -80,19 +90,12 @@ impl Machine {
         ensures limits { IfOk result (λ m. m.limits ≡ limits) }
     {
         let code = generate(alloc, &program)?;
-        let execution = Execution::new(
-            alloc,
-            Compiled {
-                code: &code,
-                program: &program,
-                limits,
-            },
-        )?;
+        let state = opened(alloc, &code, &program, limits)?;
         Ok(Machine {
             program,
             code,
             limits,
-            execution,
+            state,
             spent: false,
         })
     }
@@ -116,45 +119,45 @@ impl Machine {
         ensures shown { IfShows self.now (λ c. result.now ≡ c.shared.output) }
         ensures within { length result.now ≤ OUTPUT }
     {
-        self.execution.output()
+        self.state.output()
     }
 
     /// Whether a text was cut at the output's limit.
     pub fn is_cut(&self) -> bool
         ensures { IfShows self.now (λ c. result ≡ c.shared.cut) }
     {
-        self.execution.is_cut()
+        self.state.is_cut()
     }
 
     /// What can happen next.
-    pub fn state(&self) -> State
+    pub fn state(&self) -> Standing
         ensures { IfShows self.now (λ c. result ≡ state_in (program_in self.now) c) }
     {
-        self.execution.state(&self.code)
+        state_of(&self.state, self.compiled())
     }
 
-    /// The enabled moves: the tasks whose next step is enabled, by their numbers, counted from 0, in ascending order. `take(k)` makes
-    /// the one of index k. There are none once the program has ended or its output is full.
+    /// The enabled moves, by the numbers of their tasks, counted from 0, and then by their alternatives. `take(k)` makes the one of
+    /// index k. There are none once the program has ended or its output is full.
     ///
     /// # Errors
     ///
     /// Where memory is refused, or the machine is spent.
-    pub fn moves(&self, alloc: Global) -> Result<Vec<usize>, AllocError>
-        ensures shown { IfOk result (λ tasks. IfShows self.now (λ c.
-            moves_in (program_in self.now) c ≡ map own_move tasks.items)) }
+    pub fn moves(&self, alloc: Global) -> Result<Vec<Move>, AllocError>
+        ensures shown { IfOk result (λ moves. IfShows self.now (λ c.
+            moves.items ≡ moves_in (program_in self.now) c)) }
         ensures refuses { self.now.spent ≡ true → IsErr result }
     {
         if self.spent {
             return Err(AllocError);
         }
-        self.execution.moves(alloc, &self.code)
+        moves(&self.state, alloc, self.compiled())
     }
 
     /// The exception that left the main procedure (RM 11.4).
     pub fn raised(&self) -> Option<Exception>
         ensures { IfShows self.now (λ c. result ≡ main_raised c.tasks) }
     {
-        self.execution.raised()
+        self.state.raised()
     }
 
     /// What comes next of the task of this number, counted from 0: the kind of its step, and where that stands in the text; while
@@ -163,7 +166,7 @@ impl Machine {
     pub fn coming(&self, task: usize) -> Option<NextStep>
         ensures { IfShows self.now (λ c. result ≡ coming_step_in (program_in self.now) task c) }
     {
-        self.execution.coming(self.compiled(), task)
+        coming(&self.state, self.compiled(), task)
     }
 
     /// How many choices wait.
@@ -172,7 +175,7 @@ impl Machine {
         ensures shown { IfShows self.now (λ c. result ≡ length c.choices) }
         ensures within { result ≤ CHOICES }
     {
-        self.execution.choices()
+        self.state.choices()
     }
 
     /// The time on the clock, in milliseconds.
@@ -181,7 +184,7 @@ impl Machine {
         ensures shown { IfShows self.now (λ c. result ≡ c.clock) }
         ensures within { result ≤ CLOCK }
     {
-        self.execution.clock()
+        self.state.clock()
     }
 
     /// The steps taken.
@@ -190,25 +193,22 @@ impl Machine {
         ensures shown { IfShows self.now (λ c. result ≡ c.steps) }
         ensures within { result ≤ STEPS }
     {
-        self.execution.steps()
+        self.state.steps()
     }
 
-    /// The frames, what is pending in the main procedure and what left it, the time and the steps.
-    pub fn parts(&self) -> Parts<'_>
-        ensures frames { IfShows self.now (λ c. result.store.now.frames ≡ c.shared.frames) }
-        ensures pending { IfShows self.now (λ c.
-            pending_in (plain_stage result.main) ≡ (own_of 0 c).pending) }
-        ensures raised { IfShows self.now (λ c.
-            raised_in (plain_stage result.main) ≡ (own_of 0 c).raised) }
-        ensures clock { IfShows self.now (λ c. result.clock ≡ c.clock) }
-        ensures steps { IfShows self.now (λ c. result.steps ≡ c.steps) }
+    /// All that it has: the frames, the tasks, the calls with their queues, the protected objects, the clock and the steps taken. Its
+    /// limits hold of them: so many tasks and objects, so many live frames of each task, and so much output.
+    pub fn parts(&self) -> &State
+        ensures all { result.now ≡ self.now.all }
+        ensures within { self.now.spent ≡ false → 1 ≤ self.now.limits.tasks →
+            IsWithin Spot self.now.limits result.now }
+        ensures tasks { IfShows self.now (λ c. owns result.now.tasks ≡ owns c.tasks) }
+        ensures shared { IfShows self.now (λ c. result.now.shared ≡ c.shared) }
+        ensures choices { IfShows self.now (λ c. result.now.choices ≡ c.choices) }
+        ensures clock { IfShows self.now (λ c. result.now.clock ≡ c.clock) }
+        ensures steps { IfShows self.now (λ c. result.now.steps ≡ c.steps) }
     {
-        Parts {
-            store: self.execution.store(),
-            main: self.execution.stage(),
-            clock: self.execution.clock(),
-            steps: self.execution.steps(),
-        }
+        &self.state
     }
 
     /// Supplies choices, which wait behind those that wait already. At most 10,000 may wait together.
@@ -228,7 +228,7 @@ impl Machine {
             return Err(AllocError);
         }
         self.spent = true;
-        self.execution.choose(choices)?;
+        self.state.choose(choices)?;
         self.spent = false;
         Ok(())
     }
@@ -239,7 +239,7 @@ impl Machine {
         ensures shows { IfShows self.old (λ c. Shows self.new (advanced milliseconds c)) }
         ensures exact { self.new ≡ record self.old { all = advanced milliseconds self.old.all } }
     {
-        self.execution.advance(milliseconds);
+        self.state.advance(milliseconds);
     }
 
     /// Begins anew: the program before its first step, with no choices, no output and the clock at 0.
@@ -255,7 +255,7 @@ impl Machine {
             return Err(AllocError);
         }
         self.spent = true;
-        self.execution = Execution::new(alloc, self.compiled())?;
+        self.state = opened(alloc, &self.code, &self.program, self.limits)?;
         self.spent = false;
         Ok(())
     }
@@ -270,9 +270,8 @@ impl Machine {
         ensures runs { IfOk result (λ ran. IfShows self.old (λ c.
             RunsFrom self.old.limits (program_in self.old) n c self.new ran)) }
         ensures few { IfOk result (λ ran. ran.steps ≤ n) }
-        ensures ticks { IfOk result (λ ran. ran.ticks ≡ min (ticks_of_run self.old n) u64.MAX) }
-        ensures few_ticks { IfOk result (λ ran.
-            ran.ticks ≤ ran.steps * length self.old.code.lines) }
+        ensures ticks { IfOk result (λ ran.
+            ran.ticks ≤ ran.steps * (2 * size self.old.code)) }
         ensures leaves { Leaves self.old self.new result }
     {
         if self.spent {
@@ -285,7 +284,7 @@ impl Machine {
             program: &self.program,
             limits: self.limits,
         };
-        let ran = self.execution.run(alloc, compiled, &mut operands, n)?;
+        let ran = run(&mut self.state, alloc, compiled, &mut operands, n)?;
         self.spent = false;
         Ok(ran)
     }
@@ -301,9 +300,7 @@ impl Machine {
             Takes self.old.limits (program_in self.old) c
             (slice_get (moves_in (program_in self.old) c) nth) self.old self.new taken)) }
         ensures ticks { IfOk result (λ taken. IfSome taken (λ ran.
-            ran.ticks ≡ ticks_of_step self.old nth)) }
-        ensures few_ticks { IfOk result (λ taken. IfSome taken (λ ran.
-            ran.ticks ≤ length self.old.code.lines)) }
+            ran.ticks ≤ 2 * size self.old.code)) }
         ensures leaves { Leaves self.old self.new result }
     {
         if self.spent {
@@ -316,7 +313,7 @@ impl Machine {
             program: &self.program,
             limits: self.limits,
         };
-        let taken = self.execution.take(alloc, compiled, &mut operands, nth)?;
+        let taken = take(&mut self.state, alloc, compiled, &mut operands, nth)?;
         self.spent = false;
         Ok(taken)
     }
@@ -333,4 +330,21 @@ impl Machine {
             limits: self.limits,
         }
     }
+}
+
+// A program before its first step, which stands where a step begins and keeps the limits.
+fn opened(
+    alloc: Global,
+    code: &SoundCode,
+    program: &Program,
+    limits: Limits,
+) -> Result<State, AllocError>
+    ensures opening { IfOk result (λ state. let plan = (plain_program program.now).plan in
+        state ≡ opening_with plan program.now.name ((flat_controls plan code.now).begins 0)) }
+    ensures spots { IfOk result (λ state. AreSpots code.now.lines state.tasks) }
+    ensures within { IfOk result (λ state. 1 ≤ limits.tasks → IsWithin Spot limits state) }
+{
+    let _ = code.start(0);
+    let state = State::new(alloc, code, &program.units, &program.name)?;
+    Ok(state)
 }

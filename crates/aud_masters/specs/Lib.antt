@@ -1,2 +1,1 @@
-pub mod Lives
-pub mod Changes
+pub mod Marks

@@ -1,8 +1,8 @@
-// Tasks among tasks: how far each is, the masters that it depends on, and who waits for its activation.
+// Masters (RM 9.3), activation (RM 9.2) and completion.
 #![tactic(auto)]
 
-pub mod laws;
-mod life;
-mod lives;
-pub mod masters;
-pub mod phase;
+pub mod activation;
+pub mod completion;
+pub mod creation;
+pub mod ending;
+pub mod mark;

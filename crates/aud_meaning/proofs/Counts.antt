@@ -5,11 +5,13 @@ use Rattle.aud_text.specs.declared.raise.Raise.{Raise}
 use Rattle.aud_typed.specs.Tree.{Plan}
 use Rattle.aud_meaning.specs.declared.state.State.{State}
 use Rattle.aud_meaning.specs.declared.state.State.TheVariants as state
-use Rattle.aud_meaning.specs.Configuration.{OpenDelay, Own, Shared, TaskAt, All}
+use Rattle.aud_meaning.specs.declared.state.OpenDelay.{OpenDelay}
+use Rattle.aud_meaning.specs.Configuration.{Own, Shared, TaskAt, All}
 use Rattle.aud_meaning.specs.Evaluation.{Sight}
 use Rattle.aud_meaning.specs.Control.{Coming, simply, ending, selecting, calling, starting, Seen, Controls}
 use Rattle.aud_meaning.specs.Parts.{owns}
-use Rattle.aud_meaning.specs.Run.{Move, picks, Turn, resting, closing, completing, withdrawing, serving, expiring, cancelling, acting, turn, only, each_or_one, serve_moves, end_moves, call_moves, acting_moves, turn_moves, moves_from, has_ended, moves_by, waiting_by, some_move, state_by, seen_from, seen, moves_at, state_at, step_of, take_by, take_one, run_by, run_with}
+use Rattle.aud_meaning.specs.declared.state.Move.{Move}
+use Rattle.aud_meaning.specs.Run.{picks, Turn, resting, closing, completing, withdrawing, serving, expiring, cancelling, acting, turn, only, each_or_one, serve_moves, end_moves, call_moves, acting_moves, turn_moves, moves_from, has_ended, moves_by, waiting_by, some_move, state_by, seen_from, seen, moves_at, state_at, step_of, take_by, take_one, run_by, run_with}
 
 -- Moves of the task of a number.
 

@@ -3,11 +3,13 @@ use Rattle.std.proofs.Common.{◌≡◌, ℕ, zero, suc, ◌+◌, ◌%◌, List,
 use Rattle.aud_text.specs.declared.limits.Limits.{Limits}
 use Rattle.aud_text.specs.declared.place.Pos.{Pos}
 use Rattle.aud_typed.specs.Tree.{Plan}
-use Rattle.aud_meaning.specs.Configuration.{Pending, Own, Shared, TaskAt, All}
+use Rattle.aud_meaning.specs.declared.state.Pending.{Pending}
+use Rattle.aud_meaning.specs.Configuration.{Own, Shared, TaskAt, All}
 use Rattle.aud_meaning.specs.Evaluation.{Sight}
 use Rattle.aud_meaning.specs.Control.{Coming, Scene, Seen, Moved, here, takes_part, does_accept, enters_body, begins_body, gets_out, passes_end, to_handler, out_by, Controls, moved, all_moved, ordered}
 use Rattle.aud_meaning.specs.Parts.{owns, sight_in}
-use Rattle.aud_meaning.specs.Run.{Move, moves, moves_at, state_of, state_at, shown_place, seen_from, seen, scene_of, orders, step_of, step_with, take_by, take_one, run_by, run_with, main_raised, supplied, advanced, opening_with}
+use Rattle.aud_meaning.specs.declared.state.Move.{Move}
+use Rattle.aud_meaning.specs.Run.{moves, moves_at, state_of, state_at, shown_place, seen_from, seen, scene_of, orders, step_of, step_with, take_by, take_one, run_by, run_with, main_raised, supplied, advanced, opening_with}
 use Rattle.aud_meaning.specs.Why.Agree.{Agrees, ShowsTask, ShowsTasks, ShowsAll}
 
 abbrev all_with : {T : Type 0} → List (TaskAt T) → Shared → List ℕ → ℕ → ℕ → All T

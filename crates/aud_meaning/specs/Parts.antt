@@ -12,7 +12,11 @@ use Rattle.aud_meaning.specs.declared.state.CallState.{CallState}
 use Rattle.aud_meaning.specs.declared.state.CallState.TheVariants.{Queued, Selected, Done, Cancelled}
 use Rattle.aud_meaning.specs.declared.state.Owner.{Owner}
 use Rattle.aud_meaning.specs.declared.state.Owner.TheVariants as owner
-use Rattle.aud_meaning.specs.Configuration.{Frame, Pending, Purpose, for_body, for_block, for_procedure, Opened, OpenAccept, Waits, Own, plain, Call, Action, Object, Shared, TaskAt, All, Acting}
+use Rattle.aud_meaning.specs.declared.state.Pending.{Pending}
+use Rattle.aud_meaning.specs.declared.state.OpenAccept.{OpenAccept}
+use Rattle.aud_meaning.specs.declared.state.Action.{Action}
+use Rattle.aud_meaning.specs.declared.state.Form.TheVariants.{Plain}
+use Rattle.aud_meaning.specs.Configuration.{Frame, Purpose, for_body, for_block, for_procedure, Opened, Waits, Own, Call, Object, Shared, TaskAt, All, Acting}
 use Rattle.aud_meaning.specs.Evaluation.{Facts, Sight}
 use Rattle.aud_meaning.specs.Effects.{pends, outermost}
 
@@ -60,7 +64,7 @@ nobody = record {
 }
 
 abbrev pub no_call : Call
-no_call = record { caller = 0; owner = owner.Task 0; entry = 0; arrival = 0; values = []; backs = []; form = plain; at = record { line = 0; col = 0 }; state = Done }
+no_call = record { caller = 0; owner = owner.Task 0; entry = 0; arrival = 0; values = []; backs = []; form = Plain; at = record { line = 0; col = 0 }; state = Done }
 
 abbrev pub no_object : Object
 no_object = record { declaration = 0; display = []; actions = [] }

@@ -6,7 +6,12 @@ use Rattle.aud_typed.specs.Tree as tree
 use Rattle.aud_typed.specs.Tree.{truth, ValueExpression, TaskName, DelayExpression, Reference, CallForm, plainly, conditionally, timed, Callee, of_task, of_object, Statement, sequence, declare, declare_array, declare_tasks, declare_object, activated, activate, null, assign, put, if_then, plain_loop, while_loop, for_loop, exit, return, return_value, raising, raising_again, block, procedure_call, own_entry_call, operation_call, entry_call, delay, accept, select, abort, Part, nothing, some, Doing, without_do, with_do, Alternatives, no_alternatives, accepting, delaying, terminating}
 use Rattle.aud_meaning.specs.declared.state.StepKind.TheVariants as kind
 use Rattle.aud_meaning.specs.declared.state.Owner.TheVariants as owner
-use Rattle.aud_meaning.specs.Configuration.{Pending, Target, OpenAccept, OpenDelay, Waits, Form, plain, conditional, timed_to, Item, Do, InLoop, InFor, Begin, Ends, Leaving}
+use Rattle.aud_meaning.specs.declared.state.Pending.{Pending}
+use Rattle.aud_meaning.specs.declared.state.OpenAccept.{OpenAccept}
+use Rattle.aud_meaning.specs.declared.state.OpenDelay.{OpenDelay}
+use Rattle.aud_meaning.specs.declared.state.Form.{Form}
+use Rattle.aud_meaning.specs.declared.state.Form.TheVariants.{Plain, Conditional, TimedTo}
+use Rattle.aud_meaning.specs.Configuration.{Target, Waits, Item, Do, InLoop, InFor, Begin, Ends, Leaving}
 use Rattle.aud_meaning.specs.Evaluation.{Sight, with_value, evaluated, decided, value_of, text_of, delay_of, task_named, number_in, target_of, option_target, passed, Passed}
 use Rattle.aud_meaning.specs.Control.{Coming, simply, ending, selecting, calling, starting, Called, Asked, Scene, Controls}
 use Rattle.aud_meaning.specs.Control as asked
@@ -115,9 +120,9 @@ components (e ∷ es) cells s =
     components es (cells ++ z ∷ []) s)
 
 abbrev pub form_of : CallForm → ℕ → Sight → Result Form Raise
-form_of plainly clock s = Ok plain
-form_of conditionally clock s = Ok (conditional clock)
-form_of (timed e) clock s = with_value (delay_of e s) (λ ms. Ok (timed_to (clock + ms)))
+form_of plainly clock s = Ok Plain
+form_of conditionally clock s = Ok (Conditional clock)
+form_of (timed e) clock s = with_value (delay_of e s) (λ ms. Ok (TimedTo (clock + ms)))
 
 abbrev pub called : Pos → ℕ → List tree.Argument → CallForm → ℕ → Sight → Result Called Raise
 called at entry arguments form clock s =

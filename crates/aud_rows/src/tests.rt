@@ -10,7 +10,6 @@ mod desks;
 mod fusing;
 mod listening;
 mod machines;
-mod masters;
 mod reading;
 mod serving;
 mod sound;

@@ -3,7 +3,7 @@ use Rattle.std.proofs.Common.{◌≡◌, ℕ, ◌+◌, ◌-◌, ◌<◌, ◌≤�
 use Rattle.std.proofs.Math.Seq.{take-append-add}
 use Rattle.std.specs.Prelude.{nat_le}
 use Rattle.aud_text.specs.declared.limits.TheConstants.{OUTPUT}
-use Rattle.aud_meaning.specs.Ties.Single.{Single}
+use Rattle.aud_meaning.specs.Ties.Part.{Part}
 use Rattle.aud_code.specs.Places.{Spot}
 use Rattle.aud_single.specs.Steps.{written}
 
@@ -12,7 +12,7 @@ cut_at limit out text le =
     let e : limit ≡ length out + (limit - length out) = omega arith in
     ap (λ n. take n (out ++ text)) e ∙ take-append-add out text (limit - length out)
 
-pub put_cut : (text : List ℕ) (p : Single Spot) (out : List ℕ) → length p.output ≤ OUTPUT → OUTPUT - length p.output < length text → out ≡ p.output ++ take (OUTPUT - length p.output) text → record p { output = out; cut = true } ≡ written text p
+pub put_cut : (text : List ℕ) (p : Part Spot) (out : List ℕ) → length p.output ≤ OUTPUT → OUTPUT - length p.output < length text → out ≡ p.output ++ take (OUTPUT - length p.output) text → record p { output = out; cut = true } ≡ written text p
 put_cut text p out le lt is =
     let whole = p.output ++ text in
     let long : nat_le (length whole) OUTPUT ≡ false = simp length-append (grind arith) in

@@ -1,8 +1,6 @@
 pub mod Shown
 pub mod Steps
 pub mod Parked
-pub mod Ticks
-pub mod Knowing
 pub mod Next
 pub mod Standing
 pub mod Fast

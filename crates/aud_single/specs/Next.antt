@@ -4,11 +4,12 @@ use Rattle.aud_text.specs.declared.place.Pos.{Pos}
 use Rattle.aud_typed.specs.Tree.{Plan}
 use Rattle.aud_meaning.specs.declared.state.StepKind.{StepKind}
 use Rattle.aud_meaning.specs.declared.state.StepKind.TheVariants as kind
-use Rattle.aud_meaning.specs.Configuration.{Pending}
+use Rattle.aud_meaning.specs.declared.state.Pending.{Pending}
 use Rattle.aud_meaning.specs.Evaluation.{Sight}
 use Rattle.aud_meaning.specs.Control.{Coming, simply, ending, selecting, calling, starting}
 use Rattle.aud_meaning.specs.Run.{end_kind_by}
-use Rattle.aud_meaning.specs.Ties.Single.{Stage, Stack, Single, runs, completed, terminated, out_of_loops}
+use Rattle.aud_meaning.specs.Ties.Stack.{Stack, out_of_loops}
+use Rattle.aud_meaning.specs.Ties.Part.{Part}
 use Rattle.aud_code.specs.Places.{Spot}
 use Rattle.aud_code.specs.Flat.{Flat, coming_at, end_at}
 use Rattle.aud_code.specs.declared.line.Ending.{Ending}
@@ -52,22 +53,11 @@ IsOfKind s k (selecting ones) = ⊥
 IsOfKind s k (calling task entry) = ⊥
 IsOfKind s k (starting object reading) = ⊥
 
--- with this exception pending, whatever the program's plan and what it sees
-abbrev pub ComesAs : Flat → Single Spot → Option Pending → Option StepKind → Type 0
-ComesAs code p pending None = ⊥
-ComesAs code p pending (Some k) = (plan : Plan) (s : Sight) → IsOfKind p.stack k (coming_at code plan pending s p.control)
+-- so it is, whatever the program's plan and what it sees
+abbrev pub IsNextKind : Flat → Part Spot → StepKind → Type 0
+IsNextKind code p k = (plan : Plan) (s : Sight) → IsOfKind p.stack k (coming_at code plan p.pending s p.control)
 
-abbrev pub IsKindIn : Flat → Single Spot → Stage → Option StepKind → Type 0
-IsKindIn code p (runs pending) next = ComesAs code p pending next
-IsKindIn code p (completed raised) next = next ≡ Some kind.Close
-IsKindIn code p (terminated raised) next = next ≡ None
-
-abbrev pub IsNextKind : Flat → Single Spot → Option StepKind → Type 0
-IsNextKind code p next = IsKindIn code p p.stage next
-
--- the place that is shown for its next step, where its body's `end` stands at this place
-abbrev pub place_in : Flat → Pos → ℕ → Stage → Pos
-place_in code final place (runs None) = (end_at code place).at
-place_in code final place (runs (Some pending)) = pending.at
-place_in code final place (completed raised) = final
-place_in code final place (terminated raised) = final
+-- the place that is shown for its next step
+abbrev pub place_in : Flat → ℕ → Option Pending → Pos
+place_in code place None = (end_at code place).at
+place_in code place (Some pending) = pending.at

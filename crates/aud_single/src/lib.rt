@@ -1,10 +1,9 @@
-// Tasks of compiled programs under way: a task's body, and the procedures that it calls.
+// What a task of a compiled program does by itself: in its body, and in the procedures that it calls.
 #![tactic(auto)]
 
 mod coming;
 pub mod fast;
 pub mod progress;
-pub mod stage;
 pub mod standing;
 mod statements;
 pub mod step;

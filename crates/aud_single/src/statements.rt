@@ -1,11 +1,11 @@
 // What statements do.
 
-ghost use Rattle.std.specs.Prelude.{◌≡◌, ◌<◌, ◌+◌, [], OnOk};
+ghost use Rattle.std.specs.Prelude.{◌≡◌, [], OnOk};
 ghost use Rattle.aud_code.specs.Sound.{counts_of, EndingFine};
 ghost use Rattle.aud_code.specs.View.{plain_ending};
 ghost use Rattle.aud_store.specs.Ties.Stored.{plain_purpose, IsInner};
 ghost use Rattle.aud_single.specs.Shown.{plans_of};
-ghost use Rattle.aud_single.specs.Steps.{does, opened, looped, continued, declared_array};
+ghost use Rattle.aud_single.specs.Steps.{does, opened, looped, continued};
 
 use crate::progress::Progress;
 use crate::units::{level_of, region_of};
@@ -15,7 +15,6 @@ use aud_expr::operands::Operands;
 use aud_meaning::values::nearest_zero;
 use aud_store::stack::Purpose;
 use aud_text::int32::Int32;
-use aud_text::limits::{ELEMENTS, STEPS};
 use aud_text::place::Pos;
 use aud_text::raise::Raise;
 use aud_typed::program::{Exception, Unit};
@@ -33,16 +32,14 @@ impl Progress {
         units: &[Unit],
         operands: &mut Operands,
     ) -> Result<(), AllocError>
-        requires fine { EndingFine (plain_ending ending) (counts_of operands.old) }
-        requires steps { self.old.steps < STEPS }
-        ensures does { OnOk result (self.new ≡
+        requires { EndingFine (plain_ending ending) (counts_of operands.old) }
+        ensures { OnOk result (self.new ≡
             does (plans_of units.now) code.now ending at next operands.old self.old) }
-        ensures steps { OnOk result (self.new.steps ≡ self.old.steps + 1) }
     {
         match ending {
             Ending::Declare { up_to, again } => self.declare(operands.pop(), up_to, again, next)?,
             Ending::DeclareArray(subtype, count) => {
-                self.declare_array(count, nearest_zero(subtype), at, next)?;
+                self.declare_all(count, nearest_zero(subtype), next)?;
             }
             Ending::Null => self.go(next),
             Ending::Assign => {
@@ -85,25 +82,6 @@ impl Progress {
         Ok(())
     }
 
-    // An array of so many elements, if that is allowed (RM 3.6).
-    fn declare_array(
-        &mut self,
-        count: usize,
-        value: Int32,
-        at: Pos,
-        next: usize,
-    ) -> Result<(), AllocError>
-        requires { self.old.steps < STEPS }
-        ensures { OnOk result (self.new ≡ declared_array count value at next self.old) }
-    {
-        if count <= ELEMENTS as usize {
-            self.declare_all(count, value, next)?;
-        } else {
-            self.raise(Exception::Predefined(Raise::Storage), at);
-        }
-        Ok(())
-    }
-
     // The frame of a block or loop is opened, if there is room for one more (RM 11.1(6)).
     fn open(
         &mut self,
@@ -114,8 +92,7 @@ impl Progress {
         elaborated: usize,
         inside: usize,
     ) -> Result<(), AllocError>
-        requires inner { IsInner purpose }
-        requires steps { self.old.steps < STEPS }
+        requires { IsInner purpose }
         ensures { OnOk result (self.new ≡
             opened (plain_purpose purpose []) region at cells.now elaborated inside self.old) }
     {
@@ -136,7 +113,6 @@ impl Progress {
         low: Int32,
         high: Int32,
     ) -> Result<(), AllocError>
-        requires { self.old.steps < STEPS }
         ensures { OnOk result (self.new ≡ looped control inside next low high self.old) }
     {
         if high.get() < low.get() {
@@ -153,7 +129,6 @@ impl Progress {
 
     /// The next value of the innermost loop's parameter, or the loop is left (RM 5.5(9)).
     pub(crate) fn continue_loop(&mut self, control: ForLoop, behind: usize, inside: usize)
-        requires { self.old.steps < STEPS }
         ensures { self.new ≡ continued control behind inside self.old }
     {
         let value = self.store().innermost_cell(0).get();

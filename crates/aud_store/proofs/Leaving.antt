@@ -1,7 +1,7 @@
 -- Open frames that are left one after the other.
 use Rattle.std.proofs.Common.{◌≡◌, ℕ, zero, suc, ◌+◌, ◌<◌, true, false, List, [], ◌∷◌, length, refl, arith, add-one}
 use Rattle.aud_meaning.specs.Configuration.{Opened}
-use Rattle.aud_meaning.specs.Ties.Single.{Stack, closed, closed_times, out_of_loops}
+use Rattle.aud_meaning.specs.Ties.Stack.{Stack, closed, closed_times, out_of_loops}
 use Rattle.aud_store.specs.Ties.Stored.{is_in_loop}
 
 closed_last : (n : ℕ) (s : Stack) → closed_times (suc n) s ≡ closed (closed_times n s)

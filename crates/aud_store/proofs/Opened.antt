@@ -11,9 +11,9 @@ use Rattle.aud_store.specs.declared.stack.Purpose.TheVariants.{Body, Block, Loop
 use Rattle.aud_store.specs.declared.display.Replaced.{Replaced}
 use Rattle.aud_store.specs.declared.stack.Open.{Open}
 use Rattle.aud_store.specs.Ties.Display.{Display, seen, placed, stands, put_back}
-use Rattle.aud_store.specs.Ties.Stored.{copies_of, kept_by, kept_of, purpose_backs, innermost_backs, own_backs, outer_backs, outside_by, plain_open, plain_opened, plain_purpose, ArePlaced, IsPlaced, IsInnermost, AreKept, AreSeen, AreSaved, IsStacked}
+use Rattle.aud_store.specs.Ties.Stored.{accepted_by, accepted_in, copies_of, kept_by, kept_of, purpose_backs, innermost_backs, own_backs, outer_backs, plain_open, plain_opened, plain_purpose, ArePlaced, IsPlaced, IsInnermost}
 use Rattle.aud_store.proofs.Placing.{back_again, seen_placed, within}
-use Rattle.aud_meaning.specs.Ties.Single.{Stack, closed, out_of_loops_by, IsOpenedAlone, AreOpenedAlone}
+use Rattle.aud_meaning.specs.Ties.Stack.{Stack, closed, out_of_loops_by}
 
 -- all are counted
 counted : (p : Purpose) (bs : List Back) → is_counted (plain_purpose p bs) ≡ true
@@ -115,14 +115,6 @@ same_loop Block bs = refl
 same_loop Loop bs = refl
 same_loop (Procedure level n into) bs = refl
 
--- What is seen.
-
-kept_plain : (p : Purpose) (bs : List Back) (saved : List ℕ) → AreKept (plain_purpose p bs) saved (kept_by p saved)
-kept_plain Body bs saved = refl
-kept_plain Block bs saved = refl
-kept_plain Loop bs saved = refl
-kept_plain (Procedure level n into) bs saved = (level, refl)
-
 -- as many as count
 seen_many : (d : Display) → d.count ≤ length d.numbers → d.count ≡ length (seen d)
 seen_many d h = omega (arith, h, length-take d.count d.numbers)
@@ -135,34 +127,18 @@ held d (o ∷ os) are =
     let s = seen_placed o.purpose o.frame before (seen before) refl (seen_many before (held before os are.1)) in
     subst (λ (x : Display). x.count ≤ length x.numbers) (sym are.0.0) (within (placed (kept_of o.purpose before.count) o.frame before) (kept_by o.purpose (seen before) ++ o.frame ∷ []) s.0 s.1)
 
--- the outer ones, and those of the open frames that are seen from one another
-module _ (outer : List ℕ) where
-  seen_plain : (d : Display) (os : List Open) (bs : List Back) → outside_by (plain_opened d os bs) (seen d) ≡ outer → ArePlaced d os → AreSeen outer (plain_opened d os bs) (seen d)
-  seen_plain d [] bs is are = is
-  seen_plain d (o ∷ os) bs is are =
-      let before = put_back o.replaced d in
-      let many = seen_many before (held before os are.1) in
-      (kept_by o.purpose (seen before), (kept_plain o.purpose (own_backs o.purpose bs) (seen before), ap seen are.0.0 ∙ (seen_placed o.purpose o.frame before (seen before) refl many).0))
+accepts_none : (p : Purpose) (bs : List Back) → accepted_by (plain_purpose p bs) [] ≡ []
+accepts_none Body bs = refl
+accepts_none Block bs = refl
+accepts_none Loop bs = refl
+accepts_none (Procedure level n into) bs = refl
 
-  saved_plain : (d : Display) (os : List Open) (bs : List Back) → outside_by (plain_opened d os bs) (seen d) ≡ outer → ArePlaced d os → AreSaved outer (plain_opened d os bs)
-  saved_plain d [] bs is are = tt
-  saved_plain d (o ∷ os) bs is are =
-      (seen_plain (put_back o.replaced d) os (outer_backs o.purpose bs) is are.1, saved_plain (put_back o.replaced d) os (outer_backs o.purpose bs) is are.1)
-
-opened_alone : (p : Purpose) (bs : List Back) → IsOpenedAlone (plain_purpose p bs)
-opened_alone Body bs = tt
-opened_alone Block bs = tt
-opened_alone Loop bs = tt
-opened_alone (Procedure level n into) bs = record { plain = refl; no_value = refl }
-
-alone_plain : (d : Display) (os : List Open) (bs : List Back) → AreOpenedAlone (plain_opened d os bs)
-alone_plain d [] bs = tt
-alone_plain d (o ∷ os) bs = (opened_alone o.purpose (own_backs o.purpose bs), alone_plain (put_back o.replaced d) os (outer_backs o.purpose bs))
-
-pub stacked : (d : Display) (os : List Open) (bs : List Back) → ArePlaced d os → IsStacked (record { display = seen d; opened = plain_opened d os bs })
-stacked d os bs are =
-    let outer = outside_by (plain_opened d os bs) (seen d) in
-    record { seen = seen_plain outer d os bs refl are; saved = saved_plain outer d os bs refl are; alone = alone_plain d os bs }
+-- no accept is under way
+pub no_accepts : (d : Display) (os : List Open) (bs : List Back) → accepted_in (plain_opened d os bs) ≡ []
+no_accepts d [] bs = refl
+no_accepts d (o ∷ os) bs =
+    ap (accepted_by (plain_purpose o.purpose (own_backs o.purpose bs))) (no_accepts (put_back o.replaced d) os (outer_backs o.purpose bs))
+    ∙ accepts_none o.purpose (own_backs o.purpose bs)
 
 -- the first of them that is no loop's
 abbrev is_construct : Open → Bool

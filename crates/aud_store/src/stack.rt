@@ -1,12 +1,12 @@
 // The open frames, which lie in one another.
 
 ghost use Rattle.std.specs.Prelude.{◌≡◌, ◌↔◌, [], None, suc, filter, length, map, nat_le, reverse, take, IfOk, IsTrue, OnOk, OnErr};
-ghost use Rattle.aud_meaning.specs.Effects.{elaborated_in, handled, is_loop, live_frames, outermost};
+ghost use Rattle.aud_meaning.specs.Effects.{elaborated_in, handled, innermost, is_loop, live_frames, outermost};
 ghost use Rattle.aud_meaning.specs.Parts.{is_master};
-ghost use Rattle.aud_meaning.specs.Ties.Single.{closed, opens_after, out_of_loops, AreOpenedAlone};
-ghost use Rattle.aud_store.specs.Ties.Stored.{copies_of, innermost_backs, is_in_loop, kept_by, kept_of};
+ghost use Rattle.aud_meaning.specs.Ties.Stack.{closed, closed_times, opens_after, out_of_loops};
+ghost use Rattle.aud_store.specs.Ties.Stored.{accepted_in, copies_of, innermost_backs, is_in_loop, kept_by, kept_of};
 ghost use Rattle.aud_store.specs.Ties.Stored.{plain_open, plain_purpose, with_handling, with_elaborated};
-ghost use Rattle.aud_store.specs.Ties.Stored.{IsInnermost, IsProcedure, IsStacked};
+ghost use Rattle.aud_store.specs.Ties.Stored.{IsInnermost, IsProcedure};
 
 use crate::display::{Display, Replaced};
 use crate::target::{Back, Target};
@@ -104,7 +104,7 @@ pub struct Stack {
 
 impl Model for Stack {
     ghost use Rattle.std.specs.Prelude.{reverse};
-    ghost use Rattle.aud_meaning.specs.Ties.Single.{Stack as Plain};
+    ghost use Rattle.aud_meaning.specs.Ties.Stack.{Stack as Plain};
     ghost use Rattle.aud_store.specs.Ties.Display.{seen};
     ghost use Rattle.aud_store.specs.Ties.Stored.{plain_opened, ArePlaced};
 
@@ -181,13 +181,31 @@ impl Stack {
     }
 
     /// The innermost one is left.
-    pub(crate) fn leave(&mut self)
+    pub fn leave(&mut self)
         ensures { self.new ≡ closed self.old }
     {
         if let Some(open) = self.opened.pop() {
             self.display.leave(open.replaced);
             let outer = self.backs.len().saturating_sub(open.purpose.copies());
             self.backs.truncate(outer);
+        }
+    }
+
+    /// The innermost one is left, and that around it, so many of them.
+    pub fn leave_times(&mut self, n: usize)
+        ensures { self.new ≡ closed_times n self.old }
+    {
+        for _ in 0..n {
+            self.leave();
+        }
+    }
+
+    /// The frames of the loops within the innermost construct are left.
+    pub fn leave_loops(&mut self)
+        ensures { self.new ≡ out_of_loops self.old }
+    {
+        while self.is_in_loop() {
+            self.leave();
         }
     }
 
@@ -198,10 +216,27 @@ impl Stack {
         self.opened.last().copied()
     }
 
+    /// Its number, or 0 where none is open.
+    pub fn innermost_number(&self) -> usize
+        ensures { result ≡ innermost self.now.opened }
+    {
+        match self.innermost() {
+            Some(open) => open.frame,
+            None => 0,
+        }
+    }
+
+    /// The calls whose accepts are under way, the innermost one first; as yet no frame is opened for one.
+    pub fn accepts(&self, alloc: Global) -> Vec<usize>
+        ensures { result.items ≡ accepted_in self.now.opened }
+    {
+        let _ = &self.opened;
+        Vec::new(alloc)
+    }
+
     /// The innermost one but for loops within it: that of the construct which is left next.
     pub fn construct(&self) -> Option<Open>
-        ensures innermost { IsInnermost result (out_of_loops self.now).opened }
-        ensures alone { AreOpenedAlone self.now.opened }
+        ensures { IsInnermost result (out_of_loops self.now).opened }
     {
         self.opened
             .iter()
@@ -222,7 +257,7 @@ impl Stack {
     }
 
     /// The formals that are copied back at the end of the innermost one, in the order of the text.
-    pub(crate) fn backs(&self) -> &[Back]
+    pub fn backs(&self) -> &[Back]
         ensures { result.now ≡ innermost_backs self.now.opened }
     {
         let copies = match self.opened.last() {
@@ -244,7 +279,7 @@ impl Stack {
     }
 
     /// The construct of the innermost one handles an exception.
-    pub(crate) fn handle(&mut self, exception: Exception)
+    pub fn handle(&mut self, exception: Exception)
         ensures { self.new ≡ with_handling exception self.old }
     {
         if let Some(open) = self.opened.last_mut() {
@@ -310,8 +345,7 @@ impl Stack {
 
     /// The numbers of the frames that are seen, outermost first.
     pub fn display(&self) -> &[usize]
-        ensures value { result.now ≡ self.now.display }
-        ensures stacked { IsStacked self.now }
+        ensures { result.now ≡ self.now.display }
     {
         self.display.numbers()
     }

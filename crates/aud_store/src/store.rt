@@ -4,11 +4,11 @@ ghost use Rattle.std.specs.Prelude.{◌≡◌, ◌<◌, ◌∷◌, [], None, suc
 ghost use Rattle.aud_text.specs.declared.limits.TheConstants.{FRAMES};
 ghost use Rattle.aud_meaning.specs.Evaluation.{frame_at};
 ghost use Rattle.aud_meaning.specs.Effects.{innermost, elaborated_in, handled, live_frames};
-ghost use Rattle.aud_meaning.specs.Ties.Single.{closed, closed_times, out_of_loops, AreOpenedAlone};
+ghost use Rattle.aud_meaning.specs.Ties.Stack.{closed, closed_times, out_of_loops};
 ghost use Rattle.aud_store.specs.Ties.Frames.{with_frame};
 ghost use Rattle.aud_store.specs.Ties.Stored.{copies_of, declared, entered_after, innermost_backs};
 ghost use Rattle.aud_store.specs.Ties.Stored.{innermost_cell, kept_by, plain_purpose, stored};
-ghost use Rattle.aud_store.specs.Ties.Stored.{with_handling, AreMade, IsInnermost, IsStored};
+ghost use Rattle.aud_store.specs.Ties.Stored.{with_handling, IsInnermost};
 
 use crate::frames::Frames;
 use crate::stack::{Open, Purpose, Stack};
@@ -21,7 +21,7 @@ use std::alloc::{AllocError, Global};
 use std::marker::Model;
 use std::mem;
 
-/// The frames of a program: all that were ever made, of whichever task, and those that are open of the task that acts.
+/// The frames of a program: all that were ever made, of whichever task, and those that are open of the task whose part lies here, if one does.
 #[derive(Drop)]
 pub struct Store {
     frames: Frames,
@@ -29,14 +29,11 @@ pub struct Store {
 }
 
 impl Model for Store {
-    ghost use Rattle.std.specs.Prelude.{length};
-    ghost use Rattle.aud_store.specs.Ties.Stored.{AreMade, Stored};
+    ghost use Rattle.aud_store.specs.Ties.Stored.{Stored};
 
     ghost Value = { Stored };
 
     ghost view = { λ s. record { frames = s.frames; stack = s.stack } };
-
-    ghost invariant = { λ s. AreMade (length s.frames) s.stack.opened };
 }
 
 impl Store {
@@ -53,10 +50,8 @@ impl Store {
 
     /// Another task acts: its stack comes in place of the one that is here, which is handed back. No frame is copied.
     pub fn exchange(&mut self, other: &mut Stack)
-        requires made { AreMade (length self.old.frames) other.old.opened }
         ensures here { self.new ≡ record self.old { stack = other.old } }
         ensures there { other.new ≡ self.old.stack }
-        ensures made { AreMade (length self.new.frames) other.new.opened }
     {
         mem::swap(&mut self.stack, other);
     }
@@ -108,18 +103,14 @@ impl Store {
     pub fn leave_times(&mut self, n: usize)
         ensures { self.new ≡ record self.old { stack = closed_times n self.old.stack } }
     {
-        for _ in 0..n {
-            self.leave();
-        }
+        self.stack.leave_times(n);
     }
 
     /// The frames of the loops within the innermost construct are left.
     pub fn leave_loops(&mut self)
         ensures { self.new ≡ record self.old { stack = out_of_loops self.old.stack } }
     {
-        while self.stack.is_in_loop() {
-            self.leave();
-        }
+        self.stack.leave_loops();
     }
 
     /// The innermost construct handles an exception (RM 11.4(7)).
@@ -145,8 +136,7 @@ impl Store {
 
     /// The innermost open frame but for those of loops within its construct.
     pub fn construct(&self) -> Option<Open>
-        ensures innermost { IsInnermost result (out_of_loops self.now.stack).opened }
-        ensures alone { AreOpenedAlone self.now.stack.opened }
+        ensures { IsInnermost result (out_of_loops self.now.stack).opened }
     {
         self.stack.construct()
     }
@@ -249,8 +239,7 @@ impl Store {
 
     /// The numbers of the frames that are seen, outermost first.
     pub fn display(&self) -> &[usize]
-        ensures value { result.now ≡ self.now.stack.display }
-        ensures stored { IsStored self.now }
+        ensures { result.now ≡ self.now.stack.display }
     {
         self.stack.display()
     }
@@ -283,7 +272,7 @@ impl Store {
         self.frames.put(frame, cells);
     }
 
-    /// The open frames of the task that acts.
+    /// The open frames of the task whose part lies here.
     pub fn stack(&self) -> &Stack
         ensures { result.now ≡ self.now.stack }
     {

@@ -1,89 +1,75 @@
--- A task whose next step is enabled: nothing depends on the master that the step leaves (RM 9.3).
-use Rattle.std.proofs.Common.{◌≡◌, ◌<◌, ℕ, List, [], ◌∷◌, length, Some, Bool, true, false, ◌||◌, refl, ap, sym, ◌∙◌}
+-- How constructs end.
+use Rattle.std.proofs.Common.{◌≡◌, ℕ, zero, suc, ℤ, List, [], ◌∷◌, Option, Some, None, slice_index_or, refl, ap, sym, ◌∙◌}
+use Rattle.std.specs.Prelude.{Result, Bool}
+use Rattle.aud_text.specs.declared.place.Pos.{Pos}
+use Rattle.aud_text.specs.declared.raise.Raise.{Raise}
 use Rattle.aud_typed.specs.Tree.{Plan}
-use Rattle.aud_meaning.specs.declared.state.Status.{Status}
-use Rattle.aud_meaning.specs.declared.state.Status.TheVariants.{Created, Running, Activating, Accepting, Delaying, Calling, Completed, Terminated}
-use Rattle.aud_meaning.specs.Configuration as meaning
-use Rattle.aud_meaning.specs.Control.{Seen}
-use Rattle.aud_meaning.specs.Effects.{outermost}
-use Rattle.aud_meaning.specs.Parts.{any, depends, may_terminate, owns, Closable}
-use Rattle.aud_meaning.specs.Run.{seen}
-use Rattle.aud_meaning.specs.Ties.Single.{Stage}
-use Rattle.aud_code.specs.Flat.{Flat, flat_controls}
-use Rattle.aud_among.proofs.Moving.{closable_law}
-use Rattle.aud_masters.specs.Lives.{Life, is_awake, life_at}
-use Rattle.aud_single.specs.Standing.{LeavesMaster}
-use Rattle.aud_tasks.specs.Kept as kept
-use Rattle.aud_tasks.specs.Kept.{Kept, Member, member_at, tasks_of, all_of, single_of, Agrees, AreMembers, IsWhole}
-use Rattle.aud_tasks.specs.Moving.{HasMove, IsEnabled}
-use Rattle.aud_tasks.proofs.Around.{Acts, member_so}
-use Rattle.aud_tasks.proofs.Moving.{owns_seen, none_has, under_way_has, completed_has, awake_within}
+use Rattle.aud_meaning.specs.declared.state.Pending.{Pending}
+use Rattle.aud_meaning.specs.Configuration.{All, Back, Opened, Own, Target, TaskAt}
+use Rattle.aud_meaning.specs.Effects.{CopiedBack, copied_back, out_of_loops, with_result}
+use Rattle.aud_meaning.specs.Evaluation.{Sight}
+use Rattle.aud_meaning.specs.Orders.{Orders}
+use Rattle.aud_meaning.specs.Parts.{changed, exception_of, nobody, on_own, own_of, owns}
+use Rattle.aud_meaning.specs.Tasks as effect
+use Rattle.aud_meaning.specs.Ties.Stack.{returning}
+use Rattle.aud_store.specs.declared.stack.Open.{Open}
+use Rattle.aud_store.specs.declared.stack.Purpose.{Purpose}
+use Rattle.aud_store.specs.declared.stack.Purpose.TheVariants.{Body, Block, Loop, Procedure}
+use Rattle.aud_store.specs.Ties.Stored.{innermost_backs, plain_open, plain_purpose, purpose_backs}
+use Rattle.aud_tasks.specs.Leaving.{closed_by}
 
--- No task waits at a terminate alternative.
+module _ {C : Type 0} where
+  own_in : (f : Own → Own) → f nobody ≡ nobody → (n : ℕ) (ts : List (TaskAt C)) → slice_index_or (owns (changed n (λ t. record t { own = f t.own }) ts)) n nobody ≡ f (slice_index_or (owns ts) n nobody)
+  own_in f none n [] = sym none
+  own_in f none zero (t ∷ ts) = refl
+  own_in f none (suc n) (t ∷ ts) = own_in f none n ts
 
-waits_not : (m : Member) (l : Life) (status : Status) (stage : Stage) → Agrees status stage → may_terminate (kept.own_of m (record l { status = status })) ≡ false
-waits_not m l Created stage agrees = refl
-waits_not m l Running stage agrees = refl
-waits_not m l Activating stage agrees = refl
-waits_not m l Accepting stage agrees = absurd agrees
-waits_not m l Delaying stage agrees = absurd agrees
-waits_not m l Calling stage agrees = absurd agrees
-waits_not m l Completed stage agrees = refl
-waits_not m l Terminated stage agrees = refl
+  -- what a task has that was changed
+  pub own_on : (f : Own → Own) → f nobody ≡ nobody → (n : ℕ) (c : All C) → own_of n (on_own n f c) ≡ f (own_of n c)
+  own_on f none n c = own_in f none n c.tasks
 
-none_waits : (ms : List Member) (ls : List Life) → AreMembers ms ls → any may_terminate (owns (tasks_of ms ls)) ≡ false
-none_waits [] ls are = refl
-none_waits (m ∷ ms) [] are = absurd are
-none_waits (m ∷ ms) (l ∷ ls) are =
-    ap (λ b. b || any may_terminate (owns (tasks_of ms ls))) (waits_not m l l.status m.alone.stage are.0.agrees)
-    ∙ none_waits ms ls are.1
-
-awake_acts : (status : Status) (stage : Stage) → is_awake status ≡ true → Agrees status stage → Acts status
-awake_acts Created stage h agrees = absurd cc
-awake_acts Running stage h agrees = tt
-awake_acts Activating stage h agrees = absurd cc
-awake_acts Accepting stage h agrees = absurd agrees
-awake_acts Delaying stage h agrees = absurd agrees
-awake_acts Calling stage h agrees = absurd agrees
-awake_acts Completed stage h agrees = tt
-awake_acts Terminated stage h agrees = absurd cc
-
-module _ (plan : Plan) (code : Flat) (k : Kept) (n : ℕ) (whole : IsWhole k) (enabled : IsEnabled plan code n k) where
-  abbrev all_seen : meaning.All Seen
-  all_seen = seen plan (flat_controls plan code) (all_of k)
-
-  can : (b : Bool) → HasMove plan code n k b → b ≡ true
-  can true has = refl
-  can false has = absurd (cc (sym enabled ∙ has))
-
-  free : (master : ℕ) → Closable master all_seen ≡ true → any (depends master) (owns (all_of k).tasks) ≡ false
-  free master closable =
-      let same = owns_seen plan code 0 (all_of k).tasks (owns (all_of k).tasks) (all_of k).shared in
-      sym (ap (any (depends master)) same)
-      ∙ closable_law all_seen master (ap (any may_terminate) same ∙ none_waits k.members k.lives whole.members) closable
-
-  -- nothing depends on the body of a completed task
-  pub completed_free : (life_at n k.lives).status ≡ Completed → any (depends (outermost (single_of n k).stack.opened)) (owns (all_of k).tasks) ≡ false
-  completed_free is =
-      let master = outermost (member_at n k).alone.stack.opened in
-      free master (can (Closable master all_seen) (completed_has plan code k n whole is (Closable master all_seen) refl))
-
-  -- nor on what one under way leaves
-  pub left_free : (life_at n k.lives).status ≡ Running → (master : ℕ) → LeavesMaster code (single_of n k) (single_of n k).stage (Some master) → any (depends master) (owns (all_of k).tasks) ≡ false
-  left_free is master leaves =
-      free master (can (Closable master all_seen) (under_way_has plan code k n whole is (Some master) leaves (Closable master all_seen) refl))
-
-  -- it is under way, or completed
-
-  awake : is_awake (life_at n k.lives).status ≡ true
-  awake = by (is_awake (life_at n k.lives).status) refl
+module _ {C : Type 0} (go : Orders C) (plan : Plan) (barrier : ℕ → Sight → Result Bool Raise) where
+  through : (f : Option Raise → CopiedBack → CopiedBack) → ((b : CopiedBack) → f None b ≡ b) → ((r : Raise) (b : CopiedBack) → f (Some r) b ≡ b) → (back : CopiedBack) (at : Pos) (n : ℕ) (c : All C) → effect.given_back go plan barrier back at n c ≡ effect.given_back go plan barrier (f back.raised back) at n c
+  through f none some back at n c = ap (λ b. effect.given_back go plan barrier b at n c) (sym (same back.raised))
     where
-      by : (b : Bool) → is_awake (life_at n k.lives).status ≡ b → is_awake (life_at n k.lives).status ≡ true
-      by true is = is
-      by false is = is ∙ can false (none_has plan code k n whole (life_at n k.lives).status refl is)
+      same : (r : Option Raise) → f r back ≡ back
+      same None = none back
+      same (Some r) = some r back
 
-  pub within_so : n < length k.members
-  within_so = awake_within plan code k n whole (life_at n k.lives).status refl awake
+  -- a procedure has no value
+  abbrev value_by : Option Target → Option Raise → CopiedBack → CopiedBack
+  value_by into None b = with_result into None b
+  value_by into (Some raise) b = b
 
-  pub acts_so : Acts (life_at n k.lives).status
-  acts_so = awake_acts (life_at n k.lives).status (member_at n k).alone.stage awake (member_so k n whole within_so).agrees
+  pub returned_so : (values : List ℤ) (bs : List Back) (into : Option Target) (frame : ℕ) (at : Pos) (n : ℕ) (c : All C) → values ≡ slice_index_or c.shared.frames frame [] → effect.given_back go plan barrier (copied_back values bs c.shared.frames) at n c ≡ effect.returned go plan barrier (returning bs into) frame at n c
+  returned_so values bs None frame at n c is =
+      ap (λ vs. effect.given_back go plan barrier (copied_back vs bs c.shared.frames) at n c) is
+      ∙ through (value_by None) (λ b. refl) (λ r b. refl) (copied_back (slice_index_or c.shared.frames frame []) bs c.shared.frames) at n c
+  returned_so values bs (Some target) frame at n c is =
+      ap (λ vs. effect.given_back go plan barrier (copied_back vs bs c.shared.frames) at n c) is
+      ∙ through (value_by (Some target)) (λ b. refl) (λ r b. refl) (copied_back (slice_index_or c.shared.frames frame []) bs c.shared.frames) at n c
+
+  -- what the end of the innermost construct is, by what it was opened for
+  module _ (p : Option Pending) (n : ℕ) (c : All C) (o : Open) (saved : List ℕ) (backs : List Back) (outer : List Opened) (e : (out_of_loops (own_of n c)).opened ≡ plain_open o saved backs ∷ outer) where
+    ends_so : (u : Purpose) → o.purpose ≡ u → effect.at_end_by go plan barrier (plain_purpose u backs) p (plain_open o saved backs) n c ≡ effect.at_end go plan barrier p n c
+    ends_so u is = ap (λ v. effect.at_end_by go plan barrier (plain_purpose v backs) p (plain_open o saved backs) n c) (sym is) ∙ ap (λ os. effect.at_end_of go plan barrier os p n c) (sym e)
+
+    pub at_end_body : o.purpose ≡ Body → effect.completes go plan barrier (exception_of p) n c ≡ effect.at_end go plan barrier p n c
+    at_end_body is = ends_so Body is
+
+    pub at_end_block : o.purpose ≡ Block → effect.at_block_end go plan barrier p (plain_open o saved backs) n (on_own n out_of_loops c) ≡ effect.at_end go plan barrier p n c
+    at_end_block is = ends_so Block is
+
+    pub at_end_loop : o.purpose ≡ Loop → c ≡ effect.at_end go plan barrier p n c
+    at_end_loop is = ends_so Loop is
+
+    pub at_end_procedure : (level copies : ℕ) (into : Option Target) → o.purpose ≡ Procedure level copies into →
+        effect.at_procedure_end go plan barrier p (returning (innermost_backs (out_of_loops (own_of n c)).opened) into) (plain_open o saved backs) n (on_own n out_of_loops c) ≡ effect.at_end go plan barrier p n c
+    at_end_procedure level copies into is =
+        ap (λ bs. effect.at_procedure_end go plan barrier p (returning bs into) (plain_open o saved backs) n (on_own n out_of_loops c)) (ap innermost_backs e ∙ ap (λ v. purpose_backs (plain_purpose v backs)) is)
+        ∙ ends_so (Procedure level copies into) is
+
+  -- a block's frame is left
+  pub block_end_by : (p : Option Pending) (o : Opened) (n : ℕ) (c : All C) → effect.close_master go plan barrier o.frame (on_own n (closed_by p o.at) c) ≡ effect.at_block_end go plan barrier p o n c
+  block_end_by None o n c = refl
+  block_end_by (Some p) o n c = refl

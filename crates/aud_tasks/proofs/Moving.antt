@@ -1,530 +1,246 @@
--- The moves of tasks in memory.
-use Rattle.std.proofs.Common.{◌≡◌, ◌<◌, ◌≤◌, ◌+◌, ◌-◌, ℕ, zero, suc, List, [], ◌∷◌, ◌++◌, length, map, slice_get, slice_index_or, Option, Some, None, Bool, true, false, not, ◌||◌, if◌then◌else◌, refl, ap, sym, subst, ◌∙◌, arith}
-use Rattle.std.proofs.lemmas.List.{append_assoc, append-nil, map-append}
-use Rattle.std.specs.Option.{unwrap_or}
-use Rattle.aud_text.specs.declared.place.Pos.{Pos}
-use Rattle.aud_typed.specs.Tree.{Plan}
-use Rattle.aud_meaning.specs.declared.state.Status.{Status}
-use Rattle.aud_meaning.specs.declared.state.Status.TheVariants.{Created, Running, Activating, Accepting, Delaying, Calling, Completed, Terminated}
+-- The moves of all tasks, task by task.
+use Rattle.std.proofs.Common.{◌≡◌, ◌<◌, ◌≤◌, ◌+◌, ℕ, zero, suc, List, [], ◌∷◌, ◌++◌, length, drop, map, get_or, Option, Some, None, Bool, true, false, if◌then◌else◌, slice_get, slice_index_or, add-one, append_assoc, refl, ap, sym, ◌∙◌, arith}
+use Rattle.std.proofs.lemmas.List.{at_drop_all, at_drop_more}
+use Rattle.std.proofs.lemmas.Option.{slice_get-get_or}
+use Rattle.std.specs.Prelude.{filter, nat_le, not, ◌&&◌, ◌||◌}
+use Rattle.aud_typed.specs.Tree.{Plan, ObjectPlan}
+use Rattle.aud_meaning.specs.declared.state.Form.{Form}
+use Rattle.aud_meaning.specs.declared.state.Form.TheVariants.{Plain, Conditional, TimedTo}
+use Rattle.aud_meaning.specs.declared.state.Move.{Move}
+use Rattle.aud_meaning.specs.declared.state.Owner.{Owner}
+use Rattle.aud_meaning.specs.declared.state.Owner.TheVariants as owner
+use Rattle.aud_meaning.specs.declared.state.State.{State}
 use Rattle.aud_meaning.specs.declared.state.State.TheVariants as state
-use Rattle.aud_meaning.specs.declared.state.StepKind.{StepKind}
-use Rattle.aud_meaning.specs.declared.state.StepKind.TheVariants as kind
-use Rattle.aud_meaning.specs.declared.state.NextStep.{NextStep}
-use Rattle.aud_meaning.specs.Configuration.{Pending, Opened, Own, Shared, Call, TaskAt}
-use Rattle.aud_meaning.specs.Configuration as meaning
-use Rattle.aud_meaning.specs.Evaluation.{Sight}
-use Rattle.aud_meaning.specs.Effects.{outermost}
-use Rattle.aud_meaning.specs.Control.{Seen, Coming, simply, ending, selecting, calling, starting}
-use Rattle.aud_meaning.specs.Listings.{coming_kind, next_of, coming_step_at}
-use Rattle.aud_meaning.specs.Parts.{nobody, owns, facts_in, is_terminated, unit_of, Closable}
-use Rattle.aud_meaning.specs.Parts as parts
-use Rattle.aud_meaning.specs.Run.{Move, own_move, only, end_moves, acting_moves, turn, turn_moves, master_left_by, end_kind_by, construct_left, shown_place, seen, seen_from, state_at, main_raised}
-use Rattle.aud_meaning.specs.Ties.Single.{Stage, Stack, runs, completed, terminated, out_of_loops}
+use Rattle.aud_meaning.specs.Configuration.{Call, Own, Shared, TaskAt, All}
+use Rattle.aud_meaning.specs.Control.{Coming, Seen, simply, ending, selecting, calling, starting}
+use Rattle.aud_meaning.specs.Parts.{any, body_master, depends, is_queued, is_terminated, may_terminate, nobody, object_of, own_of, owns, Closable}
+use Rattle.aud_meaning.specs.Run.{acting_moves, call_time, call_time_by, construct_left, end_moves, has_ended, master_left_by, moves, moves_at, moves_by, moves_from, only, own_move, owner_idle, seen, seen_from, serve_moves, some_move, state_at, state_by, times_from, turn_at, turn_moves, turn_times, waiting_by}
+use Rattle.aud_meaning.specs.Tasks.{eligible, eligible_from}
 use Rattle.aud_code.specs.Places.{Spot}
-use Rattle.aud_code.specs.Flat.{Flat, flat_controls, coming_at, end_at}
-use Rattle.aud_single.specs.Next.{IsOfKind, ComesAs, IsKindIn, IsNextKind, place_in}
-use Rattle.aud_single.specs.Shown.{pending_in, raised_in}
-use Rattle.aud_single.specs.Standing.{IsOfMaster, LeavesMaster}
-use Rattle.aud_among.specs.Alone.{IsUndisturbed}
-use Rattle.aud_among.specs.Law.{closable_or_none, moves_by_turn, task_moves, tasks_moves, more_or_stuck, IsUntimed, Rests}
-use Rattle.aud_among.proofs.Seen.{left_same}
-use Rattle.aud_among.proofs.Moving.{moves_law, rest_law, state_law}
-use Rattle.aud_masters.specs.Lives.{Life, life_of, lives_of, lives_in, life_at, is_awake}
-use Rattle.aud_masters.specs.Changes.{Owning}
-use Rattle.aud_tasks.specs.Kept.{Kept, Member, no_member, member_at, own_of, tasks_of, all_of, single_of, Agrees, IsMember, AreMembers, IsWhole}
-use Rattle.aud_tasks.specs.Moving.{may_move, moves_from, moves_of, ComesNext, HasMove, IsIn, IsNth}
-use Rattle.aud_tasks.proofs.Around.{task_at, is_member_at, task_with, with_stage}
-use Rattle.aud_tasks.proofs.Living.{life_own, lives_on}
+use Rattle.aud_code.specs.Flat.{Flat, barrier_at, flat_controls}
+use Rattle.aud_state.specs.Reads.{cancelled_from, is_free, time_by, LeavesBy}
+use Rattle.aud_tasks.specs.declared.turn.Turn.{Turn}
+use Rattle.aud_tasks.specs.Moving.{alone_if, moves_of, times_of}
+use Rattle.aud_tasks.specs.Turning.{turn_in, turned}
+use Rattle.aud_tasks.proofs.Seen.{none_seen}
 
--- The lives are those of the tasks.
+-- Parts of lists.
 
-life_by : (m : Member) (l : Life) (status : Status) → life_of (own_of m (record l { status = status })) ≡ record l { status = status }
-life_by m l Created = refl
-life_by m l Running = refl
-life_by m l Activating = refl
-life_by m l Accepting = refl
-life_by m l Delaying = refl
-life_by m l Calling = refl
-life_by m l Completed = refl
-life_by m l Terminated = refl
+pub get_within : {A : Type 0} (xs ys : List A) (n : ℕ) (x : A) → slice_get xs n ≡ Some x → slice_get (xs ++ ys) n ≡ Some x
+get_within [] ys n x is = absurd cc
+get_within (z ∷ xs) ys zero x is = is
+get_within (z ∷ xs) ys (suc n) x is = get_within xs ys n x is
 
-pub lives_same : (ms : List Member) (ls : List Life) → AreMembers ms ls → lives_of (owns (tasks_of ms ls)) ≡ ls
-lives_same [] [] are = refl
-lives_same [] (l ∷ ls) are = absurd are
-lives_same (m ∷ ms) [] are = absurd are
-lives_same (m ∷ ms) (l ∷ ls) are = ap (λ x. x ∷ lives_of (owns (tasks_of ms ls))) (life_by m l l.status) ∙ ap (λ xs. l ∷ xs) (lives_same ms ls are.1)
+pub get_none : {A : Type 0} (xs : List A) (n : ℕ) → slice_get xs n ≡ None → length xs ≤ n
+get_none [] n is = omega arith
+get_none (z ∷ xs) zero is = absurd cc
+get_none (z ∷ xs) (suc n) is = let h = get_none xs n is in omega (arith, h)
 
-pub as_many_lives : (ms : List Member) (ls : List Life) → AreMembers ms ls → length ls ≡ length ms
-as_many_lives [] [] are = refl
-as_many_lives [] (l ∷ ls) are = absurd are
-as_many_lives (m ∷ ms) [] are = absurd are
-as_many_lives (m ∷ ms) (l ∷ ls) are = ap suc (as_many_lives ms ls are.1)
+pub get_behind : {A : Type 0} (xs ys : List A) (n k : ℕ) → slice_get xs n ≡ None → n ≡ length xs + k → slice_get (xs ++ ys) n ≡ slice_get ys k
+get_behind [] ys n k is e =
+    let same : n ≡ k = omega (arith, e) in
+    ap (slice_get ys) same
+get_behind (z ∷ xs) ys zero k is e = absurd cc
+get_behind (z ∷ xs) ys (suc n) k is e = get_behind xs ys n k is (omega (arith, e))
 
-pub as_many_tasks : (ms : List Member) (ls : List Life) → AreMembers ms ls → length (tasks_of ms ls) ≡ length ms
-as_many_tasks [] ls are = refl
-as_many_tasks (m ∷ ms) [] are = absurd are
-as_many_tasks (m ∷ ms) (l ∷ ls) are = ap suc (as_many_tasks ms ls are.1)
-
-pub own_got : (ts : List (TaskAt Spot)) (n : ℕ) (t : TaskAt Spot) → slice_get ts n ≡ Some t → slice_index_or (owns ts) n nobody ≡ t.own
-own_got [] n t at = absurd cc
-own_got (x ∷ ts) zero t at = ap (λ (o : Option (TaskAt Spot)). (unwrap_or o x).own) at
-own_got (x ∷ ts) (suc n) t at = own_got ts n t at
-
--- how far a task is, is what its life says
-pub status_at : (k : Kept) (n : ℕ) → IsWhole k → (parts.own_of n (all_of k)).status ≡ (life_at n k.lives).status
-status_at k n whole =
-    sym (ap (λ (l : Life). l.status) (life_own (owns (all_of k).tasks) n))
-    ∙ ap (λ ls. (life_at n ls).status) (lives_same k.members k.lives whole.members)
-
--- the main procedure has ended
-pub ended_by : (k : Kept) (ended : Bool) → Owning k.lives (λ os. (calls : List Call) → ended ≡ (facts_in os calls).terminated 0) → IsWhole k → ended ≡ is_terminated (parts.own_of 0 (all_of k)).status
-ended_by k ended told whole = told (owns (all_of k).tasks) (lives_same k.members k.lives whole.members) []
-
--- there is one of this number, where it is not terminated
-pub is_there : (k : Kept) (n : ℕ) (status : Status) → IsWhole k → (life_at n k.lives).status ≡ status → ¬ (status ≡ Terminated) → n < length k.members
-is_there k n status whole is other =
-    omega (arith, lives_on k.lives n (λ e. other (sym is ∙ e)), as_many_lives k.members k.lives whole.members)
-
-raised_by : (m : Member) (l : Life) (status : Status) → raised_in m.alone.stage ≡ (own_of m (record l { status = status })).raised
-raised_by m l Created = refl
-raised_by m l Running = refl
-raised_by m l Activating = refl
-raised_by m l Accepting = refl
-raised_by m l Delaying = refl
-raised_by m l Calling = refl
-raised_by m l Completed = refl
-raised_by m l Terminated = refl
-
--- the exception that left the main procedure
-pub raised_main : (ms : List Member) (ls : List Life) → 0 < length ms → AreMembers ms ls → raised_in (slice_index_or ms 0 no_member).alone.stage ≡ main_raised (tasks_of ms ls)
-raised_main [] ls main are = absurd (omega (arith, main))
-raised_main (m ∷ ms) [] main are = absurd are
-raised_main (m ∷ ms) (l ∷ ls) main are = raised_by m l l.status
-
--- and what is pending in it
-pending_by : (m : Member) (l : Life) (status : Status) → Agrees status m.alone.stage → pending_in m.alone.stage ≡ (own_of m (record l { status = status })).pending
-pending_by m l Created agrees = refl
-pending_by m l Running agrees = refl
-pending_by m l Activating agrees = refl
-pending_by m l Accepting agrees = refl
-pending_by m l Delaying agrees = refl
-pending_by m l Calling agrees = refl
-pending_by m l Completed agrees = refl
-pending_by m l Terminated agrees = agrees
-
--- how far a task is by itself is what is pending in it, and the exception that left it
-pub pending_at : (ms : List Member) (ls : List Life) (n : ℕ) → n < length ms → AreMembers ms ls → pending_in (slice_index_or ms n no_member).alone.stage ≡ (slice_index_or (owns (tasks_of ms ls)) n nobody).pending
-pending_at [] ls n within are = absurd (omega (arith, within))
-pending_at (m ∷ ms) [] n within are = absurd are
-pending_at (m ∷ ms) (l ∷ ls) zero within are = pending_by m l l.status are.0.agrees
-pending_at (m ∷ ms) (l ∷ ls) (suc n) within are = pending_at ms ls n (omega (arith, within)) are.1
-
-pub raised_at : (ms : List Member) (ls : List Life) (n : ℕ) → n < length ms → AreMembers ms ls → raised_in (slice_index_or ms n no_member).alone.stage ≡ (slice_index_or (owns (tasks_of ms ls)) n nobody).raised
-raised_at [] ls n within are = absurd (omega (arith, within))
-raised_at (m ∷ ms) [] n within are = absurd are
-raised_at (m ∷ ms) (l ∷ ls) zero within are = raised_by m l l.status
-raised_at (m ∷ ms) (l ∷ ls) (suc n) within are = raised_at ms ls n (omega (arith, within)) are.1
-
--- No task services an object or is abnormal, and none waits for a time.
-
-undisturbed_by : (m : Member) (l : Life) (status : Status) → l.abnormal ≡ false → IsUndisturbed (own_of m (record l { status = status }))
-undisturbed_by m l Created h = record { serves_none = refl; not_abnormal = h }
-undisturbed_by m l Running h = record { serves_none = refl; not_abnormal = h }
-undisturbed_by m l Activating h = record { serves_none = refl; not_abnormal = h }
-undisturbed_by m l Accepting h = record { serves_none = refl; not_abnormal = h }
-undisturbed_by m l Delaying h = record { serves_none = refl; not_abnormal = h }
-undisturbed_by m l Calling h = record { serves_none = refl; not_abnormal = h }
-undisturbed_by m l Completed h = record { serves_none = refl; not_abnormal = h }
-undisturbed_by m l Terminated h = record { serves_none = refl; not_abnormal = h }
-
-undisturbed_at : (ms : List Member) (ls : List Life) (n : ℕ) → AreMembers ms ls → IsUndisturbed (slice_index_or (owns (tasks_of ms ls)) n nobody)
-undisturbed_at [] ls n are = record { serves_none = refl; not_abnormal = refl }
-undisturbed_at (m ∷ ms) [] n are = absurd are
-undisturbed_at (m ∷ ms) (l ∷ ls) zero are = undisturbed_by m l l.status are.0.normal
-undisturbed_at (m ∷ ms) (l ∷ ls) (suc n) are = undisturbed_at ms ls n are.1
-
-rests_by : (o : Own) (status : Status) → is_awake status ≡ false → IsUndisturbed o → Rests (record o { status = status })
-rests_by o Created asleep h = tt
-rests_by o Running asleep h = absurd cc
-rests_by o Activating asleep h = record { serves_none = h.serves_none; not_abnormal = h.not_abnormal }
-rests_by o Accepting asleep h = absurd cc
-rests_by o Delaying asleep h = absurd cc
-rests_by o Calling asleep h = absurd cc
-rests_by o Completed asleep h = absurd cc
-rests_by o Terminated asleep h = tt
-
-pub rests_at : (k : Kept) (n : ℕ) (status : Status) → IsWhole k → (life_at n k.lives).status ≡ status → is_awake status ≡ false → Rests (parts.own_of n (all_of k))
-rests_at k n status whole is asleep =
-    rests_by (parts.own_of n (all_of k)) (parts.own_of n (all_of k)).status (ap is_awake (status_at k n whole ∙ is) ∙ asleep) (undisturbed_at k.members k.lives n whole.members)
-
-untimed_by : (m : Member) (l : Life) (status : Status) (stage : Stage) → Agrees status stage → l.abnormal ≡ false → IsUntimed (own_of m (record l { status = status }))
-untimed_by m l Created stage agrees h = tt
-untimed_by m l Running stage agrees h = record { serves_none = refl; not_abnormal = h }
-untimed_by m l Activating stage agrees h = record { serves_none = refl; not_abnormal = h }
-untimed_by m l Accepting stage agrees h = absurd agrees
-untimed_by m l Delaying stage agrees h = absurd agrees
-untimed_by m l Calling stage agrees h = absurd agrees
-untimed_by m l Completed stage agrees h = tt
-untimed_by m l Terminated stage agrees h = tt
-
-pub untimed_at : (ms : List Member) (ls : List Life) (n : ℕ) → AreMembers ms ls → IsUntimed (slice_index_or (owns (tasks_of ms ls)) n nobody)
-untimed_at [] ls n are = tt
-untimed_at (m ∷ ms) [] n are = absurd are
-untimed_at (m ∷ ms) (l ∷ ls) zero are = untimed_by m l l.status m.alone.stage are.0.agrees are.0.normal
-untimed_at (m ∷ ms) (l ∷ ls) (suc n) are = untimed_at ms ls n are.1
+joined : {A : Type 0} (xs ys : List A) → length (xs ++ ys) ≡ length xs + length ys
+joined [] ys = omega arith
+joined (x ∷ xs) ys = let h = joined xs ys in omega (arith, h)
 
 module _ (plan : Plan) (code : Flat) where
-  pub owns_seen : (i : ℕ) (ts : List (TaskAt Spot)) (os : List Own) (shared : Shared) → owns (seen_from plan (flat_controls plan code) i ts os shared) ≡ owns ts
+  -- What is seen of all tasks.
+
+  owns_seen : (i : ℕ) (ts : List (TaskAt Spot)) (os : List Own) (shared : Shared) → owns (seen_from plan (flat_controls plan code) i ts os shared) ≡ owns ts
   owns_seen i [] os shared = refl
-  owns_seen i (t ∷ ts) os shared = ap (λ l. t.own ∷ l) (owns_seen (suc i) ts os shared)
+  owns_seen i (t ∷ ts) os shared = ap (λ xs. t.own ∷ xs) (owns_seen (suc i) ts os shared)
 
-  pub lives_seen : (k : Kept) → IsWhole k → lives_in (seen plan (flat_controls plan code) (all_of k)) ≡ k.lives
-  lives_seen k whole = ap lives_of (owns_seen 0 (all_of k).tasks (owns (all_of k).tasks) (all_of k).shared) ∙ lives_same k.members k.lives whole.members
+  any_seen : (f : Own → Bool) (i : ℕ) (ts : List (TaskAt Spot)) (os : List Own) (shared : Shared) → any (λ (t : TaskAt Seen). f t.own) (seen_from plan (flat_controls plan code) i ts os shared) ≡ any (λ (t : TaskAt Spot). f t.own) ts
+  any_seen f i [] os shared = refl
+  any_seen f i (t ∷ ts) os shared = ap (λ b. f t.own || b) (any_seen f (suc i) ts os shared)
 
-  abbrev seen_with : Sight → TaskAt Spot → TaskAt Seen
-  seen_with s t = record { control = record { coming = coming_at code plan t.own.pending s t.control; place = shown_place plan (flat_controls plan code) t.own.pending t.control }; own = t.own }
+  many_seen : (i : ℕ) (ts : List (TaskAt Spot)) (os : List Own) (shared : Shared) → length (seen_from plan (flat_controls plan code) i ts os shared) ≡ length ts
+  many_seen i [] os shared = refl
+  many_seen i (t ∷ ts) os shared = ap suc (many_seen (suc i) ts os shared)
 
-  -- what is seen of the task of a number
-  pub record SeenAt (ts : List (TaskAt Seen)) (n : ℕ) (t : TaskAt Spot) : Type 0 where
-    pub sight : Sight
-    pub is : slice_get ts n ≡ Some (seen_with sight t)
+  ended_seen : (ts : List (TaskAt Spot)) (os : List Own) (shared : Shared) → has_ended plan (barrier_at code) (seen_from plan (flat_controls plan code) 0 ts os shared) ≡ is_terminated (slice_index_or (owns ts) 0 nobody).status
+  ended_seen [] os shared = refl
+  ended_seen (t ∷ ts) os shared = refl
 
-  pub seen_at : (i : ℕ) (ts : List (TaskAt Spot)) (os : List Own) (shared : Shared) (n : ℕ) (t : TaskAt Spot) → slice_get ts n ≡ Some t → SeenAt (seen_from plan (flat_controls plan code) i ts os shared) n t
-  seen_at i [] os shared n t at = absurd cc
-  seen_at i (x ∷ ts) os shared zero t at = record { sight = parts.sight_in i os shared; is = ap (λ o. Some (seen_with (parts.sight_in i os shared) (unwrap_or o x))) at }
-  seen_at i (x ∷ ts) os shared (suc n) t at =
-      let behind = seen_at (suc i) ts os shared n t at in
-      record { sight = behind.sight; is = behind.is }
+  pub only_if : (b : Bool) (n : ℕ) → alone_if b n ≡ only plan (barrier_at code) b n
+  only_if true n = refl
+  only_if false n = refl
 
-  -- its moves, by what comes next
-  module _ (n : ℕ) (d : meaning.All Seen) where
-    end_by : (master : Option ℕ) → end_moves plan (flat_controls plan code).barrier master n d ≡ only plan (flat_controls plan code).barrier (closable_or_none master d) n
-    end_by None = refl
-    end_by (Some master) = refl
+  -- the objects of a program that has none
+  pub serve_one : (object n : ℕ) (c : All Seen) → plan.objects ≡ [] → serve_moves plan (barrier_at code) (eligible plan (barrier_at code) object c) n ≡ own_move n ∷ []
+  serve_one object n c none =
+      ap (λ (os : List ObjectPlan). serve_moves plan (barrier_at code) (eligible_from plan (barrier_at code) 1 (slice_index_or os (object_of object c).declaration (record { name = []; entries = [] })).entries object c) n) none
 
-    only_by : Bool → List Move
-    only_by b = only plan (flat_controls plan code).barrier b n
+  module _ (c : All Spot) where
+    abbrev d : All Seen
+    d = seen plan (flat_controls plan code) c
 
-    pub acting_only : (x : Coming) (stack : Stack) (master : Option ℕ) → IsOfMaster stack master x → construct_left (parts.own_of n d) ≡ (out_of_loops stack).opened → acting_moves plan (flat_controls plan code).barrier x n d ≡ only plan (flat_controls plan code).barrier (closable_or_none master d) n
-    acting_only (simply w) stack master h left = sym (ap (λ (o : Option ℕ). only plan (flat_controls plan code).barrier (closable_or_none o d) n) h)
-    acting_only ending stack master h left =
-        ap (λ os. end_moves plan (flat_controls plan code).barrier (master_left_by os) n d) left
-        ∙ end_by (master_left_by (out_of_loops stack).opened)
-        ∙ sym (ap (λ (o : Option ℕ). only plan (flat_controls plan code).barrier (closable_or_none o d) n) h)
-    acting_only (selecting ones) stack master h left = absurd h
-    acting_only (calling task entry) stack master h left = absurd h
-    acting_only (starting object reading) stack master h left = absurd h
+    abbrev pub from : ℕ → List Move
+    from n = moves_from plan (barrier_at code) n (drop n d.tasks) d
 
-    pub only_if : (b : Bool) → only plan (flat_controls plan code).barrier b n ≡ (if b then own_move n ∷ [] else [])
-    only_if true = refl
-    only_if false = refl
+    abbrev pub times : ℕ → List ℕ
+    times n = times_from plan (barrier_at code) n (drop n d.tasks) d
 
-    -- a task under way, and a completed one
-    abbrev running : Member → Life → Option Pending → Own
-    running m l pending = own_of (with_stage (runs pending) m) (record l { status = Running; abnormal = false })
+    pub many : length d.tasks ≡ length c.tasks
+    many = many_seen 0 c.tasks (owns c.tasks) c.shared
 
-    pub running_moves : (m : Member) (l : Life) (pending : Option Pending) (s : Sight) (master : Option ℕ) → IsOfMaster m.alone.stack master (coming_at code plan pending s m.alone.control) → parts.own_of n d ≡ running m l pending →
-        turn_moves plan (flat_controls plan code).barrier (turn plan (flat_controls plan code).barrier n (seen_with s (record { control = m.alone.control; own = running m l pending })) d) n d ≡ only plan (flat_controls plan code).barrier (closable_or_none master d) n
-    running_moves m l pending s master h own =
-        acting_only (coming_at code plan pending s m.alone.control) m.alone.stack master h (ap construct_left own ∙ left_same (running m l pending))
+    pub own_seen : (n : ℕ) → own_of n d ≡ own_of n c
+    own_seen n = ap (λ os. slice_index_or os n nobody) (owns_seen 0 c.tasks (owns c.tasks) c.shared)
 
-    abbrev ended_body : Member → Life → Own
-    ended_body m l = own_of m (record l { status = Completed })
+    pub closable_seen : (master : ℕ) → Closable master d ≡ Closable master c
+    closable_seen master = ap not (any_seen (λ o. depends master o && not (may_terminate o)) 0 c.tasks (owns c.tasks) c.shared)
 
-    pub completed_moves : (m : Member) (l : Life) (s : Sight) → parts.own_of n d ≡ ended_body m l →
-        turn_moves plan (flat_controls plan code).barrier (turn plan (flat_controls plan code).barrier n (seen_with s (record { control = m.alone.control; own = ended_body m l })) d) n d ≡ only plan (flat_controls plan code).barrier (Closable (outermost m.alone.stack.opened) d) n
-    completed_moves m l s own = ap (λ (o : Own). only plan (flat_controls plan code).barrier (Closable (outermost o.opened) d) n) own
+    -- one by one
+    pub moves_next : (n : ℕ) → n < length c.tasks → from n ≡ moves_of plan code n c ++ from (n + 1)
+    moves_next n within =
+        let inside : n < length d.tasks = omega (arith, within, many) in
+        at_drop_more (λ ts. moves_from plan (barrier_at code) n ts d) d.tasks n none_seen inside
+        ∙ ap (λ k. turn_moves plan (barrier_at code) (turn_at plan (barrier_at code) (Some (get_or d.tasks n none_seen)) n d) n d ++ moves_from plan (barrier_at code) k (drop (n + 1) d.tasks) d) (sym (add-one n))
+        ∙ ap (λ o. turn_moves plan (barrier_at code) (turn_at plan (barrier_at code) o n d) n d ++ from (n + 1)) (sym (slice_get-get_or d.tasks n none_seen inside))
 
-  -- The moves of a task in memory.
+    pub moves_past : (n : ℕ) → length c.tasks ≤ n → from n ≡ []
+    moves_past n past = at_drop_all (λ ts. moves_from plan (barrier_at code) n ts d) d.tasks n (omega (arith, past, many))
 
-  module _ (k : Kept) (n : ℕ) (whole : IsWhole k) where
-    abbrev pub view : meaning.All Seen
-    view = seen plan (flat_controls plan code) (all_of k)
+    pub times_next : (n : ℕ) → n < length c.tasks → times n ≡ times_of plan code n c ++ times (n + 1)
+    times_next n within =
+        let inside : n < length d.tasks = omega (arith, within, many) in
+        at_drop_more (λ ts. times_from plan (barrier_at code) n ts d) d.tasks n none_seen inside
+        ∙ ap (λ k. turn_times plan (barrier_at code) (turn_at plan (barrier_at code) (Some (get_or d.tasks n none_seen)) n d) d ++ times_from plan (barrier_at code) k (drop (n + 1) d.tasks) d) (sym (add-one n))
+        ∙ ap (λ o. turn_times plan (barrier_at code) (turn_at plan (barrier_at code) o n d) d ++ times (n + 1)) (sym (slice_get-get_or d.tasks n none_seen inside))
 
-    pub none_has : (status : Status) → (life_at n k.lives).status ≡ status → is_awake status ≡ false → HasMove plan code n k false
-    none_has status is asleep = rest_law plan (flat_controls plan code) n (all_of k) (rests_at k n status whole is asleep)
+    pub times_past : (n : ℕ) → length c.tasks ≤ n → times n ≡ []
+    times_past n past = at_drop_all (λ ts. times_from plan (barrier_at code) n ts d) d.tasks n (omega (arith, past, many))
 
-    module _ (within : n < length k.members) where
-      abbrev task : TaskAt Spot
-      task = task_with (member_at n k) (life_at n k.lives)
-
-      found : slice_get (all_of k).tasks n ≡ Some task
-      found = task_at k.members k.lives n within whole.members
-
-      so : IsMember (member_at n k) (life_at n k.lives)
-      so = is_member_at k.members k.lives n within whole.members
-
-      own_seen : parts.own_of n view ≡ task.own
-      own_seen = ap (λ os. slice_index_or os n nobody) (owns_seen 0 (all_of k).tasks (owns (all_of k).tasks) (all_of k).shared) ∙ own_got (all_of k).tasks n task found
-
-      pub there : SeenAt view.tasks n task
-      there = seen_at 0 (all_of k).tasks (owns (all_of k).tasks) (all_of k).shared n task found
-
-      -- by what it has, which is this
-      abbrev with_own : Own → TaskAt Spot
-      with_own o = record { control = (member_at n k).alone.control; own = o }
-
-      moves_as : (o : Own) (ms : List Move) → task.own ≡ o → ((s : Sight) → parts.own_of n view ≡ o → turn_moves plan (flat_controls plan code).barrier (turn plan (flat_controls plan code).barrier n (seen_with s (with_own o)) view) n view ≡ ms) → task_moves plan (flat_controls plan code) n (all_of k) ≡ ms
-      moves_as o ms is moves =
-          ap (λ x. moves_by_turn plan (flat_controls plan code) x n (all_of k)) there.is
-          ∙ ap (λ x. turn_moves plan (flat_controls plan code).barrier (turn plan (flat_controls plan code).barrier n (seen_with there.sight (with_own x)) view) n view) is
-          ∙ moves there.sight (own_seen ∙ is)
-
-    life_so : (l : Life) (status : Status) → l.status ≡ status → l.abnormal ≡ false → l ≡ record l { status = status; abnormal = false }
-    life_so l status is normal = ap (λ s. record l { status = s }) is ∙ ap (λ b. record l { status = status; abnormal = b }) normal
-
-    pub own_running : (m : Member) (l : Life) (pending : Option Pending) → m.alone.stage ≡ runs pending → l.status ≡ Running → l.abnormal ≡ false → own_of m l ≡ running n view m l pending
-    own_running m l pending stage status normal =
-        ap (λ s. own_of (with_stage s m) l) stage ∙ ap (own_of (with_stage (runs pending) m)) (life_so l Running status normal)
-
-    pub under_way_has : (life_at n k.lives).status ≡ Running → (master : Option ℕ) → LeavesMaster code (single_of n k) (single_of n k).stage master → (b : Bool) → b ≡ closable_or_none master view → HasMove plan code n k b
-    under_way_has status master leaves b closable =
-        let within = is_there k n Running whole status (λ e. absurd cc) in
-        by within (member_at n k).alone.stage refl (subst (λ s. Agrees s (member_at n k).alone.stage) status (so within).agrees) leaves
-      where
-        by : n < length k.members → (stage : Stage) → (member_at n k).alone.stage ≡ stage → Agrees Running stage → LeavesMaster code (single_of n k) stage master → HasMove plan code n k b
-        by within (runs pending) is agrees leaves =
-            let m = member_at n k in
-            let l = life_at n k.lives in
-            moves_as within (running n view m l pending) (if b then own_move n ∷ [] else []) (own_running m l pending is status (so within).normal) (λ s own.
-            running_moves n view m l pending s master (leaves plan s) own
-            ∙ only_if n view (closable_or_none master view)
-            ∙ ap (λ x. if x then own_move n ∷ [] else []) (sym closable))
-        by within (completed raised) is agrees leaves = absurd agrees
-        by within (terminated raised) is agrees leaves = absurd agrees
-
-    pub completed_has : (life_at n k.lives).status ≡ Completed → (b : Bool) → b ≡ Closable (outermost (member_at n k).alone.stack.opened) view → HasMove plan code n k b
-    completed_has status b closable =
-        let within = is_there k n Completed whole status (λ e. absurd cc) in
-        let m = member_at n k in
-        let l = life_at n k.lives in
-        moves_as within (ended_body n view m l) (if b then own_move n ∷ [] else []) (ap (λ s. own_of m (record l { status = s })) status) (λ s own.
-        completed_moves n view m l s own
-        ∙ only_if n view (Closable (outermost m.alone.stack.opened) view)
-        ∙ ap (λ x. if x then own_move n ∷ [] else []) (sym closable))
-
-  -- The moves of tasks from a number on.
-
-  module _ (k : Kept) where
-    abbrev moves_at_task : ℕ → List Move
-    moves_at_task n = task_moves plan (flat_controls plan code) n (all_of k)
-
-    pub moves_next : (n : ℕ) (b : Bool) → n < length k.members → HasMove plan code n k b → moves_from plan code n k ≡ (if b then own_move n ∷ [] else []) ++ moves_from plan code (n + 1) k
-    moves_next n b within has =
-        let count : length k.members - n ≡ suc (length k.members - (n + 1)) = omega (arith, within) in
-        let one : suc n ≡ n + 1 = omega arith in
-        ap (λ c. tasks_moves plan (flat_controls plan code) n c (all_of k)) count
-        ∙ ap (λ ms. ms ++ tasks_moves plan (flat_controls plan code) (suc n) (length k.members - (n + 1)) (all_of k)) has
-        ∙ ap (λ m. (if b then own_move n ∷ [] else []) ++ tasks_moves plan (flat_controls plan code) m (length k.members - (n + 1)) (all_of k)) one
-
-    pub moves_over : (n : ℕ) → length k.members ≤ n → moves_from plan code n k ≡ []
-    moves_over n over =
-        let none : length k.members - n ≡ 0 = omega (arith, over) in
-        ap (λ c. tasks_moves plan (flat_controls plan code) n c (all_of k)) none
-
-    by_may : (b : Bool) (ms : List Move) → not b ≡ true → (if b then [] else ms) ≡ ms
-    by_may true ms h = absurd cc
-    by_may false ms h = refl
-
-    by_may_not : (b : Bool) (ms : List Move) → not b ≡ false → (if b then [] else ms) ≡ []
-    by_may_not true ms h = refl
-    by_may_not false ms h = absurd cc
-
-    pub moves_all : IsWhole k → may_move k ≡ true → moves_of plan code k ≡ moves_from plan code 0 k
-    moves_all whole may =
-        let all : length (all_of k).tasks ≡ length k.members - 0 = omega (arith, as_many_tasks k.members k.lives whole.members) in
-        moves_law plan (flat_controls plan code) (all_of k)
-        ∙ by_may (is_terminated (parts.own_of 0 (all_of k)).status || k.cut) _ may
-        ∙ ap (λ c. tasks_moves plan (flat_controls plan code) 0 c (all_of k)) all
-
-    pub moves_none : may_move k ≡ false → moves_of plan code k ≡ []
-    moves_none may = moves_law plan (flat_controls plan code) (all_of k) ∙ by_may_not (is_terminated (parts.own_of 0 (all_of k)).status || k.cut) _ may
-
-    pub uncut : may_move k ≡ true → k.cut ≡ false
-    uncut may = by (is_terminated (parts.own_of 0 (all_of k)).status) k.cut may
-      where
-        by : (ended cut : Bool) → not (ended || cut) ≡ true → cut ≡ false
-        by true cut h = absurd cc
-        by false true h = absurd cc
-        by false false h = refl
-
-    -- the one of an index, and how many there are
-    pub nth_next : (n left : ℕ) → n < length k.members → HasMove plan code n k false → slice_get (moves_from plan code n k) left ≡ slice_get (moves_from plan code (n + 1) k) left
-    nth_next n left within has = ap (λ ms. slice_get ms left) (moves_next n false within has)
-
-    pub nth_less : (n left : ℕ) → n < length k.members → HasMove plan code n k true → ¬ (left ≡ 0) → slice_get (moves_from plan code n k) left ≡ slice_get (moves_from plan code (n + 1) k) (left - 1)
-    nth_less n left within has more =
-        let one : left ≡ suc (left - 1) = omega (arith, more) in
-        ap (λ ms. slice_get ms left) (moves_next n true within has) ∙ ap (slice_get (own_move n ∷ moves_from plan code (n + 1) k)) one
-
-    pub nth_here : (n left : ℕ) → n < length k.members → HasMove plan code n k true → left ≡ 0 → slice_get (moves_from plan code n k) left ≡ Some (own_move n)
-    nth_here n left within has none = ap (λ ms. slice_get ms left) (moves_next n true within has) ∙ ap (slice_get (own_move n ∷ moves_from plan code (n + 1) k)) none
-
-    pub nth_past : (n left : ℕ) → length k.members ≤ n → slice_get (moves_from plan code n k) left ≡ None
-    nth_past n left past = ap (λ ms. slice_get ms left) (moves_over n past)
-
-    pub one_more : (n : ℕ) → n < length k.members → HasMove plan code n k true → length (moves_from plan code n k) ≡ length (moves_from plan code (n + 1) k) + 1
-    one_more n within has =
-        let more : suc (length (moves_from plan code (n + 1) k)) ≡ length (moves_from plan code (n + 1) k) + 1 = omega arith in
-        ap length (moves_next n true within has) ∙ more
-
-    pub no_more : (n : ℕ) → n < length k.members → HasMove plan code n k false → length (moves_from plan code n k) ≡ length (moves_from plan code (n + 1) k)
-    no_more n within has = ap length (moves_next n false within has)
-
-    pub none_more : (n : ℕ) → length k.members ≤ n → length (moves_from plan code n k) ≡ 0
-    none_more n past = ap length (moves_over n past)
-
-    -- and all of them
-    pub listed_more : (tasks : List ℕ) (n : ℕ) → n < length k.members → HasMove plan code n k true → map own_move tasks ++ moves_from plan code n k ≡ map own_move (tasks ++ n ∷ []) ++ moves_from plan code (n + 1) k
-    listed_more tasks n within has =
-        ap (λ ms. map own_move tasks ++ ms) (moves_next n true within has)
-        ∙ sym (append_assoc (map own_move tasks) (own_move n ∷ []) (moves_from plan code (n + 1) k))
-        ∙ ap (λ ms. ms ++ moves_from plan code (n + 1) k) (sym (map-append own_move tasks (n ∷ [])))
-
-    pub listed_all : (tasks : List ℕ) (n : ℕ) → length k.members ≤ n → map own_move tasks ++ moves_from plan code n k ≡ map own_move tasks
-    listed_all tasks n over = ap (λ ms. map own_move tasks ++ ms) (moves_over n over) ∙ append-nil (map own_move tasks)
-
-    -- The state, by whether the program has ended, whether its output is full, and the first task that has a move.
+    -- All of them.
 
     abbrev ended : Bool
-    ended = is_terminated (parts.own_of 0 (all_of k)).status
+    ended = is_terminated (own_of 0 c).status
 
-    state_told : IsWhole k → state_at plan (flat_controls plan code) (all_of k) ≡ (if ended then state.Ended else if k.cut then state.OutputFull else more_or_stuck (moves_of plan code k))
-    state_told whole = state_law plan (flat_controls plan code) (all_of k) (λ n. untimed_at k.members k.lives n whole.members)
+    none_by : (e cut : Bool) → not (e || cut) ≡ false → moves_by plan (barrier_at code) e cut d ≡ []
+    none_by true cut h = refl
+    none_by false true h = refl
+    none_by false false h = absurd cc
 
-    pub is_ended : IsWhole k → ended ≡ true → IsIn plan code k state.Ended
-    is_ended whole is = sym (state_told whole ∙ ap (λ b. if b then state.Ended else if k.cut then state.OutputFull else more_or_stuck (moves_of plan code k)) is)
+    all_by : (e cut : Bool) → not (e || cut) ≡ true → moves_by plan (barrier_at code) e cut d ≡ from 0
+    all_by true cut h = absurd cc
+    all_by false true h = absurd cc
+    all_by false false h = refl
 
-    pub is_full : IsWhole k → ended ≡ false → k.cut ≡ true → IsIn plan code k state.OutputFull
-    is_full whole goes is =
-        sym (state_told whole
-        ∙ ap (λ b. if b then state.Ended else if k.cut then state.OutputFull else more_or_stuck (moves_of plan code k)) goes
-        ∙ ap (λ b. if b then state.OutputFull else more_or_stuck (moves_of plan code k)) is)
+    moves_are : moves_at plan (flat_controls plan code) c ≡ moves_by plan (barrier_at code) ended c.shared.cut d
+    moves_are = ap (λ e. moves_by plan (barrier_at code) e c.shared.cut d) (ended_seen c.tasks (owns c.tasks) c.shared)
 
-    is_by_moves : IsWhole k → ended ≡ false → k.cut ≡ false → IsIn plan code k (more_or_stuck (moves_of plan code k))
-    is_by_moves whole goes room =
-        sym (state_told whole
-        ∙ ap (λ b. if b then state.Ended else if k.cut then state.OutputFull else more_or_stuck (moves_of plan code k)) goes
-        ∙ ap (λ b. if b then state.OutputFull else more_or_stuck (moves_of plan code k)) room)
+    pub moves_none : not (ended || c.shared.cut) ≡ false → moves_at plan (flat_controls plan code) c ≡ []
+    moves_none h = moves_are ∙ none_by ended c.shared.cut h
 
-    more_by : (ms : List Move) (n : ℕ) → slice_get ms 0 ≡ Some (own_move n) → state.More ≡ more_or_stuck ms
-    more_by [] n first = absurd cc
-    more_by (m ∷ ms) n first = refl
+    pub moves_all : not (ended || c.shared.cut) ≡ true → moves_at plan (flat_controls plan code) c ≡ from 0
+    moves_all h = moves_are ∙ all_by ended c.shared.cut h
 
-    stuck_by : (ms : List Move) → slice_get ms 0 ≡ None → state.Stuck ≡ more_or_stuck ms
-    stuck_by [] none = refl
-    stuck_by (m ∷ ms) none = absurd cc
+    -- What can happen next.
 
-    pub is_more : (n : ℕ) → IsWhole k → ended ≡ false → k.cut ≡ false → IsNth plan code k 0 (Some n) → IsIn plan code k state.More
-    is_more n whole goes room first = more_by (moves_of plan code k) n first ∙ is_by_moves whole goes room
+    abbrev pub state_is : Bool → Bool → State
+    state_is e cut = state_by plan (barrier_at code) e cut d
 
-    pub is_stuck : IsWhole k → ended ≡ false → k.cut ≡ false → IsNth plan code k 0 None → IsIn plan code k state.Stuck
-    is_stuck whole goes room none = stuck_by (moves_of plan code k) none ∙ is_by_moves whole goes room
+    pub state_as : (e cut : Bool) → ended ≡ e → c.shared.cut ≡ cut → state_at plan (flat_controls plan code) c ≡ state_is e cut
+    state_as e cut is full =
+        ap (λ b. state_is b c.shared.cut) (ended_seen c.tasks (owns c.tasks) c.shared ∙ is) ∙ ap (state_is e) full
 
-  -- What comes next of a task in memory.
+    pub moves_same : ended ≡ false → c.shared.cut ≡ false → moves plan (barrier_at code) d ≡ moves_at plan (flat_controls plan code) c
+    moves_same is full = refl
 
-  past_seen : (i : ℕ) (ts : List (TaskAt Spot)) (os : List Own) (shared : Shared) (n : ℕ) → length ts ≤ n → slice_get (seen_from plan (flat_controls plan code) i ts os shared) n ≡ None
-  past_seen i [] os shared n over = refl
-  past_seen i (t ∷ ts) os shared zero over = absurd (omega (arith, over))
-  past_seen i (t ∷ ts) os shared (suc n) over = past_seen (suc i) ts os shared n (omega (arith, over))
+    some_by : (ms : List Move) (m : Move) → slice_get ms 0 ≡ Some m → some_move plan (barrier_at code) ms d ≡ state.More
+    some_by [] m is = absurd cc
+    some_by (x ∷ ms) m is = refl
 
-  module _ (k : Kept) (n : ℕ) (whole : IsWhole k) where
-    abbrev one : Member
-    one = member_at n k
+    wait_by : (ms : List Move) → slice_get ms 0 ≡ None → some_move plan (barrier_at code) ms d ≡ waiting_by plan (barrier_at code) (times 0)
+    wait_by [] is = refl
+    wait_by (x ∷ ms) is = absurd cc
 
-    abbrev its_life : Life
-    its_life = life_at n k.lives
+    pub state_more : (m : Move) → ended ≡ false → c.shared.cut ≡ false → slice_get (moves_at plan (flat_controls plan code) c) 0 ≡ Some m → state_at plan (flat_controls plan code) c ≡ state.More
+    state_more m is full some = state_as false false is full ∙ some_by (moves_at plan (flat_controls plan code) c) m some
 
-    next_as : n < length k.members → (o : Own) (x : Option NextStep) → own_of one its_life ≡ o → ((s : Sight) → next_of plan (flat_controls plan code).barrier (Some (seen_with s (record { control = one.alone.control; own = o }))) n (view k n whole) ≡ x) → x ≡ coming_step_at plan (flat_controls plan code) n (all_of k)
-    next_as within o x is next =
-        let seen_there = there k n whole within in
-        sym (ap (λ t. next_of plan (flat_controls plan code).barrier t n (view k n whole)) seen_there.is
-        ∙ ap (λ y. next_of plan (flat_controls plan code).barrier (Some (seen_with seen_there.sight (record { control = one.alone.control; own = y }))) n (view k n whole)) is
-        ∙ next seen_there.sight)
+    pub state_waits : ended ≡ false → c.shared.cut ≡ false → slice_get (moves_at plan (flat_controls plan code) c) 0 ≡ None → state_at plan (flat_controls plan code) c ≡ waiting_by plan (barrier_at code) (times 0)
+    state_waits is full none = state_as false false is full ∙ wait_by (moves_at plan (flat_controls plan code) c) none
 
-    none_past : length k.members ≤ n → ComesNext plan code n k None
-    none_past over =
-        let past : length (all_of k).tasks ≤ n = omega (arith, over, as_many_tasks k.members k.lives whole.members) in
-        sym (ap (λ t. next_of plan (flat_controls plan code).barrier t n (view k n whole)) (past_seen 0 (all_of k).tasks (owns (all_of k).tasks) (all_of k).shared n past))
+    -- Those told so far, with those of one more task.
 
-    either_side : {P : Type 0} (xs : List Member) (i : ℕ) → (i < length xs → P) → (length xs ≤ i → P) → P
-    either_side [] i here past = past (omega arith)
-    either_side (x ∷ xs) zero here past = here (omega arith)
-    either_side (x ∷ xs) (suc i) here past = either_side xs i (λ h. here (omega (arith, h))) (λ h. past (omega (arith, h)))
+    pub listed_more : (n : ℕ) (before told ms : List Move) → n < length c.tasks → told ≡ before ++ ms → ms ≡ moves_of plan code n c → told ++ from (n + 1) ≡ before ++ from n
+    listed_more n before told ms within h is =
+        ap (λ l. l ++ from (n + 1)) (h ∙ ap (λ m. before ++ m) is)
+        ∙ append_assoc before (moves_of plan code n c) (from (n + 1))
+        ∙ ap (λ l. before ++ l) (sym (moves_next n within))
 
-    rests_here : n < length k.members → (status : Status) → its_life.status ≡ status → is_awake status ≡ false → ComesNext plan code n k None
-    rests_here within Created is asleep = next_as within (own_of one (record its_life { status = Created })) None (ap (λ s. own_of one (record its_life { status = s })) is) (λ s. refl)
-    rests_here within Running is asleep = absurd cc
-    rests_here within Activating is asleep = next_as within (own_of one (record its_life { status = Activating; abnormal = false })) None (ap (own_of one) (life_so k n whole its_life Activating is (so k n whole within).normal)) (λ s. refl)
-    rests_here within Accepting is asleep = absurd cc
-    rests_here within Delaying is asleep = absurd cc
-    rests_here within Calling is asleep = absurd cc
-    rests_here within Completed is asleep = absurd cc
-    rests_here within Terminated is asleep = next_as within (own_of one (record its_life { status = Terminated })) None (ap (λ s. own_of one (record its_life { status = s })) is) (λ s. refl)
+    pub nth_here : (n left : ℕ) (ms : List Move) (m : Move) → n < length c.tasks → ms ≡ moves_of plan code n c → slice_get ms left ≡ Some m → slice_get (from n) left ≡ Some m
+    nth_here n left ms m within is found =
+        ap (λ l. slice_get l left) (moves_next n within ∙ ap (λ l. l ++ from (n + 1)) (sym is))
+        ∙ get_within ms (from (n + 1)) left m found
 
-    pub rests_next : (status : Status) → its_life.status ≡ status → is_awake status ≡ false → ComesNext plan code n k None
-    rests_next status is asleep = either_side k.members n (λ within. rests_here within status is asleep) none_past
+    pub nth_behind : (n left k : ℕ) (ms : List Move) → n < length c.tasks → ms ≡ moves_of plan code n c → slice_get ms left ≡ None → left ≡ length ms + k → slice_get (from n) left ≡ slice_get (from (n + 1)) k
+    nth_behind n left k ms within is none e =
+        ap (λ l. slice_get l left) (moves_next n within ∙ ap (λ l. l ++ from (n + 1)) (sym is))
+        ∙ get_behind ms (from (n + 1)) left k none e
 
-    by_kind : (pending : Option Pending) (j : StepKind) (x : Coming) → IsOfKind one.alone.stack j x → coming_kind plan (flat_controls plan code).barrier x (running n (view k n whole) one its_life pending) ≡ j
-    by_kind pending j (simply w) h = sym h
-    by_kind pending j ending h = ap end_kind_by (left_same (running n (view k n whole) one its_life pending)) ∙ sym h
-    by_kind pending j (selecting ones) h = absurd h
-    by_kind pending j (calling t entry) h = absurd h
-    by_kind pending j (starting object reading) h = absurd h
+    pub counted_more : (n : ℕ) (ms : List Move) → n < length c.tasks → ms ≡ moves_of plan code n c → length (from n) ≡ length ms + length (from (n + 1))
+    counted_more n ms within is =
+        ap length (moves_next n within ∙ ap (λ l. l ++ from (n + 1)) (sym is))
+        ∙ joined ms (from (n + 1))
 
-    abbrev step_at : StepKind → Pos → Option NextStep
-    step_at j at = Some (record { kind = j; at = at })
+    -- Those of one task, by its turn.
 
-    under_way_next : its_life.status ≡ Running → n < length k.members → (pending : Option Pending) → one.alone.stage ≡ runs pending → (j : StepKind) (at final : Pos) → ComesAs code (single_of n k) pending (Some j) → at ≡ place_in code final one.alone.control.place (runs pending) → ComesNext plan code n k (step_at j at)
-    under_way_next status within None stage j at final comes is =
-        next_as within (running n (view k n whole) one its_life None) (step_at j at) (own_running k n whole one its_life None stage status (so k n whole within).normal) (λ s.
-        ap (λ i. step_at i (end_at code one.alone.control.place).at) (by_kind None j (coming_at code plan None s one.alone.control) (comes plan s))
-        ∙ ap (step_at j) (sym is))
-    under_way_next status within (Some p) stage j at final comes is =
-        next_as within (running n (view k n whole) one its_life (Some p)) (step_at j at) (own_running k n whole one its_life (Some p) stage status (so k n whole within).normal) (λ s.
-        ap (λ i. step_at i p.at) (by_kind (Some p) j (coming_at code plan (Some p) s one.alone.control) (comes plan s))
-        ∙ ap (step_at j) (sym is))
+    pub turn_told : (n : ℕ) (x y : Turn) → turn_in plan code n c ≡ turned plan code n c x → x ≡ y → moves_of plan code n c ≡ turn_moves plan (barrier_at code) (turned plan code n c y) n d
+    turn_told n x y h is = ap (λ u. turn_moves plan (barrier_at code) u n d) (h ∙ ap (turned plan code n c) is)
 
-    next_by : n < length k.members → (status : Status) → its_life.status ≡ status → is_awake status ≡ true → (stage : Stage) → one.alone.stage ≡ stage → Agrees status stage → (j : StepKind) (at final : Pos) → IsKindIn code (single_of n k) stage (Some j) → at ≡ place_in code final one.alone.control.place stage → final ≡ (unit_of plan one.unit).end → ComesNext plan code n k (step_at j at)
-    next_by within Running is awake (runs pending) stage agrees j at final comes shown last = under_way_next is within pending stage j at final comes shown
-    next_by within Completed is awake (completed raised) stage agrees j at final comes shown last =
-        next_as within (ended_body n (view k n whole) one its_life) (step_at j at) (ap (λ s. own_of one (record its_life { status = s })) is) (λ s.
-        sym (ap (λ (x : Option StepKind). step_at (unwrap_or x j) at) comes ∙ ap (step_at kind.Close) (shown ∙ last)))
-    next_by within Running is awake (completed raised) stage agrees j at final comes shown last = absurd agrees
-    next_by within Running is awake (terminated raised) stage agrees j at final comes shown last = absurd agrees
-    next_by within Completed is awake (runs pending) stage agrees j at final comes shown last = absurd agrees
-    next_by within Completed is awake (terminated raised) stage agrees j at final comes shown last = absurd agrees
-    next_by within Created is awake far stage agrees j at final comes shown last = absurd cc
-    next_by within Activating is awake far stage agrees j at final comes shown last = absurd cc
-    next_by within Accepting is awake far stage agrees j at final comes shown last = absurd agrees
-    next_by within Delaying is awake far stage agrees j at final comes shown last = absurd agrees
-    next_by within Calling is awake far stage agrees j at final comes shown last = absurd agrees
-    next_by within Terminated is awake far stage agrees j at final comes shown last = absurd cc
+    pub times_told : (n : ℕ) (x y : Turn) → turn_in plan code n c ≡ turned plan code n c x → x ≡ y → times_of plan code n c ≡ turn_times plan (barrier_at code) (turned plan code n c y) d
+    times_told n x y h is = ap (λ u. turn_times plan (barrier_at code) u d) (h ∙ ap (turned plan code n c) is)
 
-    pub awake_within : (status : Status) → its_life.status ≡ status → is_awake status ≡ true → n < length k.members
-    awake_within status is awake = is_there k n status whole is (λ e. absurd (cc (ap is_awake e)))
+    pub closes : (n : ℕ) → alone_if (Closable (body_master (own_of n c)) c) n ≡ only plan (barrier_at code) (Closable (body_master (own_of n d)) d) n
+    closes n =
+        only_if (Closable (body_master (own_of n c)) c) n
+        ∙ ap (λ b. only plan (barrier_at code) b n) (sym (closable_seen (body_master (own_of n c))))
+        ∙ ap (λ (o : Own). only plan (barrier_at code) (Closable (body_master o) d) n) (sym (own_seen n))
 
-    pub awake_next : (status : Status) → its_life.status ≡ status → is_awake status ≡ true → (j : StepKind) (at final : Pos) → IsNextKind code (single_of n k) (Some j) → at ≡ place_in code final one.alone.control.place one.alone.stage → final ≡ (unit_of plan one.unit).end → ComesNext plan code n k (step_at j at)
-    awake_next status is awake j at final comes shown last =
-        let within = awake_within status is awake in
-        next_by within status is awake one.alone.stage refl (subst (λ s. Agrees s one.alone.stage) is (so k n whole within).agrees) j at final comes shown last
+    pub acting_as : (n : ℕ) (m : Option ℕ) (x : Coming) → LeavesBy (own_of n c) m x → end_moves plan (barrier_at code) m n d ≡ acting_moves plan (barrier_at code) x n d
+    acting_as n m (simply w) h = ap (λ o. end_moves plan (barrier_at code) o n d) h
+    acting_as n m ending h =
+        ap (λ o. end_moves plan (barrier_at code) o n d) h
+        ∙ ap (λ (o : Own). end_moves plan (barrier_at code) (master_left_by (construct_left o)) n d) (sym (own_seen n))
+    acting_as n m (selecting ones) h = absurd h
+    acting_as n m (calling task entry) h = absurd h
+    acting_as n m (starting object reading) h = absurd h
 
-    some_by : (status : Status) (stage : Stage) → is_awake status ≡ true → Agrees status stage → IsKindIn code (single_of n k) stage None → ⊥
-    some_by Running (runs pending) awake agrees comes = comes
-    some_by Completed (completed raised) awake agrees comes = cc
-    some_by Running (completed raised) awake agrees comes = absurd agrees
-    some_by Running (terminated raised) awake agrees comes = absurd agrees
-    some_by Completed (runs pending) awake agrees comes = absurd agrees
-    some_by Completed (terminated raised) awake agrees comes = absurd agrees
-    some_by Created stage awake agrees comes = absurd cc
-    some_by Activating stage awake agrees comes = absurd cc
-    some_by Accepting stage awake agrees comes = absurd agrees
-    some_by Delaying stage awake agrees comes = absurd agrees
-    some_by Calling stage awake agrees comes = absurd agrees
-    some_by Terminated stage awake agrees comes = absurd cc
+    pub leaves_some : (n master : ℕ) → alone_if (Closable master c) n ≡ end_moves plan (barrier_at code) (Some master) n d
+    leaves_some n master = only_if (Closable master c) n ∙ ap (λ b. only plan (barrier_at code) b n) (sym (closable_seen master))
 
-    -- something does
-    pub awake_some : (status : Status) → its_life.status ≡ status → is_awake status ≡ true → IsNextKind code (single_of n k) None → ⊥
-    awake_some status is awake comes =
-        let within = awake_within status is awake in
-        some_by status one.alone.stage awake (subst (λ s. Agrees s one.alone.stage) is (so k n whole within).agrees) comes
+    -- the time of a call
+    abbrev pub listed : Option ℕ → List ℕ
+    listed None = []
+    listed (Some time) = time ∷ []
+
+    free_same : (o : Owner) → owner_idle plan (barrier_at code) o d ≡ is_free o c
+    free_same (owner.Task m) = refl
+    free_same (owner.Object o) = refl
+
+    time_same : (b : Bool) (f : Form) → (if b then call_time_by plan (barrier_at code) f else []) ≡ listed (if b then time_by f else None)
+    time_same false f = refl
+    time_same true Plain = refl
+    time_same true (Conditional time) = refl
+    time_same true (TimedTo time) = refl
+
+    pub call_times : (call : Call) → call_time plan (barrier_at code) call d ≡ listed (cancelled_from call c)
+    call_times call =
+        ap (λ b. if is_queued call.state && b then call_time_by plan (barrier_at code) call.form else []) (free_same call.owner)
+        ∙ time_same (is_queued call.state && is_free call.owner c) call.form
+
+    one_time : (b : Bool) (n time : ℕ) → alone_if b n ≡ map (λ (t : ℕ). own_move n) (if b then time ∷ [] else [])
+    one_time true n time = refl
+    one_time false n time = refl
+
+    -- with its time found, or none
+    pub cancels_by : (call : Call) (n : ℕ) (found : Option ℕ) → found ≡ cancelled_from call c → map (λ (t : ℕ). own_move n) (filter (λ (t : ℕ). nat_le t c.clock) (listed found)) ≡ map (λ (t : ℕ). own_move n) (filter (λ (t : ℕ). nat_le t d.clock) (call_time plan (barrier_at code) call d))
+    cancels_by call n found is = ap (λ ts. map (λ (t : ℕ). own_move n) (filter (λ (t : ℕ). nat_le t c.clock) ts)) (ap listed is ∙ sym (call_times call))
+
+    pub cancels_at : (n time : ℕ) → alone_if (nat_le time c.clock) n ≡ map (λ (t : ℕ). own_move n) (filter (λ (t : ℕ). nat_le t c.clock) (time ∷ []))
+    cancels_at n time = one_time (nat_le time c.clock) n time

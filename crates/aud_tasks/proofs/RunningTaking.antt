@@ -1,26 +1,30 @@
 -- Runs, one step after the other.
-use Rattle.std.proofs.Common.{◌≡◌, ◌<◌, ◌≤◌, ◌+◌, ◌-◌, ◌*◌, ◌^◌, min, ℕ, zero, suc, List, [], ◌∷◌, length, slice_get, Option, Some, None, refl, ap, sym, subst, ◌∙◌, arith}
-use Rattle.std.specs.Prelude.{◌%◌, drop, IfSome}
-use Rattle.std.specs.Option.{option_map, unwrap_or}
-use Rattle.std.proofs.lemmas.Option.{get_or_from_slice_get}
+use Rattle.std.proofs.Common.{◌≡◌, ◌<◌, ◌≤◌, ◌+◌, ◌-◌, ◌*◌, ℕ, zero, suc, List, [], ◌∷◌, ◌++◌, length, slice_get, Option, Some, None, Result, Ok, Err, Bool, true, false, not, map, refl, ap, sym, subst, ◌∙◌, arith}
+use Rattle.std.specs.Prelude.{◌%◌, drop, filter, nat_le}
+use Rattle.std.specs.Option.{is_some, unwrap_or}
+use Rattle.std.proofs.lemmas.Option.{get_or_from_slice_get, same_Some}
 use Rattle.std.proofs.Math.Nat.{mod-lt}
+use Rattle.aud_text.specs.declared.raise.Raise.{Raise}
 use Rattle.aud_text.specs.declared.limits.Limits.{Limits}
 use Rattle.aud_typed.specs.Tree.{Plan}
-use Rattle.aud_meaning.specs.Configuration.{All}
-use Rattle.aud_meaning.specs.Control.{Controls}
-use Rattle.aud_meaning.specs.Run.{Move, own_move, run_by, run_with, step_with, take_by, take_one}
+use Rattle.aud_meaning.specs.declared.state.Move.{Move}
+use Rattle.aud_meaning.specs.declared.state.OpenDelay.{OpenDelay}
+use Rattle.aud_meaning.specs.Configuration.{Own, Shared, TaskAt, All}
+use Rattle.aud_meaning.specs.Evaluation.{Sight}
+use Rattle.aud_meaning.specs.Control.{Controls, Seen, Coming, simply, ending, selecting, calling, starting}
+use Rattle.aud_meaning.specs.Parts.{Closable, body_master, own_of, call_of, object_of, is_idle, in_the_way, open_alternatives, owns}
+use Rattle.aud_meaning.specs.Tasks.{eligible}
+use Rattle.aud_meaning.specs.Run.{Turn, resting, closing, completing, withdrawing, serving, expiring, cancelling, acting, own_move, picks, only, each_or_one, serve_moves, end_moves, call_time, acting_moves, master_left_by, construct_left, alternatives_of, has_queue, turn, turn_moves, moves_from, moves_by, has_ended, moves_at, state_at, seen, seen_from, run_by, run_with, step_of, step_with, take_by, take_one}
 use Rattle.aud_code.specs.Places.{Spot}
-use Rattle.aud_code.specs.Flat.{FlatLine, Flat, flat_controls}
+use Rattle.aud_code.specs.Flat.{Flat, flat_controls}
+use Rattle.aud_code.specs.Starts.{AreSpots}
 use Rattle.aud_tasks.specs.declared.run.Ran.{Ran}
-use Rattle.aud_tasks.specs.Kept.{Kept, all_of, Fits, IsWhole}
-use Rattle.aud_tasks.specs.Moving.{moves_of, IsEnabled, IsIn, IsNth}
-use Rattle.aud_tasks.specs.Steps.{IsStep}
-use Rattle.aud_tasks.specs.Ticks.{picked, task_ticks, moved_ticks, run_ticks}
-use Rattle.aud_tasks.specs.Running.{RunsTo, RunsOn, IsUnchosen, GoesOn, Picks, Chooses, Takes}
+use Rattle.aud_expr.specs.Size.{size}
+use Rattle.aud_tasks.specs.Running.{acts_in, RunsTo, Takes, RunsOn, IsUnchosen, GoesOn, Picks, Chooses}
 use Rattle.aud_tasks.proofs.RunningStill.{moves_unchosen}
 
 -- the first of some
-pub headed : (ms : List Move) (m : Move) → slice_get ms 0 ≡ Some m → ms ≡ m ∷ drop 1 ms
+headed : (ms : List Move) (m : Move) → slice_get ms 0 ≡ Some m → ms ≡ m ∷ drop 1 ms
 headed [] m h = absurd cc
 headed (x ∷ ms) m h = ap (λ o. unwrap_or o x ∷ ms) h
 
@@ -28,232 +32,293 @@ pub some_of : (ms : List Move) (m : Move) → slice_get ms 0 ≡ Some m → 0 < 
 some_of [] m h = absurd cc
 some_of (x ∷ ms) m h = omega arith
 
-pub none_of : (ms : List Move) → slice_get ms 0 ≡ None → ms ≡ []
+none_of : (ms : List Move) → slice_get ms 0 ≡ None → ms ≡ []
 none_of [] h = refl
 none_of (x ∷ ms) h = absurd cc
 
-pub none_behind : (ms : List Move) (n : ℕ) → slice_get ms n ≡ None → length ms ≤ n
+none_behind : {A : Type 0} (xs : List A) (n : ℕ) → slice_get xs n ≡ None → length xs ≤ n
 none_behind [] n h = omega arith
-none_behind (x ∷ ms) zero h = absurd cc
-none_behind (x ∷ ms) (suc n) h = let e = none_behind ms n h in omega (arith, e)
+none_behind (x ∷ xs) zero h = absurd cc
+none_behind (x ∷ xs) (suc n) h = let e = none_behind xs n h in omega (arith, e)
 
-pub alone_first : (ms : List Move) → length ms ≡ 1 → drop 1 ms ≡ []
-alone_first [] one = refl
-alone_first (x ∷ []) one = refl
-alone_first (x ∷ y ∷ ms) one = absurd (omega (arith, one))
+-- where there is no other
+few_behind : (ms : List Move) → length ms ≤ 1 → drop 1 ms ≡ []
+few_behind [] few = refl
+few_behind (x ∷ []) few = refl
+few_behind (x ∷ y ∷ ms) few = absurd (omega (arith, few))
 
 not_alone : (ms : List Move) (m : Move) → ms ≡ m ∷ drop 1 ms → ¬ (length ms ≡ 1) → ¬ (drop 1 ms ≡ [])
 not_alone ms m is more none = let one = ap length is ∙ ap (λ l. length (m ∷ l)) none in more one
 
--- Which move is taken.
+-- it picks nothing but its task
+pub is_own : (m : Move) → is_some m.alternative ≡ false → m ≡ own_move m.task
+is_own m h = by m.alternative h
+  where
+    by : (o : Option ℕ) → is_some o ≡ false → record m { alternative = o } ≡ own_move m.task
+    by None h = refl
+    by (Some n) h = absurd cc
 
-pub unchosen_picked : (m : Move) (ms : List Move) (choices : List ℕ) → IsUnchosen ms choices → picked m ms choices ≡ m
-unchosen_picked m [] choices h = refl
-unchosen_picked m (x ∷ ms) [] h = refl
-unchosen_picked m (x ∷ ms) (choice ∷ choices) h = absurd h
+-- None waits, or there are no others.
 
-pub chosen_picked : (m : Move) (ms : List Move) (choice : ℕ) (choices : List ℕ) (n : Move) → ¬ (ms ≡ []) → slice_get (m ∷ ms) (choice % length (m ∷ ms)) ≡ Some n → picked m ms (choice ∷ choices) ≡ n
-chosen_picked m [] choice choices n some h = absurd (some refl)
-chosen_picked m (x ∷ ms) choice choices n some h = get_or_from_slice_get (m ∷ x ∷ ms) (choice % length (m ∷ x ∷ ms)) n m h
-
--- none waits, or there are no others
-pub nothing_chosen : (ms : List Move) → ms ≡ [] → (choices : List ℕ) → IsUnchosen ms choices
-nothing_chosen ms none choices = subst (λ l. IsUnchosen l choices) (sym none) tt
+pub nothing_chosen : (ms : List Move) → length ms ≤ 1 → (choices : List ℕ) → IsUnchosen (drop 1 ms) choices
+nothing_chosen ms few choices = subst (λ l. IsUnchosen l choices) (sym (few_behind ms few)) tt
 
 pub nothing_waits : (ms : List Move) (choices : List ℕ) → length choices ≡ 0 → IsUnchosen ms choices
 nothing_waits [] choices none = tt
 nothing_waits (m ∷ ms) [] none = tt
 nothing_waits (m ∷ ms) (choice ∷ choices) none = absurd (omega (arith, none))
 
-module _ (plan : Plan) (code : Flat) (limits : Limits) where
+-- Whose move it is.
+
+abbrev AreOf : ℕ → List Move → Type 0
+AreOf n [] = Unit {0}
+AreOf n (m ∷ ms) = (m.task ≡ n) × AreOf n ms
+
+abbrev AreBelow : ℕ → List Move → Type 0
+AreBelow n [] = Unit {0}
+AreBelow n (m ∷ ms) = (m.task < n) × AreBelow n ms
+
+picks_of : (n a : ℕ) → (picks n a).task ≡ n
+picks_of n zero = refl
+picks_of n (suc a) = refl
+
+map_of : {A : Type 0} (n : ℕ) (f : A → Move) → ((x : A) → (f x).task ≡ n) → (xs : List A) → AreOf n (map f xs)
+map_of n f h [] = tt
+map_of n f h (x ∷ xs) = (h x, map_of n f h xs)
+
+below_of : (n bound : ℕ) → n < bound → (ms : List Move) → AreOf n ms → AreBelow bound ms
+below_of n bound within [] h = tt
+below_of n bound within (m ∷ ms) h = (omega (arith, within, h.0), below_of n bound within ms h.1)
+
+below_both : (bound : ℕ) (ms ns : List Move) → AreBelow bound ms → AreBelow bound ns → AreBelow bound (ms ++ ns)
+below_both bound [] ns h g = g
+below_both bound (m ∷ ms) ns h g = (h.0, below_both bound ms ns h.1 g)
+
+below_at : (bound : ℕ) (ms : List Move) (i : ℕ) (m : Move) → AreBelow bound ms → slice_get ms i ≡ Some m → m.task < bound
+below_at bound [] i m h at = absurd cc
+below_at bound (x ∷ ms) zero m h at = subst (λ (y : Move). y.task < bound) (same_Some x m at) h.0
+below_at bound (x ∷ ms) (suc i) m h at = below_at bound ms i m h.1 at
+
+module _ (plan : Plan) (barrier : ℕ → Sight → Result Bool Raise) where
+  only_of : (b : Bool) (n : ℕ) → AreOf n (only plan barrier b n)
+  only_of true n = (refl, tt)
+  only_of false n = tt
+
+  each_of : (ns : List ℕ) (n : ℕ) → AreOf n (each_or_one plan barrier ns n)
+  each_of [] n = (refl, tt)
+  each_of (a ∷ more) n = map_of n (picks n) (picks_of n) (a ∷ more)
+
+  serve_of : (r : Result (List ℕ) Raise) (n : ℕ) → AreOf n (serve_moves plan barrier r n)
+  serve_of (Err x) n = (refl, tt)
+  serve_of (Ok places) n = each_of places n
+
+  end_of : (master : Option ℕ) (n : ℕ) (c : All Seen) → AreOf n (end_moves plan barrier master n c)
+  end_of None n c = (refl, tt)
+  end_of (Some master) n c = only_of (Closable master c) n
+
+  acting_of : (x : Coming) (n : ℕ) (c : All Seen) → AreOf n (acting_moves plan barrier x n c)
+  acting_of (simply w) n c = (refl, tt)
+  acting_of ending n c = end_of (master_left_by (construct_left (own_of n c))) n c
+  acting_of (selecting ones) n c = each_of (alternatives_of plan barrier (filter (has_queue plan barrier n c) ones)) n
+  acting_of (calling None entry) n c = (refl, tt)
+  acting_of (calling (Some task) entry) n c = each_of (alternatives_of plan barrier (open_alternatives (own_of task c) entry)) n
+  acting_of (starting object reading) n c = only_of (not (in_the_way n reading (object_of object c))) n
+
+  moves_of : (u : Turn) (n : ℕ) (c : All Seen) → AreOf n (turn_moves plan barrier u n c)
+  moves_of resting n c = tt
+  moves_of closing n c = only_of (Closable (body_master (own_of n c)) c) n
+  moves_of completing n c = (refl, tt)
+  moves_of (withdrawing object) n c = only_of (is_idle (object_of object c)) n
+  moves_of (serving s) n c = serve_of (eligible plan barrier s.object c) n
+  moves_of (expiring delays) n c = map_of n (λ (d : OpenDelay). picks n d.alternative) (λ d. picks_of n d.alternative) (filter (λ (d : OpenDelay). nat_le d.time c.clock) delays)
+  moves_of (cancelling id) n c = map_of n (λ (time : ℕ). own_move n) (λ time. refl) (filter (λ time. nat_le time c.clock) (call_time plan barrier (call_of id c) c))
+  moves_of (acting next) n c = acting_of next n c
+
+  below_from : (bound n : ℕ) (ts : List (TaskAt Seen)) (c : All Seen) → n + length ts ≤ bound → AreBelow bound (moves_from plan barrier n ts c)
+  below_from bound n [] c within = tt
+  below_from bound n (t ∷ ts) c within =
+      below_both bound (turn_moves plan barrier (turn plan barrier n t c) n c) (moves_from plan barrier (suc n) ts c)
+      (below_of n bound (omega (arith, within)) (turn_moves plan barrier (turn plan barrier n t c) n c) (moves_of (turn plan barrier n t c) n c))
+      (below_from bound (suc n) ts c (omega (arith, within)))
+
+  below_by : (ended cut : Bool) (c : All Seen) → AreBelow (length c.tasks) (moves_by plan barrier ended cut c)
+  below_by true cut c = tt
+  below_by false true c = tt
+  below_by false false c = below_from (length c.tasks) 0 c.tasks c (omega arith)
+
+module _ (plan : Plan) (code : Flat) where
   abbrev K : Controls Spot
   K = flat_controls plan code
 
-  unchosen_by : (m x : Move) (ms : List Move) (choices : List ℕ) (c : All Spot) → IsUnchosen (x ∷ ms) choices → take_by plan K limits m (m ∷ x ∷ ms) choices c ≡ step_with plan K limits c m
+  as_many : (i : ℕ) (ts : List (TaskAt Spot)) (os : List Own) (shared : Shared) → length (seen_from plan K i ts os shared) ≡ length ts
+  as_many i [] os shared = refl
+  as_many i (t ∷ ts) os shared = ap suc (as_many (suc i) ts os shared)
+
+  -- a move is one of a task
+  pub move_there : (c : All Spot) (i : ℕ) (m : Move) → slice_get (moves_at plan K c) i ≡ Some m → m.task < length c.tasks
+  move_there c i m at =
+      let s = seen plan K c in
+      subst (λ l. m.task < l) (as_many 0 c.tasks (owns c.tasks) c.shared)
+      (below_at (length s.tasks) (moves_at plan K c) i m (below_by plan K.barrier (has_ended plan K.barrier s.tasks) s.shared.cut s) at)
+
+module _ (plan : Plan) (code : Flat) (limits : Limits) where
+  abbrev C : Controls Spot
+  C = flat_controls plan code
+
+  -- and counts as a step
+  counted : (c : All Spot) (m : Move) → m.task < length c.tasks → (o : Option (TaskAt Spot)) → slice_get c.tasks m.task ≡ o → (step_of plan C limits o m c).steps ≡ suc c.steps
+  counted c m within None at = let behind = none_behind c.tasks m.task at in absurd (omega (arith, within, behind))
+  counted c m within (Some t) at = refl
+
+  pub step_counted : (c : All Spot) (m : Move) → m.task < length c.tasks → (step_with plan C limits c m).steps ≡ suc c.steps
+  step_counted c m within = counted c m within (slice_get c.tasks m.task) refl
+
+  -- Which move is taken.
+
+  unchosen_by : (m x : Move) (ms : List Move) (choices : List ℕ) (c : All Spot) → IsUnchosen (x ∷ ms) choices → take_by plan C limits m (m ∷ x ∷ ms) choices c ≡ step_with plan C limits c m
   unchosen_by m x ms [] c h = refl
   unchosen_by m x ms (choice ∷ choices) c h = absurd h
 
-  pub unchosen_taken : (m : Move) (ms : List Move) (c : All Spot) → IsUnchosen ms c.choices → take_one plan K limits m ms c ≡ step_with plan K limits c m
+  pub unchosen_taken : (m : Move) (ms : List Move) (c : All Spot) → IsUnchosen ms c.choices → take_one plan C limits m ms c ≡ step_with plan C limits c m
   unchosen_taken m [] c h = refl
   unchosen_taken m (x ∷ ms) c h = unchosen_by m x ms c.choices c h
 
-  pub chosen_taken : (m : Move) (ms : List Move) (choice : ℕ) (choices : List ℕ) (n : Move) (c : All Spot) → ¬ (ms ≡ []) → c.choices ≡ choice ∷ choices → slice_get (m ∷ ms) (choice % length (m ∷ ms)) ≡ Some n →
-      take_one plan K limits m ms c ≡ step_with plan K limits (record c { choices = choices }) n
+  chosen_taken : (m : Move) (ms : List Move) (choice : ℕ) (choices : List ℕ) (n : Move) (c : All Spot) → ¬ (ms ≡ []) → c.choices ≡ choice ∷ choices → slice_get (m ∷ ms) (choice % length (m ∷ ms)) ≡ Some n →
+      take_one plan C limits m ms c ≡ step_with plan C limits (record c { choices = choices }) n
   chosen_taken m [] choice choices n c some e h = absurd (some refl)
   chosen_taken m (x ∷ ms) choice choices n c some e h =
-      ap (λ l. take_by plan K limits m (m ∷ x ∷ ms) l c) e
-      ∙ ap (step_with plan K limits (record c { choices = choices })) (get_or_from_slice_get (m ∷ x ∷ ms) (choice % length (m ∷ x ∷ ms)) n m h)
+      ap (λ l. take_by plan C limits m (m ∷ x ∷ ms) l c) e
+      ∙ ap (step_with plan C limits (record c { choices = choices })) (get_or_from_slice_get (m ∷ x ∷ ms) (choice % length (m ∷ x ∷ ms)) n m h)
 
   -- Steps one after the other.
 
-  pub no_steps : (k : Kept) → RunsOn plan code limits 0 0 k k
-  no_steps k = record {
-    run = λ n. let none : 0 + n ≡ n = omega arith in ap (λ j. run_with plan K limits j (all_of k)) none;
-    counted = λ n. let none : 0 + n ≡ n = omega arith in let same = ap (λ j. run_ticks plan code limits j (all_of k)) none in omega (arith, same);
-  }
+  pub no_steps : (c : All Spot) → RunsOn plan code limits 0 c c
+  no_steps c = λ n. let none : 0 + n ≡ n = omega arith in ap (λ j. run_with plan C limits j c) none
 
-  pub then_on : (k t j u : ℕ) (old there new : Kept) → RunsOn plan code limits k t old there → RunsOn plan code limits j u there new → RunsOn plan code limits (k + j) (t + u) old new
-  then_on k t j u old there new first second = record {
-    run = λ n.
-        let both : k + j + n ≡ k + (j + n) = omega arith in
-        ap (λ m. run_with plan K limits m (all_of old)) both ∙ first.run (j + n) ∙ second.run n;
-    counted = λ n.
-        let both : k + j + n ≡ k + (j + n) = omega arith in
-        let all = ap (λ m. run_ticks plan code limits m (all_of old)) both in
-        omega (arith, all, first.counted (j + n), second.counted n);
-  }
+  pub then_on : (k j : ℕ) (old there new : All Spot) → RunsOn plan code limits k old there → RunsOn plan code limits j there new → RunsOn plan code limits (k + j) old new
+  then_on k j old there new first second = λ n.
+      let both : k + j + n ≡ k + (j + n) = omega arith in
+      ap (λ m. run_with plan C limits m old) both ∙ first (j + n) ∙ second n
 
   -- the move that is picked is taken
-  pub one_on : (old new : Kept) (first : Move) (others : List Move) (n executed : ℕ) → moves_of plan code old ≡ first ∷ others → picked first others old.choices ≡ own_move n → take_one plan K limits first others (all_of old) ≡ all_of new → executed ≡ task_ticks code n (all_of old) → RunsOn plan code limits 1 executed old new
-  one_on old new first others n executed moves is taken ticks = record {
-    run = λ j.
-        let one : 1 + j ≡ suc j = omega arith in
-        ap (λ m. run_with plan K limits m (all_of old)) one
-        ∙ ap (λ ms. run_by plan K limits (run_with plan K limits j) ms (all_of old)) moves
-        ∙ ap (run_with plan K limits j) taken;
-    counted = λ j.
-        let one : 1 + j ≡ suc j = omega arith in
-        let c = all_of old in
-        ap (λ m. run_ticks plan code limits m c) one
-        ∙ ap (λ ms. moved_ticks plan code limits (run_ticks plan code limits j) ms c) moves
-        ∙ ap (λ (m : Move). task_ticks code m.task c + run_ticks plan code limits j (take_one plan K limits first others c)) is
-        ∙ ap (λ t. t + run_ticks plan code limits j (take_one plan K limits first others c)) (sym ticks)
-        ∙ ap (λ d. executed + run_ticks plan code limits j d) taken;
-  }
+  pub one_on : (old new : All Spot) (first : Move) (others : List Move) → moves_at plan C old ≡ first ∷ others → take_one plan C limits first others old ≡ new → RunsOn plan code limits 1 old new
+  one_on old new first others moves taken = λ j.
+      let one : 1 + j ≡ suc j = omega arith in
+      ap (λ m. run_with plan C limits m old) one
+      ∙ ap (λ ms. run_by plan C limits (run_with plan C limits j) ms old) moves
+      ∙ ap (run_with plan C limits j) taken
 
-  -- a step by the picked move; using a choice up takes no tick
-  pub step_on : (old mid new : Kept) (n executed : ℕ) → Picks plan code n old mid → IsStep plan code limits n mid new executed → RunsOn plan code limits 1 executed old new
-  step_on old mid new n executed picks step =
-      one_on old new picks.first picks.others n executed picks.moves picks.picked (picks.taken limits ∙ sym step.next)
-      (step.ticks ∙ ap (λ (k : Kept). task_ticks code n (all_of k)) picks.kept)
+  pub step_on : (old mid new : All Spot) (m : Move) → Picks plan code m old mid → new ≡ step_with plan C limits mid m → RunsOn plan code limits 1 old new
+  step_on old mid new m picks next = one_on old new picks.first picks.others picks.moves (picks.taken limits ∙ sym next)
 
-  ends : (j : ℕ) (k : Kept) → moves_of plan code k ≡ [] → run_with plan K limits j (all_of k) ≡ all_of k
-  ends zero k none = refl
-  ends (suc j) k none = ap (λ ms. run_by plan K limits (run_with plan K limits j) ms (all_of k)) none
+  -- it is counted, where a choice is used up or not
+  pub steps_on : (old mid new : All Spot) (m : Move) → Picks plan code m old mid → new ≡ step_with plan C limits mid m → new.steps ≡ suc old.steps
+  steps_on old mid new m picks next =
+      ap (λ (c : All Spot). c.steps) next
+      ∙ step_counted mid m (subst (λ (c : All Spot). m.task < length c.tasks) (sym picks.kept) picks.there)
+      ∙ ap (λ (c : All Spot). suc c.steps) picks.kept
 
-  no_ticks : (j : ℕ) (k : Kept) → moves_of plan code k ≡ [] → run_ticks plan code limits j (all_of k) ≡ 0
-  no_ticks zero k none = refl
-  no_ticks (suc j) k none = ap (λ ms. moved_ticks plan code limits (run_ticks plan code limits j) ms (all_of k)) none
+  pub ends : (j : ℕ) (c : All Spot) → moves_at plan C c ≡ [] → run_with plan C limits j c ≡ c
+  ends zero c none = refl
+  ends (suc j) c none = ap (λ ms. run_by plan C limits (run_with plan C limits j) ms c) none
 
-  -- Nothing is left to do, in that many steps.
-  pub record IsOver (left : ℕ) (k : Kept) : Type 0 where
-    pub run : run_with plan K limits left (all_of k) ≡ all_of k
-    pub ticks : run_ticks plan code limits left (all_of k) ≡ 0
-
-  pub none_left : (left : ℕ) (k : Kept) → left ≡ 0 → IsOver left k
-  none_left left k none = rw none (record { run = refl; ticks = refl })
-
-  pub none_enabled : (left : ℕ) (k : Kept) → moves_of plan code k ≡ [] → IsOver left k
-  none_enabled left k none = record { run = ends left k none; ticks = no_ticks left k none }
+  pub none_left : (left : ℕ) (c : All Spot) → left ≡ 0 → run_with plan C limits left c ≡ c
+  none_left left c none = ap (λ j. run_with plan C limits j c) none
 
   -- A run under way, of at most n steps.
-  pub record RunsSoFar (n : ℕ) (old new : Kept) (steps ticks : ℕ) : Type 0 where
-    pub total : ℕ
-    pub leads : RunsOn plan code limits steps total old new
-    pub counted : ticks ≡ min total (2 ^ 64 - 1)
+  pub record RunsSoFar (n : ℕ) (old new : All Spot) (steps ticks : ℕ) : Type 0 where
+    pub leads : RunsOn plan code limits steps old new
     pub within : steps ≤ n
-    pub fits : Fits code.lines new
+    pub spots : AreSpots code.lines new.tasks
     pub steps_taken : steps + old.steps ≡ new.steps
-    pub few : ticks ≤ steps * length code.lines
+    pub few : ticks ≤ steps * (2 * size code)
 
-  module _ (n : ℕ) (old new : Kept) (ran : Ran) (so_far : RunsSoFar n old new ran.steps ran.ticks) (state : IsIn plan code new ran.state) (over : IsOver (n - ran.steps) new) where
-    all_steps : ran.steps + (n - ran.steps) ≡ n
-    all_steps = omega (arith, so_far.within)
-
-    pub runs_to : RunsTo plan code limits n old new ran
-    runs_to = record {
-      run = sym (ap (λ k. run_with plan K limits k (all_of old)) (sym all_steps) ∙ so_far.leads.run (n - ran.steps) ∙ over.run);
-      steps = so_far.steps_taken;
-      state = state;
-      ticks =
-          let all = ap (λ k. run_ticks plan code limits k (all_of old)) (sym all_steps) in
-          omega (arith, all, so_far.leads.counted (n - ran.steps), over.ticks, so_far.counted);
-      few = so_far.few;
-    }
-
-  -- the run has ended, where nothing has changed since
-  pub runs_ended : (n : ℕ) (old mid new : Kept) (ran : Ran) → new ≡ mid → RunsSoFar n old mid ran.steps ran.ticks → (IsWhole new → IsIn plan code new ran.state) → IsOver (n - ran.steps) mid → RunsTo plan code limits n old new ran
+  -- it has ended, where nothing has changed since
+  pub runs_ended : (n : ℕ) (old mid new : All Spot) (ran : Ran) → new ≡ mid → RunsSoFar n old mid ran.steps ran.ticks → ran.state ≡ state_at plan C new → run_with plan C limits (n - ran.steps) mid ≡ mid → RunsTo plan code limits n old new ran
   runs_ended n old mid new ran same so_far state over =
-      let there = subst (λ (k : Kept). RunsSoFar n old k ran.steps ran.ticks) (sym same) so_far in
-      runs_to n old new ran there (state there.fits.whole) (subst (IsOver (n - ran.steps)) (sym same) over)
-
--- Which task is chosen.
-module _ (plan : Plan) (code : Flat) where
-  pub picks_first : (k : Kept) (n : ℕ) → moves_of plan code k ≡ own_move n ∷ drop 1 (moves_of plan code k) → IsUnchosen (drop 1 (moves_of plan code k)) k.choices → IsEnabled plan code n k → Picks plan code n k k
-  picks_first k n moves unchosen enabled =
-      let others = drop 1 (moves_of plan code k) in
+      let all : ran.steps + (n - ran.steps) ≡ n = omega (arith, so_far.within) in
+      let counted = ap (λ (c : All Spot). c.steps) same in
       record {
-        first = own_move n;
-        others = others;
-        moves = moves;
-        picked = unchosen_picked (own_move n) others k.choices unchosen;
-        taken = λ limits. unchosen_taken plan code limits (own_move n) others (all_of k) unchosen;
-        enabled = enabled;
-        kept = refl;
+        run = same ∙ sym (ap (λ k. run_with plan C limits k old) (sym all) ∙ so_far.leads (n - ran.steps) ∙ over);
+        steps = omega (arith, so_far.steps_taken, counted);
+        state = state;
+        few = so_far.few;
       }
 
+  -- The move of an index.
+
+  pub takes_none : (c : All Spot) (nth : ℕ) → slice_get (moves_at plan C c) nth ≡ None → Takes plan code limits (slice_get (moves_at plan C c) nth) c c None
+  takes_none c nth none = subst (λ o. Takes plan code limits o c c None) (sym none) (refl, refl)
+
+  pub takes_some : (old new : All Spot) (nth : ℕ) (m : Move) (ran : Ran) → slice_get (moves_at plan C old) nth ≡ Some m → new ≡ step_with plan C limits old m → ran.steps ≡ 1 → ran.state ≡ state_at plan C new → ran.ticks ≤ 2 * size code →
+      Takes plan code limits (slice_get (moves_at plan C old) nth) old new (Some ran)
+  takes_some old new nth m ran at next one state few =
+      let counted = ap (λ (c : All Spot). c.steps) next ∙ step_counted old m (move_there plan code old nth m at) in
+      subst (λ o. Takes plan code limits o old new (Some ran)) (sym at) (ran, refl, record { next = next; one = one; steps = omega (arith, counted); state = state; few = few })
+
+-- Which move is chosen.
+module _ (plan : Plan) (code : Flat) where
+  abbrev pub Moves : All Spot → List Move
+  Moves c = moves_at plan (flat_controls plan code) c
+
+  pub picks_first : (c : All Spot) (m : Move) → slice_get (Moves c) 0 ≡ Some m → IsUnchosen (drop 1 (Moves c)) c.choices → Picks plan code m c c
+  picks_first c m at unchosen = record {
+    first = m;
+    others = drop 1 (Moves c);
+    moves = headed (Moves c) m at;
+    taken = λ limits. unchosen_taken plan code limits m (drop 1 (Moves c)) c unchosen;
+    there = move_there plan code c 0 m at;
+    kept = refl;
+  }
+
+  -- the first one is taken
+  pub chooses_first : (c : All Spot) (m : Move) (chosen : Option Move) → chosen ≡ Some m → slice_get (Moves c) 0 ≡ Some m → IsUnchosen (drop 1 (Moves c)) c.choices → Chooses plan code c c chosen
+  chooses_first c m chosen is at unchosen = subst (λ o. Chooses plan code c c o) (sym is) (picks_first c m at unchosen)
+
+  pub chooses_none : (c : All Spot) (chosen : Option Move) → chosen ≡ None → slice_get (Moves c) 0 ≡ None → Chooses plan code c c chosen
+  chooses_none c chosen none h = subst (λ o. Chooses plan code c c o) (sym none) (none_of (Moves c) h, refl)
+
   -- by a choice, among several
-  pub picks_chosen : (old new : Kept) (first : Move) (others : List Move) (choice n : ℕ) → IsWhole old → moves_of plan code old ≡ first ∷ others → ¬ (others ≡ []) → old.choices ≡ choice ∷ new.choices → new ≡ record old { choices = new.choices } →
-      slice_get (moves_of plan code new) (choice % length (moves_of plan code old)) ≡ Some (own_move n) → IsEnabled plan code n new → Picks plan code n old new
-  picks_chosen old new first others choice n whole moves some waits kept at enabled =
-      let same : moves_of plan code new ≡ first ∷ others = ap (moves_of plan code) kept ∙ sym (moves_unchosen plan code old new.choices whole) ∙ moves in
-      let there : slice_get (first ∷ others) (choice % length (first ∷ others)) ≡ Some (own_move n) =
-      ap (λ ms. slice_get (first ∷ others) (choice % length ms)) (sym moves)
-      ∙ ap (λ ms. slice_get ms (choice % length (moves_of plan code old))) (sym same)
-      ∙ at in
+  picks_chosen : (old new : All Spot) (first : Move) (others : List Move) (choice : ℕ) (m : Move) → Moves new ≡ Moves old → Moves old ≡ first ∷ others → ¬ (others ≡ []) → old.choices ≡ choice ∷ new.choices → new ≡ record old { choices = new.choices } →
+      slice_get (Moves new) (choice % length (Moves old)) ≡ Some m → Picks plan code m old new
+  picks_chosen old new first others choice m same moves some waits kept at =
+      let here : slice_get (Moves old) (choice % length (Moves old)) ≡ Some m = ap (λ ms. slice_get ms (choice % length (Moves old))) (sym same) ∙ at in
+      let there : slice_get (first ∷ others) (choice % length (first ∷ others)) ≡ Some m = subst (λ ms. slice_get ms (choice % length ms) ≡ Some m) moves here in
       record {
         first = first;
         others = others;
         moves = moves;
-        picked = ap (picked first others) waits ∙ chosen_picked first others choice new.choices (own_move n) some there;
         taken = λ limits.
-            chosen_taken plan code limits first others choice new.choices (own_move n) (all_of old) some waits there
-            ∙ ap (λ (k : Kept). step_with plan (flat_controls plan code) limits (all_of k) (own_move n)) (sym kept);
-        enabled = enabled;
+            chosen_taken plan code limits first others choice new.choices m old some waits there
+            ∙ ap (λ (c : All Spot). step_with plan (flat_controls plan code) limits c m) (sym kept);
+        there = move_there plan code old (choice % length (Moves old)) m here;
         kept = kept;
       }
 
+  pub chooses_by : plan.objects ≡ [] → (old new : All Spot) (first : Move) (choice count : ℕ) (chosen : Option Move) → slice_get (Moves old) 0 ≡ Some first → length (Moves old) ≡ count → ¬ (count ≡ 1) → old.choices ≡ choice ∷ new.choices → new ≡ record old { choices = new.choices } →
+      chosen ≡ slice_get (Moves new) (choice % count) → Chooses plan code old new chosen
+  chooses_by no_objects old new first choice count chosen at counted more waits kept nth = by chosen nth
+    where
+      same : Moves new ≡ Moves old
+      same = ap Moves kept ∙ sym (moves_unchosen plan code no_objects old new.choices)
+
+      by : (o : Option Move) → o ≡ slice_get (Moves new) (choice % count) → Chooses plan code old new o
+      by None e =
+          let long = ap length same in
+          let some = some_of (Moves old) first at in
+          let behind = none_behind (Moves new) (choice % count) (sym e) in
+          let below : choice % count < count = mod-lt choice (omega (arith, some, counted)) in
+          absurd (omega (arith, long, counted, behind, below))
+      by (Some m) e =
+          let is = headed (Moves old) first at in
+          let several = not_alone (Moves old) first is (λ one. more (sym counted ∙ one)) in
+          picks_chosen old new first (drop 1 (Moves old)) choice m same is several waits kept (ap (λ l. slice_get (Moves new) (choice % l)) counted ∙ sym e)
+
   -- the first one goes on
-  pub goes_first : (k : Kept) (n : ℕ) (task : Option ℕ) → task ≡ Some n → IsNth plan code k 0 task → IfSome task (λ t. IsEnabled plan code t k) → IsUnchosen (drop 1 (moves_of plan code k)) k.choices → GoesOn plan code n k
-  goes_first k n task is nth enabled unchosen = record {
-    others = drop 1 (moves_of plan code k);
-    moves = headed (moves_of plan code k) (own_move n) (nth ∙ ap (option_map own_move) is);
+  pub goes_first : (c : All Spot) (n : ℕ) (m : Move) → slice_get (Moves c) 0 ≡ Some m → m ≡ own_move n → IsUnchosen (drop 1 (Moves c)) c.choices → acts_in plan code n c ≡ true → GoesOn plan code n c
+  goes_first c n m at is unchosen acts = record {
+    others = drop 1 (Moves c);
+    moves = headed (Moves c) m at ∙ ap (λ (x : Move). x ∷ drop 1 (Moves c)) is;
     unchosen = unchosen;
-    enabled = subst (λ o. IfSome o (λ t. IsEnabled plan code t k)) is enabled;
+    acts = acts;
   }
-
-  pub chooses_none : (k : Kept) (task : Option ℕ) → task ≡ None → slice_get (moves_of plan code k) 0 ≡ None → Chooses plan code k k task
-  chooses_none k task none h = subst (λ t. Chooses plan code k k t) (sym none) (none_of (moves_of plan code k) h, refl)
-
-  pub chooses_by : (old new : Kept) (first choice count : ℕ) (task : Option ℕ) → IsWhole old → slice_get (moves_of plan code old) 0 ≡ Some (own_move first) → length (moves_of plan code old) ≡ count → ¬ (count ≡ 1) → old.choices ≡ choice ∷ new.choices → new ≡ record old { choices = new.choices } →
-      slice_get (moves_of plan code new) (choice % count) ≡ option_map own_move task → IfSome task (λ t. IsEnabled plan code t new) → Chooses plan code old new task
-  chooses_by old new first choice count None whole at counted more waits kept nth enabled =
-      let same : moves_of plan code new ≡ moves_of plan code old = ap (moves_of plan code) kept ∙ sym (moves_unchosen plan code old new.choices whole) in
-      let long = ap length same in
-      let some = some_of (moves_of plan code old) (own_move first) at in
-      let behind = none_behind (moves_of plan code new) (choice % count) nth in
-      let below : choice % count < count = mod-lt choice (omega (arith, some, counted)) in
-      absurd (omega (arith, long, counted, behind, below))
-  chooses_by old new first choice count (Some n) whole at counted more waits kept nth enabled =
-      let is = headed (moves_of plan code old) (own_move first) at in
-      let others = drop 1 (moves_of plan code old) in
-      let several = not_alone (moves_of plan code old) (own_move first) is (λ one. more (sym counted ∙ one)) in
-      picks_chosen old new (own_move first) others choice n whole is several waits kept (ap (λ l. slice_get (moves_of plan code new) (choice % l)) counted ∙ nth) enabled
-
-  -- The move of an index.
-  pub takes_none : (limits : Limits) (k : Kept) (nth : ℕ) → slice_get (moves_of plan code k) nth ≡ None → Takes plan code limits (slice_get (moves_of plan code k) nth) k k None
-  takes_none limits k nth none = subst (λ o. Takes plan code limits o k k None) (sym none) (refl, refl)
-
-  pub takes_some : (limits : Limits) (old new : Kept) (nth task : ℕ) (ran : Ran) → slice_get (moves_of plan code old) nth ≡ Some (own_move task) → IsStep plan code limits task old new ran.ticks → ran.steps ≡ 1 → IsIn plan code new ran.state → Takes plan code limits (slice_get (moves_of plan code old) nth) old new (Some ran)
-  takes_some limits old new nth task ran at step one state = subst (λ o. Takes plan code limits o old new (Some ran)) (sym at) (ran, refl, record { next = step.next; one = one; steps = step.steps; state = state; ticks = step.ticks; few = step.few })
-
--- A choice that is used up changes nothing else.
-pub fits_chosen : (lines : List FlatLine) (old new : Kept) → new ≡ record old { choices = new.choices } → Fits lines old → Fits lines new
-fits_chosen lines old new kept fits =
-    subst (Fits lines) (sym kept)
-    (record {
-      whole = record { main = fits.whole.main; members = fits.whole.members; known = fits.whole.known };
-      each = fits.each;
-      made = fits.made;
-      activators = fits.activators;
-    })

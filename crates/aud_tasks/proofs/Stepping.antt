@@ -1,155 +1,83 @@
--- A step of one task in memory leads, among the others, where the definition's step of that task leads.
-use Rattle.std.proofs.Common.{◌≡◌, ◌<◌, ℕ, zero, suc, List, [], ◌∷◌, ◌++◌, length, map, take, drop, slice_index_or, Bool, true, false, refl, ap, sym, subst, ◌∙◌, arith}
+-- A step is what a task does at its turn.
+use Rattle.std.proofs.Common.{◌≡◌, ◌<◌, ◌≤◌, ◌⊎◌, inl, inr, ℕ, zero, suc, List, [], ◌∷◌, length, drop, Option, None, Some, slice_get, slice_index_or, refl, ap, sym, ◌∙◌, subst, arith}
 use Rattle.aud_text.specs.declared.limits.Limits.{Limits}
 use Rattle.aud_typed.specs.Tree.{Plan}
-use Rattle.aud_meaning.specs.declared.state.Status.{Status}
-use Rattle.aud_meaning.specs.declared.state.Status.TheVariants.{Running, Completed, Terminated}
-use Rattle.aud_meaning.specs.Configuration.{Own, TaskAt}
-use Rattle.aud_meaning.specs.Configuration as meaning
-use Rattle.aud_meaning.specs.Evaluation.{Facts}
-use Rattle.aud_meaning.specs.Control.{Controls, ordered}
-use Rattle.aud_meaning.specs.Parts.{changed, is_terminated, nobody, owns, facts_of}
-use Rattle.aud_meaning.specs.Run.{own_move, step_with}
-use Rattle.aud_meaning.specs.Ties.Single.{Stage, Stack, Single, runs, completed, terminated}
-use Rattle.aud_meaning.specs.Ties.Single as single
+use Rattle.aud_meaning.specs.Configuration.{TaskAt, All, Own}
+use Rattle.aud_meaning.specs.Parts.{nobody, own_of, owns}
+use Rattle.aud_meaning.specs.declared.state.Pending.{Pending}
+use Rattle.aud_meaning.specs.declared.state.Move.{Move}
+use Rattle.aud_meaning.specs.Run as run
+use Rattle.aud_meaning.specs.Run.{step_of, step_with, turn_taken}
+use Rattle.aud_meaning.specs.Why.Carried.{carried_by}
+use Rattle.aud_meaning.proofs.Carrying.{carried_law}
+use Rattle.aud_code.specs.Control.{going}
+use Rattle.aud_code.specs.Flat.{EndLine, Flat, FlatLine, asked_at, barrier_at, end_at, end_from, flat_controls, no_end}
+use Rattle.aud_code.specs.Frames.{found}
+use Rattle.aud_code.proofs.Framing.{end_found, no_end_found}
 use Rattle.aud_code.specs.Places.{Spot}
-use Rattle.aud_code.specs.Flat.{Flat, flat_controls}
-use Rattle.aud_among.specs.Among.{Around, number, own_among, task_among, among, knowing}
-use Rattle.aud_among.specs.Among as wide
-use Rattle.aud_among.specs.Alone.{StepsAlone}
-use Rattle.aud_among.specs.Apart.{StepsApart, after}
-use Rattle.aud_among.proofs.Steps.{among_law, apart_law}
-use Rattle.aud_expr.specs.Facts.{Knows}
-use Rattle.aud_masters.specs.Lives.{Life, life_at, with_status}
-use Rattle.aud_masters.specs.Changes.{emptied_where}
-use Rattle.aud_single.specs.Knowing.{with_facts}
-use Rattle.aud_single.specs.Parked.{Parked, parked}
-use Rattle.aud_single.specs.Shown.{pending_in, raised_in}
-use Rattle.aud_single.specs.Steps.{StepsAmong}
-use Rattle.aud_tasks.specs.Kept.{Kept, Member, no_member, own_of, tasks_of, all_of, single_of, known_of, AreMembers, IsWhole}
-use Rattle.aud_tasks.specs.Others.{with_single}
-use Rattle.aud_tasks.proofs.Around.{around, task_with, Acts, as_among, before_it}
-use Rattle.aud_tasks.proofs.Living.{knows_lives}
-use Rattle.aud_tasks.proofs.Moving.{lives_same}
+use Rattle.aud_code.specs.Sound.{IsStart}
+use Rattle.aud_code.specs.Starts.{AreSpots, IsPlace, IsSpot}
+use Rattle.aud_state.specs.Fast.{scene}
+use Rattle.aud_tasks.specs.Acting.{ActsPending, ActsSo, DoesAsked}
+use Rattle.aud_tasks.specs.Turning.{turn_in}
 
--- facts are handed on in one way
-pub facts_same : {C : Type 0} (facts : Facts) (objects : ℕ) (k : Controls C) → with_facts facts objects k ≡ wide.with_facts facts objects k
-facts_same facts objects k = refl
+-- the task of a number
+pub task_there : {A : Type 0} (xs : List A) (n : ℕ) → n < length xs → (x : A) × (slice_get xs n ≡ Some x)
+task_there [] n within = absurd (omega (arith, within))
+task_there (x ∷ xs) zero within = (x, refl)
+task_there (x ∷ xs) (suc n) within = task_there xs n (omega (arith, within))
 
--- how far it is, among others
-abbrev pub status_by : Stage → Status
-status_by (runs pending) = Running
-status_by (completed raised) = Completed
-status_by (terminated raised) = Terminated
+no_task : {A : Type 0} (xs : List A) (n : ℕ) → length xs ≤ n → slice_get xs n ≡ None
+no_task [] n past = refl
+no_task (x ∷ xs) zero past = absurd (omega (arith, past))
+no_task (x ∷ xs) (suc n) past = no_task xs n (omega (arith, past))
 
--- one that is so far
-abbrev pub coming_to : ℕ → Stage → List Life → List Life
-coming_to n stage ls = changed n (with_status (status_by stage)) ls
+module _ (plan : Plan) (code : Flat) (limits : Limits) (c : All Spot) (m : Move) where
+  pub no_step : length c.tasks ≤ m.task → c ≡ step_with plan (flat_controls plan code) limits c m
+  no_step past = ap (λ (t : Option (TaskAt Spot)). step_of plan (flat_controls plan code) limits t m c) (sym (no_task c.tasks m.task past))
 
--- all of a task, also where it has lost its frames
-abbrev pub said : Member → Life → Own
-said m l = record nobody {
-  name = m.name;
-  task_type = m.task_type;
-  unit = m.unit;
-  pending = pending_in m.alone.stage;
-  status = l.status;
-  display = m.alone.stack.display;
-  opened = m.alone.stack.opened;
-  raised = raised_in m.alone.stage;
-  masters = l.masters;
-  part = l.part;
-  activator = l.activator;
-  failed = l.failed;
-  at = m.at;
-  abnormal = l.abnormal;
-}
+  pub steps_so : (t : TaskAt Spot) (u : run.Turn) → slice_get c.tasks m.task ≡ Some t → turn_in plan code m.task c ≡ u →
+      turn_taken (going code) plan (barrier_at code) limits u (asked_at code t.own.pending (scene m.task c) t.control) m (record c { steps = suc c.steps }) ≡ step_with plan (flat_controls plan code) limits c m
+  steps_so t u there turns =
+      ap (λ (v : run.Turn). turn_taken (going code) plan (barrier_at code) limits v (asked_at code t.own.pending (scene m.task c) t.control) m (record c { steps = suc c.steps })) (sym turns)
+      ∙ ap (λ (o : Option (TaskAt Spot)). carried_by plan (flat_controls plan code) limits o m c) (sym there)
+      ∙ sym (carried_law plan (flat_controls plan code) limits c m)
 
-own_same : (b : Bool) (o : Own) (stage : Stage) (s : Stack) → own_among (emptied_where b o) stage s ≡ own_among o stage s
-own_same true o (runs pending) s = refl
-own_same true o (completed raised) s = refl
-own_same true o (terminated raised) s = refl
-own_same false o stage s = refl
+same : (u t : TaskAt Spot) → Some u ≡ Some t → u ≡ t
+same u t is = cc
 
-own_with : (m : Member) (l : Life) (t : Parked) → own_of (record m { alone = t }) (with_status (status_by t.stage) l) ≡ own_among (own_of m l) t.stage t.stack
-own_with m l t = by t.stage ∙ sym (own_same (is_terminated l.status) (said m l) t.stage t.stack)
-  where
-    by : (stage : Stage) → own_of (record m { alone = record t { stage = stage } }) (with_status (status_by stage) l) ≡ own_among (said m l) stage t.stack
-    by (runs pending) = refl
-    by (completed raised) = refl
-    by (terminated raised) = refl
+-- where a task stands
+pub spot_at : (lines : List FlatLine) (ts : List (TaskAt Spot)) (n : ℕ) (t : TaskAt Spot) → AreSpots lines ts → slice_get ts n ≡ Some t → IsSpot lines t.control
+spot_at lines [] n t spots is = cc
+spot_at lines (u ∷ ts) zero t spots is = subst (λ (v : TaskAt Spot). IsSpot lines v.control) (same u t is) spots.0
+spot_at lines (u ∷ ts) (suc n) t spots is = spot_at lines ts n t spots.1 is
 
-tasks_with : (n : ℕ) (t : Parked) (ms : List Member) (ls : List Life) → n < length ms → AreMembers ms ls → tasks_of (changed n (λ m. record m { alone = t }) ms) (coming_to n t.stage ls) ≡ take n (tasks_of ms ls) ++ task_among (own_of (slice_index_or ms n no_member) (life_at n ls)) t.control t.stage t.stack ∷ drop (suc n) (tasks_of ms ls)
-tasks_with n t [] ls within are = absurd (omega (arith, within))
-tasks_with n t (m ∷ ms) [] within are = absurd are
-tasks_with zero t (m ∷ ms) (l ∷ ls) within are = ap (λ (o : Own). record { control = t.control; own = o } ∷ tasks_of ms ls) (own_with m l t)
-tasks_with (suc n) t (m ∷ ms) (l ∷ ls) within are = ap (λ ts. task_with m l ∷ ts) (tasks_with n t ms ls (omega (arith, within)) are.1)
+pub starts : (lines : List FlatLine) (n : ℕ) → IsPlace lines n → n < length lines → IsStart lines n
+starts lines n (inl is) within = is
+starts lines n (inr is) within = absurd (omega (arith, is, within))
 
--- a life that is so already
-pub same_status : (s : Status) (n : ℕ) (ls : List Life) → (life_at n ls).status ≡ s → changed n (with_status s) ls ≡ ls
-same_status s n [] is = refl
-same_status s zero (l ∷ ls) is = ap (λ (x : Status). record l { status = x } ∷ ls) (sym is)
-same_status s (suc n) (l ∷ ls) is = ap (λ xs. l ∷ xs) (same_status s n ls is)
+-- the ending at a place that was reached
+pub ends_there : (code : Flat) (k place : ℕ) (l : EndLine) → found code.lines k ≡ Some l → found code.lines k ≡ found code.lines place → l ≡ end_at code place
+ends_there code k place l is same = end_found (drop place code.lines) place l (sym same ∙ is)
 
--- what the task has left to do, where it knows of all tasks; and where its step leads
-abbrev pub knowing_all : Plan → Flat → ℕ → Kept → Controls Spot
-knowing_all plan code n k = knowing (around n k) (single_of n k) (flat_controls plan code)
+pub no_end_there : (code : Flat) (k place : ℕ) → found code.lines k ≡ None → found code.lines k ≡ found code.lines place → end_at code place ≡ no_end place
+no_end_there code k place is same = no_end_found (drop place code.lines) place (sym same ∙ is)
 
-abbrev pub stepped : Plan → Flat → Limits → ℕ → Kept → meaning.All Spot
-stepped plan code limits n k = step_with plan (flat_controls plan code) limits (all_of k) (own_move n)
+none_from : (ls : List FlatLine) (n : ℕ) → length ls ≤ n → drop n ls ≡ []
+none_from [] zero past = refl
+none_from [] (suc n) past = refl
+none_from (l ∷ ls) zero past = absurd (omega (arith, past))
+none_from (l ∷ ls) (suc n) past = none_from ls n (omega (arith, past))
 
-module _ (k : Kept) (n : ℕ) (whole : IsWhole k) (within : n < length k.members) where
-  -- the task among the others
-  pub with_task : (q : Single Spot) → all_of (record (with_single n q k) { lives = coming_to n q.stage k.lives }) ≡ among (around n k) q
-  with_task q = ap (λ (ts : List (TaskAt Spot)). record (all_of (with_single n q k)) { tasks = ts }) (tasks_with n (parked q) k.members k.lives within whole.members)
+-- behind all lines there is none
+pub no_end_behind : (code : Flat) (place : ℕ) → length code.lines ≤ place → end_at code place ≡ no_end place
+no_end_behind code place past = ap (λ ls. end_from ls place) (none_from code.lines place past)
 
-  pub still_with : (q : Single Spot) → (life_at n k.lives).status ≡ status_by q.stage → all_of (with_single n q k) ≡ among (around n k) q
-  still_with q is = ap (λ (ls : List Life). all_of (record (with_single n q k) { lives = ls })) (sym (same_status (status_by q.stage) n k.lives is)) ∙ with_task q
+own_there : (ts : List (TaskAt Spot)) (n : ℕ) (t : TaskAt Spot) → slice_get ts n ≡ Some t → slice_index_or (owns ts) n nobody ≡ t.own
+own_there [] n t is = cc
+own_there (u ∷ ts) zero t is = ap (λ (v : TaskAt Spot). v.own) (same u t is)
+own_there (u ∷ ts) (suc n) t is = own_there ts n t is
 
-  pub its_number : number (around n k) ≡ n
-  its_number = before_it k.members k.lives n within whole.members
-
-  -- what is known of tasks is true
-  pub knows_all : Knows k.known (facts_of (all_of k))
-  knows_all = subst (λ known. Knows known (facts_of (all_of k))) (sym (whole.known ∙ ap (map known_of) (sym (lives_same k.members k.lives whole.members)))) (knows_lives (owns (all_of k).tasks))
-
-  module _ (plan : Plan) (code : Flat) (limits : Limits) (acts : Acts (life_at n k.lives).status) where
-    abbrev K : Controls Spot
-    K = flat_controls plan code
-
-    abbrev a : Around Spot
-    a = around n k
-
-    abbrev p : Single Spot
-    p = single_of n k
-
-    knows_around : Knows k.known (facts_of (among a p))
-    knows_around = subst (λ c. Knows k.known (facts_of c)) (sym (as_among k n whole within acts)) knows_all
-
-    pub leads_alone : (q : Single Spot) → StepsAmong k.known plan.units code p q → single.all_of [] q ≡ step_with plan (knowing_all plan code n k) limits (single.all_of [] p) (own_move 0)
-    leads_alone q steps = steps plan [] refl limits (facts_of (among a p)) 0 knows_around
-
-    pub its_step : step_with plan K limits (among a p) (own_move (number a)) ≡ stepped plan code limits n k
-    its_step = ap (λ c. step_with plan K limits c (own_move (number a))) (as_among k n whole within acts) ∙ ap (λ m. step_with plan K limits (all_of k) (own_move m)) its_number
-
-    -- the same, wherever it leads alone
-    abbrev LeadsAlone : Single Spot → Type 0
-    LeadsAlone q = single.all_of [] q ≡ step_with plan (knowing_all plan code n k) limits (single.all_of [] p) (own_move 0)
-
-    pub alone_from : (q : Single Spot) → LeadsAlone q → StepsAlone plan K a p → among a q ≡ stepped plan code limits n k
-    alone_from q leads alone = among_law plan K limits [] a p q alone leads ∙ its_step
-
-    pub apart_from : (q : Single Spot) → LeadsAlone q → StepsApart plan K a p p.stage → ordered K (among a q) (after plan K a p p.stage) ≡ stepped plan code limits n k
-    apart_from q leads apart = apart_law plan K limits [] a p q apart leads ∙ its_step
-
-    -- a step that concerns the task alone
-    pub steps_alone : (q : Single Spot) → StepsAmong k.known plan.units code p q → StepsAlone plan K a p → among a q ≡ stepped plan code limits n k
-    steps_alone q steps alone = among_law plan K limits [] a p q alone (leads_alone q steps) ∙ its_step
-
-    -- one that concerns others as well
-    pub steps_apart : (q : Single Spot) → StepsAmong k.known plan.units code p q → StepsApart plan K a p p.stage → ordered K (among a q) (after plan K a p p.stage) ≡ stepped plan code limits n k
-    steps_apart q steps apart = apart_law plan K limits [] a p q apart (leads_alone q steps) ∙ its_step
-
-    -- the task goes on, and no other life has changed
-    pub steps_on : (q : Single Spot) → StepsAmong k.known plan.units code p q → StepsAlone plan K a p → (life_at n k.lives).status ≡ status_by q.stage → all_of (with_single n q k) ≡ stepped plan code limits n k
-    steps_on q steps alone is = still_with q is ∙ steps_alone q steps alone
+-- it has what is pending
+pub acts_so : (plan : Plan) (code : Flat) (limits : Limits) (n : ℕ) (p : Option Pending) (old new : All Spot) → p ≡ (own_of n old).pending → ActsPending plan code limits n p old new → ActsSo plan code limits n old new
+acts_so plan code limits n p old new is h = λ t there. subst (λ (q : Option Pending). DoesAsked plan code limits n (asked_at code q (scene n old) t.control) old new) (is ∙ ap (λ (o : Own). o.pending) (own_there old.tasks n t there)) (h t there)

@@ -1,8 +1,8 @@
-pub mod Kept
 pub mod Turning
-pub mod Others
-pub mod Endings
-pub mod Ticks
-pub mod Steps
 pub mod Moving
+pub mod Enabled
+pub mod Listed
 pub mod Running
+pub mod Acting
+pub mod Endings
+pub mod Leaving

@@ -1,13 +1,48 @@
--- What is done to tasks in memory, one by one.
-use Rattle.std.specs.Prelude.{ℕ, length, nat_lt, if◌then◌else◌}
-use Rattle.aud_meaning.specs.Parts.{changed}
-use Rattle.aud_single.specs.Parked.{Parked}
-use Rattle.aud_tasks.specs.Kept.{Kept}
+-- What a task does at its next step, as memory tells it.
+use Rattle.std.specs.Prelude.{ℕ, Bool, slice_get}
+use Rattle.aud_typed.specs.Tree.{Plan}
+use Rattle.aud_meaning.specs.Configuration.{TaskAt, All}
+use Rattle.aud_meaning.specs.Control.{Coming, Seen}
+use Rattle.aud_meaning.specs.Parts.{own_of, sight_of}
+use Rattle.aud_meaning.specs.Run as run
+use Rattle.aud_meaning.specs.Run.{seen, turn_at}
+use Rattle.aud_code.specs.Places.{Spot}
+use Rattle.aud_code.specs.Flat.{Flat, barrier_at, flat_controls}
+use Rattle.aud_state.specs.Reads.{coming_by, place_by}
+use Rattle.aud_tasks.specs.declared.turn.Turn.{Turn}
+use Rattle.aud_tasks.specs.declared.turn.Turn.TheVariants.{Resting, Closing, Completing, Withdrawing, Serving, Expiring, Cancelling, Acting}
 
--- another one acts, if there is one of this number
-abbrev pub turned_to : ℕ → Kept → Kept
-turned_to n k = record k { acting = if nat_lt n (length k.members) then n else k.acting }
+abbrev pub turn_in : Plan → Flat → ℕ → All Spot → run.Turn
+turn_in plan code n c =
+    let k = flat_controls plan code in
+    turn_at plan k.barrier (slice_get (seen plan k c).tasks n) n (seen plan k c)
 
--- one has changed by itself
-abbrev pub on_alone : ℕ → (Parked → Parked) → Kept → Kept
-on_alone n f k = record k { members = changed n (λ m. record m { alone = f m.alone }) k.members }
+-- what comes next of its own statements
+abbrev pub coming_in : Plan → Flat → ℕ → All Spot → Coming
+coming_in plan code n c = coming_by code plan (sight_of n c) (slice_get c.tasks n)
+
+-- what is seen of it
+abbrev pub seen_in : Plan → Flat → ℕ → All Spot → TaskAt Seen
+seen_in plan code n c = record { control = record { coming = coming_in plan code n c; place = place_by code (slice_get c.tasks n) }; own = own_of n c }
+
+-- whether its call is selected, or it is at the end of a master; whether what makes it complete at once has to wait (RM 9.8(6 to 11))
+abbrev pub bound_in : Plan → Flat → ℕ → All Spot → Bool
+bound_in plan code n c = run.is_bound plan (barrier_at code) (own_of n c).status n (seen_in plan code n c) (seen plan (flat_controls plan code) c)
+
+abbrev pub deferred_in : Plan → Flat → ℕ → All Spot → Bool
+deferred_in plan code n c = run.Deferred plan (barrier_at code) n (seen_in plan code n c) (seen plan (flat_controls plan code) c)
+
+-- what it does where it has not to complete at once
+abbrev pub usual_in : Plan → Flat → ℕ → All Spot → run.Turn
+usual_in plan code n c = run.usual plan (barrier_at code) (own_of n c).serving (own_of n c).status n (seen_in plan code n c) (seen plan (flat_controls plan code) c)
+
+-- of the task of a number
+abbrev pub turned : Plan → Flat → ℕ → All Spot → Turn → run.Turn
+turned plan code n c Resting = run.resting
+turned plan code n c Closing = run.closing
+turned plan code n c Completing = run.completing
+turned plan code n c (Withdrawing object) = run.withdrawing object
+turned plan code n c (Serving s) = run.serving s
+turned plan code n c Expiring = run.expiring (own_of n c).waits.delays
+turned plan code n c Cancelling = run.cancelling (own_of n c).call
+turned plan code n c Acting = run.acting (coming_in plan code n c)

@@ -1,11 +1,14 @@
-// Executions: compiled programs under way with all their tasks.
+// Steps and runs of compiled programs with all their tasks.
 #![tactic(auto)]
 
-mod activation;
-mod coming;
-mod creation;
-pub mod execution;
-mod member;
-mod moves;
+mod act;
+pub mod coming;
+pub mod compiled;
+mod enabled;
+mod endings;
+mod leave;
+pub mod moves;
 pub mod run;
 mod step;
+mod times;
+pub mod turn;

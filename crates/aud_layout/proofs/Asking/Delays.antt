@@ -3,7 +3,8 @@ use Rattle.std.proofs.Common.{◌≡◌, ℕ, suc, ◌+◌, ◌-◌, ◌<◌, �
 use Rattle.std.proofs.lemmas.Bool.Decides.{eqb_tells}
 use Rattle.aud_text.specs.declared.raise.Raise.{Raise}
 use Rattle.aud_typed.specs.Tree.{DelayExpression, BooleanExpression, Part, Alternatives, no_alternatives, accepting, delaying, terminating}
-use Rattle.aud_meaning.specs.Configuration.{OpenDelay, Waits}
+use Rattle.aud_meaning.specs.declared.state.OpenDelay.{OpenDelay}
+use Rattle.aud_meaning.specs.Configuration.{Waits}
 use Rattle.aud_meaning.specs.Evaluation.{Sight, with_value, delay_of, decided}
 use Rattle.aud_meaning.specs.Control.{Scene}
 use Rattle.aud_meaning.specs.Statements.{if_open, guards_from, delay_expression, timed_from, region_of}

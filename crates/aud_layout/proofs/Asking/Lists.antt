@@ -2,7 +2,9 @@
 use Rattle.std.proofs.Common.{◌≡◌, ℕ, ℤ, suc, List, [], ◌∷◌, ◌++◌, Bool, true, false, ◌||◌, Some, Result, Ok, refl, sym, ap, ◌∙◌, append_assoc, append-nil}
 use Rattle.aud_text.specs.declared.raise.Raise.{Raise}
 use Rattle.aud_typed.specs.Tree.{TaskName, ValueExpression, BooleanExpression, Alternatives, no_alternatives, accepting, delaying, terminating}
-use Rattle.aud_meaning.specs.Configuration.{OpenAccept, OpenDelay, Waits}
+use Rattle.aud_meaning.specs.declared.state.OpenAccept.{OpenAccept}
+use Rattle.aud_meaning.specs.declared.state.OpenDelay.{OpenDelay}
+use Rattle.aud_meaning.specs.Configuration.{Waits}
 use Rattle.aud_meaning.specs.Evaluation.{with_value, task_named, value_of, decided}
 use Rattle.aud_meaning.specs.Control.{Scene}
 use Rattle.aud_meaning.specs.Statements.{names_tasks, components, if_open, guards_from, region_of}

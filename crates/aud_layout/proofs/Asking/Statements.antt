@@ -5,7 +5,8 @@ use Rattle.aud_text.specs.declared.place.Pos.{Pos}
 use Rattle.aud_text.specs.declared.raise.Raise.{Raise}
 use Rattle.aud_typed.specs.Tree as tree
 use Rattle.aud_typed.specs.Tree.{ValueExpression, Argument, CallForm, plainly, conditionally, timed, Callee, of_task, of_object, TaskName, Statement, declare_object, if_then, while_loop, exit, return_value, procedure_call, own_entry_call, operation_call, delay, abort, Part}
-use Rattle.aud_meaning.specs.Configuration.{Target, timed_to}
+use Rattle.aud_meaning.specs.declared.state.Form.TheVariants.{TimedTo}
+use Rattle.aud_meaning.specs.Configuration.{Target}
 use Rattle.aud_meaning.specs.declared.state.Owner.TheVariants as owner
 use Rattle.aud_meaning.specs.Evaluation.{with_value, evaluated, decided, value_of, delay_of, task_named, number_in, option_target, passed, Passed}
 use Rattle.aud_meaning.specs.Control.{Scene, Asked, Called}
@@ -46,7 +47,7 @@ module _ (loops : ℕ) (at : Pos) (s : Scene) where
         let o = record no_operands { names = ns } in
         asks_then (passed arguments s.sight) _ ask (λ p. Ends false s (delay_code x) (with_passed p o)) _ (eval_arguments false s arguments 0 (delay_code x) o) (λ p.
         asks_then (delay_of x s.sight) _ ask (λ ms. Ends false s [] (record (with_passed p o) { delay = ms })) _ (at_end false s (delay_code x) (with_passed p o) ∙ eval_delay false s x [] (with_passed p o)) (λ ms. k p ms)
-        ∙ ap (λ r. or_raises r at ask) (sym (with_assoc (delay_of x s.sight) (λ ms. Ok (timed_to (s.clock + ms))) (λ f. Ok (record { entry = entry; passed = p; form = f; at = at })))))
+        ∙ ap (λ r. or_raises r at ask) (sym (with_assoc (delay_of x s.sight) (λ ms. Ok (TimedTo (s.clock + ms))) (λ f. Ok (record { entry = entry; passed = p; form = f; at = at })))))
 
     -- where a function's value goes, and then the arguments
     pub asks_entered : (c : tree.Calling) (ask : Option Target → Passed → Asked) →

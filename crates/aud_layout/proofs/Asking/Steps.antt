@@ -4,7 +4,8 @@ use Rattle.aud_text.specs.declared.place.Pos.{Pos}
 use Rattle.aud_text.specs.declared.raise.Raise.{Raise}
 use Rattle.aud_typed.specs.Tree as tree
 use Rattle.aud_typed.specs.Tree.{Callee, of_task, of_object, sequence, declare, declare_array, declare_tasks, declare_object, activated, activate, null, assign, put, if_then, plain_loop, while_loop, for_loop, exit, return, return_value, raising, raising_again, block, procedure_call, own_entry_call, operation_call, entry_call, delay, accept, select, abort, Part, Alternatives}
-use Rattle.aud_meaning.specs.Configuration.{OpenDelay, Waits}
+use Rattle.aud_meaning.specs.declared.state.OpenDelay.{OpenDelay}
+use Rattle.aud_meaning.specs.Configuration.{Waits}
 use Rattle.aud_meaning.specs.Evaluation.{Sight, with_value, decided, task_named}
 use Rattle.aud_meaning.specs.Control.{Scene, Asked}
 use Rattle.aud_meaning.specs.Control as asked

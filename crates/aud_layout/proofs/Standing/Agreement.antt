@@ -3,7 +3,8 @@ use Rattle.aud_typed.specs.declared.program.Exception.{Exception}
 use Rattle.aud_typed.specs.Tree.{Body, body, Program}
 use Rattle.aud_meaning.specs.declared.state.Construct.TheVariants as construct
 use Rattle.std.proofs.Common.{◌≡◌, ℕ, List, [], ◌∷◌, Option, Some, None, refl, sym, ap, append-nil}
-use Rattle.aud_meaning.specs.Configuration.{Pending, Item}
+use Rattle.aud_meaning.specs.declared.state.Pending.{Pending}
+use Rattle.aud_meaning.specs.Configuration.{Item}
 use Rattle.aud_meaning.specs.Evaluation.{Sight}
 use Rattle.aud_meaning.specs.Control.{Scene}
 use Rattle.aud_meaning.specs.Items.{body_before, body_of, reached_at, is_some_part, out_from}

@@ -2,8 +2,7 @@
 
 use crate::tests::{finds, loaded};
 use aud_machine::machine::{Machine, Ran};
-use aud_meaning::state::{NextStep, State, StepKind};
-use aud_single::stage::Stage;
+use aud_meaning::state::{Move, NextStep, State, StepKind};
 use aud_text::int32::Int32;
 use aud_text::limits::{CHOICES, CLOCK, Limits, STEPS};
 use aud_text::place::Pos;
@@ -93,7 +92,7 @@ fn does(
             machine.advance(milliseconds);
         }
         Act::Reset => machine.reset(alloc)?,
-        Act::Look => looks(rt, machine),
+        Act::Look => looks(rt, alloc, machine)?,
     }
     Ok(None)
 }
@@ -103,13 +102,14 @@ fn chooses(rt: &impl Abort, machine: &mut Machine, choices: &[u32]) -> Result<()
     machine.choose(choices)
 }
 
-fn looks(rt: &impl Abort, machine: &Machine) {
+fn looks(rt: &impl Abort, alloc: Global, machine: &Machine) -> Result<(), AllocError> {
     assert!(rt; machine.program().name.is(b"M") && machine.limits() == SMALL);
     let parts = machine.parts();
-    assert!(rt; parts.steps == 2 && parts.clock == 0);
-    assert!(rt; parts.main == Stage::Runs(None) && parts.store.elaborated() == 1);
-    assert!(rt; parts.store.frames().len() == 1);
-    assert!(rt; parts.store.frames().frame(0) == [Int32::new(42)].as_slice());
+    assert!(rt; parts.steps() == 2 && parts.clock() == 0 && parts.choices() == 0);
+    assert!(rt; parts.len() == 1 && parts.raised() == None);
+    assert!(rt; parts.cells(alloc, 0)?.as_slice() == [Int32::new(42)].as_slice());
+    assert!(rt; parts.cells(alloc, 1)?.is_empty());
+    Ok(())
 }
 
 fn tells(rt: &impl Abort, machine: &Machine, wanted: Told) {
@@ -227,8 +227,15 @@ fn lists(
 ) -> Result<(), AllocError> {
     for (act, wanted) in rows {
         does(rt, alloc, machine, *act)?;
-        let tasks = machine.moves(alloc)?;
-        assert!(rt; tasks.as_slice() == *wanted);
+        let moves = machine.moves(alloc)?;
+        assert!(rt; moves.len() == wanted.len());
+        for (index, task) in wanted.iter().enumerate() {
+            let only = Move {
+                task: *task,
+                alternative: None,
+            };
+            assert!(rt; moves.get(index).copied() == Some(only));
+        }
     }
     Ok(())
 }

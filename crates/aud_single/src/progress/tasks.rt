@@ -1,58 +1,36 @@
-// What a task does to itself in steps that concern others too, and what others do to it.
+// What tasks do that others have created.
 
-ghost use Rattle.std.specs.Prelude.{◌≡◌, ◌<◌, ◌∷◌, [], pos, OnOk, IfOk, IfSome, IfNone};
+ghost use Rattle.std.specs.Prelude.{◌≡◌, ◌∷◌, [], pos, OnOk, IfOk, IfSome, IfNone};
 ghost use Rattle.aud_meaning.specs.Configuration.{for_body};
-ghost use Rattle.aud_exc.specs.View.{plain_pending};
+ghost use Rattle.aud_single.specs.Parked.{numbers_from};
 ghost use Rattle.aud_store.specs.Ties.Stored.{declared, entered};
-ghost use Rattle.aud_single.specs.Parked.{acting, gone_on, numbers_from, parked};
 ghost use Rattle.aud_single.specs.Shown.{plans_of, unit_in};
-ghost use Rattle.aud_single.specs.Standing.{StandsAt};
-ghost use Rattle.aud_single.specs.Steps.{moved_to, on_stored};
+ghost use Rattle.aud_single.specs.Steps.{on_stored};
 
 use crate::progress::Progress;
-use crate::progress::calls::first_way;
-use crate::stage::Stage;
-use crate::standing::Standing;
 use crate::units::{place_of, region_of};
-use aud_code::sound_code::SoundCode;
-use aud_exc::raised::Raised;
 use aud_store::stack::Purpose;
 use aud_text::int32::Int32;
-use aud_text::limits::STEPS;
 use aud_typed::program::Unit;
 use std::alloc::{AllocError, Global};
 
 impl Progress {
-    /// Where the acting task stands.
-    pub fn standing(&self) -> Standing<'_>
-        ensures { StandsAt result.place result.stage result.stack.now self.now }
-    {
-        Standing {
-            place: self.place,
-            stage: self.stage,
-            stack: self.store.stack(),
-        }
-    }
-
-    /// One more variable of the innermost frame, so many tasks, by their numbers from the first one on; and one step to a place.
+    /// One more variable of the innermost frame, so many tasks, by their numbers from the first one on.
     pub fn declare_tasks(
         &mut self,
         alloc: Global,
         first: usize,
         count: usize,
-        place: usize,
     ) -> Result<(), AllocError>
-        requires { self.old.steps < STEPS }
         ensures { OnOk result (self.new ≡
-            moved_to place (on_stored (declared (numbers_from first count)) self.old)) }
+            on_stored (declared (numbers_from first count)) self.old) }
     {
         let cells = cells_of(alloc, first, count)?;
         self.store.declare_cells(&cells)?;
-        self.go(place);
         Ok(())
     }
 
-    /// The task begins its declarations, in a frame whose first cell is its own number. That is no step of its own (RM 9.2).
+    /// The task begins its declarations, in a frame whose first cell is its own number (RM 9.2).
     pub fn begin_body(
         &mut self,
         alloc: Global,
@@ -70,16 +48,6 @@ impl Progress {
         self.store
             .enter(alloc, Purpose::Body, &[], region, at, &own, 1)?;
         Ok(())
-    }
-
-    /// The task goes on behind the step at which it waited for activations, or has this pending there. That is no step of its own
-    /// (RM 9.2).
-    pub fn go_on(&mut self, code: &SoundCode, raised: Option<Raised>)
-        ensures { self.new ≡
-            acting (gone_on code.now (plain_pending raised) (parked self.old)) self.old }
-    {
-        self.place = first_way(code, self.place);
-        self.stage = Stage::Runs(raised);
     }
 
     /// The next choice, which is used up; none where none waits.

@@ -1,11 +1,11 @@
--- What is kept of the frames of a program, with those that are open of the task that acts.
-use Rattle.std.specs.Prelude.{◌≡◌, ◌<◌, ◌≤◌, ◌-◌, ℕ, suc, ℤ, pos, List, [], ◌∷◌, ◌++◌, length, min, take, drop, All, Option, Some, None, Bool, false, slice_index_or}
+-- What is kept of the frames of a program, with those that are open of the task whose part lies there.
+use Rattle.std.specs.Prelude.{◌≡◌, ◌≤◌, ◌-◌, ℕ, suc, ℤ, pos, List, [], ◌∷◌, ◌++◌, length, min, take, drop, Option, Some, None, Bool, false, slice_index_or}
 use Rattle.aud_text.specs.declared.place.Pos.{Pos}
 use Rattle.aud_typed.specs.declared.program.Exception.{Exception}
 use Rattle.aud_meaning.specs.Configuration.{Frame, Back, Target, Opened, for_body, for_block, for_loop, for_procedure, for_operation, for_entry, for_accept}
 use Rattle.aud_meaning.specs.Configuration as meaning
 use Rattle.aud_meaning.specs.Effects.{innermost, is_loop, assigned}
-use Rattle.aud_meaning.specs.Ties.Single.{Stack, AreOpenedAlone, on_innermost, opens_after, returning}
+use Rattle.aud_meaning.specs.Ties.Stack.{Stack, on_innermost, opens_after, returning}
 use Rattle.aud_store.specs.declared.stack.Purpose.{Purpose}
 use Rattle.aud_store.specs.declared.stack.Purpose.TheVariants.{Body, Block, Loop, Procedure}
 use Rattle.aud_store.specs.declared.stack.Open.{Open}
@@ -134,40 +134,16 @@ innermost_cell index s = slice_index_or (slice_index_or s.frames (innermost s.st
 abbrev pub stored : ℕ → ℕ → ℤ → Stored → Stored
 stored frame index value s = record s { frames = assigned frame index value s.frames }
 
--- What holds of them at any time.
+-- the calls whose accepts are under way
+abbrev pub accepted_by : meaning.Purpose → List ℕ → List ℕ
+accepted_by for_body rest = rest
+accepted_by for_block rest = rest
+accepted_by for_loop rest = rest
+accepted_by (for_procedure r) rest = rest
+accepted_by (for_operation n r) rest = rest
+accepted_by (for_entry n i s b) rest = rest
+accepted_by (for_accept i) rest = i ∷ rest
 
--- of the frames that were seen before it was opened, these are seen from a frame: all, or of a procedure those further out than some level
-abbrev pub AreKept : meaning.Purpose → List ℕ → List ℕ → Type 0
-AreKept (for_procedure r) saved kept = (level : ℕ) × (kept ≡ take level saved)
-AreKept purpose saved kept = kept ≡ saved
-
--- the frames that are seen where none of these is open: those that the task sees from the outside, which for the main procedure are none
-abbrev pub outside_by : List Opened → List ℕ → List ℕ
-outside_by [] seen = seen
-outside_by (o ∷ os) seen = outside_by os o.saved
-
-abbrev pub outside : Stack → List ℕ
-outside s = outside_by s.opened s.display
-
--- these are seen from the first of the open frames, which is the innermost one
-abbrev pub AreSeen : List ℕ → List Opened → List ℕ → Type 0
-AreSeen outer [] seen = seen ≡ outer
-AreSeen outer (o ∷ os) seen = (kept : List ℕ) × (AreKept o.purpose o.saved kept × (seen ≡ kept ++ o.frame ∷ []))
-
--- before each was opened, those were seen that are seen from the one around it
-abbrev pub AreSaved : List ℕ → List Opened → Type 0
-AreSaved outer [] = Unit {0}
-AreSaved outer (o ∷ os) = AreSeen outer os o.saved × AreSaved outer os
-
-pub record IsStacked (s : Stack) : Type 0 where
-  pub seen : AreSeen (outside s) s.opened s.display
-  pub saved : AreSaved (outside s) s.opened
-  pub alone : AreOpenedAlone s.opened
-
--- each of these frames is one of so many
-abbrev pub AreMade : ℕ → List Opened → Type 0
-AreMade count opened = All (λ o. o.frame < count) opened
-
-pub record IsStored (s : Stored) : Type 0 where
-  pub stacked : IsStacked s.stack
-  pub made : AreMade (length s.frames) s.stack.opened
+abbrev pub accepted_in : List Opened → List ℕ
+accepted_in [] = []
+accepted_in (o ∷ os) = accepted_by o.purpose (accepted_in os)

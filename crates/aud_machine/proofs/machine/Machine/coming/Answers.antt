@@ -4,7 +4,6 @@ use Rattle.aud_machine.proofs.machine.Machine.coming.Goals as goal
 pub returns : goal.returns
 returns c =
     let inside = c.self.inside in
-    let fits = c.self.invariant.1 in
     let told = rw (c.compiled.ensures.program, c.compiled.ensures.code, ← c.self.view_is) at c.coming.ensures in
     rw (← c.self.view_is) (λ shown h.
-    coming_shown inside.program inside.code c.self.invariant.0 inside.execution c.args.task c.coming.result shown (told (fits h.alive).whole) h.all)
+    coming_shown inside.program inside.code c.self.invariant.0 inside.state c.args.task c.coming.result shown told h.all)

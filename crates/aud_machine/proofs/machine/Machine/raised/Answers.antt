@@ -4,6 +4,5 @@ use Rattle.aud_machine.proofs.machine.Machine.raised.Goals as goal
 pub returns : goal.returns
 returns c =
     let inside = c.self.inside in
-    let fits = c.self.invariant.1 in
     rw (← c.self.view_is) (λ shown h.
-    raised_shown inside.program inside.code c.self.invariant.0 inside.execution c.raised.result shown (c.raised.ensures (fits h.alive).whole) h.all)
+    raised_shown inside.program inside.code c.self.invariant.0 inside.state c.raised.result shown c.raised.ensures h.all)

@@ -5,8 +5,7 @@ use Rattle.aud_machine.proofs.machine.Machine.reset.Goals as goal
 pub returns-clause-shows : goal.returns-clause-shows
 returns-clause-shows c =
     let inside = c.self.inside in
-    let told = rw (c.compiled.ensures.program, c.compiled.ensures.code) at c.in_ok-self-inside.ensures.opening in
     rw (← c.self.view_is) (record {
       alive = refl;
-      all = opening_shown inside.program inside.code c.self.invariant.0 c.in_ok-self-inside.field-0 told;
+      all = opening_shown inside.program inside.code c.self.invariant.0 c.in_ok-self-inside.field-0 c.in_ok-self-inside.ensures.opening;
     })

@@ -1,10 +1,9 @@
-use Rattle.aud_typed.specs.Ties.View.{plain_program}
 use Rattle.aud_machine.proofs.Bridges.{state_shown}
 use Rattle.aud_machine.proofs.machine.Machine.state.Goals as goal
 
 pub returns : goal.returns
 returns c =
     let inside = c.self.inside in
-    let fits = c.self.invariant.1 in
+    let told = rw (c.compiled.ensures.program, c.compiled.ensures.code, ← c.self.view_is) at c.state_of.ensures in
     rw (← c.self.view_is) (λ shown h.
-    state_shown inside.program inside.code c.self.invariant.0 inside.execution c.state.result shown (c.state.ensures (fits h.alive).whole (plain_program inside.program).plan) h.all)
+    state_shown inside.program inside.code c.self.invariant.0 inside.state c.state_of.result shown told h.all)

@@ -1,23 +1,22 @@
 use Rattle.std.proofs.Common.{◌≡◌, ◌+◌, [], slice_set, reverse, ap, ◌∙◌, refl, subst, arith}
 use Rattle.std.proofs.lemmas.List.{set-set}
 use Rattle.std.proofs.lemmas.Option.{get_or_from_slice_get}
-use Rattle.aud_meaning.specs.Ties.Single.{Single}
+use Rattle.aud_meaning.specs.Ties.Part.{Part}
 use Rattle.aud_code.specs.Places.{Spot, goes}
 use Rattle.aud_store.specs.Ties.Stored.{Stored}
-use Rattle.aud_single.specs.Shown.{plain_stage}
 use Rattle.aud_single.specs.Fast.{Free, led, RunsFast}
 use Rattle.aud_single.proofs.FastRuns.{runs_fast}
 use Rattle.aud_single.proofs.progress.Progress.run_free.Goals as goal
 use Rattle.aud_single.proofs.progress.Progress.run_free.Goals.{After-put}
 
-abbrev before : (c : After-put) → Single Spot
+abbrev before : (c : After-put) → Part Spot
 before c =
     let inside = c.self.inside in
-    record { control = record { place = inside.place; returns = reverse inside.returns.items }; stage = plain_stage inside.stage; stack = inside.store.stack; frames = inside.store.frames; output = inside.output.items; cut = inside.cut; choices = inside.choices.items; clock = inside.clock; steps = inside.steps }
+    record { control = record { place = inside.place; returns = reverse inside.returns.items }; pending = inside.pending; stack = inside.store.stack; frames = inside.store.frames; output = inside.output.items; cut = inside.cut; choices = inside.choices.items; clock = inside.clock; steps = inside.steps }
 
 free : (c : After-put) → Free c.self.inside.place c.take.result.items (before c)
 free c = record {
-  runs = rw (← c.self.view_is) at c.requires.runs;
+  none = rw (← c.self.view_is) at c.requires.none;
   uncut = rw (← c.self.view_is) at c.requires.uncut;
   control = refl;
   framed = rw (← c.self.view_is) at c.requires.framed;
@@ -25,10 +24,10 @@ free c = record {
   variables = get_or_from_slice_get c.self.inside.store.frames 0 c.take.result.items [] c.take.ensures.taken;
 }
 
-abbrev with_store : (c : After-put) → Stored → Single Spot
+abbrev with_store : (c : After-put) → Stored → Part Spot
 with_store c store = record (before c) { control = goes c.fast_run_with-cells.result.0.place (before c).control; stack = store.stack; frames = store.frames; steps = c.self.inside.steps + c.fast_run_with-cells.result.0.steps }
 
-abbrev after : (c : After-put) → Single Spot
+abbrev after : (c : After-put) → Part Spot
 after c = with_store c c.put.new.self
 
 -- the variables are back
@@ -49,10 +48,8 @@ pub returns : goal.returns
 returns c =
     let put = (goal.at.returns c).After-put in
     let run = c.fast_run_with-cells.result.0 in
-    let fast = runs_fast c.args.code.now c.args.n c.self.inside.place c.take.result.items c.fast_run_with-cells.result.1.items (before put) (after put) run (free put) (rw (← c.self.view_is) at c.requires.fits) c.fast_run_with-cells.ensures.done c.fast_run_with-cells.ensures.few (led_there put) in
+    let fast = runs_fast c.args.code.now c.args.n c.self.inside.place c.take.result.items c.fast_run_with-cells.result.1.items (before put) (after put) run (free put) c.fast_run_with-cells.ensures.done c.fast_run_with-cells.ensures.few (led_there put) in
     record { runs = subst (λ p. RunsFast c.args.code.now c.args.n p (after put) run) c.self.view_is fast }
 
 pub fast_run_with-cells-requires : goal.fast_run_with-cells-requires
-fast_run_with-cells-requires c =
-    let here = rw c.requires.runs at c.requires.fits in
-    rw (← c.self.view_is) at here.0
+fast_run_with-cells-requires c = rw (← c.self.view_is) at c.requires.begins

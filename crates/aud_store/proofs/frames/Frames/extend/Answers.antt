@@ -1,4 +1,4 @@
-use Rattle.std.proofs.Common.{◌≡◌, ◌<◌, ◌++◌, [], length, ap, arith, ◌∙◌}
+use Rattle.std.proofs.Common.{◌<◌, ◌++◌, [], length, ap, arith, ◌∙◌}
 use Rattle.std.proofs.lemmas.List.{length-map, set-get_or}
 use Rattle.aud_store.proofs.Writes.{write_frame, on_err}
 use Rattle.aud_store.proofs.frames.Frames.extend.Goals as goal

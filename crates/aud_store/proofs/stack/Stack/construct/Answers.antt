@@ -7,14 +7,11 @@ use Rattle.aud_meaning.specs.Effects.{is_loop}
 use Rattle.aud_store.specs.declared.stack.Open.{Open}
 use Rattle.aud_store.specs.Ties.Display.{seen}
 use Rattle.aud_store.specs.Ties.Stored.{plain_purpose}
-use Rattle.aud_store.proofs.Opened.{first_construct, stacked}
+use Rattle.aud_store.proofs.Opened.{first_construct}
 use Rattle.aud_store.proofs.stack.Stack.construct.Goals as goal
 
-pub returns-clause-alone : goal.returns-clause-alone
-returns-clause-alone c = rw (← c.self.view_is) ((stacked c.self.inside.display (reverse c.self.inside.opened.items) c.self.inside.backs.items c.self.invariant).alone)
-
-pub returns-clause-innermost : goal.returns-clause-innermost
-returns-clause-innermost c = rw (← c.self.view_is) (
+pub returns : goal.returns
+returns c = rw (← c.self.view_is) (
     let found : option_map (λ y. y.now) c.find.result ≡ find (λ (o : Open). not (is_loop (plain_purpose o.purpose []))) (reverse c.self.inside.opened.items) =
     find_from_yields_List (λ (o : Open). not (is_loop (plain_purpose o.purpose []))) _ _ c.find.result c.find.ensures.ran (YieldsList-from_rev_slice c.self.inside.opened.items cc) (λ x b q k. search (rules, tests)) in
     rw (c.copied.ensures, found) (first_construct c.self.inside.display (reverse c.self.inside.opened.items) c.self.inside.backs.items (seen c.self.inside.display)))

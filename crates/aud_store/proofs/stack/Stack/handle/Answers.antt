@@ -1,6 +1,6 @@
 use Rattle.std.proofs.Common.{List, Some, refl, ap}
 use Rattle.aud_meaning.specs.Configuration.{Opened}
-use Rattle.aud_meaning.specs.Ties.Single.{Stack}
+use Rattle.aud_meaning.specs.Ties.Stack.{Stack}
 use Rattle.aud_store.specs.Ties.Display.{seen}
 use Rattle.aud_store.proofs.Opened.{IsLast, placed_turned, opened_turned, none_changed}
 use Rattle.aud_store.proofs.stack.Stack.handle.Goals as goal

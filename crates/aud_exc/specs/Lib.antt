@@ -1,2 +1,0 @@
-pub mod View
-pub mod Unwound

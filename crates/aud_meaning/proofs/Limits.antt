@@ -1,0 +1,3 @@
+pub mod Frames
+pub mod Kept
+pub mod Steps

@@ -1,0 +1,9 @@
+pub mod Beside
+pub mod Changed
+pub mod Creating
+pub mod Evaluating
+pub mod Numbered
+pub mod Queued
+pub mod Reading
+pub mod Running
+pub mod Started

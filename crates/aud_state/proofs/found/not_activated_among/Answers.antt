@@ -1,0 +1,33 @@
+use Rattle.std.proofs.Common.{◌≡◌, Bool, true, false, [], ◌∷◌, ◌++◌, ◌+◌, drop, if◌then◌else◌, ap, sym, ◌∙◌, append-nil, arith}
+use Rattle.std.proofs.lemmas.List.{at_drop_all}
+use Rattle.aud_meaning.specs.Configuration.{TaskAt}
+use Rattle.std.specs.Prelude.{◌&&◌, nat_eq}
+use Rattle.aud_meaning.specs.Parts.{is_created}
+use Rattle.aud_code.specs.Places.{Spot}
+use Rattle.aud_meaning.specs.Parts.{numbers}
+use Rattle.aud_state.specs.declared.task.Task.{Task}
+use Rattle.aud_state.specs.View.{plain_task}
+use Rattle.aud_state.proofs.Numbered.{found_more, numbers_map}
+use Rattle.aud_state.proofs.found.not_activated_among.Goals.{then-is_created_by+in_ok-push, else-is_created_by}
+use Rattle.aud_state.proofs.found.not_activated_among.Goals as goal
+
+pub loop-n-preserved : goal.loop-n-preserved
+loop-n-preserved c =
+    let passes : Task → Bool = λ z. (λ (t : TaskAt Spot). is_created t.own.status && nat_eq t.own.part c.args.part) (plain_task z) in
+    let x = c.index-tasks-n.result in
+    let found = c.loop-n.found.items in
+    let rest = numbers passes (c.loop-n.n + 1) (drop (c.loop-n.n + 1) c.args.tasks.now) in
+    let more : (b : Bool) → b ≡ c.is_created_by.result → (if b then found ++ c.loop-n.n ∷ [] else found) ++ rest ≡ numbers passes 0 c.args.tasks.now =
+    λ b is. found_more passes found c.args.tasks.now c.loop-n.n x b (omega arith) (is ∙ c.is_created_by.ensures ∙ ap passes c.index-tasks-n.is) ∙ c.loop-n.invariant in
+    elim c.if-is_created_by.branch [
+      | then-is_created_by+in_ok-push w ↦ rw (w.found-is, w.in_ok-push.ensures.items) (more true (sym w.if-is_created_by.true))
+      | else-is_created_by w ↦ rw w.found-is (more false (sym w.if-is_created_by.false))
+    ]
+
+pub returns : goal.returns
+returns c =
+    let passes : Task → Bool = λ z. (λ (t : TaskAt Spot). is_created t.own.status && nat_eq t.own.part c.args.part) (plain_task z) in
+    let found = c.loop-n.found.items in
+    sym (append-nil found)
+    ∙ sym (at_drop_all (λ xs. found ++ numbers passes c.loop-n.n xs) c.args.tasks.now c.loop-n.n (omega arith))
+    ∙ c.loop-n.invariant ∙ sym (numbers_map plain_task (λ (t : TaskAt Spot). is_created t.own.status && nat_eq t.own.part c.args.part) 0 c.args.tasks.now)

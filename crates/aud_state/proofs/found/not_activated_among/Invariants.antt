@@ -1,0 +1,14 @@
+use Rattle.std.proofs.Common.{◌≡◌, ◌++◌, drop}
+use Rattle.aud_meaning.specs.Configuration.{TaskAt}
+use Rattle.std.specs.Prelude.{◌&&◌, nat_eq}
+use Rattle.aud_meaning.specs.Parts.{is_created}
+use Rattle.aud_code.specs.Places.{Spot}
+use Rattle.aud_meaning.specs.Parts.{numbers}
+use Rattle.aud_state.specs.declared.task.Task.{Task}
+use Rattle.aud_state.specs.View.{plain_task}
+use Rattle.aud_state.proofs.found.not_activated_among.Given as goal
+
+abbrev pub invariant-loop-n : goal.invariant-loop-n
+invariant-loop-n l =
+    l.found.items ++ numbers (λ (z : Task). (λ (t : TaskAt Spot). is_created t.own.status && nat_eq t.own.part l.part) (plain_task z)) l.n (drop l.n l.tasks)
+    ≡ numbers (λ (z : Task). (λ (t : TaskAt Spot). is_created t.own.status && nat_eq t.own.part l.part) (plain_task z)) 0 l.tasks

@@ -1,0 +1,14 @@
+use Rattle.std.proofs.Common.{arith}
+use Rattle.aud_meaning.specs.Effects.{out_of_loops}
+use Rattle.aud_state.proofs.Changed.{task_changed, no_task}
+use Rattle.aud_state.proofs.state.State.out_of_loops.Goals as goal
+
+pub returns-then-n-len : goal.returns-then-n-len
+returns-then-n-len c =
+    let s = c.self.inside in
+    task_changed (λ t. record t { own = out_of_loops t.own }) s.tasks.items s.progress s.calls s.objects.items c.args.n c.index_mut.result.now c.out_of_loops.new.self c.args.self.now (omega arith) c.index_mut.ensures.value c.out_of_loops.ensures c.self.view_is
+
+pub returns-else-n-len : goal.returns-else-n-len
+returns-else-n-len c =
+    let s = c.self.inside in
+    no_task (λ t. record t { own = out_of_loops t.own }) s.tasks.items s.progress s.calls s.objects.items c.args.n c.args.self.now (omega arith) c.self.view_is

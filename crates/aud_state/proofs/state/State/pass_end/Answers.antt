@@ -1,0 +1,14 @@
+use Rattle.std.proofs.Common.{arith, None}
+use Rattle.aud_code.specs.Control.{going}
+use Rattle.aud_state.proofs.Changed.{task_changed, no_task}
+use Rattle.aud_state.proofs.state.State.pass_end.Goals as goal
+
+pub returns-then-n-len : goal.returns-then-n-len
+returns-then-n-len c =
+    let s = c.self.inside in
+    task_changed (λ t. record t { control = (going c.args.code.now).behind t.control; own = record t.own { pending = None } }) s.tasks.items s.progress s.calls s.objects.items c.args.n c.index_mut.result.now c.pass_end.new.self c.args.self.now (omega arith) c.index_mut.ensures.value c.pass_end.ensures c.self.view_is
+
+pub returns-else-n-len : goal.returns-else-n-len
+returns-else-n-len c =
+    let s = c.self.inside in
+    no_task (λ t. record t { control = (going c.args.code.now).behind t.control; own = record t.own { pending = None } }) s.tasks.items s.progress s.calls s.objects.items c.args.n c.args.self.now (omega arith) c.self.view_is

@@ -1,0 +1,4 @@
+pub mod View
+pub mod Fast
+pub mod Opening
+pub mod Reads

@@ -1,0 +1,79 @@
+-- All tasks with what they share in memory, as a configuration.
+use Rattle.std.specs.Prelude.{ℕ, ℤ, List, [], ◌∷◌, ◌++◌, map, Option, Some, None, if◌then◌else◌}
+use Rattle.aud_text.specs.declared.raise.Raise.TheVariants.{Tasking}
+use Rattle.aud_typed.specs.declared.program.Exception.TheVariants.{Predefined}
+use Rattle.aud_meaning.specs.declared.state.Pending.{Pending}
+use Rattle.aud_meaning.specs.Effects.{handles, pends}
+use Rattle.aud_meaning.specs.Configuration.{TaskAt, All, Own}
+use Rattle.aud_meaning.specs.Configuration as meaning
+use Rattle.aud_meaning.specs.Orders.{Orders}
+use Rattle.aud_meaning.specs.Parts.{nobody, number_name, runs}
+use Rattle.aud_meaning.specs.Ties.Part.{Part, within_own}
+use Rattle.aud_code.specs.Places.{Spot}
+use Rattle.aud_state.specs.declared.calls.Call.{Call}
+use Rattle.aud_state.specs.declared.object.Object.{Object}
+use Rattle.aud_state.specs.declared.task.Task.{Task}
+use Rattle.aud_state.specs.declared.task.Waits.{Waits}
+
+-- all entry calls ever made, and the number of arrivals
+pub record Kept : Type 0 where
+  pub calls : List meaning.Call
+  pub arrivals : ℕ
+
+abbrev pub plain_waits : Waits → meaning.Waits
+plain_waits w = record { accepts = w.accepts.items; delays = w.delays.items; terminate = w.terminate }
+
+-- of an element of an array with its number
+abbrev pub element_name : List ℕ → Option ℤ → List ℕ
+element_name name None = name
+element_name name (Some z) = name ++ 40 ∷ (number_name z ++ 41 ∷ [])
+
+-- what it has but for what is pending and its frames
+abbrev pub plain_own : Task → Own
+plain_own t = record nobody {
+  name = element_name t.name t.element;
+  task_type = t.task_type;
+  unit = t.unit;
+  status = t.status;
+  raised = t.raised;
+  masters = t.masters.items;
+  part = t.part;
+  activator = t.activator;
+  failed = t.failed;
+  at = t.at;
+  waits = plain_waits t.waits;
+  call = t.call;
+  serving = t.serving;
+  abnormal = t.abnormal;
+  withdraw = t.withdraw;
+}
+
+abbrev pub plain_task : Task → TaskAt Spot
+plain_task t = record { control = t.parked.control; own = within_own (plain_own t) t.parked.pending t.parked.stack }
+
+abbrev pub plain_call : Call → meaning.Call
+plain_call c = record { caller = c.caller; owner = c.owner; entry = c.entry; arrival = c.arrival; values = c.values.items; backs = c.backs.items; form = c.form; at = c.at; state = c.state }
+
+abbrev pub plain_object : Object → meaning.Object
+plain_object o = record { declaration = o.declaration; display = o.display.items; actions = o.actions.items }
+
+abbrev pub all_of : List Task → Part Spot → Kept → List Object → All Spot
+all_of tasks p kept objects = record {
+  tasks = map plain_task tasks;
+  shared = record { frames = p.frames; output = p.output; cut = p.cut; calls = kept.calls; arrivals = kept.arrivals; objects = map plain_object objects };
+  choices = p.choices;
+  clock = p.clock;
+  steps = p.steps;
+}
+
+-- it goes on, and a part follows of what stands there
+abbrev pub resumes : Orders Spot → ℕ → TaskAt Spot → TaskAt Spot
+resumes go part t = record { control = go.takes part t.control; own = runs t.own }
+
+-- all activations have ended for which it waited
+abbrev pub goes_on_behind : Orders Spot → TaskAt Spot → TaskAt Spot
+goes_on_behind go t = record { control = go.takes 0 t.control; own = if t.own.failed then pends (Predefined Tasking) t.own.at (runs t.own) else runs t.own }
+
+-- its innermost construct handles what is pending
+abbrev pub handles_it : Orders Spot → Pending → TaskAt Spot → TaskAt Spot
+handles_it go p t = record { control = go.handling p.exception t.control; own = handles p t.own }

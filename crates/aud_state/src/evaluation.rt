@@ -1,0 +1,49 @@
+// The expressions of a task's next step.
+
+ghost use Rattle.std.specs.Prelude.{◌≡◌, ◌<◌, ◌≤◌, length, slice_get, IfOk, Some};
+ghost use Rattle.aud_meaning.specs.Configuration.{TaskAt};
+ghost use Rattle.aud_code.specs.Places.{Spot};
+ghost use Rattle.aud_code.specs.Sound.{IsStart};
+ghost use Rattle.aud_expr.specs.Flow.{ended, evaluated_at, ReachesEnd, FitsEnd};
+ghost use Rattle.aud_expr.specs.Size.{size};
+ghost use Rattle.aud_state.specs.Fast.{scene};
+
+use crate::seen::Seen;
+use crate::state::State;
+use aud_code::sound_code::SoundCode;
+use aud_expr::evaluate::{Evaluation, evaluate};
+use aud_expr::operands::Operands;
+use std::alloc::AllocError;
+
+impl State {
+    /// Evaluates the expressions of a task's next step, up to its ending, or to an exception.
+    pub fn evaluate(
+        &self,
+        code: &SoundCode,
+        n: usize,
+        operands: &mut Operands,
+    ) -> Result<Evaluation, AllocError>
+        requires begins { (t : TaskAt Spot) → slice_get self.now.tasks n ≡ Some t →
+            IsStart code.now.lines t.control.place }
+        requires within { n < length self.now.tasks }
+        ensures ends { IfOk result (λ e. (t : TaskAt Spot) → slice_get self.now.tasks n ≡ Some t →
+            ended e.outcome operands.new ≡
+            evaluated_at code.now t.control.place (scene n self.now)) }
+        ensures reaches { IfOk result (λ e. (t : TaskAt Spot) →
+            slice_get self.now.tasks n ≡ Some t →
+            ReachesEnd e.outcome code.now t.control.place) }
+        ensures fits { IfOk result (λ e. (t : TaskAt Spot) → slice_get self.now.tasks n ≡ Some t →
+            FitsEnd e.outcome code.now t.control.place operands.new) }
+        ensures few { IfOk result (λ e. e.ticks ≤ size code.now) }
+    {
+        let found = &self.tasks[n];
+        let place = found.parked.standing().place;
+        let display = found.parked.stack().display();
+        let frames = self.progress.store().frames();
+        let seen = Seen {
+            tasks: &self.tasks,
+            calls: &self.calls,
+        };
+        evaluate(code, place, &seen, display, frames, operands)
+    }
+}

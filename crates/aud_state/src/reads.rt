@@ -1,0 +1,256 @@
+// What is read of one task.
+
+ghost use Rattle.std.specs.Prelude.{◌≡◌, Some, slice_get};
+ghost use Rattle.aud_typed.specs.Tree.{Plan};
+ghost use Rattle.aud_meaning.specs.Configuration.{TaskAt};
+ghost use Rattle.aud_meaning.specs.Evaluation.{Sight};
+ghost use Rattle.aud_meaning.specs.Parts.{call_of, is_idle, is_queued, is_selected, object_of, own_of};
+ghost use Rattle.aud_code.specs.Places.{Spot};
+ghost use Rattle.aud_state.specs.Reads.{cancelled_from, coming_by, is_free, place_by, time_by, IsOfItsKind, LeavesBy};
+ghost use Rattle.aud_state.specs.View.{plain_task};
+
+use crate::state::State;
+use crate::task::Task;
+use aud_code::sound_code::SoundCode;
+use aud_meaning::state::{CallState, Form, OpenDelay, Owner, Pending, Serving, Status, StepKind};
+use aud_text::place::Pos;
+
+impl State {
+    /// The exception that is pending in a task.
+    #[tactic(auto, using(crate::proofs::Changed::own_got, crate::proofs::Changed::own_past))]
+    pub fn pending(&self, task: usize) -> Option<Pending>
+        ensures { result ≡ (own_of task self.now).pending }
+    {
+        if task < self.tasks.len() {
+            let found = &self.tasks[task];
+            return found.parked.pending();
+        }
+        None
+    }
+
+    /// The place in the code where it stands.
+    pub fn place(&self, task: usize) -> usize
+        ensures { (t : TaskAt Spot) → slice_get self.now.tasks task ≡ Some t →
+            result ≡ t.control.place }
+    {
+        if task < self.tasks.len() {
+            let found = &self.tasks[task];
+            return found.parked.standing().place;
+        }
+        0
+    }
+
+    /// How far a task is.
+    #[tactic(auto, using(crate::proofs::Changed::own_got, crate::proofs::Changed::own_past))]
+    pub fn status(&self, task: usize) -> Status
+        ensures { result ≡ (own_of task self.now).status }
+    {
+        if task < self.tasks.len() {
+            let found = &self.tasks[task];
+            return found.status;
+        }
+        Status::Terminated
+    }
+
+    /// Where it is blocked.
+    #[tactic(auto, using(crate::proofs::Changed::own_got, crate::proofs::Changed::own_past))]
+    pub fn blocked_at(&self, task: usize) -> Pos
+        ensures { result ≡ (own_of task self.now).at }
+    {
+        if task < self.tasks.len() {
+            let found = &self.tasks[task];
+            return found.at;
+        }
+        Pos { line: 0, col: 0 }
+    }
+
+    /// The delays that it waits for.
+    #[tactic(auto, using(crate::proofs::Changed::own_got, crate::proofs::Changed::own_past))]
+    pub fn delays(&self, task: usize) -> &[OpenDelay]
+        ensures { result.now ≡ (own_of task self.now).waits.delays }
+    {
+        if task < self.tasks.len() {
+            let found = &self.tasks[task];
+            return &found.waits.delays;
+        }
+        &[]
+    }
+
+    /// Its entry call.
+    #[tactic(auto, using(crate::proofs::Changed::own_got, crate::proofs::Changed::own_past))]
+    pub fn call(&self, task: usize) -> usize
+        ensures { result ≡ (own_of task self.now).call }
+    {
+        if task < self.tasks.len() {
+            let found = &self.tasks[task];
+            return found.call;
+        }
+        0
+    }
+
+    /// The object that it services.
+    #[tactic(auto, using(crate::proofs::Changed::own_got, crate::proofs::Changed::own_past))]
+    pub fn serving(&self, task: usize) -> Option<Serving>
+        ensures { result ≡ (own_of task self.now).serving }
+    {
+        if task < self.tasks.len() {
+            let found = &self.tasks[task];
+            return found.serving;
+        }
+        None
+    }
+
+    /// Whether it is abnormal (RM 9.8).
+    #[tactic(auto, using(crate::proofs::Changed::own_got, crate::proofs::Changed::own_past))]
+    pub fn is_abnormal(&self, task: usize) -> bool
+        ensures { result ≡ (own_of task self.now).abnormal }
+    {
+        if task < self.tasks.len() {
+            let found = &self.tasks[task];
+            return found.abnormal;
+        }
+        false
+    }
+
+    /// The object from which it withdraws.
+    #[tactic(auto, using(crate::proofs::Changed::own_got, crate::proofs::Changed::own_past))]
+    pub fn withdraw(&self, task: usize) -> Option<usize>
+        ensures { result ≡ (own_of task self.now).withdraw }
+    {
+        if task < self.tasks.len() {
+            let found = &self.tasks[task];
+            return found.withdraw;
+        }
+        None
+    }
+
+    /// Whether its entry call is selected (RM 9.5.3(8)).
+    pub fn is_selected(&self, task: usize) -> bool
+        ensures { result ≡ is_selected (call_of (own_of task self.now).call self.now).state }
+    {
+        matches!(self.call_state(self.call(task)), CallState::Selected)
+    }
+
+    /// The time from which on its entry call can be cancelled, while that is queued and its object has no action under way.
+    pub fn cancelled_from(&self, task: usize) -> Option<u64>
+        ensures { result ≡ cancelled_from (call_of (own_of task self.now).call self.now) self.now }
+    {
+        let id = self.call(task);
+        if self.is_queued(id) && self.is_free(id) {
+            cancel_time(self.call_form(id))
+        } else {
+            None
+        }
+    }
+
+    /// Whether an object has no action under way.
+    pub fn is_idle(&self, object: usize) -> bool
+        ensures { result ≡ is_idle (object_of object self.now) }
+    {
+        match self.objects.get(object) {
+            Some(found) => found.is_idle(),
+            None => true,
+        }
+    }
+
+    /// The master that its own next step leaves, if that is the end of a block or procedure (RM 9.3).
+    pub fn master_left(&self, code: &SoundCode, task: usize) -> Option<usize>
+        ensures { (plan : Plan) → (s : Sight) → LeavesBy (own_of task self.now) result
+            (coming_by code.now plan s (slice_get self.now.tasks task)) }
+    {
+        if task < self.tasks.len() {
+            let found = &self.tasks[task];
+            return found.master_left(code);
+        }
+        None
+    }
+
+    /// The kind of its own next step.
+    pub fn next_kind(&self, code: &SoundCode, task: usize) -> StepKind
+        ensures { (plan : Plan) → (s : Sight) → IsOfItsKind (own_of task self.now) result
+            (coming_by code.now plan s (slice_get self.now.tasks task)) }
+    {
+        if task < self.tasks.len() {
+            let found = &self.tasks[task];
+            return found.next_kind(code);
+        }
+        StepKind::Complete
+    }
+
+    /// The place that is shown for it.
+    pub fn shown_place(&self, code: &SoundCode, task: usize) -> Pos
+        ensures { result ≡ place_by code.now (slice_get self.now.tasks task) }
+    {
+        if task < self.tasks.len() {
+            let found = &self.tasks[task];
+            return found.shown_place(code);
+        }
+        Pos { line: 0, col: 0 }
+    }
+
+    // How far a call is.
+    fn call_state(&self, id: usize) -> CallState
+        ensures { result ≡ (call_of id self.now).state }
+    {
+        self.calls.state(id)
+    }
+
+    // Whether it is queued.
+    fn is_queued(&self, id: usize) -> bool
+        ensures { result ≡ is_queued (call_of id self.now).state }
+    {
+        matches!(self.call_state(id), CallState::Queued)
+    }
+
+    // Whether the object that it is queued on has no action under way.
+    fn is_free(&self, id: usize) -> bool
+        ensures { result ≡ is_free (call_of id self.now).owner self.now }
+    {
+        match self.calls.owner(id) {
+            Owner::Task(_) => true,
+            Owner::Object(object) => self.is_idle(object),
+        }
+    }
+
+    // How it was made.
+    fn call_form(&self, id: usize) -> Form
+        ensures { result ≡ (call_of id self.now).form }
+    {
+        self.calls.form(id)
+    }
+}
+
+impl Task {
+    // The master that its own next step leaves.
+    fn master_left(&self, code: &SoundCode) -> Option<usize>
+        ensures { (plan : Plan) → (s : Sight) → LeavesBy (plain_task self.now).own result
+            (coming_by code.now plan s (Some (plain_task self.now))) }
+    {
+        self.parked.standing().master_left(code)
+    }
+
+    // The kind of its own next step.
+    fn next_kind(&self, code: &SoundCode) -> StepKind
+        ensures { (plan : Plan) → (s : Sight) → IsOfItsKind (plain_task self.now).own result
+            (coming_by code.now plan s (Some (plain_task self.now))) }
+    {
+        self.parked.standing().next_kind(code)
+    }
+
+    // The place that is shown for it.
+    fn shown_place(&self, code: &SoundCode) -> Pos
+        ensures { result ≡ place_by code.now (Some (plain_task self.now)) }
+    {
+        self.parked.standing().shown_place(code)
+    }
+}
+
+// The time that a call of this form waits for.
+fn cancel_time(form: Form) -> Option<u64>
+    ensures { result ≡ time_by form }
+{
+    match form {
+        Form::Plain | Form::Conditional(_) => None,
+        Form::TimedTo(time) => Some(time),
+    }
+}

@@ -1,0 +1,23 @@
+use Rattle.std.proofs.Common.{sym, ap, ◌∙◌, subst, arith}
+use Rattle.aud_typed.specs.Ties.View.{plain_program}
+use Rattle.aud_code.specs.Flat.{EndLine, end_at}
+use Rattle.aud_code.specs.Instruction.{Ended}
+use Rattle.aud_expr.specs.Flow.{evaluated_at}
+use Rattle.aud_state.specs.Fast.{scene}
+use Rattle.aud_tasks.specs.Acting.{DoesEnd}
+use Rattle.aud_tasks.proofs.Stepping.{no_end_behind, spot_at, starts}
+use Rattle.aud_tasks.proofs.act.execute.Goals as goal
+
+pub evaluate-requires-clause-begins : goal.evaluate-requires-clause-begins
+evaluate-requires-clause-begins c = λ t there.
+    let e = c.place-place.ensures t there in
+    starts c.args.compiled.code.now.lines t.control.place (spot_at c.args.compiled.code.now.lines c.args.state.now.tasks c.args.n t c.requires.spots there).place (omega (arith, e))
+
+pub returns-then-place-len-clause-does : goal.returns-then-place-len-clause-does
+returns-then-place-len-clause-does c = λ t there.
+    let e = c.place-place.ensures t there in
+    subst (λ (l : EndLine). DoesEnd (plain_program c.args.compiled.program.now).plan c.args.compiled.code.now c.args.compiled.limits c.args.n l (evaluated_at c.args.compiled.code.now t.control.place (scene c.args.n c.args.state.now)) c.args.state.now c.leave.new.state) (sym (no_end_behind c.args.compiled.code.now t.control.place (omega (arith, e)))) (c.in_ok-leave.ensures (plain_program c.args.compiled.program.now).plan c.args.compiled.limits)
+
+pub returns-clause-does : goal.returns-clause-does
+returns-clause-does c = λ t there.
+    subst (λ (x : Ended). DoesEnd (plain_program c.args.compiled.program.now).plan c.args.compiled.code.now c.args.compiled.limits c.args.n (end_at c.args.compiled.code.now t.control.place) x c.args.state.now c.follow.new.state) (c.in_ok-evaluated.ensures.ends t there) (c.in_ok-follow.ensures t there)

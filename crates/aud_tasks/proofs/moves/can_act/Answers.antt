@@ -1,0 +1,22 @@
+use Rattle.std.proofs.Common.{Some, None, ap, ◌∙◌}
+use Rattle.aud_meaning.specs.Parts.{sight_of}
+use Rattle.aud_tasks.specs.Moving.{alone_if}
+use Rattle.aud_tasks.specs.Turning.{coming_in}
+use Rattle.aud_tasks.proofs.Moving.{acting_as, leaves_some}
+use Rattle.aud_tasks.proofs.moves.can_act.Goals as goal
+
+pub returns-in-Some : goal.returns-in-Some
+returns-in-Some c = λ plan.
+    let code = c.args.code.now in
+    let s = c.args.state.now in
+    let n = c.args.task in
+    ap (λ b. alone_if b n) c.closable.ensures
+    ∙ leaves_some plan code s n c.in-Some.master
+    ∙ acting_as plan code s n (Some c.in-Some.master) (coming_in plan code n s) (c.in-Some.ensures plan (sight_of n s))
+
+pub returns-in-None : goal.returns-in-None
+returns-in-None c = λ plan.
+    let code = c.args.code.now in
+    let s = c.args.state.now in
+    let n = c.args.task in
+    acting_as plan code s n None (coming_in plan code n s) (c.in-None.ensures plan (sight_of n s))

@@ -1,0 +1,48 @@
+use Rattle.std.proofs.Common.{◌-◌, refl, ap, sym, slice_get, ◌∙◌, arith}
+use Rattle.aud_typed.specs.Ties.View.{plain_program}
+use Rattle.aud_tasks.specs.Enabled.{enabled_moves}
+use Rattle.aud_tasks.proofs.Moving.{get_none, moves_all, moves_none, moves_past, nth_behind, nth_here}
+use Rattle.aud_tasks.proofs.moves.nth_move.Goals as goal
+
+pub returns-then-not-may_move : goal.returns-then-not-may_move
+returns-then-not-may_move c =
+    let plan = (plain_program c.args.compiled.program.now).plan in
+    sym (ap (λ ms. slice_get ms c.args.index) (moves_none plan c.args.compiled.code.now c.args.state.now (sym c.may_move.ensures ∙ c.if-not-may_move.true)))
+
+pub returns : goal.returns
+returns c =
+    let plan = (plain_program c.args.compiled.program.now).plan in
+    let code = c.args.compiled.code.now in
+    let s = c.args.state.now in
+    sym (ap (λ ms. slice_get ms c.args.index) (moves_all plan code s (sym c.may_move.ensures ∙ c.if-not-may_move.false))
+    ∙ c.loop-task.invariant plan refl
+    ∙ ap (λ ms. slice_get ms c.loop-task.left) (moves_past plan code s c.loop-task.task (omega arith)))
+
+pub returns-in-Some : goal.returns-in-Some
+returns-in-Some c =
+    let plan = (plain_program c.args.compiled.program.now).plan in
+    let code = c.args.compiled.code.now in
+    let s = c.args.state.now in
+    let n = c.loop-task.task in
+    let e = c.enabled_of-enabled.result in
+    let k = c.clock-clock.result in
+    sym (ap (λ ms. slice_get ms c.args.index) (moves_all plan code s (sym c.may_move.ensures ∙ c.if-not-may_move.false))
+    ∙ c.loop-task.invariant plan refl
+    ∙ nth_here plan code s n c.loop-task.left (enabled_moves n k e) c.in-Some.found (omega arith) (ap (λ t. enabled_moves n t e) c.clock-clock.ensures.value ∙ c.enabled_of-enabled.ensures plan refl) (sym c.nth.ensures ∙ c.in-Some.is))
+
+pub overflow_sub-left : goal.overflow_sub-left
+overflow_sub-left c =
+    let few = get_none (enabled_moves c.loop-task.task c.clock-clock.result c.enabled_of-enabled.result) c.loop-task.left (sym c.nth.ensures ∙ c.in_default.is) in
+    omega (arith, few, c.count-left.ensures)
+
+pub loop-task-preserved : goal.loop-task-preserved
+loop-task-preserved c = λ plan none.
+    let code = c.args.compiled.code.now in
+    let s = c.args.state.now in
+    let n = c.loop-task.task in
+    let e = c.enabled_of-enabled.result in
+    let k = c.clock-clock.result in
+    let is_none = sym c.nth.ensures ∙ c.in_default.is in
+    let few = get_none (enabled_moves n k e) c.loop-task.left is_none in
+    c.loop-task.invariant plan none
+    ∙ nth_behind plan code s n c.loop-task.left (c.loop-task.left - c.count-left.result) (enabled_moves n k e) (omega arith) (ap (λ t. enabled_moves n t e) c.clock-clock.ensures.value ∙ c.enabled_of-enabled.ensures plan none) is_none (omega (arith, few, c.count-left.ensures))

@@ -1,0 +1,7 @@
+use Rattle.std.proofs.Common.{◌≡◌, [], slice_get}
+use Rattle.aud_typed.specs.Tree.{Plan}
+use Rattle.aud_tasks.proofs.Moving.{from}
+use Rattle.aud_tasks.proofs.moves.nth_move.Given as goal
+
+abbrev pub invariant-loop-task : goal.invariant-loop-task
+invariant-loop-task l = (plan : Plan) → plan.objects ≡ [] → slice_get (from plan l.compiled.code.now l.state 0) l.index ≡ slice_get (from plan l.compiled.code.now l.state l.task) l.left

@@ -1,0 +1,39 @@
+use Rattle.std.proofs.Common.{false, true, refl, ap, sym, ◌∙◌}
+use Rattle.aud_typed.specs.Ties.View.{plain_program}
+use Rattle.aud_tasks.proofs.Moving.{state_as, state_more, state_waits, times}
+use Rattle.aud_tasks.proofs.Soonest.{waiting_law, waits_for}
+use Rattle.aud_tasks.proofs.moves.state_of.Goals as goal
+
+pub returns-then-has_ended : goal.returns-then-has_ended
+returns-then-has_ended c =
+    let plan = (plain_program c.args.compiled.program.now).plan in
+    let s = c.args.state.now in
+    sym (state_as plan c.args.compiled.code.now s true s.shared.cut (sym c.has_ended.ensures ∙ c.if-has_ended.true) refl)
+
+pub returns-then-is_cut : goal.returns-then-is_cut
+returns-then-is_cut c =
+    let plan = (plain_program c.args.compiled.program.now).plan in
+    sym (state_as plan c.args.compiled.code.now c.args.state.now false true (sym c.has_ended.ensures ∙ c.if-has_ended.false) (sym c.is_cut.ensures ∙ c.if-is_cut.true))
+
+pub returns-in-Some : goal.returns-in-Some
+returns-in-Some c =
+    let plan = (plain_program c.args.compiled.program.now).plan in
+    sym (state_more plan c.args.compiled.code.now c.args.state.now c.in-Some.field-0 (sym c.has_ended.ensures ∙ c.if-has_ended.false) (sym c.is_cut.ensures ∙ c.if-is_cut.false) (sym c.nth_move.ensures ∙ c.in-Some.is))
+
+pub returns-in-Some-soonest : goal.returns-in-Some-soonest
+returns-in-Some-soonest c =
+    let plan = (plain_program c.args.compiled.program.now).plan in
+    let code = c.args.compiled.code.now in
+    let s = c.args.state.now in
+    sym (state_waits plan code s (sym c.has_ended.ensures ∙ c.if-has_ended.false) (sym c.is_cut.ensures ∙ c.if-is_cut.false) (sym c.nth_move.ensures ∙ c.in-None.is)
+    ∙ sym (waiting_law plan code (times plan code s 0))
+    ∙ ap waits_for (sym (c.soonest.ensures plan) ∙ c.in-Some-soonest.is))
+
+pub returns-in-None-soonest : goal.returns-in-None-soonest
+returns-in-None-soonest c =
+    let plan = (plain_program c.args.compiled.program.now).plan in
+    let code = c.args.compiled.code.now in
+    let s = c.args.state.now in
+    sym (state_waits plan code s (sym c.has_ended.ensures ∙ c.if-has_ended.false) (sym c.is_cut.ensures ∙ c.if-is_cut.false) (sym c.nth_move.ensures ∙ c.in-None.is)
+    ∙ sym (waiting_law plan code (times plan code s 0))
+    ∙ ap waits_for (sym (c.soonest.ensures plan) ∙ c.in-None-soonest.is))

@@ -1,0 +1,143 @@
+// The moves of one task.
+
+ghost use Rattle.std.specs.Prelude.{◌≡◌, ◌++◌, length, nat_le, slice_get, OnOk};
+ghost use Rattle.aud_meaning.specs.Run.{own_move, picks};
+ghost use Rattle.aud_tasks.specs.Enabled.{enabled_moves};
+ghost use Rattle.aud_tasks.specs.Moving.{picked};
+
+use aud_meaning::state::{Move, OpenDelay};
+use std::alloc::AllocError;
+
+/// The moves that a task has: none; its next step alone; or one for each of these delays whose time has come.
+#[derive(Clone, Copy)]
+pub(crate) enum Enabled<'a> {
+    None,
+    One,
+    Delays(&'a [OpenDelay]),
+}
+
+/// How many these are.
+pub(crate) fn count(enabled: Enabled<'_>, task: usize, clock: u64) -> usize
+    ensures { result ≡ length (enabled_moves task clock enabled.entry) }
+{
+    match enabled {
+        Enabled::None => 0,
+        Enabled::One => 1,
+        Enabled::Delays(delays) => count_ended(delays, task, clock),
+    }
+}
+
+/// The one of this index.
+pub(crate) fn nth(enabled: Enabled<'_>, task: usize, clock: u64, index: usize) -> Option<Move>
+    ensures { result ≡ slice_get (enabled_moves task clock enabled.entry) index }
+{
+    match enabled {
+        Enabled::None => None,
+        Enabled::One => {
+            if index == 0 {
+                Some(only_move(task))
+            } else {
+                None
+            }
+        }
+        Enabled::Delays(delays) => nth_ended(delays, task, clock, index),
+    }
+}
+
+/// All of them are put behind others.
+pub(crate) fn list(
+    enabled: Enabled<'_>,
+    task: usize,
+    clock: u64,
+    moves: &mut Vec<Move>,
+) -> Result<(), AllocError>
+    ensures { OnOk result (moves.new.items ≡
+        moves.old.items ++ enabled_moves task clock enabled.entry) }
+{
+    match enabled {
+        Enabled::None => Ok(()),
+        Enabled::One => {
+            moves.push(only_move(task))?;
+            Ok(())
+        }
+        Enabled::Delays(delays) => list_ended(delays, task, clock, moves),
+    }
+}
+
+// The only move of a task.
+fn only_move(task: usize) -> Move
+    ensures { result ≡ own_move task }
+{
+    Move {
+        task,
+        alternative: None,
+    }
+}
+
+// Its move that takes the alternative of this number.
+fn pick(task: usize, alternative: usize) -> Move
+    ensures { result ≡ picks task alternative }
+{
+    if alternative == 0 {
+        only_move(task)
+    } else {
+        Move {
+            task,
+            alternative: Some(alternative),
+        }
+    }
+}
+
+// Whether the time of a delay has come.
+fn has_ended(delay: &OpenDelay, clock: u64) -> bool
+    ensures { result ≡ nat_le delay.now.time clock }
+{
+    delay.time <= clock
+}
+
+// How many of these delays have ended.
+fn count_ended(delays: &[OpenDelay], task: usize, clock: u64) -> usize
+    ensures { result ≡ length (picked task clock delays.now) }
+{
+    let mut count = 0;
+    for delay in delays {
+        if has_ended(delay, clock) {
+            count += 1;
+        }
+    }
+    count
+}
+
+// The move for the one of this index among them.
+fn nth_ended(delays: &[OpenDelay], task: usize, clock: u64, index: usize) -> Option<Move>
+    ensures { result ≡ slice_get (picked task clock delays.now) index }
+{
+    let mut left = index;
+    for delay in delays {
+        if has_ended(delay, clock) {
+            if left == 0 {
+                return Some(pick(task, delay.alternative));
+            }
+            left -= 1;
+        }
+    }
+    None
+}
+
+// The moves for all of them are put behind others.
+fn list_ended(
+    delays: &[OpenDelay],
+    task: usize,
+    clock: u64,
+    moves: &mut Vec<Move>,
+) -> Result<(), AllocError>
+    ensures { OnOk result (moves.new.items ≡
+        moves.old.items ++ picked task clock delays.now) }
+{
+    for delay in delays {
+        if has_ended(delay, clock) {
+            moves.push(pick(task, delay.alternative))?;
+        }
+    }
+    Ok(())
+}

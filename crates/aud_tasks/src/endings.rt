@@ -1,0 +1,197 @@
+// What the endings of steps do.
+
+ghost use Rattle.std.specs.Prelude.{◌≡◌, Some, OnOk, slice_get};
+ghost use Rattle.aud_typed.specs.Ties.View.{plain_program, plain_tasks};
+ghost use Rattle.aud_meaning.specs.Configuration.{TaskAt};
+ghost use Rattle.aud_meaning.specs.Control.{activates, declares_tasks, ends_activation};
+ghost use Rattle.aud_meaning.specs.Parts.{task_plan};
+ghost use Rattle.aud_code.specs.Flat.{end_at};
+ghost use Rattle.aud_code.specs.Instruction.{Raised, Reached};
+ghost use Rattle.aud_code.specs.Places.{Spot};
+ghost use Rattle.aud_code.specs.Sound.{counts_of, LastFine};
+ghost use Rattle.aud_code.specs.View.{plain_end, plain_last};
+ghost use Rattle.aud_single.specs.Steps.{IsOfOne};
+ghost use Rattle.aud_tasks.specs.Acting.{DoesAsked, DoesEnd};
+ghost use Rattle.aud_tasks.specs.Endings.{is_declaration, is_statement, is_too_long};
+
+use crate::compiled::Compiled;
+use crate::leave::leave;
+use aud_code::line::{EndLine, Ending, Last};
+use aud_expr::operands::Operands;
+use aud_masters::{activation, creation};
+use aud_state::state::State;
+use aud_text::limits::ELEMENTS;
+use aud_text::place::Pos;
+use aud_text::raise::Raise;
+use aud_typed::program::{Exception, Tasks};
+use std::alloc::{AllocError, Global};
+
+/// What the ending of a step does with its operands.
+pub(crate) fn finish(
+    state: &mut State,
+    alloc: Global,
+    compiled: Compiled<'_>,
+    n: usize,
+    end: &EndLine,
+    operands: &mut Operands,
+) -> Result<(), AllocError>
+    requires there { (t : TaskAt Spot) → slice_get state.old.tasks n ≡ Some t →
+        plain_end end.now ≡ end_at compiled.code.now t.control.place }
+    requires fine { LastFine (plain_last end.now.last) (counts_of operands.old) }
+    ensures { OnOk result (DoesEnd (plain_program compiled.entry.program.now).plan
+        compiled.entry.code.now compiled.entry.limits n (plain_end end.now)
+        (Reached operands.old) state.old state.new) }
+{
+    let code = compiled.code;
+    if is_too_long(&end.last) {
+        return activation::raise_in_part(state, alloc, code, n, Raise::Storage, end.at);
+    }
+    match &end.last {
+        Last::Does(_, _) => step_alone(state, compiled, n, end, operands),
+        Last::DeclaresTasks(tasks, _) => declare(state, alloc, compiled, n, tasks, end.at),
+        Last::Activates(_) => activate(state, alloc, compiled, n, end.at),
+        Last::EndsActivation(_) => end_activation(state, compiled, n),
+        Last::Continues { .. } => step_alone(state, compiled, n, end, operands),
+        Last::Guards(_) => step_alone(state, compiled, n, end, operands),
+        Last::Ends(_, _) => leave(state, alloc, code, n, 0),
+        Last::Leaves { loops, .. } => leave(state, alloc, code, n, *loops),
+    }
+}
+
+/// What it does where the evaluation before it raises: the exception is pending there, and ends the part of a declaration. Where nothing
+/// is evaluated it does what it does.
+pub(crate) fn fail(
+    state: &mut State,
+    alloc: Global,
+    compiled: Compiled<'_>,
+    n: usize,
+    end: &EndLine,
+    raise: Raise,
+    operands: &mut Operands,
+) -> Result<(), AllocError>
+    requires { (t : TaskAt Spot) → slice_get state.old.tasks n ≡ Some t →
+        plain_end end.now ≡ end_at compiled.code.now t.control.place }
+    ensures { OnOk result (DoesEnd (plain_program compiled.entry.program.now).plan
+        compiled.entry.code.now compiled.entry.limits n (plain_end end.now)
+        (Raised raise) state.old state.new) }
+{
+    if is_declaration(&end.last) {
+        return activation::raise_in_part(state, alloc, compiled.code, n, raise, end.at);
+    }
+    if is_statement(&end.last) {
+        state.raise(n, Exception::Predefined(raise), end.at);
+        return Ok(());
+    }
+    finish(state, alloc, compiled, n, end, operands)
+}
+
+// What it does that concerns the task alone.
+fn step_alone(
+    state: &mut State,
+    compiled: Compiled<'_>,
+    n: usize,
+    end: &EndLine,
+    operands: &mut Operands,
+) -> Result<(), AllocError>
+    requires there { (t : TaskAt Spot) → slice_get state.old.tasks n ≡ Some t →
+        plain_end end.now ≡ end_at compiled.code.now t.control.place }
+    requires alone { IsOfOne end.now.last }
+    requires fine { LastFine (plain_last end.now.last) (counts_of operands.old) }
+    ensures { OnOk result (DoesEnd (plain_program compiled.entry.program.now).plan
+        compiled.entry.code.now compiled.entry.limits n (plain_end end.now)
+        (Reached operands.old) state.old state.new) }
+{
+    state.step_alone(n, end, compiled.code, &compiled.program.units, operands)
+}
+
+// The tasks are activated that the declarative part has created.
+fn activate(
+    state: &mut State,
+    alloc: Global,
+    compiled: Compiled<'_>,
+    n: usize,
+    at: Pos,
+) -> Result<(), AllocError>
+    ensures { OnOk result (DoesAsked (plain_program compiled.entry.program.now).plan
+        compiled.entry.code.now compiled.entry.limits n (activates at) state.old state.new) }
+{
+    let units = &compiled.program.units;
+    activation::begin_activation(state, alloc, compiled.code, units, n, at)
+}
+
+// The activation of the task ends.
+fn end_activation(state: &mut State, compiled: Compiled<'_>, n: usize) -> Result<(), AllocError>
+    ensures { OnOk result (DoesAsked (plain_program compiled.entry.program.now).plan
+        compiled.entry.code.now compiled.entry.limits n ends_activation state.old state.new) }
+{
+    activation::end_activation(state, compiled.code, n, false);
+    state.take(compiled.code, n, 0);
+    Ok(())
+}
+
+// Tasks are declared.
+fn declare(
+    state: &mut State,
+    alloc: Global,
+    compiled: Compiled<'_>,
+    n: usize,
+    tasks: &Tasks,
+    at: Pos,
+) -> Result<(), AllocError>
+    ensures { OnOk result (DoesAsked (plain_program compiled.entry.program.now).plan
+        compiled.entry.code.now compiled.entry.limits n (declares_tasks at (plain_tasks tasks.now))
+        state.old state.new) }
+{
+    let unit = unit_of_type(compiled, tasks.task_type);
+    let units = &compiled.program.units;
+    let limits = compiled.limits;
+    creation::create(
+        state,
+        alloc,
+        compiled.code,
+        units,
+        unit,
+        limits,
+        n,
+        tasks,
+        at,
+    )
+}
+
+// The number of the body of a task type.
+fn unit_of_type(compiled: Compiled<'_>, task_type: usize) -> usize
+    ensures { result ≡
+        (task_plan (plain_program compiled.entry.program.now).plan task_type).unit }
+{
+    match compiled.program.tasks.get(task_type) {
+        Some(task_type) => task_type.unit,
+        None => 0,
+    }
+}
+
+// Whether it is a declaration of an array with too many elements.
+fn is_too_long(last: &Last) -> bool
+    ensures { result ≡ is_too_long last.now }
+{
+    match last {
+        Last::Does(Ending::DeclareArray(_, count), _) => *count > ELEMENTS as usize,
+        _ => false,
+    }
+}
+
+// Whether it is a declaration with a value.
+fn is_declaration(last: &Last) -> bool
+    ensures { result ≡ is_declaration last.now }
+{
+    matches!(last, Last::Does(Ending::Declare { .. }, _))
+}
+
+// Whether what is evaluated before it may raise.
+fn is_statement(last: &Last) -> bool
+    ensures { result ≡ is_statement last.now }
+{
+    matches!(
+        last,
+        Last::Does(_, _) | Last::DeclaresTasks(_, _) | Last::Activates(_) | Last::EndsActivation(_)
+    )
+}
