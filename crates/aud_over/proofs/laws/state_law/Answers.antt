@@ -1,0 +1,8 @@
+use Rattle.aud_over.proofs.Left.{state_left}
+use Rattle.aud_over.proofs.laws.state_law.Goals as goal
+
+pub returns-clause-statements : goal.returns-clause-statements
+returns-clause-statements c = λ plan k x y through same. state_left plan k through x y same
+
+pub returns-clause-code : goal.returns-clause-code
+returns-clause-code c = λ plan k x y through same. state_left plan k through x y same

@@ -1,0 +1,4 @@
+pub mod Over
+pub mod Looks
+pub mod Law
+pub mod Standing

@@ -1,0 +1,4 @@
+// Laws: what is over of a program under way may be forgotten. The definitions stand in specs/.
+#![tactic(auto)]
+
+pub mod laws;
