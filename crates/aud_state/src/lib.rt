@@ -8,6 +8,7 @@ mod creation;
 mod ending;
 mod evaluation;
 mod fast;
+mod forget;
 mod found;
 mod marks;
 pub mod object;
