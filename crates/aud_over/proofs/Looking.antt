@@ -18,7 +18,6 @@ use Rattle.aud_meaning.specs.declared.state.Move.{Move}
 use Rattle.aud_meaning.specs.Run.{own_move, Turn, resting, closing, completing, withdrawing, serving, expiring, cancelling, acting, is_bound, Deferred, at_once, usual, under_way, turn_by, turn, serve_moves, call_time_by, call_time, owner_idle, has_queue, alternatives_of, each_or_one, end_moves, master_left_by, construct_left, acting_moves, turn_moves, moves_from, has_ended, moves_by, moves, turn_times, times_from, waiting_by, some_move, state_by, state_of, seen, seen_from, scene_of, shown_place, moves_at, state_at}
 use Rattle.aud_over.specs.Over.{with_kept, is_call_over}
 use Rattle.aud_over.specs.Looks.{Looks}
-use Rattle.aud_over.specs.Law.{scene}
 use Rattle.aud_over.proofs.Frames.{Agree}
 use Rattle.aud_over.proofs.Calls.{SameCalls, told_same, not_queued, not_selected, queue_same}
 use Rattle.aud_over.proofs.Beside.{Kept, Names, TasksName, MayHave, own_names, sees_same, facts_same}
