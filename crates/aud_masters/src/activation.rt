@@ -21,6 +21,10 @@ use aud_typed::program::{Exception, Unit};
 use std::alloc::{AllocError, Global};
 
 /// An exception in a declarative part: what it has created becomes terminated (RM 9.2(6)).
+///
+/// # Errors
+///
+/// Where memory is refused. Nothing is said of the state then.
 pub fn raise_in_part(
     state: &mut State,
     alloc: Global,
@@ -41,6 +45,10 @@ pub fn raise_in_part(
 
 /// The step activate: the activation begins of what the declarative part has created; with nothing to activate the task goes on
 /// (RM 9.2(3)).
+///
+/// # Errors
+///
+/// Where memory is refused. Nothing is said of the state then.
 pub fn begin_activation(
     state: &mut State,
     alloc: Global,

@@ -16,6 +16,10 @@ use aud_typed::program::Exception;
 use std::alloc::{AllocError, Global};
 
 /// The step complete: a task's body has ended, by an exception or without one.
+///
+/// # Errors
+///
+/// Where memory is refused. Nothing is said of the state then.
 pub fn complete(
     state: &mut State,
     alloc: Global,

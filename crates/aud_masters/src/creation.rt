@@ -21,6 +21,10 @@ use aud_typed::program::{Tasks, Unit};
 use std::alloc::{AllocError, Global};
 
 /// The step declaration of tasks, whose body is a unit: in a protected action Program_Error, past a limit Storage_Error.
+///
+/// # Errors
+///
+/// Where memory is refused. Nothing is said of the state then.
 pub fn create(
     state: &mut State,
     alloc: Global,

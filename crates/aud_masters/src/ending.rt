@@ -20,6 +20,10 @@ pub fn closable(state: &State, master: usize) -> bool
 }
 
 /// A master is left: what waits at a terminate alternative is terminated with it (RM 9.7.1(16)).
+///
+/// # Errors
+///
+/// Where memory is refused. Nothing is said of the state then.
 pub fn leave(
     state: &mut State,
     alloc: Global,
@@ -35,6 +39,10 @@ pub fn leave(
 }
 
 /// The step close: a completed task is terminated, and what depends on its body with it.
+///
+/// # Errors
+///
+/// Where memory is refused. Nothing is said of the state then.
 pub fn close(
     state: &mut State,
     alloc: Global,

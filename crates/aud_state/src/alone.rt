@@ -103,6 +103,10 @@ impl Task {
 
 impl State {
     /// What the ending of a task's step does that concerns it alone, with the operands that are evaluated before it.
+    ///
+    /// # Errors
+    ///
+    /// Where memory is refused. Nothing is said of the state then.
     pub fn step_alone(
         &mut self,
         n: usize,
@@ -128,6 +132,10 @@ impl State {
     }
 
     /// The frame of a task's body is opened, whose first cell is the task's own number.
+    ///
+    /// # Errors
+    ///
+    /// Where memory is refused. Nothing is said of the state then.
     pub fn open_body(
         &mut self,
         alloc: Global,
@@ -146,6 +154,10 @@ impl State {
     }
 
     /// So many tasks are the next variable of a task's innermost frame, by their numbers from the first one on.
+    ///
+    /// # Errors
+    ///
+    /// Where memory is refused. Nothing is said of the state then.
     pub fn declare_tasks(
         &mut self,
         alloc: Global,

@@ -23,6 +23,10 @@ use std::alloc::{AllocError, Global};
 
 impl State {
     /// The tasks of a declaration, whose body is a unit, are created by a task.
+    ///
+    /// # Errors
+    ///
+    /// Where memory is refused, or there is no task of the creator's number. Nothing is said of the state then.
     pub fn create(
         &mut self,
         alloc: Global,

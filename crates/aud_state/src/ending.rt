@@ -98,6 +98,10 @@ impl State {
     }
 
     /// Tasking_Error in the calls that are queued on a task's entries (RM 9.5.3(21)).
+    ///
+    /// # Errors
+    ///
+    /// Where memory is refused. Nothing is said of the state then.
     pub fn refuse_queues(
         &mut self,
         alloc: Global,

@@ -17,6 +17,10 @@ use std::alloc::AllocError;
 
 impl State {
     /// Evaluates the expressions of a task's next step, up to its ending, or to an exception.
+    ///
+    /// # Errors
+    ///
+    /// Where memory is refused.
     pub fn evaluate(
         &self,
         code: &SoundCode,

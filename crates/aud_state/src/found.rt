@@ -19,6 +19,10 @@ use std::alloc::{AllocError, Global};
 
 impl State {
     /// The tasks that depend on a master, by their numbers.
+    ///
+    /// # Errors
+    ///
+    /// Where memory is refused.
     pub fn dependents(&self, alloc: Global, master: usize) -> Result<Vec<usize>, AllocError>
         ensures { IfOk result (λ ns. ns.items ≡
             numbers (λ t. depends master t.own) 0 self.now.tasks) }
@@ -27,6 +31,10 @@ impl State {
     }
 
     /// The tasks that the declarative part with this frame has created, and not activated.
+    ///
+    /// # Errors
+    ///
+    /// Where memory is refused.
     pub fn not_activated(&self, alloc: Global, part: usize) -> Result<Vec<usize>, AllocError>
         ensures { IfOk result (λ ns. ns.items ≡ numbers
             (λ t. is_created t.own.status && nat_eq t.own.part part) 0 self.now.tasks) }
@@ -35,6 +43,10 @@ impl State {
     }
 
     /// The tasks that one of the declarative parts with these frames has created, and not activated.
+    ///
+    /// # Errors
+    ///
+    /// Where memory is refused.
     pub fn created_in(&self, alloc: Global, parts: &[usize]) -> Result<Vec<usize>, AllocError>
         ensures { IfOk result (λ ns. ns.items ≡ numbers (λ t. is_created t.own.status
             && any (λ part. nat_eq part t.own.part) parts.now) 0 self.now.tasks) }
@@ -58,6 +70,10 @@ impl State {
     }
 
     /// The frames that a task has open, the innermost one first.
+    ///
+    /// # Errors
+    ///
+    /// Where memory is refused.
     pub fn frames(&self, alloc: Global, task: usize) -> Result<Vec<usize>, AllocError>
         ensures { IfOk result (λ frames. frames.items ≡
             map (λ o. o.frame) (own_of task self.now).opened) }

@@ -23,6 +23,10 @@ use std::alloc::{AllocError, Global};
 
 impl State {
     /// The main procedure of this name before its first step, beside no other task.
+    ///
+    /// # Errors
+    ///
+    /// Where memory is refused.
     pub fn new(
         alloc: Global,
         code: &SoundCode,

@@ -34,6 +34,10 @@ impl State {
     }
 
     /// The formals that are copied back at the end of a task's innermost frame, in the order of the text.
+    ///
+    /// # Errors
+    ///
+    /// Where memory is refused.
     pub fn backs(&self, alloc: Global, n: usize) -> Result<Vec<Back>, AllocError>
         ensures { IfOk result (λ bs. bs.items ≡ innermost_backs (own_of n self.now).opened) }
     {
@@ -47,6 +51,10 @@ impl State {
     }
 
     /// What the variables of a frame hold; of one that was never made there are none.
+    ///
+    /// # Errors
+    ///
+    /// Where memory is refused.
     pub fn cells(&self, alloc: Global, frame: usize) -> Result<Vec<Int32>, AllocError>
         ensures { IfOk result (λ cs. cs.items ≡
             slice_index_or self.now.shared.frames frame []) }

@@ -58,6 +58,10 @@ impl State {
     }
 
     /// Choices, which wait behind those that wait already.
+    ///
+    /// # Errors
+    ///
+    /// Where memory is refused. Nothing is said of the state then.
     pub fn choose(&mut self, choices: &[u32]) -> Result<(), AllocError>
         requires { length self.old.choices + length choices.now ≤ CHOICES }
         ensures { OnOk result (self.new ≡ supplied choices.now self.old) }

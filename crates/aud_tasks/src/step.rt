@@ -76,6 +76,7 @@ fn take_turn(
             Ok(0)
         }
         Turn::Acting => act(state, alloc, compiled, n, operands),
+        // No program that is loaded comes to these: they want calls and protected objects.
         Turn::Withdrawing(_) | Turn::Serving(_) | Turn::Cancelling => Err(AllocError),
     }
 }
