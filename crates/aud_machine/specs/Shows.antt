@@ -2,17 +2,21 @@
 use Rattle.std.specs.Prelude.{◌≡◌, ℕ, ◌+◌, Option, Some, None, Result, OnErr, IsErr, true, false}
 use Rattle.aud_text.specs.declared.limits.Limits.{Limits}
 use Rattle.aud_typed.specs.Tree.{Program}
-use Rattle.aud_meaning.specs.Configuration.{Configuration}
+use Rattle.aud_meaning.specs.Configuration.{All, Configuration}
 use Rattle.aud_meaning.specs.declared.state.Move.{Move}
 use Rattle.aud_meaning.specs.Run.{step, run, state_in}
+use Rattle.aud_code.specs.Places.{Spot}
 use Rattle.aud_layout.specs.Law as code
+use Rattle.aud_over.specs.Over.{forgotten}
 use Rattle.aud_tasks.specs.declared.run.Ran.{Ran}
 use Rattle.aud_machine.specs.Shown.{Shown, program_in}
 
--- its code shows the configuration; where memory is refused, it shows none from then on
+-- code under way shows the configuration, and the same is left of it as of the machine; where memory is refused, it shows none from then on
 pub record Shows (m : Shown) (c : Configuration) : Type 0 where
   pub alive : m.spent ≡ false
-  pub all : code.Shows (program_in m) m.all c
+  pub through : All Spot
+  pub all : code.Shows (program_in m) through c
+  pub left : forgotten through ≡ forgotten m.all
 
 -- it holds of the configuration that the machine shows
 abbrev pub IfShows : Shown → (Configuration → Type 0) → Type 0

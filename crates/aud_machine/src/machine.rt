@@ -10,6 +10,7 @@ ghost use Rattle.aud_code.specs.Flat.{flat_controls};
 ghost use Rattle.aud_code.specs.Places.{Spot};
 ghost use Rattle.aud_code.specs.Starts.{AreSpots};
 ghost use Rattle.aud_expr.specs.Size.{size};
+ghost use Rattle.aud_over.specs.Over.{forgotten};
 ghost use Rattle.aud_machine.specs.Shown.{program_in};
 ghost use Rattle.aud_machine.specs.Shows.{Shows, IfShows, Leaves, RunsFrom, Takes};
 
@@ -21,8 +22,9 @@ use aud_state::state::State;
 use aud_tasks::coming::coming;
 use aud_tasks::compiled::Compiled;
 use aud_tasks::moves::{moves, state_of};
+use aud_tasks::parts::{forget_if_due, run_in_parts};
 pub use aud_tasks::run::Ran;
-use aud_tasks::run::{run, take};
+use aud_tasks::run::take;
 use aud_text::limits::{CHOICES, CLOCK, Limits, OUTPUT, STEPS};
 use aud_typed::program::{Exception, Program};
 use std::alloc::{AllocError, Global};
@@ -197,13 +199,15 @@ impl Machine {
     }
 
     /// All that it has: the frames, the tasks, the calls with their queues, the protected objects, the clock and the steps taken. Its
-    /// limits hold of them: so many tasks and objects, so many live frames of each task, and so much output.
+    /// limits hold of them: so many tasks and objects, so many live frames of each task, and so much output. Of frames and calls that
+    /// are over, nothing need be left.
     pub fn parts(&self) -> &State
         ensures all { result.now ≡ self.now.all }
         ensures within { self.now.spent ≡ false → 1 ≤ self.now.limits.tasks →
             IsWithin Spot self.now.limits result.now }
         ensures tasks { IfShows self.now (λ c. owns result.now.tasks ≡ owns c.tasks) }
-        ensures shared { IfShows self.now (λ c. result.now.shared ≡ c.shared) }
+        ensures shared { IfShows self.now (λ c.
+            (forgotten result.now).shared ≡ (forgotten c).shared) }
         ensures choices { IfShows self.now (λ c. result.now.choices ≡ c.choices) }
         ensures clock { IfShows self.now (λ c. result.now.clock ≡ c.clock) }
         ensures steps { IfShows self.now (λ c. result.now.steps ≡ c.steps) }
@@ -260,7 +264,7 @@ impl Machine {
         Ok(())
     }
 
-    /// Takes n steps, or those until no move is enabled.
+    /// Takes n steps, or those until no move is enabled. Frames that are over are given back on the way.
     ///
     /// # Errors
     ///
@@ -284,12 +288,12 @@ impl Machine {
             program: &self.program,
             limits: self.limits,
         };
-        let ran = run(&mut self.state, alloc, compiled, &mut operands, n)?;
+        let ran = run_in_parts(&mut self.state, alloc, compiled, &mut operands, n)?;
         self.spent = false;
         Ok(ran)
     }
 
-    /// Takes the enabled move of this index, or nothing where there is none.
+    /// Takes the enabled move of this index, or nothing where there is none. Frames that are over are given back behind it.
     ///
     /// # Errors
     ///
@@ -314,6 +318,9 @@ impl Machine {
             limits: self.limits,
         };
         let taken = take(&mut self.state, alloc, compiled, &mut operands, nth)?;
+        if taken.is_some() {
+            forget_if_due(&mut self.state, alloc)?;
+        }
         self.spent = false;
         Ok(taken)
     }

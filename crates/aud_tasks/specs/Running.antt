@@ -5,9 +5,11 @@ use Rattle.aud_typed.specs.Tree.{Plan}
 use Rattle.aud_meaning.specs.Configuration.{All}
 use Rattle.aud_meaning.specs.declared.state.Move.{Move}
 use Rattle.aud_meaning.specs.Run.{Turn, acting, own_move, moves_at, run_with, state_at, step_with, take_one}
+use Rattle.aud_meaning.specs.Why.Limits.{IsWithin}
 use Rattle.aud_code.specs.Places.{Spot}
 use Rattle.aud_code.specs.Flat.{Flat, flat_controls}
 use Rattle.aud_expr.specs.Size.{size}
+use Rattle.aud_over.specs.Over.{forgotten}
 use Rattle.aud_tasks.specs.declared.run.Ran.{Ran}
 use Rattle.aud_tasks.specs.declared.run.Spent.{Spent}
 use Rattle.aud_tasks.specs.Turning.{turn_in}
@@ -19,6 +21,15 @@ pub record RunsTo (plan : Plan) (code : Flat) (limits : Limits) (n : ℕ) (old n
   pub state : ran.state ≡ state_at plan (flat_controls plan code) new
   -- an instruction is executed twice in a step at most
   pub few : ran.ticks ≤ ran.steps * (2 * size code)
+
+-- from old, the same is left in new as behind n steps, or behind those until no move is enabled, and what was done is told
+pub record RunsLeaving (plan : Plan) (code : Flat) (limits : Limits) (n : ℕ) (old new : All Spot) (ran : Ran) : Type 0 where
+  pub left : forgotten new ≡ forgotten (run_with plan (flat_controls plan code) limits n old)
+  pub steps : ran.steps + old.steps ≡ new.steps
+  pub state : ran.state ≡ state_at plan (flat_controls plan code) new
+  pub few : ran.ticks ≤ ran.steps * (2 * size code)
+  -- the limits hold of it, if they held before
+  pub kept : IsWithin Spot limits old → IsWithin Spot limits new
 
 -- the move was taken, and no choice is used up
 pub record Took (plan : Plan) (code : Flat) (limits : Limits) (m : Move) (old new : All Spot) (ran : Ran) : Type 0 where

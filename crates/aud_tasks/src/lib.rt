@@ -8,6 +8,7 @@ mod enabled;
 mod endings;
 mod leave;
 pub mod moves;
+pub mod parts;
 pub mod run;
 mod step;
 mod times;

@@ -6,4 +6,4 @@ returns c =
     let inside = c.self.inside in
     let told = rw (c.compiled.ensures.program, c.compiled.ensures.code, ← c.self.view_is) at c.coming.ensures in
     rw (← c.self.view_is) (λ shown h.
-    coming_shown inside.program inside.code c.self.invariant.0 inside.state c.args.task c.coming.result shown told h.all)
+    coming_shown inside.program inside.code c.self.invariant.0 inside.limits inside.spent inside.state shown h c.args.task c.coming.result told)

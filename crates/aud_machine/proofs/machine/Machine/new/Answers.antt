@@ -8,5 +8,7 @@ invariant_of-result c = (c.in_ok-code.ensures, λ alive. c.in_ok-state.ensures.s
 pub returns-clause-shows : goal.returns-clause-shows
 returns-clause-shows c = record {
   alive = refl;
+  through = c.in_ok-state.state;
   all = opening_shown c.args.program c.in_ok-code.code c.in_ok-code.ensures c.in_ok-state.state c.in_ok-state.ensures.opening;
+  left = refl;
 }

@@ -5,4 +5,4 @@ pub returns : goal.returns
 returns c =
     let inside = c.self.inside in
     rw (← c.self.view_is) (λ shown h.
-    raised_shown inside.program inside.code c.self.invariant.0 inside.state c.raised.result shown c.raised.ensures h.all)
+    raised_shown inside.program inside.code c.self.invariant.0 inside.limits inside.spent inside.state shown h c.raised.result c.raised.ensures)

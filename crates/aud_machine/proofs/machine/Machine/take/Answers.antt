@@ -1,22 +1,28 @@
-use Rattle.std.proofs.Common.{refl, ap, sym, ◌∙◌}
+use Rattle.std.proofs.Common.{sym, ◌∙◌}
+use Rattle.std.specs.Prelude.{slice_get}
 use Rattle.aud_typed.specs.Ties.View.{plain_program}
-use Rattle.aud_meaning.specs.Configuration.{All}
 use Rattle.aud_meaning.specs.Run.{moves_at}
-use Rattle.aud_code.specs.Places.{Spot}
 use Rattle.aud_code.specs.Flat.{flat_controls}
-use Rattle.std.specs.Prelude.{false, slice_get}
-use Rattle.aud_machine.specs.Shown.{Shown}
-use Rattle.aud_machine.proofs.Bridges.{take_shown, few_taken, within_taken}
+use Rattle.aud_machine.proofs.Bridges.{Forgets, forgot, nothing_forgot, taken_shown, few_taken, spots_stay, within_taken}
 use Rattle.aud_machine.proofs.machine.Machine.take.Goals as goal
+use Rattle.aud_machine.proofs.machine.Machine.take.Goals.{then-is_some+in_ok-forget_if_due, else-is_some}
 
 pub returns-clause-takes : goal.returns-clause-takes
 returns-clause-takes c =
     let inside = c.self.inside in
-    let with : All Spot → Shown = λ m. record { program = inside.program; code = inside.code; limits = inside.limits; all = m; spent = false } in
-    let was : Shown = record (with inside.state) { spent = inside.spent } in
-    rw (← c.self.view_is) (λ shown h.
-    take_shown inside.program inside.code c.self.invariant.0 inside.limits c.args.nth inside.state c.take.new.state was (with c.take.new.state) c.in_ok-taken.taken shown c.in_ok-taken.ensures.takes h.all
-    (λ same. ap with same ∙ ap (λ s. record was { spent = s }) (sym h.alive)) (λ d shows. record { alive = refl; all = shows }))
+    let mid = c.take.new.state in
+    let taken = c.in_ok-taken.taken in
+    elim c.if-is_some.branch [
+      | then-is_some+in_ok-forget_if_due w ↦
+          let new = w.forget_if_due.new.state in
+          let told = w.in_ok-forget_if_due.ensures in
+          let forgets : Forgets taken mid new = forgot taken mid new (sym c.is_some.ensures ∙ w.if-is_some.true) told.left told.others in
+          rw (w.self-inside-is, ← c.self.view_is) (λ shown h.
+          taken_shown inside.program inside.code c.self.invariant.0 inside.limits inside.spent inside.state shown h c.args.nth mid new taken forgets c.in_ok-taken.ensures.takes)
+      | else-is_some w ↦
+          rw (w.self-inside-is, ← c.self.view_is) (λ shown h.
+          taken_shown inside.program inside.code c.self.invariant.0 inside.limits inside.spent inside.state shown h c.args.nth mid mid taken (nothing_forgot taken mid) c.in_ok-taken.ensures.takes)
+    ]
 
 pub returns-clause-ticks : goal.returns-clause-ticks
 returns-clause-ticks c =
@@ -28,4 +34,15 @@ pub invariant_of-self-2 : goal.invariant_of-self-2
 invariant_of-self-2 c =
     let inside = c.self.inside in
     let plan = (plain_program inside.program).plan in
-    (c.self.invariant.0, λ alive. c.in_ok-taken.ensures.spots, λ alive one. within_taken plan inside.code inside.limits (slice_get (moves_at plan (flat_controls plan inside.code) inside.state) c.args.nth) inside.state c.take.new.state c.in_ok-taken.taken c.in_ok-taken.ensures.takes (c.self.invariant.2 c.if-self.false one))
+    let move = slice_get (moves_at plan (flat_controls plan inside.code) inside.state) c.args.nth in
+    let mid = c.take.new.state in
+    let taken = c.in_ok-taken.taken in
+    let done = c.in_ok-taken.ensures in
+    elim c.if-is_some.branch [
+      | then-is_some+in_ok-forget_if_due w ↦
+          let new = w.forget_if_due.new.state in
+          let told = w.in_ok-forget_if_due.ensures in
+          let forgets : Forgets taken mid new = forgot taken mid new (sym c.is_some.ensures ∙ w.if-is_some.true) told.left told.others in
+          rw w.self-inside-is (c.self.invariant.0, λ alive. spots_stay inside.code taken mid new forgets done.spots, λ alive one. within_taken plan inside.code inside.limits move inside.state mid new taken done.takes forgets (c.self.invariant.2 c.if-self.false one))
+      | else-is_some w ↦ rw w.self-inside-is (c.self.invariant.0, λ alive. done.spots, λ alive one. within_taken plan inside.code inside.limits move inside.state mid mid taken done.takes (nothing_forgot taken mid) (c.self.invariant.2 c.if-self.false one))
+    ]
