@@ -1,4 +1,8 @@
+pub mod Framed
+pub mod Keeping
+pub mod Laid
 pub mod Leaving
+pub mod Naming
 pub mod Numbers
 pub mod Opened
 pub mod Placing

@@ -1,12 +1,12 @@
 // The open frames, which lie in one another.
 
-ghost use Rattle.std.specs.Prelude.{◌≡◌, ◌↔◌, [], None, suc, filter, length, map, nat_le, reverse, take, IfOk, IsTrue, OnOk, OnErr};
+ghost use Rattle.std.specs.Prelude.{◌≡◌, [], None, filter, length, map, reverse, take, IfOk, OnOk, OnErr};
 ghost use Rattle.aud_meaning.specs.Effects.{elaborated_in, handled, innermost, is_loop, live_frames, outermost};
 ghost use Rattle.aud_meaning.specs.Parts.{is_master};
 ghost use Rattle.aud_meaning.specs.Ties.Stack.{closed, closed_times, opens_after, out_of_loops};
 ghost use Rattle.aud_store.specs.Ties.Stored.{accepted_in, copies_of, innermost_backs, is_in_loop, kept_by, kept_of};
 ghost use Rattle.aud_store.specs.Ties.Stored.{plain_open, plain_purpose, with_handling, with_elaborated};
-ghost use Rattle.aud_store.specs.Ties.Stored.{IsInnermost, IsProcedure};
+ghost use Rattle.aud_store.specs.Ties.Stored.{IsInnermost};
 
 use crate::display::{Display, Replaced};
 use crate::target::{Back, Target};
@@ -31,13 +31,6 @@ pub enum Purpose {
 }
 
 impl Purpose {
-    /// Whether it is a procedure's body.
-    pub fn is_procedure(&self) -> bool
-        ensures { IsTrue result ↔ IsProcedure self.now }
-    {
-        matches!(self, Purpose::Procedure { .. })
-    }
-
     fn is_loop(&self) -> bool
         ensures { result ≡ is_loop (plain_purpose self.now []) }
     {
