@@ -1,12 +1,12 @@
 -- All frames, of which the first one lies apart, and others are kept.
-use Rattle.std.proofs.Common.{◌≡◌, ◌≢◌, ℕ, zero, suc, ◌+◌, ◌<◌, ℤ, List, [], ◌∷◌, ◌++◌, length, get_or, Option, Some, None, IsNone, IfNone, IsPermutation, slice_get, if◌then◌else◌, sym, ap, ◌∙◌, subst, refl, inl, inr, arith}
+use Rattle.std.proofs.Common.{◌≡◌, ◌≢◌, ℕ, zero, suc, ◌+◌, ◌<◌, ℤ, List, [], ◌∷◌, ◌++◌, length, get_or, Option, Some, None, IsNone, IfNone, IsPermutation, slice_get, if◌then◌else◌, sym, ap, ◌∙◌, refl, inl, inr, arith}
 use Rattle.std.proofs.lemmas.Bool.{cases_lt, ne_eqb}
 use Rattle.std.proofs.lemmas.List.{get_or_past}
 use Rattle.std.proofs.lemmas.Option.{slice_get-get_or}
 use Rattle.aud_meaning.specs.Parts.{contains}
 use Rattle.aud_store.specs.declared.shelf.Shelf.{Shelf}
 use Rattle.aud_store.specs.Ties.Frames.{laid, only_named, with_frame}
-use Rattle.aud_store.specs.Ties.Shelf.{cells_on, frame_of, Changes, IsSame, IsShelf}
+use Rattle.aud_store.specs.Ties.Shelf.{cells_on, frame_of, Changes, IsSame}
 use Rattle.aud_store.proofs.Laid.{is_left, laid_at, laid_more, laid_named, laid_same, laid_written, length_laid}
 use Rattle.aud_store.proofs.Naming.{contains_moved}
 

@@ -1,15 +1,15 @@
 -- The cells of frames that are kept.
-use Rattle.std.proofs.Common.{◌≡◌, ◌≢◌, ◌⊎◌, ℕ, zero, suc, ◌+◌, ◌<◌, ◌≤◌, ℤ, Vec, Global, List, [], ◌∷◌, ◌++◌, Bool, true, false, cond, length, take, drop, get_or, filter, insert, All, AllPairs, Contains, Option, Some, None, is_some, IsSome, Result, Ok, Err, IfOk, IfErr, nat_cmp, nat_eq, if◌then◌else◌, sym, ap, ◌∙◌, subst, refl, inl, inr, add-zero, arith}
+use Rattle.std.proofs.Common.{◌≡◌, ◌≢◌, ◌⊎◌, ℕ, zero, suc, ◌+◌, ◌<◌, ◌≤◌, ℤ, Vec, Global, List, [], ◌∷◌, Bool, true, false, cond, length, take, drop, get_or, filter, insert, All, AllPairs, Option, Some, None, is_some, IsSome, Result, Ok, Err, IfOk, IfErr, nat_cmp, nat_eq, if◌then◌else◌, sym, ap, ◌∙◌, subst, refl, inl, inr, add-zero, arith}
 use Rattle.std.specs.List.Sorted.{IsSearchInRange, IsBinarySearchResult, IsNonDecreasingBy}
 use Rattle.std.specs.Ordering.{ordering_index}
 use Rattle.std.proofs.lemmas.Cmp.{ranked}
 use Rattle.std.proofs.lemmas.Bool.Decides.{nat_tests}
-use Rattle.std.proofs.lemmas.Bool.{cases_eq, cases_lt, cases_order, cases_Bool, eq-eqb, ne_eqb, true≢false}
+use Rattle.std.proofs.lemmas.Bool.{cases_eq, cases_lt, cases_order, eq-eqb, ne_eqb, true≢false}
 use Rattle.std.proofs.lemmas.List.{get_or_default, get_or-drop}
 use Rattle.std.proofs.lemmas.List.Edits.{length-insert, get_or-insert_at, get_or-insert_below}
 use Rattle.std.proofs.lemmas.List.Elements.{All-append, All-cons, All-take, All-drop, All-weaker, All-contains, All-filter, filter_passes}
 use Rattle.std.proofs.lemmas.List.Kept.{AllPairs-cons, AllPairs-filter}
-use Rattle.slab.specs.Slab.{Slab, get, with_value, Updates, SameValues}
+use Rattle.slab.specs.Slab.{get, with_value, Updates, SameValues}
 use Rattle.slab.proofs.SlabLemmas.{Updates-with_value}
 use Rattle.aud_meaning.specs.Parts.{contains}
 use Rattle.aud_store.specs.declared.shelf.Kept.{Kept}

@@ -16,8 +16,8 @@ pub(crate) fn lengthen(cells: &mut Vec<Int32>, count: usize, value: Int32) -> Re
 }
 
 /// Another value of a cell; where there is none of this number, nothing changes.
-pub(crate) fn write(cells: &mut Vec<Int32>, index: usize, value: Int32)
-    ensures { cells.new.items ≡ slice_set cells.old.items index value }
+pub(crate) fn write(cells: &mut [Int32], index: usize, value: Int32)
+    ensures { cells.new ≡ slice_set cells.old index value }
 {
     if index < cells.len() {
         cells[index] = value;
