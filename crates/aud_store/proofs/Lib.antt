@@ -1,4 +1,9 @@
+pub mod Framed
+pub mod Keeping
+pub mod Laid
 pub mod Leaving
+pub mod Names
+pub mod Naming
 pub mod Numbers
 pub mod Opened
 pub mod Placing

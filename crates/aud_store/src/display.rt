@@ -99,4 +99,11 @@ impl Display {
     {
         &self.numbers[..self.seen]
     }
+
+    /// All numbers: those of the frames that are seen, and behind them some that are hidden.
+    pub(crate) fn all(&self) -> &[usize]
+        ensures { result.now ≡ self.now.numbers }
+    {
+        &self.numbers
+    }
 }

@@ -1,24 +1,41 @@
 // The variables of all executions of bodies.
 
-ghost use Rattle.std.specs.Prelude.{◌≡◌, ℤ, pos, ◌<◌, List, [], ◌∷◌, ◌++◌, length, map, replicate, OnOk, OnErr, slice_get, slice_index_or, slice_set};
-ghost use Rattle.aud_store.specs.Ties.Frames.{with_frame};
+ghost use Rattle.std.specs.Prelude.{◌≡◌, ℤ, pos, ◌<◌, List, [], ◌∷◌, ◌++◌, length, replicate, IsNone, OnOk, OnErr, slice_get, slice_index_or, slice_set};
+ghost use Rattle.aud_store.specs.Ties.Frames.{only_named, with_frame};
 
+use crate::cells::{lengthen, write};
+use crate::shelf::Shelf;
 use aud_text::int32::Int32;
 use std::alloc::{AllocError, Global};
 use std::marker::Model;
 use std::mem;
 
+// At most so many cells may be over and still kept between two looks at which frames are over.
+const DUE: usize = 8_192;
+
+// A frame takes as much memory besides its cells as so many cells do.
+const FRAME: usize = 8;
+
 /// All frames that were ever made, by their numbers, which count from 0. A frame has the variables of one execution of
-/// a body, in the order of their declarations.
+/// a body, in the order of their declarations. Those that are given back have none, and take no memory.
 #[derive(Drop)]
 pub struct Frames {
-    frames: Vec<Vec<Int32>>,
+    made: usize,
+    first: Vec<Int32>,
+    shelf: Shelf,
+    fresh: usize,
 }
 
 impl Model for Frames {
+    ghost use Rattle.std.specs.Prelude.{ℤ, List};
+    ghost use Rattle.aud_store.specs.Ties.Frames.{laid};
+    ghost use Rattle.aud_store.specs.Ties.Shelf.{frame_of, IsShelf};
+
     ghost Value = { List (List ℤ) };
 
-    ghost view = { λ f. map (λ frame. frame.items) f.frames.items };
+    ghost view = { λ f. laid f.made (frame_of f.first.items f.shelf) };
+
+    ghost invariant = { λ f. IsShelf f.made f.shelf };
 }
 
 impl Frames {
@@ -27,7 +44,10 @@ impl Frames {
         ensures { result ≡ [] }
     {
         Frames {
-            frames: Vec::new(alloc),
+            made: 0,
+            first: Vec::new(alloc),
+            shelf: Shelf::new(alloc),
+            fresh: 0,
         }
     }
 
@@ -36,9 +56,15 @@ impl Frames {
         ensures entered { OnOk result (self.new ≡ self.old ++ variables.now ∷ []) }
         ensures kept { OnErr result (self.new ≡ self.old) }
     {
-        let mut frame = Vec::new(alloc);
-        frame.extend_from_slice(variables)?;
-        self.frames.push(frame)?;
+        let made = self.made.checked_add(1).ok_or(AllocError)?;
+        if self.made == 0 {
+            self.first = Vec::from_slice(alloc, variables)?;
+        } else {
+            self.shelf.push(alloc, self.made, variables)?;
+        }
+        self.made = made;
+        let fresh = variables.len().saturating_add(FRAME);
+        self.fresh = self.fresh.saturating_add(fresh);
         Ok(())
     }
 
@@ -46,7 +72,7 @@ impl Frames {
     pub fn len(&self) -> usize
         ensures { result ≡ length self.now }
     {
-        self.frames.len()
+        self.made
     }
 
     /// The variables of a frame, in the order of their declarations.
@@ -54,25 +80,37 @@ impl Frames {
         requires { number < length self.now }
         ensures { slice_get self.now number ≡ Some result.now }
     {
-        &self.frames[number]
+        if number == 0 {
+            &self.first
+        } else {
+            self.shelf.cells(self.made, number)
+        }
     }
 
-    /// The variables of a frame, which has none until others are put there.
-    pub fn take(&mut self, number: usize) -> Vec<Int32>
-        requires { number < length self.old }
-        ensures taken { slice_get self.old number ≡ Some result.items }
-        ensures left { self.new ≡ with_frame number (λ vs. []) self.old }
+    /// The key under which the variables of a frame lie, for tests and for looking on: none for the first frame, which has no key,
+    /// and none for one that was given back. Keys of frames that were given back become those of others.
+    pub fn key(&self, number: usize) -> Option<usize>
+        ensures { IsNone result → 0 < number → slice_index_or self.now number [] ≡ [] }
     {
-        let none = Vec::new(*self.frames.allocator());
-        mem::replace(&mut self.frames[number], none)
+        self.shelf.key(self.made, number)
     }
 
-    /// Other variables of a frame.
-    pub fn put(&mut self, number: usize, variables: Vec<Int32>)
-        requires { number < length self.old }
-        ensures { self.new ≡ with_frame number (λ vs. variables.items) self.old }
+    /// The variables of the first frame, which has none until others are put there.
+    pub fn take_first(&mut self) -> Vec<Int32>
+        requires { 0 < length self.old }
+        ensures taken { slice_get self.old 0 ≡ Some result.items }
+        ensures left { self.new ≡ with_frame 0 (λ vs. []) self.old }
     {
-        self.frames[number] = variables;
+        let none = Vec::new(*self.first.allocator());
+        mem::replace(&mut self.first, none)
+    }
+
+    /// Other variables of the first frame.
+    pub fn put_first(&mut self, variables: Vec<Int32>)
+        requires { 0 < length self.old }
+        ensures { self.new ≡ with_frame 0 (λ vs. variables.items) self.old }
+    {
+        self.first = variables;
     }
 
     /// A variable, or 0 where the frame has none of this number.
@@ -80,7 +118,7 @@ impl Frames {
         requires { frame < length self.now }
         ensures { result ≡ slice_index_or (slice_index_or self.now frame []) index (pos 0) }
     {
-        self.frames[frame]
+        self.frame(frame)
             .get(index)
             .copied()
             .unwrap_or(Int32::new(0))
@@ -93,9 +131,12 @@ impl Frames {
             with_frame frame (λ vs. vs ++ replicate count value) self.old) }
         ensures kept { OnErr result (self.new ≡ self.old) }
     {
-        let variables = &mut self.frames[frame];
-        let length = variables.len().checked_add(count).ok_or(AllocError)?;
-        variables.resize(length, value)?;
+        self.fresh = self.fresh.saturating_add(count);
+        if frame == 0 {
+            lengthen(&mut self.first, count, value)?;
+            return Ok(());
+        }
+        self.shelf.lengthen(self.made, frame, count, value)?;
         Ok(())
     }
 
@@ -106,8 +147,12 @@ impl Frames {
             with_frame frame (λ vs. vs ++ values.now) self.old) }
         ensures kept { OnErr result (self.new ≡ self.old) }
     {
-        let variables = &mut self.frames[frame];
-        variables.extend_from_slice(values)?;
+        self.fresh = self.fresh.saturating_add(values.len());
+        if frame == 0 {
+            self.first.extend_from_slice(values)?;
+            return Ok(());
+        }
+        self.shelf.extend(self.made, frame, values)?;
         Ok(())
     }
 
@@ -116,9 +161,25 @@ impl Frames {
         requires { frame < length self.old }
         ensures { self.new ≡ with_frame frame (λ vs. slice_set vs index value) self.old }
     {
-        let variables = &mut self.frames[frame];
-        if index < variables.len() {
-            variables[index] = value;
+        if frame == 0 {
+            write(&mut self.first, index, value);
+            return;
         }
+        self.shelf.write(self.made, frame, index, value);
+    }
+
+    /// All frames are given back but the first one and those of these numbers, which are put in order meanwhile. No memory is taken.
+    pub fn forget(&mut self, named: &mut [usize])
+        ensures { self.new ≡ only_named named.old self.old }
+    {
+        named.sort_unstable();
+        self.shelf.retain(named);
+        self.fresh = 0;
+    }
+
+    /// Whether so much was entered and declared since the last `forget`, or since the beginning, that another one is worth its
+    /// time. It is advice: no value depends on it.
+    pub fn is_due(&self) -> bool {
+        DUE <= self.fresh
     }
 }

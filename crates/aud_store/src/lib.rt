@@ -1,8 +1,10 @@
 // What a running program keeps: its frames, which of them are open, and what the ends of calls copy back.
 #![tactic(auto)]
 
+mod cells;
 pub mod display;
 pub mod frames;
+mod shelf;
 pub mod stack;
 pub mod store;
 pub mod target;

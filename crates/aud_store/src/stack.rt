@@ -1,12 +1,13 @@
 // The open frames, which lie in one another.
 
-ghost use Rattle.std.specs.Prelude.{◌≡◌, ◌↔◌, [], None, suc, filter, length, map, nat_le, reverse, take, IfOk, IsTrue, OnOk, OnErr};
+ghost use Rattle.std.specs.Prelude.{◌≡◌, [], ◌++◌, None, filter, length, map, reverse, take, IfOk, OnOk, OnErr};
 ghost use Rattle.aud_meaning.specs.Effects.{elaborated_in, handled, innermost, is_loop, live_frames, outermost};
 ghost use Rattle.aud_meaning.specs.Parts.{is_master};
 ghost use Rattle.aud_meaning.specs.Ties.Stack.{closed, closed_times, opens_after, out_of_loops};
+ghost use Rattle.aud_store.specs.Ties.Named.{names_of, NamesAll};
 ghost use Rattle.aud_store.specs.Ties.Stored.{accepted_in, copies_of, innermost_backs, is_in_loop, kept_by, kept_of};
 ghost use Rattle.aud_store.specs.Ties.Stored.{plain_open, plain_purpose, with_handling, with_elaborated};
-ghost use Rattle.aud_store.specs.Ties.Stored.{IsInnermost, IsProcedure};
+ghost use Rattle.aud_store.specs.Ties.Stored.{IsInnermost};
 
 use crate::display::{Display, Replaced};
 use crate::target::{Back, Target};
@@ -31,13 +32,6 @@ pub enum Purpose {
 }
 
 impl Purpose {
-    /// Whether it is a procedure's body.
-    pub fn is_procedure(&self) -> bool
-        ensures { IsTrue result ↔ IsProcedure self.now }
-    {
-        matches!(self, Purpose::Procedure { .. })
-    }
-
     fn is_loop(&self) -> bool
         ensures { result ≡ is_loop (plain_purpose self.now []) }
     {
@@ -90,6 +84,18 @@ impl Open {
             Purpose::Body | Purpose::Block | Purpose::Procedure { .. } => true,
             Purpose::Loop => false,
         }
+    }
+
+    // Appends its number, and the one that it stands in place of.
+    fn names(&self, into: &mut Vec<usize>) -> Result<(), AllocError>
+        ensures { OnOk result (into.new.items ≡ into.old.items ++ names_of self.now) }
+    {
+        into.push(self.frame)?;
+        let Some(number) = self.replaced.number else {
+            return Ok(());
+        };
+        into.push(number)?;
+        Ok(())
     }
 }
 
@@ -331,6 +337,19 @@ impl Stack {
     {
         let frames = numbers_of(alloc, &self.opened)?;
         Ok(frames)
+    }
+
+    /// Appends the numbers of all frames that it names: of those that are seen or hidden, of those that are open, and of those that an
+    /// open one stands in place of. Some may be there more than once.
+    pub fn names(&self, into: &mut Vec<usize>) -> Result<(), AllocError>
+        ensures { OnOk result
+            (NamesAll into.old.items into.new.items self.now.display self.now.opened) }
+    {
+        into.extend_from_slice(self.display.all())?;
+        for open in &self.opened {
+            open.names(into)?;
+        }
+        Ok(())
     }
 
     /// The outermost open frame, which is a body's; 0 where none is open.

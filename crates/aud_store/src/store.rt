@@ -1,14 +1,13 @@
 // All frames ever made, and those that are open.
 
-ghost use Rattle.std.specs.Prelude.{◌≡◌, ◌<◌, ◌∷◌, [], None, suc, pos, length, replicate, nat_le, OnOk, OnErr, IfOk, slice_get, slice_index_or};
+ghost use Rattle.std.specs.Prelude.{◌≡◌, ◌<◌, ◌∷◌, [], None, suc, pos, length, replicate, nat_le, IsNone, OnOk, OnErr, IfOk, slice_get, slice_index_or};
 ghost use Rattle.aud_text.specs.declared.limits.TheConstants.{FRAMES};
 ghost use Rattle.aud_meaning.specs.Evaluation.{frame_at};
 ghost use Rattle.aud_meaning.specs.Effects.{innermost, elaborated_in, handled, live_frames};
-ghost use Rattle.aud_meaning.specs.Ties.Stack.{closed, closed_times, out_of_loops};
-ghost use Rattle.aud_store.specs.Ties.Frames.{with_frame};
-ghost use Rattle.aud_store.specs.Ties.Stored.{copies_of, declared, entered_after, innermost_backs};
-ghost use Rattle.aud_store.specs.Ties.Stored.{innermost_cell, kept_by, plain_purpose, stored};
-ghost use Rattle.aud_store.specs.Ties.Stored.{with_handling, IsInnermost};
+ghost use Rattle.aud_meaning.specs.Ties.Stack.{closed, closed_times};
+ghost use Rattle.aud_store.specs.Ties.Frames.{only_named, with_frame};
+ghost use Rattle.aud_store.specs.Ties.Stored.{copies_of, declared, entered_after, innermost_cell};
+ghost use Rattle.aud_store.specs.Ties.Stored.{kept_by, plain_purpose, stored, IsInnermost};
 
 use crate::frames::Frames;
 use crate::stack::{Open, Purpose, Stack};
@@ -106,20 +105,6 @@ impl Store {
         self.stack.leave_times(n);
     }
 
-    /// The frames of the loops within the innermost construct are left.
-    pub fn leave_loops(&mut self)
-        ensures { self.new ≡ record self.old { stack = out_of_loops self.old.stack } }
-    {
-        self.stack.leave_loops();
-    }
-
-    /// The innermost construct handles an exception (RM 11.4(7)).
-    pub fn handle(&mut self, exception: Exception)
-        ensures { self.new ≡ record self.old { stack = with_handling exception self.old.stack } }
-    {
-        self.stack.handle(exception);
-    }
-
     /// The exception that is being handled (RM 11.3(5)).
     pub fn handled(&self) -> Option<Exception>
         ensures { result ≡ handled self.now.stack.opened None }
@@ -132,33 +117,6 @@ impl Store {
         ensures { IsInnermost result self.now.stack.opened }
     {
         self.stack.innermost()
-    }
-
-    /// The innermost open frame but for those of loops within its construct.
-    pub fn construct(&self) -> Option<Open>
-        ensures { IsInnermost result (out_of_loops self.now.stack).opened }
-    {
-        self.stack.construct()
-    }
-
-    /// The formals that are copied back at the end of the innermost frame, in the order of the text.
-    pub fn backs(&self) -> &[Back]
-        ensures { result.now ≡ innermost_backs self.now.stack.opened }
-    {
-        self.stack.backs()
-    }
-
-    /// The cells of the innermost frame; none where none is open.
-    pub fn innermost_cells(&self) -> &[Int32]
-        ensures { result.now ≡
-            slice_index_or self.now.frames (innermost self.now.stack.opened) [] }
-    {
-        let number = self.innermost_number();
-        if number < self.frames.len() {
-            self.frames.frame(number)
-        } else {
-            &[]
-        }
     }
 
     /// How many names are elaborated in the innermost frame.
@@ -251,32 +209,45 @@ impl Store {
         &self.frames
     }
 
-    /// The cells of a frame, which has none until others are put there.
-    pub fn take(&mut self, frame: usize) -> Vec<Int32>
-        requires { frame < length self.old.frames }
-        ensures taken { slice_get self.old.frames frame ≡ Some result.items }
+    /// The cells of the first frame, which has none until others are put there.
+    pub fn take_first(&mut self) -> Vec<Int32>
+        requires { 0 < length self.old.frames }
+        ensures taken { slice_get self.old.frames 0 ≡ Some result.items }
         ensures left { self.new ≡ record self.old {
-          frames = with_frame frame (λ cells. []) self.old.frames;
+          frames = with_frame 0 (λ cells. []) self.old.frames;
         } }
     {
-        self.frames.take(frame)
+        self.frames.take_first()
     }
 
-    /// Other cells of a frame.
-    pub fn put(&mut self, frame: usize, cells: Vec<Int32>)
-        requires { frame < length self.old.frames }
+    /// Other cells of the first frame.
+    pub fn put_first(&mut self, cells: Vec<Int32>)
+        requires { 0 < length self.old.frames }
         ensures { self.new ≡ record self.old {
-          frames = with_frame frame (λ frame. cells.items) self.old.frames;
+          frames = with_frame 0 (λ frame. cells.items) self.old.frames;
         } }
     {
-        self.frames.put(frame, cells);
+        self.frames.put_first(cells);
     }
 
-    /// The open frames of the task whose part lies here.
-    pub fn stack(&self) -> &Stack
-        ensures { result.now ≡ self.now.stack }
+    /// The key under which the cells of a frame lie; none for the first frame and for one that was given back.
+    pub fn key(&self, frame: usize) -> Option<usize>
+        ensures { IsNone result → 0 < frame → slice_index_or self.now.frames frame [] ≡ [] }
     {
-        &self.stack
+        self.frames.key(frame)
+    }
+
+    /// All frames are given back but the first one and those of these numbers, which are put in order meanwhile.
+    pub fn forget(&mut self, named: &mut [usize])
+        ensures { self.new ≡
+            record self.old { frames = only_named named.old self.old.frames } }
+    {
+        self.frames.forget(named);
+    }
+
+    /// Whether so much was entered and declared since the last `forget` that another one is worth its time.
+    pub fn is_due(&self) -> bool {
+        self.frames.is_due()
     }
 
     /// The number of the innermost frame, or 0 where none is open.

@@ -89,11 +89,6 @@ IsInner Block = Unit {0}
 IsInner Loop = Unit {0}
 IsInner purpose = ⊥
 
--- it was opened for a procedure
-abbrev pub IsProcedure : Purpose → Type 0
-IsProcedure (Procedure level copies into) = Unit {0}
-IsProcedure purpose = ⊥
-
 -- it is a loop's
 abbrev pub is_in_loop : List Opened → Bool
 is_in_loop [] = false

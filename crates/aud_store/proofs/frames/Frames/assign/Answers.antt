@@ -1,16 +1,16 @@
-use Rattle.std.proofs.Common.{◌<◌, length, ap, arith, sym, refl}
-use Rattle.std.proofs.lemmas.List.{length-map, set_past}
 use Rattle.std.specs.Prelude.{slice_set}
-use Rattle.std.specs.Vec.{with_item}
-use Rattle.aud_store.proofs.Writes.{write_frame}
+use Rattle.std.specs.Vec.{with_items}
+use Rattle.aud_store.proofs.Framed.{first_written, shelf_written}
+use Rattle.aud_store.proofs.Writes.{written_in}
 use Rattle.aud_store.proofs.frames.Frames.assign.Goals as goal
-use Rattle.aud_store.proofs.frames.Frames.assign.Goals.{then-index-len, else-index-len}
+
+pub returns-then-frame-eq0 : goal.returns-then-frame-eq0
+returns-then-frame-eq0 c =
+    let first = c.self.inside.first in
+    first_written c.self.inside.made c.args.frame first.items (with_items first c.write.new.cells).items c.self.inside.shelf c.args.self.now (λ vs. slice_set vs c.args.index c.args.value) c.self.view_is c.requires c.if-frame-eq0.true
+    (written_in first c.deref_mut.result.now c.write.new.cells c.args.index c.args.value c.deref_mut.ensures.value c.write.ensures)
 
 pub returns : goal.returns
 returns c =
-    let within : c.args.frame < length c.self.inside.frames.items = omega (arith, c.requires, simp length-map at (ap length c.self.view_is)) in
-    let variables = c.index_mut-variables.result.now in
-    elim c.if-index-len.branch [
-      | then-index-len w ↦ rw w.self-inside-is (write_frame c.self.inside.frames.items c.args.self.now c.args.frame variables (with_item variables c.args.index c.args.value) (λ l. slice_set l c.args.index c.args.value) c.self.view_is within c.index_mut-variables.ensures.value refl)
-      | else-index-len w ↦ rw w.self-inside-is (write_frame c.self.inside.frames.items c.args.self.now c.args.frame variables variables (λ l. slice_set l c.args.index c.args.value) c.self.view_is within c.index_mut-variables.ensures.value (sym (set_past variables.items c.args.index c.args.value (omega (arith, variables.ok.0)))))
-    ]
+    shelf_written c.self.inside.made c.args.frame c.self.inside.first.items c.self.inside.shelf c.write-2.new.self c.args.self.now (λ vs. slice_set vs c.args.index c.args.value) c.self.view_is c.requires c.if-frame-eq0.false
+    c.write-2.ensures.written

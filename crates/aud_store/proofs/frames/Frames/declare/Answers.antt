@@ -1,17 +1,17 @@
-use Rattle.std.proofs.Common.{◌≡◌, ◌<◌, ◌+◌, ◌++◌, [], length, replicate, ap, arith, ◌∙◌}
-use Rattle.std.proofs.lemmas.Grind.{common_steps}
-use Rattle.std.proofs.lemmas.List.{length-map, set-get_or}
-use Rattle.aud_store.proofs.Writes.{write_frame, on_err, filled}
+use Rattle.std.proofs.Common.{◌++◌, replicate}
+use Rattle.aud_store.specs.Ties.Shelf.{frame_of}
+use Rattle.aud_store.proofs.Framed.{below_made, first_written, shelf_written}
 use Rattle.aud_store.proofs.frames.Frames.declare.Goals as goal
 
-pub returns-in_err-resize-clause-kept : goal.returns-in_err-resize-clause-kept
-returns-in_err-resize-clause-kept c =
-    let within : c.args.frame < length c.self.inside.frames.items = omega (arith, c.requires, simp length-map at (ap length c.self.view_is)) in
-    on_err c.from_residual-in_err-resize.result (write_frame c.self.inside.frames.items c.args.self.now c.args.frame c.index_mut-variables.result.now c.resize.new.self (λ l. l) c.self.view_is within c.index_mut-variables.ensures.value c.in_err-resize.ensures.items ∙ set-get_or c.args.self.now c.args.frame [])
+pub returns-then-frame-eq0-clause-declared : goal.returns-then-frame-eq0-clause-declared
+returns-then-frame-eq0-clause-declared c =
+    first_written c.self.inside.made c.args.frame c.self.inside.first.items c.lengthen.new.cells.items c.self.inside.shelf c.args.self.now (λ vs. vs ++ replicate c.args.count c.args.value) c.self.view_is c.requires c.if-frame-eq0.true
+    c.in_ok-lengthen.ensures.longer
+
+pub lengthen-requires-2-clause-within : goal.lengthen-requires-2-clause-within
+lengthen-requires-2-clause-within c = below_made c.self.inside.made c.args.frame (frame_of c.self.inside.first.items c.self.inside.shelf) c.args.self.now c.self.view_is c.requires
 
 pub returns-clause-declared : goal.returns-clause-declared
 returns-clause-declared c =
-    let within : c.args.frame < length c.self.inside.frames.items = omega (arith, c.requires, simp length-map at (ap length c.self.view_is)) in
-    let variables = c.index_mut-variables.result.now in
-    let more : c.in_ok-length.length ≡ length variables.items + c.args.count = grind (arith, common_steps, variables.ok.0, c.len.ensures, c.checked_add.ensures, c.ok_or.ensures, c.in_ok-length.ensures) in
-    write_frame c.self.inside.frames.items c.args.self.now c.args.frame variables c.resize.new.self (λ l. l ++ replicate c.args.count c.args.value) c.self.view_is within c.index_mut-variables.ensures.value (filled variables.items c.resize.new.self.items c.in_ok-length.length variables.len c.args.count c.args.value variables.ok.0 more c.in_ok-resize.ensures.items)
+    shelf_written c.self.inside.made c.args.frame c.self.inside.first.items c.self.inside.shelf c.lengthen-2.new.self c.args.self.now (λ vs. vs ++ replicate c.args.count c.args.value) c.self.view_is c.requires c.if-frame-eq0.false
+    c.in_ok-lengthen-2.ensures.longer

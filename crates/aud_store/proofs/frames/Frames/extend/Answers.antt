@@ -1,14 +1,17 @@
-use Rattle.std.proofs.Common.{◌<◌, ◌++◌, [], length, ap, arith, ◌∙◌}
-use Rattle.std.proofs.lemmas.List.{length-map, set-get_or}
-use Rattle.aud_store.proofs.Writes.{write_frame, on_err}
+use Rattle.std.proofs.Common.{◌++◌}
+use Rattle.aud_store.specs.Ties.Shelf.{frame_of}
+use Rattle.aud_store.proofs.Framed.{below_made, first_written, shelf_written}
 use Rattle.aud_store.proofs.frames.Frames.extend.Goals as goal
 
-pub returns-in_err-extend_from_slice-clause-kept : goal.returns-in_err-extend_from_slice-clause-kept
-returns-in_err-extend_from_slice-clause-kept c =
-    let within : c.args.frame < length c.self.inside.frames.items = omega (arith, c.requires, simp length-map at (ap length c.self.view_is)) in
-    on_err c.from_residual.result (write_frame c.self.inside.frames.items c.args.self.now c.args.frame c.index_mut-variables.result.now c.extend_from_slice.new.self (λ l. l) c.self.view_is within c.index_mut-variables.ensures.value c.in_err-extend_from_slice.ensures.items ∙ set-get_or c.args.self.now c.args.frame [])
+pub returns-then-frame-eq0-clause-extended : goal.returns-then-frame-eq0-clause-extended
+returns-then-frame-eq0-clause-extended c =
+    first_written c.self.inside.made c.args.frame c.self.inside.first.items c.extend_from_slice.new.self.items c.self.inside.shelf c.args.self.now (λ vs. vs ++ c.args.values.now) c.self.view_is c.requires c.if-frame-eq0.true
+    c.in_ok-extend_from_slice.ensures.items
+
+pub extend-requires-clause-within : goal.extend-requires-clause-within
+extend-requires-clause-within c = below_made c.self.inside.made c.args.frame (frame_of c.self.inside.first.items c.self.inside.shelf) c.args.self.now c.self.view_is c.requires
 
 pub returns-clause-extended : goal.returns-clause-extended
 returns-clause-extended c =
-    let within : c.args.frame < length c.self.inside.frames.items = omega (arith, c.requires, simp length-map at (ap length c.self.view_is)) in
-    write_frame c.self.inside.frames.items c.args.self.now c.args.frame c.index_mut-variables.result.now c.extend_from_slice.new.self (λ l. l ++ c.args.values.now) c.self.view_is within c.index_mut-variables.ensures.value c.in_ok-extend_from_slice.ensures.items
+    shelf_written c.self.inside.made c.args.frame c.self.inside.first.items c.self.inside.shelf c.extend.new.self c.args.self.now (λ vs. vs ++ c.args.values.now) c.self.view_is c.requires c.if-frame-eq0.false
+    c.in_ok-extend.ensures.longer

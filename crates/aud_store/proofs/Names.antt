@@ -1,0 +1,132 @@
+-- The names of open frames in memory.
+use Rattle.std.proofs.Common.{◌≡◌, ℕ, zero, suc, ◌+◌, ◌-◌, ◌<◌, List, [], ◌∷◌, ◌++◌, Bool, true, false, ◌||◌, Option, Some, None, length, get_or, take, set, reverse, nat_eq, flat_map, sym, ap, ◌∙◌, refl, inl, inr, append_assoc, append-nil}
+use Rattle.std.specs.Option.{option_to_list}
+use Rattle.std.proofs.lemmas.Bool.{or_cases, or_left, or_right}
+use Rattle.std.proofs.lemmas.List.{flat_map_more, reverse-append, take_more}
+use Rattle.aud_meaning.specs.Configuration.{Back}
+use Rattle.aud_meaning.specs.Parts.{contains}
+use Rattle.aud_store.specs.declared.stack.Open.{Open}
+use Rattle.aud_store.specs.Ties.Display.{Display, seen, put_back, without_last}
+use Rattle.aud_store.specs.Ties.Named.{names_of, opened_name, NamesAll}
+use Rattle.aud_store.specs.Ties.Stored.{outer_backs, plain_opened}
+
+-- Numbers among others.
+
+or_else : (a b c d : Bool) → (a || b) ≡ true → (a ≡ true → c ≡ true) → (b ≡ true → d ≡ true) → (c || d) ≡ true
+or_else a b c d h left right = elim (or_cases a b h) [
+  | inl x ↦ or_left c d (left x)
+  | inr y ↦ or_right c d (right y)
+]
+
+among_both : (f : ℕ) (xs ys : List ℕ) → (contains f xs || contains f ys) ≡ true → contains f (xs ++ ys) ≡ true
+among_both f [] ys h = h
+among_both f (x ∷ xs) ys h = elim (or_cases (contains f (x ∷ xs)) (contains f ys) h) [
+  | inl there ↦ or_else (nat_eq f x) (contains f xs) (nat_eq f x) (contains f (xs ++ ys)) there (λ e. e) (λ e. among_both f xs ys (or_left (contains f xs) (contains f ys) e))
+  | inr behind ↦ or_right (nat_eq f x) (contains f (xs ++ ys)) (among_both f xs ys (or_right (contains f xs) (contains f ys) behind))
+]
+
+among_either : (f : ℕ) (xs ys : List ℕ) → contains f (xs ++ ys) ≡ true → (contains f xs || contains f ys) ≡ true
+among_either f [] ys h = h
+among_either f (x ∷ xs) ys h = elim (or_cases (nat_eq f x) (contains f (xs ++ ys)) h) [
+  | inl first ↦ or_left (contains f (x ∷ xs)) (contains f ys) (or_left (nat_eq f x) (contains f xs) first)
+  | inr later ↦ or_else (contains f xs) (contains f ys) (contains f (x ∷ xs)) (contains f ys) (among_either f xs ys later) (λ e. or_right (nat_eq f x) (contains f xs) e) (λ e. e)
+]
+
+among_first : (f n : ℕ) (xs : List ℕ) → contains f (take n xs) ≡ true → contains f xs ≡ true
+among_first f zero xs h = absurd (cc)
+among_first f (suc n) [] h = absurd (cc)
+among_first f (suc n) (x ∷ xs) h = or_else (nat_eq f x) (contains f (take n xs)) (nat_eq f x) (contains f xs) h (λ e. e) (λ e. among_first f n xs e)
+
+among_set : (f : ℕ) (xs : List ℕ) (i n : ℕ) → contains f (set xs i n) ≡ true → (contains f xs || nat_eq f n) ≡ true
+among_set f [] i n h = absurd (cc)
+among_set f (x ∷ xs) zero n h = elim (or_cases (nat_eq f n) (contains f xs) h) [
+  | inl this ↦ or_right (contains f (x ∷ xs)) (nat_eq f n) this
+  | inr later ↦ or_left (contains f (x ∷ xs)) (nat_eq f n) (or_right (nat_eq f x) (contains f xs) later)
+]
+among_set f (x ∷ xs) (suc i) n h = elim (or_cases (nat_eq f x) (contains f (set xs i n)) h) [
+  | inl first ↦ or_left (contains f (x ∷ xs)) (nat_eq f n) (or_left (nat_eq f x) (contains f xs) first)
+  | inr later ↦ or_else (contains f xs) (nat_eq f n) (contains f (x ∷ xs)) (nat_eq f n) (among_set f xs i n later) (λ e. or_right (nat_eq f x) (contains f xs) e) (λ e. e)
+]
+
+-- What comes back was there before, or an open frame stood in its place.
+was_there : (f : ℕ) (number : Option ℕ) (d : Display) → contains f (without_last number d) ≡ true → (contains f d.numbers || contains f (option_to_list number)) ≡ true
+was_there f None d h = or_left (contains f d.numbers) false (among_first f (length d.numbers - 1) d.numbers h)
+was_there f (Some n) d h = or_else (contains f d.numbers) (nat_eq f n) (contains f d.numbers) (nat_eq f n || false) (among_set f d.numbers (d.count - 1) n h) (λ e. e) (λ e. or_left (nat_eq f n) false e)
+
+-- of these open frames
+abbrev pub names_in : List Open → List ℕ
+names_in os = flat_map names_of os
+
+module _ (f : ℕ) (d : Display) (o : Open) (os : List Open) where
+  abbrev Named : Type 0
+  Named = (contains f d.numbers || contains f (names_in (o ∷ os))) ≡ true
+
+  named_by : contains f (names_of o) ≡ true → Named
+  named_by h = or_right (contains f d.numbers) (contains f (names_in (o ∷ os))) (among_both f (names_of o) (names_in os) (or_left (contains f (names_of o)) (contains f (names_in os)) h))
+
+  named_behind : contains f (names_in os) ≡ true → Named
+  named_behind h = or_right (contains f d.numbers) (contains f (names_in (o ∷ os))) (among_both f (names_of o) (names_in os) (or_right (contains f (names_of o)) (contains f (names_in os)) h))
+
+  named_before : contains f (put_back o.replaced d).numbers ≡ true → Named
+  named_before h = elim (or_cases (contains f d.numbers) (contains f (option_to_list o.replaced.number)) (was_there f o.replaced.number d h)) [
+    | inl there ↦ or_left (contains f d.numbers) (contains f (names_in (o ∷ os))) there
+    | inr replaced ↦ named_by (or_right (nat_eq f o.frame) (contains f (option_to_list o.replaced.number)) replaced)
+  ]
+
+-- each name of open frames is among the numbers, or among theirs
+opened_named : (f : ℕ) (d : Display) (os : List Open) (bs : List Back) → opened_name f (plain_opened d os bs) ≡ true → (contains f d.numbers || contains f (names_in os)) ≡ true
+opened_named f d [] bs h = absurd (cc)
+opened_named f d (o ∷ os) bs h =
+    let before = put_back o.replaced d in
+    let rest = plain_opened before os (outer_backs o.purpose bs) in
+    elim (or_cases (nat_eq f o.frame) (contains f (seen before) || opened_name f rest) h) [
+      | inl own ↦ named_by f d o os (or_left (nat_eq f o.frame) (contains f (option_to_list o.replaced.number)) own)
+      | inr other ↦ elim (or_cases (contains f (seen before)) (opened_name f rest) other) [
+        | inl saved ↦ named_before f d o os (among_first f before.count before.numbers saved)
+        | inr outer ↦ elim (or_cases (contains f before.numbers) (contains f (names_in os)) (opened_named f before os (outer_backs o.purpose bs) outer)) [
+          | inl there ↦ named_before f d o os there
+          | inr behind ↦ named_behind f d o os behind
+        ]
+      ]
+    ]
+
+-- in the other order
+names_joined : (os ps : List Open) → names_in (os ++ ps) ≡ names_in os ++ names_in ps
+names_joined [] ps = refl
+names_joined (o ∷ os) ps = ap (λ l. names_of o ++ l) (names_joined os ps) ∙ sym (append_assoc (names_of o) (names_in os) (names_in ps))
+
+among_turned : (f : ℕ) (os : List Open) → contains f (names_in (reverse os)) ≡ true → contains f (names_in os) ≡ true
+among_turned f [] h = h
+among_turned f (o ∷ os) h =
+    let parts = names_joined (reverse os) (o ∷ []) in
+    let turned : contains f (names_in (reverse os) ++ names_in (o ∷ [])) ≡ true = sym (ap (contains f) (ap names_in (reverse-append (o ∷ []) os) ∙ parts)) ∙ h in
+    elim (or_cases (contains f (names_in (reverse os))) (contains f (names_in (o ∷ []))) (among_either f (names_in (reverse os)) (names_in (o ∷ [])) turned)) [
+      | inl later ↦ among_both f (names_of o) (names_in os) (or_right (contains f (names_of o)) (contains f (names_in os)) (among_turned f os later))
+      | inr own ↦ among_both f (names_of o) (names_in os) (or_left (contains f (names_of o)) (contains f (names_in os)) (sym (ap (contains f) (append-nil (names_of o))) ∙ own))
+    ]
+
+-- one more of them
+pub names_more : (before : List ℕ) (xs : List Open) (i : ℕ) (x : Open) → i < length xs → x ≡ get_or xs i x → (before ++ names_in (take i xs)) ++ names_of x ≡ before ++ names_in (take (i + 1) xs)
+names_more before xs i x within read =
+    flat_map_more names_of before (take i xs) x
+    ∙ ap (λ o. before ++ names_in (take i xs ++ o ∷ [])) read
+    ∙ sym (ap (λ l. before ++ names_in l) (take_more xs i x within))
+
+-- all are among what was there, the numbers of a display, and those of open frames
+pub names_all : (old new : List ℕ) (d : Display) (xs : List Open) (bs : List Back) → new ≡ (old ++ d.numbers) ++ names_in xs → NamesAll old new (seen d) (plain_opened d (reverse xs) bs)
+names_all old new d xs bs is f h = ap (contains f) is ∙ elim (or_cases (contains f old) (contains f (seen d) || opened_name f (plain_opened d (reverse xs) bs)) h) [
+  | inl before ↦ in_front (among_both f old d.numbers (or_left (contains f old) (contains f d.numbers) before))
+  | inr more ↦ elim (or_cases (contains f (seen d)) (opened_name f (plain_opened d (reverse xs) bs)) more) [
+    | inl shown ↦ numbered (among_first f d.count d.numbers shown)
+    | inr open_so ↦ elim (or_cases (contains f d.numbers) (contains f (names_in (reverse xs))) (opened_named f d (reverse xs) bs open_so)) [
+      | inl there ↦ numbered there
+      | inr own ↦ among_both f (old ++ d.numbers) (names_in xs) (or_right (contains f (old ++ d.numbers)) (contains f (names_in xs)) (among_turned f xs own))
+    ]
+  ]
+]
+  where
+    in_front : contains f (old ++ d.numbers) ≡ true → contains f ((old ++ d.numbers) ++ names_in xs) ≡ true
+    in_front e = among_both f (old ++ d.numbers) (names_in xs) (or_left (contains f (old ++ d.numbers)) (contains f (names_in xs)) e)
+
+    numbered : contains f d.numbers ≡ true → contains f ((old ++ d.numbers) ++ names_in xs) ≡ true
+    numbered e = in_front (among_both f old d.numbers (or_right (contains f old) (contains f d.numbers) e))
