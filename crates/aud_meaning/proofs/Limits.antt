@@ -1,3 +1,4 @@
+pub mod Cells
 pub mod Frames
 pub mod Kept
 pub mod Steps

@@ -21,7 +21,7 @@ use Rattle.aud_meaning.specs.declared.state.Resumed.{Resumed}
 use Rattle.aud_meaning.specs.declared.state.OpenAccept.{OpenAccept}
 use Rattle.aud_meaning.specs.declared.state.Serving.{Serving}
 use Rattle.aud_meaning.specs.declared.state.Action.{Action}
-use Rattle.aud_meaning.specs.Configuration.{Frame, Target, Returning, Purpose, for_body, for_block, for_loop, for_procedure, for_operation, for_entry, for_accept, Opened, Waits, Own, Call, Object, TaskAt, All, Acting}
+use Rattle.aud_meaning.specs.Configuration.{Frame, Target, Returning, Purpose, for_body, for_block, for_loop, for_procedure, for_operation, for_entry, for_accept, Opened, Waits, Own, Call, Object, Shared, TaskAt, All, Acting}
 use Rattle.aud_meaning.specs.Evaluation.{Sight, Passed}
 use Rattle.aud_meaning.specs.Effects.{pends, innermost, closed, out_of_loops, live_frames, has_room, CopiedBack, copied_back}
 use Rattle.aud_meaning.specs.Effects as effects
@@ -30,23 +30,38 @@ use Rattle.aud_meaning.specs.Parts.{Outcome, succeeds, fails, Waiting, acts_on, 
 use Rattle.aud_meaning.specs.Tasks as effect
 use Rattle.aud_meaning.specs.Step as step
 use Rattle.aud_meaning.specs.Why.Limits.{one_if, reserved, GoesBack, AllGoBack, Fits, AllFit, IsWithin}
+use Rattle.aud_meaning.proofs.Limits.Cells.{IsKept, KeepsCells, copied, declared, opened, resulted}
 use Rattle.aud_meaning.proofs.Limits.Frames.{FitsBeside, Got, Rising, Unbegun, appended_fit, begun_there, beside, changed_fit, closed_fits, either_fits, elsewhere, first_fits, got, length_changed, nth, nth_fits, opened_there, out_of_loops_fits, runs_fit, unbegun_there}
 
-module _ {C : Type 0} (limits : Limits) where
+-- in a frame that is open
+pub declared_within : {C : Type 0} (cells : List ℤ) (t : Acting C) → FitsBeside t → FitsBeside (effects.declares cells t)
+declared_within cells t h = (first_fits (λ o. record o { elaborated = suc o.elaborated }) (λ o. refl) (reserved t.own.status) t.own.opened h.0, h.1, h.2)
+
+module _ {C : Type 0} (limits : Limits) (start : All C) where
   abbrev Within : All C → Type 0
-  Within c = IsWithin C limits c
+  Within c = IsKept C limits start c
+
+  -- the limits were kept at the step's start
+  abbrev AtStart : Type 0
+  AtStart = IsWithin C limits start
+
+  abbrev Cells : List Frame → Type 0
+  Cells frames = KeepsCells ELEMENTS start.shared.frames frames
 
   pub either : (b : Bool) (x y : All C) → Within x → Within y → Within (if b then x else y)
   either true x y h i = h
   either false x y h i = i
 
-  on_task_within : (n : ℕ) (f : TaskAt C → TaskAt C) (c : All C) → ((t : TaskAt C) → Fits t.own → Fits (f t).own) → Within c → Within (on_task n f c)
-  on_task_within n f c g w = record {
-    tasks = omega (arith, length_changed n f c.tasks, w.tasks);
-    objects = w.objects;
-    output = w.output;
-    frames = changed_fit n f c.tasks (λ t e h. g t h) w.frames;
+  on_task_given : (n : ℕ) (f : TaskAt C → TaskAt C) (c : All C) → (AtStart → (t : TaskAt C) → Fits t.own → Fits (f t).own) → Within c → Within (on_task n f c)
+  on_task_given n f c g w = record {
+    within = λ i.
+        let v : IsWithin C limits c = w.within i in
+        record { tasks = omega (arith, length_changed n f c.tasks, v.tasks); objects = v.objects; output = v.output; frames = changed_fit n f c.tasks (λ t e h. g i t h) v.frames };
+    cells = w.cells;
   }
+
+  on_task_within : (n : ℕ) (f : TaskAt C → TaskAt C) (c : All C) → ((t : TaskAt C) → Fits t.own → Fits (f t).own) → Within c → Within (on_task n f c)
+  on_task_within n f c g w = on_task_given n f c (λ i. g) w
 
   pub on_own_within : (n : ℕ) (f : Own → Own) (c : All C) → ((own : Own) → Fits own → Fits (f own)) → Within c → Within (on_own n f c)
   on_own_within n f c g w = on_task_within n (λ t. record t { own = f t.own }) c (λ t h. g t.own h) w
@@ -54,29 +69,37 @@ module _ {C : Type 0} (limits : Limits) where
   pub on_control_within : (n : ℕ) (f : C → C) (c : All C) → Within c → Within (on_control n f c)
   on_control_within n f c w = on_task_within n (λ t. record t { control = f t.control }) c (λ t h. h) w
 
+  shared_within : (s : Shared) (c : All C) → length s.objects ≡ length c.shared.objects → s.output ≡ c.shared.output → Cells s.frames → Within c → Within (record c { shared = s })
+  shared_within s c objects output cells w = record {
+    within = λ i.
+        let v : IsWithin C limits c = w.within i in
+        record { tasks = v.tasks; objects = omega (arith, objects, v.objects); output = omega (arith, ap length output, v.output); frames = v.frames };
+    cells = cells;
+  }
+
   on_call_within : (id : ℕ) (f : Call → Call) (c : All C) → Within c → Within (on_call id f c)
-  on_call_within id f c w = record { tasks = w.tasks; objects = w.objects; output = w.output; frames = w.frames }
+  on_call_within id f c w = shared_within _ c refl refl w.cells w
 
   on_object_within : (object : ℕ) (f : Object → Object) (c : All C) → Within c → Within (on_object object f c)
-  on_object_within object f c w = record { tasks = w.tasks; objects = omega (arith, length_changed object f c.shared.objects, w.objects); output = w.output; frames = w.frames }
+  on_object_within object f c w = shared_within _ c (length_changed object f c.shared.objects) refl w.cells w
 
-  with_frames_within : (frames : List Frame) (c : All C) → Within c → Within (with_frames frames c)
-  with_frames_within frames c w = record { tasks = w.tasks; objects = w.objects; output = w.output; frames = w.frames }
+  with_frames_within : (frames : List Frame) (c : All C) → Cells frames → Within c → Within (with_frames frames c)
+  with_frames_within frames c k w = shared_within _ c refl refl k w
 
   arrives_within : (id : ℕ) (c : All C) → Within c → Within (arrives id c)
-  arrives_within id c w = record { tasks = w.tasks; objects = w.objects; output = w.output; frames = w.frames }
+  arrives_within id c w = shared_within _ c refl refl w.cells w
 
   new_call_within : (call : Call) (c : All C) → Within c → Within (new_call call c)
-  new_call_within call c w = record { tasks = w.tasks; objects = w.objects; output = w.output; frames = w.frames }
+  new_call_within call c w = shared_within _ c refl refl w.cells w
 
   cancels_within : (id : ℕ) (c : All C) → Within c → Within (cancels id c)
-  cancels_within id c w = record { tasks = w.tasks; objects = w.objects; output = w.output; frames = w.frames }
+  cancels_within id c w = shared_within _ c refl refl w.cells w
 
   pub raised_at_within : (raise : Raise) (at : Pos) (n : ℕ) (c : All C) → Within c → Within (raised_at raise at n c)
   raised_at_within raise at n c w = on_own_within n (pends (Predefined raise) at) c (λ own h. h) w
 
   begin_action_within : (task object : ℕ) (reading : Bool) (c : All C) → Within c → Within (begin_action task object reading c)
-  begin_action_within task object reading c w = record { tasks = w.tasks; objects = omega (arith, length_changed object (λ (o : Object). record o { actions = o.actions ++ record { task = task; reading = reading } ∷ [] }) c.shared.objects, w.objects); output = w.output; frames = w.frames }
+  begin_action_within task object reading c w = on_object_within object (λ o. record o { actions = o.actions ++ record { task = task; reading = reading } ∷ [] }) c w
 
   end_action_within : (task object : ℕ) (c : All C) → Within c → Within (end_action task object c)
   end_action_within task object c w =
@@ -91,19 +114,24 @@ module _ {C : Type 0} (limits : Limits) where
       let e : reserved status ≡ 0 = ap one_if begun in
       on_own_within n (blocks status at waits) c (λ own h. (omega (arith, e, h.0), h.1)) w
 
-  pub alone_within : (f : Acting C → Acting C) (n : ℕ) (c : All C) → ((t : TaskAt C) → t.own ≡ own_of n c → FitsBeside (beside t c.shared) → FitsBeside (f (beside t c.shared))) → Within c → Within (alone f n c)
-  alone_within f n c g w = by (slice_get c.tasks n) (got n c.tasks w.frames)
+  pub alone_within : (f : Acting C → Acting C) (n : ℕ) (c : All C) → (AtStart → (t : TaskAt C) → t.own ≡ own_of n c → FitsBeside (beside t c.shared) → FitsBeside (f (beside t c.shared))) → ((t : TaskAt C) → Cells (f (beside t c.shared)).shared.frames) → Within c → Within (alone f n c)
+  alone_within f n c g cells w = by (slice_get c.tasks n) (λ i. got n c.tasks (w.within i).frames)
     where
-      by : (o : Option (TaskAt C)) → Got o (own_of n c) → Within (alone_by f o n c)
+      by : (o : Option (TaskAt C)) → (AtStart → Got o (own_of n c)) → Within (alone_by f o n c)
       by None h = w
       by (Some t) h =
           let u : Acting C = f (beside t c.shared) in
-          let k : FitsBeside u = g t h.0 (h.1, w.objects, w.output) in
           record {
-            tasks = omega (arith, length_changed n (λ (old : TaskAt C). record { control = u.control; own = u.own }) c.tasks, w.tasks);
-            objects = k.1;
-            output = k.2;
-            frames = changed_fit n (λ (old : TaskAt C). record { control = u.control; own = u.own }) c.tasks (λ old e i. k.0) w.frames;
+            within = λ i.
+                let v : IsWithin C limits c = w.within i in
+                let k : FitsBeside u = g i t (h i).0 ((h i).1, v.objects, v.output) in
+                record {
+                  tasks = omega (arith, length_changed n (λ (old : TaskAt C). record { control = u.control; own = u.own }) c.tasks, v.tasks);
+                  objects = k.1;
+                  output = k.2;
+                  frames = changed_fit n (λ (old : TaskAt C). record { control = u.control; own = u.own }) c.tasks (λ old e j. k.0) v.frames;
+                };
+            cells = cells t;
           }
 
   alone_elsewhere : (f : Acting C → Acting C) (n m : ℕ) (c : All C) → suc n ≤ m → own_of m (alone f n c) ≡ own_of m c
@@ -129,7 +157,7 @@ module _ {C : Type 0} (limits : Limits) where
     end_call_by_within (fails x) id call c w = fails_within id call x c w
     end_call_by_within (succeeds values) id call c w =
         let back : CopiedBack = copied_back values call.backs c.shared.frames in
-        ended_within back.raised id call (with_frames back.frames c) (with_frames_within back.frames c w)
+        ended_within back.raised id call (with_frames back.frames c) (with_frames_within back.frames c (copied values call.backs w.cells) w)
 
     end_call_within : (o : Outcome) (id : ℕ) (c : All C) → Within c → Within (effect.end_call go plan barrier o id c)
     end_call_within o id c w = end_call_by_within o id (call_of id c) c w
@@ -168,10 +196,6 @@ module _ {C : Type 0} (limits : Limits) where
     created_length creator ts i zero = refl
     created_length creator ts i (suc n) = ap suc (created_length creator ts (suc i) n)
 
-    -- in a frame that is open
-    pub declared_within : (cells : List ℤ) (t : Acting C) → FitsBeside t → FitsBeside (effects.declares cells t)
-    declared_within cells t h = (first_fits (λ o. record o { elaborated = suc o.elaborated }) (λ o. refl) (reserved t.own.status) t.own.opened h.0, h.1, h.2)
-
     abbrev with_created : Tasks → ℕ → All C → All C
     with_created ts n c = record c { tasks = c.tasks ++ effect.all_created go plan barrier (own_of n c) ts 0 ts.length }
 
@@ -179,24 +203,35 @@ module _ {C : Type 0} (limits : Limits) where
     with_created_within ts n c room w =
         let new : List (TaskAt C) = effect.all_created go plan barrier (own_of n c) ts 0 ts.length in
         record {
-          tasks = omega (arith, length-append c.tasks new, created_length (own_of n c) ts 0 ts.length, room);
-          objects = w.objects;
-          output = w.output;
-          frames = appended_fit c.tasks new w.frames (created_fit (own_of n c) ts 0 ts.length);
+          within = λ i.
+              let v : IsWithin C limits c = w.within i in
+              record {
+                tasks = omega (arith, length-append c.tasks new, created_length (own_of n c) ts 0 ts.length, room);
+                objects = v.objects;
+                output = v.output;
+                frames = appended_fit c.tasks new v.frames (created_fit (own_of n c) ts 0 ts.length);
+              };
+          cells = w.cells;
         }
 
-    pub declares_tasks_within : (at : Pos) (ts : Tasks) (n : ℕ) (c : All C) → Within c → Within (effect.declares_tasks go plan barrier limits at ts n c)
-    declares_tasks_within at ts n c w =
+    counted_length : (first n : ℕ) → length (effect.counted_from go plan barrier first n) ≡ n
+    counted_length first zero = refl
+    counted_length first (suc n) = ap suc (counted_length (suc first) n)
+
+    -- where no frame has more cells yet
+    pub declares_tasks_within : (at : Pos) (ts : Tasks) (n : ℕ) (c : All C) → KeepsCells 0 start.shared.frames c.shared.frames → Within c → Within (effect.declares_tasks go plan barrier limits at ts n c)
+    declares_tasks_within at ts n c same w =
         either (not (nat_eq ts.length 0) && in_action n c) _ _ (raises_in_part_within Program at n c w)
-        (by (effect.counted_from go plan barrier (length c.tasks) ts.length) (nat_le ts.length ELEMENTS) (nat_le (length c.tasks + ts.length) limits.tasks) refl)
+        (by (effect.counted_from go plan barrier (length c.tasks) ts.length) (counted_length (length c.tasks) ts.length) (nat_le ts.length ELEMENTS) refl (nat_le (length c.tasks + ts.length) limits.tasks) refl)
       where
-        by : (cells : List ℤ) (b e : Bool) → nat_le (length c.tasks + ts.length) limits.tasks ≡ e → Within (if b && e then on_control n (go.takes 0) (alone (λ t. effects.declares cells t) n (with_created ts n c)) else effect.raises_in_part go plan barrier Storage at n c)
-        by cells true true room =
+        by : (cells : List ℤ) → length cells ≡ ts.length → (b : Bool) → nat_le ts.length ELEMENTS ≡ b → (e : Bool) → nat_le (length c.tasks + ts.length) limits.tasks ≡ e → Within (if b && e then on_control n (go.takes 0) (alone (λ t. effects.declares cells t) n (with_created ts n c)) else effect.raises_in_part go plan barrier Storage at n c)
+        by cells long true few true room =
             on_control_within n (go.takes 0) (alone (λ t. effects.declares cells t) n (with_created ts n c))
-            (alone_within (λ t. effects.declares cells t) n (with_created ts n c) (λ t e h. declared_within cells (beside t c.shared) h)
+            (alone_within (λ t. effects.declares cells t) n (with_created ts n c) (λ i t e h. declared_within cells (beside t c.shared) h)
+            (λ t. declared (innermost t.own.opened) cells (omega (arith, long, leb-true ts.length ELEMENTS few)) same)
             (with_created_within ts n c (leb-true (length c.tasks + ts.length) limits.tasks room) w))
-        by cells true false room = raises_in_part_within Storage at n c w
-        by cells false e room = raises_in_part_within Storage at n c w
+        by cells long true few false room = raises_in_part_within Storage at n c w
+        by cells long false few e room = raises_in_part_within Storage at n c w
 
     abbrev begun : ℕ → TaskAt C → TaskAt C
     begun activator t = record t { own = record t.own { status = Running; activator = Some activator } }
@@ -206,12 +241,13 @@ module _ {C : Type 0} (limits : Limits) where
         let own : Own = own_of n c in
         let d : All C = on_task n (begun activator) c in
         let was : reserved own.status ≡ 1 = ap one_if created in
-        let fits : Fits own = nth_fits n c.tasks w.frames in
         alone_within (λ t. effects.opens for_body (unit_of plan own.unit).region (unit_of plan own.unit).at own.display (pos n ∷ []) (length (pos n ∷ [])) t) n d
-        (λ t is h.
+        (λ i t is h.
+        let fits : Fits own = nth_fits n c.tasks (w.within i).frames in
         let status : reserved t.own.status ≡ 0 = ap (λ (o : Own). reserved o.status) is ∙ ap one_if (begun_there n (begun activator) c.tasks (λ u. refl)) in
         let live : live_frames t.own.opened ≡ live_frames own.opened = ap (λ (o : Own). live_frames o.opened) is ∙ ap live_frames (opened_there n (begun activator) c.tasks (λ u. refl)) in
         ((omega (arith, status, live, was, fits.0), (tt, h.0.1)), h.1, h.2))
+        (λ t. opened (pos n ∷ []) w.cells)
         (on_task_within n (begun activator) c (λ t h. (omega (arith, h.0), h.1)) w)
 
     begins_elsewhere : (activator n m : ℕ) (c : All C) → suc n ≤ m → own_of m (effect.begins go plan barrier activator n c) ≡ own_of m c
@@ -271,15 +307,18 @@ module _ {C : Type 0} (limits : Limits) where
 
     -- Procedures.
 
-    given_back_within : (back : CopiedBack) (at : Pos) (n : ℕ) (c : All C) → Within c → Within (effect.given_back go plan barrier back at n c)
-    given_back_within back at n c w = by back.raised
+    given_back_within : (back : CopiedBack) (at : Pos) (n : ℕ) (c : All C) → Cells back.frames → Within c → Within (effect.given_back go plan barrier back at n c)
+    given_back_within back at n c k w = by back.raised
       where
         by : (r : Option Raise) → Within (effect.given_back go plan barrier (record back { raised = r }) at n c)
-        by None = on_control_within n (go.takes 0) (with_frames back.frames c) (with_frames_within back.frames c w)
-        by (Some raise) = raised_at_within raise at n (with_frames back.frames c) (with_frames_within back.frames c w)
+        by None = on_control_within n (go.takes 0) (with_frames back.frames c) (with_frames_within back.frames c k w)
+        by (Some raise) = raised_at_within raise at n (with_frames back.frames c) (with_frames_within back.frames c k w)
 
     returned_within : (r : Returning) (frame : ℕ) (at : Pos) (n : ℕ) (c : All C) → Within c → Within (effect.returned go plan barrier r frame at n c)
-    returned_within r frame at n c w = either (r.is_function && is_none r.value) _ _ (raised_at_within Program at n c w) (given_back_within _ at n c w)
+    returned_within r frame at n c w =
+        let back : CopiedBack = copied_back (slice_index_or c.shared.frames frame []) r.backs c.shared.frames in
+        either (r.is_function && is_none r.value) _ _ (raised_at_within Program at n c w)
+        (given_back_within _ at n c (resulted r back.raised back (copied (slice_index_or c.shared.frames frame []) r.backs w.cells)) w)
 
     returned_or_within : (p : Option Pending) (r : Returning) (frame : ℕ) (at : Pos) (n : ℕ) (c : All C) → Within c → Within (effect.returned_or go plan barrier p r frame at n c)
     returned_or_within None r frame at n c w = returned_within r frame at n c w
@@ -314,7 +353,7 @@ module _ {C : Type 0} (limits : Limits) where
     rendezvous_by_within (Some region) a id n c w =
         let f : TaskAt C → TaskAt C = (λ t. record { control = go.accepts a.alternative t.control; own = runs t.own }) in
         alone_within (λ t. effects.opens (for_accept id) region a.at t.own.display (call_of id c).values (length (call_of id c).values) t) n (on_task n f c)
-        (λ t is h. ((h.0.0, (tt, h.0.1)), h.1, h.2)) (on_task_within n f c (λ t h. runs_fit t.own h) w)
+        (λ i t is h. ((h.0.0, (tt, h.0.1)), h.1, h.2)) (λ t. opened (call_of id c).values w.cells) (on_task_within n f c (λ t h. runs_fit t.own h) w)
 
     rendezvous_within : (a : OpenAccept) (id n : ℕ) (c : All C) → Within c → Within (effect.rendezvous go plan barrier a id n c)
     rendezvous_within a id n c w =
@@ -382,7 +421,7 @@ module _ {C : Type 0} (limits : Limits) where
         let f : TaskAt C → TaskAt C = (λ t. record { control = go.enters unit t.control; own = record t.own { status = Running; pending = None; serving = None } }) in
         let g : Acting C → Acting C = (λ t. effects.opens (for_entry object id served back) (unit_of plan unit).region at (object_of object c).display call.values (length call.values) t) in
         on_call_within id (λ a. record a { state = Selected }) (alone g n (on_task n f c))
-        (alone_within g n (on_task n f c) (λ t is h. ((h.0.0, (here, h.0.1)), h.1, h.2)) (on_task_within n f c (λ t h. (omega (arith, h.0), h.1)) w))
+        (alone_within g n (on_task n f c) (λ i t is h. ((h.0.0, (here, h.0.1)), h.1, h.2)) (λ t. opened call.values w.cells) (on_task_within n f c (λ t h. (omega (arith, h.0), h.1)) w))
 
     barrier_met_within : (r : Result Bool Raise) (at : Pos) (object id n : ℕ) (c : All C) → is_created (own_of n c).status ≡ false → Within c → Within (effect.barrier_met go plan barrier r at object id n c)
     barrier_met_within (Err raise) at object id n c here w =
@@ -425,11 +464,12 @@ module _ {C : Type 0} (limits : Limits) where
         (λ e.
         begin_action_within n object u.is_function (alone g n (on_task n f c))
         (alone_within g n (on_task n f c)
-        (λ t is h.
+        (λ i t is h.
         let room : suc (live_frames own.opened) ≤ FRAMES = leb-true (suc (live_frames own.opened)) FRAMES e in
         let status : reserved t.own.status ≡ 0 = ap (λ (o : Own). reserved o.status) is ∙ ap one_if (same_begun n f c.tasks here) in
         let live : live_frames t.own.opened ≡ live_frames own.opened = ap (λ (o : Own). live_frames o.opened) is ∙ ap live_frames (opened_there n f c.tasks (λ v. refl)) in
         ((omega (arith, room, status, live), (tt, h.0.1)), h.1, h.2))
+        (λ t. opened p.values w.cells)
         (on_control_within n (go.enters unit) c w)))
         (raised_at_within Storage at n c w))
       where
@@ -444,13 +484,12 @@ module _ {C : Type 0} (limits : Limits) where
         let v : Within d = returned_or_within p r o.frame o.at n (on_own n closed c) (closed_within n c w) in
         either r.is_function _ _ (end_action_within n object d v) (serviced_within object o.at n d v)
 
-    at_entry_end_within : (p : Option Pending) (object id : ℕ) (back : Resumed) (o : Opened) (n : ℕ) (c : All C) → is_created back.status ≡ false → Within c → Within (effect.at_entry_end go plan barrier p object id back o n c)
+    at_entry_end_within : (p : Option Pending) (object id : ℕ) (back : Resumed) (o : Opened) (n : ℕ) (c : All C) → (AtStart → is_created back.status ≡ false) → Within c → Within (effect.at_entry_end go plan barrier p object id back o n c)
     at_entry_end_within p object id back o n c before w =
-        let e : reserved back.status ≡ 0 = ap one_if before in
         let f : Own → Own = (λ own. record (closed own) { status = back.status; pending = back.pending }) in
         let outcome : Outcome = effect.entry_outcome go plan barrier p (effect.formals_now go plan barrier o.frame (length (call_of id c).values) c) in
         serviced_within object o.at n (effect.end_call go plan barrier outcome id (on_own n f c))
-        (end_call_within outcome id (on_own n f c) (on_own_within n f c (λ own h. (omega (arith, e, (closed_fits own h).0), (closed_fits own h).1)) w))
+        (end_call_within outcome id (on_own n f c) (on_task_given n (λ t. record t { own = f t.own }) c (λ i t h. (omega (arith, ap one_if (before i), (closed_fits t.own h).0), (closed_fits t.own h).1)) w))
 
     serves_oldest_within : (ws : List Waiting) (s : Serving) (n : ℕ) (c : All C) → is_created (own_of n c).status ≡ false → Within c → Within (effect.serves_oldest go plan barrier ws s n c)
     serves_oldest_within [] s n c here w = w
@@ -513,7 +552,7 @@ module _ {C : Type 0} (limits : Limits) where
 
     -- Leaving.
 
-    at_end_by_within : (purpose : Purpose) (p : Option Pending) (o : Opened) (n : ℕ) (c : All C) → GoesBack purpose → Within c → Within (effect.at_end_by go plan barrier purpose p o n c)
+    at_end_by_within : (purpose : Purpose) (p : Option Pending) (o : Opened) (n : ℕ) (c : All C) → (AtStart → GoesBack purpose) → Within c → Within (effect.at_end_by go plan barrier purpose p o n c)
     at_end_by_within for_body p o n c back w = completes_within (exception_of p) n c w
     at_end_by_within for_block p o n c back w = at_block_end_within p o n (on_own n out_of_loops c) (on_own_within n out_of_loops c (λ own h. out_of_loops_fits own h) w)
     at_end_by_within for_loop p o n c back w = w
@@ -522,12 +561,12 @@ module _ {C : Type 0} (limits : Limits) where
     at_end_by_within (for_entry object id served resumed) p o n c back w = at_entry_end_within p object id resumed o n (on_own n out_of_loops c) back (on_own_within n out_of_loops c (λ own h. out_of_loops_fits own h) w)
     at_end_by_within (for_accept id) p o n c back w = at_accept_end_within p id o n (on_own n out_of_loops c) (on_own_within n out_of_loops c (λ own h. out_of_loops_fits own h) w)
 
-    at_end_of_within : (os : List Opened) (p : Option Pending) (n : ℕ) (c : All C) → AllGoBack os → Within c → Within (effect.at_end_of go plan barrier os p n c)
+    at_end_of_within : (os : List Opened) (p : Option Pending) (n : ℕ) (c : All C) → (AtStart → AllGoBack os) → Within c → Within (effect.at_end_of go plan barrier os p n c)
     at_end_of_within [] p n c back w = w
-    at_end_of_within (o ∷ os) p n c back w = at_end_by_within o.purpose p o n c back.0 w
+    at_end_of_within (o ∷ os) p n c back w = at_end_by_within o.purpose p o n c (λ i. (back i).0) w
 
     at_end_within : (p : Option Pending) (n : ℕ) (c : All C) → Within c → Within (effect.at_end go plan barrier p n c)
-    at_end_within p n c w = at_end_of_within (out_of_loops (own_of n c)).opened p n c (out_of_loops_fits (own_of n c) (nth_fits n c.tasks w.frames)).1 w
+    at_end_within p n c w = at_end_of_within (out_of_loops (own_of n c)).opened p n c (λ i. (out_of_loops_fits (own_of n c) (nth_fits n c.tasks (w.within i).frames)).1) w
 
     pub leaves_within : (p : Option Pending) (to : C → C) (n : ℕ) (c : All C) → Within c → Within (step.leaves go plan barrier p to n c)
     leaves_within p to n c w =

@@ -1,7 +1,7 @@
 -- A program keeps the limits of its machine, whichever moves are taken.
-use Rattle.std.specs.Prelude.{◌≡◌, ℕ, suc, ◌+◌, ◌≤◌, List, [], ◌∷◌, length, Bool, true, false}
+use Rattle.std.specs.Prelude.{◌≡◌, ℕ, suc, ◌+◌, ◌<◌, ◌≤◌, List, [], ◌∷◌, length, Bool, true, false, slice_index_or}
 use Rattle.aud_text.specs.declared.limits.Limits.{Limits}
-use Rattle.aud_text.specs.declared.limits.TheConstants.{OBJECTS, OUTPUT, FRAMES}
+use Rattle.aud_text.specs.declared.limits.TheConstants.{OBJECTS, OUTPUT, FRAMES, ELEMENTS}
 use Rattle.aud_typed.specs.Tree.{Plan}
 use Rattle.aud_meaning.specs.declared.state.Status.{Status}
 use Rattle.aud_meaning.specs.declared.state.Move.{Move}
@@ -57,6 +57,8 @@ pub record KeepsLimits (C : Type 0) (plan : Plan) (k : Controls C) (limits : Lim
   pub wait : (milliseconds : ℕ) (c : All C) → IsWithin C limits c → IsWithin C limits (advanced milliseconds c)
   -- the live frames of a task, by its number
   pub live : (c : All C) → IsWithin C limits c → (n : ℕ) → live_frames (own_of n c).opened ≤ FRAMES
+  -- no step gives a frame that there is more cells than an array may have elements
+  pub elements : (c : All C) (m : Move) (frame : ℕ) → frame < length c.shared.frames → length (slice_index_or (step_with plan k limits c m).shared.frames frame []) ≤ length (slice_index_or c.shared.frames frame []) + ELEMENTS
   pub counted : (c : All C) (m : Move) → (step_with plan k limits c m).steps ≤ suc c.steps
 
 abbrev pub LimitsLaw : (C : Type 0) → Type 0
