@@ -4,7 +4,8 @@ use Rattle.std.specs.Prelude.{◌⊎◌, not, nat_eq}
 use Rattle.std.proofs.lemmas.Bool.{eqb-true, eq-eqb}
 use Rattle.aud_meaning.specs.Configuration.{Frame, Purpose, for_body, for_block, for_loop, for_procedure, for_operation, for_entry, for_accept, Opened, Own, Call, Object, TaskAt, All}
 use Rattle.aud_meaning.specs.Parts.{contains, any, no_call, owns}
-use Rattle.aud_over.specs.Over.{with_kept, is_call_over, opened_name, own_names, object_names, is_named, is_for, own_serves, is_served, frame_if, frames_left, call_if, calls_left, forgotten}
+use Rattle.aud_over.specs.Over.{with_kept, is_call_over, own_names, object_names, is_named, is_for, own_serves, is_served, frame_if, frames_left, call_if, calls_left, forgotten}
+use Rattle.aud_meaning.specs.Ties.Named.{opened_name}
 use Rattle.aud_over.proofs.Frames.{Agree, agree_fewer}
 use Rattle.aud_over.proofs.Calls.{SameCall, SameCalls, EachOf, true_is_not_false}
 use Rattle.aud_over.proofs.Beside.{Kept, KeepsPurpose, NamesAll, Names, TasksName, ObjectsName, MayHave, Beside}

@@ -5,7 +5,8 @@ use Rattle.std.proofs.Math.Path.{fun_ext}
 use Rattle.std.proofs.lemmas.Bool.{eqb-true, eq-eqb}
 use Rattle.aud_meaning.specs.Configuration.{Opened, Own, Object, All}
 use Rattle.aud_meaning.specs.Parts.{any, contains, nobody, no_object, owns}
-use Rattle.aud_over.specs.Over.{opened_name, own_names, object_names, is_named, is_served, frames_left, calls_left, with_kept, forgotten}
+use Rattle.aud_over.specs.Over.{own_names, object_names, is_named, is_served, frames_left, calls_left, with_kept, forgotten}
+use Rattle.aud_meaning.specs.Ties.Named.{opened_name}
 use Rattle.aud_over.specs.Standing.{AreStacked, around, at, Bone, bones, IsFrame, IsHeld, MaySee, EachIs, Sees, StandsBut, Stands, opens_it, is_open, with_open}
 use Rattle.aud_over.proofs.Bones.{or_any}
 use Rattle.aud_over.proofs.Calls.{true_is_not_false}

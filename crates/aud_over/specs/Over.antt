@@ -4,14 +4,11 @@ use Rattle.aud_meaning.specs.declared.state.CallState.{CallState}
 use Rattle.aud_meaning.specs.declared.state.CallState.TheVariants.{Queued, Selected, Done, Cancelled}
 use Rattle.aud_meaning.specs.Configuration.{Frame, Purpose, for_entry, for_accept, Opened, Own, Call, Object, All}
 use Rattle.aud_meaning.specs.Parts.{contains, any, owns, no_call}
+use Rattle.aud_meaning.specs.Ties.Named.{opened_name}
 
 -- Frames.
 
--- an open frame is this one, or it was seen before an open frame was opened
-abbrev pub opened_name : ℕ → List Opened → Bool
-opened_name f [] = false
-opened_name f (o ∷ os) = nat_eq f o.frame || (contains f o.saved || opened_name f os)
-
+-- a task sees it, or an open frame is this one or was opened where it was seen
 abbrev pub own_names : ℕ → Own → Bool
 own_names f own = contains f own.display || opened_name f own.opened
 

@@ -1,61 +1,121 @@
 -- What is given back is over.
-use Rattle.std.proofs.Common.{◌≡◌, ◌+◌, ℕ, zero, suc, List, [], ◌∷◌, ◌++◌, length, slice_index_or, Bool, true, false, refl, ap, sym, ◌∙◌, inl}
-use Rattle.std.specs.Prelude.{◌||◌, nat_eq}
-use Rattle.aud_meaning.specs.Configuration.{Frame, Call, Own, Object, TaskAt, All}
-use Rattle.aud_meaning.specs.Parts.{any, contains, depends, no_call, owns, with_frames}
+use Rattle.std.proofs.Common.{◌≡◌, ◌+◌, ◌<◌, ℕ, zero, suc, ℤ, List, [], ◌∷◌, ◌++◌, length, drop, map, get_or, slice_index_or, Bool, true, false, if◌then◌else◌, refl, ap, sym, ◌∙◌, inl, inr, arith}
+use Rattle.std.proofs.lemmas.Bool.{or_cases, or_left, or_right}
+use Rattle.std.proofs.lemmas.List.{at_drop_all, at_drop_more}
+use Rattle.std.specs.Prelude.{◌||◌, ◌&&◌, nat_eq}
+use Rattle.aud_meaning.specs.Configuration.{Frame, Object, Own, TaskAt, All}
+use Rattle.aud_meaning.specs.Parts.{any, contains, depends, no_call, owns}
 use Rattle.aud_code.specs.Places.{Spot}
+use Rattle.aud_store.specs.Ties.Frames.{named_from, only_named}
 use Rattle.aud_over.specs.Law.{LikeCalls, LikeFrames}
-use Rattle.aud_over.specs.Over.{forgotten, frame_if, frames_left, is_named, is_served, object_names, own_names}
+use Rattle.aud_over.specs.Over.{forgotten, is_named, is_served, object_names, own_names, with_kept}
 use Rattle.aud_over.proofs.Like.{kept_left}
-use Rattle.aud_state.specs.Held.{given_back, is_kept, keeps}
+use Rattle.aud_state.specs.Held.{is_held, keeps}
 
--- Lists.
+-- Numbers that come after others.
 
-pub contains_append : (f : ℕ) (xs ys : List ℕ) → contains f (xs ++ ys) ≡ (contains f xs || contains f ys)
-contains_append f [] ys = refl
-contains_append f (x ∷ xs) ys = ap (λ b. nat_eq f x || b) (contains_append f xs ys) ∙ sym (or_assoc (nat_eq f x) (contains f xs) (contains f ys))
+append_names : (f : ℕ) (xs ys : List ℕ) → contains f (xs ++ ys) ≡ (contains f xs || contains f ys)
+append_names f [] ys = refl
+append_names f (x ∷ xs) ys = ap (λ b. nat_eq f x || b) (append_names f xs ys) ∙ sym (joined (nat_eq f x) (contains f xs) (contains f ys))
   where
-    or_assoc : (a b c : Bool) → ((a || b) || c) ≡ (a || (b || c))
-    or_assoc true b c = refl
-    or_assoc false b c = refl
+    joined : (a b c : Bool) → ((a || b) || c) ≡ (a || (b || c))
+    joined true b c = refl
+    joined false b c = refl
+
+-- of one task
+pub kept_more : (f : ℕ) (old mid new masters : List ℕ) (names live : Bool) → ((contains f old || names) ≡ true → contains f mid ≡ true) → new ≡ (if live then mid ++ masters else mid) → (contains f old || (names || (live && contains f masters))) ≡ true → contains f new ≡ true
+kept_more f old mid new masters names live told is h =
+    ap (contains f) is ∙ behind live ∙ by (contains f old) names live (contains f masters) (contains f mid) told h
+  where
+    behind : (l : Bool) → contains f (if l then mid ++ masters else mid) ≡ (if l then (contains f mid || contains f masters) else contains f mid)
+    behind true = append_names f mid masters
+    behind false = refl
+
+    there : (l m d : Bool) → d ≡ true → (if l then (d || m) else d) ≡ true
+    there true m d e = or_left d m e
+    there false m d e = e
+
+    by : (a n l m d : Bool) → ((a || n) ≡ true → d ≡ true) → (a || (n || (l && m))) ≡ true → (if l then (d || m) else d) ≡ true
+    by true n l m d t g = there l m d (t refl)
+    by false true l m d t g = there l m d (t refl)
+    by false false true m d t g = or_right d m g
+    by false false false m d t g = absurd (cc (g))
+
+-- of one more in a list
+pub one_more : {A : Type 0} (p : A → Bool) (xs : List A) (i : ℕ) (x : A) (old new : Bool) → i < length xs → x ≡ get_or xs i x → ((old || p x) ≡ true → new ≡ true) → (old || any p (drop i xs)) ≡ true → (new || any p (drop (i + 1) xs)) ≡ true
+one_more p xs i x old new within is told h =
+    by old (p x) (any p (drop (i + 1) xs)) new told
+    (ap (λ b. old || (b || any p (drop (i + 1) xs))) (ap p is)
+    ∙ ap (λ b. old || b) (sym (at_drop_more (any p) xs i x within)) ∙ h)
+  where
+    by : (a k r n : Bool) → ((a || k) ≡ true → n ≡ true) → (a || (k || r)) ≡ true → (n || r) ≡ true
+    by true k r n t g = or_left n r (t refl)
+    by false true r n t g = or_left n r (t refl)
+    by false false r n t g = or_right n r g
+
+pub all_more : {A : Type 0} (p : A → Bool) (xs : List A) (i : ℕ) (old : Bool) → length xs ≡ i → (old || any p (drop i xs)) ≡ true → old ≡ true
+all_more p xs i old is h = by old (ap (λ b. old || b) (sym (at_drop_all (any p) xs i (omega (arith, is)))) ∙ h)
+  where
+    by : (b : Bool) → (b || false) ≡ true → b ≡ true
+    by true e = refl
+    by false e = e
 
 -- Frames that are left.
 
-left_length : (keep : ℕ → Bool) (n : ℕ) (fs : List Frame) → length (frames_left keep n fs) ≡ length fs
-left_length keep n [] = refl
-left_length keep n (f ∷ fs) = ap suc (left_length keep (suc n) fs)
+chosen : (b : Bool) (f : Frame) → b ≡ true → (if b then f else []) ≡ f
+chosen true f h = refl
+chosen false f h = absurd (cc (h))
 
-frame_there : (b : Bool) (f : Frame) → b ≡ true → frame_if b f ≡ f
-frame_there true f h = refl
-frame_there false f h = absurd (cc (h))
+named_length : (n : ℕ) (ks : List ℕ) (fs : List Frame) → length (named_from n ks fs) ≡ length fs
+named_length n ks [] = refl
+named_length n ks (f ∷ fs) = ap suc (named_length (suc n) ks fs)
 
-left_there : (keep : ℕ → Bool) (n f : ℕ) (fs : List Frame) → keep (f + n) ≡ true → slice_index_or (frames_left keep n fs) f [] ≡ slice_index_or fs f []
-left_there keep n f [] h = refl
-left_there keep n zero (x ∷ fs) h = frame_there (keep n) x h
-left_there keep n (suc f) (x ∷ fs) h = left_there keep (suc n) f fs (ap keep (plus_suc f n) ∙ h)
-  where
-    plus_suc : (a b : ℕ) → a + suc b ≡ suc (a + b)
-    plus_suc a b = omega
+named_there : (n f : ℕ) (ks : List ℕ) (fs : List Frame) → (nat_eq (n + f) 0 || contains (n + f) ks) ≡ true → slice_index_or (named_from n ks fs) f [] ≡ slice_index_or fs f []
+named_there n f ks [] h = refl
+named_there n zero ks (x ∷ fs) h = let z : n + 0 ≡ n = omega arith in chosen (nat_eq n 0 || contains n ks) x (sym (ap (λ k. nat_eq k 0 || contains k ks) z) ∙ h)
+named_there n (suc f) ks (x ∷ fs) h =
+    let z : suc n + f ≡ n + suc f = omega arith in named_there (suc n) f ks fs (ap (λ k. nat_eq k 0 || contains k ks) z ∙ h)
 
-pub left_same : (p q : ℕ → Bool) (n : ℕ) (fs : List Frame) → ((f : ℕ) → p f ≡ q f) → frames_left p n fs ≡ frames_left q n fs
-left_same p q n [] same = refl
-left_same p q n (f ∷ fs) same = ap (λ b. frame_if b f ∷ frames_left p (suc n) fs) (same n) ∙ ap (λ gs. frame_if (q n) f ∷ gs) (left_same p q (suc n) fs same)
+pub still_there : (f : ℕ) (ks : List ℕ) (fs : List Frame) → (nat_eq f 0 || contains f ks) ≡ true → slice_index_or (only_named ks fs) f [] ≡ slice_index_or fs f []
+still_there f ks fs h = let z : 0 + f ≡ f = omega arith in named_there 0 f ks fs (ap (λ k. nat_eq k 0 || contains k ks) z ∙ h)
 
--- What is kept.
+-- What tasks and objects name is kept.
 
-or_left : (a b : Bool) → a ≡ true → (a || b) ≡ true
-or_left true b h = refl
-or_left false b h = absurd (cc (h))
+tasks_keep : (f : ℕ) (ts : List (TaskAt Spot)) → any (own_names f) (owns ts) ≡ true → any (keeps f) ts ≡ true
+tasks_keep f [] h = h
+tasks_keep f (t ∷ ts) h = elim (or_cases (own_names f t.own) (any (own_names f) (owns ts)) h) [
+  | inl this ↦ or_left (keeps f t) (any (keeps f) ts) (or_left (own_names f t.own) (depends f t.own) this)
+  | inr more ↦ or_right (keeps f t) (any (keeps f) ts) (tasks_keep f ts more)
+]
 
-pub given_left : (c : All Spot) → forgotten (given_back c) ≡ forgotten c
-given_left c =
-    let named : ℕ → Bool = is_named (owns c.tasks) c.shared.objects in
-    let frames : LikeFrames named c.shared.frames (frames_left (is_kept c) 0 c.shared.frames) = record {
-      many = sym (left_length (is_kept c) 0 c.shared.frames);
-      same = λ f h. sym (left_there (is_kept c) 0 f c.shared.frames (or_left (named (f + 0)) _ (ap named (plus_zero f) ∙ h)));
-    } in
-    let calls : LikeCalls (is_served (owns c.tasks)) c.shared.calls c.shared.calls = record { many = refl; same = λ i. inl refl } in
-    sym (kept_left c (frames_left (is_kept c) 0 c.shared.frames) c.shared.calls frames calls)
-  where
-    plus_zero : (n : ℕ) → n + 0 ≡ n
-    plus_zero n = omega
+masters_keep : (f : ℕ) (ts : List (TaskAt Spot)) → any (λ (t : TaskAt Spot). depends f t.own) ts ≡ true → any (keeps f) ts ≡ true
+masters_keep f [] h = h
+masters_keep f (t ∷ ts) h = elim (or_cases (depends f t.own) (any (λ (u : TaskAt Spot). depends f u.own) ts) h) [
+  | inl this ↦ or_left (keeps f t) (any (keeps f) ts) (or_right (own_names f t.own) (depends f t.own) this)
+  | inr more ↦ or_right (keeps f t) (any (keeps f) ts) (masters_keep f ts more)
+]
+
+module _ (c : All Spot) (some all : List ℕ) (tasks : (f : ℕ) → any (keeps f) c.tasks ≡ true → contains f some ≡ true) (objects : (f : ℕ) → (contains f some || any (object_names f) c.shared.objects) ≡ true → contains f all ≡ true) where
+  kept_there : (f : ℕ) → any (keeps f) c.tasks ≡ true → contains f all ≡ true
+  kept_there f h = objects f (or_left (contains f some) (any (object_names f) c.shared.objects) (tasks f h))
+
+  named_kept : (f : ℕ) → is_named (owns c.tasks) c.shared.objects f ≡ true → (nat_eq f 0 || contains f all) ≡ true
+  named_kept f h = elim (or_cases (nat_eq f 0) (any (own_names f) (owns c.tasks) || any (object_names f) c.shared.objects) h) [
+    | inl first ↦ or_left (nat_eq f 0) (contains f all) first
+    | inr other ↦ or_right (nat_eq f 0) (contains f all) (elim (or_cases (any (own_names f) (owns c.tasks)) (any (object_names f) c.shared.objects) other) [
+      | inl own ↦ kept_there f (tasks_keep f c.tasks own)
+      | inr around ↦ objects f (or_right (contains f some) (any (object_names f) c.shared.objects) around)
+    ])
+  ]
+
+  pub given_left : forgotten (with_kept (only_named all c.shared.frames) c.shared.calls c) ≡ forgotten c
+  given_left =
+      let frames : LikeFrames (is_named (owns c.tasks) c.shared.objects) c.shared.frames (only_named all c.shared.frames) = record {
+        many = sym (named_length 0 all c.shared.frames);
+        same = λ f h. sym (still_there f all c.shared.frames (named_kept f h));
+      } in
+      let calls : LikeCalls (is_served (owns c.tasks)) c.shared.calls c.shared.calls = record { many = refl; same = λ i. inl refl } in
+      sym (kept_left c (only_named all c.shared.frames) c.shared.calls frames calls)
+
+  pub given_held : (f : ℕ) → is_held f c ≡ true → slice_index_or (only_named all c.shared.frames) f [] ≡ slice_index_or c.shared.frames f []
+  given_held f h = still_there f all c.shared.frames (or_right (nat_eq f 0) (contains f all) (kept_there f (masters_keep f c.tasks h)))

@@ -2,6 +2,7 @@ pub mod Beside
 pub mod Changed
 pub mod Creating
 pub mod Evaluating
+pub mod Giving
 pub mod Numbered
 pub mod Queued
 pub mod Reading

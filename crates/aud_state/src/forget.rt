@@ -1,9 +1,9 @@
 // Frames that are over are given back.
 
-ghost use Rattle.std.specs.Prelude.{◌≡◌, ◌||◌, ℕ, map, nat_eq, IfOk, OnOk, OnErr};
-ghost use Rattle.aud_meaning.specs.Parts.{any, contains};
+ghost use Rattle.std.specs.Prelude.{◌≡◌, ◌||◌, ℕ, [], true, map, slice_index_or, IfOk, OnOk, OnErr};
+ghost use Rattle.aud_meaning.specs.Parts.{any, contains, with_frames};
 ghost use Rattle.aud_over.specs.Over.{forgotten, object_names};
-ghost use Rattle.aud_state.specs.Held.{given_back, keeps};
+ghost use Rattle.aud_state.specs.Held.{is_held, keeps};
 ghost use Rattle.aud_state.specs.View.{plain_object, plain_task};
 
 use crate::object::Object;
@@ -25,21 +25,27 @@ impl State {
     ///
     /// Where memory is refused. Nothing has changed then.
     pub fn forget(&mut self, alloc: Global) -> Result<(), AllocError>
-        ensures exact { OnOk result (self.new ≡ given_back self.old) }
         ensures left { OnOk result (forgotten self.new ≡ forgotten self.old) }
+        ensures others { self.new ≡ with_frames self.new.shared.frames self.old }
+        ensures held { (frame : ℕ) → is_held frame self.old ≡ true →
+            slice_index_or self.new.shared.frames frame [] ≡
+            slice_index_or self.old.shared.frames frame [] }
         ensures refused { OnErr result (self.new ≡ self.old) }
     {
-        let kept = kept_among(alloc, &self.tasks, &self.objects)?;
-        self.progress.forget(&kept);
+        let mut kept = kept_by_tasks(alloc, &self.tasks)?;
+        put_around(&self.objects, &mut kept)?;
+        self.progress.forget(&mut kept);
         Ok(())
     }
 }
 
 impl Task {
-    // Puts behind others the numbers of the frames that it names, and unless it is terminated those of the masters on which it depends.
+    // Puts the frames that it keeps after others: those that it names, and unless it is terminated those of the masters on which it
+    // depends.
     fn put_kept(&self, kept: &mut Vec<usize>) -> Result<(), AllocError>
-        ensures { OnOk result ((frame : ℕ) → contains frame kept.new.items ≡
-            (contains frame kept.old.items || keeps frame (plain_task self.now))) }
+        ensures { OnOk result ((frame : ℕ) →
+            (contains frame kept.old.items || keeps frame (plain_task self.now)) ≡ true →
+            contains frame kept.new.items ≡ true) }
     {
         self.parked.stack().names(kept)?;
         if !self.is_terminated() {
@@ -49,24 +55,10 @@ impl Task {
     }
 }
 
-// The frames that these tasks and objects keep.
-fn kept_among(
-    alloc: Global,
-    tasks: &[Task],
-    objects: &[Object],
-) -> Result<Vec<usize>, AllocError>
-    ensures { IfOk result (λ kept. (frame : ℕ) → contains frame kept.items ≡
-        (any (keeps frame) (map plain_task tasks.now) || any (object_names frame) (map plain_object objects.now))) }
-{
-    let mut kept = kept_by_tasks(alloc, tasks)?;
-    put_all(objects, &mut kept)?;
-    Ok(kept)
-}
-
-// Those that tasks keep.
+// The frames that these tasks keep.
 fn kept_by_tasks(alloc: Global, tasks: &[Task]) -> Result<Vec<usize>, AllocError>
-    ensures { IfOk result (λ kept. (frame : ℕ) → contains frame kept.items ≡
-        any (keeps frame) (map plain_task tasks.now)) }
+    ensures { IfOk result (λ kept. (frame : ℕ) →
+        any (keeps frame) (map plain_task tasks.now) ≡ true → contains frame kept.items ≡ true) }
 {
     let mut kept = Vec::new(alloc);
     for task in tasks {
@@ -75,10 +67,11 @@ fn kept_by_tasks(alloc: Global, tasks: &[Task]) -> Result<Vec<usize>, AllocError
     Ok(kept)
 }
 
-// Those around objects are put behind others.
-fn put_all(objects: &[Object], kept: &mut Vec<usize>) -> Result<(), AllocError>
-    ensures { OnOk result ((frame : ℕ) → contains frame kept.new.items ≡
-        (contains frame kept.old.items || any (object_names frame) (map plain_object objects.now))) }
+// Puts the frames around these objects after others.
+fn put_around(objects: &[Object], kept: &mut Vec<usize>) -> Result<(), AllocError>
+    ensures { OnOk result ((frame : ℕ) →
+        (contains frame kept.old.items || any (object_names frame) (map plain_object objects.now)) ≡ true →
+        contains frame kept.new.items ≡ true) }
 {
     for object in objects {
         kept.extend_from_slice(&object.display)?;

@@ -7,7 +7,8 @@ use Rattle.aud_meaning.specs.Configuration.{Back}
 use Rattle.aud_meaning.specs.Parts.{contains}
 use Rattle.aud_store.specs.declared.stack.Open.{Open}
 use Rattle.aud_store.specs.Ties.Display.{Display, seen, put_back, without_last}
-use Rattle.aud_store.specs.Ties.Named.{names_of, opened_name, NamesAll}
+use Rattle.aud_meaning.specs.Ties.Named.{opened_name}
+use Rattle.aud_store.specs.Ties.Named.{names_of, NamesAll}
 use Rattle.aud_store.specs.Ties.Stored.{outer_backs, plain_opened}
 
 -- Numbers among others.
