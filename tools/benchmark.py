@@ -4,6 +4,8 @@ Loops: the same in each, the first once more with a handler around it that nothi
 whole sessions is taken, of a LOAD alone and of a LOAD with RUNs up to the program's end; the difference is
 the loop. The others time their loops themselves.
 Tasks: steps a second of programs whose tasks loop, in the order of the tasks and by choices.
+Memory: how much more a session has at most that takes all steps of a LOAD, where programs enter and leave frames with arrays, than one that
+takes a hundred; and so of python3, with calls and lists.
 LOADs: the largest source text of several shapes, how the time grows from a quarter of it, and the memory; one of the most lines that
 there may be, of which each read gives a byte, and how the time grows from a quarter of them (where there is a C compiler).
 Halls: steps a second of many seats that take turns beside those of one bench, and the memory of a seat at which nothing is to be done.
@@ -517,6 +519,48 @@ def loads_in_bytes(program, folder):
     print(f"LOAD of {LINES:,} lines, a byte at a time: {whole * 1e3:.2f} ms, {whole / quarter:.1f} times a quarter of them")
 
 
+@dataclass
+class Frames:
+    """A program that enters and leaves frames for ever, and one for python3 that does so as often as it is told."""
+
+    name: str
+    ada: str
+    python: str
+
+
+CALLED = "   procedure P is Cells : array (1 .. 1024) of Integer; begin Cells (1) := 1; end P;\n"
+CALLS = "def p():\n    cells = [0] * 1024\n    cells[0] = 1\n"
+FRAMES = (
+    Frames("calls", f"procedure M is\n{CALLED}begin loop P; end loop; end M;\n", f"{CALLS}for _ in range(COUNT):\n    p()\n"),
+    Frames(
+        "blocks",
+        "procedure M is begin loop declare Cells : array (1 .. 1024) of Integer; begin Cells (1) := 1; end; end loop; end M;\n",
+        "for _ in range(COUNT):\n    cells = [0] * 1024\n    cells[0] = 1\n    del cells\n",
+    ),
+    Frames(
+        "calls of 60 tasks",
+        "procedure M is\ntask type T;\nAll_Of_Them : array (1 .. 60) of T;\ntask body T is\n"
+        f"{CALLED}begin loop P; end loop; end T;\nbegin null; end M;\n",
+        f"{CALLS}def calls():\n    while True:\n        p()\n        yield\nall = [calls() for _ in range(60)]\n"
+        "for i in range(COUNT):\n    next(all[i % 60])\n",
+    ),
+)
+ITS_PEAK = "\nimport resource\nprint(resource.getrusage(resource.RUSAGE_SELF).ru_maxrss * 1024)\n"
+
+
+def frames(program):
+    """Of all steps of a LOAD, four make one of these frames and leave it."""
+    print("Memory, at most, of frames with 1,024 cells that are entered and left 250,000 times, beside that of 25 times:")
+    for it in FRAMES:
+        grown, grown_there = [], []
+        for _ in range(TIMES):
+            few, all_steps = (peak(program, (load_of(it.ada) + runs).encode()) for runs in ("RUN 100\n", "RUN 100000\n" * 10))
+            grown.append(all_steps - few)
+            few, many = (int(measure([sys.executable, "-c", it.python.replace("COUNT", count) + ITS_PEAK])[1]) for count in ("25", "250000"))
+            grown_there.append(many - few)
+        print(f"  {it.name:30}{max(grown) / 1e6:6.2f} MB more   python3 {max(grown_there) / 1e6:6.2f} MB more")
+
+
 def loads_beside(program, others):
     print("LOAD of assignments:")
     count = (SOURCE - 60) // 7 - 40
@@ -655,6 +699,7 @@ def main(program, worlds):
             others["lua5.4"] = Other([lua, script], lambda loop: loop.lua + LUA_LOOP, LUA_LOAD)
         loops(program, others)
         tasks(program)
+        frames(program)
         loads_beside(program, others)
         loads(program)
         loads_in_bytes(program, folder)
