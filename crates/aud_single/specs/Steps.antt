@@ -154,8 +154,3 @@ module _ (units : List UnitPlan) (code : Flat) where
   does (Block region inside) at next o p = opened for_block region at [] 0 inside p
   does (Return w) at next o p = left_loops w p
   does (Call n) at next o p = called_unit units code n at o p
-
--- the pending exception is handled
-abbrev pub handled_at : Exception → ℕ → Part Spot → Part Spot
-handled_at exception place p =
-    record (moved_to place p) { pending = None; stack = on_innermost (λ o. record o { handling = Some exception }) (out_of_loops p.stack) }

@@ -6,10 +6,11 @@ ghost use Rattle.aud_meaning.specs.Ties.Stack.{closed};
 ghost use Rattle.aud_code.specs.Sound.{IsStart};
 ghost use Rattle.aud_code.specs.Starts.{IsPlace};
 ghost use Rattle.aud_expr.specs.Fused.{SeesMain};
+ghost use Rattle.aud_store.specs.Ties.Frames.{only_named};
 ghost use Rattle.aud_store.specs.Ties.Stored.{declared, entered, plain_purpose, IsInner};
 ghost use Rattle.aud_store.specs.Ties.Stored as store;
 ghost use Rattle.aud_single.specs.Steps.{moved_to, declared_to, stored, stored_in, on_stored, raised};
-ghost use Rattle.aud_single.specs.Steps.{written, left_loops, handled_at};
+ghost use Rattle.aud_single.specs.Steps.{written, left_loops};
 ghost use Rattle.aud_single.specs.Parked.{no_part};
 ghost use Rattle.aud_single.specs.Fast.{RunsFast};
 
@@ -104,20 +105,6 @@ impl Progress {
             clock: 0,
             steps: 0,
         }
-    }
-
-    /// The place of its next step.
-    pub fn place(&self) -> usize
-        ensures value { result ≡ self.now.control.place }
-    {
-        self.place
-    }
-
-    /// The exception that is pending.
-    pub fn pending(&self) -> Option<Pending>
-        ensures { result ≡ self.now.pending }
-    {
-        self.pending
     }
 
     /// Its frames, all that were ever made and those that are open.
@@ -302,14 +289,19 @@ impl Progress {
         self.go(way.to);
     }
 
-    /// The innermost construct handles an exception, and the step leads to its handler (RM 11.4(7)).
-    pub(crate) fn handle(&mut self, exception: Exception, place: usize)
-        ensures { self.new ≡ handled_at exception place self.old }
+    /// All frames are given back but the first one and those of these numbers, which are put in order meanwhile. No memory is
+    /// taken.
+    pub fn forget(&mut self, named: &mut [usize])
+        ensures { self.new ≡ record self.old {
+          frames = only_named named.old self.old.frames;
+        } }
     {
-        self.store.leave_loops();
-        self.store.handle(exception);
-        self.pending = None;
-        self.go(place);
+        self.store.forget(named);
+    }
+
+    /// Whether giving frames back is worth its time by now. It is advice: no value depends on it.
+    pub fn is_due(&self) -> bool {
+        self.store.is_due()
     }
 
     // Whether the variables of level 0 are those of the first frame.
@@ -347,8 +339,8 @@ impl Progress {
         requires budget { self.old.steps + n ≤ STEPS }
         ensures runs { RunsFast code.now n self.old self.new result }
     {
-        let (run, cells) = fast_run_with(code, self.place, self.store.take(0), n);
-        self.store.put(0, cells);
+        let (run, cells) = fast_run_with(code, self.place, self.store.take_first(), n);
+        self.store.put_first(cells);
         self.place = run.place;
         self.steps += run.steps;
         run
