@@ -12,7 +12,7 @@ use Rattle.aud_meaning.specs.Control.{Asked}
 use Rattle.aud_meaning.specs.Evaluation.{Sight, nearest_zero}
 use Rattle.aud_meaning.specs.Step.{for_first, for_step, has_next, not_handled}
 use Rattle.aud_meaning.specs.Effects.{put_out, elaborated_in, innermost, live_frames, handled}
-use Rattle.aud_meaning.specs.Ties.Stack.{closed, closed_times, out_of_loops, on_innermost}
+use Rattle.aud_meaning.specs.Ties.Stack.{closed, closed_times}
 use Rattle.aud_meaning.specs.Ties.Part.{Part, within}
 use Rattle.aud_meaning.specs.Why.Alone.{acts}
 use Rattle.aud_code.specs.declared.line.Ending.{Ending}
