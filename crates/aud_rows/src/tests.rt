@@ -7,6 +7,7 @@ mod benches;
 mod connections;
 mod counted;
 mod desks;
+mod frames;
 mod fusing;
 mod listening;
 mod machines;
