@@ -2,7 +2,7 @@
 use Rattle.std.proofs.Common.{◌≡◌, ◌+◌, ◌<◌, ℕ, zero, suc, ℤ, List, [], ◌∷◌, ◌++◌, length, drop, map, get_or, slice_index_or, Bool, true, false, if◌then◌else◌, refl, ap, sym, ◌∙◌, inl, inr, arith}
 use Rattle.std.proofs.lemmas.Bool.{or_cases, or_left, or_right}
 use Rattle.std.proofs.lemmas.List.{at_drop_all, at_drop_more}
-use Rattle.std.specs.Prelude.{◌||◌, ◌&&◌, nat_eq}
+use Rattle.std.specs.Prelude.{◌||◌, ◌&&◌, nat_eq, not}
 use Rattle.aud_meaning.specs.Configuration.{Frame, Object, Own, TaskAt, All}
 use Rattle.aud_meaning.specs.Parts.{any, contains, depends, no_call, owns}
 use Rattle.aud_code.specs.Places.{Spot}
@@ -23,23 +23,24 @@ append_names f (x ∷ xs) ys = ap (λ b. nat_eq f x || b) (append_names f xs ys)
     joined false b c = refl
 
 -- of one task
-pub kept_more : (f : ℕ) (old mid new masters : List ℕ) (names live : Bool) → ((contains f old || names) ≡ true → contains f mid ≡ true) → new ≡ (if live then mid ++ masters else mid) → (contains f old || (names || (live && contains f masters))) ≡ true → contains f new ≡ true
-kept_more f old mid new masters names live told is h =
-    ap (contains f) is ∙ behind live ∙ by (contains f old) names live (contains f masters) (contains f mid) told h
+pub kept_more : (f : ℕ) (old mid new masters : List ℕ) (names over : Bool) → ((contains f old || names) ≡ true → contains f mid ≡ true) → new ≡ mid ++ (if over then [] else masters) → (contains f old || (names || (not over && contains f masters))) ≡ true → contains f new ≡ true
+kept_more f old mid new masters names over told is h =
+    ap (contains f) is ∙ append_names f mid (if over then [] else masters)
+    ∙ ap (λ b. contains f mid || b) (among over)
+    ∙ by (contains f old) names over (contains f masters) (contains f mid) told h
   where
-    behind : (l : Bool) → contains f (if l then mid ++ masters else mid) ≡ (if l then (contains f mid || contains f masters) else contains f mid)
-    behind true = append_names f mid masters
-    behind false = refl
+    among : (b : Bool) → contains f (if b then [] else masters) ≡ (not b && contains f masters)
+    among true = refl
+    among false = refl
 
-    there : (l m d : Bool) → d ≡ true → (if l then (d || m) else d) ≡ true
-    there true m d e = or_left d m e
-    there false m d e = e
+    by : (a n o m d : Bool) → ((a || n) ≡ true → d ≡ true) → (a || (n || (not o && m))) ≡ true → (d || (not o && m)) ≡ true
+    by true n o m d t g = or_left d (not o && m) (t refl)
+    by false true o m d t g = or_left d (not o && m) (t refl)
+    by false false o m d t g = or_right d (not o && m) g
 
-    by : (a n l m d : Bool) → ((a || n) ≡ true → d ≡ true) → (a || (n || (l && m))) ≡ true → (if l then (d || m) else d) ≡ true
-    by true n l m d t g = there l m d (t refl)
-    by false true l m d t g = there l m d (t refl)
-    by false false true m d t g = or_right d m g
-    by false false false m d t g = absurd (cc (g))
+-- of one object
+pub around_more : (f : ℕ) (old display new given : List ℕ) → new ≡ old ++ display → display ≡ given → (contains f old || contains f given) ≡ true → contains f new ≡ true
+around_more f old display new given is same h = ap (contains f) is ∙ append_names f old display ∙ ap (λ l. contains f old || contains f l) same ∙ h
 
 -- of one more in a list
 pub one_more : {A : Type 0} (p : A → Bool) (xs : List A) (i : ℕ) (x : A) (old new : Bool) → i < length xs → x ≡ get_or xs i x → ((old || p x) ≡ true → new ≡ true) → (old || any p (drop i xs)) ≡ true → (new || any p (drop (i + 1) xs)) ≡ true

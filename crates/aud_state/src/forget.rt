@@ -1,7 +1,7 @@
 // Frames that are over are given back.
 
-ghost use Rattle.std.specs.Prelude.{◌≡◌, ◌||◌, ℕ, [], true, map, slice_index_or, IfOk, OnOk, OnErr};
-ghost use Rattle.aud_meaning.specs.Parts.{any, contains, with_frames};
+ghost use Rattle.std.specs.Prelude.{◌≡◌, ◌||◌, ℕ, [], true, if◌then◌else◌, map, slice_index_or, IfOk, OnOk, OnErr};
+ghost use Rattle.aud_meaning.specs.Parts.{any, contains, is_terminated, with_frames};
 ghost use Rattle.aud_over.specs.Over.{forgotten, object_names};
 ghost use Rattle.aud_state.specs.Held.{is_held, keeps};
 ghost use Rattle.aud_state.specs.View.{plain_object, plain_task};
@@ -48,10 +48,19 @@ impl Task {
             contains frame kept.new.items ≡ true) }
     {
         self.parked.stack().names(kept)?;
-        if !self.is_terminated() {
-            kept.extend_from_slice(&self.masters)?;
-        }
+        kept.extend_from_slice(self.masters_held())?;
         Ok(())
+    }
+
+    // The masters on which it depends, unless it is terminated.
+    fn masters_held(&self) -> &[usize]
+        ensures { result.now ≡ (if is_terminated self.now.status then [] else self.now.masters.items) }
+    {
+        if self.is_terminated() {
+            &[]
+        } else {
+            &self.masters
+        }
     }
 }
 

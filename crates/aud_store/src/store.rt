@@ -250,6 +250,13 @@ impl Store {
         self.frames.is_due()
     }
 
+    /// The open frames of the task whose part lies here.
+    pub fn stack(&self) -> &Stack
+        ensures { result.now ≡ self.now.stack }
+    {
+        &self.stack
+    }
+
     /// The number of the innermost frame, or 0 where none is open.
     pub fn innermost_number(&self) -> usize
         ensures { result ≡ innermost self.now.stack.opened }
