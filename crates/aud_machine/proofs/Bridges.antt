@@ -35,7 +35,7 @@ use Rattle.aud_over.proofs.Coding.{code_looks}
 use Rattle.aud_over.proofs.Left.{moves_left, state_left, step_left, run_left, coming_left}
 use Rattle.aud_tasks.specs.declared.run.Ran.{Ran}
 use Rattle.aud_tasks.specs.Running.{RunsLeaving, Takes, Took}
-use Rattle.aud_tasks.proofs.RunningParts.{within_frames}
+use Rattle.aud_tasks.proofs.RunningTaking.{within_frames}
 use Rattle.aud_machine.specs.Shown.{Shown}
 use Rattle.aud_machine.specs.Shows.{Shows, Did, RunsFrom}
 use Rattle.aud_machine.specs.Shows as shown

@@ -22,9 +22,8 @@ use aud_state::state::State;
 use aud_tasks::coming::coming;
 use aud_tasks::compiled::Compiled;
 use aud_tasks::moves::{moves, state_of};
-use aud_tasks::parts::{forget_if_due, run_in_parts};
 pub use aud_tasks::run::Ran;
-use aud_tasks::run::take;
+use aud_tasks::run::{forget_if_due, run, take};
 use aud_text::limits::{CHOICES, CLOCK, Limits, OUTPUT, STEPS};
 use aud_typed::program::{Exception, Program};
 use std::alloc::{AllocError, Global};
@@ -198,9 +197,9 @@ impl Machine {
         self.state.steps()
     }
 
-    /// All that it has: the frames, the tasks, the calls with their queues, the protected objects, the clock and the steps taken. Its
-    /// limits hold of them: so many tasks and objects, so many live frames of each task, and so much output. Of frames and calls that
-    /// are over, nothing need be left.
+    /// All that it has: the frames, the tasks, the calls, the protected objects, the clock and the steps taken. Its
+    /// limits hold of them, if the machine isn't spent: so many tasks and objects, so many live frames of each task, and so much
+    /// output. Of frames and calls that are over, nothing need be left.
     pub fn parts(&self) -> &State
         ensures all { result.now ≡ self.now.all }
         ensures within { self.now.spent ≡ false → 1 ≤ self.now.limits.tasks →
@@ -288,12 +287,12 @@ impl Machine {
             program: &self.program,
             limits: self.limits,
         };
-        let ran = run_in_parts(&mut self.state, alloc, compiled, &mut operands, n)?;
+        let ran = run(&mut self.state, alloc, compiled, &mut operands, n)?;
         self.spent = false;
         Ok(ran)
     }
 
-    /// Takes the enabled move of this index, or nothing where there is none. Frames that are over are given back behind it.
+    /// Takes the enabled move of this index, or nothing where there is none. Frames that are over are given back after it.
     ///
     /// # Errors
     ///

@@ -5,7 +5,6 @@ pub mod Listed
 pub mod Moving
 pub mod Results
 pub mod RunningMoves
-pub mod RunningParts
 pub mod RunningSteps
 pub mod RunningStill
 pub mod RunningTaking

@@ -9,18 +9,23 @@ use Rattle.aud_text.specs.declared.limits.Limits.{Limits}
 use Rattle.aud_typed.specs.Tree.{Plan}
 use Rattle.aud_meaning.specs.declared.state.Move.{Move}
 use Rattle.aud_meaning.specs.declared.state.OpenDelay.{OpenDelay}
-use Rattle.aud_meaning.specs.Configuration.{Own, Shared, TaskAt, All}
+use Rattle.aud_meaning.specs.Configuration.{Frame, Own, Shared, TaskAt, All}
 use Rattle.aud_meaning.specs.Evaluation.{Sight}
 use Rattle.aud_meaning.specs.Control.{Controls, Seen, Coming, simply, ending, selecting, calling, starting}
-use Rattle.aud_meaning.specs.Parts.{Closable, body_master, own_of, call_of, object_of, is_idle, in_the_way, open_alternatives, owns}
+use Rattle.aud_meaning.specs.Parts.{Closable, body_master, own_of, call_of, object_of, is_idle, in_the_way, open_alternatives, owns, with_frames}
 use Rattle.aud_meaning.specs.Tasks.{eligible}
 use Rattle.aud_meaning.specs.Run.{Turn, resting, closing, completing, withdrawing, serving, expiring, cancelling, acting, own_move, picks, only, each_or_one, serve_moves, end_moves, call_time, acting_moves, master_left_by, construct_left, alternatives_of, has_queue, turn, turn_moves, moves_from, moves_by, has_ended, moves_at, state_at, seen, seen_from, run_by, run_with, step_of, step_with, take_by, take_one}
+use Rattle.aud_meaning.specs.Why.Limits.{IsWithin}
+use Rattle.aud_meaning.proofs.Limits.Steps.{limits_law}
 use Rattle.aud_code.specs.Places.{Spot}
 use Rattle.aud_code.specs.Flat.{Flat, flat_controls}
 use Rattle.aud_code.specs.Starts.{AreSpots}
+use Rattle.aud_over.specs.Over.{forgotten}
+use Rattle.aud_over.proofs.Coding.{code_looks}
+use Rattle.aud_over.proofs.Left.{run_left}
 use Rattle.aud_tasks.specs.declared.run.Ran.{Ran}
 use Rattle.aud_expr.specs.Size.{size}
-use Rattle.aud_tasks.specs.Running.{acts_in, RunsTo, Takes, RunsOn, IsUnchosen, GoesOn, Picks, Chooses}
+use Rattle.aud_tasks.specs.Running.{acts_in, RunsLeaving, Takes, RunsOn, IsUnchosen, GoesOn, Picks, Chooses}
 use Rattle.aud_tasks.proofs.RunningStill.{moves_unchosen}
 
 -- the first of some
@@ -227,22 +232,49 @@ module _ (plan : Plan) (code : Flat) (limits : Limits) where
 
   -- A run under way, of at most n steps.
   pub record RunsSoFar (n : ℕ) (old new : All Spot) (steps ticks : ℕ) : Type 0 where
-    pub leads : RunsOn plan code limits steps old new
+    pub leads : (k : ℕ) → forgotten (run_with plan C limits (steps + k) old) ≡ forgotten (run_with plan C limits k new)
     pub within : steps ≤ n
     pub spots : AreSpots code.lines new.tasks
     pub steps_taken : steps + old.steps ≡ new.steps
     pub few : ticks ≤ steps * (2 * size code)
+    pub kept : IsWithin Spot limits old → IsWithin Spot limits new
+
+  -- steps keep the limits
+  pub on_within : (k : ℕ) (old new : All Spot) → RunsOn plan code limits k old new → IsWithin Spot limits old → IsWithin Spot limits new
+  on_within k old new on h = subst (IsWithin Spot limits) (on 0) ((limits_law plan C limits).run (k + 0) old h)
+
+  pub within_frames : (frames : List Frame) (c : All Spot) → IsWithin Spot limits c → IsWithin Spot limits (with_frames frames c)
+  within_frames frames c h = record { tasks = h.tasks; objects = h.objects; output = h.output; frames = h.frames }
+
+  -- frames are given back after some steps more
+  pub runs_more : (n steps more ticks all : ℕ) (old here mid new : All Spot) → RunsSoFar n old here steps ticks → RunsOn plan code limits more here mid → more + here.steps ≡ mid.steps → steps + more ≤ n → AreSpots code.lines mid.tasks → forgotten new ≡ forgotten mid → new ≡ with_frames new.shared.frames mid → all ≤ (steps + more) * (2 * size code) → RunsSoFar n old new (steps + more) all
+  runs_more n steps more ticks all old here mid new so_far on counted within spots same others few =
+      let still = ap (λ (c : All Spot). c.steps) others in
+      record {
+        leads = λ k.
+            let both : (steps + more) + k ≡ steps + (more + k) = omega arith in
+            ap (λ j. forgotten (run_with plan C limits j old)) both
+            ∙ so_far.leads (more + k)
+            ∙ ap (λ (c : All Spot). forgotten c) (on k)
+            ∙ run_left plan C (code_looks plan code) limits k mid new (sym same);
+        within = within;
+        spots = subst (λ (c : All Spot). AreSpots code.lines c.tasks) (sym others) spots;
+        steps_taken = omega (arith, so_far.steps_taken, counted, still);
+        few = few;
+        kept = λ h. subst (IsWithin Spot limits) (sym others) (within_frames new.shared.frames mid (on_within more here mid on (so_far.kept h)));
+      }
 
   -- it has ended, where nothing has changed since
-  pub runs_ended : (n : ℕ) (old mid new : All Spot) (ran : Ran) → new ≡ mid → RunsSoFar n old mid ran.steps ran.ticks → ran.state ≡ state_at plan C new → run_with plan C limits (n - ran.steps) mid ≡ mid → RunsTo plan code limits n old new ran
+  pub runs_ended : (n : ℕ) (old mid new : All Spot) (ran : Ran) → new ≡ mid → RunsSoFar n old mid ran.steps ran.ticks → ran.state ≡ state_at plan C new → run_with plan C limits (n - ran.steps) mid ≡ mid → RunsLeaving plan code limits n old new ran
   runs_ended n old mid new ran same so_far state over =
       let all : ran.steps + (n - ran.steps) ≡ n = omega (arith, so_far.within) in
       let counted = ap (λ (c : All Spot). c.steps) same in
       record {
-        run = same ∙ sym (ap (λ k. run_with plan C limits k old) (sym all) ∙ so_far.leads (n - ran.steps) ∙ over);
+        left = ap (λ (c : All Spot). forgotten c) same ∙ sym (ap (λ k. forgotten (run_with plan C limits k old)) (sym all) ∙ so_far.leads (n - ran.steps) ∙ ap (λ (c : All Spot). forgotten c) over);
         steps = omega (arith, so_far.steps_taken, counted);
         state = state;
         few = so_far.few;
+        kept = λ h. subst (IsWithin Spot limits) (sym same) (so_far.kept h);
       }
 
   -- The move of an index.

@@ -14,19 +14,12 @@ use Rattle.aud_tasks.specs.declared.run.Ran.{Ran}
 use Rattle.aud_tasks.specs.declared.run.Spent.{Spent}
 use Rattle.aud_tasks.specs.Turning.{turn_in}
 
--- from old, n steps lead to new, or those until no move is enabled, and what was done is told
-pub record RunsTo (plan : Plan) (code : Flat) (limits : Limits) (n : ℕ) (old new : All Spot) (ran : Ran) : Type 0 where
-  pub run : new ≡ run_with plan (flat_controls plan code) limits n old
-  pub steps : ran.steps + old.steps ≡ new.steps
-  pub state : ran.state ≡ state_at plan (flat_controls plan code) new
-  -- an instruction is executed twice in a step at most
-  pub few : ran.ticks ≤ ran.steps * (2 * size code)
-
--- from old, the same is left in new as behind n steps, or behind those until no move is enabled, and what was done is told
+-- the same is left in new as after n steps from old, or after those until no move is enabled, and what was done is told
 pub record RunsLeaving (plan : Plan) (code : Flat) (limits : Limits) (n : ℕ) (old new : All Spot) (ran : Ran) : Type 0 where
   pub left : forgotten new ≡ forgotten (run_with plan (flat_controls plan code) limits n old)
   pub steps : ran.steps + old.steps ≡ new.steps
   pub state : ran.state ≡ state_at plan (flat_controls plan code) new
+  -- an instruction is executed twice in a step at most
   pub few : ran.ticks ≤ ran.steps * (2 * size code)
   -- the limits hold of it, if they held before
   pub kept : IsWithin Spot limits old → IsWithin Spot limits new

@@ -8,7 +8,6 @@ mod enabled;
 mod endings;
 mod leave;
 pub mod moves;
-pub mod parts;
 pub mod run;
 mod step;
 mod times;

@@ -5,7 +5,7 @@ pub returns-clause-runs : goal.returns-clause-runs
 returns-clause-runs c =
     let inside = c.self.inside in
     rw (← c.self.view_is) (λ shown h.
-    runs_shown inside.program inside.code c.self.invariant.0 inside.limits inside.spent inside.state shown h c.args.n c.run_in_parts.new.state c.in_ok-ran.ran c.in_ok-ran.ensures.runs)
+    runs_shown inside.program inside.code c.self.invariant.0 inside.limits inside.spent inside.state shown h c.args.n c.run.new.state c.in_ok-ran.ran c.in_ok-ran.ensures.runs)
 
 pub returns-clause-ticks : goal.returns-clause-ticks
 returns-clause-ticks c = rw (← c.self.view_is) c.in_ok-ran.ensures.runs.few
