@@ -1,6 +1,6 @@
 // What a task has by itself while it is worked on, with what all tasks share of the store and the run.
 
-ghost use Rattle.std.specs.Prelude.{◌≡◌, ◌<◌, ◌≤◌, ◌+◌, ◌++◌, ◌∷◌, [], length, replicate, suc, Some, None, false, IsTrue, OnOk};
+ghost use Rattle.std.specs.Prelude.{◌≡◌, ◌<◌, ◌≤◌, ◌+◌, ◌++◌, ◌∷◌, [], length, replicate, suc, None, false, IsTrue, OnOk};
 ghost use Rattle.aud_meaning.specs.Effects.{innermost};
 ghost use Rattle.aud_meaning.specs.Ties.Stack.{closed};
 ghost use Rattle.aud_code.specs.Sound.{IsStart};
@@ -299,7 +299,7 @@ impl Progress {
         self.store.forget(named);
     }
 
-    /// Whether giving frames back is worth its time by now. It is advice: no value depends on it.
+    /// Whether so much was entered and declared since the last `forget` that another one is worth its time. Any answer is right.
     pub fn is_due(&self) -> bool {
         self.store.is_due()
     }

@@ -10,7 +10,7 @@ use std::alloc::{AllocError, Global};
 use std::marker::Model;
 use std::mem;
 
-// At most so many cells may be over and still kept between two looks at which frames are over.
+// So many cells may come before it is worth a look which frames are over.
 const DUE: usize = 8_192;
 
 // A frame takes as much memory besides its cells as so many cells do.
@@ -18,6 +18,7 @@ const FRAME: usize = 8;
 
 /// All frames that were ever made, by their numbers, which count from 0. A frame has the variables of one execution of
 /// a body, in the order of their declarations. Those that are given back have none, and take no memory.
+// The first one lies apart from those that are kept. What is fresh came since frames were last given back.
 #[derive(Drop)]
 pub struct Frames {
     made: usize,
@@ -178,7 +179,7 @@ impl Frames {
     }
 
     /// Whether so much was entered and declared since the last `forget`, or since the beginning, that another one is worth its
-    /// time. It is advice: no value depends on it.
+    /// time. Any answer is right: nothing that is told of frames depends on it.
     pub fn is_due(&self) -> bool {
         DUE <= self.fresh
     }

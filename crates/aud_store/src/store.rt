@@ -245,7 +245,7 @@ impl Store {
         self.frames.forget(named);
     }
 
-    /// Whether so much was entered and declared since the last `forget` that another one is worth its time.
+    /// Whether so much was entered and declared since the last `forget` that another one is worth its time. Any answer is right.
     pub fn is_due(&self) -> bool {
         self.frames.is_due()
     }

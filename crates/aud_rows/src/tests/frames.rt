@@ -1,38 +1,47 @@
-// Frames that are given back, and the keys under which their cells lie.
+// Frames that are opened and left, one after the other, beside the main procedure's.
 
-use aud_store::stack::Purpose;
+use aud_store::stack::{Purpose, Stack};
 use aud_store::store::Store;
 use aud_text::int32::Int32;
 use aud_text::place::Pos;
-use std::process::Abort;
+use std::alloc::{AllocError, Global};
 use std::test::Fail;
 
-const ENTERED: usize = 1_000;
+const AT: Pos = Pos { line: 1, col: 1 };
 
-// One frame is entered and left so often, and given back each tenth time. It gives how many keys it had.
-fn keys(rt: &HostRuntime) -> Result<usize, Fail> {
-    let alloc = rt.alloc();
-    let at = Pos { line: 1, col: 1 };
-    let mut store = Store::new(alloc);
-    let mut keys = Vec::new(alloc);
-    store.enter(alloc, Purpose::Body, &[], 0, at, &[], 0)?;
-    for _ in 0..ENTERED {
-        let number = store.enter(alloc, Purpose::Block, &[], 0, at, &[Int32::new(7)], 1)?;
-        if let Some(key) = store.key(number) {
-            if !keys.contains(&key) {
-                keys.push(key)?;
-            }
-        }
-        store.leave();
-        if number % 10 == 0 {
-            store.forget(&mut [0]);
-        }
-    }
-    Ok(keys.len())
+// So many are opened and left.
+const FRAMES: usize = 1_000;
+
+// All frames are given back that nothing names any more.
+fn give_back(alloc: Global, store: &mut Store) -> Result<(), AllocError> {
+    let mut named = Vec::new(alloc);
+    let mut stack = Stack::new(alloc);
+    store.exchange(&mut stack);
+    stack.names(&mut named)?;
+    store.exchange(&mut stack);
+    store.forget(&mut named);
+    Ok(())
 }
 
 #[test]
-fn keys_are_used_again(rt: HostRuntime) -> Result<(), Fail> {
-    assert_eq!(rt; keys(&rt)?, 10);
+fn gives_keys_out_again(rt: HostRuntime) -> Result<(), Fail> {
+    let alloc = rt.alloc();
+    let mut store = Store::new(alloc);
+    store.enter(alloc, Purpose::Body, &[], 0, AT, &[Int32::new(1)], 1)?;
+    let mut keys = Vec::new(alloc);
+    for _ in 0..FRAMES {
+        let frame = store.enter(alloc, Purpose::Block, &[], 1, AT, &[Int32::new(2)], 1)?;
+        keys.push(store.key(frame).ok_or("no key")?)?;
+        store.leave();
+        if store.is_due() {
+            give_back(alloc, &mut store)?;
+        }
+    }
+    assert_eq!(rt; store.frames().len(), 1 + FRAMES);
+    assert!(rt; store.key(1).is_none() && store.key(FRAMES).is_some());
+    assert_eq!(rt; store.innermost_cell(0).get(), 1);
+    keys.sort_unstable();
+    keys.dedup();
+    assert!(rt; keys.len() < FRAMES);
     Ok(())
 }
