@@ -4,8 +4,8 @@ Loops: the same in each, the first once more with a handler around it that nothi
 whole sessions is taken, of a LOAD alone and of a LOAD with RUNs up to the program's end; the difference is
 the loop. The others time their loops themselves.
 Tasks: steps a second of programs whose tasks loop, in the order of the tasks and by choices.
-Memory: how much more a session has at most that takes all steps of a LOAD, where programs enter and leave frames with arrays, than one that
-takes a hundred; and so of python3, with calls and lists.
+Memory: the most that a session has that takes all steps of a LOAD, where programs enter and leave frames with arrays; and python3, with
+calls and lists.
 LOADs: the largest source text of several shapes, how the time grows from a quarter of it, and the memory; one of the most lines that
 there may be, of which each read gives a byte, and how the time grows from a quarter of them (where there is a C compiler).
 Halls: steps a second of many seats that take turns beside those of one bench, and the memory of a seat at which nothing is to be done.
@@ -550,15 +550,11 @@ ITS_PEAK = "\nimport resource\nprint(resource.getrusage(resource.RUSAGE_SELF).ru
 
 def frames(program):
     """Of all steps of a LOAD, four make one of these frames and leave it."""
-    print("Memory, at most, of frames with 1,024 cells that are entered and left 250,000 times, beside that of 25 times:")
+    print("Memory, at most, where 250,000 frames with 1,024 cells are entered and left:")
     for it in FRAMES:
-        grown, grown_there = [], []
-        for _ in range(TIMES):
-            few, all_steps = (peak(program, (load_of(it.ada) + runs).encode()) for runs in ("RUN 100\n", "RUN 100000\n" * 10))
-            grown.append(all_steps - few)
-            few, many = (int(measure([sys.executable, "-c", it.python.replace("COUNT", count) + ITS_PEAK])[1]) for count in ("25", "250000"))
-            grown_there.append(many - few)
-        print(f"  {it.name:30}{max(grown) / 1e6:6.2f} MB more   python3 {max(grown_there) / 1e6:6.2f} MB more")
+        most = max(peak(program, (load_of(it.ada) + "RUN 100000\n" * 10).encode()) for _ in range(TIMES))
+        there = max(int(measure([sys.executable, "-c", it.python.replace("COUNT", "250000") + ITS_PEAK])[1]) for _ in range(TIMES))
+        print(f"  {it.name:30}{most / 1e6:6.2f} MB   python3 {there / 1e6:6.2f} MB")
 
 
 def loads_beside(program, others):
