@@ -28,6 +28,9 @@ __attribute__((constructor)) static void begin(void) {
 __attribute__((destructor)) static void end(void) {
     if (number("TELLS")) dprintf((int)number("TELLS"), "%ld %ld %ld\n", growths, inputs, outputs);
 }
+/* (a program may end without a destructor) */
+void _exit(int status) { end(); syscall(SYS_exit_group, status); __builtin_unreachable(); }
+void _Exit(int status) { _exit(status); }
 static int refused(void) { if (++growths != growth) return 0; errno = ENOMEM; return 1; }
 
 void *malloc(size_t size) { return refused() ? NULL : __libc_malloc(size); }
