@@ -1,6 +1,6 @@
 """Lists the definitions that the end-to-end theorem and the headline on many users are made of, in an order in which each stands behind those that it uses.
 
-The theorem is the contract of `solo`; its words are `text`, `alone` and `requests`. The headline is a law of `aud_hall`. From there the imports are followed
+The theorem is the contract of `solo`; its words are `text`, `alone` and `requests`. The headline is a law of `aud_worlds`. From there the imports are followed
 through the folders specs/. What is not reached ties contracts to these words, or says why they are right: it stands in Ties/ or
 Why/, or in what TYING and TYING_MODULES name, and this script stops where a file stands in the wrong folder.
 usage: believe.py [--ties]
@@ -10,10 +10,10 @@ import re
 import sys
 
 TOP = os.path.join(os.path.dirname(os.path.abspath(__file__)), "..", "crates")
-ROOTS = ("aud_solo.specs.Solo", "aud_lines.specs.Requests", "aud_lines.specs.Text", "aud_server.specs.Program", "aud_bench.specs.Alone", "aud_hall.specs.Headline")
+ROOTS = ("aud_solo.specs.Solo", "aud_lines.specs.Requests", "aud_lines.specs.Text", "aud_server.specs.Program", "aud_bench.specs.Alone", "aud_worlds.specs.Headline")
 # crates whose words only tie contracts together, or say what a desk and a connection promise
-TYING = ("aud_code", "aud_over", "aud_state", "aud_layout", "aud_gen", "aud_exc", "aud_expr", "aud_masters", "aud_single", "aud_tasks", "aud_machine", "aud_worked", "aud_desk", "aud_connection")
-TYING_MODULES = ("aud_seats.specs.Told",)
+TYING = ("aud_code", "aud_over", "aud_state", "aud_layout", "aud_gen", "aud_exc", "aud_expr", "aud_masters", "aud_sequential", "aud_tasks", "aud_machine", "aud_examples", "aud_desk", "aud_connection")
+TYING_MODULES = ("aud_hall.specs.Told",)
 USE = re.compile(r"^use Rattle\.(aud_\w+)\.specs\.([\w.]+?)(?:\.\{.*\}| as \w+)$", re.MULTILINE)
 
 

@@ -1,6 +1,6 @@
 #!/bin/sh
 # How fast `aud --solo` runs loops and loads source texts, beside python3, and lua5.4 where it is there; and how fast a hall and a desk work.
-# It times the programs that `rt run` built last in crates/aud and crates/aud_sessions, or those that are named.
+# It times the programs that `rt run` built last in crates/aud and crates/aud_session_tests, or those that are named.
 # `tools/benchmark.sh desk` times the desk alone, of crates/aud or of a program that is named behind that word.
 set -eu
 top=$(cd "$(dirname "$0")/.." && pwd)
@@ -17,9 +17,9 @@ fi
 if [ -n "$alone" ]; then
     exec python3 "$top/tools/benchmark.py" desk "$program"
 fi
-worlds=${2:-$top/crates/aud_sessions/out/aud_sessions}
+worlds=${2:-$top/crates/aud_session_tests/out/aud_session_tests}
 if [ ! -x "$worlds" ]; then
-    echo "benchmark: no program at $worlds; build it by: cd crates/aud_sessions && rt run" >&2
+    echo "benchmark: no program at $worlds; build it by: cd crates/aud_session_tests && rt run" >&2
     exit 2
 fi
 exec python3 "$top/tools/benchmark.py" "$program" "$worlds"

@@ -9,4 +9,4 @@ if [ ! -x "$program" ]; then
     echo "load: no program at $program; build it by: cd crates/aud && rt run -- --solo < stdin" >&2
     exit 2
 fi
-exec python3 "$top/tools/load.py" "$program" "$top/crates/aud_sessions/data" "$seconds"
+exec python3 "$top/tools/load.py" "$program" "$top/crates/aud_session_tests/data" "$seconds"

@@ -11,7 +11,7 @@ from concurrent.futures import ThreadPoolExecutor
 
 from calls import counted, library, surroundings
 
-REFUSED = (4, b"aud_sessions: out of memory\n", b"")
+REFUSED = (4, b"aud_session_tests: out of memory\n", b"")
 
 
 def run(built, words, number):

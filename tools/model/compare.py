@@ -7,7 +7,7 @@ from pathlib import Path
 import chance
 import meaning
 
-SESSIONS = Path(__file__).resolve().parents[2] / "crates/aud_sessions/data"
+SESSIONS = Path(__file__).resolve().parents[2] / "crates/aud_session_tests/data"
 
 
 def sessions(text):

@@ -4,7 +4,7 @@ use Rattle.aud_syntax.specs.Plain.{Unit}
 use Rattle.aud_typed.specs.Tree as tree
 use Rattle.aud_fault.specs.declared.fault.Fault.{Fault}
 use Rattle.aud_fault.specs.Least.{least}
-use Rattle.aud_bodies.specs.Programs.{faults, typed}
+use Rattle.aud_check_bodies.specs.Programs.{faults, typed}
 
 abbrev pub judged : List Fault → tree.Program → Result tree.Program Fault
 judged [] program = Ok program

@@ -11,7 +11,7 @@ ghost use Rattle.aud_check.specs.Ties.Gives.{Gives};
 pub mod fault;
 
 use crate::fault::CheckFault;
-use aud_bodies::unit::typed;
+use aud_check_bodies::unit::typed;
 use aud_fault::fault::Least;
 use aud_syntax::tree::Unit;
 use aud_typed::program::Program;

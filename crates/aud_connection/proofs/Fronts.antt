@@ -5,8 +5,8 @@ use Rattle.aud_bench.specs.declared.request.Request.{Request}
 use Rattle.aud_bench.specs.declared.request.Answer.{Answer}
 use Rattle.aud_bench.specs.Alone.{alone}
 use Rattle.aud_bench.proofs.Sessions.{alone_front}
-use Rattle.aud_seats.specs.Numbered.{IsFront}
-use Rattle.aud_seats.proofs.Seats.{front_more}
+use Rattle.aud_hall.specs.Numbered.{IsFront}
+use Rattle.aud_hall.proofs.Seats.{front_more}
 use Rattle.aud_desk.specs.declared.fault.DeskFault.{DeskFault}
 use Rattle.aud_desk.specs.declared.fault.DeskFault.TheVariants as fault
 use Rattle.aud_desk.specs.Passed.{Passed}

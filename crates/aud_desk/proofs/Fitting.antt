@@ -6,9 +6,9 @@ use Rattle.aud_bench.specs.declared.request.Request.{Request}
 use Rattle.aud_bench.specs.Alone.{fits}
 use Rattle.aud_bench.specs.Seen.{has_quit}
 use Rattle.aud_bench.specs.Size.{bytes_of}
-use Rattle.aud_seats.specs.Seats.{Seat, has_closed, submitting, submitted}
-use Rattle.aud_seats.specs.Halls.{Place, place_at, at_seat, at_place}
-use Rattle.aud_seats.proofs.Truths.{not_false}
+use Rattle.aud_hall.specs.Seats.{Seat, has_closed, submitting, submitted}
+use Rattle.aud_hall.specs.Halls.{Place, place_at, at_seat, at_place}
+use Rattle.aud_hall.proofs.Truths.{not_false}
 use Rattle.aud_desk.specs.declared.fault.DeskFault.{DeskFault}
 use Rattle.aud_desk.specs.declared.fault.DeskFault.TheVariants as fault
 use Rattle.aud_desk.specs.Passed.{Passed}

@@ -3,10 +3,10 @@ use Rattle.std.specs.Prelude.{nat_lt, ◌==◌, if◌then◌else◌}
 use Rattle.std.proofs.Common.{◌≡◌, ◌⊎◌, inl, inr, ℕ, ◌+◌, ◌-◌, ◌<◌, ◌≤◌, List, length, Option, Some, None, Result, Ok, Err, Bool, true, false, refl, sym, ap, ◌∙◌, subst, subst₂, arith}
 use Rattle.aud_bench.specs.declared.request.Answer.{Answer}
 use Rattle.aud_bench.proofs.Truths.{eq_true}
-use Rattle.aud_seats.specs.Halls.{Place, place_at}
-use Rattle.aud_seats.specs.Told.{IsToldAt}
-use Rattle.aud_seats.specs.Ties.Places.{outbox_at}
-use Rattle.aud_seats.proofs.Truths.{true_lt}
+use Rattle.aud_hall.specs.Halls.{Place, place_at}
+use Rattle.aud_hall.specs.Told.{IsToldAt}
+use Rattle.aud_hall.specs.Ties.Places.{outbox_at}
+use Rattle.aud_hall.proofs.Truths.{true_lt}
 use Rattle.aud_desk.specs.declared.got.Got.{Got}
 use Rattle.aud_desk.specs.declared.got.Got.TheVariants.{Idle, New, Busy}
 use Rattle.aud_desk.specs.declared.fault.DeskFault.{DeskFault}

@@ -10,10 +10,10 @@ use Rattle.aud_bench.specs.Seen.{tells_memory, told}
 use Rattle.aud_bench.proofs.Truths.{or_left, or_right}
 use Rattle.aud_bench.proofs.Told.{alone_never, alone_count}
 use Rattle.aud_bench.proofs.Sessions.{alone_front}
-use Rattle.aud_seats.specs.Numbered.{IsFront}
-use Rattle.aud_seats.specs.Told.{AreAnswers}
-use Rattle.aud_seats.proofs.Lists.{two_fronts, front_rest}
-use Rattle.aud_seats.proofs.Seats.{front_more}
+use Rattle.aud_hall.specs.Numbered.{IsFront}
+use Rattle.aud_hall.specs.Told.{AreAnswers}
+use Rattle.aud_hall.proofs.Lists.{two_fronts, front_rest}
+use Rattle.aud_hall.proofs.Seats.{front_more}
 use Rattle.aud_desk.specs.Passed.{is_over, IsGot}
 
 last_at : (answers : List Answer) (n : ℕ) (a : Answer) → n + 1 ≡ length answers → slice_get answers n ≡ Some a → is_over answers ≡ tells_memory a

@@ -5,12 +5,12 @@ use Rattle.std.proofs.lemmas.Bool.Decides.{nat_tests}
 use Rattle.aud_text.specs.declared.limits.Limits.{Limits}
 use Rattle.aud_bench.specs.declared.request.Answer.{Answer}
 use Rattle.aud_bench.specs.Alone.{alone}
-use Rattle.aud_seats.specs.Numbered.{IsFront}
-use Rattle.aud_seats.specs.Halls.{Place}
-use Rattle.aud_seats.specs.Told.{IsToldAt}
-use Rattle.aud_seats.specs.Ties.Places.{outbox_at}
-use Rattle.aud_seats.proofs.Lists.{front_rest}
-use Rattle.aud_seats.proofs.Truths.{lt_true}
+use Rattle.aud_hall.specs.Numbered.{IsFront}
+use Rattle.aud_hall.specs.Halls.{Place}
+use Rattle.aud_hall.specs.Told.{IsToldAt}
+use Rattle.aud_hall.specs.Ties.Places.{outbox_at}
+use Rattle.aud_hall.proofs.Lists.{front_rest}
+use Rattle.aud_hall.proofs.Truths.{lt_true}
 use Rattle.aud_desk.specs.declared.got.Got.TheVariants.{Idle, New, Busy}
 use Rattle.aud_desk.specs.declared.fault.DeskFault.TheVariants.{Memory}
 use Rattle.aud_desk.specs.Passed.{Passed, is_over, IsGot}

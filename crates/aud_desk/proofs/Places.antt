@@ -6,16 +6,16 @@ use Rattle.aud_bench.specs.declared.request.Request.{Request}
 use Rattle.aud_bench.specs.declared.request.Answer.{Answer}
 use Rattle.aud_bench.specs.Same.{same_limits}
 use Rattle.aud_bench.proofs.Sameness.{same_limits_is}
-use Rattle.aud_seats.specs.Numbered.{IsFront}
-use Rattle.aud_seats.specs.Replies.{Reply, Answers, Then}
-use Rattle.aud_seats.specs.Seats.{Seat, has_closed, collected}
-use Rattle.aud_seats.specs.CheckIns.{first_difference}
-use Rattle.aud_seats.specs.Halls.{Place, at_seat, with_place, at_place}
-use Rattle.aud_seats.specs.Told.{AreAnswers, IsToldIn, IsToldAt}
-use Rattle.aud_seats.specs.Ties.Places.{asked_in, asked_at, outbox_in, outbox_at, limits_at}
-use Rattle.aud_seats.proofs.CheckIns.{first_none}
-use Rattle.aud_seats.proofs.Judging.{other_limits, own_limits}
-use Rattle.aud_seats.proofs.Truths.{false_lt}
+use Rattle.aud_hall.specs.Numbered.{IsFront}
+use Rattle.aud_hall.specs.Replies.{Reply, Answers, Then}
+use Rattle.aud_hall.specs.Seats.{Seat, has_closed, collected}
+use Rattle.aud_hall.specs.CheckIns.{first_difference}
+use Rattle.aud_hall.specs.Halls.{Place, at_seat, with_place, at_place}
+use Rattle.aud_hall.specs.Told.{AreAnswers, IsToldIn, IsToldAt}
+use Rattle.aud_hall.specs.Ties.Places.{asked_in, asked_at, outbox_in, outbox_at, limits_at}
+use Rattle.aud_hall.proofs.CheckIns.{first_none}
+use Rattle.aud_hall.proofs.Judging.{other_limits, own_limits}
+use Rattle.aud_hall.proofs.Truths.{false_lt}
 use Rattle.aud_desk.specs.declared.fault.DeskFault.{DeskFault}
 use Rattle.aud_desk.specs.declared.fault.DeskFault.TheVariants.{NotThisDesk}
 use Rattle.aud_desk.specs.Passed.{Passed}

@@ -13,9 +13,9 @@ use Rattle.std.proofs.sync.Condvar.TheSendSync.{the_sync as condvar_sync}
 use Rattle.std.proofs.sync.Mutex.TheSendSync.{the_sync as mutex_sync}
 use Rattle.crossbeam_channel.proofs.channel.Sender.TheSendSync.{the_send as sender_send}
 use Rattle.crossbeam_channel.proofs.channel.Receiver.TheSendSync.{the_sync as receiver_sync}
-use Rattle.aud_seats.specs.contracts.parcel.Parcel as parcel
-use Rattle.aud_seats.specs.contracts.hall.Hall as hall
-use Rattle.aud_seats.proofs.Sent.{parcel_send, hall_send}
+use Rattle.aud_hall.specs.contracts.parcel.Parcel as parcel
+use Rattle.aud_hall.specs.contracts.hall.Hall as hall
+use Rattle.aud_hall.proofs.Sent.{parcel_send, hall_send}
 use Rattle.aud_desk.specs.contracts.desk.Desk as desk
 
 module _ (whole : IsSend hall.the_row) (part : IsSend parcel.the_row) where

@@ -1,6 +1,6 @@
 -- The faults of a hall, as those of a desk.
-use Rattle.aud_seats.specs.declared.fault.HallFault.{HallFault}
-use Rattle.aud_seats.specs.declared.fault.HallFault.TheVariants as hall
+use Rattle.aud_hall.specs.declared.fault.HallFault.{HallFault}
+use Rattle.aud_hall.specs.declared.fault.HallFault.TheVariants as hall
 use Rattle.aud_desk.specs.declared.fault.DeskFault.{DeskFault}
 use Rattle.aud_desk.specs.declared.fault.DeskFault.TheVariants.{NoSuchSeat, SeatInUse, Memory, NotClaimed, Full}
 

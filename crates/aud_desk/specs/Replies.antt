@@ -4,7 +4,7 @@ use Rattle.aud_bench.specs.declared.request.Request.{Request}
 use Rattle.aud_bench.specs.Alone.{fits, alone}
 use Rattle.aud_bench.specs.Seen.{has_quit}
 use Rattle.aud_bench.specs.Size.{bytes_of}
-use Rattle.aud_seats.specs.Numbered.{IsFront}
+use Rattle.aud_hall.specs.Numbered.{IsFront}
 use Rattle.aud_desk.specs.declared.got.Got.{Got}
 use Rattle.aud_desk.specs.declared.got.Got.TheVariants.{Idle, New, Busy}
 use Rattle.aud_desk.specs.declared.fault.DeskFault.{DeskFault}

@@ -5,14 +5,14 @@ use Rattle.aud_bench.specs.declared.request.Request.{Request}
 use Rattle.aud_bench.specs.declared.request.Answer.{Answer}
 use Rattle.aud_bench.specs.Same.{same_limits}
 use Rattle.aud_bench.specs.Seen.{Seen as Bench}
-use Rattle.aud_seats.specs.declared.fault.HallFault.{HallFault}
-use Rattle.aud_seats.specs.declared.fault.HallFault.TheVariants as hall
-use Rattle.aud_seats.specs.declared.next.Next.TheVariants.{More, Idle as NothingMore}
-use Rattle.aud_seats.specs.Replies.{Reply, Accepted, Refused, Taken}
-use Rattle.aud_seats.specs.Seats.{Seat}
-use Rattle.aud_seats.specs.CheckIns.{first_difference}
-use Rattle.aud_seats.specs.Halls.{Place, place_at, claims, submits, frees, sends_out, checks_in}
-use Rattle.aud_seats.specs.Ties.Places.{outbox_at, limits_at}
+use Rattle.aud_hall.specs.declared.fault.HallFault.{HallFault}
+use Rattle.aud_hall.specs.declared.fault.HallFault.TheVariants as hall
+use Rattle.aud_hall.specs.declared.next.Next.TheVariants.{More, Idle as NothingMore}
+use Rattle.aud_hall.specs.Replies.{Reply, Accepted, Refused, Taken}
+use Rattle.aud_hall.specs.Seats.{Seat}
+use Rattle.aud_hall.specs.CheckIns.{first_difference}
+use Rattle.aud_hall.specs.Halls.{Place, place_at, claims, submits, frees, sends_out, checks_in}
+use Rattle.aud_hall.specs.Ties.Places.{outbox_at, limits_at}
 use Rattle.aud_desk.specs.declared.got.Got.{Got}
 use Rattle.aud_desk.specs.declared.got.Got.TheVariants.{Idle, New, Busy}
 use Rattle.aud_desk.specs.declared.fault.DeskFault.{DeskFault}

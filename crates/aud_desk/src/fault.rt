@@ -4,7 +4,7 @@ ghost use Rattle.std.specs.Prelude.{◌≡◌};
 ghost use Rattle.aud_desk.specs.Faults.{of_hall};
 ghost use Rattle.aud_desk.specs.declared.fault.DeskFault.TheVariants as fault;
 
-use aud_seats::fault::HallFault;
+use aud_hall::fault::HallFault;
 use std::alloc::AllocError;
 use thiserror::Error;
 

@@ -2,11 +2,11 @@
 
 ghost use Rattle.std.specs.Prelude.{◌≡◌, ◌≤◌};
 ghost use Rattle.aud_bench.specs.Seen.{unanswered};
-ghost use Rattle.aud_seats.specs.Slices.{done, sliced};
-ghost use Rattle.aud_seats.specs.Ties.Said.{cut_in};
+ghost use Rattle.aud_hall.specs.Slices.{done, sliced};
+ghost use Rattle.aud_hall.specs.Ties.Said.{cut_in};
 
 use aud_bench::bench::Work;
-use aud_seats::parcel::Parcel;
+use aud_hall::parcel::Parcel;
 use std::alloc::Global;
 
 /// The units of a slice.

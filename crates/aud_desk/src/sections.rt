@@ -1,10 +1,10 @@
 // What the calls of a desk do under its lock.
 
 ghost use Rattle.std.specs.Prelude.{◌≡◌, ◌<◌, ◌++◌, [], ◌∷◌, ℕ, Option, Some, None, Err, length, true, vec_len, vec_capacity, IfOk, IfErr, IfSome, OnOk, OnErr};
-ghost use Rattle.aud_seats.specs.Halls.{place_at};
-ghost use Rattle.aud_seats.specs.Parcels.{bench_of};
-ghost use Rattle.aud_seats.specs.Told.{IsToldAt};
-ghost use Rattle.aud_seats.specs.Ties.Said.{said};
+ghost use Rattle.aud_hall.specs.Halls.{place_at};
+ghost use Rattle.aud_hall.specs.Parcels.{bench_of};
+ghost use Rattle.aud_hall.specs.Told.{IsToldAt};
+ghost use Rattle.aud_hall.specs.Ties.Said.{said};
 ghost use Rattle.aud_desk.specs.Passed.{Passed};
 ghost use Rattle.aud_desk.specs.Replies.{Collects, Tells};
 ghost use Rattle.aud_desk.specs.Sections.{parted, not_there, in_turn, submit_fault, CollectsIn, StoresAndSends, Returns, Opens, Closes};
@@ -15,11 +15,11 @@ use crate::fault::DeskFault;
 use crate::got::Got;
 use crate::pass::Pass;
 use aud_bench::request::Request;
-use aud_seats::difference::first_difference;
-use aud_seats::fault::HallFault;
-use aud_seats::hall::Hall;
-use aud_seats::next::Next;
-use aud_seats::parcel::Parcel;
+use aud_hall::difference::first_difference;
+use aud_hall::fault::HallFault;
+use aud_hall::hall::Hall;
+use aud_hall::next::Next;
+use aud_hall::parcel::Parcel;
 use std::alloc::{AllocError, Global};
 
 /// Stores a request of a pass at its seat, and sends the bench of the seat out, where it is at home and open. The parcel is for a

@@ -1,6 +1,9 @@
-pub mod World
-pub mod Session
-pub mod Mine
-pub mod Headline
+pub mod Numbered
+pub mod Slices
+pub mod Replies
+pub mod Parcels
+pub mod Seats
+pub mod CheckIns
+pub mod Halls
+pub mod Told
 pub mod Ties
-pub mod Why

@@ -1,3 +1,3 @@
-pub mod Calls
-pub mod Runs
-pub mod Worlds
+pub mod Places
+pub mod Right
+pub mod Said

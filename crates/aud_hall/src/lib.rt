@@ -1,11 +1,13 @@
-// What a hall is to its users: worlds, which are a hall and the parcels that are out, and what holds of them after any calls. The
-// hall and its calls are those of `aud_seats`.
+// A hall: the private servers of many users at once. Each user has a seat, and the work for it goes out as a parcel. What calls
+// come to for each user, whatever all others do, is told in `aud_worlds`.
 #![tactic(auto)]
 
-pub mod event;
-pub mod laws;
-pub mod reply;
-mod run;
-pub mod world;
-
-pub use aud_seats::{fault, hall, next, parcel, stranger, why};
+pub mod difference;
+pub mod fault;
+pub mod hall;
+pub mod next;
+pub mod parcel;
+mod place;
+mod seat;
+pub mod stranger;
+pub mod why;

@@ -10,7 +10,7 @@ ghost use Rattle.aud_meaning.specs.Parts.{own_of};
 ghost use Rattle.aud_meaning.specs.Tasks as effect;
 ghost use Rattle.aud_code.specs.Control.{going};
 ghost use Rattle.aud_code.specs.Places.{Spot};
-ghost use Rattle.aud_single.specs.Shown.{plans_of};
+ghost use Rattle.aud_sequential.specs.Shown.{plans_of};
 
 use crate::ending::terminate_all;
 use aud_code::sound_code::SoundCode;

@@ -9,7 +9,7 @@ ghost use Rattle.aud_meaning.specs.Evaluation.{Sight};
 ghost use Rattle.aud_meaning.specs.Parts.{task_plan};
 ghost use Rattle.aud_meaning.specs.Tasks as effect;
 ghost use Rattle.aud_code.specs.Control.{going};
-ghost use Rattle.aud_single.specs.Shown.{plans_of};
+ghost use Rattle.aud_sequential.specs.Shown.{plans_of};
 
 use crate::activation::raise_in_part;
 use aud_code::sound_code::SoundCode;

@@ -12,7 +12,7 @@ use Rattle.aud_cursor.specs.declared.cursor.Rest.{Rest}
 use Rattle.aud_cursor.specs.declared.cursor.Fault.{Fault}
 use Rattle.aud_cursor.specs.declared.cursor.Fault.TheVariants as fault
 use Rattle.aud_cursor.proofs.Passing.{to}
-use Rattle.aud_phrase.proofs.Joined.{fewer_still}
+use Rattle.aud_parse_expr.proofs.Joined.{fewer_still}
 
 -- a tree that is completed behind what was read
 completed : {s0 : Symbol} (s : List Symbol) {make : List Item → List Item} {r : ℕ} {X : Type 0} (x : X → Item) (start mid : Rest) (res : Result (X × Rest) Fault) → Completing make x s r mid res →

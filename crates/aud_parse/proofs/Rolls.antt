@@ -34,12 +34,12 @@ use Rattle.aud_syntax.specs.Ties.View.{plain_name, plain_simple, plain_expressio
 use Rattle.aud_grammar.specs.Grammar as g
 use Rattle.aud_grammar.specs.Actions.{Item, made, place, an_ident, some_names, some_statements, a_body, a_unit, the_declarations, more_statements, opt_ident, opt_expression, a_statement, the_args, the_parts, a_variable, the_contexts, an_arm, the_arms, otherwise, the_iteration, loop_place, is_there, number_of, a_bound, an_iteration, a_declare, begin_of, the_handlers, the_formals, a_definition, a_task, opt_definition, a_declaration}
 use Rattle.aud_cursor.specs.Ties.Items.{list_item, opt_item, boxed_item, mode_item, context_item, choices_item}
-use Rattle.aud_phrase.specs.Ties.Items.{simple_item, expression_item, args_item, part_item}
+use Rattle.aud_parse_expr.specs.Ties.Items.{simple_item, expression_item, args_item, part_item}
 use Rattle.aud_parse.specs.Ties.Items.{names_item, formal_item, definition_item, task_item, declaration_item, boxed_declaration_item, statement_item, statements_item, body_item, boxed_body_item, unit_item, rest_item, variable_item, boxed_statement_item, boxed_statements_item, arm_item, boxed_arm_item, scheme_item, bound_item, declare_item, handler_item, boxed_handler_item}
 use Rattle.aud_cursor.specs.Ties.Parts.{mark_item}
 use Rattle.aud_parse.specs.Ties.Parts.{assigned_or_called, else_statements, iteration_of, begins_at, declared_in, is_declared, declares_at, behind_label}
 use Rattle.aud_cursor.proofs.Rolls.{idents_items}
-use Rattle.aud_phrase.proofs.Rolls.{the_args_are, parts_are}
+use Rattle.aud_parse_expr.proofs.Rolls.{the_args_are, parts_are}
 
 name_is : (x : Name) (i : Ident) (args : Vec Expression Global) (v : Vec NamePart Global) → x ≡ roll-Name (record { first = record { ident = i; args = args }; others = v }) → m.named (m.part i (the_args (args_item args))) (the_parts (list_item part_item v.items)) ≡ plain_name x
 name_is x i args v h =

@@ -11,7 +11,7 @@ use aud_cursor::cursor::{Read, Rest, deeper, is, token, word};
 use aud_cursor::leaf::{ident, mark, more_idents};
 use aud_cursor::value::number_value;
 use aud_lex::token::Kind;
-use aud_phrase::expression::{opt_value, value};
+use aud_parse_expr::expression::{opt_value, value};
 use aud_syntax::tree::{Bound, Declaration, Expression, Ident, Identifiers, Number};
 use std::alloc::Global;
 

@@ -14,7 +14,7 @@ ghost use Rattle.aud_cursor.specs.Ties.Reads.{Reads, MayRead, ReadsAll};
 use aud_cursor::cursor::{Read, Rest, is, token, word};
 use aud_cursor::leaf::{ident, mark};
 use aud_lex::token::Kind;
-use aud_phrase::expression::{expression, simple};
+use aud_parse_expr::expression::{expression, simple};
 use aud_syntax::tree::{Iteration, LoopParameter, Simple};
 use aud_text::place::Pos;
 use std::alloc::Global;

@@ -11,7 +11,7 @@ ghost use Rattle.aud_grammar.specs.Grammar as g;
 ghost use Rattle.aud_grammar.specs.Grammar.{N, T, P, Opt, Rep};
 ghost use Rattle.aud_grammar.specs.Actions.{an_ident, token, made};
 ghost use Rattle.aud_cursor.specs.Ties.Items.{vec_item, opt_item, boxed_item};
-ghost use Rattle.aud_phrase.specs.Ties.Items.{expression_item};
+ghost use Rattle.aud_parse_expr.specs.Ties.Items.{expression_item};
 ghost use Rattle.aud_parse.specs.Ties.Items.{assigned_item, rest_item, scheme_item, statement_item, boxed_statement_item, boxed_statements_item, arm_item, boxed_arm_item, handler_item, boxed_handler_item, boxed_body_item, guarded_items, declaration_item, boxed_declaration_item, declare_item};
 ghost use Rattle.aud_parse.specs.Ties.Parts.{behind_label};
 ghost use Rattle.aud_cursor.specs.Ties.Reads.{Reads, MayRead, ReadsFlat, MayReadFlat, Completes, ReadsAll};
@@ -29,7 +29,7 @@ use aud_cursor::choice_list::choices;
 use aud_cursor::cursor::{Read, Rest, accept, deeper, is, is_one_of, token, word};
 use aud_cursor::leaf::{ident, opt_ident};
 use aud_lex::token::{Kind, Token};
-use aud_phrase::expression::{expression, opt_args, opt_expression, opt_value, selected};
+use aud_parse_expr::expression::{expression, opt_args, opt_expression, opt_value, selected};
 use aud_syntax::tree::{
     Arm, Body, Declaration, Expression, Handler, Ident, Name, NamePart, Statement, Statements,
 };

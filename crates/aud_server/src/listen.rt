@@ -9,7 +9,7 @@ use crate::options::Options;
 use crate::turnstile::Turnstile;
 use aud_desk::desk::Desk;
 use aud_desk::gate::Direct;
-use aud_seats::hall::Hall;
+use aud_hall::hall::Hall;
 use aud_text::limits::{Limits, STANDARD};
 use std::alloc::{AllocError, Global};
 use std::io::Read;

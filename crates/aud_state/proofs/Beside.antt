@@ -12,7 +12,7 @@ use Rattle.aud_meaning.specs.Parts.{alone, alone_by, put_back}
 use Rattle.aud_meaning.specs.Parts.{acting as beside}
 use Rattle.aud_meaning.specs.Ties.Part.{Part, Rest, rest_of, shared_by, within}
 use Rattle.aud_code.specs.Places.{Spot}
-use Rattle.aud_single.specs.Parked.{Parked, acting, parked}
+use Rattle.aud_sequential.specs.Parked.{Parked, acting, parked}
 use Rattle.aud_state.specs.declared.task.Task.{Task}
 use Rattle.aud_state.specs.declared.object.Object.{Object}
 use Rattle.aud_state.specs.View.{Kept, plain_object, plain_own, plain_task, all_of}

@@ -11,7 +11,7 @@ use Rattle.aud_meaning.specs.Parts.{nobody}
 use Rattle.aud_meaning.specs.Tasks as effect
 use Rattle.aud_meaning.specs.Ties.Part.{within_own}
 use Rattle.aud_code.specs.Places.{Spot}
-use Rattle.aud_single.specs.Parked.{Parked}
+use Rattle.aud_sequential.specs.Parked.{Parked}
 use Rattle.aud_state.specs.declared.task.Task.{Task}
 use Rattle.aud_state.specs.View.{plain_task}
 

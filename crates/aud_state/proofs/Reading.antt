@@ -9,8 +9,8 @@ use Rattle.aud_meaning.specs.Run.{construct_left, end_kind_by, master_left_by}
 use Rattle.aud_meaning.specs.Ties.Part.{Part}
 use Rattle.aud_meaning.specs.Ties.Stack.{Stack, out_of_loops, out_of_loops_by}
 use Rattle.aud_code.specs.Places.{Spot}
-use Rattle.aud_single.specs.Next.{IsOfKind}
-use Rattle.aud_single.specs.Standing.{IsOfMaster}
+use Rattle.aud_sequential.specs.Next.{IsOfKind}
+use Rattle.aud_sequential.specs.Standing.{IsOfMaster}
 use Rattle.aud_state.specs.declared.task.Task.{Task}
 use Rattle.aud_state.specs.declared.object.Object.{Object}
 use Rattle.aud_state.specs.Reads.{IsOfItsKind, LeavesBy}

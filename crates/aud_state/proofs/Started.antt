@@ -4,9 +4,9 @@ use Rattle.aud_typed.specs.Tree.{UnitPlan}
 use Rattle.aud_meaning.specs.Configuration.{for_body}
 use Rattle.aud_code.specs.Flat.{Flat}
 use Rattle.aud_store.specs.Ties.Stored.{entered}
-use Rattle.aud_single.specs.Parked.{acting, created, no_part}
-use Rattle.aud_single.specs.Shown.{unit_in}
-use Rattle.aud_single.specs.Steps.{on_stored}
+use Rattle.aud_sequential.specs.Parked.{acting, created, no_part}
+use Rattle.aud_sequential.specs.Shown.{unit_in}
+use Rattle.aud_sequential.specs.Steps.{on_stored}
 use Rattle.aud_state.specs.Opening.{opened_main}
 
 abbrev no_frames : List ℕ

@@ -8,8 +8,8 @@ use Rattle.aud_meaning.specs.Ties.Part.{Part, within_own}
 use Rattle.aud_code.specs.Control.{going}
 use Rattle.aud_code.specs.Flat.{Flat}
 use Rattle.aud_code.specs.Places.{Spot}
-use Rattle.aud_single.specs.Parked.{no_part, Parked}
-use Rattle.aud_single.specs.Shown.{unit_in}
+use Rattle.aud_sequential.specs.Parked.{no_part, Parked}
+use Rattle.aud_sequential.specs.Shown.{unit_in}
 
 -- the part that it has by itself, with its frame, the first of all
 abbrev pub opened_main : Flat → List UnitPlan → Part Spot

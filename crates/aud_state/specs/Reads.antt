@@ -14,7 +14,7 @@ use Rattle.aud_meaning.specs.Parts.{is_idle, is_queued, object_of}
 use Rattle.aud_meaning.specs.Run.{construct_left, end_kind_by, master_left_by}
 use Rattle.aud_code.specs.Flat.{Flat, coming_at}
 use Rattle.aud_code.specs.Places.{Spot}
-use Rattle.aud_single.specs.Next.{place_in}
+use Rattle.aud_sequential.specs.Next.{place_in}
 
 -- what comes next of a task's own statements
 abbrev pub coming_by : Flat → Plan → Sight → Option (TaskAt Spot) → Coming

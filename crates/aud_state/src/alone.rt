@@ -16,9 +16,9 @@ ghost use Rattle.aud_code.specs.Instruction.{Reached};
 ghost use Rattle.aud_code.specs.Places.{loops_of, Spot};
 ghost use Rattle.aud_code.specs.Sound.{counts_of, LastFine};
 ghost use Rattle.aud_code.specs.View.{exit_of, plain_end, plain_last};
-ghost use Rattle.aud_single.specs.Parked.{numbers_from};
-ghost use Rattle.aud_single.specs.Shown.{plans_of, unit_in};
-ghost use Rattle.aud_single.specs.Steps.{IsOfOne};
+ghost use Rattle.aud_sequential.specs.Parked.{numbers_from};
+ghost use Rattle.aud_sequential.specs.Shown.{plans_of, unit_in};
+ghost use Rattle.aud_sequential.specs.Steps.{IsOfOne};
 ghost use Rattle.aud_state.specs.View.{plain_task};
 
 use crate::state::State;
@@ -26,7 +26,7 @@ use crate::task::Task;
 use aud_code::line::EndLine;
 use aud_code::sound_code::SoundCode;
 use aud_expr::operands::Operands;
-use aud_single::progress::Progress;
+use aud_sequential::progress::Progress;
 use aud_typed::program::Unit;
 use std::alloc::{AllocError, Global};
 

@@ -4,7 +4,7 @@ ghost use Rattle.std.specs.Prelude.{◌≡◌, pos, slice_index_or};
 ghost use Rattle.aud_meaning.specs.Effects.{copied_back};
 
 use aud_expr::operators::in_range;
-use aud_single::progress::Progress;
+use aud_sequential::progress::Progress;
 use aud_store::target::Back;
 use aud_text::int32::Int32;
 use aud_text::raise::Raise;

@@ -9,14 +9,14 @@ ghost use Rattle.aud_meaning.specs.Evaluation.{Sight};
 ghost use Rattle.aud_meaning.specs.Parts.{own_of, task_name, task_plan};
 ghost use Rattle.aud_meaning.specs.Tasks as effect;
 ghost use Rattle.aud_code.specs.Control.{going};
-ghost use Rattle.aud_single.specs.Shown.{plans_of};
+ghost use Rattle.aud_sequential.specs.Shown.{plans_of};
 ghost use Rattle.aud_state.specs.View.{element_name, plain_task};
 
 use crate::state::State;
 use crate::task::{Task, Waits};
 use aud_code::sound_code::SoundCode;
 use aud_meaning::state::Status;
-use aud_single::progress::parked::Parked;
+use aud_sequential::progress::parked::Parked;
 use aud_text::place::Pos;
 use aud_typed::program::{Tasks, Unit};
 use std::alloc::{AllocError, Global};

@@ -12,7 +12,7 @@ use crate::object::Object;
 use crate::task::Task;
 use aud_code::sound_code::SoundCode;
 use aud_meaning::state::Pending;
-use aud_single::progress::Progress;
+use aud_sequential::progress::Progress;
 use aud_text::limits::STEPS;
 use aud_text::place::Pos;
 use aud_typed::program::Exception;

@@ -15,7 +15,7 @@ ghost use Rattle.aud_state.specs.View.{goes_on_behind, handles_it, plain_task, p
 
 use aud_code::sound_code::SoundCode;
 use aud_meaning::state::{OpenAccept, OpenDelay, Pending, Serving, Status};
-use aud_single::progress::parked::Parked;
+use aud_sequential::progress::parked::Parked;
 use aud_text::name::Name;
 use aud_text::place::Pos;
 use aud_text::raise::Raise;

@@ -1,5 +1,5 @@
 -- The cells of frames that are kept.
-use Rattle.std.proofs.Common.{◌≡◌, ◌≢◌, ◌⊎◌, ℕ, zero, suc, ◌+◌, ◌<◌, ◌≤◌, ℤ, Vec, Global, List, [], ◌∷◌, Bool, true, false, cond, length, take, drop, get_or, filter, insert, All, AllPairs, Option, Some, None, is_some, IsSome, Result, Ok, Err, IfOk, IfErr, nat_cmp, nat_eq, if◌then◌else◌, sym, ap, ◌∙◌, subst, refl, inl, inr, add-zero, arith}
+use Rattle.std.proofs.Common.{◌≡◌, ◌≢◌, ◌⊎◌, ℕ, zero, suc, ◌+◌, ◌<◌, ◌≤◌, ℤ, List, [], ◌∷◌, Bool, true, false, cond, length, take, drop, get_or, filter, insert, All, AllPairs, Option, Some, None, is_some, IsSome, Result, Ok, Err, IfOk, IfErr, nat_cmp, nat_eq, if◌then◌else◌, sym, ap, ◌∙◌, subst, refl, inl, inr, add-zero, arith}
 use Rattle.std.specs.List.Sorted.{IsSearchInRange, IsBinarySearchResult, IsNonDecreasingBy}
 use Rattle.std.specs.Ordering.{ordering_index}
 use Rattle.std.proofs.lemmas.Cmp.{ranked}
@@ -10,6 +10,7 @@ use Rattle.std.proofs.lemmas.List.Edits.{length-insert, get_or-insert_at, get_or
 use Rattle.std.proofs.lemmas.List.Elements.{All-append, All-cons, All-take, All-drop, All-weaker, All-contains, All-filter, filter_passes}
 use Rattle.std.proofs.lemmas.List.Kept.{AllPairs-cons, AllPairs-filter}
 use Rattle.slab.specs.Slab.{get, with_value, Updates, SameValues}
+use Rattle.smallvec.specs.SmallVec.{SmallVec}
 use Rattle.slab.proofs.SlabLemmas.{Updates-with_value}
 use Rattle.aud_meaning.specs.Parts.{contains}
 use Rattle.aud_store.specs.declared.shelf.Kept.{Kept}
@@ -146,14 +147,14 @@ module _ (made : ℕ) (s : Shelf) (n key : ℕ) (shelf : IsShelf made s) (keeps 
   ]
 
 -- a slot changes, and each key that had cells has some
-filled_still : (old new : Slots) (key k : ℕ) (v : Vec ℤ Global) → Updates old new key (Some v) → IsSome (get old k) → IsSome (get new k)
+filled_still : (old new : Slots) (key k : ℕ) (v : SmallVec ℤ) → Updates old new key (Some v) → IsSome (get old k) → IsSome (get new k)
 filled_still old new key k v updates some = elim (cases_eq k key) [
   | inl same ↦ rw (ap (get new) same ∙ updates.changed) refl
   | inr other ↦ rw (updates.others k other) some
 ]
 
 -- Under one key lie other cells.
-module _ (made : ℕ) (s : Shelf) (n key : ℕ) (v : Vec ℤ Global) (shelf : IsShelf made s) (keeps : Keeps s.kept.items n key) where
+module _ (made : ℕ) (s : Shelf) (n key : ℕ) (v : SmallVec ℤ) (shelf : IsShelf made s) (keeps : Keeps s.kept.items n key) where
   abbrev written : Shelf
   written = record s { slots = with_value s.slots key v }
 
@@ -166,7 +167,7 @@ module _ (made : ℕ) (s : Shelf) (n key : ℕ) (v : Vec ℤ Global) (shelf : Is
     filled = All-weaker (IsKept made s.slots) (IsKept made written.slots) (λ k is. (is.0, is.1, filled_still s.slots written.slots key k.key v updated is.2)) s.kept.items shelf.filled;
   }
 
-  pub written_changes : (to : List ℤ → List ℤ) (w : Vec ℤ Global) → get s.slots key ≡ Some w → v.items ≡ to w.items → Changes n to s written
+  pub written_changes : (to : List ℤ → List ℤ) (w : SmallVec ℤ) → get s.slots key ≡ Some w → v.items ≡ to w.items → Changes n to s written
   written_changes to w was is = record {
     this =
         key_cells made written n key written_shelf keeps ∙ ap cells_in updated.changed ∙ is
@@ -196,14 +197,14 @@ none_put n old new none changes m = elim (cases_eq m n) [
 ]
 
 -- a key is filled for which room was made
-pub filled_after : (old there new : Slots) (room key k : ℕ) (slot : Option (Vec ℤ Global)) → there ≡ record old { capacity = room } → k ≡ key → Updates there new k slot → Updates old new key slot
+pub filled_after : (old there new : Slots) (room key k : ℕ) (slot : Option (SmallVec ℤ)) → there ≡ record old { capacity = room } → k ≡ key → Updates there new k slot → Updates old new key slot
 filled_after old there new room key k slot is same updates = record {
   changed = ap (get new) (sym same) ∙ updates.changed;
   others = λ other differs. updates.others other (λ it. differs (it ∙ same)) ∙ ap (λ (s : Slots). get s other) is;
 }
 
 -- One more is kept.
-module _ (old new : Shelf) (n at key : ℕ) (cells : List ℤ) (v : Vec ℤ Global) (some : 0 < n) (gap : IsGap old.kept.items n at) (vacant : get old.slots key ≡ None) (updates : Updates old.slots new.slots key (Some v)) (is : v.items ≡ cells) (more : new.kept.items ≡ insert old.kept.items at (record { number = n; key = key })) where
+module _ (old new : Shelf) (n at key : ℕ) (cells : List ℤ) (v : SmallVec ℤ) (some : 0 < n) (gap : IsGap old.kept.items n at) (vacant : get old.slots key ≡ None) (updates : Updates old.slots new.slots key (Some v)) (is : v.items ≡ cells) (more : new.kept.items ≡ insert old.kept.items at (record { number = n; key = key })) where
   abbrev one : Kept
   one = record { number = n; key = key }
 

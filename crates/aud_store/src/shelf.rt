@@ -7,10 +7,14 @@ ghost use Rattle.std.specs.Ordering.{nat_cmp};
 ghost use Rattle.aud_meaning.specs.Parts.{contains};
 ghost use Rattle.aud_store.specs.Ties.Shelf.{cells_on, Changes, IsAt, IsGap, IsSame, IsShelf, Keeps, Precedes};
 
-use crate::cells::{lengthen, write};
+use crate::cells::write;
 use aud_text::int32::Int32;
 use slab::Slab;
+use smallvec::SmallVec;
 use std::alloc::{AllocError, Global};
+
+// Few cells need no memory of their own.
+type Cells = SmallVec<Int32, 6>;
 
 /// A frame that is kept, by its number, and the key under which its cells lie.
 #[derive(Clone, Copy)]
@@ -23,7 +27,7 @@ pub(crate) struct Kept {
 #[derive(Drop)]
 pub(crate) struct Shelf {
     kept: Vec<Kept>,
-    slots: Slab<Vec<Int32>>,
+    slots: Slab<Cells>,
 }
 
 impl Shelf {
@@ -55,7 +59,7 @@ impl Shelf {
         ensures { result.now ≡ cells_on self.now number }
     {
         match self.key(made, number) {
-            Some(key) => &self.slots[key],
+            Some(key) => self.slots[key].as_slice(),
             None => &[],
         }
     }
@@ -127,7 +131,7 @@ impl Shelf {
         ensures written { Changes number (λ cells. slice_set cells index value) self.old self.new }
     {
         if let Some(key) = self.key(made, number) {
-            write(&mut self.slots[key], index, value);
+            write(self.slots[key].as_mut_slice(), index, value);
         }
     }
 
@@ -204,7 +208,7 @@ impl Shelf {
         ensures still { OnErr result ((made : ℕ) → IsShelf made self.old → IsShelf made self.new) }
         ensures kept { OnErr result (IsSame self.old self.new) }
     {
-        let cells = Vec::from_slice(alloc, cells)?;
+        let cells = SmallVec::from_slice(alloc, cells)?;
         self.slots.reserve(1)?;
         let key = self.slots.vacant_key();
         self.kept.insert(at, Kept { number, key })?;
@@ -219,4 +223,16 @@ fn is_among(named: &[usize], number: usize) -> bool
     ensures { result ≡ contains number named.now }
 {
     named.binary_search(&number).is_ok()
+}
+
+// More cells: so many, each with this value.
+fn lengthen(cells: &mut Cells, count: usize, value: Int32) -> Result<(), AllocError>
+    ensures longer { OnOk result (cells.new.items ≡ cells.old.items ++ replicate count value) }
+    ensures kept { OnErr result (cells.new.items ≡ cells.old.items) }
+{
+    cells.reserve(count)?;
+    for _ in 0..count {
+        cells.push_reserved(value);
+    }
+    Ok(())
 }

@@ -25,7 +25,7 @@ use Rattle.aud_code.specs.Instruction.{Ended, Operands, Raised, Reached}
 use Rattle.aud_code.specs.Places.{Spot, loops_of}
 use Rattle.aud_code.specs.Sound.{Counts, Takes, counts_of, LastFine}
 use Rattle.aud_code.specs.View.{exit_of, plain_last}
-use Rattle.aud_single.specs.Steps.{IsOfOne}
+use Rattle.aud_sequential.specs.Steps.{IsOfOne}
 use Rattle.aud_state.specs.Fast.{scene}
 use Rattle.aud_tasks.specs.Acting.{DoesAsked}
 use Rattle.aud_tasks.specs.Endings.{is_declaration, is_statement, is_too_long}

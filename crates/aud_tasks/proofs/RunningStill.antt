@@ -22,7 +22,7 @@ use Rattle.aud_code.specs.View.{plain_found, plain_last, EndsPlainly}
 use Rattle.aud_tasks.specs.Turning.{turn_in}
 use Rattle.aud_tasks.specs.Running.{is_acting}
 use Rattle.aud_tasks.proofs.RunningMoves.{AreAlike, alike_self, AlikeTasks, moves_there, acting_there}
-use Rattle.aud_single.specs.Fast.{ComesPlainly}
+use Rattle.aud_sequential.specs.Fast.{ComesPlainly}
 
 -- whether the step at a place leaves a construct is not a question of what is seen
 module _ (plan : Plan) (s r : Sight) where

@@ -8,7 +8,7 @@ use Rattle.aud_meaning.specs.Parts.{nobody, owns, sight_in, sight_of}
 use Rattle.aud_meaning.specs.Run.{seen, seen_from, shown_place, turn, turn_at}
 use Rattle.aud_code.specs.Places.{Spot}
 use Rattle.aud_code.specs.Flat.{Flat, barrier_at, coming_at, flat_controls}
-use Rattle.aud_single.specs.Next.{place_in}
+use Rattle.aud_sequential.specs.Next.{place_in}
 use Rattle.aud_state.specs.Reads.{coming_by, place_by}
 use Rattle.aud_tasks.specs.Turning.{coming_in, seen_in, turn_in}
 

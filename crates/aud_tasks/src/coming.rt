@@ -6,7 +6,7 @@ ghost use Rattle.aud_typed.specs.Ties.View.{plain_program};
 ghost use Rattle.aud_meaning.specs.Listings.{coming_step_at, place_by, turn_kind};
 ghost use Rattle.aud_meaning.specs.Parts.{own_of, unit_of};
 ghost use Rattle.aud_code.specs.Flat.{barrier_at, flat_controls};
-ghost use Rattle.aud_single.specs.Shown.{plans_of, unit_in};
+ghost use Rattle.aud_sequential.specs.Shown.{plans_of, unit_in};
 ghost use Rattle.aud_tasks.specs.Listed.{rests, usual_place_in};
 ghost use Rattle.aud_tasks.specs.Turning.{seen_in, turned};
 
@@ -14,7 +14,7 @@ use crate::compiled::Compiled;
 use crate::turn::{Turn, turn_of};
 use aud_code::sound_code::SoundCode;
 use aud_meaning::state::{NextStep, Status, StepKind};
-use aud_single::units::end_of;
+use aud_sequential::units::end_of;
 use aud_state::state::State;
 use aud_text::place::Pos;
 use aud_typed::program::Unit;

@@ -10,7 +10,7 @@ ghost use Rattle.aud_code.specs.Instruction.{Raised, Reached};
 ghost use Rattle.aud_code.specs.Places.{Spot};
 ghost use Rattle.aud_code.specs.Sound.{counts_of, LastFine};
 ghost use Rattle.aud_code.specs.View.{plain_end, plain_last};
-ghost use Rattle.aud_single.specs.Steps.{IsOfOne};
+ghost use Rattle.aud_sequential.specs.Steps.{IsOfOne};
 ghost use Rattle.aud_tasks.specs.Acting.{DoesAsked, DoesEnd};
 ghost use Rattle.aud_tasks.specs.Endings.{is_declaration, is_statement, is_too_long};
 

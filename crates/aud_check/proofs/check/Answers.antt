@@ -5,9 +5,9 @@ use Rattle.aud_syntax.specs.Plain.{Unit}
 use Rattle.aud_typed.specs.Why.Scoped.{IsScoped}
 use Rattle.aud_fault.specs.declared.fault.Fault.{Fault}
 use Rattle.aud_fault.specs.Least.{noted}
-use Rattle.aud_bodies.specs.Programs.{faults, typed}
+use Rattle.aud_check_bodies.specs.Programs.{faults, typed}
 use Rattle.aud_check.proofs.Judged.{none_noted, judged_fine, judged_wrong}
-use Rattle.aud_bodies.proofs.Scoping.{typed_scoped}
+use Rattle.aud_check_bodies.proofs.Scoping.{typed_scoped}
 use Rattle.aud_check.proofs.check.Goals as goal
 
 -- the faults that were noted are none

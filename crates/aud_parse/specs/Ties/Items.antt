@@ -20,7 +20,7 @@ use Rattle.aud_syntax.specs.declared.tree.Unit as declared
 use Rattle.aud_syntax.specs.Ties.View.{plain_expression, plain_maybe, plain_formal, plain_definition, plain_declaration, plain_declarations, plain_statement, plain_statements, plain_iteration, plain_choices, plain_body, plain_unit}
 use Rattle.aud_grammar.specs.Actions.{Item, an_ident, assigned, called, some_names, a_variable, a_constant, a_declaration, a_statement, some_statements, a_body, a_unit, an_arm, an_iteration, a_bound, an_index, an_array, a_formal, a_definition, a_task, a_declare, a_handler}
 use Rattle.aud_cursor.specs.Ties.Items.{vec_item, boxed_item}
-use Rattle.aud_phrase.specs.Ties.Items.{simple_item, expression_item}
+use Rattle.aud_parse_expr.specs.Ties.Items.{simple_item, expression_item}
 
 abbrev pub assigned_item : Expression → Item
 assigned_item x = assigned (plain_expression x)

@@ -1,16 +1,16 @@
 -- Frames that are kept, each under a key.
-use Rattle.std.specs.Prelude.{◌≡◌, ◌≢◌, ℕ, zero, suc, ◌<◌, ◌≤◌, ℤ, Vec, List, [], ◌∷◌, length, Option, Some, None, IsSome, nat_eq, if◌then◌else◌, slice_index_or}
+use Rattle.std.specs.Prelude.{◌≡◌, ◌≢◌, ℕ, zero, suc, ◌<◌, ◌≤◌, ℤ, List, [], ◌∷◌, length, Option, Some, None, IsSome, nat_eq, if◌then◌else◌, slice_index_or}
 use Rattle.std.specs.List.{All, AllPairs, Contains}
-use Rattle.std.specs.declared.alloc.Global.{Global}
 use Rattle.slab.specs.Slab.{Slab, get}
+use Rattle.smallvec.specs.SmallVec.{SmallVec}
 use Rattle.aud_store.specs.declared.shelf.Kept.{Kept}
 use Rattle.aud_store.specs.declared.shelf.Shelf.{Shelf}
 
 -- what lies in slots: cells
 abbrev pub Slots : Type 0
-Slots = Slab (Vec ℤ Global)
+Slots = Slab (SmallVec ℤ)
 
-abbrev pub cells_in : Option (Vec ℤ Global) → List ℤ
+abbrev pub cells_in : Option (SmallVec ℤ) → List ℤ
 cells_in None = []
 cells_in (Some cells) = cells.items
 

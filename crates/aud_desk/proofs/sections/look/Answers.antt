@@ -1,10 +1,10 @@
 use Rattle.std.specs.Prelude.{◌==◌}
 use Rattle.std.proofs.Common.{rules, ◌≡◌, ◌<◌, List, ◌++◌, length, drop, None, Ok, false, inl, refl, sym, ap, ◌∙◌, arith}
 use Rattle.std.proofs.lemmas.Bool.Decides.{nat_tests}
-use Rattle.aud_seats.specs.Replies.{Answers as Replied}
-use Rattle.aud_seats.specs.Halls.{place_at, collects}
-use Rattle.aud_seats.specs.Told.{IsToldAt}
-use Rattle.aud_seats.specs.Ties.Places.{outbox_at}
+use Rattle.aud_hall.specs.Replies.{Answers as Replied}
+use Rattle.aud_hall.specs.Halls.{place_at, collects}
+use Rattle.aud_hall.specs.Told.{IsToldAt}
+use Rattle.aud_hall.specs.Ties.Places.{outbox_at}
 use Rattle.aud_desk.specs.declared.got.Got.TheVariants.{New}
 use Rattle.aud_desk.specs.Passed.{Passed, is_over, IsGot}
 use Rattle.aud_desk.specs.Sections.{not_there, Collected}

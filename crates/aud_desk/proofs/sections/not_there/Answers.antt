@@ -1,7 +1,7 @@
 use Rattle.std.proofs.Common.{◌≡◌, List, Option, Some, None, sym, ap, ◌∙◌, subst}
 use Rattle.aud_bench.specs.declared.request.Request.{Request}
-use Rattle.aud_seats.specs.Halls.{place_at}
-use Rattle.aud_seats.specs.Ties.Places.{asked_at, limits_at}
+use Rattle.aud_hall.specs.Halls.{place_at}
+use Rattle.aud_hall.specs.Ties.Places.{asked_at, limits_at}
 use Rattle.aud_desk.specs.declared.fault.DeskFault.TheVariants.{NotThisDesk}
 use Rattle.aud_desk.specs.Passed.{Passed}
 use Rattle.aud_desk.specs.Sections.{parted, or_parted, not_there}

@@ -4,7 +4,7 @@ use Rattle.aud_meaning.specs.declared.state.Status.TheVariants.{Running}
 use Rattle.aud_meaning.specs.Configuration.{for_body, Own}
 use Rattle.aud_meaning.specs.Effects.{opens}
 use Rattle.aud_meaning.specs.Parts.{alone, own_of}
-use Rattle.aud_single.specs.Shown.{plans_of, unit_in}
+use Rattle.aud_sequential.specs.Shown.{plans_of, unit_in}
 use Rattle.aud_masters.proofs.Beginning.{alone_seeing}
 use Rattle.aud_masters.proofs.activation.begin.Goals as goal
 

@@ -5,7 +5,7 @@ use Rattle.aud_meaning.specs.Evaluation.{Sight}
 use Rattle.aud_meaning.specs.Tasks as effect
 use Rattle.aud_meaning.specs.Orders.{Orders}
 use Rattle.aud_code.specs.Places.{Spot}
-use Rattle.aud_single.specs.Shown.{plans_of}
+use Rattle.aud_sequential.specs.Shown.{plans_of}
 use Rattle.aud_masters.proofs.activation.begin_all.Given as goal
 
 abbrev pub invariant-loop-task : goal.invariant-loop-task

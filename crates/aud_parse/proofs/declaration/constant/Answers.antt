@@ -3,7 +3,7 @@ use Rattle.aud_grammar.specs.Grammar as g
 use Rattle.aud_grammar.specs.Ties.Outcome.{o_rule}
 use Rattle.aud_cursor.proofs.Passing.{exit}
 use Rattle.aud_cursor.proofs.Valued.{initial}
-use Rattle.aud_phrase.proofs.Joined.{ends, joined, not_joined}
+use Rattle.aud_parse_expr.proofs.Joined.{ends, joined, not_joined}
 use Rattle.aud_parse.proofs.declaration.constant.Goals as goal
 
 pub returns-in_err-rest : goal.returns-in_err-rest

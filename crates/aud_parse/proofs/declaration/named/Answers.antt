@@ -1,7 +1,7 @@
 use Rattle.std.proofs.Common.{sym, ◌∙◌, arith}
 use Rattle.aud_grammar.specs.Ties.Outcome.{o_rule, o_this, o_other, o_last}
 use Rattle.aud_cursor.proofs.Passing.{exit}
-use Rattle.aud_phrase.proofs.Joined.{at_room, joined, not_joined}
+use Rattle.aud_parse_expr.proofs.Joined.{at_room, joined, not_joined}
 use Rattle.aud_parse.proofs.declaration.named.Goals as goal
 
 pub returns-in_err-names : goal.returns-in_err-names

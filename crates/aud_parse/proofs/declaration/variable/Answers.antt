@@ -3,7 +3,7 @@ use Rattle.aud_grammar.specs.Grammar as g
 use Rattle.aud_grammar.specs.Ties.Outcome.{o_rule}
 use Rattle.aud_cursor.proofs.Passing.{exit}
 use Rattle.aud_cursor.proofs.Valued.{initial}
-use Rattle.aud_phrase.proofs.Joined.{ends}
+use Rattle.aud_parse_expr.proofs.Joined.{ends}
 use Rattle.aud_parse.proofs.Rolls.{variable_items}
 use Rattle.aud_parse.proofs.declaration.variable.Goals as goal
 

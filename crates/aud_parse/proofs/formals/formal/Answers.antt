@@ -1,7 +1,7 @@
 use Rattle.std.proofs.Common.{arith}
 use Rattle.aud_grammar.specs.Ties.Outcome.{o_rule}
 use Rattle.aud_cursor.proofs.Passing.{to, exit_flat}
-use Rattle.aud_phrase.proofs.Joined.{at_room, joined, not_joined}
+use Rattle.aud_parse_expr.proofs.Joined.{at_room, joined, not_joined}
 use Rattle.aud_parse.proofs.Rolls.{formal_items}
 use Rattle.aud_parse.proofs.formals.formal.Goals as goal
 

@@ -7,7 +7,7 @@ use Rattle.aud_grammar.specs.Actions.{an_ident}
 use Rattle.aud_cursor.specs.Ties.Items.{vec_item}
 use Rattle.aud_parse.specs.Ties.Items.{formal_item}
 use Rattle.aud_cursor.proofs.Passing.{to}
-use Rattle.aud_phrase.proofs.Joined.{joined, not_joined}
+use Rattle.aud_parse_expr.proofs.Joined.{joined, not_joined}
 use Rattle.aud_parse.proofs.Completing.{exit_among}
 use Rattle.aud_parse.proofs.formals.specification.Goals as goal
 

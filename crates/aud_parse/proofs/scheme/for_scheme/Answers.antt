@@ -6,7 +6,7 @@ use Rattle.aud_grammar.specs.Actions.{token}
 use Rattle.aud_grammar.specs.Ties.Outcome.{o_rule}
 use Rattle.aud_cursor.proofs.Passing.{to, exit}
 use Rattle.aud_cursor.proofs.Valued.{reversed}
-use Rattle.aud_phrase.proofs.Joined.{exit_all}
+use Rattle.aud_parse_expr.proofs.Joined.{exit_all}
 use Rattle.aud_parse.proofs.Rolls.{for_items}
 use Rattle.aud_parse.proofs.scheme.for_scheme.Goals as goal
 

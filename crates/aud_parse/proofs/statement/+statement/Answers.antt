@@ -7,7 +7,7 @@ use Rattle.aud_grammar.specs.Actions.{an_ident, token, made}
 use Rattle.aud_cursor.specs.Ties.Items.{list_item}
 use Rattle.aud_parse.specs.Ties.Items.{handler_item, declaration_item, boxed_body_item}
 use Rattle.aud_cursor.proofs.Passing.{to, exit, hand_after, hand_on, level_on, no_level, word_passes, token_passes, turns_push, heads_none, heads_push, heads_end}
-use Rattle.aud_phrase.proofs.Joined.{exit_all, no_more_still}
+use Rattle.aud_parse_expr.proofs.Joined.{exit_all, no_more_still}
 use Rattle.aud_parse.proofs.Completing.{completes, completes_in, exit_in, exit_among}
 use Rattle.aud_parse.proofs.Rolls.{arm_items, in_order_items, handler_items, block_items, declare_items, procedure_items, task_body_items}
 use Rattle.aud_parse.proofs.statement.+statement.Goals as goal

@@ -1,7 +1,7 @@
 use Rattle.std.proofs.Common.{refl, rules}
 use Rattle.aud_grammar.specs.Ties.Outcome.{o_rule}
 use Rattle.aud_cursor.proofs.Passing.{exit}
-use Rattle.aud_phrase.proofs.Joined.{ends}
+use Rattle.aud_parse_expr.proofs.Joined.{ends}
 use Rattle.aud_parse.proofs.statement.assignment.Goals as goal
 
 pub returns-in_err-rest : goal.returns-in_err-rest

@@ -7,7 +7,7 @@ use Rattle.aud_grammar.specs.Grammar as g
 use Rattle.aud_grammar.specs.Actions.{an_ident, token, made}
 use Rattle.aud_cursor.specs.Ties.Items.{vec_item, opt_item}
 use Rattle.aud_parse.specs.Ties.Items.{boxed_statements_item, handler_item}
-use Rattle.aud_phrase.proofs.Joined.{at_room, joined, not_joined}
+use Rattle.aud_parse_expr.proofs.Joined.{at_room, joined, not_joined}
 use Rattle.aud_parse.proofs.Completing.{exit_in}
 use Rattle.aud_parse.proofs.Rolls.{body_items}
 use Rattle.aud_parse.proofs.statement.end_body.Goals as goal

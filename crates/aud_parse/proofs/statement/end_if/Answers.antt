@@ -7,7 +7,7 @@ use Rattle.aud_syntax.specs.declared.tree.Statements.{Statements}
 use Rattle.aud_grammar.specs.Grammar as g
 use Rattle.aud_grammar.specs.Actions.{token, made}
 use Rattle.aud_cursor.specs.Ties.Items.{vec_item, opt_item, boxed_item}
-use Rattle.aud_phrase.specs.Ties.Items.{expression_item}
+use Rattle.aud_parse_expr.specs.Ties.Items.{expression_item}
 use Rattle.aud_parse.specs.Ties.Items.{arm_item, boxed_statements_item}
 use Rattle.aud_parse.proofs.Completing.{exit_in}
 use Rattle.aud_parse.proofs.Rolls.{if_items}

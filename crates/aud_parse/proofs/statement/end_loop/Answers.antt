@@ -10,7 +10,7 @@ use Rattle.aud_grammar.specs.Actions.{an_ident, token, made}
 use Rattle.aud_cursor.specs.Ties.Items.{opt_item}
 use Rattle.aud_parse.specs.Ties.Items.{scheme_item, boxed_statements_item}
 use Rattle.aud_parse.specs.Ties.Parts.{behind_label}
-use Rattle.aud_phrase.proofs.Joined.{at_room, joined, not_joined}
+use Rattle.aud_parse_expr.proofs.Joined.{at_room, joined, not_joined}
 use Rattle.aud_parse.proofs.Completing.{exit_in}
 use Rattle.aud_parse.proofs.Rolls.{loop_items}
 use Rattle.aud_parse.proofs.statement.end_loop.Goals as goal

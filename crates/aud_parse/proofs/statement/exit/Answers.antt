@@ -5,7 +5,7 @@ use Rattle.aud_grammar.specs.Actions.{token}
 use Rattle.aud_grammar.specs.Ties.Outcome.{o_rule}
 use Rattle.aud_cursor.proofs.Passing.{exit}
 use Rattle.aud_cursor.proofs.Valued.{when}
-use Rattle.aud_phrase.proofs.Joined.{ends}
+use Rattle.aud_parse_expr.proofs.Joined.{ends}
 use Rattle.aud_parse.proofs.Rolls.{boxed_exit_items}
 use Rattle.aud_parse.proofs.statement.exit.Goals as goal
 

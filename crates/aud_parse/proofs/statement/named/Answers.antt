@@ -1,7 +1,7 @@
 use Rattle.std.proofs.Common.{arith}
 use Rattle.aud_grammar.specs.Ties.Outcome.{o_rule}
 use Rattle.aud_parse.proofs.Completing.{exit_in}
-use Rattle.aud_phrase.proofs.Joined.{joined, not_joined}
+use Rattle.aud_parse_expr.proofs.Joined.{joined, not_joined}
 use Rattle.aud_parse.proofs.Rolls.{begun_items}
 use Rattle.aud_parse.proofs.statement.named.Goals as goal
 

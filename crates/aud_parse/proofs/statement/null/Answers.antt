@@ -1,7 +1,7 @@
 use Rattle.std.proofs.Common.{rules}
 use Rattle.aud_grammar.specs.Ties.Outcome.{o_rule}
 use Rattle.aud_cursor.proofs.Passing.{exit_flat}
-use Rattle.aud_phrase.proofs.Joined.{ends_flat}
+use Rattle.aud_parse_expr.proofs.Joined.{ends_flat}
 use Rattle.aud_parse.proofs.Rolls.{boxed_items}
 use Rattle.aud_parse.proofs.statement.null.Goals as goal
 

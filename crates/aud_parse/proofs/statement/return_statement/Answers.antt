@@ -3,7 +3,7 @@ use Rattle.aud_syntax.specs.declared.tree.Statement.TheVariants as statement
 use Rattle.aud_grammar.specs.Actions.{token}
 use Rattle.aud_grammar.specs.Ties.Outcome.{o_rule}
 use Rattle.aud_cursor.proofs.Passing.{exit}
-use Rattle.aud_phrase.proofs.Joined.{ends}
+use Rattle.aud_parse_expr.proofs.Joined.{ends}
 use Rattle.aud_parse.proofs.Rolls.{return_items}
 use Rattle.aud_parse.proofs.statement.return_statement.Goals as goal
 

@@ -2,7 +2,7 @@ use Rattle.std.proofs.Common.{arith}
 use Rattle.aud_grammar.specs.Grammar as g
 use Rattle.aud_grammar.specs.Ties.Outcome.{o_rule}
 use Rattle.aud_cursor.proofs.Passing.{exit_flat}
-use Rattle.aud_phrase.proofs.Joined.{at_room, joined, not_joined, ends_flat}
+use Rattle.aud_parse_expr.proofs.Joined.{at_room, joined, not_joined, ends_flat}
 use Rattle.aud_cursor.proofs.Valued.{typed}
 use Rattle.aud_parse.proofs.Rolls.{task_items}
 use Rattle.aud_parse.proofs.task.parts.Goals as goal

@@ -6,7 +6,7 @@ use Rattle.aud_meaning.specs.Evaluation.{Sight}
 use Rattle.aud_meaning.specs.Parts.{task_plan}
 use Rattle.aud_meaning.specs.Tasks as effect
 use Rattle.aud_code.specs.Control.{going}
-use Rattle.aud_single.specs.Shown.{plans_of}
+use Rattle.aud_sequential.specs.Shown.{plans_of}
 use Rattle.aud_state.specs.View.{plain_task}
 use Rattle.aud_state.proofs.creation.all_created.Given as goal
 

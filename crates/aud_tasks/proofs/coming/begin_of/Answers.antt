@@ -1,6 +1,6 @@
 use Rattle.std.proofs.Common.{sym, ap}
 use Rattle.aud_typed.specs.Tree.{UnitPlan}
-use Rattle.aud_single.proofs.Planned.{unit_found}
+use Rattle.aud_sequential.proofs.Planned.{unit_found}
 use Rattle.aud_tasks.proofs.coming.begin_of.Goals as goal
 
 pub returns-in-Some : goal.returns-in-Some

@@ -1,6 +1,6 @@
 use Rattle.std.proofs.Common.{List, ap, sym, ◌∙◌}
 use Rattle.aud_typed.specs.Tree.{UnitPlan}
-use Rattle.aud_single.specs.Shown.{unit_in}
+use Rattle.aud_sequential.specs.Shown.{unit_in}
 use Rattle.aud_tasks.proofs.coming.begin_of_body.Goals as goal
 
 pub returns : goal.returns

@@ -1,6 +1,6 @@
 use Rattle.std.proofs.Common.{ap, sym}
 use Rattle.aud_typed.specs.Ties.View.{plain_program}
-use Rattle.aud_single.specs.Shown.{plans_of}
+use Rattle.aud_sequential.specs.Shown.{plans_of}
 use Rattle.aud_tasks.proofs.Results.{on_ok}
 use Rattle.aud_tasks.proofs.endings.declare.Goals as goal
 

@@ -1,6 +1,6 @@
 use Rattle.std.proofs.Common.{arith}
 use Rattle.aud_meaning.specs.Effects.{declares}
-use Rattle.aud_single.specs.Parked.{numbers_from}
+use Rattle.aud_sequential.specs.Parked.{numbers_from}
 use Rattle.aud_state.proofs.Beside.{alone_changed, alone_past}
 use Rattle.aud_state.proofs.state.State.declare_tasks.Goals as goal
 

@@ -2,7 +2,7 @@ use Rattle.std.proofs.Common.{ap, ◌∙◌}
 use Rattle.aud_meaning.specs.Configuration.{Own}
 use Rattle.aud_meaning.specs.Effects.{pends}
 use Rattle.aud_meaning.proofs.Part.{closes}
-use Rattle.aud_single.specs.Parked.{Parked}
+use Rattle.aud_sequential.specs.Parked.{Parked}
 use Rattle.aud_state.specs.View.{plain_own, plain_task}
 use Rattle.aud_state.proofs.task.Task.close_raising.Goals as goal
 

@@ -1,6 +1,6 @@
 use Rattle.std.proofs.Common.{ap}
 use Rattle.aud_meaning.specs.Effects.{declares}
-use Rattle.aud_single.specs.Parked.{numbers_from}
+use Rattle.aud_sequential.specs.Parked.{numbers_from}
 use Rattle.aud_code.specs.Places.{Spot}
 use Rattle.aud_meaning.specs.Ties.Part.{Part, rest_of, within}
 use Rattle.aud_state.proofs.Beside.{between, rest_kept}

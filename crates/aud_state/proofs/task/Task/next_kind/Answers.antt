@@ -1,4 +1,4 @@
-use Rattle.aud_single.specs.Parked.{acting, no_part}
+use Rattle.aud_sequential.specs.Parked.{acting, no_part}
 use Rattle.aud_code.specs.Flat.{coming_at}
 use Rattle.aud_state.specs.View.{plain_task}
 use Rattle.aud_state.proofs.Reading.{kind_own}

@@ -2,7 +2,7 @@ use Rattle.std.proofs.Common.{ap}
 use Rattle.std.specs.Prelude.{pos, ◌∷◌, []}
 use Rattle.aud_meaning.specs.Configuration.{for_body}
 use Rattle.aud_meaning.specs.Effects.{opens}
-use Rattle.aud_single.specs.Shown.{plans_of, unit_in}
+use Rattle.aud_sequential.specs.Shown.{plans_of, unit_in}
 use Rattle.aud_code.specs.Places.{Spot}
 use Rattle.aud_meaning.specs.Ties.Part.{Part, rest_of, within}
 use Rattle.aud_state.proofs.Beside.{between, rest_kept}

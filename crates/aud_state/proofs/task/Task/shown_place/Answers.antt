@@ -1,6 +1,6 @@
 use Rattle.std.proofs.Common.{ap, sym, ◌∙◌}
-use Rattle.aud_single.specs.Next.{place_in}
-use Rattle.aud_single.specs.Parked.{no_part}
+use Rattle.aud_sequential.specs.Next.{place_in}
+use Rattle.aud_sequential.specs.Parked.{no_part}
 use Rattle.aud_state.proofs.task.Task.shown_place.Goals as goal
 
 pub returns : goal.returns

@@ -16,14 +16,14 @@ updates c = filled_after c.args.self.now.slots c.reserve.new.self c.insert_reser
 pub returns-clause-shelf : goal.returns-clause-shelf
 returns-clause-shelf c =
     let after = (goal.at.returns-clause-shelf c).After-insert_reserved in
-    kept_shelf c.args.self.now _ c.args.number c.args.at c.vacant_key-key.result c.args.cells.now c.in_ok-cells.cells c.requires.some c.requires.gap (vacant after) (updates after) c.in_ok-cells.ensures.items c.in_ok-insert.ensures.items
+    kept_shelf c.args.self.now _ c.args.number c.args.at c.vacant_key-key.result c.args.cells.now c.in_ok-cells.cells c.requires.some c.requires.gap (vacant after) (updates after) c.in_ok-cells.ensures.ok c.in_ok-insert.ensures.items
 
 pub returns-clause-cells : goal.returns-clause-cells
 returns-clause-cells c =
     let after = (goal.at.returns-clause-cells c).After-insert_reserved in
-    kept_changes c.args.self.now _ c.args.number c.args.at c.vacant_key-key.result c.args.cells.now c.in_ok-cells.cells c.requires.some c.requires.gap (vacant after) (updates after) c.in_ok-cells.ensures.items c.in_ok-insert.ensures.items
+    kept_changes c.args.self.now _ c.args.number c.args.at c.vacant_key-key.result c.args.cells.now c.in_ok-cells.cells c.requires.some c.requires.gap (vacant after) (updates after) c.in_ok-cells.ensures.ok c.in_ok-insert.ensures.items
 
 pub returns-clause-found : goal.returns-clause-found
 returns-clause-found c =
     let after = (goal.at.returns-clause-found c).After-insert_reserved in
-    kept_found c.args.self.now (record { kept = c.insert.new.self; slots = c.insert_reserved.new.self }) c.args.number c.args.at c.vacant_key-key.result c.args.cells.now c.in_ok-cells.cells c.requires.some c.requires.gap (vacant after) (updates after) c.in_ok-cells.ensures.items c.in_ok-insert.ensures.items
+    kept_found c.args.self.now (record { kept = c.insert.new.self; slots = c.insert_reserved.new.self }) c.args.number c.args.at c.vacant_key-key.result c.args.cells.now c.in_ok-cells.cells c.requires.some c.requires.gap (vacant after) (updates after) c.in_ok-cells.ensures.ok c.in_ok-insert.ensures.items

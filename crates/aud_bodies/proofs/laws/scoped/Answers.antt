@@ -1,5 +1,0 @@
-use Rattle.aud_bodies.proofs.Scoping.{typed_scoped}
-use Rattle.aud_bodies.proofs.laws.scoped.Goals as goal
-
-pub returns : goal.returns
-returns c = typed_scoped

@@ -1,0 +1,14 @@
+-- Where there are no faults, each variable of the typed program has been elaborated where it is read or assigned, and each table,
+-- exception and procedure is there.
+pub mod Names
+pub mod Expressions
+pub mod Elaborations
+pub mod Declarations
+pub mod Arguments
+pub mod Tables
+pub mod Entries
+pub mod Units
+pub mod Single
+pub mod Statements
+pub mod Programs
+pub use Rattle.aud_check_bodies.proofs.Scoping.Programs.{typed_scoped}

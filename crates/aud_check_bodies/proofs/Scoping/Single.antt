@@ -1,0 +1,162 @@
+-- Statements by themselves, and what is put together of them, use what is elaborated, or there.
+use Rattle.std.specs.Prelude.{IfSome}
+use Rattle.std.specs.List.{AllByRecursion}
+use Rattle.std.proofs.Common.{◌≡◌, ℕ, true, List, [], ◌∷◌, length, slice_index_or, Option, Some, None, refl, sym, ◌∙◌, subst}
+use Rattle.aud_text.specs.declared.place.Pos.{Pos}
+use Rattle.aud_syntax.specs.declared.tree.Ident.{Ident}
+use Rattle.aud_syntax.specs.Plain as plain
+use Rattle.aud_typed.specs.declared.program.Variable.{Variable}
+use Rattle.aud_typed.specs.declared.program.ArrayAt.{ArrayAt}
+use Rattle.aud_typed.specs.declared.program.Subtype.{Subtype}
+use Rattle.aud_typed.specs.declared.program.Exception as exception
+use Rattle.aud_typed.specs.Tree as tree
+use Rattle.aud_typed.specs.Tree.{Plan}
+use Rattle.aud_typed.specs.Why.Scoped.{Scope, IsElaborated, AreElaborated, IntegerScoped, BooleanScoped, scope_after, AllThere, ArgumentsScoped, StatementScoped, PartScoped, HandlersScoped}
+use Rattle.aud_names.specs.declared.names.Meaning.{Meaning}
+use Rattle.aud_names.specs.declared.names.Meaning.TheVariants.{Object, Exception, Builtin}
+use Rattle.aud_names.specs.declared.names.Builtin as names_in_memory
+use Rattle.aud_names.specs.declared.names.Builtin.TheVariants.{Put, PutLine, NewLine}
+use Rattle.aud_names.specs.Names as names
+use Rattle.aud_names.specs.Names.{Place}
+use Rattle.aud_typing.specs.Expressions.{Typed, string, Entity, no_entity, entity, element_of, task_of}
+use Rattle.aud_check_bodies.specs.Assignments as assignments
+use Rattle.aud_check_bodies.specs.Calls as calls
+use Rattle.aud_check_bodies.specs.Handlers as handlers
+use Rattle.aud_check_bodies.specs.Statements as s
+use Rattle.aud_check_bodies.specs.Statements.{Around, nothing_around, TypedArm, TypedHandler}
+use Rattle.aud_check_bodies.proofs.Scoping.Names.{Known, IsCallable, MeaningScoped, VisibleScoped, Sees}
+use Rattle.aud_check_bodies.proofs.Scoping.Expressions.{TypedScoped, EntityScoped, value_scoped}
+use Rattle.std.proofs.Common.{◌≡◌, ℕ, true, List, [], ◌∷◌, ◌++◌, length, slice_index_or, Option, Some, None, refl, sym, ◌∙◌, subst}
+use Rattle.aud_typed.specs.Why.Scoped.{Scope, AllCreatedScoped, scope_behind, all_of_table, Elaborated, Entry, StatementScoped, PartScoped, HandlersScoped, BodyScoped}
+use Rattle.aud_names.specs.declared.names.Meaning.TheVariants.{ScalarType, Literal, Object, Array, Exception, Builtin, Procedure, TaskType, Task, TaskArray}
+use Rattle.aud_names.specs.Names.{Region, Place}
+use Rattle.aud_names.specs.Resolution as resolution
+use Rattle.aud_check_bodies.specs.Tables.{Tables, profile_of}
+use Rattle.aud_typing.specs.Expressions as e
+use Rattle.aud_check_bodies.specs.Statements.{Around, nothing_around, task_around}
+use Rattle.aud_check_bodies.proofs.Scoping.Names.{Known, IsCallable, VisibleScoped, Sees, Fits, regions_see, resolved_scoped}
+use Rattle.aud_check_bodies.proofs.Scoping.Expressions.{arguments_scoped}
+use Rattle.aud_check_bodies.proofs.Scoping.Arguments.{all_passed_scoped}
+use Rattle.aud_check_bodies.proofs.Scoping.Units.{seen}
+
+-- a statement, which elaborates nothing
+abbrev pub IsStatement : Known → Scope → tree.Statement → Type 0
+IsStatement known scope x = StatementScoped known.plan known.entries x scope × (scope_after x scope ≡ scope)
+
+abbrev pub ArmScoped : Known → Scope → TypedArm → Type 0
+ArmScoped known scope a = BooleanScoped a.condition scope × StatementScoped known.plan known.entries a.statements scope
+
+abbrev pub HandlerScoped : Known → Scope → TypedHandler → Type 0
+HandlerScoped known scope h = AllThere known.plan h.choices × StatementScoped known.plan known.entries h.statements scope
+
+module _ (known : Known) (scope : Scope) where
+  -- statements one after the other
+
+  pub before_scoped : (x : tree.Statement) (xs : List tree.Statement) → IsStatement known scope x → AllByRecursion (IsStatement known scope) xs → StatementScoped known.plan known.entries (tree.before x xs) scope
+  before_scoped x [] h i = h.0
+  before_scoped x (y ∷ ys) h i = (h.0, subst (λ z. StatementScoped known.plan known.entries (tree.before y ys) z) (sym h.1) (before_scoped y ys i.0 i.1))
+
+  pub part_scoped : (xs : List tree.Statement) → AllByRecursion (IsStatement known scope) xs → PartScoped known.plan known.entries (tree.part_of xs) scope
+  part_scoped [] h = tt
+  part_scoped (x ∷ xs) h = before_scoped x xs h.0 h.1
+
+  pub arms_then_scoped : (xs : List TypedArm) (otherwise : tree.Part) → AllByRecursion (ArmScoped known scope) xs → PartScoped known.plan known.entries otherwise scope → PartScoped known.plan known.entries (s.arms_then xs otherwise) scope
+  arms_then_scoped [] otherwise h i = i
+  arms_then_scoped (x ∷ xs) otherwise h i = (h.0.0, h.0.1, arms_then_scoped xs otherwise h.1 i)
+
+  pub handlers_of_scoped : (xs : List TypedHandler) → AllByRecursion (HandlerScoped known scope) xs → HandlersScoped known.plan known.entries (s.handlers_of xs) scope
+  handlers_of_scoped [] h = tt
+  handlers_of_scoped (x ∷ xs) h = (h.0.0, h.0.1, handlers_of_scoped xs h.1)
+
+  -- assignments
+
+  assigned_to_scoped : (v : Variable) (t : Option Subtype) (at : Pos) (x : Typed) → IsElaborated v scope → TypedScoped scope x → IsStatement known scope (assignments.assigned_to v t at x)
+  assigned_to_scoped v None at x h i = (tt, refl)
+  assigned_to_scoped v (Some t) at x h i = ((h, value_scoped known scope t x i), refl)
+
+  assigned_at_scoped : (a : ArrayAt) (index : tree.IntegerExpression) (t : Option Subtype) (at : Pos) (x : Typed) → AreElaborated a scope × IntegerScoped index scope → TypedScoped scope x → IsStatement known scope (assignments.assigned_at a index t at x)
+  assigned_at_scoped a index None at x h i = (tt, refl)
+  assigned_at_scoped a index (Some t) at x h i = ((h, value_scoped known scope t x i), refl)
+
+  meaning_assigned_scoped : (m : Meaning) (at : Pos) (x : Typed) → MeaningScoped known scope m → TypedScoped scope x → IsStatement known scope (assignments.meaning_assigned m at x)
+  meaning_assigned_scoped (Object o) at x h i = assigned_to_scoped o.variable o.subtype at x h i
+  meaning_assigned_scoped _ at x h i = (tt, refl)
+
+  pub assigned_scoped : (y : Entity) (at : Pos) (x : Typed) → EntityScoped known scope y → TypedScoped scope x → IsStatement known scope (assignments.assigned y at x)
+  assigned_scoped no_entity at x h i = (tt, refl)
+  assigned_scoped (entity m) at x h i = meaning_assigned_scoped m at x h i
+  assigned_scoped (element_of a index t) at x h i = assigned_at_scoped a index t at x h i
+  assigned_scoped (task_of a index) at x h i = (tt, refl)
+
+  -- calls
+
+  put_scoped : (b : names_in_memory.Builtin) (at : Pos) (t : Typed) → TypedScoped scope t → IsStatement known scope (calls.put_out b at t)
+  put_scoped Put at (string x) h = (h, refl)
+  put_scoped PutLine at (string x) h = ((h, tt), refl)
+  put_scoped NewLine at t h = (tt, refl)
+  put_scoped _ at _ h = (tt, refl)
+
+  pub called_scoped : (m : Option Meaning) (at : Pos) (t : Typed) → TypedScoped scope t → IsStatement known scope (calls.called m at t)
+  called_scoped (Some (Builtin b)) at t h = put_scoped b at t h
+  called_scoped _ at t h = (tt, refl)
+
+  -- of a procedure of the program, whose arguments have no faults
+  pub procedure_called_scoped : known.complete ≡ true → (unit : ℕ) (at : Pos) (xs : Option (List tree.Argument)) → IsCallable known scope unit → IfSome xs (λ ys. (length ys ≡ length (slice_index_or known.profiles unit [])) × ArgumentsScoped ys scope) → IsStatement known scope (calls.procedure_called unit at xs)
+  procedure_called_scoped whole unit at None h i = (tt, refl)
+  procedure_called_scoped whole unit at (Some xs) h i = ((h.entered, i.0 ∙ h.formals, h.outer whole, i.1, refl), refl)
+
+  -- exceptions
+
+  raised_scoped : (m : Option Meaning) (at : Pos) → VisibleScoped known scope m → IsStatement known scope (handlers.raised_by at (handlers.exception_meant m))
+  raised_scoped (Some (Exception x)) at h = (h, refl)
+  raised_scoped _ at h = (tt, refl)
+
+  meant_there : (m : Option Meaning) (xs : List exception.Exception) → VisibleScoped known scope m → AllThere known.plan xs → AllThere known.plan (handlers.with_meant (handlers.exception_meant m) xs)
+  meant_there (Some (Exception x)) xs h i = (h, i)
+  meant_there _ xs h i = i
+
+  exceptions_there : (is : List Ident) (n : Place) → Sees known scope n → AllThere known.plan (handlers.exceptions_of is n)
+  exceptions_there [] n sees = tt
+  exceptions_there (i ∷ is) n sees = meant_there (names.visible i.name n) _ (sees i.name) (exceptions_there is n sees)
+
+  pub choices_there : (x : plain.Choices) (n : Place) → Sees known scope n → AllThere known.plan (handlers.choices_of x n)
+  choices_there (plain.exceptions first more) n sees = exceptions_there (first ∷ more) n sees
+  choices_there (plain.others at) n sees = tt
+
+  pub raise_scoped : (at : Pos) (x : Option Ident) (n : Place) → Sees known scope n → IsStatement known scope (handlers.typed_raise at x n)
+  raise_scoped at None n sees = (tt, refl)
+  raise_scoped at (Some i) n sees = raised_scoped (names.visible i.name n) at (sees i.name)
+
+module _ (plan : Plan) (entries : List Entry) where
+  -- a call
+  pub call_scoped : (x : plain.Name) (n : Place) (t : Tables) (scope : Scope) → Fits (seen plan entries t) scope n → IsStatement (seen plan entries t) scope (calls.typed_call x n t)
+  call_scoped x n t scope fits = by (resolution.resolved x n).denoted.meaning (resolved_scoped (seen plan entries t) scope n sees x)
+    where
+      sees : Sees (seen plan entries t) scope n
+      sees = regions_see (seen plan entries t) scope n fits.regions
+
+      at : Pos
+      at = (resolution.name_ident x).at
+
+      other : (m : Option Meaning) → IsStatement (seen plan entries t) scope (calls.called m at (e.checked_arguments x n).typed)
+      other m = called_scoped (seen plan entries t) scope m at _ (arguments_scoped (seen plan entries t) scope n sees x)
+
+      by : (m : Option Meaning) → VisibleScoped (seen plan entries t) scope m → IsStatement (seen plan entries t) scope (calls.called_as (calls.unit_meant m) (record { meaning = m; at = (resolution.resolved x n).denoted.at }) x n t)
+      by (Some (Procedure unit)) h = procedure_called_scoped (seen plan entries t) scope refl unit at _ h (all_passed_scoped (seen plan entries t) scope n sees (profile_of unit t) (resolution.last_args x))
+      by None h = other None
+      by (Some (Builtin b)) h = other (Some (Builtin b))
+      by (Some (ScalarType u)) h = other (Some (ScalarType u))
+      by (Some (Literal b)) h = other (Some (Literal b))
+      by (Some (Object o)) h = other (Some (Object o))
+      by (Some (Array a)) h = other (Some (Array a))
+      by (Some (Exception y)) h = other (Some (Exception y))
+      by (Some (TaskType k)) h = other (Some (TaskType k))
+      by (Some (Task v)) h = other (Some (Task v))
+      by (Some (TaskArray a)) h = other (Some (TaskArray a))
+
+  -- a body whose region is entered
+  pub body_with_scoped : (xs : List tree.Statement) (b : plain.Body) (x : s.TypedBody) (first : Elaborated) (shown : List tree.Named) (scope : Scope)
+      → PartScoped plan entries (tree.part_of xs) (scope ++ first ∷ []) → scope_behind (tree.part_of xs) (scope ++ first ∷ []) ≡ scope ++ all_of_table shown ∷ []
+      → AllCreatedScoped plan entries (tree.part_of xs) (scope ++ all_of_table shown ∷ [])
+      → StatementScoped plan entries x.statements (scope ++ all_of_table shown ∷ []) → HandlersScoped plan entries x.handlers (scope ++ all_of_table shown ∷ []) → BodyScoped plan entries (s.body_with xs b x) first shown scope
+  body_with_scoped xs (plain.body begin ss hs end name semicolon) x first shown scope h i c j k = (h, i, c, j, k)

@@ -1,0 +1,593 @@
+-- Statements and bodies without faults use what is elaborated, or there.
+use Rattle.std.specs.List.{AllByRecursion}
+use Rattle.std.proofs.Common.{◌≡◌, ◌+◌, ◌<◌, ◌≤◌, ℕ, Bool, true, false, List, [], ◌∷◌, ◌++◌, length, slice_index_or, Option, Some, None, arith, refl, sym, ◌∙◌, ap, subst}
+use Rattle.std.proofs.lemmas.List.{length_push, get_or_push}
+use Rattle.aud_text.specs.declared.place.Pos.{Pos}
+use Rattle.aud_syntax.specs.declared.tree.Bound.{Bound}
+use Rattle.aud_syntax.specs.declared.tree.Ident.{Ident}
+use Rattle.aud_syntax.specs.Plain as plain
+use Rattle.aud_typed.specs.Tree as tree
+use Rattle.aud_typed.specs.Tree.{Plan}
+use Rattle.aud_typed.specs.Why.Scoped.{Scope, none_yet, no_task, AllCreatedScoped, cells_of, all_of_table, table, Elaborated, Entry, entry_of, all_formals, AreOpen, StatementScoped, HandlersScoped, BodyScoped, UnitScoped}
+use Rattle.aud_names.specs.declared.names.Parameter.{Parameter}
+use Rattle.aud_names.specs.declared.awaited.Awaited.{Awaited}
+use Rattle.aud_names.specs.Names as names
+use Rattle.aud_names.specs.Names.{Region, Place}
+use Rattle.aud_names.specs.Resolution as resolution
+use Rattle.aud_names.specs.Rules as rules
+use Rattle.aud_check_bodies.specs.Tables.{Tables, Outcome, no_body, region_kept, unit_kept, with_unit, task_kept}
+use Rattle.aud_check_bodies.specs.Declarations as d
+use Rattle.aud_check_bodies.specs.Tasks as tasks
+use Rattle.aud_typing.specs.Expressions as e
+use Rattle.aud_typing.specs.Conditions as conditions
+use Rattle.aud_check_bodies.specs.Regions as regions
+use Rattle.aud_check_bodies.specs.Assignments as assignments
+use Rattle.aud_check_bodies.specs.Handlers as handlers
+use Rattle.aud_check_bodies.specs.Statements as s
+use Rattle.aud_check_bodies.specs.Statements.{Around, nothing_around, task_around}
+use Rattle.aud_check_bodies.proofs.Scoping.Names.{Known, when, IsCallable, IsTaskType, RegionsScoped, Fits, regions_see, regions_more, open_further}
+use Rattle.aud_check_bodies.proofs.Scoping.Expressions.{denoting_scoped, expression_scoped, arguments_scoped, condition_scoped, maybe_condition_scoped, bound_of_scoped}
+use Rattle.aud_check_bodies.proofs.Scoping.Declarations.{elaborated, all_elaborated, both_none, RegionScoped, empty_scoped, InBody, DeclaredScoped, body_fits, body_regions, objects_scoped, objects_more, objects_awaited, arrays_scoped, arrays_more, arrays_awaited, exceptions_scoped, exceptions_cells, exceptions_awaited, procedure_scoped, procedure_elaborates, procedure_cells, procedure_awaited, formals_scoped, formals_awaited, task_scoped, task_more, task_waits, in_frame, in_loop, in_task}
+use Rattle.aud_check_bodies.proofs.Scoping.Tables.{further, region_grows, named_grows, unit_grows, task_grows, kept_grows, InPlan, declared_tables, first_in_plan, second_in_plan, named_table, kept_in_plan, entered_table, statement_grows, statements_grow, arms_grow, others_grow, body_grows, handlers_grow, entered_grows, declaration_grows, declarations_grow}
+use Rattle.aud_check_bodies.proofs.Scoping.Entries.{of_task, of_body, in_statement, in_arms, in_statements, in_others, in_body, in_handlers, in_entered, in_declaration, in_declarations, statement_counted, arms_counted, statements_counted, declaration_counted, declarations_counted, Ready, first_ready, second_ready}
+use Rattle.aud_check_bodies.proofs.Scoping.Elaborations.{elaborates_append, part_elaborates, AllCreated, none_created, created_append, created_with, part_created, with_activation_elaborates, with_activation_creates}
+use Rattle.aud_check_bodies.proofs.Scoping.Units.{no_fault, found_unit, none_waits, Waits, Stay, seen, IsUnit, Units, none_between, units_join, fits_grown, body_grown, units_put, InPart, part_begins, part_ends, part_goes_on, part_with_task, part_with_body}
+use Rattle.aud_check_bodies.proofs.Scoping.Single.{call_scoped, body_with_scoped, IsStatement, ArmScoped, HandlerScoped, before_scoped, part_scoped, arms_then_scoped, handlers_of_scoped, assigned_scoped, choices_there, raise_scoped}
+
+-- behind its declarations a body has all that its table names
+fits_table : (known : Known) (scope : Scope) (full : Elaborated) (n : Place) → InBody known scope full n → full.cells ≤ (names.innermost n).cells → Fits (when true known) (scope ++ all_of_table (regions.shown_names (names.innermost n).symbols) ∷ []) n
+fits_table known scope full n h all = subst (λ z. Fits (when true known) (scope ++ z ∷ []) n) (sym (all_elaborated known scope full (names.innermost n) h.innermost)) (body_fits known scope full n h all)
+
+names_of_profile : (t : Tables) (profile : List Parameter) → length t.profiles ≡ length t.units → slice_index_or (unit_kept profile t).profiles (length t.units) [] ≡ profile
+names_of_profile t profile even = get_or_push t.profiles profile [] (length t.units) even
+
+counted_frame : (m k n : ℕ) → m ≡ 0 + n → k ≡ 0 + n → record { names = m; cells = k } ≡ all_formals n
+counted_frame m k n p q =
+    let named : m ≡ n = omega (arith, p) in
+    let celled : k ≡ n = omega (arith, q) in
+    ap {B = Elaborated} (λ z. record { names = z; cells = k }) named ∙ ap {B = Elaborated} (λ z. record { names = n; cells = z }) celled
+
+-- Declarations only add cells to the frame of their region.
+
+one_widens : (x : plain.Declaration) (n : Place) (t : Tables) → (names.innermost n).cells ≤ (names.innermost (s.checked_declaration x n t).made.place).cells
+one_widens (plain.object first others mark initial) n t = objects_more (first ∷ others) first.at mark initial false n
+one_widens (plain.constant first others mark value) n t = objects_more (first ∷ others) first.at mark (plain.an_expression value) true n
+one_widens (plain.array first others low high mark) n t = arrays_more (first ∷ others) first.at low high mark n
+one_widens (plain.exception first others) n t = omega (arith, exceptions_cells (first ∷ others) (d.exceptions_in n t.exceptions))
+one_widens (plain.procedure at i fs ds b) n t = omega (arith, procedure_cells i (length t.units) (names.innermost n))
+one_widens (plain.task at is_type i x) n t = task_more is_type i (length t.tasks) (length t.units) (names.innermost n)
+one_widens (plain.task_body at i ds b) n t = omega arith
+
+declarations_widen : (xs : plain.Declarations) (n : Place) (t : Tables) → (names.innermost n).cells ≤ (names.innermost (s.checked_declarations xs n t).made.place).cells
+declarations_widen plain.no_declarations n t = omega arith
+declarations_widen (plain.more_declarations x xs) n t =
+    let first = s.checked_declaration x n t in
+    omega (arith, one_widens x n t, declarations_widen xs first.made.place first.tables)
+
+module _ (plan : Plan) (entries : List Entry) where
+  -- A construct at a place, if it has no faults, the plan has its tables, and its units' entries stand among all.
+
+  -- what is made of statements, and of the units in them
+  abbrev pub IsFine : Tables → Tables → Type 0 → Type 0
+  IsFine t u made = made × Units plan entries t u
+
+  -- What is said of each construct stands under a name of its own, so that the recursion below looks at nothing else.
+
+  StatementFine : plain.Statement → Around → Place → Tables → Scope → Type 0
+  StatementFine x around n t scope =
+      Fits (seen plan entries t) scope n → InPlan plan t (s.checked_statement x around n t).tables → Ready entries t (in_statement x around n t scope) → (s.checked_statement x around n t).faults ≡ []
+      → IsFine t (s.checked_statement x around n t).tables (IsStatement (seen plan entries t) scope (s.checked_statement x around n t).made)
+
+  ArmsFine : plain.Arms → Around → Place → Tables → Scope → Type 0
+  ArmsFine x around n t scope =
+      Fits (seen plan entries t) scope n → InPlan plan t (s.checked_arms x around n t).tables → Ready entries t (in_arms x around n t scope) → (s.checked_arms x around n t).faults ≡ []
+      → IsFine t (s.checked_arms x around n t).tables (AllByRecursion (ArmScoped (seen plan entries t) scope) (s.checked_arms x around n t).made)
+
+  StatementsFine : plain.Statements → Around → Place → Tables → Scope → Type 0
+  StatementsFine x around n t scope =
+      Fits (seen plan entries t) scope n → InPlan plan t (s.checked_statements x around n t).tables → Ready entries t (in_statements x around n t scope) → (s.checked_statements x around n t).faults ≡ []
+      → IsFine t (s.checked_statements x around n t).tables (StatementScoped plan entries (s.sequence_of (s.checked_statements x around n t).made) scope)
+
+  OthersFine : plain.MoreStatements → Around → Place → Tables → Scope → Type 0
+  OthersFine x around n t scope =
+      Fits (seen plan entries t) scope n → InPlan plan t (s.checked_others x around n t).tables → Ready entries t (in_others x around n t scope) → (s.checked_others x around n t).faults ≡ []
+      → IsFine t (s.checked_others x around n t).tables (AllByRecursion (IsStatement (seen plan entries t) scope) (s.checked_others x around n t).made)
+
+  BodyFine : plain.Body → Around → Place → Tables → Scope → Type 0
+  BodyFine x around n t scope =
+      Fits (seen plan entries t) scope n → InPlan plan t (s.checked_body x around n t).tables → Ready entries t (in_body x around n t scope) → (s.checked_body x around n t).faults ≡ []
+      → IsFine t (s.checked_body x around n t).tables (StatementScoped plan entries (s.checked_body x around n t).made.statements scope × HandlersScoped plan entries (s.checked_body x around n t).made.handlers scope)
+
+  HandlersFine : plain.Handlers → Around → Place → Tables → Scope → Type 0
+  HandlersFine x around n t scope =
+      Fits (seen plan entries t) scope n → InPlan plan t (s.checked_handlers x around n t).tables → Ready entries t (in_handlers x around n t scope) → (s.checked_handlers x around n t).faults ≡ []
+      → IsFine t (s.checked_handlers x around n t).tables (AllByRecursion (HandlerScoped (seen plan entries t) scope) (s.checked_handlers x around n t).made)
+
+  -- of declarations: at a place of a part that is entered in these frames, and whose frame has all this behind it
+  DeclarationsFine : plain.Declarations → Place → Tables → Scope → Elaborated → ℕ → Type 0
+  DeclarationsFine x n t outer full base =
+      InBody (seen plan entries t) outer full n → InPart plan entries base (outer ++ full ∷ []) (names.innermost n).awaited t → (names.innermost (s.checked_declarations x n t).made.place).cells ≤ full.cells
+      → InPlan plan t (s.checked_declarations x n t).tables → Ready entries t (in_declarations x n t (outer ++ full ∷ [])) → (s.checked_declarations x n t).faults ≡ []
+      → DeclaredScoped (seen plan entries (s.checked_declarations x n t).tables) outer full n (s.checked_declarations x n t).made
+      × InPart plan entries base (outer ++ full ∷ []) (names.innermost (s.checked_declarations x n t).made.place).awaited (s.checked_declarations x n t).tables
+      × Stay base t (s.checked_declarations x n t).tables
+
+  DeclarationFine : plain.Declaration → Place → Tables → Scope → Elaborated → ℕ → Type 0
+  DeclarationFine x n t outer full base =
+      InBody (seen plan entries t) outer full n → InPart plan entries base (outer ++ full ∷ []) (names.innermost n).awaited t → (names.innermost (s.checked_declaration x n t).made.place).cells ≤ full.cells
+      → InPlan plan t (s.checked_declaration x n t).tables → Ready entries t (in_declaration x n t (outer ++ full ∷ [])) → (s.checked_declaration x n t).faults ≡ []
+      → DeclaredScoped (seen plan entries (s.checked_declaration x n t).tables) outer full n (s.checked_declaration x n t).made
+      × InPart plan entries base (outer ++ full ∷ []) (names.innermost (s.checked_declaration x n t).made.place).awaited (s.checked_declaration x n t).tables
+      × Stay base t (s.checked_declaration x n t).tables
+
+  assign_fine : (x : plain.Name) (value : plain.Expression) (around : Around) (n : Place) (t : Tables) (scope : Scope) → StatementFine (plain.assign x value) around n t scope
+  unfolding StatementFine
+  assign_fine x value around n t scope = λ fits p r q.
+      let sees = regions_see (seen plan entries t) scope n fits.regions in
+      (assigned_scoped (seen plan entries t) scope (assignments.target_of x n).entity (resolution.name_ident x).at (e.checked_expression value n).typed (denoting_scoped (seen plan entries t) scope n sees x _ (arguments_scoped (seen plan entries t) scope n sees x)) (expression_scoped (seen plan entries t) scope n sees value), none_between plan entries t)
+
+  call_fine : (x : plain.Name) (around : Around) (n : Place) (t : Tables) (scope : Scope) → StatementFine (plain.call x) around n t scope
+  unfolding StatementFine
+  call_fine x around n t scope = λ fits p r q. (call_scoped plan entries x n t scope fits, none_between plan entries t)
+
+  if_fine : (at : Pos) (c : plain.Expression) (ss : plain.Statements) (arms : plain.Arms) (otherwise : plain.MoreStatements) (around : Around) (n : Place) (t : Tables) (scope : Scope)
+      → ((u : Tables) → StatementsFine ss around n u scope) → ((u : Tables) → ArmsFine arms around n u scope) → ((u : Tables) → OthersFine otherwise around n u scope) → StatementFine (plain.if_then at c ss arms otherwise) around n t scope
+  unfolding StatementFine StatementsFine ArmsFine OthersFine
+  if_fine at c ss arms otherwise around n t scope f g h = λ fits p r q.
+      let sees = regions_see (seen plan entries t) scope n fits.regions in
+      let first = s.checked_statements ss around n t in
+      let second = s.checked_arms arms around n first.tables in
+      let third = s.checked_others otherwise around n second.tables in
+      let parts = both_none (conditions.condition_faults c n ++ (first.faults ++ [])) (second.faults ++ (third.faults ++ [])) q in
+      let behind_first = both_none second.faults (third.faults ++ []) parts.1 in
+      let q1 = (both_none first.faults [] (both_none (conditions.condition_faults c n) (first.faults ++ []) parts.0).1).0 in
+      let q3 = (both_none third.faults [] behind_first.1).0 in
+      let g1 = statements_grow ss around n t in
+      let g2 = arms_grow arms around n first.tables in
+      let g3 = others_grow otherwise around n second.tables in
+      let e1 = in_statements ss around n t scope in
+      let e2 = in_arms arms around n first.tables scope in
+      let e3 = in_others otherwise around n second.tables scope in
+      let p2 = second_in_plan plan t first.tables third.tables g1 p in
+      let r2 = second_ready entries t first.tables e1 (e2 ++ e3) g1 (statements_counted ss around n t scope) r in
+      let fits2 = fits_grown plan entries t first.tables scope n g1 fits in
+      let one = f t fits (first_in_plan plan t first.tables third.tables (further {u = second.tables} g2 g3) p) (first_ready entries t e1 (e2 ++ e3) r) q1 in
+      let two = g first.tables fits2 (first_in_plan plan first.tables second.tables third.tables g3 p2) (first_ready entries first.tables e2 e3 r2) behind_first.0 in
+      let three = h second.tables (fits_grown plan entries first.tables second.tables scope n g2 fits2) (second_in_plan plan first.tables second.tables third.tables g2 p2) (second_ready entries first.tables second.tables e2 e3 g2 (arms_counted arms around n first.tables scope) r2) q3 in
+      let others = part_scoped (seen plan entries t) scope third.made three.0 in (
+        ((condition_scoped (seen plan entries t) scope n sees c, one.0, arms_then_scoped (seen plan entries t) scope second.made (tree.part_of third.made) two.0 others), refl),
+        units_join plan entries t first.tables third.tables one.1 (units_join plan entries first.tables second.tables third.tables two.1 three.1),
+      )
+
+  forever_fine : (label : Option Ident) (at : Pos) (ss : plain.Statements) (last : Option Ident) (semicolon : Pos) (around : Around) (n : Place) (t : Tables) (scope : Scope)
+      → StatementsFine ss (s.labelled true label around) n t scope → StatementFine (plain.loop label at plain.forever ss last semicolon) around n t scope
+  unfolding StatementFine StatementsFine
+  forever_fine label at ss last semicolon around n t scope f = λ fits p r q.
+      let o = s.checked_statements ss (s.labelled true label around) n t in
+      let q1 = (both_none o.faults [] (both_none (rules.right_label_at_end label last semicolon) (o.faults ++ []) q).1).0 in
+      let body = f fits p r q1 in
+      ((body.0, refl), body.1)
+
+  while_fine : (label : Option Ident) (at : Pos) (c : plain.Expression) (ss : plain.Statements) (last : Option Ident) (semicolon : Pos) (around : Around) (n : Place) (t : Tables) (scope : Scope)
+      → StatementsFine ss (s.labelled true label around) n t scope → StatementFine (plain.loop label at (plain.while c) ss last semicolon) around n t scope
+  unfolding StatementFine StatementsFine
+  while_fine label at c ss last semicolon around n t scope f = λ fits p r q.
+      let sees = regions_see (seen plan entries t) scope n fits.regions in
+      let o = s.checked_statements ss (s.labelled true label around) n t in
+      let q1 = (both_none o.faults [] (both_none (conditions.condition_faults c n) (o.faults ++ []) (both_none (rules.right_label_at_end label last semicolon) (conditions.condition_faults c n ++ (o.faults ++ [])) q).1).1).0 in
+      let body = f fits p r q1 in
+      (((condition_scoped (seen plan entries t) scope n sees c, body.0), refl), body.1)
+
+  for_fine : (label : Option Ident) (at : Pos) (i : Ident) (backward : Bool) (low high : plain.Simple) (ss : plain.Statements) (last : Option Ident) (semicolon : Pos) (around : Around) (n : Place) (t : Tables) (scope : Scope)
+      → ((m : Place) (u : Tables) (inner : Scope) → StatementsFine ss (s.labelled true label around) m u inner) → StatementFine (plain.loop label at (plain.for i backward low high) ss last semicolon) around n t scope
+  unfolding StatementFine StatementsFine
+  for_fine label at i backward low high ss last semicolon around n t scope f = λ fits p r q.
+      let inner = names.hiding (i ∷ []) n in
+      let sees = regions_see (seen plan entries t) scope inner fits.regions in
+      let place = regions.in_loop i n in
+      let shown = regions.shown_names (regions.loop_region i n).symbols in
+      let tables = s.loop_tables (plain.for i backward low high) n t in
+      let o = s.checked_statements ss (s.labelled true label around) place tables in
+      let bounds = s.bound_faults low inner ++ s.bound_faults high inner in
+      let q1 = (both_none o.faults [] (both_none bounds (o.faults ++ []) (both_none (rules.right_label_at_end label last semicolon) (bounds ++ (o.faults ++ [])) q).1).1).0 in
+      let grown = statements_grow ss (s.labelled true label around) place tables in
+      let entered : table plan (length t.regions) ≡ shown = entered_table plan shown t o.tables grown p in
+      let fit = fits_table (seen plan entries t) scope none_yet place (in_loop (seen plan entries t) scope none_yet i n refl fits) (omega arith) in
+      let body = f place tables (scope ++ all_of_table shown ∷ []) fit (second_in_plan plan t tables o.tables (region_grows shown t) p) (record { even = r.even; long = r.long; each = r.each }) q1 in
+      let all : (cells_of (table plan (length t.regions)) ≡ 1) × StatementScoped plan entries (s.sequence_of o.made) (scope ++ all_of_table (table plan (length t.regions)) ∷ []) =
+      subst (λ z. (cells_of z ≡ 1) × StatementScoped plan entries (s.sequence_of o.made) (scope ++ all_of_table z ∷ [])) (sym entered) (refl, body.0) in
+      (((bound_of_scoped (seen plan entries t) scope inner sees low, bound_of_scoped (seen plan entries t) scope inner sees high, all.0, all.1), refl), body.1)
+
+  exit_fine : (at : Pos) (name : Option Ident) (c : plain.MaybeExpression) (around : Around) (n : Place) (t : Tables) (scope : Scope) → StatementFine (plain.exit at name c) around n t scope
+  unfolding StatementFine
+  exit_fine at name c around n t scope = λ fits p r q. ((maybe_condition_scoped (seen plan entries t) scope n (regions_see (seen plan entries t) scope n fits.regions) c, refl), none_between plan entries t)
+
+  return_fine : (at : Pos) (x : plain.MaybeExpression) (around : Around) (n : Place) (t : Tables) (scope : Scope) → StatementFine (plain.return at x) around n t scope
+  unfolding StatementFine
+  return_fine at plain.no_expression around n t scope = λ fits p r q. ((tt, refl), none_between plan entries t)
+  return_fine at (plain.an_expression x) around n t scope = λ fits p r q. ((tt, refl), none_between plan entries t)
+
+  raise_fine : (at : Pos) (name : Option Ident) (around : Around) (n : Place) (t : Tables) (scope : Scope) → StatementFine (plain.raise at name) around n t scope
+  unfolding StatementFine
+  raise_fine at name around n t scope = λ fits p r q. (raise_scoped (seen plan entries t) scope at name n (regions_see (seen plan entries t) scope n fits.regions), none_between plan entries t)
+
+  arm_fine : (at : Pos) (c : plain.Expression) (ss : plain.Statements) (arms : plain.Arms) (around : Around) (n : Place) (t : Tables) (scope : Scope)
+      → ((u : Tables) → StatementsFine ss around n u scope) → ((u : Tables) → ArmsFine arms around n u scope) → ArmsFine (plain.more_arms at c ss arms) around n t scope
+  unfolding StatementsFine ArmsFine
+  arm_fine at c ss arms around n t scope f g = λ fits p r q.
+      let first = s.checked_statements ss around n t in
+      let second = s.checked_arms arms around n first.tables in
+      let parts = both_none (conditions.condition_faults c n ++ (first.faults ++ [])) (second.faults ++ []) q in
+      let q1 = (both_none first.faults [] (both_none (conditions.condition_faults c n) (first.faults ++ []) parts.0).1).0 in
+      let q2 = (both_none second.faults [] parts.1).0 in
+      let g1 = statements_grow ss around n t in
+      let g2 = arms_grow arms around n first.tables in
+      let e1 = in_statements ss around n t scope in
+      let e2 = in_arms arms around n first.tables scope in
+      let one = f t fits (first_in_plan plan t first.tables second.tables g2 p) (first_ready entries t e1 e2 r) q1 in
+      let two = g first.tables (fits_grown plan entries t first.tables scope n g1 fits) (second_in_plan plan t first.tables second.tables g1 p) (second_ready entries t first.tables e1 e2 g1 (statements_counted ss around n t scope) r) q2 in
+      (((condition_scoped (seen plan entries t) scope n (regions_see (seen plan entries t) scope n fits.regions) c, one.0), two.0), units_join plan entries t first.tables second.tables one.1 two.1)
+
+  in_order_fine : (x : plain.Statement) (xs : plain.MoreStatements) (around : Around) (n : Place) (t : Tables) (scope : Scope)
+      → ((u : Tables) → StatementFine x around n u scope) → ((u : Tables) → OthersFine xs around n u scope) → StatementsFine (plain.in_order x xs) around n t scope
+  unfolding StatementFine OthersFine StatementsFine
+  in_order_fine x xs around n t scope f g = λ fits p r q.
+      let first = s.checked_statement x around n t in
+      let second = s.checked_others xs around n first.tables in
+      let parts = both_none first.faults (second.faults ++ []) q in
+      let g1 = statement_grows x around n t in
+      let g2 = others_grow xs around n first.tables in
+      let e1 = in_statement x around n t scope in
+      let e2 = in_others xs around n first.tables scope in
+      let one = f t fits (first_in_plan plan t first.tables second.tables g2 p) (first_ready entries t e1 e2 r) parts.0 in
+      let two = g first.tables (fits_grown plan entries t first.tables scope n g1 fits) (second_in_plan plan t first.tables second.tables g1 p) (second_ready entries t first.tables e1 e2 g1 (statement_counted x around n t scope) r) (both_none second.faults [] parts.1).0 in
+      (before_scoped (seen plan entries t) scope first.made second.made one.0 two.0, units_join plan entries t first.tables second.tables one.1 two.1)
+
+  more_fine : (x : plain.Statement) (xs : plain.MoreStatements) (around : Around) (n : Place) (t : Tables) (scope : Scope)
+      → ((u : Tables) → StatementFine x around n u scope) → ((u : Tables) → OthersFine xs around n u scope) → OthersFine (plain.more_statements x xs) around n t scope
+  unfolding StatementFine OthersFine
+  more_fine x xs around n t scope f g = λ fits p r q.
+      let first = s.checked_statement x around n t in
+      let second = s.checked_others xs around n first.tables in
+      let parts = both_none first.faults (second.faults ++ []) q in
+      let g1 = statement_grows x around n t in
+      let g2 = others_grow xs around n first.tables in
+      let e1 = in_statement x around n t scope in
+      let e2 = in_others xs around n first.tables scope in
+      let one = f t fits (first_in_plan plan t first.tables second.tables g2 p) (first_ready entries t e1 e2 r) parts.0 in
+      let two = g first.tables (fits_grown plan entries t first.tables scope n g1 fits) (second_in_plan plan t first.tables second.tables g1 p) (second_ready entries t first.tables e1 e2 g1 (statement_counted x around n t scope) r) (both_none second.faults [] parts.1).0 in
+      ((one.0, two.0), units_join plan entries t first.tables second.tables one.1 two.1)
+
+  handler_fine : (choices : plain.Choices) (ss : plain.Statements) (hs : plain.Handlers) (around : Around) (n : Place) (t : Tables) (scope : Scope)
+      → ((u : Tables) → StatementsFine ss around n u scope) → ((u : Tables) → HandlersFine hs around n u scope) → HandlersFine (plain.more_handlers choices ss hs) around n t scope
+  unfolding StatementsFine HandlersFine
+  handler_fine choices ss hs around n t scope f g = λ fits p r q.
+      let first = s.checked_statements ss around n t in
+      let second = s.checked_handlers hs around n first.tables in
+      let parts = both_none (first.faults ++ []) (second.faults ++ []) q in
+      let there = choices_there (seen plan entries t) scope choices n (regions_see (seen plan entries t) scope n fits.regions) in
+      let g1 = statements_grow ss around n t in
+      let g2 = handlers_grow hs around n first.tables in
+      let e1 = in_statements ss around n t scope in
+      let e2 = in_handlers hs around n first.tables scope in
+      let one = f t fits (first_in_plan plan t first.tables second.tables g2 p) (first_ready entries t e1 e2 r) (both_none first.faults [] parts.0).0 in
+      let two = g first.tables (fits_grown plan entries t first.tables scope n g1 fits) (second_in_plan plan t first.tables second.tables g1 p) (second_ready entries t first.tables e1 e2 g1 (statements_counted ss around n t scope) r) (both_none second.faults [] parts.1).0 in
+      (((there, one.0), two.0), units_join plan entries t first.tables second.tables one.1 two.1)
+
+  stated_fine : (begin : Pos) (ss : plain.Statements) (hs : plain.Handlers) (end : Pos) (name : Option Ident) (semicolon : Pos) (around : Around) (n : Place) (t : Tables) (scope : Scope)
+      → ((u : Tables) → StatementsFine ss around n u scope) → ((within : Around) (u : Tables) → HandlersFine hs within n u scope) → BodyFine (plain.body begin ss hs end name semicolon) around n t scope
+  unfolding StatementsFine HandlersFine BodyFine
+  stated_fine begin ss hs end name semicolon around n t scope f g = λ fits p r q.
+      let first = s.checked_statements ss around n t in
+      let second = s.checked_handlers hs (s.handling around) n first.tables in
+      let chosen = handlers.all_choices_faults hs handlers.none_chosen n in
+      let parts = both_none first.faults (chosen ++ (second.faults ++ [])) q in
+      let q2 = (both_none second.faults [] (both_none chosen (second.faults ++ []) parts.1).1).0 in
+      let g1 = statements_grow ss around n t in
+      let g2 = handlers_grow hs (s.handling around) n first.tables in
+      let e1 = in_statements ss around n t scope in
+      let e2 = in_handlers hs (s.handling around) n first.tables scope in
+      let one = f t fits (first_in_plan plan t first.tables second.tables g2 p) (first_ready entries t e1 e2 r) parts.0 in
+      let two = g (s.handling around) first.tables (fits_grown plan entries t first.tables scope n g1 fits) (second_in_plan plan t first.tables second.tables g1 p) (second_ready entries t first.tables e1 e2 g1 (statements_counted ss around n t scope) r) q2 in
+      ((one.0, handlers_of_scoped (seen plan entries t) scope second.made two.0), units_join plan entries t first.tables second.tables one.1 two.1)
+
+  -- a body whose region is entered
+
+  entering_fine : (of_task : Bool) (ds : plain.Declarations) (b : plain.Body) (around : Around) (n : Place) (t : Tables) (outer : Scope) → ((full : Elaborated) (base : ℕ) → DeclarationsFine ds n (region_kept t) outer full base) → ((m : Place) (u : Tables) (inner : Scope) → BodyFine b around m u inner)
+      → ((full : Elaborated) → InBody (seen plan entries t) outer full n) → (names.innermost n).awaited ≡ [] → InPlan plan t (s.entered_body of_task ds b around n t).tables → Ready entries t (in_entered ds b around n t outer) → (s.entered_body of_task ds b around n t).faults ≡ []
+      → IsFine t (s.entered_body of_task ds b around n t).tables (BodyScoped plan entries (s.entered_body of_task ds b around n t).made (elaborated (names.innermost n)) (table plan (length t.regions)) outer)
+  unfolding DeclarationsFine BodyFine
+  entering_fine of_task ds b around n t outer f g inside begins p r q =
+      let o = s.checked_declarations ds n (region_kept t) in
+      let m : Place = o.made.place in
+      let region = names.innermost m in
+      let full : Elaborated = elaborated region in
+      let shown = regions.shown_names region.symbols in
+      let entry : Tables = declared_tables o t in
+      let last = s.checked_body b around m entry in
+      let waiting = tasks.without_bodies region.awaited in
+      let parts = both_none (o.faults ++ waiting) (last.faults ++ []) q in
+      let heads = both_none o.faults waiting parts.0 in
+      let g0 = declarations_grow ds n (region_kept t) in
+      let g1 = named_grows shown t o.tables g0 in
+      let g2 = body_grows b around m entry in
+      let inner : Scope = outer ++ full ∷ [] in
+      let e0 = in_declarations ds n (region_kept t) inner in
+      let e1 = in_body b around m entry inner in
+      let p0 = first_in_plan plan t entry last.tables g2 p in
+      let p1 = second_in_plan plan t entry last.tables g1 p in
+      let front = first_ready entries t e0 e1 r in
+      let r0 : Ready entries (region_kept t) e0 = record { even = front.even; long = front.long; each = front.each } in
+      let r1 = second_ready entries t entry e0 e1 g1 (declarations_counted ds n (region_kept t) inner) r in
+      let part = part_begins plan entries inner (region_kept t) (names.innermost n).awaited begins in
+      let declared = f full (length t.units) (body_grown plan entries t (region_kept t) outer full n (kept_grows t) (inside full)) part (omega arith) (kept_in_plan plan shown t o.tables p0) r0 heads.0 in
+      let scoped = declared.0 in
+      let fit : Fits (seen plan entries entry) inner m = body_fits (seen plan entries entry) outer full m scoped.0 (omega arith) in
+      let stated = g m entry inner fit p1 r1 (both_none last.faults [] parts.1).0 in
+      let named = named_table plan shown t o.tables g0 p0 in
+      let xs = tasks.with_activation of_task (s.begin_of b) o.made.elaborations in
+      let elaborates = part_elaborates (seen plan entries entry) xs (outer ++ elaborated (names.innermost n) ∷ []) inner (with_activation_elaborates (seen plan entries entry) of_task (s.begin_of b) o.made.elaborations _ _ scoped.2) in
+      let created = part_created (seen plan entries entry) inner xs (with_activation_creates (seen plan entries entry) of_task (s.begin_of b) o.made.elaborations inner scoped.3) in
+      let all : inner ≡ outer ++ all_of_table shown ∷ [] = ap (λ z. outer ++ z ∷ []) (sym (all_elaborated (seen plan entries entry) outer full region scoped.0.innermost)) in (
+        subst (λ z. BodyScoped plan entries (s.body_with xs b last.made) (elaborated (names.innermost n)) z outer) (sym named)
+            (body_with_scoped plan entries xs b last.made (elaborated (names.innermost n)) shown outer elaborates.0 (elaborates.1 ∙ all) (subst (λ z. AllCreatedScoped plan entries (tree.part_of xs) z) all created)
+            (subst (λ z. StatementScoped plan entries last.made.statements z) all stated.0.0) (subst (λ z. HandlersScoped plan entries last.made.handlers z) all stated.0.1)),
+        units_join plan entries t entry last.tables (part_ends plan entries inner t entry region.awaited (none_waits region.awaited heads.1) declared.1 declared.2) stated.1,
+      )
+
+  block_fine : (label : Option Ident) (at : Pos) (declare : Bool) (ds : plain.Declarations) (b : plain.Body) (around : Around) (n : Place) (t : Tables) (scope : Scope)
+      → ((m : Place) (u : Tables) (outer : Scope) (full : Elaborated) (base : ℕ) → DeclarationsFine ds m u outer full base) → ((within : Around) (m : Place) (u : Tables) (inner : Scope) → BodyFine b within m u inner) → StatementFine (plain.block label at declare ds b) around n t scope
+  unfolding StatementFine
+  block_fine label at declare ds b around n t scope f g = λ fits p r q.
+      let o = s.entered_body false ds b (s.labelled false label around) (names.in_frame n) t in
+      let q1 = (both_none o.faults [] (both_none (rules.right_label_at_end label (s.end_name b) (s.end_semicolon b)) (o.faults ++ []) q).1).0 in
+      let body = entering_fine false ds b (s.labelled false label around) (names.in_frame n) t scope (f (names.in_frame n) (region_kept t) scope) (g (s.labelled false label around)) (λ full. in_frame (seen plan entries t) scope full n refl fits) refl p r q1 in
+      ((body.0, refl), body.1)
+
+  -- declarations
+
+  -- what is created does not ask which procedures are known
+  created_anywhere : (t u : Tables) (scope : Scope) (xs : List tree.Statement) → AllCreated (seen plan entries t) scope xs → AllCreated (seen plan entries u) scope xs
+  created_anywhere t u scope xs h = created_with (seen plan entries t) u.profiles scope xs h
+
+  come_scoped : (t : Tables) (outer : Scope) (full : Elaborated) (name : List ℕ) (r : Region) → RegionScoped (seen plan entries t) outer full r → RegionScoped (seen plan entries t) outer full (names.body_come name r)
+  come_scoped t outer full name r h = record { level = h.level; symbols = h.symbols; named = h.named; celled = h.celled }
+
+  joined_fine : (x : plain.Declaration) (xs : plain.Declarations) (n : Place) (t : Tables) (outer : Scope) (full : Elaborated) (base : ℕ)
+      → ((m : Place) (u : Tables) → DeclarationFine x m u outer full base) → ((m : Place) (u : Tables) → DeclarationsFine xs m u outer full base) → DeclarationsFine (plain.more_declarations x xs) n t outer full base
+  unfolding DeclarationFine DeclarationsFine
+  joined_fine x xs n t outer full base f g = λ inside part enough p r q.
+      let first = s.checked_declaration x n t in
+      let second = s.checked_declarations xs first.made.place first.tables in
+      let parts = both_none first.faults (second.faults ++ []) q in
+      let g1 = declaration_grows x n t in
+      let g2 = declarations_grow xs first.made.place first.tables in
+      let scope : Scope = outer ++ full ∷ [] in
+      let e1 = in_declaration x n t scope in
+      let e2 = in_declarations xs first.made.place first.tables scope in
+      let wider = declarations_widen xs first.made.place first.tables in
+      let one = f n t inside part (omega (arith, enough, wider)) (first_in_plan plan t first.tables second.tables g2 p) (first_ready entries t e1 e2 r) parts.0 in
+      let two = g first.made.place first.tables one.0.0 one.1 enough (second_in_plan plan t first.tables second.tables g1 p) (second_ready entries t first.tables e1 e2 g1 (declaration_counted x n t scope) r) (both_none second.faults [] parts.1).0 in (
+        (
+          two.0.0,
+          omega (arith, one.0.1, two.0.1),
+          elaborates_append (seen plan entries second.tables) first.made.elaborations second.made.elaborations _ _ _ one.0.2 two.0.2,
+          created_append (seen plan entries second.tables) scope first.made.elaborations second.made.elaborations (created_anywhere first.tables second.tables scope first.made.elaborations one.0.3) two.0.3,
+        ),
+        two.1,
+        λ k lt. two.2 k lt ∙ one.2 k lt,
+      )
+
+  object_fine : (first : Ident) (others : List Ident) (mark : Ident) (initial : plain.MaybeExpression) (n : Place) (t : Tables) (outer : Scope) (full : Elaborated) (base : ℕ) → DeclarationFine (plain.object first others mark initial) n t outer full base
+  unfolding DeclarationFine
+  object_fine first others mark initial n t outer full base = λ inside part enough p r q.
+      let more = objects_more (first ∷ others) first.at mark initial false n in
+      let stays = part_goes_on plan entries base (outer ++ full ∷ []) (names.innermost n).awaited _ t t (objects_awaited (first ∷ others) first.at mark initial false n) (none_between plan entries t) part in
+      (objects_scoped (seen plan entries t) outer full first others first.at mark initial false n q (omega (arith, more, enough)) inside, stays.0, stays.1)
+
+  constant_fine : (first : Ident) (others : List Ident) (mark : Ident) (value : plain.Expression) (n : Place) (t : Tables) (outer : Scope) (full : Elaborated) (base : ℕ) → DeclarationFine (plain.constant first others mark value) n t outer full base
+  unfolding DeclarationFine
+  constant_fine first others mark value n t outer full base = λ inside part enough p r q.
+      let initial = plain.an_expression value in
+      let more = objects_more (first ∷ others) first.at mark initial true n in
+      let stays = part_goes_on plan entries base (outer ++ full ∷ []) (names.innermost n).awaited _ t t (objects_awaited (first ∷ others) first.at mark initial true n) (none_between plan entries t) part in
+      (objects_scoped (seen plan entries t) outer full first others first.at mark initial true n q (omega (arith, more, enough)) inside, stays.0, stays.1)
+
+  array_fine : (first : Ident) (others : List Ident) (low high : Bound) (mark : Ident) (n : Place) (t : Tables) (outer : Scope) (full : Elaborated) (base : ℕ) → DeclarationFine (plain.array first others low high mark) n t outer full base
+  unfolding DeclarationFine
+  array_fine first others low high mark n t outer full base = λ inside part enough p r q.
+      let more = arrays_more (first ∷ others) first.at low high mark n in
+      let stays = part_goes_on plan entries base (outer ++ full ∷ []) (names.innermost n).awaited _ t t (arrays_awaited (first ∷ others) first.at low high mark n) (none_between plan entries t) part in
+      (arrays_scoped (seen plan entries t) outer full (first ∷ others) first.at low high mark n q (omega (arith, more, enough)) inside, stays.0, stays.1)
+
+  exception_fine : (first : Ident) (others : List Ident) (n : Place) (t : Tables) (outer : Scope) (full : Elaborated) (base : ℕ) → DeclarationFine (plain.exception first others) n t outer full base
+  unfolding DeclarationFine
+  exception_fine first others n t outer full base = λ inside part enough p r q.
+      let u = (d.checked_exceptions (first ∷ others) n t).tables in
+      let same : Units plan entries t u = (omega arith, λ k after before. absurd (omega (arith, after, before)), λ k lt. refl) in
+      let stays = part_goes_on plan entries base (outer ++ full ∷ []) (names.innermost n).awaited _ t u (exceptions_awaited (first ∷ others) (d.exceptions_in n t.exceptions)) same part in
+      (exceptions_scoped (seen plan entries t) outer full (first ∷ others) n t q p.exceptions inside, stays.0, stays.1)
+
+  procedure_fine : (at : Pos) (i : Ident) (fs : List plain.Formal) (ds : plain.Declarations) (b : plain.Body) (n : Place) (t : Tables) (outer : Scope) (full : Elaborated) (base : ℕ)
+      → ((m : Place) (u : Tables) (scope : Scope) (all : Elaborated) (first : ℕ) → DeclarationsFine ds m u scope all first) → ((within : Around) (m : Place) (u : Tables) (inner : Scope) → BodyFine b within m u inner) → DeclarationFine (plain.procedure at i fs ds b) n t outer full base
+  unfolding DeclarationFine
+  procedure_fine at i fs ds b n t outer full base f g = λ inside part enough p r q.
+      let number = length t.units in
+      let before = names.innermost n in
+      let here : Place = s.procedure_place i n t in
+      let formals = s.procedure_formals i fs here in
+      let kept : Tables = unit_kept formals.profile t in
+      let inner : Place = names.place_in formals.region here.regions in
+      let scope : Scope = outer ++ full ∷ [] in
+      let own : Entry = record { formals = length formals.profile; outer = scope } in
+      let o = s.entered_body false ds b nothing_around inner kept in
+      let unit = s.checked_unit false at i.name ds b inner kept in
+      let rest = in_entered ds b nothing_around inner kept scope in
+      let once = rules.declared_once i.name i.at before.symbols in
+      let parts = both_none (once ++ formals.faults) (unit.faults ++ []) q in
+      let heads = both_none once formals.faults parts.0 in
+      let stated = both_none o.faults (rules.right_name_at_end i.name (s.end_name b) ++ []) (both_none unit.faults [] parts.1).0 in
+      let g0 = unit_grows formals.profile t in
+      let g1 = entered_grows false ds b nothing_around inner kept in
+      let first_entry : entry_of entries number ≡ own = ap (entry_of entries) (omega arith) ∙ r.each 0 (omega arith) in
+      let is_own = names_of_profile t formals.profile r.even in
+      let callable : (c : Bool) (e1 : Elaborated) → (c ≡ true → full.cells ≤ e1.cells) → IsCallable (when c (seen plan entries kept)) (outer ++ e1 ∷ []) number = λ c e1 all. record {
+        declared = omega (arith, r.even, length_push t.profiles formals.profile);
+        entered = omega (arith, r.long);
+        formals = ap length is_own ∙ ap (λ z. z.formals) (sym first_entry);
+        outer = λ z. subst (λ y. AreOpen y.outer (outer ++ e1 ∷ [])) (sym first_entry) (open_further outer full e1 (all z));
+      } in
+      let known_before = body_grown plan entries t kept outer full n g0 inside in
+      let same_frame : elaborated (names.innermost here) ≡ elaborated before = procedure_elaborates i number before in
+      let same_cells : (names.innermost here).cells ≡ before.cells = ap (λ z. z.cells) same_frame in
+      let behind_name : InBody (seen plan entries kept) outer full here = record { innermost = procedure_scoped (seen plan entries kept) outer full i number before callable heads.0 known_before.innermost; others = λ c e1 more. known_before.others c e1 (omega (arith, more, same_cells)) } in
+      let around : (c : Bool) → RegionsScoped (when c (seen plan entries kept)) scope here.regions = λ c. body_regions (seen plan entries kept) outer full c here full behind_name enough (λ z. omega arith) in
+      let level : (names.innermost here).level + 1 ≡ length scope = omega (arith, behind_name.innermost.level, length_push outer full) in
+      let formed = λ (all : Elaborated). formals_scoped (seen plan entries kept) scope all i fs (names.next_frame here) here.regions heads.1 (empty_scoped (seen plan entries kept) scope all _ level) in
+      let begun : elaborated formals.region ≡ all_formals (length formals.profile) = counted_frame formals.region.names formals.region.cells (length formals.profile) (formed full).1 (formed full).2 in
+      let within : (all : Elaborated) → InBody (seen plan entries kept) scope all inner = λ all. record { innermost = (formed all).0; others = λ c e1 more. regions_more (when c (seen plan entries kept)) scope e1 here.regions (around c) } in
+      let ready = second_ready entries t kept (own ∷ []) rest g0 (length_push t.units no_body) r in
+      let nothing_waits = formals_awaited i fs (names.next_frame here) here.regions in
+      let body = entering_fine false ds b nothing_around inner kept scope (f inner (region_kept kept) scope) (g nothing_around) within nothing_waits (record { regions = p.regions; exceptions = p.exceptions; tasks = p.tasks }) ready stated.0 in
+      let whole : IsUnit plan entries unit.made number =
+      subst (λ z. UnitScoped plan entries (tree.unit_plan unit.made) unit.made.body z) (sym first_entry) ((formed full).0.level, subst (λ z. BodyScoped plan entries o.made z (table plan (length t.regions)) scope) begun body.0) in
+      let stays = part_goes_on plan entries base scope before.awaited (names.innermost here).awaited t (with_unit number unit.made o.tables) (procedure_awaited i number before) (units_put plan entries formals.profile t o.tables unit.made whole body.1) part in
+      ((body_grown plan entries kept o.tables outer full here g1 behind_name, omega (arith, same_cells), ap (λ z. outer ++ z ∷ []) (sym same_frame), none_created (seen plan entries o.tables) scope), stays.0, stays.1)
+
+  -- tasks
+
+  task_fine : (at : Pos) (is_type : Bool) (i : Ident) (x : Option plain.TaskDefinition) (n : Place) (t : Tables) (outer : Scope) (full : Elaborated) (base : ℕ) → DeclarationFine (plain.task at is_type i x) n t outer full base
+  unfolding DeclarationFine
+  task_fine at is_type i x n t outer full base = λ inside part enough p r q.
+      let before = names.innermost n in
+      let number = length t.tasks in
+      let unit = length t.units in
+      let scope : Scope = outer ++ full ∷ [] in
+      let once = (both_none (rules.declared_once i.name i.at before.symbols) (rules.right_name_at_end i.name (tasks.name_behind x)) q).0 in
+      let planned = p.tasks number (omega (arith, length_push t.tasks unit)) in
+      let own_unit : (slice_index_or plan.tasks number no_task).unit ≡ unit = planned.1 ∙ get_or_push t.tasks unit 0 number refl in
+      let entry : entry_of entries unit ≡ of_task scope = ap (entry_of entries) (omega arith) ∙ r.each 0 (omega arith) in
+      let there : unit < length entries = omega (arith, r.long) in
+      let its_entry : entry_of entries (slice_index_or plan.tasks number no_task).unit ≡ of_task scope = ap (entry_of entries) own_unit ∙ entry in
+      let begins : (c : Bool) (e1 : Elaborated) → (c ≡ true → full.cells ≤ e1.cells) → IsTaskType (when c (seen plan entries (task_kept t))) (outer ++ e1 ∷ []) number = λ c e1 all. record {
+        declared = planned.0;
+        entered = omega (arith, own_unit, there);
+        alone = ap (λ z. z.formals) its_entry;
+        outer = λ z. subst (λ y. AreOpen y.outer (outer ++ e1 ∷ [])) (sym its_entry) (open_further outer full e1 (all z));
+      } in
+      let known_before = body_grown plan entries t (task_kept t) outer full n (task_grows t) inside in
+      let scoped = task_scoped (seen plan entries (task_kept t)) outer full at is_type i number unit n begins once known_before in
+      let a : Awaited = record { name = i.name; unit = unit; at = i.at } in
+      let waits : (tasks.with_task is_type i number unit before).awaited ≡ before.awaited ++ a ∷ [] = task_waits is_type i number unit before once in
+      let stays = part_with_task plan entries base scope before.awaited a t refl there entry part in
+      (scoped, subst (λ l. InPart plan entries base scope l (task_kept t)) (sym waits) stays.0, stays.1)
+
+  task_body_fine : (at : Pos) (i : Ident) (ds : plain.Declarations) (b : plain.Body) (n : Place) (t : Tables) (outer : Scope) (full : Elaborated) (base : ℕ)
+      → ((m : Place) (u : Tables) (scope : Scope) (all : Elaborated) (first : ℕ) → DeclarationsFine ds m u scope all first) → ((within : Around) (m : Place) (u : Tables) (inner : Scope) → BodyFine b within m u inner) → DeclarationFine (plain.task_body at i ds b) n t outer full base
+  unfolding DeclarationFine
+  task_body_fine at i ds b n t outer full base f g = λ inside part enough p r q. by (tasks.unit_awaited i n) refl inside part enough p r q
+    where
+      scope : Scope
+      scope = outer ++ full ∷ []
+
+      here : Place
+      here = tasks.place_behind i n
+
+      inner : Place
+      inner = names.task_place i.name here
+
+      checked : Place → Tables → Outcome tree.UnitBody
+      checked m u = s.checked_unit true at i.name ds b m u
+
+      whole : Option ℕ → Outcome d.Declared
+      whole found = tasks.task_body_of i found checked here t
+
+      front : Option ℕ → List Entry
+      front found = of_body found scope ++ in_entered ds b task_around inner (tasks.body_tables found t) scope
+
+      by : (found : Option ℕ) → tasks.unit_awaited i n ≡ found → InBody (seen plan entries t) outer full n → InPart plan entries base scope (names.innermost n).awaited t → (names.innermost n).cells ≤ full.cells → InPlan plan t (whole found).tables → Ready entries t (front found) → (whole found).faults ≡ []
+          → DeclaredScoped (seen plan entries (whole found).tables) outer full n (whole found).made × InPart plan entries base scope (names.innermost here).awaited (whole found).tables × Stay base t (whole found).tables
+      by None e inside part enough p r q = absurd (no_fault _ _ q)
+      by (Some unit) e inside part enough p r q =
+          let own = found_unit (Waits plan entries base scope t) i.name (names.innermost n).awaited unit e part.2 in
+          let made = checked inner t in
+          let o = s.entered_body true ds b task_around inner t in
+          let stated = both_none o.faults (rules.right_name_at_end i.name (s.end_name b) ++ []) (both_none made.faults [] q).0 in
+          let behind : InBody (seen plan entries t) outer full here = record { innermost = come_scoped t outer full i.name (names.innermost n) inside.innermost; others = inside.others } in
+          let around : (c : Bool) → RegionsScoped (when c (seen plan entries t)) scope here.regions = λ c. body_regions (seen plan entries t) outer full c here full behind enough (λ z. omega arith) in
+          let level : (names.innermost here).level + 1 ≡ length scope = omega (arith, behind.innermost.level, length_push outer full) in
+          let within : (all : Elaborated) → InBody (seen plan entries t) scope all inner = λ all. in_task (seen plan entries t) scope all i.name here level around in
+          let body = entering_fine true ds b task_around inner t scope (f inner (region_kept t) scope) (g task_around) within refl (record { regions = p.regions; exceptions = p.exceptions; tasks = p.tasks }) r stated.0 in
+          let unit_fine : IsUnit plan entries made.made unit =
+          subst (λ z. UnitScoped plan entries (tree.unit_plan made.made) made.made.body z) (sym own.3) (level, body.0) in
+          let stays = part_with_body plan entries base scope i.name (names.innermost n).awaited unit t o.tables made.made e body.1 unit_fine part in
+          ((body_grown plan entries t o.tables outer full here (entered_grows true ds b task_around inner t) behind, omega arith, refl, none_created (seen plan entries o.tables) scope), stays.0, stays.1)
+
+  null_fine : (at : Pos) (around : Around) (n : Place) (t : Tables) (scope : Scope) → StatementFine (plain.null at) around n t scope
+  unfolding StatementFine
+  null_fine at around n t scope = λ fits p r q. ((tt, refl), none_between plan entries t)
+
+  no_arms_fine : (around : Around) (n : Place) (t : Tables) (scope : Scope) → ArmsFine plain.no_arms around n t scope
+  unfolding ArmsFine
+  no_arms_fine around n t scope = λ fits p r q. (tt, none_between plan entries t)
+
+  no_others_fine : (around : Around) (n : Place) (t : Tables) (scope : Scope) → OthersFine plain.no_statements around n t scope
+  unfolding OthersFine
+  no_others_fine around n t scope = λ fits p r q. (tt, none_between plan entries t)
+
+  no_handlers_fine : (around : Around) (n : Place) (t : Tables) (scope : Scope) → HandlersFine plain.no_handlers around n t scope
+  unfolding HandlersFine
+  no_handlers_fine around n t scope = λ fits p r q. (tt, none_between plan entries t)
+
+  no_declarations_fine : (n : Place) (t : Tables) (outer : Scope) (full : Elaborated) (base : ℕ) → DeclarationsFine plain.no_declarations n t outer full base
+  unfolding DeclarationsFine
+  no_declarations_fine n t outer full base = λ inside part enough p r q. ((inside, omega arith, refl, none_created (seen plan entries t) (outer ++ full ∷ [])), part, λ k lt. refl)
+
+  mutual
+    fine_statement : (x : plain.Statement) (around : Around) (n : Place) (t : Tables) (scope : Scope) → StatementFine x around n t scope
+    fine_statement (plain.null at) around n t scope = null_fine at around n t scope
+    fine_statement (plain.assign x value) around n t scope = assign_fine x value around n t scope
+    fine_statement (plain.call x) around n t scope = call_fine x around n t scope
+    fine_statement (plain.if_then at c ss arms otherwise) around n t scope = if_fine at c ss arms otherwise around n t scope (λ u. fine_statements ss around n u scope) (λ u. fine_arms arms around n u scope) (λ u. fine_others otherwise around n u scope)
+    fine_statement (plain.loop label at plain.forever ss last semicolon) around n t scope = forever_fine label at ss last semicolon around n t scope (fine_statements ss (s.labelled true label around) n t scope)
+    fine_statement (plain.loop label at (plain.while c) ss last semicolon) around n t scope = while_fine label at c ss last semicolon around n t scope (fine_statements ss (s.labelled true label around) n t scope)
+    fine_statement (plain.loop label at (plain.for i backward low high) ss last semicolon) around n t scope = for_fine label at i backward low high ss last semicolon around n t scope (λ m u inner. fine_statements ss (s.labelled true label around) m u inner)
+    fine_statement (plain.exit at name c) around n t scope = exit_fine at name c around n t scope
+    fine_statement (plain.block label at declare ds b) around n t scope = block_fine label at declare ds b around n t scope (λ m u outer full base. fine_declarations ds m u outer full base) (λ within m u inner. fine_body b within m u inner)
+    fine_statement (plain.return at x) around n t scope = return_fine at x around n t scope
+    fine_statement (plain.raise at name) around n t scope = raise_fine at name around n t scope
+
+    fine_arms : (x : plain.Arms) (around : Around) (n : Place) (t : Tables) (scope : Scope) → ArmsFine x around n t scope
+    fine_arms plain.no_arms around n t scope = no_arms_fine around n t scope
+    fine_arms (plain.more_arms at c ss arms) around n t scope = arm_fine at c ss arms around n t scope (λ u. fine_statements ss around n u scope) (λ u. fine_arms arms around n u scope)
+
+    fine_statements : (x : plain.Statements) (around : Around) (n : Place) (t : Tables) (scope : Scope) → StatementsFine x around n t scope
+    fine_statements (plain.in_order x xs) around n t scope = in_order_fine x xs around n t scope (λ u. fine_statement x around n u scope) (λ u. fine_others xs around n u scope)
+
+    fine_others : (x : plain.MoreStatements) (around : Around) (n : Place) (t : Tables) (scope : Scope) → OthersFine x around n t scope
+    fine_others plain.no_statements around n t scope = no_others_fine around n t scope
+    fine_others (plain.more_statements x xs) around n t scope = more_fine x xs around n t scope (λ u. fine_statement x around n u scope) (λ u. fine_others xs around n u scope)
+
+    fine_body : (x : plain.Body) (around : Around) (n : Place) (t : Tables) (scope : Scope) → BodyFine x around n t scope
+    fine_body (plain.body begin ss hs end name semicolon) around n t scope = stated_fine begin ss hs end name semicolon around n t scope (λ u. fine_statements ss around n u scope) (λ within u. fine_handlers hs within n u scope)
+
+    fine_handlers : (x : plain.Handlers) (around : Around) (n : Place) (t : Tables) (scope : Scope) → HandlersFine x around n t scope
+    fine_handlers plain.no_handlers around n t scope = no_handlers_fine around n t scope
+    fine_handlers (plain.more_handlers choices ss hs) around n t scope = handler_fine choices ss hs around n t scope (λ u. fine_statements ss around n u scope) (λ u. fine_handlers hs around n u scope)
+
+    fine_declarations : (x : plain.Declarations) (n : Place) (t : Tables) (outer : Scope) (full : Elaborated) (base : ℕ) → DeclarationsFine x n t outer full base
+    fine_declarations plain.no_declarations n t outer full base = no_declarations_fine n t outer full base
+    fine_declarations (plain.more_declarations x xs) n t outer full base = joined_fine x xs n t outer full base (λ m u. fine_declaration x m u outer full base) (λ m u. fine_declarations xs m u outer full base)
+
+    fine_declaration : (x : plain.Declaration) (n : Place) (t : Tables) (outer : Scope) (full : Elaborated) (base : ℕ) → DeclarationFine x n t outer full base
+    fine_declaration (plain.object first others mark initial) n t outer full base = object_fine first others mark initial n t outer full base
+    fine_declaration (plain.constant first others mark value) n t outer full base = constant_fine first others mark value n t outer full base
+    fine_declaration (plain.array first others low high mark) n t outer full base = array_fine first others low high mark n t outer full base
+    fine_declaration (plain.exception first others) n t outer full base = exception_fine first others n t outer full base
+    fine_declaration (plain.procedure at i fs ds b) n t outer full base = procedure_fine at i fs ds b n t outer full base (λ m u scope all first. fine_declarations ds m u scope all first) (λ within m u inner. fine_body b within m u inner)
+    fine_declaration (plain.task at is_type i x) n t outer full base = task_fine at is_type i x n t outer full base
+    fine_declaration (plain.task_body at i ds b) n t outer full base = task_body_fine at i ds b n t outer full base (λ m u scope all first. fine_declarations ds m u scope all first) (λ within m u inner. fine_body b within m u inner)
+
+  pub entered_scoped : (of_task : Bool) (ds : plain.Declarations) (b : plain.Body) (around : Around) (n : Place) (t : Tables) (outer : Scope) → ((full : Elaborated) → InBody (seen plan entries t) outer full n) → (names.innermost n).awaited ≡ [] → InPlan plan t (s.entered_body of_task ds b around n t).tables → Ready entries t (in_entered ds b around n t outer) → (s.entered_body of_task ds b around n t).faults ≡ []
+      → IsFine t (s.entered_body of_task ds b around n t).tables (BodyScoped plan entries (s.entered_body of_task ds b around n t).made (elaborated (names.innermost n)) (table plan (length t.regions)) outer)
+  entered_scoped of_task ds b around n t outer = entering_fine of_task ds b around n t outer (λ full base. fine_declarations ds n (region_kept t) outer full base) (λ m u inner. fine_body b around m u inner)

@@ -1,0 +1,394 @@
+-- Tables only grow: what stands there before a construct stays where it is, whatever that enters.
+use Rattle.std.proofs.Common.{◌≡◌, ◌+◌, ◌-◌, ◌<◌, ◌≤◌, ℕ, Bool, true, false, Option, Some, None, List, [], ◌∷◌, ◌++◌, length, slice_index_or, append_assoc, append-nil, arith, refl, sym, ◌∙◌, ap}
+use Rattle.std.specs.Prelude.{slice_set}
+use Rattle.std.proofs.lemmas.List.{length_push, length-append, length-set, get_or-set_same, get_or-set_other, get_or_append_left, get_or_push, set-append_right}
+use Rattle.aud_text.specs.declared.place.Pos.{Pos}
+use Rattle.aud_syntax.specs.declared.tree.Bound.{Bound}
+use Rattle.aud_syntax.specs.declared.tree.Ident.{Ident}
+use Rattle.aud_syntax.specs.Plain as plain
+use Rattle.aud_typed.specs.Tree as tree
+use Rattle.aud_typed.specs.Tree.{Plan}
+use Rattle.aud_typed.specs.Why.Scoped.{table, no_task}
+use Rattle.aud_names.specs.declared.names.Parameter.{Parameter}
+use Rattle.aud_names.specs.Names as names
+use Rattle.aud_names.specs.Names.{Place}
+use Rattle.aud_check_bodies.specs.Tables.{Tables, Outcome, no_body, with_region, region_kept, region_named, unit_kept, with_unit, task_kept}
+use Rattle.aud_check_bodies.specs.Tasks as tasks
+use Rattle.aud_check_bodies.specs.Declarations as d
+use Rattle.aud_check_bodies.specs.Regions as regions
+use Rattle.aud_check_bodies.specs.Statements as s
+use Rattle.aud_check_bodies.specs.Statements.{Around, nothing_around, task_around}
+use Rattle.aud_check_bodies.proofs.Scoping.Declarations.{exceptions_more}
+
+pub record Grows (t u : Tables) : Type 0 where
+  pub more_regions : List (List tree.Named)
+  pub more_profiles : List (List Parameter)
+  pub more_tasks : List ℕ
+  pub regions : u.regions ≡ t.regions ++ more_regions
+  pub profiles : u.profiles ≡ t.profiles ++ more_profiles
+  pub tasks : u.tasks ≡ t.tasks ++ more_tasks
+  -- each unit has a profile
+  pub even : length u.units ≡ length t.units + length more_profiles
+  pub exceptions : length t.exceptions ≤ length u.exceptions
+
+pub same : (t : Tables) → Grows t t
+same t = record { more_regions = []; more_profiles = []; more_tasks = []; regions = sym (append-nil t.regions); profiles = sym (append-nil t.profiles); tasks = sym (append-nil t.tasks); even = omega arith; exceptions = omega arith }
+
+pub further : {t u v : Tables} → Grows t u → Grows u v → Grows t v
+further {t} {u} {v} g h = record {
+  more_regions = g.more_regions ++ h.more_regions;
+  more_profiles = g.more_profiles ++ h.more_profiles;
+  more_tasks = g.more_tasks ++ h.more_tasks;
+  regions = h.regions ∙ ap (λ z. z ++ h.more_regions) g.regions ∙ append_assoc t.regions g.more_regions h.more_regions;
+  profiles = h.profiles ∙ ap (λ z. z ++ h.more_profiles) g.profiles ∙ append_assoc t.profiles g.more_profiles h.more_profiles;
+  tasks = h.tasks ∙ ap (λ z. z ++ h.more_tasks) g.tasks ∙ append_assoc t.tasks g.more_tasks h.more_tasks;
+  even = omega (arith, g.even, h.even, length-append g.more_profiles h.more_profiles);
+  exceptions = omega (arith, g.exceptions, h.exceptions);
+}
+
+pub region_grows : (shown : List tree.Named) (t : Tables) → Grows t (with_region shown t)
+region_grows shown t = record { more_regions = shown ∷ []; more_profiles = []; more_tasks = []; regions = refl; profiles = sym (append-nil t.profiles); tasks = sym (append-nil t.tasks); even = omega arith; exceptions = omega arith }
+
+-- a place that was kept is behind what stood there
+set_behind : {X : Type 0} (xs : List X) (y : X) (ys zs : List X) (z : X) → zs ≡ (xs ++ y ∷ []) ++ ys → slice_set zs (length xs) z ≡ xs ++ slice_set (y ∷ ys) (length xs - length xs) z
+set_behind xs y ys zs z e = ap (λ l. slice_set l (length xs) z) (e ∙ append_assoc xs (y ∷ []) ys) ∙ set-append_right xs (y ∷ ys) (length xs) (length xs) z refl (omega arith)
+
+pub named_grows : (shown : List tree.Named) (t u : Tables) → Grows (region_kept t) u → Grows t (region_named (length t.regions) shown u)
+named_grows shown t u g = record {
+  more_regions = slice_set ([] ∷ g.more_regions) (length t.regions - length t.regions) shown;
+  more_profiles = g.more_profiles;
+  more_tasks = g.more_tasks;
+  regions = set_behind t.regions [] g.more_regions u.regions shown g.regions;
+  profiles = g.profiles;
+  tasks = g.tasks;
+  even = g.even;
+  exceptions = g.exceptions;
+}
+
+-- wherever a unit is put
+pub put_grows : (number : ℕ) (unit : tree.UnitBody) (t u : Tables) → Grows t u → Grows t (with_unit number unit u)
+put_grows number unit t u g = record {
+  more_regions = g.more_regions;
+  more_profiles = g.more_profiles;
+  more_tasks = g.more_tasks;
+  regions = g.regions;
+  profiles = g.profiles;
+  tasks = g.tasks;
+  even = omega (arith, g.even, length-set u.units number unit);
+  exceptions = g.exceptions;
+}
+
+pub unit_grows : (profile : List Parameter) (t : Tables) → Grows t (unit_kept profile t)
+unit_grows profile t = record { more_regions = []; more_profiles = profile ∷ []; more_tasks = []; regions = sym (append-nil t.regions); profiles = refl; tasks = sym (append-nil t.tasks); even = omega (arith, length_push t.units no_body); exceptions = omega arith }
+
+pub task_grows : (t : Tables) → Grows t (task_kept t)
+task_grows t = record { more_regions = []; more_profiles = [] ∷ []; more_tasks = length t.units ∷ []; regions = sym (append-nil t.regions); profiles = refl; tasks = refl; even = omega (arith, length_push t.units no_body); exceptions = omega arith }
+
+pub own_grows : (unit : Option ℕ) (t : Tables) → Grows t (tasks.body_tables unit t)
+own_grows None t = task_grows t
+own_grows (Some unit) t = same t
+
+pub kept_grows : (t : Tables) → Grows t (region_kept t)
+kept_grows t = region_grows [] t
+
+exceptions_grow : (is : List Ident) (n : Place) (t : Tables) → Grows t (d.checked_exceptions is n t).tables
+exceptions_grow is n t = record { more_regions = []; more_profiles = []; more_tasks = []; regions = sym (append-nil t.regions); profiles = sym (append-nil t.profiles); tasks = sym (append-nil t.tasks); even = omega arith; exceptions = exceptions_more is (d.exceptions_in n t.exceptions) }
+
+loop_grows : (i : plain.Iteration) (n : Place) (t : Tables) → Grows t (s.loop_tables i n t)
+loop_grows plain.forever n t = same t
+loop_grows (plain.while c) n t = same t
+loop_grows (plain.for i backward low high) n t = region_grows _ t
+
+-- the tables behind the declarations of a body that is entered
+abbrev pub declared_tables : Outcome d.Declared → Tables → Tables
+declared_tables o t = region_named (length t.regions) (regions.shown_names (names.innermost o.made.place).symbols) o.tables
+
+-- That a construct's tables grow stands under a name of its own, so that the recursion below looks at nothing else.
+
+StatementGrows : plain.Statement → Around → Place → Tables → Type 0
+StatementGrows x around n t = Grows t (s.checked_statement x around n t).tables
+
+ArmsGrow : plain.Arms → Around → Place → Tables → Type 0
+ArmsGrow x around n t = Grows t (s.checked_arms x around n t).tables
+
+StatementsGrow : plain.Statements → Around → Place → Tables → Type 0
+StatementsGrow x around n t = Grows t (s.checked_statements x around n t).tables
+
+OthersGrow : plain.MoreStatements → Around → Place → Tables → Type 0
+OthersGrow x around n t = Grows t (s.checked_others x around n t).tables
+
+BodyGrows : plain.Body → Around → Place → Tables → Type 0
+BodyGrows x around n t = Grows t (s.checked_body x around n t).tables
+
+HandlersGrow : plain.Handlers → Around → Place → Tables → Type 0
+HandlersGrow x around n t = Grows t (s.checked_handlers x around n t).tables
+
+DeclarationsGrow : plain.Declarations → Place → Tables → Type 0
+DeclarationsGrow x n t = Grows t (s.checked_declarations x n t).tables
+
+DeclarationGrows : plain.Declaration → Place → Tables → Type 0
+DeclarationGrows x n t = Grows t (s.checked_declaration x n t).tables
+
+if_grows : (at : Pos) (c : plain.Expression) (ss : plain.Statements) (arms : plain.Arms) (otherwise : plain.MoreStatements) (around : Around) (n : Place) (t : Tables)
+    → ((u : Tables) → StatementsGrow ss around n u) → ((u : Tables) → ArmsGrow arms around n u) → ((u : Tables) → OthersGrow otherwise around n u) → StatementGrows (plain.if_then at c ss arms otherwise) around n t
+unfolding StatementGrows StatementsGrow ArmsGrow OthersGrow
+if_grows at c ss arms otherwise around n t f g h =
+    let first = (s.checked_statements ss around n t).tables in
+    let second = (s.checked_arms arms around n first).tables in
+    further {u = first} (f t) (further {u = second} (g first) (h second))
+
+looped_grows : (label : Option Ident) (at : Pos) (i : plain.Iteration) (ss : plain.Statements) (last : Option Ident) (semicolon : Pos) (around : Around) (n : Place) (t : Tables)
+    → ((within : Around) (m : Place) (u : Tables) → StatementsGrow ss within m u) → StatementGrows (plain.loop label at i ss last semicolon) around n t
+unfolding StatementGrows StatementsGrow
+looped_grows label at i ss last semicolon around n t f = further {u = s.loop_tables i n t} (loop_grows i n t) (f (s.labelled true label around) (s.loop_place i n) (s.loop_tables i n t))
+
+entering_grows : (of_task : Bool) (ds : plain.Declarations) (b : plain.Body) (around : Around) (n : Place) (t : Tables) → DeclarationsGrow ds n (region_kept t) → ((m : Place) (u : Tables) → BodyGrows b around m u) → Grows t (s.entered_body of_task ds b around n t).tables
+unfolding DeclarationsGrow BodyGrows
+entering_grows of_task ds b around n t f g =
+    let o : Outcome d.Declared = s.checked_declarations ds n (region_kept t) in
+    let shown = regions.shown_names (names.innermost o.made.place).symbols in
+    further {u = declared_tables o t} (named_grows shown t o.tables f) (g o.made.place (declared_tables o t))
+
+block_grows : (label : Option Ident) (at : Pos) (declare : Bool) (ds : plain.Declarations) (b : plain.Body) (around : Around) (n : Place) (t : Tables)
+    → ((m : Place) (u : Tables) → DeclarationsGrow ds m u) → ((within : Around) (m : Place) (u : Tables) → BodyGrows b within m u) → StatementGrows (plain.block label at declare ds b) around n t
+unfolding StatementGrows
+block_grows label at declare ds b around n t f g = entering_grows false ds b (s.labelled false label around) (names.in_frame n) t (f (names.in_frame n) (region_kept t)) (g (s.labelled false label around))
+
+arm_grows : (at : Pos) (c : plain.Expression) (ss : plain.Statements) (arms : plain.Arms) (around : Around) (n : Place) (t : Tables)
+    → ((u : Tables) → StatementsGrow ss around n u) → ((u : Tables) → ArmsGrow arms around n u) → ArmsGrow (plain.more_arms at c ss arms) around n t
+unfolding StatementsGrow ArmsGrow
+arm_grows at c ss arms around n t f g = let first = (s.checked_statements ss around n t).tables in further {u = first} (f t) (g first)
+
+in_order_grows : (x : plain.Statement) (xs : plain.MoreStatements) (around : Around) (n : Place) (t : Tables)
+    → ((u : Tables) → StatementGrows x around n u) → ((u : Tables) → OthersGrow xs around n u) → StatementsGrow (plain.in_order x xs) around n t
+unfolding StatementGrows OthersGrow StatementsGrow
+in_order_grows x xs around n t f g = let first = (s.checked_statement x around n t).tables in further {u = first} (f t) (g first)
+
+more_grows : (x : plain.Statement) (xs : plain.MoreStatements) (around : Around) (n : Place) (t : Tables)
+    → ((u : Tables) → StatementGrows x around n u) → ((u : Tables) → OthersGrow xs around n u) → OthersGrow (plain.more_statements x xs) around n t
+unfolding StatementGrows OthersGrow
+more_grows x xs around n t f g = let first = (s.checked_statement x around n t).tables in further {u = first} (f t) (g first)
+
+stated_grows : (begin : Pos) (ss : plain.Statements) (hs : plain.Handlers) (end : Pos) (name : Option Ident) (semicolon : Pos) (around : Around) (n : Place) (t : Tables)
+    → ((u : Tables) → StatementsGrow ss around n u) → ((within : Around) (u : Tables) → HandlersGrow hs within n u) → BodyGrows (plain.body begin ss hs end name semicolon) around n t
+unfolding StatementsGrow HandlersGrow BodyGrows
+stated_grows begin ss hs end name semicolon around n t f g = let first = (s.checked_statements ss around n t).tables in further {u = first} (f t) (g (s.handling around) first)
+
+handler_grows : (choices : plain.Choices) (ss : plain.Statements) (hs : plain.Handlers) (around : Around) (n : Place) (t : Tables)
+    → ((u : Tables) → StatementsGrow ss around n u) → ((u : Tables) → HandlersGrow hs around n u) → HandlersGrow (plain.more_handlers choices ss hs) around n t
+unfolding StatementsGrow HandlersGrow
+handler_grows choices ss hs around n t f g = let first = (s.checked_statements ss around n t).tables in further {u = first} (f t) (g first)
+
+joined_grow : (x : plain.Declaration) (xs : plain.Declarations) (n : Place) (t : Tables) → ((m : Place) (u : Tables) → DeclarationGrows x m u) → ((m : Place) (u : Tables) → DeclarationsGrow xs m u) → DeclarationsGrow (plain.more_declarations x xs) n t
+unfolding DeclarationGrows DeclarationsGrow
+joined_grow x xs n t f g = let first = s.checked_declaration x n t in further {u = first.tables} (f n t) (g first.made.place first.tables)
+
+procedure_grows : (at : Pos) (i : Ident) (fs : List plain.Formal) (ds : plain.Declarations) (b : plain.Body) (n : Place) (t : Tables)
+    → ((m : Place) (u : Tables) → DeclarationsGrow ds m u) → ((within : Around) (m : Place) (u : Tables) → BodyGrows b within m u) → DeclarationGrows (plain.procedure at i fs ds b) n t
+unfolding DeclarationGrows
+procedure_grows at i fs ds b n t f g =
+    let here : Place = s.procedure_place i n t in
+    let formals = s.procedure_formals i fs here in
+    let inner : Place = names.place_in formals.region here.regions in
+    let kept : Tables = unit_kept formals.profile t in
+    let unit = s.checked_unit false at i.name ds b inner kept in
+    put_grows (length t.units) unit.made t unit.tables (further {u = kept} (unit_grows formals.profile t) (entering_grows false ds b nothing_around inner kept (f inner (region_kept kept)) (g nothing_around)))
+
+task_declaration_grows : (at : Pos) (is_type : Bool) (i : Ident) (x : Option plain.TaskDefinition) (n : Place) (t : Tables) → DeclarationGrows (plain.task at is_type i x) n t
+unfolding DeclarationGrows
+task_declaration_grows at is_type i x n t = task_grows t
+
+task_body_grows : (at : Pos) (i : Ident) (ds : plain.Declarations) (b : plain.Body) (n : Place) (t : Tables)
+    → ((m : Place) (u : Tables) → DeclarationsGrow ds m u) → ((within : Around) (m : Place) (u : Tables) → BodyGrows b within m u) → DeclarationGrows (plain.task_body at i ds b) n t
+unfolding DeclarationGrows
+task_body_grows at i ds b n t f g =
+    let found = tasks.unit_awaited i n in
+    let inner : Place = names.task_place i.name (tasks.place_behind i n) in
+    let own : Tables = tasks.body_tables found t in
+    let unit = s.checked_unit true at i.name ds b inner own in
+    put_grows (tasks.body_unit found t) unit.made t unit.tables (further {u = own} (own_grows found t) (entering_grows true ds b task_around inner own (f inner (region_kept own)) (g task_around)))
+
+null_grows : (at : Pos) (around : Around) (n : Place) (t : Tables) → StatementGrows (plain.null at) around n t
+unfolding StatementGrows
+null_grows at around n t = same t
+
+assign_grows : (x : plain.Name) (value : plain.Expression) (around : Around) (n : Place) (t : Tables) → StatementGrows (plain.assign x value) around n t
+unfolding StatementGrows
+assign_grows x value around n t = same t
+
+call_grows : (x : plain.Name) (around : Around) (n : Place) (t : Tables) → StatementGrows (plain.call x) around n t
+unfolding StatementGrows
+call_grows x around n t = same t
+
+exit_grows : (at : Pos) (name : Option Ident) (c : plain.MaybeExpression) (around : Around) (n : Place) (t : Tables) → StatementGrows (plain.exit at name c) around n t
+unfolding StatementGrows
+exit_grows at name c around n t = same t
+
+return_grows : (at : Pos) (e : plain.MaybeExpression) (around : Around) (n : Place) (t : Tables) → StatementGrows (plain.return at e) around n t
+unfolding StatementGrows
+return_grows at e around n t = same t
+
+raise_grows : (at : Pos) (name : Option Ident) (around : Around) (n : Place) (t : Tables) → StatementGrows (plain.raise at name) around n t
+unfolding StatementGrows
+raise_grows at name around n t = same t
+
+no_arms_grow : (around : Around) (n : Place) (t : Tables) → ArmsGrow plain.no_arms around n t
+unfolding ArmsGrow
+no_arms_grow around n t = same t
+
+no_others_grow : (around : Around) (n : Place) (t : Tables) → OthersGrow plain.no_statements around n t
+unfolding OthersGrow
+no_others_grow around n t = same t
+
+no_handlers_grow : (around : Around) (n : Place) (t : Tables) → HandlersGrow plain.no_handlers around n t
+unfolding HandlersGrow
+no_handlers_grow around n t = same t
+
+no_declarations_grow : (n : Place) (t : Tables) → DeclarationsGrow plain.no_declarations n t
+unfolding DeclarationsGrow
+no_declarations_grow n t = same t
+
+object_grows : (first : Ident) (others : List Ident) (mark : Ident) (initial : plain.MaybeExpression) (n : Place) (t : Tables) → DeclarationGrows (plain.object first others mark initial) n t
+unfolding DeclarationGrows
+object_grows first others mark initial n t = same t
+
+constant_grows : (first : Ident) (others : List Ident) (mark : Ident) (value : plain.Expression) (n : Place) (t : Tables) → DeclarationGrows (plain.constant first others mark value) n t
+unfolding DeclarationGrows
+constant_grows first others mark value n t = same t
+
+array_grows : (first : Ident) (others : List Ident) (low high : Bound) (mark : Ident) (n : Place) (t : Tables) → DeclarationGrows (plain.array first others low high mark) n t
+unfolding DeclarationGrows
+array_grows first others low high mark n t = same t
+
+exception_grows : (first : Ident) (others : List Ident) (n : Place) (t : Tables) → DeclarationGrows (plain.exception first others) n t
+unfolding DeclarationGrows
+exception_grows first others n t = exceptions_grow (first ∷ others) n t
+
+mutual
+  statement_more : (x : plain.Statement) (around : Around) (n : Place) (t : Tables) → StatementGrows x around n t
+  statement_more (plain.null at) around n t = null_grows at around n t
+  statement_more (plain.assign x value) around n t = assign_grows x value around n t
+  statement_more (plain.call x) around n t = call_grows x around n t
+  statement_more (plain.if_then at c ss arms otherwise) around n t = if_grows at c ss arms otherwise around n t (λ u. statements_more ss around n u) (λ u. arms_more arms around n u) (λ u. others_more otherwise around n u)
+  statement_more (plain.loop label at i ss last semicolon) around n t = looped_grows label at i ss last semicolon around n t (λ within m u. statements_more ss within m u)
+  statement_more (plain.exit at name c) around n t = exit_grows at name c around n t
+  statement_more (plain.block label at declare ds b) around n t = block_grows label at declare ds b around n t (λ m u. declarations_more ds m u) (λ within m u. body_more b within m u)
+  statement_more (plain.return at e) around n t = return_grows at e around n t
+  statement_more (plain.raise at name) around n t = raise_grows at name around n t
+
+  arms_more : (x : plain.Arms) (around : Around) (n : Place) (t : Tables) → ArmsGrow x around n t
+  arms_more plain.no_arms around n t = no_arms_grow around n t
+  arms_more (plain.more_arms at c ss arms) around n t = arm_grows at c ss arms around n t (λ u. statements_more ss around n u) (λ u. arms_more arms around n u)
+
+  statements_more : (x : plain.Statements) (around : Around) (n : Place) (t : Tables) → StatementsGrow x around n t
+  statements_more (plain.in_order x xs) around n t = in_order_grows x xs around n t (λ u. statement_more x around n u) (λ u. others_more xs around n u)
+
+  others_more : (x : plain.MoreStatements) (around : Around) (n : Place) (t : Tables) → OthersGrow x around n t
+  others_more plain.no_statements around n t = no_others_grow around n t
+  others_more (plain.more_statements x xs) around n t = more_grows x xs around n t (λ u. statement_more x around n u) (λ u. others_more xs around n u)
+
+  body_more : (x : plain.Body) (around : Around) (n : Place) (t : Tables) → BodyGrows x around n t
+  body_more (plain.body begin ss hs end name semicolon) around n t = stated_grows begin ss hs end name semicolon around n t (λ u. statements_more ss around n u) (λ within u. handlers_more hs within n u)
+
+  handlers_more : (x : plain.Handlers) (around : Around) (n : Place) (t : Tables) → HandlersGrow x around n t
+  handlers_more plain.no_handlers around n t = no_handlers_grow around n t
+  handlers_more (plain.more_handlers choices ss hs) around n t = handler_grows choices ss hs around n t (λ u. statements_more ss around n u) (λ u. handlers_more hs around n u)
+
+  declarations_more : (x : plain.Declarations) (n : Place) (t : Tables) → DeclarationsGrow x n t
+  declarations_more plain.no_declarations n t = no_declarations_grow n t
+  declarations_more (plain.more_declarations x xs) n t = joined_grow x xs n t (λ m u. declaration_more x m u) (λ m u. declarations_more xs m u)
+
+  declaration_more : (x : plain.Declaration) (n : Place) (t : Tables) → DeclarationGrows x n t
+  declaration_more (plain.object first others mark initial) n t = object_grows first others mark initial n t
+  declaration_more (plain.constant first others mark value) n t = constant_grows first others mark value n t
+  declaration_more (plain.array first others low high mark) n t = array_grows first others low high mark n t
+  declaration_more (plain.exception first others) n t = exception_grows first others n t
+  declaration_more (plain.procedure at i fs ds b) n t = procedure_grows at i fs ds b n t (λ m u. declarations_more ds m u) (λ within m u. body_more b within m u)
+  declaration_more (plain.task at is_type i x) n t = task_declaration_grows at is_type i x n t
+  declaration_more (plain.task_body at i ds b) n t = task_body_grows at i ds b n t (λ m u. declarations_more ds m u) (λ within m u. body_more b within m u)
+
+pub statement_grows : (x : plain.Statement) (around : Around) (n : Place) (t : Tables) → Grows t (s.checked_statement x around n t).tables
+unfolding StatementGrows
+statement_grows x around n t = statement_more x around n t
+
+pub arms_grow : (x : plain.Arms) (around : Around) (n : Place) (t : Tables) → Grows t (s.checked_arms x around n t).tables
+unfolding ArmsGrow
+arms_grow x around n t = arms_more x around n t
+
+pub statements_grow : (x : plain.Statements) (around : Around) (n : Place) (t : Tables) → Grows t (s.checked_statements x around n t).tables
+unfolding StatementsGrow
+statements_grow x around n t = statements_more x around n t
+
+pub others_grow : (x : plain.MoreStatements) (around : Around) (n : Place) (t : Tables) → Grows t (s.checked_others x around n t).tables
+unfolding OthersGrow
+others_grow x around n t = others_more x around n t
+
+pub body_grows : (x : plain.Body) (around : Around) (n : Place) (t : Tables) → Grows t (s.checked_body x around n t).tables
+unfolding BodyGrows
+body_grows x around n t = body_more x around n t
+
+pub handlers_grow : (x : plain.Handlers) (around : Around) (n : Place) (t : Tables) → Grows t (s.checked_handlers x around n t).tables
+unfolding HandlersGrow
+handlers_grow x around n t = handlers_more x around n t
+
+pub declarations_grow : (x : plain.Declarations) (n : Place) (t : Tables) → Grows t (s.checked_declarations x n t).tables
+unfolding DeclarationsGrow
+declarations_grow x n t = declarations_more x n t
+
+pub declaration_grows : (x : plain.Declaration) (n : Place) (t : Tables) → Grows t (s.checked_declaration x n t).tables
+unfolding DeclarationGrows
+declaration_grows x n t = declaration_more x n t
+
+-- of a body that is entered
+pub entered_grows : (of_task : Bool) (ds : plain.Declarations) (b : plain.Body) (around : Around) (n : Place) (t : Tables) → Grows t (s.entered_body of_task ds b around n t).tables
+entered_grows of_task ds b around n t = entering_grows of_task ds b around n t (declarations_more ds n (region_kept t)) (λ m u. body_more b around m u)
+
+-- What a construct enters stands in the plan, as it is behind the construct.
+
+pub record InPlan (plan : Plan) (t u : Tables) : Type 0 where
+  pub regions : (n : ℕ) → length t.regions ≤ n → n < length u.regions → table plan n ≡ slice_index_or u.regions n []
+  pub exceptions : length u.exceptions ≤ length plan.exceptions
+  pub tasks : (n : ℕ) → n < length u.tasks → (n < length plan.tasks) × ((slice_index_or plan.tasks n no_task).unit ≡ slice_index_or u.tasks n 0)
+
+module _ (plan : Plan) where
+  regions_longer : (t u : Tables) → Grows t u → length t.regions ≤ length u.regions
+  regions_longer t u g = omega (arith, ap length g.regions, length-append t.regions g.more_regions)
+
+  -- the first of two parts, and the second
+  pub first_in_plan : (t u v : Tables) → Grows u v → InPlan plan t v → InPlan plan t u
+  first_in_plan t u v g h = record {
+    regions = λ n after before. h.regions n after (omega (arith, before, regions_longer u v g)) ∙ ap (λ z. slice_index_or z n []) g.regions ∙ get_or_append_left u.regions g.more_regions [] n before;
+    exceptions = omega (arith, g.exceptions, h.exceptions);
+    tasks = λ n lt.
+        let there = h.tasks n (omega (arith, lt, ap length g.tasks, length-append u.tasks g.more_tasks)) in
+        (there.0, there.1 ∙ ap (λ z. slice_index_or z n 0) g.tasks ∙ get_or_append_left u.tasks g.more_tasks 0 n lt);
+  }
+
+  pub second_in_plan : (t u v : Tables) → Grows t u → InPlan plan t v → InPlan plan u v
+  second_in_plan t u v g h = record { regions = λ n after before. h.regions n (omega (arith, after, regions_longer t u g)) before; exceptions = h.exceptions; tasks = h.tasks }
+
+  kept_longer : (t u : Tables) → Grows (region_kept t) u → length t.regions < length u.regions
+  kept_longer t u g = omega (arith, regions_longer (region_kept t) u g, length_push t.regions [])
+
+  -- a region whose place was kept stands there, and what its declarations entered
+  pub named_table : (shown : List tree.Named) (t u : Tables) → Grows (region_kept t) u → InPlan plan t (region_named (length t.regions) shown u) → table plan (length t.regions) ≡ shown
+  named_table shown t u g h =
+      let long = length-set u.regions (length t.regions) shown in
+      h.regions (length t.regions) (omega arith) (omega (arith, long, kept_longer t u g)) ∙ get_or-set_same u.regions (length t.regions) shown [] (kept_longer t u g)
+
+  pub kept_in_plan : (shown : List tree.Named) (t u : Tables) → InPlan plan t (region_named (length t.regions) shown u) → InPlan plan (region_kept t) u
+  kept_in_plan shown t u h = record {
+    regions = λ n after before.
+        let long = length-set u.regions (length t.regions) shown in
+        let one = length_push t.regions [] in
+        h.regions n (omega (arith, after, one)) (omega (arith, before, long)) ∙ get_or-set_other u.regions (length t.regions) n shown [] (λ e. omega (arith, e, after, one));
+    exceptions = h.exceptions;
+    tasks = h.tasks;
+  }
+
+  -- a region that is entered with its names
+  pub entered_table : (shown : List tree.Named) (t u : Tables) → Grows (with_region shown t) u → InPlan plan t u → table plan (length t.regions) ≡ shown
+  entered_table shown t u g h =
+      let one = length_push t.regions shown in
+      h.regions (length t.regions) (omega arith) (omega (arith, one, regions_longer (with_region shown t) u g))
+      ∙ ap (λ z. slice_index_or z (length t.regions) []) g.regions ∙ get_or_append_left (t.regions ++ shown ∷ []) g.more_regions [] (length t.regions) (omega (arith, one)) ∙ get_or_push t.regions shown [] (length t.regions) refl

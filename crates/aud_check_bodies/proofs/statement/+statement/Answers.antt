@@ -1,0 +1,612 @@
+use Rattle.std.proofs.Common.{IfOk, ◌≡◌, ◌+◌, ◌++◌, ◌∷◌, drop, map, sym, ap, subst, ◌∙◌, refl, arith, true, false}
+use Rattle.std.proofs.lemmas.List.{drop_all}
+use Rattle.std.specs.Prelude.{ℕ, List, Box, Vec, Ok, OnOk, is_some}
+use Rattle.std.specs.Global.{Global}
+use Rattle.aud_syntax.specs.declared.tree.IfStatement.{out-IfStatement}
+use Rattle.aud_syntax.specs.declared.tree.BlockStatement.{out-BlockStatement}
+use Rattle.aud_syntax.specs.declared.tree.ProcedureDeclaration.{out-ProcedureDeclaration}
+use Rattle.aud_syntax.specs.declared.tree.TaskBody.{out-TaskBody}
+use Rattle.aud_syntax.specs.declared.tree.Body.{out-Body}
+use Rattle.aud_text.specs.declared.place.Pos.{Pos}
+use Rattle.aud_syntax.specs.Plain as m
+use Rattle.aud_typed.specs.declared.program.Arm as memory
+use Rattle.aud_typed.specs.Tree as tree
+use Rattle.aud_syntax.specs.Ties.View.{plain_expression, plain_name, plain_maybe, plain_parameter, plain_declarations, plain_statement, plain_statements, plain_others, arm_list, handler_list, plain_choices, plain_if_statement, plain_loop_statement, plain_block_statement, plain_body, plain_formal, plain_declaration, plain_procedure, plain_task_body, plain_definition}
+use Rattle.aud_syntax.proofs.Opened.{if_open, loop_open, block_open, body_open, procedure_open, task_body_open}
+use Rattle.aud_syntax.proofs.Written.{dropped}
+use Rattle.aud_typed.specs.Ties.View.{plain_statement as plain_typed_statement, plain_statements as plain_typed_statements, plain_body as plain_typed_body, plain_unit as plain_typed_unit, plain_integer, plain_boolean, statements_in}
+use Rattle.aud_fault.specs.declared.fault.Fault.{Fault}
+use Rattle.aud_fault.specs.Least.{noted}
+use Rattle.aud_names.specs.Names.{Region, Place, innermost, place_in, next_frame, in_frame, task_place, task_region, running, body_come}
+use Rattle.aud_check_bodies.specs.Regions.{shown_names, loop_region, in_loop}
+use Rattle.aud_check_bodies.specs.declared.declaration.DeclarativePart.{DeclarativePart}
+use Rattle.aud_check_bodies.specs.Declarations.{Declared, checked_objects, checked_arrays, with_procedure}
+use Rattle.aud_check_bodies.specs.Tasks.{with_bodies, without_bodies, matched_faults, body_unit, body_tables, unit_awaited, place_behind, with_activation}
+use Rattle.aud_check_bodies.specs.Formals.{Formals, checked_formals}
+use Rattle.aud_check_bodies.specs.Ties.DeclarativePart.{Declares, Enters}
+use Rattle.aud_names.specs.Ties.Regions.{plain_region, plain_regions, plain_place, names_in}
+use Rattle.aud_check_bodies.specs.Ties.Tables.{plain_tables}
+use Rattle.aud_names.specs.Rules.{right_name_at_end, right_label_at_end, exit_in_loop}
+use Rattle.aud_check_bodies.specs.Labels.{Labels}
+use Rattle.aud_check_bodies.specs.Ties.Labels.{plain_labels}
+use Rattle.aud_typing.specs.Conditions.{condition_faults, condition, maybe_condition_faults, maybe_condition}
+use Rattle.aud_check_bodies.specs.Assignments.{assign_faults, typed_assign}
+use Rattle.aud_check_bodies.specs.Calls.{call_faults, typed_call}
+use Rattle.aud_check_bodies.specs.Handlers.{raise_faults, typed_raise, none_chosen, all_choices_faults, is_others, choices_of}
+use Rattle.aud_check_bodies.specs.Tables.{Tables, Outcome, no_tables, fine, and_then, next_region, with_region, region_kept, region_named, next_unit, unit_kept, with_unit}
+use Rattle.aud_check_bodies.specs.Statements.{Around, nothing_around, task_around, begin_of, TypedStatements, TypedArm, TypedHandler, TypedBody, begin_at, return_faults, typed_return, end_name, end_semicolon, procedure_place, procedure_formals, body_with, labelled, handling, loop_number, arm_then, arms_then, arm_of, handler_of, sequence_of, checked_statement, checked_loop, checked_statements, checked_others, checked_arms, checked_body, checked_handlers, checked_declaration, checked_declarations, body_behind, checked_unit}
+use Rattle.aud_check_bodies.specs.Ties.Arms.{plain_arm, plain_arms, plain_handler, plain_handlers, plain_parts, plain_sequence, plain_items}
+use Rattle.aud_check_bodies.specs.Ties.Within.{around_of, around_entering, Checks}
+use Rattle.aud_typing.specs.Ties.Typing.{in_box}
+use Rattle.aud_check_bodies.proofs.Walked.{Is, is_fine, is_after, is_then, checks, checks_after, checks_leaf, none_left, one_left, end_left}
+use Rattle.aud_check_bodies.proofs.Bodies.{body_left, iterated_left, loop_left, behind_left, entered_left, block_left, unit_left, procedure_left, task_left}
+use Rattle.aud_check_bodies.proofs.Declared.{declares_all, declarations_ahead, all_declared, keeps_tables, declares_exceptions, declares_task}
+use Rattle.aud_typing.proofs.Notes.{noted_append}
+use Rattle.aud_check_bodies.proofs.statement.+statement.Goals as goal
+
+pub arms-loop-next-init : goal.arms-loop-next-init
+arms-loop-next-init t c = none_left plain_arm c.in_ok-typed.typed.items c.args.faults.now (checked_arms (arm_list c.args.arms.now) (around_of c.args.within) c.args.within.scope.now (plain_tables c.args.tables.now)) c.in_ok-typed.ensures.items
+
+pub arms-loop-next-preserved : goal.arms-loop-next-preserved
+arms-loop-next-preserved t c =
+    let around = around_of c.args.within in
+    let place = c.args.within.scope.now in
+    let x = c.next-item.result in
+    let i = c.loop-next.next-index in
+    one_left plain_arm c.loop-next.typed.items c.push.new.all.items c.in_ok-arm.field-0.value c.loop-next.faults c.arm.new.faults (plain_tables c.arm.new.tables)
+    (arm_of x.at (plain_expression x.condition) place (checked_statements (plain_statements x.statements) around place (plain_tables c.loop-next.tables)))
+    (λ u. checked_arms (arm_list (drop (i + 1) c.args.arms.now)) around place u)
+    (checked_arms (arm_list (drop i c.args.arms.now)) around place (plain_tables c.loop-next.tables)) c.args.faults.now (checked_arms (arm_list c.args.arms.now) around place (plain_tables c.args.tables.now))
+    (ap (λ l. checked_arms (arm_list l) around place (plain_tables c.loop-next.tables)) (dropped c.args.arms.now i x (omega arith) c.next-item.is)) c.loop-next.invariant c.in_ok-push.ensures c.in_ok-arm.ensures
+
+pub arms-returns : goal.arms-returns
+arms-returns t c =
+    let around = around_of c.args.within in
+    let place = c.args.within.scope.now in
+    end_left (map plain_arm c.loop-next.typed.items) c.loop-next.faults c.args.faults.now (plain_tables c.loop-next.tables) (checked_arms (arm_list (drop c.loop-next.next-index c.args.arms.now)) around place (plain_tables c.loop-next.tables)) (checked_arms (arm_list c.args.arms.now) around place (plain_tables c.args.tables.now))
+    (ap (λ l. checked_arms (arm_list l) around place (plain_tables c.loop-next.tables)) (drop_all c.loop-next.next-index c.args.arms.now c.loop-next-test.false)) c.loop-next.invariant
+
+pub more_statements-loop-next-init : goal.more_statements-loop-next-init
+more_statements-loop-next-init t c = none_left plain_typed_statement c.in_ok-typed.typed.items c.args.faults.now (checked_others (plain_others c.args.others.now) (around_of c.args.within) c.args.within.scope.now (plain_tables c.args.tables.now)) c.in_ok-typed.ensures.items
+
+pub more_statements-loop-next-preserved : goal.more_statements-loop-next-preserved
+more_statements-loop-next-preserved t c =
+    let around = around_of c.args.within in
+    let place = c.args.within.scope.now in
+    let x = c.next-item.result in
+    let i = c.loop-next.next-index in
+    one_left plain_typed_statement c.loop-next.typed.items c.push.new.all.items c.in_ok-statement.field-0.value c.loop-next.faults c.statement.new.faults (plain_tables c.statement.new.tables)
+    (checked_statement (plain_statement x) around place (plain_tables c.loop-next.tables))
+    (λ u. checked_others (plain_others (drop (i + 1) c.args.others.now)) around place u)
+    (checked_others (plain_others (drop i c.args.others.now)) around place (plain_tables c.loop-next.tables)) c.args.faults.now (checked_others (plain_others c.args.others.now) around place (plain_tables c.args.tables.now))
+    (ap (λ l. checked_others (plain_others l) around place (plain_tables c.loop-next.tables)) (dropped c.args.others.now i x (omega arith) c.next-item.is)) c.loop-next.invariant c.in_ok-push.ensures c.in_ok-statement.ensures
+
+pub more_statements-returns : goal.more_statements-returns
+more_statements-returns t c =
+    let around = around_of c.args.within in
+    let place = c.args.within.scope.now in
+    end_left (map plain_typed_statement c.loop-next.typed.items) c.loop-next.faults c.args.faults.now (plain_tables c.loop-next.tables) (checked_others (plain_others (drop c.loop-next.next-index c.args.others.now)) around place (plain_tables c.loop-next.tables)) (checked_others (plain_others c.args.others.now) around place (plain_tables c.args.tables.now))
+    (ap (λ l. checked_others (plain_others l) around place (plain_tables c.loop-next.tables)) (drop_all c.loop-next.next-index c.args.others.now c.loop-next-test.false)) c.loop-next.invariant
+
+pub handlers-loop-next-init : goal.handlers-loop-next-init
+handlers-loop-next-init t c = none_left plain_handler c.in_ok-typed.typed.items c.args.faults.now (checked_handlers (handler_list c.args.handlers.now) (around_of c.args.within) c.args.within.scope.now (plain_tables c.args.tables.now)) c.in_ok-typed.ensures.items
+
+pub handlers-loop-next-preserved : goal.handlers-loop-next-preserved
+handlers-loop-next-preserved t c =
+    let around = around_of c.args.within in
+    let place = c.args.within.scope.now in
+    let x = c.next-item.result in
+    let i = c.loop-next.next-index in
+    let old = c.loop-next.faults in
+    let new = c.statements.new.faults in
+    let u = plain_tables c.statements.new.tables in
+    let ss = checked_statements (plain_statements x.statements) around place (plain_tables c.loop-next.tables) in
+    let one = c.in_ok-handler_of.field-0.value in
+    let next : TypedStatements → Tables → Outcome TypedHandler = λ v t1. fine (record { others = is_others (plain_choices x.choices); choices = choices_of (plain_choices x.choices) place; statements = sequence_of v }) t1 in
+    let made : Is old new u (plain_handler one) (handler_of (plain_choices x.choices) place ss) =
+    is_then old new new u u (plain_sequence c.in_ok-statements.statements.value) (plain_handler one) ss next c.in_ok-statements.ensures (is_fine new u (plain_handler one) (record { others = is_others (plain_choices x.choices); choices = choices_of (plain_choices x.choices) place; statements = statements_in c.in_ok-statements.statements.value }) c.in_ok-handler_of.ensures) in
+    one_left plain_handler c.loop-next.typed.items c.push.new.all.items one old new u
+    (handler_of (plain_choices x.choices) place ss)
+    (λ v. checked_handlers (handler_list (drop (i + 1) c.args.handlers.now)) around place v)
+    (checked_handlers (handler_list (drop i c.args.handlers.now)) around place (plain_tables c.loop-next.tables)) c.args.faults.now (checked_handlers (handler_list c.args.handlers.now) around place (plain_tables c.args.tables.now))
+    (ap (λ l. checked_handlers (handler_list l) around place (plain_tables c.loop-next.tables)) (dropped c.args.handlers.now i x (omega arith) c.next-item.is)) c.loop-next.invariant c.in_ok-push.ensures made
+
+pub handlers-returns : goal.handlers-returns
+handlers-returns t c =
+    let around = around_of c.args.within in
+    let place = c.args.within.scope.now in
+    end_left (map plain_handler c.loop-next.typed.items) c.loop-next.faults c.args.faults.now (plain_tables c.loop-next.tables) (checked_handlers (handler_list (drop c.loop-next.next-index c.args.handlers.now)) around place (plain_tables c.loop-next.tables)) (checked_handlers (handler_list c.args.handlers.now) around place (plain_tables c.args.tables.now))
+    (ap (λ l. checked_handlers (handler_list l) around place (plain_tables c.loop-next.tables)) (drop_all c.loop-next.next-index c.args.handlers.now c.loop-next-test.false)) c.loop-next.invariant
+
+pub statement-returns-in-If : goal.statement-returns-in-If
+statement-returns-in-If t c =
+    let around = around_of c.args.within in
+    let place = c.args.within.scope.now in
+    let opened : plain_statement c.args.statement.now ≡ plain_if_statement c.deref.result.now = ap plain_statement c.in-If.is ∙ if_open c.in-If.statement.value ∙ ap plain_if_statement (sym c.deref.ensures) in
+    subst (λ z. Checks (in_box plain_typed_statement) c.if_statement.result c.args.faults.now c.if_statement.new.faults (plain_tables c.if_statement.new.tables) (checked_statement z around place (plain_tables c.args.tables.now))) (sym opened) c.if_statement.ensures
+
+pub statement-returns-in-Loop : goal.statement-returns-in-Loop
+statement-returns-in-Loop t c =
+    let around = around_of c.args.within in
+    let place = c.args.within.scope.now in
+    let opened : plain_statement c.args.statement.now ≡ plain_loop_statement c.deref-in-Loop.result.now = ap plain_statement c.in-Loop.is ∙ loop_open c.in-Loop.statement ∙ ap plain_loop_statement (sym c.deref-in-Loop.ensures) in
+    subst (λ z. Checks (in_box plain_typed_statement) c.loop_statement.result c.args.faults.now c.loop_statement.new.faults (plain_tables c.loop_statement.new.tables) (checked_statement z around place (plain_tables c.args.tables.now))) (sym opened) c.loop_statement.ensures
+
+pub statement-returns-in-Block : goal.statement-returns-in-Block
+statement-returns-in-Block t c =
+    let around = around_of c.args.within in
+    let place = c.args.within.scope.now in
+    let opened : plain_statement c.args.statement.now ≡ plain_block_statement c.deref-in-Block.result.now = ap plain_statement c.in-Block.is ∙ block_open c.in-Block.statement.value ∙ ap plain_block_statement (sym c.deref-in-Block.ensures) in
+    subst (λ z. Checks (in_box plain_typed_statement) c.block_statement.result c.args.faults.now c.block_statement.new.faults (plain_tables c.block_statement.new.tables) (checked_statement z around place (plain_tables c.args.tables.now))) (sym opened) c.block_statement.ensures
+
+pub statement-returns-in-Assign : goal.statement-returns-in-Assign
+statement-returns-in-Assign t c =
+    let place = c.args.within.scope.now in
+    let e = c.in-Assign in
+    rw e.is (checks_leaf (in_box plain_typed_statement) c.assignment.result c.args.faults.now c.assignment.new.faults (plain_tables c.args.tables.now) (assign_faults (plain_name e.target) (plain_expression e.value) place) (typed_assign (plain_name e.target) (plain_expression e.value) place) c.assignment.ensures)
+
+pub statement-returns-in-Call : goal.statement-returns-in-Call
+statement-returns-in-Call t c =
+    let place = c.args.within.scope.now in
+    let e = c.in-Call in
+    rw e.is (checks_leaf (in_box plain_typed_statement) c.call.result c.args.faults.now c.call.new.faults (plain_tables c.args.tables.now) (call_faults (plain_name e.name) place (plain_tables c.args.tables.now)) (typed_call (plain_name e.name) place (plain_tables c.args.tables.now)) c.call.ensures)
+
+pub statement-returns-in-Return : goal.statement-returns-in-Return
+statement-returns-in-Return t c =
+    let place = c.args.within.scope.now in
+    let e = c.in-Return in
+    rw e.is (checks_leaf (in_box plain_typed_statement) c.return_from.result c.args.faults.now c.return_from.new.faults (plain_tables c.args.tables.now) (return_faults e.at (plain_maybe e.value) c.args.within.in_task place) (typed_return e.at (plain_maybe e.value)) c.return_from.ensures)
+
+pub statement-returns-in-Raise : goal.statement-returns-in-Raise
+statement-returns-in-Raise t c =
+    let place = c.args.within.scope.now in
+    let e = c.in-Raise in
+    rw e.is (checks_leaf (in_box plain_typed_statement) c.raise.result c.args.faults.now c.raise.new.faults (plain_tables c.args.tables.now) (raise_faults e.at e.name c.args.within.in_handler place) (typed_raise e.at e.name place) c.raise.ensures)
+
+pub statement-returns-in-Exit : goal.statement-returns-in-Exit
+statement-returns-in-Exit t c =
+    let place = c.args.within.scope.now in
+    let e = c.in-Exit in
+    let found = c.exit_loop-found.result in
+    let whole = checks_leaf (in_box plain_typed_statement) c.exit.result c.args.faults.now c.exit.new.faults (plain_tables c.args.tables.now) (exit_in_loop (is_some found) e.at ++ maybe_condition_faults (plain_maybe e.condition) place) (tree.exit e.at (loop_number found) (maybe_condition (plain_maybe e.condition) place)) c.exit.ensures in
+    rw (e.is, sym c.exit_loop-found.ensures) whole
+
+pub arm-returns : goal.arm-returns
+arm-returns t c =
+    let around = around_of c.args.within in
+    let place = c.args.within.scope.now in
+    let x = c.args.arm.now in
+    let old = c.args.faults.now in
+    let mid = c.condition.new.faults in
+    let new = c.statements-statements.new.faults in
+    let u = plain_tables c.statements-statements.new.tables in
+    let b = c.in_ok-condition-2 in
+    let ss = checked_statements (plain_statements x.statements) around place (plain_tables c.args.tables.now) in
+    let y : TypedArm = record { at = x.at; condition = plain_boolean b.condition.value; statements = statements_in b.statements.value } in
+    let z : TypedArm = record { at = x.at; condition = condition (plain_expression x.condition) place; statements = sequence_of (plain_sequence b.statements.value) } in
+    let same : y ≡ z = ap (λ v. record { at = x.at; condition = v; statements = statements_in b.statements.value }) (ap (λ v. plain_boolean v.value) b.ensures.first ∙ c.in_ok-condition.ensures.1) in
+    let stated : Checks (in_box plain_sequence) (Ok b.statements) mid new u ss = subst (λ r. Checks (in_box plain_sequence) r mid new u ss) b.ensures.next c.statements-statements.ensures in
+    let next : TypedStatements → Tables → Outcome TypedArm = λ v t1. fine (record { at = x.at; condition = condition (plain_expression x.condition) place; statements = sequence_of v }) t1 in
+    checks (in_box plain_arm) c.arm_of.result old new u y (arm_of x.at (plain_expression x.condition) place ss)
+    (is_after old mid new u y (condition_faults (plain_expression x.condition) place) (and_then ss next) c.in_ok-condition.ensures.0 (is_then mid new new u u (plain_sequence b.statements.value) y ss next stated (is_fine new u y z same))) c.arm_of.ensures
+
+pub statements-returns : goal.statements-returns
+statements-returns t c =
+    let around = around_of c.args.within in
+    let place = c.args.within.scope.now in
+    let x = c.args.statements.now in
+    let old = c.args.faults.now in
+    let mid = c.statement.new.faults in
+    let new = c.more_statements-others.new.faults in
+    let t1 = plain_tables c.statement.new.tables in
+    let u = plain_tables c.more_statements-others.new.tables in
+    let b = c.in_ok-first-2 in
+    let s = checked_statement (plain_statement x.first) around place (plain_tables c.args.tables.now) in
+    let ss = checked_others (plain_others x.others.items) around place t1 in
+    let y : TypedStatements = record { first = plain_typed_statement b.first.value; others = plain_items b.others } in
+    let z : TypedStatements = record { first = plain_typed_statement c.in_ok-first.first.value; others = plain_items b.others } in
+    let same : y ≡ z = ap (λ v. record { first = plain_typed_statement v.value; others = plain_items b.others }) b.ensures.first in
+    let behind : List tree.Statement → Tables → Outcome TypedStatements = λ xs t2. fine (record { first = plain_typed_statement c.in_ok-first.first.value; others = xs }) t2 in
+    let next : tree.Statement → Tables → Outcome TypedStatements = λ v t2. and_then (checked_others (plain_others x.others.items) around place t2) (λ xs t3. fine (record { first = v; others = xs }) t3) in
+    let rest : Checks plain_items (Ok b.others) mid new u ss = subst (λ r. Checks plain_items r mid new u ss) b.ensures.next (subst (λ l. Checks plain_items c.more_statements-others.result mid new u (checked_others (plain_others l) around place t1)) c.deref.ensures.value c.more_statements-others.ensures) in
+    checks (in_box plain_sequence) c.in_order.result old new u y (checked_statements (plain_statements x) around place (plain_tables c.args.tables.now))
+    (is_then old mid new t1 u (plain_typed_statement c.in_ok-first.first.value) y s next c.in_ok-first.ensures (is_then mid new new u u (plain_items b.others) y ss behind rest (is_fine new u y z same))) c.in_order.ensures
+
+pub loop_body-returns : goal.loop_body-returns
+loop_body-returns t c =
+    let x = c.args.node.now in
+    let place = c.args.within.scope.now in
+    let among : Labels → Type 0 = λ ls. Checks (in_box plain_sequence) c.statements.result c.args.faults.now c.statements.new.faults (plain_tables c.statements.new.tables) (checked_statements (plain_statements x.statements) (record { labels = ls; in_handler = c.args.within.in_handler; in_task = c.args.within.in_task }) place (plain_tables c.args.tables.now)) in
+    subst among c.in_ok-labels.ensures (subst (λ l. among (plain_labels l)) c.deref.ensures.value c.statements.ensures)
+
+pub loop_statement-returns-in_ok-body-in-Forever : goal.loop_statement-returns-in_ok-body-in-Forever
+loop_statement-returns-in_ok-body-in-Forever t c =
+    let x = c.args.node.now in
+    let place = c.args.within.scope.now in
+    let named = c.right_label_at_end.new.faults in
+    let tables = plain_tables c.args.tables.now in
+    let body = c.in_ok-body-in-Forever.body.value in
+    rw c.in-Forever.is (loop_left c.forever.result c.args.faults.now named named c.loop_body.new.faults tables tables (plain_tables c.loop_body.new.tables) x.label x.at m.forever (plain_statements x.statements) x.name x.semicolon (around_of c.args.within) place place (plain_sequence body) (tree.plain_loop (statements_in body))
+    c.right_label_at_end.ensures refl refl refl c.in_ok-body-in-Forever.ensures refl c.forever.ensures)
+
+pub if_statement-returns : goal.if_statement-returns
+if_statement-returns t c =
+    let x = c.args.node.now in
+    let around = around_of c.args.within in
+    let place = c.args.within.scope.now in
+    let old = c.args.faults.now in
+    let f1 = c.arm.new.faults in
+    let t1 = plain_tables c.arm.new.tables in
+    let f2 = c.arms.new.faults in
+    let t2 = plain_tables c.arms.new.tables in
+    let f3 = c.more_statements-otherwise.new.faults in
+    let t3 = plain_tables c.more_statements-otherwise.new.tables in
+    let s = out-IfStatement x in
+    let first : TypedArm = plain_arm c.in_ok-first.first.value in
+    let o1 = arm_of s.first.at (plain_expression s.first.condition) place (checked_statements (plain_statements s.first.statements) around place (plain_tables c.args.tables.now)) in
+    let o2 = checked_arms (arm_list s.others.items) around place t1 in
+    let o3 = checked_others (plain_others s.otherwise.items) around place t2 in
+    let arms : Checks plain_arms (Ok c.in_ok-arms.arms.1) f1 f2 t2 o2 =
+    subst (λ r. Checks plain_arms r f1 f2 t2 o2) c.in_ok-arms.ensures.next (subst (λ l. Checks plain_arms c.arms.result f1 f2 t2 (checked_arms (arm_list l) around place t1)) c.deref.ensures.value c.arms.ensures) in
+    let rest : Checks plain_items (Ok c.in_ok-arms-2.otherwise) f2 f3 t3 o3 =
+    subst (λ r. Checks plain_items r f2 f3 t3 o3) c.in_ok-arms-2.ensures.next (subst (λ l. Checks plain_items c.more_statements-otherwise.result f2 f3 t3 (checked_others (plain_others l) around place t2)) c.deref-2.ensures.value c.more_statements-otherwise.ensures) in
+    let behind : tree.Part = tree.part_of (plain_items c.in_ok-arms-2.otherwise) in
+    let made : (a : Box memory.Arm Global × Vec memory.Arm Global) → tree.Statement = λ a. arm_then (plain_arm a.0.value) (arms_then (plain_arms a.1) behind) in
+    let z : tree.Statement = arm_then first (arms_then (plain_arms c.in_ok-arms.arms.1) behind) in
+    let same : made c.in_ok-arms-2.arms ≡ z = ap made c.in_ok-arms-2.ensures.first ∙ ap (λ a. arm_then (plain_arm a.value) (arms_then (plain_arms c.in_ok-arms.arms.1) behind)) c.in_ok-arms.ensures.first in
+    let n3 : TypedArm → List TypedArm → List tree.Statement → Tables → Outcome tree.Statement = λ a more l t4. fine (arm_then a (arms_then more (tree.part_of l))) t4 in
+    let n2 : TypedArm → List TypedArm → Tables → Outcome tree.Statement = λ a more t4. and_then (checked_others (plain_others s.otherwise.items) around place t4) (n3 a more) in
+    let n1 : TypedArm → Tables → Outcome tree.Statement = λ a t4. and_then (checked_arms (arm_list s.others.items) around place t4) (n2 a) in
+    let y = made c.in_ok-arms-2.arms in
+    checks (in_box plain_typed_statement) c.if_of.result old f3 t3 y (checked_statement (plain_if_statement x) around place (plain_tables c.args.tables.now))
+    (is_then old f1 f3 t1 t3 first y o1 n1 c.in_ok-first.ensures (is_then f1 f2 f3 t2 t3 (plain_arms c.in_ok-arms.arms.1) y o2 (n2 first) arms (is_then f2 f3 f3 t3 t3 (plain_items c.in_ok-arms-2.otherwise) y o3 (n3 first (plain_arms c.in_ok-arms.arms.1)) rest (is_fine f3 t3 y z same)))) c.if_of.ensures
+
+pub loop_statement-returns-in_ok-condition-in-While-2 : goal.loop_statement-returns-in_ok-condition-in-While-2
+loop_statement-returns-in_ok-condition-in-While-2 t c =
+    let x = c.args.node.now in
+    let around = around_of c.args.within in
+    let place = c.args.within.scope.now in
+    let tables = plain_tables c.args.tables.now in
+    let bounded = c.condition.new.faults in
+    let new = c.loop_body-body.new.faults in
+    let u = plain_tables c.loop_body-body.new.tables in
+    let e = plain_expression c.in-While.e in
+    let b = c.in_ok-condition-in-While-2 in
+    let ss : tree.Statement = statements_in b.body.value in
+    let begin = begin_at x.label x.at in
+    let stated : Checks (in_box plain_sequence) (Ok b.body) bounded new u (checked_statements (plain_statements x.statements) (labelled true x.label around) place tables) =
+    subst (λ r. Checks (in_box plain_sequence) r bounded new u (checked_statements (plain_statements x.statements) (labelled true x.label around) place tables)) b.ensures.next c.loop_body-body.ensures in
+    let same : tree.while_loop c.begin_at-at.result (plain_boolean b.condition.value) ss ≡ tree.while_loop begin (condition e place) ss =
+    ap (λ z. tree.while_loop z (plain_boolean b.condition.value) ss) c.begin_at-at.ensures ∙ ap (λ v. tree.while_loop begin (plain_boolean v.value) ss) b.ensures.first ∙ ap (λ v. tree.while_loop begin v ss) c.in_ok-condition-in-While.ensures.1 in
+    rw c.in-While.is (loop_left c.while_of.result c.args.faults.now c.right_label_at_end.new.faults bounded new tables tables u x.label x.at (m.while e) (plain_statements x.statements) x.name x.semicolon around place place (plain_sequence b.body.value) (tree.while_loop c.begin_at-at.result (plain_boolean b.condition.value) ss)
+    c.right_label_at_end.ensures c.in_ok-condition-in-While.ensures.0 refl refl stated same c.while_of.ensures)
+
+pub loop_statement-returns-in-For : goal.loop_statement-returns-in-For
+loop_statement-returns-in-For t c =
+    let x = c.args.node.now in
+    let around = around_of c.args.within in
+    let place = c.args.within.scope.now in
+    let tables = plain_tables c.args.tables.now in
+    let loop = checked_loop x.label x.at (plain_parameter c.in-For.parameter) (plain_statements x.statements) around place tables in
+    rw c.in-For.is (checks_after (in_box plain_typed_statement) c.for_loop.result c.args.faults.now c.right_label_at_end.new.faults c.for_loop.new.faults (plain_tables c.for_loop.new.tables) (right_label_at_end x.label x.name x.semicolon) loop c.right_label_at_end.ensures c.for_loop.ensures)
+
+pub for_loop-returns : goal.for_loop-returns
+for_loop-returns t c =
+    let x = c.args.node.now in
+    let around = around_of c.args.within in
+    let place = c.args.within.scope.now in
+    let tables = plain_tables c.args.tables.now in
+    let bounded = c.bounds.new.faults in
+    let new = c.loop_body-body.new.faults in
+    let u = plain_tables c.loop_body-body.new.tables in
+    let p = c.args.parameter.now in
+    let own = c.in_ok-own.own in
+    let outer = c.in_ok-outer.outer in
+    let number = c.in_ok-region.region in
+    let b = c.in_ok-bounds-2 in
+    let ss : tree.Statement = statements_in b.body.value in
+    let among : Place = c.new.result in
+    let entry : Tables = plain_tables c.enter.new.self in
+    let given = checked_statements (plain_statements x.statements) (labelled true x.label around) among entry in
+    let stated : Checks (in_box plain_sequence) (Ok b.body) bounded new u given = subst (λ r. Checks (in_box plain_sequence) r bounded new u given) b.ensures.next c.loop_body-body.ensures in
+    let inner : among ≡ in_loop p.name place =
+    c.new.ensures ∙ ap (λ rs. plain_place own rs) c.deref.ensures.value ∙ ap (λ r. place_in r (plain_regions outer.items)) c.in_ok-own.ensures ∙ ap (place_in (loop_region p.name place)) c.in_ok-outer.ensures in
+    let entered : entry ≡ with_region (shown_names (loop_region p.name place).symbols) tables =
+    c.in_ok-region.ensures.tables ∙ ap (λ (r : Region). with_region (shown_names r.symbols) tables) c.in_ok-own.ensures in
+    let head : Pos → ℕ → tree.For = λ z n. record { at = z; next_at = x.at; region = n; backward = p.reverse } in
+    let here : tree.For = head (begin_at x.label x.at) (next_region tables) in
+    let y = tree.for_loop (head c.begin_at-at.result number) (plain_integer b.bounds.0.value) (plain_integer b.bounds.1.value) ss in
+    let same = ap (λ z. tree.for_loop (head z number) (plain_integer b.bounds.0.value) (plain_integer b.bounds.1.value) ss) c.begin_at-at.ensures
+    ∙ ap (λ n. tree.for_loop (head (begin_at x.label x.at) n) (plain_integer b.bounds.0.value) (plain_integer b.bounds.1.value) ss) c.in_ok-region.ensures.number
+    ∙ ap (λ q. tree.for_loop here (plain_integer q.0.value) (plain_integer q.1.value) ss) b.ensures.first
+    ∙ ap (λ q. tree.for_loop here q.0 q.1 ss) c.in_ok-bounds.ensures.1 in
+    iterated_left c.for_of.result c.args.faults.now bounded new tables entry u x.label x.at (plain_parameter p) (plain_statements x.statements) around place among (plain_sequence b.body.value) y
+    c.in_ok-bounds.ensures.0 inner entered stated same c.for_of.ensures
+
+pub block_statement-returns : goal.block_statement-returns
+block_statement-returns t c =
+    let x = out-BlockStatement c.args.node.now in
+    let source = plain_body x.body in
+    let around = around_of c.args.within in
+    let behind : Around = labelled false x.label around in
+    let place = c.args.within.scope.now in
+    let tables = plain_tables c.args.tables.now in
+    let old = c.args.faults.now in
+    let named = c.right_label_at_end.new.faults in
+    let declared = c.declared.new.faults in
+    let new = c.body_behind.new.faults in
+    let entry = plain_tables c.declared.new.tables in
+    let u = plain_tables c.body_behind.new.tables in
+    let outer = c.in_ok-outer.outer in
+    let region = c.in_ok-region.region in
+    let part = c.in_ok-part.part in
+    let body = plain_typed_body c.in_ok-body.body.value in
+    let ds = plain_declarations x.declarations.items in
+    let labels : plain_labels c.deref-2.result.now ≡ behind.labels = ap plain_labels c.deref-2.ensures.value ∙ c.in_ok-labels.ensures in
+    let framed : plain_place region outer.items ≡ in_frame place = ap (λ r. place_in r (plain_regions outer.items)) c.in_ok-region.ensures ∙ ap (place_in (next_frame place)) c.in_ok-outer.ensures in
+    let own : m.Declarations → Place → Outcome Declared = λ l z. with_bodies (checked_declarations l z (region_kept tables)) in
+    let same : own (plain_declarations c.deref-3.result.now) (plain_place region outer.items) ≡ own ds (in_frame place) =
+    ap (λ l. own (plain_declarations l) (plain_place region outer.items)) c.deref-3.ensures.value ∙ ap (own ds) framed in
+    let enters : Enters named declared outer.items part (next_region tables) entry (own ds (in_frame place)) =
+    subst (Enters named declared outer.items part (next_region tables) entry) same
+    (subst (λ rs. Enters named declared rs part (next_region tables) entry (own (plain_declarations c.deref-3.result.now) (plain_place region rs))) c.deref-4.ensures.value c.in_ok-part.ensures) in
+    let stated : Is declared new u body (body_behind false (plain_items part.elaborations) source behind (plain_place part.region outer.items) entry) =
+    subst (λ rs. Is declared new u body (body_behind false (plain_items part.elaborations) source behind (plain_place part.region rs) entry)) c.deref.ensures.value
+    (subst (λ ls. Is declared new u body (body_behind false (plain_items part.elaborations) source (record { labels = ls; in_handler = c.args.within.in_handler; in_task = c.args.within.in_task }) (plain_place part.region c.deref.result.now) entry)) labels c.in_ok-body.ensures) in
+    let whole = entered_left named declared new tables entry u false ds source behind (in_frame place) (plain_place part.region outer.items) (plain_items part.elaborations) body enters.0 enters.1 enters.2 enters.3 stated in
+    let named_all : named ≡ noted old (right_label_at_end x.label (end_name source) (end_semicolon source)) =
+    c.right_label_at_end.ensures ∙ ap (λ z. noted old (right_label_at_end x.label (end_name z) (end_semicolon z))) (sym (body_open x.body)) in
+    let number = c.next_region-number.result in
+    let is = ap (λ z. tree.block z number body) c.begin_at.ensures ∙ ap (λ n. tree.block (begin_at x.label x.at) n body) c.next_region-number.ensures in
+    block_left c.block_of.result old named new tables u x.label x.at x.declare ds source around place body (tree.block c.begin_at.result number body) named_all whole is c.block_of.ensures
+
+pub declared-returns : goal.declared-returns
+declared-returns t c =
+    let seen = c.args.outer.now in
+    let place : Place = plain_place c.args.region seen in
+    let tables = plain_tables c.args.tables.now in
+    let old = c.args.faults.now in
+    let kept = plain_tables c.keep_region.new.self in
+    let part = c.declarations.new.part in
+    let ds = plain_declarations c.args.source.now in
+    let d : Outcome Declared = with_bodies (checked_declarations ds place (region_kept tables)) in
+    let given : Outcome Declared = with_bodies (checked_declarations ds place kept) in
+    let same : given ≡ d = ap (λ w. with_bodies (checked_declarations ds place w)) c.in_ok-keep_region.ensures in
+    let checked = (checked_declarations ds place kept).faults in
+    let awaited : Place → List Fault = λ z. without_bodies (innermost z).awaited in
+    let all = c.in_ok-declarations.ensures in
+    let entry : Tables = plain_tables c.name_region.new.self in
+    let named : ℕ → Place → Tables → Tables = λ n z w. region_named n (shown_names (innermost z).symbols) w in
+    let into : entry ≡ named (next_region tables) d.made.place d.tables =
+    c.in_ok-name_region.ensures ∙ ap (λ n. named n (plain_place part.region seen) (plain_tables c.declarations.new.tables)) c.next_region-number.ensures ∙ ap (λ z. named (next_region tables) z (plain_tables c.declarations.new.tables)) all.1
+    ∙ ap (named (next_region tables) given.made.place) all.3 ∙ ap (λ (g : Outcome Declared). named (next_region tables) g.made.place g.tables) same in (
+      c.without_bodies.ensures ∙ ap (λ l. noted c.declarations.new.faults (without_bodies l)) c.deref.ensures.value ∙ ap (λ o. noted o (awaited (plain_place part.region seen))) all.0 ∙ ap (λ z. noted (noted old checked) (awaited z)) all.1
+          ∙ sym (noted_append old checked (awaited given.made.place)) ∙ ap (λ (g : Outcome Declared). noted old g.faults) same,
+      all.1 ∙ ap (λ (g : Outcome Declared). g.made.place) same,
+      all.2 ∙ ap (λ l. plain_typed_statements l ++ given.made.elaborations) c.new.ensures.items ∙ ap (λ (g : Outcome Declared). g.made.elaborations) same,
+      into,
+    )
+
+pub body_behind-returns : goal.body_behind-returns
+body_behind-returns t c =
+    let source = plain_body c.args.node.now in
+    let around = around_entering c.args.entering in
+    let place : Place = plain_place c.args.part.region c.args.entering.outer.now in
+    let tables = plain_tables c.args.tables.now in
+    let old = c.args.faults.now in
+    let new = c.body-parts.new.faults in
+    let u = plain_tables c.body-parts.new.tables in
+    let among : Place = c.new.result in
+    let b = c.in_ok-elaborations in
+    let made : TypedBody = plain_parts b.parts in
+    let stated : Is old new u made (checked_body source around among tables) = subst (λ r. Checks plain_parts r old new u (checked_body source around among tables)) b.ensures.next c.body-parts.ensures in
+    let of_task = c.args.entering.of_task in
+    let given = plain_items c.args.part.elaborations in
+    let begin = (out-Body c.args.node.now).begin in
+    let activates = c.in_ok-activates.activates in
+    let elaborated : List tree.Statement → Pos → List tree.Statement = λ xs at. xs ++ tree.activation activates at in
+    let opened : begin ≡ begin_of source = ap begin_of (sym (body_open c.args.node.now)) in
+    let begun : elaborated (plain_items b.elaborations) (begin_of source) ≡ with_activation of_task (begin_of source) given =
+    ap (λ v. elaborated (plain_items v) (begin_of source)) b.ensures.first ∙ subst (λ at. elaborated (plain_items c.with_activation.new.elaborations) at ≡ with_activation of_task at given) opened c.in_ok-activates.ensures in
+    behind_left c.body_of.result old new tables u of_task source around place among given made (body_with (elaborated (plain_items b.elaborations) (begin_of source)) source made)
+    c.new.ensures stated (ap (λ l. body_with l source made) begun) c.body_of.ensures
+
+pub procedure-returns : goal.procedure-returns
+procedure-returns t c =
+    let x = out-ProcedureDeclaration c.args.node.now in
+    let first = c.args.part.now in
+    let seen = c.args.outer.now in
+    let place : Place = plain_place first.region seen in
+    let tables = plain_tables c.args.tables.now in
+    let old = c.args.faults.now in
+    let named = c.declare_procedure.new.faults in
+    let formed = c.formals.new.faults in
+    let shown_faults = c.declared.new.faults in
+    let stated_faults = c.body_behind.new.faults in
+    let new = c.right_name_at_end.new.faults in
+    let shown_tables = plain_tables c.declared.new.tables in
+    let u = plain_tables c.body_behind.new.tables in
+    let number = c.next_unit-number.result in
+    let declared = c.declare_procedure.new.region in
+    let last : DeclarativePart = record { region = declared; elaborations = first.elaborations } in
+    let fs = map plain_formal x.formals.items in
+    let ds = plain_declarations x.declarations.items in
+    let source = plain_body x.body in
+    let here : Place = procedure_place x.name place tables in
+    let behind : plain_place declared seen ≡ here =
+    ap (λ r. place_in r (plain_regions seen)) c.in_ok-declare_procedure.ensures.region ∙ ap (λ n. place_in (with_procedure x.name n (plain_region first.region)) (plain_regions seen)) c.next_unit-number.ensures in
+    let regions = c.in_ok-regions.regions in
+    let around : plain_regions regions.items ≡ here.regions = c.in_ok-regions.ensures.regions ∙ ap (λ (z : Place). z.regions) behind in
+    let frame : plain_region c.in_ok-regions.region ≡ next_frame here = c.in_ok-regions.ensures.own ∙ ap next_frame behind in
+    let formals : Formals = procedure_formals x.name fs here in
+    let given : List m.Formal → List Region → Region → Formals = λ l rs r. checked_formals x.name l r rs in
+    let shown : given (map plain_formal c.deref.result.now) (plain_regions c.deref-2.result.now) (plain_region c.in_ok-regions.region) ≡ formals =
+    ap (λ l. given (map plain_formal l) (plain_regions c.deref-2.result.now) (plain_region c.in_ok-regions.region)) c.deref.ensures.value
+    ∙ ap (λ rs. given fs (plain_regions rs) (plain_region c.in_ok-regions.region)) c.deref-2.ensures.value
+    ∙ ap (λ rs. given fs rs (plain_region c.in_ok-regions.region)) around ∙ ap (given fs here.regions) frame in
+    let all = c.in_ok-profile.ensures in
+    let noted_formals : formed ≡ noted named formals.faults = all.0 ∙ ap (λ (g : Formals). noted named g.faults) shown in
+    let entry : Tables = plain_tables c.keep_unit.new.self in
+    let kept : entry ≡ unit_kept formals.profile tables = c.in_ok-keep_unit.ensures ∙ ap (λ p. unit_kept p tables) (all.2 ∙ ap (λ (g : Formals). g.profile) shown) in
+    let own = plain_place c.formals.new.region regions.items in
+    let inner : own ≡ place_in formals.region here.regions =
+    ap (λ r. place_in r (plain_regions regions.items)) (all.1 ∙ ap (λ (g : Formals). g.region) shown) ∙ ap (place_in formals.region) around in
+    let part = c.in_ok-inner.inner in
+    let body = plain_typed_body c.in_ok-body.body.value in
+    let made = plain_typed_unit c.in_ok-unit.unit.value in
+    let in_it : m.Declarations → Place → Outcome Declared = λ l z. with_bodies (checked_declarations l z (region_kept entry)) in
+    let enters : Enters formed shown_faults regions.items part (next_region entry) shown_tables (in_it ds own) =
+    subst (λ l. Enters formed shown_faults regions.items part (next_region entry) shown_tables (in_it (plain_declarations l) own)) c.deref-3.ensures.value
+    (subst (λ rs. Enters formed shown_faults rs part (next_region entry) shown_tables (in_it (plain_declarations c.deref-3.result.now) (plain_place c.formals.new.region rs))) c.deref-4.ensures.value c.in_ok-inner.ensures) in
+    let stated : Is shown_faults stated_faults u body (body_behind false (plain_items part.elaborations) source nothing_around (plain_place part.region regions.items) shown_tables) =
+    subst (λ rs. Is shown_faults stated_faults u body (body_behind false (plain_items part.elaborations) source nothing_around (plain_place part.region rs) shown_tables)) c.deref-5.ensures.value c.in_ok-body.ensures in
+    let whole = entered_left formed shown_faults stated_faults entry shown_tables u false ds source nothing_around own (plain_place part.region regions.items) (plain_items part.elaborations) body enters.0 enters.1 enters.2 enters.3 stated in
+    let ends : new ≡ noted stated_faults (right_name_at_end x.name.name (end_name source)) =
+    c.right_name_at_end.ensures ∙ ap (λ z. noted stated_faults (right_name_at_end x.name.name (end_name z))) (sym (body_open x.body)) in
+    let unit : ℕ → tree.UnitBody = λ n. record { level = c.formals.new.region.level; region = n; at = x.at; body = body } in
+    let checked : Is formed new u made (checked_unit false x.at x.name.name ds source own entry) =
+    unit_left formed stated_faults new entry u false x.at x.name.name ds source own body made whole ends (c.in_ok-unit.ensures ∙ ap unit c.next_region-own.ensures) in
+    let put : plain_tables c.put_unit.new.self ≡ with_unit (next_unit tables) made u =
+    c.put_unit.ensures ∙ ap (λ n. with_unit n (plain_typed_unit c.into_inner.result) u) c.next_unit-number.ensures ∙ ap (λ v. with_unit (next_unit tables) (plain_typed_unit v) u) c.into_inner.ensures in
+    let end = plain_tables c.put_unit.new.self in
+    subst (λ z. Declares old new seen first last end (checked_declaration z place tables)) (sym (procedure_open c.args.node.now))
+    (procedure_left old named formed new seen first last tables entry u end x.at x.name fs ds source own made c.in_ok-declare_procedure.ensures.noted behind refl noted_formals inner kept checked put)
+
+pub declaration-returns-in-Object : goal.declaration-returns-in-Object
+declaration-returns-in-Object t c =
+    let x = c.in-Object in
+    let place : Place = plain_place c.args.part.now.region c.args.outer.now in
+    rw x.is (keeps_tables c.objects.result c.args.faults.now c.objects.new.faults c.args.outer.now c.args.part.now c.objects.new.part (plain_tables c.args.tables.now) (checked_objects (names_in x.names) x.names.first.at x.mark (plain_maybe x.initial) false place) (rw c.as_ref.ensures.value at c.objects.ensures))
+
+pub declaration-returns-in-Constant : goal.declaration-returns-in-Constant
+declaration-returns-in-Constant t c =
+    let x = c.in-Constant in
+    let place : Place = plain_place c.args.part.now.region c.args.outer.now in
+    rw x.is (keeps_tables c.objects-in-Constant.result c.args.faults.now c.objects-in-Constant.new.faults c.args.outer.now c.args.part.now c.objects-in-Constant.new.part (plain_tables c.args.tables.now) (checked_objects (names_in x.names) x.names.first.at x.mark (m.an_expression (plain_expression x.value)) true place) c.objects-in-Constant.ensures)
+
+pub declaration-returns-in-Array : goal.declaration-returns-in-Array
+declaration-returns-in-Array t c =
+    let x = c.in-Array in
+    let place : Place = plain_place c.args.part.now.region c.args.outer.now in
+    rw x.is (keeps_tables c.arrays.result c.args.faults.now c.arrays.new.faults c.args.outer.now c.args.part.now c.arrays.new.part (plain_tables c.args.tables.now) (checked_arrays (names_in x.names) x.names.first.at x.low x.high x.mark place) c.arrays.ensures)
+
+pub declaration-returns-in-Exception : goal.declaration-returns-in-Exception
+declaration-returns-in-Exception t c =
+    let part : DeclarativePart = record { region = c.exceptions.new.region; elaborations = c.args.part.now.elaborations } in
+    let now = plain_tables c.args.tables.now in
+    rw c.in-Exception.is (declares_exceptions c.exceptions.result c.args.faults.now c.exceptions.new.faults c.args.outer.now c.args.part.now part c.args.tables.now.exceptions c.exceptions.new.exceptions now (record now { exceptions = c.exceptions.new.exceptions.items }) (names_in c.in-Exception.names) refl refl refl c.exceptions.ensures.declared c.exceptions.ensures.noted)
+
+pub declaration-returns-in-Procedure : goal.declaration-returns-in-Procedure
+declaration-returns-in-Procedure t c =
+    let place : Place = plain_place c.args.part.now.region c.args.outer.now in
+    let opened : plain_declaration c.args.declaration.now ≡ plain_procedure c.deref.result.now = ap plain_declaration c.in-Procedure.is ∙ ap plain_procedure (sym c.deref.ensures) in
+    subst (λ z. OnOk c.procedure.result (Declares c.args.faults.now c.procedure.new.faults c.args.outer.now c.args.part.now c.procedure.new.part (plain_tables c.procedure.new.tables) (checked_declaration z place (plain_tables c.args.tables.now)))) (sym opened) c.procedure.ensures
+
+pub declaration-returns-in-Task : goal.declaration-returns-in-Task
+declaration-returns-in-Task t c =
+    let x = c.in-Task.task in
+    let now = plain_tables c.args.tables.now in
+    let u = plain_tables c.declare_task.new.tables in
+    rw c.in-Task.is (declares_task c.declare_task.result c.args.faults.now c.declare_task.new.faults c.args.outer.now c.args.part.now c.declare_task.new.part now u x.at x.is_type x.name (plain_definition x.definition) c.declare_task.ensures.region c.declare_task.ensures.elaborations c.declare_task.ensures.tables c.declare_task.ensures.noted)
+
+pub declaration-returns-in-TaskBody : goal.declaration-returns-in-TaskBody
+declaration-returns-in-TaskBody t c =
+    let place : Place = plain_place c.args.part.now.region c.args.outer.now in
+    let opened : plain_declaration c.args.declaration.now ≡ plain_task_body c.deref-in-TaskBody.result.now = ap plain_declaration c.in-TaskBody.is ∙ ap plain_task_body (sym c.deref-in-TaskBody.ensures) in
+    subst (λ z. OnOk c.task_body.result (Declares c.args.faults.now c.task_body.new.faults c.args.outer.now c.args.part.now c.task_body.new.part (plain_tables c.task_body.new.tables) (checked_declaration z place (plain_tables c.args.tables.now)))) (sym opened) c.task_body.ensures
+
+pub task_part-returns : goal.task_part-returns
+task_part-returns t c =
+    subst (λ l. IfOk c.declared.result (λ part. Enters c.args.faults.now c.declared.new.faults c.args.outer.now part (next_region (plain_tables c.args.tables.now)) (plain_tables c.declared.new.tables) (with_bodies (checked_declarations (plain_declarations l) (plain_place c.args.region c.args.outer.now) (region_kept (plain_tables c.args.tables.now)))))) c.deref.ensures.value c.declared.ensures
+
+pub task_body-returns : goal.task_body-returns
+task_body-returns t c =
+    let x = out-TaskBody c.args.node.now in
+    let first = c.args.part.now in
+    let seen = c.args.outer.now in
+    let place : Place = plain_place first.region seen in
+    let tables = plain_tables c.args.tables.now in
+    let old = c.args.faults.now in
+    let matched = c.body_unit.new.faults in
+    let shown_faults = c.task_part.new.faults in
+    let stated_faults = c.body_behind.new.faults in
+    let new = c.right_name_at_end.new.faults in
+    let entry = plain_tables c.body_unit.new.tables in
+    let shown_tables = plain_tables c.task_part.new.tables in
+    let u = plain_tables c.body_behind.new.tables in
+    let come = c.body_unit.new.region in
+    let last : DeclarativePart = record { region = come; elaborations = first.elaborations } in
+    let ds = plain_declarations x.declarations.items in
+    let source = plain_body x.body in
+    let here : Place = place_behind x.name place in
+    let behind : plain_place come seen ≡ here = ap (λ r. place_in r (plain_regions seen)) c.in_ok-number.ensures.region in
+    let regions = c.in_ok-regions.regions in
+    let level = c.in_ok-running.running.level in
+    let named = running x.name.name level in
+    let own_name : plain_region c.in_ok-running.running ≡ named = c.in_ok-running.ensures.region ∙ ap (running x.name.name) (sym c.in_ok-running.ensures.level) in
+    let around : plain_regions regions.items ≡ named ∷ here.regions =
+    c.in_ok-regions.ensures ∙ ap (λ r. r ∷ (plain_place come seen).regions) own_name ∙ ap (λ (z : Place). named ∷ z.regions) behind in
+    let own = plain_place c.in_ok-region.region regions.items in
+    let one_further : level ≡ (innermost here).level + 1 = c.in_ok-running.ensures.level ∙ ap (λ (r : Region). r.level + 1) c.in_ok-number.ensures.region in
+    let inner : own ≡ task_place x.name.name here =
+    ap (λ r. place_in r (plain_regions regions.items)) c.in_ok-region.ensures ∙ ap (place_in (task_region level)) around ∙ ap (λ k. place_in (task_region k) (running x.name.name k ∷ here.regions)) one_further in
+    let part = c.in_ok-inner.inner in
+    let body = plain_typed_body c.in_ok-body.body.value in
+    let made = plain_typed_unit c.in_ok-unit.unit.value in
+    let in_it : m.Declarations → Place → Outcome Declared = λ l z. with_bodies (checked_declarations l z (region_kept entry)) in
+    let enters : Enters matched shown_faults regions.items part (next_region entry) shown_tables (in_it ds own) =
+    subst (λ rs. Enters matched shown_faults rs part (next_region entry) shown_tables (in_it ds (plain_place c.in_ok-region.region rs))) c.deref.ensures.value c.in_ok-inner.ensures in
+    let stated : Is shown_faults stated_faults u body (body_behind true (plain_items part.elaborations) source task_around (plain_place part.region regions.items) shown_tables) =
+    subst (λ rs. Is shown_faults stated_faults u body (body_behind true (plain_items part.elaborations) source task_around (plain_place part.region rs) shown_tables)) c.deref-2.ensures.value c.in_ok-body.ensures in
+    let whole = entered_left matched shown_faults stated_faults entry shown_tables u true ds source task_around own (plain_place part.region regions.items) (plain_items part.elaborations) body enters.0 enters.1 enters.2 enters.3 stated in
+    let ends : new ≡ noted stated_faults (right_name_at_end x.name.name (end_name source)) =
+    c.right_name_at_end.ensures ∙ ap (λ z. noted stated_faults (right_name_at_end x.name.name (end_name z))) (sym (body_open x.body)) in
+    let unit : ℕ → tree.UnitBody = λ n. record { level = level; region = n; at = x.at; body = body } in
+    let found : ℕ → tree.UnitBody = λ k. record { level = k; region = next_region entry; at = x.at; body = body } in
+    let leveled : (innermost own).level ≡ level = ap (λ (r : Region). r.level) c.in_ok-region.ensures in
+    let checked : Is matched new u made (checked_unit true x.at x.name.name ds source own entry) =
+    unit_left matched stated_faults new entry u true x.at x.name.name ds source own body made whole ends (c.in_ok-unit.ensures ∙ ap unit c.next_region-own.ensures ∙ ap found (sym leveled)) in
+    let number : c.in_ok-number.number ≡ body_unit (unit_awaited x.name place) tables = c.in_ok-number.ensures.unit in
+    let end = plain_tables c.put_unit.new.self in
+    let put : end ≡ with_unit (body_unit (unit_awaited x.name place) tables) made u =
+    c.put_unit.ensures ∙ ap (λ n. with_unit n (plain_typed_unit c.into_inner.result) u) number ∙ ap (λ v. with_unit (body_unit (unit_awaited x.name place) tables) (plain_typed_unit v) u) c.into_inner.ensures in
+    subst (λ z. Declares old new seen first last end (checked_declaration z place tables)) (sym (task_body_open c.args.node.now))
+    (task_left old matched new seen first last tables entry u end x.at x.name ds source own made c.in_ok-number.ensures.noted behind refl inner c.in_ok-number.ensures.tables checked put)
+
+pub declarations-loop-next-init : goal.declarations-loop-next-init
+declarations-loop-next-init t c = declares_all c.args.faults.now c.args.part.now (checked_declarations (plain_declarations c.args.declarations.now) (plain_place c.args.part.now.region c.args.outer.now) (plain_tables c.args.tables.now))
+
+pub declarations-loop-next-preserved : goal.declarations-loop-next-preserved
+declarations-loop-next-preserved t c =
+    let x = c.next-item.result in
+    let i = c.loop-next.next-index in
+    declarations_ahead c.args.outer.now c.args.faults.now c.loop-next.faults c.declaration.new.faults c.args.part.now c.loop-next.part c.declaration.new.part (plain_tables c.loop-next.tables) (plain_tables c.declaration.new.tables)
+    (checked_declarations (plain_declarations c.args.declarations.now) (plain_place c.args.part.now.region c.args.outer.now) (plain_tables c.args.tables.now)) x (drop i c.args.declarations.now) (drop (i + 1) c.args.declarations.now) (dropped c.args.declarations.now i x (omega arith) c.next-item.is) c.loop-next.invariant c.in_ok-declaration.ensures
+
+pub declarations-returns : goal.declarations-returns
+declarations-returns t c =
+    all_declared c.args.outer.now c.args.faults.now c.loop-next.faults c.args.part.now c.loop-next.part (plain_tables c.loop-next.tables)
+    (checked_declarations (plain_declarations c.args.declarations.now) (plain_place c.args.part.now.region c.args.outer.now) (plain_tables c.args.tables.now)) (drop c.loop-next.next-index c.args.declarations.now) (drop_all c.loop-next.next-index c.args.declarations.now c.loop-next-test.false) c.loop-next.invariant
+
+pub body-returns : goal.body-returns
+body-returns t c =
+    let x = out-Body c.args.node.now in
+    let around = around_of c.args.within in
+    let place = c.args.within.scope.now in
+    let old = c.args.faults.now in
+    let stated = c.statements.new.faults in
+    let chosen = c.all_choices-chosen.new.faults in
+    let new = c.handlers-handlers.new.faults in
+    let t1 = plain_tables c.statements.new.tables in
+    let u = plain_tables c.handlers-handlers.new.tables in
+    let b = c.in_ok-statements-2 in
+    let handlers = handler_list x.handlers.items in
+    let ss = checked_statements (plain_statements x.statements) around place (plain_tables c.args.tables.now) in
+    let rest : Tables → Outcome (List TypedHandler) = λ w. checked_handlers handlers (handling around) place w in
+    let first : Is old stated t1 (plain_sequence b.statements.value) ss = subst (λ z. Is old stated t1 (plain_sequence z.value) ss) (sym b.ensures.first) c.in_ok-statements.ensures in
+    let noted_choices : chosen ≡ noted stated (all_choices_faults handlers none_chosen place) =
+    subst (λ l. chosen ≡ noted stated (all_choices_faults (handler_list l) none_chosen place)) c.deref.ensures.value
+    (subst (λ r. OnOk r (chosen ≡ noted stated (all_choices_faults (handler_list c.deref.result.now) none_chosen place))) b.ensures.next c.all_choices-chosen.ensures) in
+    let handled : Checks plain_handlers c.handlers-handlers.result chosen new u (rest t1) =
+    subst (λ l. Checks plain_handlers c.handlers-handlers.result chosen new u (checked_handlers (handler_list l) (handling around) place t1)) c.deref-2.ensures.value c.handlers-handlers.ensures in
+    rw (body_open c.args.node.now) (body_left c.both-2.result b.statements c.handlers-handlers.result old stated chosen new t1 u ss (all_choices_faults handlers none_chosen place) rest c.both-2.ensures.first c.both-2.ensures.next first noted_choices handled)

@@ -1,0 +1,23 @@
+use Rattle.std.proofs.Common.{drop, map}
+use Rattle.aud_syntax.specs.Ties.View.{plain_others, arm_list, handler_list, plain_declarations}
+use Rattle.aud_typed.specs.Ties.View.{plain_statement}
+use Rattle.aud_check_bodies.specs.Statements.{checked_others, checked_arms, checked_handlers, checked_declarations}
+use Rattle.aud_check_bodies.specs.Ties.Arms.{plain_arm, plain_handler}
+use Rattle.aud_names.specs.Ties.Regions.{plain_place}
+use Rattle.aud_check_bodies.specs.Ties.Tables.{plain_tables}
+use Rattle.aud_check_bodies.specs.Ties.Within.{around_of}
+use Rattle.aud_check_bodies.proofs.Declared.{DeclaresAhead}
+use Rattle.aud_check_bodies.proofs.Walked.{Left}
+use Rattle.aud_check_bodies.proofs.statement.+statement.Given as goal
+
+abbrev pub invariant-arms-loop-next : goal.invariant-arms-loop-next
+invariant-arms-loop-next l = Left (map plain_arm l.typed.items) l.faults (checked_arms (arm_list (drop l.next-index l.arms)) (around_of l.within) l.within.scope.now (plain_tables l.tables)) l.fn.faults (checked_arms (arm_list l.arms) (around_of l.within) l.within.scope.now (plain_tables l.fn.tables))
+
+abbrev pub invariant-more_statements-loop-next : goal.invariant-more_statements-loop-next
+invariant-more_statements-loop-next l = Left (map plain_statement l.typed.items) l.faults (checked_others (plain_others (drop l.next-index l.others)) (around_of l.within) l.within.scope.now (plain_tables l.tables)) l.fn.faults (checked_others (plain_others l.others) (around_of l.within) l.within.scope.now (plain_tables l.fn.tables))
+
+abbrev pub invariant-handlers-loop-next : goal.invariant-handlers-loop-next
+invariant-handlers-loop-next l = Left (map plain_handler l.typed.items) l.faults (checked_handlers (handler_list (drop l.next-index l.handlers)) (around_of l.within) l.within.scope.now (plain_tables l.tables)) l.fn.faults (checked_handlers (handler_list l.handlers) (around_of l.within) l.within.scope.now (plain_tables l.fn.tables))
+
+abbrev pub invariant-declarations-loop-next : goal.invariant-declarations-loop-next
+invariant-declarations-loop-next l = DeclaresAhead l.faults l.part (checked_declarations (plain_declarations (drop l.next-index l.declarations)) (plain_place l.part.region l.outer) (plain_tables l.tables)) l.fn.faults l.fn.part (checked_declarations (plain_declarations l.fn.declarations) (plain_place l.fn.part.region l.fn.outer) (plain_tables l.fn.tables))

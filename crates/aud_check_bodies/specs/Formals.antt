@@ -1,0 +1,55 @@
+-- Formal parameters of procedures (RM 6.1).
+use Rattle.std.specs.Prelude.{Bool, true, false, List, [], ◌∷◌, ◌++◌, map, Option}
+use Rattle.aud_syntax.specs.declared.tree.Ident.{Ident}
+use Rattle.aud_syntax.specs.declared.tree.Mode.{Mode}
+use Rattle.aud_syntax.specs.declared.tree.Mode.TheVariants.{Unstated, In, Out, InOut}
+use Rattle.aud_syntax.specs.Plain.{Formal, formal}
+use Rattle.aud_typed.specs.declared.program.Subtype.{Subtype}
+use Rattle.aud_fault.specs.declared.fault.Fault.{Fault}
+use Rattle.aud_names.specs.declared.names.Meaning.{Meaning}
+use Rattle.aud_names.specs.declared.names.Parameter.{Parameter}
+use Rattle.aud_names.specs.declared.array.Kind.{Kind}
+use Rattle.aud_names.specs.Names.{Region, place_in, hiding, own_hidden, with_own, visible}
+use Rattle.aud_check_bodies.specs.Declarations.{subtype_faults, subtype_meant, scalar, declared_names, twice_faults}
+
+-- a formal of mode in is a constant (RM 3.3, 6.1)
+abbrev pub is_in : Mode → Bool
+is_in Unstated = true
+is_in (In at) = true
+is_in (Out at) = false
+is_in (InOut at) = false
+
+-- the faults of formals, the region after them, and how calls see them
+pub record Formals : Type 0 where
+  pub faults : List Fault
+  pub region : Region
+  pub profile : List Parameter
+
+-- what the mark of formals stands for, which are declared in a region within these
+abbrev pub mark_meant : Ident → List Ident → Ident → Region → List Region → Option Meaning
+mark_meant own names mark r outer = visible mark.name (hiding (with_own (own_hidden own r) names) (place_in r outer))
+
+-- one for each of the names
+abbrev pub parameters_of : List Ident → Parameter → List Parameter
+parameters_of names p = map (λ i. p) names
+
+abbrev pub formal_kind : Mode → Option Subtype → Kind
+formal_kind mode s = scalar s (is_in mode)
+
+abbrev pub formals_meant : List Ident → Mode → Ident → Option Meaning → Region → Formals
+formals_meant names mode mark m r = record {
+  faults = subtype_faults m mark.at ++ twice_faults names (formal_kind mode (subtype_meant m)) r;
+  region = declared_names names (formal_kind mode (subtype_meant m)) r;
+  profile = parameters_of names (record { mode = mode; subtype = subtype_meant m });
+}
+
+abbrev pub checked_formal : Ident → Formal → Region → List Region → Formals
+checked_formal own (formal first others mode mark) r outer = formals_meant (first ∷ others) mode mark (mark_meant own (first ∷ others) mark r outer) r
+
+abbrev pub joined_formals : Formals → Formals → Formals
+joined_formals f g = record { faults = f.faults ++ g.faults; region = g.region; profile = f.profile ++ g.profile }
+
+-- the formals of a procedure are declared one after the other in its region, which lies within these
+abbrev pub checked_formals : Ident → List Formal → Region → List Region → Formals
+checked_formals own [] r outer = record { faults = []; region = r; profile = [] }
+checked_formals own (f ∷ fs) r outer = joined_formals (checked_formal own f r outer) (checked_formals own fs (checked_formal own f r outer).region outer)

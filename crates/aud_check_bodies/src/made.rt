@@ -1,0 +1,175 @@
+// What is left of statements and bodies, of their parts.
+
+ghost use Rattle.std.specs.Prelude.{◌≡◌, ◌++◌, IfOk};
+ghost use Rattle.aud_syntax.specs.Ties.View.{plain_body as plain_source, plain_choices};
+ghost use Rattle.aud_typed.specs.Tree.{null, block, part_of, activation};
+ghost use Rattle.aud_typed.specs.Ties.View.{plain_boolean, plain_statement, plain_body, plain_unit, statements_in};
+ghost use Rattle.aud_check_bodies.specs.Statements.{arm_then, arms_then, begin_of, body_with};
+ghost use Rattle.aud_check_bodies.specs.Handlers.{is_others, choices_of};
+ghost use Rattle.aud_check_bodies.specs.Ties.Arms.{plain_arm, plain_arms, plain_handler, plain_parts, plain_sequence, plain_items};
+
+use crate::handler::{choices_of, is_others};
+use aud_names::behind::{Left, boxed};
+use aud_names::names::Scope;
+use aud_syntax::tree::{Body as SourceBody, Choices};
+use aud_text::place::Pos;
+use aud_typed::program::{
+    Arm, BlockStatement, Body, BooleanExpression, Handler, IfStatement, Statement, Statements, Unit,
+};
+use std::alloc::Global;
+
+/// A null statement.
+#[inline(never)]
+pub fn null_at(alloc: Global, at: Pos) -> Left<Statement>
+    ensures { IfOk result (λ typed. plain_statement typed.value ≡ null at) }
+{
+    boxed(alloc, Statement::Null(at))
+}
+
+/// An if statement of its first arm and the others, and the statements behind `else`.
+#[inline(never)]
+pub fn if_of(
+    alloc: Global,
+    arms: (Box<Arm>, Vec<Arm>),
+    otherwise: Vec<Statement>,
+) -> Left<Statement>
+    ensures { IfOk result (λ typed. plain_statement typed.value
+        ≡ arm_then (plain_arm arms.0.value)
+        (arms_then (plain_arms arms.1) (part_of (plain_items otherwise)))) }
+{
+    let (first, others) = arms;
+    let first = Box::into_inner(first);
+    let statement = boxed(
+        alloc,
+        IfStatement {
+            first,
+            others,
+            otherwise,
+        },
+    )?;
+    boxed(alloc, Statement::If(statement))
+}
+
+/// An arm of its parts.
+#[inline(never)]
+pub fn arm_of(
+    alloc: Global,
+    at: Pos,
+    condition: Box<BooleanExpression>,
+    statements: Box<Statements>,
+) -> Left<Arm>
+    ensures { IfOk result (λ arm. plain_arm arm.value
+        ≡ record {
+          at = at;
+          condition = plain_boolean condition.value;
+          statements = statements_in statements.value;
+        }) }
+{
+    let condition = Box::into_inner(condition);
+    let statements = Box::into_inner(statements);
+    boxed(
+        alloc,
+        Arm {
+            at,
+            condition,
+            statements,
+        },
+    )
+}
+
+/// A statement, and those behind it.
+#[inline(never)]
+pub fn in_order(alloc: Global, first: Box<Statement>, others: Vec<Statement>) -> Left<Statements>
+    ensures { IfOk result (λ typed. plain_sequence typed.value
+        ≡ record { first = plain_statement first.value; others = plain_items others }) }
+{
+    let first = Box::into_inner(first);
+    boxed(alloc, Statements { first, others })
+}
+
+/// A handler for these choices (RM 11.2).
+#[inline(never)]
+pub fn handler_of(
+    choices: &Choices,
+    scope: &Scope<'_>,
+    statements: Box<Statements>,
+) -> Left<Handler>
+    ensures { IfOk result (λ handler. plain_handler handler.value
+        ≡ record {
+          others = is_others (plain_choices choices.now);
+          choices = choices_of (plain_choices choices.now) scope.now;
+          statements = statements_in statements.value;
+        }) }
+{
+    let others = is_others(choices);
+    let choices = choices_of(choices, scope)?;
+    let statements = Box::into_inner(statements);
+    boxed(
+        scope.alloc(),
+        Handler {
+            others,
+            choices,
+            statements,
+        },
+    )
+}
+
+/// The statements of a body, and its handlers.
+pub type Parts = (Box<Statements>, Vec<Handler>);
+
+/// A body with these declarations, whose `begin` activates tasks or does not (RM 9.2(3)).
+#[inline(never)]
+pub fn body_of(
+    alloc: Global,
+    source: &SourceBody,
+    declarations: Vec<Statement>,
+    activates: bool,
+    parts: Parts,
+) -> Left<Body>
+    ensures { IfOk result (λ body. plain_body body.value
+        ≡ body_with
+        (plain_items declarations ++ activation activates (begin_of (plain_source source.now)))
+        (plain_source source.now) (plain_parts parts)) }
+{
+    let (statements, handlers) = parts;
+    boxed(
+        alloc,
+        Body {
+            declarations,
+            begin: source.begin,
+            activates,
+            statements: Box::into_inner(statements),
+            handlers,
+            end: source.end,
+        },
+    )
+}
+
+/// A block that begins at a place, whose region has this number (RM 5.6).
+#[inline(never)]
+pub fn block_of(alloc: Global, at: Pos, region: usize, body: Box<Body>) -> Left<Statement>
+    ensures { IfOk result (λ typed. plain_statement typed.value
+        ≡ block at region (plain_body body.value)) }
+{
+    let body = Box::into_inner(body);
+    let statement = boxed(alloc, BlockStatement { at, region, body })?;
+    boxed(alloc, Statement::Block(statement))
+}
+
+/// A procedure's body, which begins at a place, with the level and the number of its region (RM 6.3).
+#[inline(never)]
+pub fn unit_of(alloc: Global, level: usize, region: usize, at: Pos, body: Box<Body>) -> Left<Unit>
+    ensures { IfOk result (λ unit. plain_unit unit.value
+        ≡ record { level = level; region = region; at = at; body = plain_body body.value }) }
+{
+    let body = Box::into_inner(body);
+    boxed(
+        alloc,
+        Unit {
+            level,
+            region,
+            at,
+            body,
+        },
+    )
+}

@@ -1,0 +1,555 @@
+// Statements, declarative parts and bodies.
+
+ghost use Rattle.std.specs.Prelude.{true, IfOk, OnOk};
+ghost use Rattle.aud_syntax.specs.declared.tree.TaskBody.{out-TaskBody};
+ghost use Rattle.aud_syntax.specs.Ties.View.{plain_expression, plain_statement, plain_others, plain_statements, plain_if_statement, arm_list, plain_loop_statement, plain_parameter, plain_block_statement, plain_body, handler_list, plain_declaration, plain_declarations, plain_procedure, plain_task_body};
+ghost use Rattle.aud_typed.specs.Ties.View.{plain_body as plain_typed_body, plain_statement as plain_typed_statement};
+ghost use Rattle.aud_check_bodies.specs.Statements.{labelled, arm_of, checked_loop, checked_statements, checked_others, checked_arms, checked_body, checked_handlers, checked_declaration, checked_declarations, body_behind};
+ghost use Rattle.aud_check_bodies.specs.Tables.{next_region, region_kept};
+ghost use Rattle.aud_check_bodies.specs.Tasks.{with_bodies};
+ghost use Rattle.aud_check_bodies.specs.Ties.Arms.{plain_arm, plain_arms as plain_typed_arms, plain_handlers, plain_parts, plain_sequence, plain_items};
+ghost use Rattle.aud_check_bodies.specs.Ties.DeclarativePart.{Declares, Enters};
+ghost use Rattle.aud_names.specs.Ties.Regions.{plain_place};
+ghost use Rattle.aud_check_bodies.specs.Ties.Tables.{plain_tables};
+ghost use Rattle.aud_typing.specs.Ties.Typing.{in_box};
+ghost use Rattle.aud_check_bodies.specs.Ties.Within.{around_of, around_entering, Checks, ChecksStatement};
+
+use crate::assignment::assignment;
+use crate::call::call;
+use crate::declaration::{DeclarativePart, arrays, declare_procedure, exceptions, objects};
+use crate::formal::formals;
+use crate::handler::{all_choices, raise};
+use crate::iteration::{For, bounds, for_of, forever, while_of};
+use crate::labels::{Label, begin_at, exit_loop, with_label};
+use crate::leaving::{exit, return_from};
+use crate::made::{
+    Parts, arm_of, block_of, body_of, handler_of, if_of, in_order, null_at, unit_of,
+};
+use crate::tables::{Tables, loop_region};
+use crate::task::{body_unit, declare_task, running_within, with_activation, without_bodies};
+use crate::within::{Entering, Within};
+use aud_fault::fault::Least;
+use aud_names::behind::{Left, Made, both, push};
+use aud_names::names::{Region, Scope, frame_within, task_within};
+use aud_names::rules::{right_label_at_end, right_name_at_end};
+use aud_syntax::tree::{
+    Arm, BlockStatement, Body, Declaration, Handler, IfStatement, Iteration, LoopParameter,
+    LoopStatement, ProcedureDeclaration, Statement, Statements, TaskBody,
+};
+use aud_typed::program::{
+    Arm as TypedArm, Body as TypedBody, Handler as TypedHandler, Statement as TypedStatement,
+    Statements as TypedStatements,
+};
+use aud_typing::condition::condition;
+
+// What is left of a statement.
+type Stated = Left<TypedStatement>;
+
+// A statement (RM 5.1) among these constructs.
+#[cycle(statement)]
+fn statement<'a>(
+    statement: &'a Statement,
+    within: Within<'_, 'a>,
+    tables: &mut Tables,
+    faults: &mut Least,
+) -> Stated
+    ensures { ChecksStatement result faults.old faults.new
+        (plain_tables tables.old) (plain_tables tables.new)
+        (plain_statement statement.now) within.entry }
+{
+    let scope = within.scope;
+    match statement {
+        Statement::Null(at) => null_at(scope.alloc(), *at),
+        Statement::Assign(target, value) => assignment(target, value, scope, faults),
+        Statement::Call(name) => call(name, scope, &*tables, faults),
+        Statement::If(statement) => if_statement(statement, within, tables, faults),
+        Statement::Loop(statement) => loop_statement(statement, within, tables, faults),
+        Statement::Block(statement) => block_statement(statement, within, tables, faults),
+        Statement::Exit(at, name, condition) => {
+            let found = exit_loop(name, within.labels);
+            exit(*at, found, condition, scope, faults)
+        }
+        Statement::Return(at, value) => return_from(*at, value, within.in_task, scope, faults),
+        Statement::Raise(at, name) => raise(*at, name, within.in_handler, scope, faults),
+    }
+}
+
+// An if statement (RM 5.3).
+#[cycle(statement)]
+#[inline(never)]
+fn if_statement<'a>(
+    node: &'a IfStatement,
+    within: Within<'_, 'a>,
+    tables: &mut Tables,
+    faults: &mut Least,
+) -> Stated
+    ensures { ChecksStatement result faults.old faults.new
+        (plain_tables tables.old) (plain_tables tables.new)
+        (plain_if_statement node.now) within.entry }
+{
+    let first = arm(&node.first, within, tables, faults)?;
+    let arms = both(first, arms(&node.others, within, tables, faults))?;
+    let otherwise = more_statements(&node.otherwise, within, tables, faults);
+    let (arms, otherwise) = both(arms, otherwise)?;
+    if_of(within.scope.alloc(), arms, otherwise)
+}
+
+// The arms behind each `elsif`.
+#[cycle(statement)]
+fn arms<'a>(
+    arms: &'a [Arm],
+    within: Within<'_, 'a>,
+    tables: &mut Tables,
+    faults: &mut Least,
+) -> Made<Vec<TypedArm>>
+    ensures { Checks plain_typed_arms result faults.old faults.new (plain_tables tables.new)
+        (checked_arms (arm_list arms.now) (around_of within.entry) within.entry.scope.now
+        (plain_tables tables.old)) }
+{
+    let mut typed = Vec::with_capacity(within.scope.alloc(), arms.len())?;
+    for next in arms {
+        push(&mut typed, arm(next, within, tables, faults)?)?;
+    }
+    Ok(typed)
+}
+
+// A condition, and the statements that are done where it is true.
+#[tactic(auto, using(aud_typing::proofs::Notes::noted_append))]
+#[cycle(statement)]
+fn arm<'a>(
+    arm: &'a Arm,
+    within: Within<'_, 'a>,
+    tables: &mut Tables,
+    faults: &mut Least,
+) -> Left<TypedArm>
+    ensures { Checks (in_box plain_arm) result faults.old faults.new (plain_tables tables.new)
+        (arm_of arm.now.at (plain_expression arm.now.condition) within.entry.scope.now
+        (checked_statements (plain_statements arm.now.statements) (around_of within.entry)
+        within.entry.scope.now (plain_tables tables.old))) }
+{
+    let condition = condition(&arm.condition, within.scope, faults)?;
+    let statements = statements(&arm.statements, within, tables, faults);
+    let (condition, statements) = both(condition, statements)?;
+    arm_of(within.scope.alloc(), arm.at, condition, statements)
+}
+
+// A loop (RM 5.5), whose statements see its label.
+#[cycle(statement)]
+#[inline(never)]
+fn loop_statement<'a>(
+    node: &'a LoopStatement,
+    within: Within<'_, 'a>,
+    tables: &mut Tables,
+    faults: &mut Least,
+) -> Stated
+    ensures { ChecksStatement result faults.old faults.new
+        (plain_tables tables.old) (plain_tables tables.new)
+        (plain_loop_statement node.now) within.entry }
+{
+    let scope = within.scope;
+    right_label_at_end(&node.label, &node.name, node.semicolon, faults);
+    match &node.iteration {
+        Iteration::Forever => {
+            let body = loop_body(node, within, tables, faults)?;
+            forever(scope.alloc(), body)
+        }
+        Iteration::While(e) => {
+            let condition = condition(e, scope, faults)?;
+            let body = loop_body(node, within, tables, faults);
+            let (condition, body) = both(condition, body)?;
+            let at = begin_at(&node.label, node.at);
+            while_of(scope.alloc(), at, condition, body)
+        }
+        Iteration::For(parameter) => for_loop(node, parameter, within, tables, faults),
+    }
+}
+
+// A loop with a parameter (RM 5.5(4)), whose label has been checked.
+#[cycle(statement)]
+fn for_loop<'a>(
+    node: &'a LoopStatement,
+    parameter: &'a LoopParameter,
+    within: Within<'_, 'a>,
+    tables: &mut Tables,
+    faults: &mut Least,
+) -> Stated
+    ensures { Checks (in_box plain_typed_statement) result faults.old faults.new
+        (plain_tables tables.new)
+        (checked_loop node.now.label node.now.at (plain_parameter parameter.now)
+        (plain_statements node.now.statements) (around_of within.entry) within.entry.scope.now
+        (plain_tables tables.old)) }
+{
+    let scope = within.scope;
+    let bounds = bounds(parameter, scope, faults)?;
+    let outer = scope.regions()?;
+    let own = loop_region(&parameter.name, scope)?;
+    let region = tables.enter(&own)?;
+    let inner = Within {
+        scope: &Scope::new(&own, &outer),
+        labels: within.labels,
+        in_handler: within.in_handler,
+        in_task: within.in_task,
+    };
+    let body = loop_body(node, inner, tables, faults);
+    let (bounds, body) = both(bounds, body)?;
+    let at = begin_at(&node.label, node.at);
+    let head = For {
+        at,
+        next_at: node.at,
+        region,
+        backward: parameter.reverse,
+    };
+    for_of(scope.alloc(), head, bounds, body)
+}
+
+// The statements of a loop.
+#[cycle(statement)]
+fn loop_body<'a>(
+    node: &'a LoopStatement,
+    within: Within<'_, 'a>,
+    tables: &mut Tables,
+    faults: &mut Least,
+) -> Left<TypedStatements>
+    ensures { Checks (in_box plain_sequence) result faults.old faults.new (plain_tables tables.new)
+        (checked_statements (plain_statements node.now.statements)
+        (labelled true node.now.label (around_of within.entry)) within.entry.scope.now
+        (plain_tables tables.old)) }
+{
+    let label = Label {
+        is_loop: true,
+        name: &node.label,
+    };
+    let labels = with_label(within.scope.alloc(), label, within.labels)?;
+    let inner = Within {
+        scope: within.scope,
+        labels: &labels,
+        in_handler: within.in_handler,
+        in_task: within.in_task,
+    };
+    statements(&node.statements, inner, tables, faults)
+}
+
+// A block (RM 5.6), whose statements see its declarations and its label.
+#[cycle(statement)]
+#[inline(never)]
+fn block_statement<'a>(
+    node: &'a BlockStatement,
+    within: Within<'_, 'a>,
+    tables: &mut Tables,
+    faults: &mut Least,
+) -> Stated
+    ensures { ChecksStatement result faults.old faults.new
+        (plain_tables tables.old) (plain_tables tables.new)
+        (plain_block_statement node.now) within.entry }
+{
+    let alloc = within.scope.alloc();
+    right_label_at_end(&node.label, &node.body.name, node.body.semicolon, faults);
+    let outer = within.scope.regions()?;
+    let region = within.scope.frame()?;
+    let label = Label {
+        is_loop: false,
+        name: &node.label,
+    };
+    let labels = with_label(alloc, label, within.labels)?;
+    let entering = Entering {
+        outer: &outer,
+        labels: &labels,
+        in_handler: within.in_handler,
+        in_task: within.in_task,
+        of_task: false,
+    };
+    let number = tables.next_region();
+    let part = declared(&node.declarations, region, &outer, tables, faults)?;
+    let body = body_behind(part, &node.body, entering, tables, faults)?;
+    block_of(alloc, begin_at(&node.label, node.at), number, body)
+}
+
+/// The declarations of a region that is entered: notes their faults, and answers the part behind them, whose names are
+/// in the tables.
+#[cycle(statement)]
+#[inline(never)]
+pub fn declared<'a>(
+    source: &'a [Declaration],
+    region: Region,
+    outer: &[&'a Region],
+    tables: &mut Tables,
+    faults: &mut Least,
+) -> Made<DeclarativePart>
+    ensures { IfOk result (λ part. Enters faults.old faults.new outer.now part
+        (next_region (plain_tables tables.old)) (plain_tables tables.new)
+        (with_bodies (checked_declarations (plain_declarations source.now)
+        (plain_place region outer.now) (region_kept (plain_tables tables.old))))) }
+{
+    let alloc = region.alloc;
+    let number = tables.next_region();
+    tables.keep_region(alloc)?;
+    let mut part = DeclarativePart {
+        region,
+        elaborations: Vec::new(alloc),
+    };
+    declarations(source, outer, &mut part, tables, faults)?;
+    without_bodies(&part.region.awaited, faults);
+    tables.name_region(number, &part.region)?;
+    Ok(part)
+}
+
+/// The statements of a body behind its declarations: notes their faults, and answers what is left of the body.
+#[cycle(statement)]
+#[inline(never)]
+pub fn body_behind<'a>(
+    part: DeclarativePart,
+    node: &'a Body,
+    entering: Entering<'_, 'a>,
+    tables: &mut Tables,
+    faults: &mut Least,
+) -> Left<TypedBody>
+    ensures { Checks (in_box plain_typed_body) result faults.old faults.new
+        (plain_tables tables.new)
+        (body_behind entering.entry.of_task (plain_items part.elaborations) (plain_body node.now)
+        (around_entering entering.entry) (plain_place part.region entering.entry.outer.now)
+        (plain_tables tables.old)) }
+{
+    let DeclarativePart {
+        region,
+        mut elaborations,
+    } = part;
+    let activates = with_activation(entering.of_task, node.begin, &mut elaborations)?;
+    let within = Within {
+        scope: &Scope::new(&region, entering.outer),
+        labels: entering.labels,
+        in_handler: entering.in_handler,
+        in_task: entering.in_task,
+    };
+    let parts = body(node, within, tables, faults);
+    let (elaborations, parts) = both(elaborations, parts)?;
+    body_of(region.alloc, node, elaborations, activates, parts)
+}
+
+// A procedure (RM 6.1, 6.3): adds its name to the part, and its formals and its body to the tables.
+#[cycle(statement)]
+#[inline(never)]
+fn procedure<'a>(
+    node: &'a ProcedureDeclaration,
+    outer: &[&'a Region],
+    part: &mut DeclarativePart,
+    tables: &mut Tables,
+    faults: &mut Least,
+) -> Made<()>
+    ensures { OnOk result (Declares faults.old faults.new outer.now part.old part.new
+        (plain_tables tables.new)
+        (checked_declaration (plain_procedure node.now) (plain_place part.old.region outer.now)
+        (plain_tables tables.old))) }
+{
+    let alloc = part.region.alloc;
+    let number = tables.next_unit();
+    declare_procedure(&node.name, number, &mut part.region, faults)?;
+    let (regions, mut region) = frame_within(&part.region, &*outer)?;
+    let profile = formals(&node.name, &node.formals, &regions, &mut region, faults)?;
+    tables.keep_unit(alloc, profile)?;
+    let level = region.level;
+    let own = tables.next_region();
+    let inner = declared(&node.declarations, region, &regions, tables, faults)?;
+    let entering = Entering {
+        outer: &regions,
+        labels: &[],
+        in_handler: false,
+        in_task: false,
+        of_task: false,
+    };
+    let body = body_behind(inner, &node.body, entering, tables, faults)?;
+    right_name_at_end(&node.name.name, &node.body.name, faults);
+    let unit = unit_of(alloc, level, own, node.at, body)?;
+    tables.put_unit(number, Box::into_inner(unit));
+    Ok(())
+}
+
+// The declarations of a task's body, in the region of the body.
+#[cycle(statement)]
+#[inline(never)]
+fn task_part<'a>(
+    node: &'a TaskBody,
+    region: Region,
+    outer: &[&'a Region],
+    tables: &mut Tables,
+    faults: &mut Least,
+) -> Made<DeclarativePart>
+    ensures { IfOk result (λ part. Enters faults.old faults.new outer.now part
+        (next_region (plain_tables tables.old)) (plain_tables tables.new)
+        (with_bodies (checked_declarations (plain_declarations
+        (out-TaskBody node.now).declarations.items)
+        (plain_place region outer.now) (region_kept (plain_tables tables.old))))) }
+{
+    declared(&node.declarations, region, outer, tables, faults)
+}
+
+// The body of a task or a task type (RM 9.1): adds it to the tables, where its place was kept.
+#[cycle(statement)]
+#[inline(never)]
+fn task_body<'a>(
+    node: &'a TaskBody,
+    outer: &[&'a Region],
+    part: &mut DeclarativePart,
+    tables: &mut Tables,
+    faults: &mut Least,
+) -> Made<()>
+    ensures { OnOk result (Declares faults.old faults.new outer.now part.old part.new
+        (plain_tables tables.new)
+        (checked_declaration (plain_task_body node.now) (plain_place part.old.region outer.now)
+        (plain_tables tables.old))) }
+{
+    let alloc = part.region.alloc;
+    let number = body_unit(&node.name, &mut part.region, tables, faults)?;
+    let running = running_within(&node.name.name, &part.region)?;
+    let level = running.level;
+    let regions = task_within(&running, &part.region, &*outer)?;
+    let region = Region::of_task(alloc, level)?;
+    let own = tables.next_region();
+    let inner = task_part(node, region, &regions, tables, faults)?;
+    let entering = Entering {
+        outer: &regions,
+        labels: &[],
+        in_handler: false,
+        in_task: true,
+        of_task: true,
+    };
+    let body = body_behind(inner, &node.body, entering, tables, faults)?;
+    right_name_at_end(&node.name.name, &node.body.name, faults);
+    let unit = unit_of(alloc, level, own, node.at, body)?;
+    tables.put_unit(number, Box::into_inner(unit));
+    Ok(())
+}
+
+// A declaration (RM 3.1): notes its faults, and adds to the part and to the tables what it declares.
+#[cycle(statement)]
+fn declaration<'a>(
+    declaration: &'a Declaration,
+    outer: &[&'a Region],
+    part: &mut DeclarativePart,
+    tables: &mut Tables,
+    faults: &mut Least,
+) -> Made<()>
+    ensures { OnOk result (Declares faults.old faults.new outer.now part.old part.new
+        (plain_tables tables.new)
+        (checked_declaration (plain_declaration declaration.now)
+        (plain_place part.old.region outer.now) (plain_tables tables.old))) }
+{
+    match declaration {
+        Declaration::Object(names, mark, initial) => {
+            objects(names, mark, initial.as_ref(), false, outer, part, faults)
+        }
+        Declaration::Constant(names, mark, value) => {
+            objects(names, mark, Some(value), true, outer, part, faults)
+        }
+        Declaration::Array(names, low, high, mark) => {
+            arrays(names, (*low, *high), mark, outer, part, faults)
+        }
+        Declaration::Exception(names) => {
+            exceptions(names, &mut part.region, &mut tables.exceptions, faults)
+        }
+        Declaration::Procedure(node) => procedure(node, outer, part, tables, faults),
+        Declaration::Task(task) => declare_task(task, part, tables, faults),
+        Declaration::TaskBody(node) => task_body(node, outer, part, tables, faults),
+    }
+}
+
+// A declarative part (RM 3.11).
+#[cycle(statement)]
+fn declarations<'a>(
+    declarations: &'a [Declaration],
+    outer: &[&'a Region],
+    part: &mut DeclarativePart,
+    tables: &mut Tables,
+    faults: &mut Least,
+) -> Made<()>
+    ensures { OnOk result (Declares faults.old faults.new outer.now part.old part.new
+        (plain_tables tables.new)
+        (checked_declarations (plain_declarations declarations.now)
+        (plain_place part.old.region outer.now) (plain_tables tables.old))) }
+{
+    for next in declarations {
+        declaration(next, outer, part, tables, faults)?;
+    }
+    Ok(())
+}
+
+// The statements and handlers of a body (RM 11.2).
+#[cycle(statement)]
+fn body<'a>(
+    node: &'a Body,
+    within: Within<'_, 'a>,
+    tables: &mut Tables,
+    faults: &mut Least,
+) -> Made<Parts>
+    ensures { Checks plain_parts result faults.old faults.new (plain_tables tables.new)
+        (checked_body (plain_body node.now) (around_of within.entry) within.entry.scope.now
+        (plain_tables tables.old)) }
+{
+    let statements = statements(&node.statements, within, tables, faults)?;
+    let chosen = all_choices(&node.handlers, within.scope, faults);
+    let (statements, ()) = both(statements, chosen)?;
+    let inner = Within {
+        scope: within.scope,
+        labels: within.labels,
+        in_handler: true,
+        in_task: within.in_task,
+    };
+    let handlers = handlers(&node.handlers, inner, tables, faults);
+    both(statements, handlers)
+}
+
+// The handlers of a body.
+#[cycle(statement)]
+fn handlers<'a>(
+    handlers: &'a [Handler],
+    within: Within<'_, 'a>,
+    tables: &mut Tables,
+    faults: &mut Least,
+) -> Made<Vec<TypedHandler>>
+    ensures { Checks plain_handlers result faults.old faults.new (plain_tables tables.new)
+        (checked_handlers (handler_list handlers.now) (around_of within.entry)
+        within.entry.scope.now (plain_tables tables.old)) }
+{
+    let scope = within.scope;
+    let mut typed = Vec::with_capacity(scope.alloc(), handlers.len())?;
+    for next in handlers {
+        let statements = statements(&next.statements, within, tables, faults)?;
+        push(&mut typed, handler_of(&next.choices, scope, statements)?)?;
+    }
+    Ok(typed)
+}
+
+// A sequence of statements (RM 5.1(2)).
+#[cycle(statement)]
+fn statements<'a>(
+    statements: &'a Statements,
+    within: Within<'_, 'a>,
+    tables: &mut Tables,
+    faults: &mut Least,
+) -> Left<TypedStatements>
+    ensures { Checks (in_box plain_sequence) result faults.old faults.new (plain_tables tables.new)
+        (checked_statements (plain_statements statements.now) (around_of within.entry)
+        within.entry.scope.now (plain_tables tables.old)) }
+{
+    let first = statement(&statements.first, within, tables, faults)?;
+    let others = more_statements(&statements.others, within, tables, faults);
+    let (first, others) = both(first, others)?;
+    in_order(within.scope.alloc(), first, others)
+}
+
+#[cycle(statement)]
+fn more_statements<'a>(
+    others: &'a [Statement],
+    within: Within<'_, 'a>,
+    tables: &mut Tables,
+    faults: &mut Least,
+) -> Made<Vec<TypedStatement>>
+    ensures { Checks plain_items result faults.old faults.new (plain_tables tables.new)
+        (checked_others (plain_others others.now) (around_of within.entry)
+        within.entry.scope.now (plain_tables tables.old)) }
+{
+    let mut typed = Vec::with_capacity(within.scope.alloc(), others.len())?;
+    for next in others {
+        push(&mut typed, statement(next, within, tables, faults)?)?;
+    }
+    Ok(typed)
+}

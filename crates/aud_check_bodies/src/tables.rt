@@ -1,0 +1,248 @@
+// The tables of a program, as a check of its text makes them.
+
+ghost use Rattle.std.specs.Prelude.{◌≡◌, [], ◌++◌, option_map, IfOk, OnOk};
+ghost use Rattle.aud_typed.specs.Ties.View.{plain_shown, plain_region as plain_named_region, plain_unit};
+ghost use Rattle.aud_check_bodies.specs.Regions.{shown_of, shown_row, shown, shown_before, shown_names, loop_region};
+ghost use Rattle.aud_check_bodies.specs.Tables.{no_tables, next_region, with_region, region_kept, region_named, next_unit, no_body, unit_kept, with_unit, next_task, task_kept, profile_of};
+ghost use Rattle.aud_names.specs.Ties.Regions.{plain_region};
+ghost use Rattle.aud_check_bodies.specs.Ties.Tables.{plain_tables};
+
+use aud_names::array::length_between;
+use aud_names::behind::Made;
+use aud_names::names::{Meaning, Object, Parameter, Region, Scope};
+use aud_syntax::tree::Ident;
+use aud_text::name::Name;
+use aud_text::place::Pos;
+use aud_typed::program::{
+    Body, Named, Shown, Statement, Statements, Subtype, TaskType, Unit, Variable,
+};
+use std::alloc::Global;
+use std::mem::replace;
+
+/// The variables and constants of each region that has been entered, by the regions' numbers, and the
+/// names of the exceptions, by theirs; of each procedure and task that has been declared its formals, and its body,
+/// by the number of its unit; and of each task type that unit, by the number of the type.
+#[derive(Drop)]
+pub struct Tables {
+    pub regions: Vec<Vec<Named>>,
+    pub exceptions: Vec<Name>,
+    pub profiles: Vec<Vec<Parameter>>,
+    pub units: Vec<Unit>,
+    pub tasks: Vec<TaskType>,
+}
+
+impl Tables {
+    /// Those of a program of which nothing is checked yet.
+    pub fn new(alloc: Global) -> Self
+        ensures { plain_tables result ≡ no_tables }
+    {
+        Tables {
+            regions: Vec::new(alloc),
+            exceptions: Vec::new(alloc),
+            profiles: Vec::new(alloc),
+            units: Vec::new(alloc),
+            tasks: Vec::new(alloc),
+        }
+    }
+
+    /// The number of the region that is entered next.
+    pub fn next_region(&self) -> usize
+        ensures { result ≡ next_region (plain_tables self.now) }
+    {
+        self.regions.len()
+    }
+
+    /// Enters a region that has all its names: its number.
+    pub fn enter(&mut self, region: &Region) -> Made<usize>
+        ensures number { IfOk result (λ number. number ≡ next_region (plain_tables self.old)) }
+        ensures tables { OnOk result (plain_tables self.new
+            ≡ with_region (shown_names region.now.symbols.entries) (plain_tables self.old)) }
+    {
+        let number = self.regions.len();
+        let names = names_of(region)?;
+        self.regions.push(names)?;
+        Ok(number)
+    }
+
+    /// Keeps the place of a region that is entered before its declarations.
+    pub fn keep_region(&mut self, alloc: Global) -> Made<()>
+        ensures { OnOk result (plain_tables self.new ≡ region_kept (plain_tables self.old)) }
+    {
+        self.regions.push(Vec::new(alloc))?;
+        Ok(())
+    }
+
+    /// Puts the names of a region where its place was kept.
+    #[tactic(auto, using(crate::proofs::Kept::region_set, crate::proofs::Kept::region_past))]
+    pub fn name_region(&mut self, number: usize, region: &Region) -> Made<()>
+        ensures { OnOk result (plain_tables self.new
+            ≡ region_named number (shown_names region.now.symbols.entries)
+            (plain_tables self.old)) }
+    {
+        let names = names_of(region)?;
+        if number < self.regions.len() {
+            self.regions[number] = names;
+        }
+        Ok(())
+    }
+
+    /// The number of the unit that is declared next.
+    pub fn next_unit(&self) -> usize
+        ensures { result ≡ next_unit (plain_tables self.now) }
+    {
+        self.units.len()
+    }
+
+    /// Keeps the place of a unit with these formals.
+    pub fn keep_unit(&mut self, alloc: Global, profile: Vec<Parameter>) -> Made<()>
+        ensures { OnOk result (plain_tables self.new
+            ≡ unit_kept profile.items (plain_tables self.old)) }
+    {
+        self.profiles.push(profile)?;
+        self.units.push(no_body(alloc))?;
+        Ok(())
+    }
+
+    /// Puts a unit where its place was kept.
+    #[tactic(auto, using(crate::proofs::Kept::unit_set, crate::proofs::Kept::unit_past))]
+    pub fn put_unit(&mut self, number: usize, unit: Unit)
+        ensures { plain_tables self.new
+            ≡ with_unit number (plain_unit unit) (plain_tables self.old) }
+    {
+        if number < self.units.len() {
+            drop(replace(&mut self.units[number], unit));
+        } else {
+            drop(unit);
+        }
+    }
+
+    /// The number of the task type that is declared next.
+    pub fn next_task(&self) -> usize
+        ensures { result ≡ next_task (plain_tables self.now) }
+    {
+        self.tasks.len()
+    }
+
+    /// Keeps the place of the body of a task type, which has the next unit.
+    pub fn keep_task(&mut self, alloc: Global) -> Made<()>
+        ensures { OnOk result (plain_tables self.new ≡ task_kept (plain_tables self.old)) }
+    {
+        let unit = self.units.len();
+        self.keep_unit(alloc, Vec::new(alloc))?;
+        self.tasks.push(TaskType { unit })?;
+        Ok(())
+    }
+
+    /// The formals of a unit.
+    pub fn profile(&self, unit: usize) -> &[Parameter]
+        ensures { result.now ≡ profile_of unit (plain_tables self.now) }
+    {
+        match self.profiles.get(unit) {
+            None => &[],
+            Some(profile) => profile,
+        }
+    }
+}
+
+// What stands in the place of a unit whose body is not checked yet.
+fn no_body(alloc: Global) -> Unit
+    ensures { plain_unit result ≡ no_body }
+{
+    let at = Pos { line: 0, col: 0 };
+    Unit {
+        level: 0,
+        region: 0,
+        at,
+        body: Body {
+            declarations: Vec::new(alloc),
+            begin: at,
+            activates: false,
+            statements: Statements {
+                first: Statement::Null(at),
+                others: Vec::new(alloc),
+            },
+            handlers: Vec::new(alloc),
+            end: at,
+        },
+    }
+}
+
+fn shown_of(subtype: Option<Subtype>) -> Shown
+    ensures { plain_shown result ≡ shown_of subtype }
+{
+    match subtype {
+        Some(Subtype::Boolean) => Shown::Truth,
+        _ => Shown::Whole,
+    }
+}
+
+fn shown_row(subtype: Option<Subtype>, count: usize) -> Shown
+    ensures { plain_shown result ≡ shown_row subtype count }
+{
+    match subtype {
+        Some(Subtype::Boolean) => Shown::Truths(count),
+        _ => Shown::Wholes(count),
+    }
+}
+
+// How a variable, constant, array or task is shown; what stands for something else has no cells.
+fn shown(meaning: Meaning) -> Option<Shown>
+    ensures { option_map plain_shown result ≡ shown meaning }
+{
+    match meaning {
+        Meaning::Object(object) => Some(shown_of(object.subtype)),
+        Meaning::Array(array) => {
+            let count = length_between(array.low, array.high);
+            Some(shown_row(array.subtype, count))
+        }
+        Meaning::Task(_) => Some(Shown::Hidden(1)),
+        Meaning::TaskArray(array) => Some(Shown::Hidden(length_between(array.low, array.high))),
+        _ => None,
+    }
+}
+
+// Adds a name to those that are shown, if it has cells.
+fn add(name: &Name, meaning: Meaning, alloc: Global, names: &mut Vec<Named>) -> Made<()>
+    ensures { OnOk result (plain_named_region names.new
+        ≡ plain_named_region names.old ++ shown_before name.now (shown meaning) []) }
+{
+    if let Some(shown) = shown(meaning) {
+        let name = name.try_clone(alloc)?;
+        names.push(Named { name, shown })?;
+    }
+    Ok(())
+}
+
+// The names of a region that have cells, in the order of their declarations.
+fn names_of(region: &Region) -> Made<Vec<Named>>
+    ensures { IfOk result (λ names. plain_named_region names
+        ≡ shown_names region.now.symbols.entries) }
+{
+    let mut names = Vec::with_capacity(region.alloc, region.names)?;
+    for (name, meaning) in &region.symbols {
+        add(name, *meaning, region.alloc, &mut names)?;
+    }
+    Ok(names)
+}
+
+/// The region of the statements of a loop with this parameter (RM 5.5(4)).
+pub fn loop_region(parameter: &Ident, scope: &Scope<'_>) -> Made<Region>
+    ensures { IfOk result (λ region. plain_region region
+        ≡ loop_region parameter.now scope.now) }
+{
+    let mut region = scope.frame()?;
+    let name = parameter.name.try_clone(scope.alloc())?;
+    let variable = Variable {
+        level: region.level,
+        index: 0,
+    };
+    let parameter = Object {
+        variable,
+        subtype: Some(Subtype::Integer),
+        constant: true,
+    };
+    region.symbols.insert(name, Meaning::Object(parameter))?;
+    region.cells = 1;
+    region.names = 1;
+    Ok(region)
+}

@@ -1,0 +1,14 @@
+use Rattle.std.proofs.Common.{length, sym, ap, ◌∙◌, arith}
+use Rattle.aud_hall.specs.Halls.{sends_out}
+use Rattle.aud_hall.specs.Parcels.{bench_of}
+use Rattle.aud_hall.proofs.Places.{sends_out_is}
+use Rattle.aud_hall.proofs.hall.Hall.send_out.Goals as goal
+
+pub returns-clause-sends : goal.returns-clause-sends
+returns-clause-sends c =
+    let sends = c.send_out.ensures.sends in (
+      sends.0,
+      ap (sends_out c.args.seat sends.0) (sym c.self.view_is)
+          ∙ sends_out_is c.args.seat c.in-Some.index c.self.inside.places.items c.index_mut-place.result.now c.in-Some.ensures.0 (omega (arith, c.in-Some.ensures.1, ap length c.self.view_is))
+          c.index_mut-place.ensures.value sends.0 c.send_out.new.self (bench_of c.send_out.result) sends.1,
+    )

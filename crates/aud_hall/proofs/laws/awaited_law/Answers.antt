@@ -1,5 +1,0 @@
-use Rattle.aud_hall.proofs.Awaited.{awaited_law}
-use Rattle.aud_hall.proofs.laws.awaited_law.Goals as goal
-
-pub returns : goal.returns
-returns c = awaited_law

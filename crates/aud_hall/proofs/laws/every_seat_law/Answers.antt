@@ -1,5 +1,0 @@
-use Rattle.aud_hall.proofs.Users.{every_seat_law}
-use Rattle.aud_hall.proofs.laws.every_seat_law.Goals as goal
-
-pub returns : goal.returns
-returns c = every_seat_law

@@ -1,8 +1,0 @@
-use Rattle.std.proofs.Common.{ap}
-use Rattle.aud_syntax.specs.Plain as m
-use Rattle.aud_syntax.specs.Ties.View.{plain_factor}
-use Rattle.aud_grammar.specs.Actions.{a_multiplied}
-use Rattle.aud_phrase.proofs.assemble.push_multiplied.Goals as goal
-
-pub returns : goal.returns
-returns c = (_, c.in_ok-push.ensures.items, ap (λ z. a_multiplied (m.multiplied c.args.operator (plain_factor z))) c.into_inner-factor.ensures)

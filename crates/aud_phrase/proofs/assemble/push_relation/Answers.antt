@@ -1,6 +1,0 @@
-use Rattle.std.proofs.Common.{ap}
-use Rattle.aud_phrase.specs.Ties.Items.{relation_item}
-use Rattle.aud_phrase.proofs.assemble.push_relation.Goals as goal
-
-pub returns : goal.returns
-returns c = (_, c.in_ok-push.ensures.items, ap relation_item c.into_inner.ensures)

@@ -1,5 +1,0 @@
-use Rattle.aud_phrase.proofs.Rolls.{sum_items}
-use Rattle.aud_phrase.proofs.assemble.sum.Goals as goal
-
-pub returns : goal.returns
-returns c = λ ds. sum_items c.in_ok-new.field-0 c.args.sign c.args.first c.into_inner-first.result c.args.rest ds c.in_ok-new.ensures.ok c.into_inner-first.ensures

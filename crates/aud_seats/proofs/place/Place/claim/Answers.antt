@@ -1,5 +1,0 @@
-use Rattle.aud_seats.proofs.Keeping.{claimed_kept}
-use Rattle.aud_seats.proofs.place.Place.claim.Goals as goal
-
-pub invariant_of-self : goal.invariant_of-self
-invariant_of-self c = claimed_kept c.self.inside.limits c.in-Ok.seat c.in-Ok.ensures

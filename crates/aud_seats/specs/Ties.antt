@@ -1,3 +1,0 @@
-pub mod Places
-pub mod Right
-pub mod Said

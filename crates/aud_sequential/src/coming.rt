@@ -1,0 +1,40 @@
+// What kind of step comes next, by how it ends.
+
+ghost use Rattle.std.specs.Prelude.{◌≡◌};
+ghost use Rattle.aud_sequential.specs.Next.{statement_kind, step_kind};
+
+use aud_code::line::{Ending, Last};
+use aud_meaning::state::StepKind;
+
+// The kind of a step, by how it ends; `leaving` is that of the step that leaves the innermost construct.
+pub(crate) fn step_kind(last: &Last, leaving: StepKind) -> StepKind
+    ensures { result ≡ step_kind last.now leaving }
+{
+    match last {
+        Last::Does(ending, _) => statement_kind(*ending),
+        Last::DeclaresTasks(_, _) => StepKind::Declaration,
+        Last::Activates(_) => StepKind::Activate,
+        Last::EndsActivation(_) => StepKind::Activated,
+        Last::Continues { .. } => StepKind::Next,
+        Last::Guards(_) | Last::Ends(_, _) | Last::Leaves { .. } => leaving,
+    }
+}
+
+fn statement_kind(ending: Ending) -> StepKind
+    ensures { result ≡ statement_kind ending }
+{
+    match ending {
+        Ending::Declare { .. } | Ending::DeclareArray(_, _) => StepKind::Declaration,
+        Ending::Null => StepKind::Null,
+        Ending::Assign => StepKind::Assign,
+        Ending::Put => StepKind::Put,
+        Ending::If(_) => StepKind::If,
+        Ending::While(_) => StepKind::While,
+        Ending::Loop { .. } => StepKind::For,
+        Ending::Exit(_) => StepKind::Exit,
+        Ending::Raise(_) | Ending::RaiseAgain => StepKind::Raise,
+        Ending::Block { .. } => StepKind::Block,
+        Ending::Return(_) => StepKind::Return,
+        Ending::Call(_) => StepKind::Proc,
+    }
+}

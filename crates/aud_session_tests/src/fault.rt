@@ -1,0 +1,97 @@
+// Why the program ends with another status than 0, or does not look at a file.
+
+use crate::halls::deed::Deed;
+use crate::session::LineFault;
+use aud_worlds::fault::HallFault;
+use aud_solo::solo::SoloFault;
+use std::alloc::AllocError;
+use std::io;
+use thiserror::Error;
+
+#[derive(Debug, Drop, Error)]
+pub enum Fault {
+    #[error("{0}")]
+    Stream(io::Error),
+    #[error("line {0} is none of a session")]
+    Line(usize),
+    #[error("line {0} has no form of a line that is sent or written")]
+    Form(usize),
+    #[error("a server ended: {0}")]
+    Server(SoloFault),
+    /// A reply of a row is another than it must be.
+    #[error("{row}: {deed:?} is answered '{found}', and not '{wanted}'")]
+    Reply {
+        row: &'static str,
+        deed: Deed,
+        found: String,
+        wanted: &'static str,
+    },
+    /// An outbox of a row has others than the private server's answers.
+    #[error("{0}: an outbox has other answers")]
+    Outbox(&'static str),
+    /// So has one of the list of this number, or it has too few.
+    #[error("list {0}: an outbox has other answers, or too few")]
+    List(u32),
+    /// A call that must succeed was refused.
+    #[error("refused: {0}")]
+    Refused(HallFault),
+    /// A hall does not take in what it sent out.
+    #[error("a parcel that is a stranger where it comes from")]
+    Stranger,
+    #[error("bad arguments")]
+    Arguments,
+    #[error("out of memory")]
+    Memory,
+}
+
+impl Fault {
+    /// The status with which the program ends.
+    pub fn status(&self) -> u8 {
+        match self {
+            Fault::Arguments => 2,
+            Fault::Stream(_) => 3,
+            Fault::Memory => 4,
+            _ => 1,
+        }
+    }
+}
+
+impl From<AllocError> for Fault {
+    fn from(_error: AllocError) -> Fault {
+        Fault::Memory
+    }
+}
+
+impl From<HallFault> for Fault {
+    fn from(fault: HallFault) -> Fault {
+        match fault {
+            HallFault::Memory => Fault::Memory,
+            _ => Fault::Refused(fault),
+        }
+    }
+}
+
+impl From<SoloFault> for Fault {
+    fn from(fault: SoloFault) -> Fault {
+        Fault::Server(fault)
+    }
+}
+
+impl From<LineFault> for Fault {
+    fn from(fault: LineFault) -> Fault {
+        match fault {
+            LineFault::Memory => Fault::Memory,
+            LineFault::Line(number) => Fault::Line(number),
+            LineFault::Form(number) => Fault::Form(number),
+        }
+    }
+}
+
+impl From<io::Error> for Fault {
+    fn from(error: io::Error) -> Fault {
+        match error.kind() {
+            io::ErrorKind::OutOfMemory => Fault::Memory,
+            _ => Fault::Stream(error),
+        }
+    }
+}

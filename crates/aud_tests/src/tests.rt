@@ -1,0 +1,38 @@
+// What no contract says, and no session of `aud_session_tests` shows: each call that no session goes through, once where it succeeds;
+// what is printed, and done at once, of programs worked out by hand; keys of frames that are given back; streams that fail; desks with
+// workers, their connections and the listening program. The tests stand here for all crates, since a crate that has tests of its own is
+// proved twice.
+
+mod answers;
+mod benches;
+mod connections;
+mod counted;
+mod desks;
+mod frames;
+mod fusing;
+mod listening;
+mod machines;
+mod reading;
+mod serving;
+mod sound;
+mod tokens;
+mod trees;
+
+use aud_bench::loading::load;
+use aud_text::limits::STANDARD;
+use aud_typed::program::Program;
+use std::alloc::{AllocError, Global};
+use std::process::Abort;
+
+// The program of a source text. A text that has faults fails the test as refused memory does.
+fn loaded(alloc: Global, source: &[u8]) -> Result<Program, AllocError> {
+    match load(alloc, STANDARD, source) {
+        Ok(program) => Ok(program),
+        Err(_) => Err(AllocError),
+    }
+}
+
+// Tests that these bytes were found.
+fn finds(rt: &impl Abort, name: &str, found: &[u8], wanted: &[u8]) {
+    assert_eq!(rt; found, wanted, "{name}");
+}

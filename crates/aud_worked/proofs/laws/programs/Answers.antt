@@ -1,7 +1,0 @@
-use Rattle.std.proofs.Common.{refl}
-use Rattle.std.specs.Fmt.{digits}
-use Rattle.aud_worked.proofs.laws.programs.Goals as goal
-
-pub returns : goal.returns
-unfolding digits
-returns c = (record { statements = refl; code = refl }, (record { statements = refl; code = refl }, (record { statements = refl; code = refl }, (record { statements = refl; code = refl }, (record { statements = refl; code = refl }, (record { statements = refl; code = refl }, (record { statements = refl; code = refl }, (record { statements = refl; code = refl }, (record { statements = refl; code = refl }, (record { statements = refl; code = refl }, (record { statements = refl; code = refl }, (record { statements = refl; code = refl }, (record { statements = refl; code = refl }, (record { statements = refl; code = refl }, (record { statements = refl; code = refl }, (record { statements = refl; code = refl }, (record { statements = refl; code = refl }, (record { statements = refl; code = refl }, (record { statements = refl; code = refl }, (record { statements = refl; code = refl }, (record { statements = refl; code = refl }, (record { statements = refl; code = refl }, (record { statements = refl; code = refl }, (record { statements = refl; code = refl }, tt))))))))))))))))))))))))

@@ -1,0 +1,13 @@
+pub mod Numbered
+pub mod Worlds
+pub mod Marks
+pub mod Sessions
+pub mod Isolation
+pub mod Users
+pub mod Idle
+pub mod Awaited
+pub mod Ample
+pub mod Refusals
+pub mod Calls
+pub mod Computing
+pub mod Running
