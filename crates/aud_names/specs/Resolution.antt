@@ -77,10 +77,12 @@ abbrev pub no_entry : Bool → NamePart → Resolved
 no_entry is_visible p = denotes_nothing (if is_visible then wrong_kind_of_name (part_ident p).at else name_not_declared (part_ident p).at) (part_ident p).at
 
 -- behind a task, or an array of tasks with its index, and a point stands an entry (RM 4.1.3, 9.5.2), but as yet no task has one; what its
--- body declares is visible behind the task's name in that body (RM 8.6(17)); nothing else stands before a point
+-- body declares is visible behind the task's name in that body (RM 8.6(17)); nothing else stands before a point, and an element not either:
+-- that is a fault where its index is none
 abbrev pub selected : Meaning → NamePart → Parts → Place → Resolved
 selected (Task v) (part i no_args) (more_parts q qs) place = no_entry (is_in_own_body i.name v (part_ident q).name place.regions) q
 selected (TaskArray a) (part i (more_args e es)) (more_parts q qs) place = no_entry false q
+selected (Array a) (part i (more_args e es)) (more_parts q qs) place = denotes_nothing [] i.at
 selected m p ps place = of_wrong_kind p
 
 abbrev pub denoted_by : Meaning → NamePart → Parts → Place → Resolved

@@ -117,6 +117,7 @@ fn selected(
             no_entry(is_visible, entry, faults)
         }
         (Meaning::TaskArray(_), Some(_), Some(entry)) => no_entry(false, entry, faults),
+        (Meaning::Array(_), Some(_), Some(_)) => Denoted { meaning: None, at },
         _ => {
             wrong_kind_of_name(at, faults);
             Denoted { meaning: None, at }

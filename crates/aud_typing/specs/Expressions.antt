@@ -1,5 +1,5 @@
 -- Expressions: their faults, their types, and what is left of them once their names are resolved (RM 4).
-use Rattle.std.specs.Prelude.{ℕ, ℤ, pos, negsuc, nat_le, if◌then◌else◌, List, [], ◌∷◌, ◌++◌, Option, Some, None, codes}
+use Rattle.std.specs.Prelude.{ℕ, ℤ, Bool, true, false, pos, negsuc, nat_le, if◌then◌else◌, List, [], ◌∷◌, ◌++◌, Option, Some, None, codes}
 use Rattle.std.specs.Str.{bytes_eq}
 use Rattle.std.specs.Map.{lookup}
 use Rattle.aud_text.specs.declared.place.Pos.{Pos}
@@ -257,9 +257,18 @@ indexed (Some (Array a)) xs at last = array_indexed a xs at last
 indexed (Some (TaskArray a)) xs at last = tasks_indexed a xs at last
 indexed (Some m) xs at last = indexes_none (entity m)
 
--- before a point an array of tasks has its index as it has where nothing stands behind; the last of the arguments before the point has been typed
+-- an element is nothing that stands before a point; where its index is at fault, that is the only fault
+abbrev pub is_element : Entity → Bool
+is_element (element_of a index s) = true
+is_element x = false
+
+abbrev pub element_faults : Indexed → Pos → List Fault
+element_faults x at = x.faults ++ (if is_element x.entity then wrong_kind_of_name at else [])
+
+-- before a point an array has its index as it has where nothing stands behind; the last of the arguments before the point has been typed
 abbrev pub before_point : Option Meaning → NamePart → Parts → Typed → List Fault
 before_point (Some (TaskArray a)) p (more_parts q qs) last = (tasks_indexed a (part_args p) (part_ident p).at last).faults
+before_point (Some (Array a)) p (more_parts q qs) last = element_faults (array_indexed a (part_args p) (part_ident p).at last) (part_ident p).at
 before_point _ p ps last = []
 
 abbrev pub prefix_faults : NamePart → Parts → Typed → Place → List Fault

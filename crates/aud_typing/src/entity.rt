@@ -4,7 +4,7 @@ ghost use Rattle.std.specs.Prelude.{◌≡◌, IfOk};
 ghost use Rattle.aud_syntax.specs.Ties.View.{plain_name, plain_part, part_list, plain_expressions};
 ghost use Rattle.aud_typed.specs.Ties.View.{plain_integer};
 ghost use Rattle.aud_fault.specs.Least.{noted};
-ghost use Rattle.aud_typing.specs.Expressions.{no_entity, element_with, array_indexed, task_with, tasks_indexed, before_point, prefix_faults, indexed, denoting, read_faults, name_faults, stored_at, meaning_read, value_read};
+ghost use Rattle.aud_typing.specs.Expressions.{no_entity, element_with, array_indexed, task_with, tasks_indexed, before_point, element_faults, prefix_faults, indexed, denoting, read_faults, name_faults, stored_at, meaning_read, value_read};
 ghost use Rattle.aud_typing.specs.Ties.Typing.{plain_typed};
 ghost use Rattle.aud_typing.specs.Ties.Entities.{plain_entity};
 
@@ -123,6 +123,22 @@ fn check_index(array: TaskArray, args: &[Expression], at: Pos, last: &Typed, fau
     }
 }
 
+// Notes where an array has these arguments before a point, of which the last is typed: that they are no index of it, or else that an element
+// stands there.
+fn check_element(array: Array, args: &[Expression], at: Pos, last: &Typed, faults: &mut Least)
+    ensures { faults.new ≡ noted faults.old (element_faults (array_indexed array
+        (plain_expressions args.now) at (plain_typed last.now)) at) }
+{
+    match args.split_first() {
+        None => {}
+        Some((index, others)) => match (others.split_first(), last) {
+            (None, Typed::Number(_)) => wrong_kind_of_name(at, faults),
+            (None, _) => wants(Base::Whole, expression_at(index), last, faults),
+            (Some(_), _) => wrong_number_of_arguments(at, faults),
+        },
+    }
+}
+
 // Notes where what has a meaning stands before a point with arguments that do not fit it; the last of them is typed.
 fn before_point(
     meaning: Option<Meaning>,
@@ -134,8 +150,15 @@ fn before_point(
     ensures { faults.new ≡ noted faults.old (before_point meaning
         (plain_part first.now) (part_list others.now) (plain_typed last.now)) }
 {
-    if let (Some(Meaning::TaskArray(array)), Some(_)) = (meaning, others.first()) {
-        check_index(array, &first.args, first.ident.at, last, faults);
+    let at = first.ident.at;
+    match (meaning, others.first()) {
+        (Some(Meaning::TaskArray(array)), Some(_)) => {
+            check_index(array, &first.args, at, last, faults);
+        }
+        (Some(Meaning::Array(array)), Some(_)) => {
+            check_element(array, &first.args, at, last, faults);
+        }
+        _ => {}
     }
 }
 
