@@ -1,8 +1,17 @@
 #!/bin/sh
-# The program's own session, which `rt ci` runs, is the sessions of examples/ one behind the other, and a QUIT.
-# This compares them, since `rt ci` reads the folders of crates alone.
+# Whether the sessions of examples/ are those of crates/aud_session_tests/data/examples.txt, which the gate runs: `rt ci` reads the folders of crates
+# alone. With a folder it writes all of them there, one after the other and a QUIT, as `stdin`, and what is answered as `stdout`.
 set -eu
 cd "$(dirname "$0")/../examples"
 sessions="first loop array recursion tasks"
-{ cat $sessions && echo QUIT; } | cmp - ../crates/aud/stdin
-{ for name in $sessions; do cat "$name.stdout"; done && echo "+ 0"; } | cmp - ../crates/aud/stdout
+answers() { for name in $sessions; do cat "$name.stdout"; done; }
+if [ $# = 1 ]; then
+    { cat $sessions && echo QUIT; } > "$1/stdin"
+    { answers && echo "+ 0"; } > "$1/stdout"
+    exit
+fi
+data=../crates/aud_session_tests/data/examples.txt
+if [ "$(cat $sessions)" != "$(sed -n 's/^> \{0,1\}//p' "$data")" ] || [ "$(answers)" != "$(sed -n 's/^< \{0,1\}//p' "$data")" ]; then
+    echo "examples: the sessions of examples/ are not those of crates/aud_session_tests/data/examples.txt" >&2
+    exit 1
+fi

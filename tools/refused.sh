@@ -8,4 +8,7 @@ if [ ! -x "$program" ]; then
     echo "refused: no program at $program; build it by: cd crates/aud && rt run -- --solo < stdin" >&2
     exit 2
 fi
-exec python3 "$top/tools/refused.py" "$program" "$top/crates/aud/stdin" "$top/crates/aud/stdout"
+session=$(mktemp -d)
+trap 'rm -r "$session"' EXIT
+"$top/tools/examples.sh" "$session"
+python3 "$top/tools/refused.py" "$program" "$session/stdin" "$session/stdout"
