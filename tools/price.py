@@ -3,7 +3,7 @@
 The unit is the user time of `rt selftest`, so that machines can be compared: the median of those that run one after the other beside the gate's first
 minutes, since a busy machine takes more user time for the same work. Three before it, alone, are told too. Processes are looked at ten times a second, so
 what one does in its last tenth is not counted for its crate; the sum is exact.
-Only those that this gate has started are counted, whatever else runs on the machine. price.sh calls it.
+Only those that this gate has started are counted, whatever else runs on the machine. tools/check calls it.
 """
 import os
 import subprocess
@@ -114,7 +114,7 @@ def table(seen, total, unit):
 
 def main():
     if sys.argv[1:] not in ([], ["--kept"]):
-        sys.exit("usage: price.sh [--kept] (it runs the gate: all of it, or what no earlier run has kept)")
+        sys.exit("usage: check price [--kept] (it runs the gate: all of it, or what no earlier run has kept)")
     # (a kit that keeps nothing from one run to the next has no such flag)
     keeps = "--anew" in subprocess.run(["rt", "help"], capture_output=True, text=True).stderr
     gate = ["rt", "ci", "--anew"] if keeps and not sys.argv[1:] else ["rt", "ci"]
