@@ -10,7 +10,7 @@ LOADs: the largest source text of several shapes, how the time grows from a quar
 there may be, of which each read gives a byte, and how the time grows from a quarter of them (where there is a C compiler).
 Halls: steps a second of many seats that take turns beside those of one bench, and the memory of a seat at which nothing is to be done.
 Desk: steps a second of the listening program with all seats busy, by several numbers of workers, beside those of one bench.
-Each figure is the median of several processes, which take turns. benchmark.sh calls it.
+Each figure is the median of several processes, which take turns. tools/check calls it.
 usage: benchmark.py PROGRAM WORLDS, or benchmark.py desk PROGRAM
 """
 import os

@@ -2,7 +2,7 @@
 
 Whole programs are compiled and run by both: the same text must be put out, and both or neither end by
 an exception, of the same name. Programs with a change made by chance are only checked: both or neither
-must refuse them. gnat.sh calls it with the program, the first seed and how many seeds to take.
+must refuse them. tools/check calls it with the program, the first seed and how many seeds to take.
 
 GNAT 12 drops a `for` loop, and the exception with it, whose statements begin with an unconditional `raise`
 of Constraint_Error, Program_Error or Storage_Error; so here each begins with a line of output.

@@ -1,7 +1,7 @@
 """Loads and runs the largest source text of every shape by `aud --solo` on a stack of 1 MiB, or of another number of KiB.
 
 A text is long (one chain of operators, one list of statements or of names) or nested (parentheses at
-the limit of levels), or both. stack.sh calls it.
+the limit of levels), or both. tools/check calls it.
 """
 import resource
 import subprocess

@@ -1,5 +1,5 @@
 """Compares the answers of the model with those of sessions that are written down, and with those of `aud --solo` on programs made by
-chance. model.sh calls it, with the program, the first seed and how many seeds to take, and `tasks` where the programs may have tasks."""
+chance. tools/check calls it, with the program, the first seed and how many seeds to take, and `tasks` where the programs may have tasks."""
 import subprocess
 import sys
 from pathlib import Path
