@@ -161,8 +161,8 @@ module _ (f : ℕ) where
         | inl this ↦ elim (or_cases (nat_eq f o.frame) (contains f (option_to_list o.replaced.number)) this) [
           | inl own ↦ or_left (nat_eq f o.frame) rest own
           | inr stood ↦ or_right (nat_eq f o.frame) rest (
-            numbers_only before os (outer_backs o.purpose bs) are.1
-            (stood_there f before.numbers kept (sym (ap (λ (r : Replaced). contains f (option_to_list r.number)) are.0.1) ∙ stood)))
+              numbers_only before os (outer_backs o.purpose bs) are.1
+              (stood_there f before.numbers kept (sym (ap (λ (r : Replaced). contains f (option_to_list r.number)) are.0.1) ∙ stood)))
         ]
         | inr behind ↦ or_right (nat_eq f o.frame) rest (or_right (contains f (seen before)) outer (open_only before os (outer_backs o.purpose bs) are.1 behind))
       ]
@@ -206,8 +206,8 @@ module _ (f : ℕ) (old : List ℕ) (d : Display) (xs : List Open) (bs : List Ba
       | inr there ↦ or_right (contains f old) (shown || opened) (numbers_only f d (reverse xs) bs are there)
     ]
     | inr own ↦
-      let turned = among_turned f (reverse xs) (ap (λ os. contains f (names_in os)) (reverse-reverse xs) ∙ own) in
-      or_right (contains f old) (shown || opened) (or_right shown opened (open_only f d (reverse xs) bs are turned))
+        let turned = among_turned f (reverse xs) (ap (λ os. contains f (names_in os)) (reverse-reverse xs) ∙ own) in
+        or_right (contains f old) (shown || opened) (or_right shown opened (open_only f d (reverse xs) bs are turned))
   ]
 
 pub names_all : (old new : List ℕ) (d : Display) (xs : List Open) (bs : List Back) → ArePlaced d (reverse xs) → new ≡ (old ++ d.numbers) ++ names_in xs → NamesAll old new (seen d) (plain_opened d (reverse xs) bs)
