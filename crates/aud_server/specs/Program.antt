@@ -3,6 +3,7 @@ use Rattle.std.specs.Prelude.{◌≡◌, ℕ, List, [], ◌∷◌, codes}
 use Rattle.clap.specs.declared.error.ErrorKind.{ErrorKind}
 use Rattle.clap.specs.declared.error.ErrorKind.TheVariants.{OutOfMemory}
 use Rattle.aud_solo.specs.declared.solo.SoloFault.TheVariants as server
+use Rattle.aud_solo.specs.Ended.{fault_status}
 use Rattle.aud_server.specs.declared.program.ProgramFault.{ProgramFault}
 use Rattle.aud_server.specs.declared.program.ProgramFault.TheVariants.{Arguments, Listen, Server}
 
@@ -16,9 +17,7 @@ AsksSolo _ = ⊥
 abbrev pub status : ProgramFault → ℕ
 status Arguments = 2
 status Listen = 3
-status (Server server.Read) = 1
-status (Server server.Write) = 1
-status (Server server.Memory) = 4
+status (Server fault) = fault_status fault
 
 -- of an error that was met while the words were read
 abbrev pub of_kind : ErrorKind → ProgramFault

@@ -8,7 +8,8 @@ ghost use Rattle.aud_server.specs.Program.{AsksSolo, status, of_kind};
 
 use crate::listen::{ListenFault, listen};
 use crate::options::read_options;
-use aud_solo::solo::{SoloFault, solo};
+use aud_solo::ended::run_solo;
+use aud_solo::solo::SoloFault;
 use aud_solo::streams::Stream;
 use clap::error::ErrorKind;
 use clap::{Arg, ArgAction, Command, Error as ClapError};
@@ -41,14 +42,6 @@ impl From<AllocError> for ProgramFault {
     }
 }
 
-impl From<SoloFault> for ProgramFault {
-    ghost from_gives = { λ ended e. e ≡ fault.Server ended };
-
-    fn from(fault: SoloFault) -> ProgramFault {
-        ProgramFault::Server(fault)
-    }
-}
-
 impl From<ClapError> for ProgramFault {
     ghost from_gives = { λ error e. e ≡ of_kind (kind_of error) };
 
@@ -66,10 +59,9 @@ impl ProgramFault {
         ensures { result ≡ status self }
     {
         match self {
-            ProgramFault::Server(SoloFault::Read | SoloFault::Write) => 1,
             ProgramFault::Arguments => 2,
             ProgramFault::Listen => 3,
-            ProgramFault::Server(SoloFault::Memory) => 4,
+            ProgramFault::Server(fault) => fault.status(),
         }
     }
 }
@@ -91,7 +83,7 @@ where
     ensures known { (result ≡ 0) ⊎ (result ≡ 1) ⊎ (result ≡ 2) ⊎ (result ≡ 3) ⊎ (result ≡ 4) }
 {
     match run(rt, words) {
-        Ok(()) => 0,
+        Ok(status) => status,
         Err(fault) => refuse(rt, fault),
     }
 }
@@ -105,10 +97,12 @@ pub fn refuse(rt: &impl Eprint, fault: ProgramFault) -> u8
     fault.status()
 }
 
-fn run<R>(rt: &R, words: &[String]) -> Result<(), ProgramFault>
+// Does what the words ask for, and gives the status behind it. What went wrong on the standard input or output is told by then.
+fn run<R>(rt: &R, words: &[String]) -> Result<u8, ProgramFault>
 where
     R: Input
         + Print
+        + Eprint
         + AllocGlobal
         + Net<Listener = TcpListener, Stream = TcpStream>
         + Threads
@@ -119,19 +113,28 @@ where
     ensures other { (AsksSolo (map string_bytes words.now) → ⊥) →
         (IsErrOf result (fault.Server server.Read) → ⊥)
         × (IsErrOf result (fault.Server server.Write) → ⊥) }
+    ensures served { AsksSolo (map string_bytes words.now) →
+        IfOk result (λ s. (s ≡ 0) ⊎ (s ≡ 1) ⊎ (s ≡ 4)) }
+    ensures listened { (AsksSolo (map string_bytes words.now) → ⊥) → IfOk result (λ s. s ≡ 0) }
 {
     if asks_solo(rt.alloc(), words)? {
-        let mut reader = Stream::new(rt.reader());
-        let mut writer = Stream::new(io::writer(rt));
-        solo(rt.alloc(), &mut reader, &mut writer)?;
-        return Ok(());
+        return Ok(serve_input(rt));
     }
     let options = read_options(rt.alloc(), words)?;
     match listen(rt, rt.alloc(), options) {
-        Ok(()) => Ok(()),
+        Ok(()) => Ok(0),
         Err(ListenFault::Listen) => Err(ProgramFault::Listen),
         Err(ListenFault::Memory) => Err(ProgramFault::Server(SoloFault::Memory)),
     }
+}
+
+// Serves the standard input.
+fn serve_input<R: Input + Print + Eprint + AllocGlobal>(rt: &R) -> u8
+    ensures known { (result ≡ 0) ⊎ (result ≡ 1) ⊎ (result ≡ 4) }
+{
+    let mut reader = Stream::new(rt.reader());
+    let mut writer = Stream::new(io::writer(rt));
+    run_solo(rt, rt.alloc(), &mut reader, &mut writer)
 }
 
 // Whether `--solo` is all that is asked.

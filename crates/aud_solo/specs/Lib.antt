@@ -1,3 +1,4 @@
+pub mod Ended
 pub mod Solo
 pub mod Streams
 pub mod Ties

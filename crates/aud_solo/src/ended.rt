@@ -1,0 +1,55 @@
+// With which status a program ends that has served one stream of requests.
+
+ghost use Rattle.std.specs.Prelude.{◌≡◌};
+ghost use Rattle.aud_solo.specs.declared.solo.TheConstants.{READS};
+ghost use Rattle.aud_solo.specs.Ended.{EndsAs, fault_status};
+ghost use Rattle.aud_solo.specs.Solo.{Serves, StopsAtQuit, CountsReadsTo, CountsWrites};
+ghost use Rattle.aud_solo.specs.Streams.{counted_by, CountsUpTo};
+
+use crate::solo::{SoloFault, solo};
+use crate::streams::{Sink, Source};
+use std::alloc::Global;
+
+impl SoloFault {
+    /// The status with which a program ends for it.
+    pub fn status(self) -> u8
+        ensures { result ≡ fault_status self }
+    {
+        match self {
+            SoloFault::Read | SoloFault::Write => 1,
+            SoloFault::Memory => 4,
+        }
+    }
+}
+
+/// Serves the requests of a reader as `solo` does, and gives the status with which the program ends: 0 only where `solo`
+/// answers Ok. Where it is another, one line on the standard error says why.
+pub fn run_solo<S: Source, T: Sink>(
+    rt: &impl Eprint,
+    alloc: Global,
+    reader: &mut S,
+    writer: &mut T,
+) -> u8
+    ensures ended { EndsAs result (λ served.
+        Serves served (S.remaining reader.old) (S.remaining reader.new)
+            (T.contents writer.old) (T.contents writer.new)
+        × CountsReadsTo (S.calls reader.new ≡ counted_by READS (S.calls reader.old)) served
+            (S.failures reader.old) (S.failures reader.new)
+        × CountsWrites served (T.failures writer.old) (T.failures writer.new)) }
+    ensures quit { StopsAtQuit (S.remaining reader.old) (S.remaining reader.new) }
+    ensures reads { CountsUpTo READS (S.calls reader.old) (S.calls reader.new) }
+{
+    match solo(alloc, reader, writer) {
+        Ok(()) => 0,
+        Err(fault) => tell(rt, fault),
+    }
+}
+
+// Says on the standard error why the program ends, and gives its status.
+fn tell(rt: &impl Eprint, fault: SoloFault) -> u8
+    ensures { result ≡ fault_status fault }
+{
+    // Nothing is left to be done where the line cannot be written.
+    let _ = eprintln!(rt; "aud: {fault}");
+    fault.status()
+}
