@@ -2,8 +2,8 @@
 
 use crate::halls::deed::Deed;
 use crate::session::LineFault;
-use aud_worlds::fault::HallFault;
 use aud_solo::solo::SoloFault;
+use aud_worlds::fault::HallFault;
 use std::alloc::AllocError;
 use std::io;
 use thiserror::Error;

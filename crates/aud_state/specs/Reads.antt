@@ -1,11 +1,12 @@
 -- What is read of one task.
-use Rattle.std.specs.Prelude.{◌≡◌, ℕ, Option, Some, None, Bool, true, ◌&&◌, if◌then◌else◌}
+use Rattle.std.specs.Prelude.{◌≡◌, ℕ, Option, Some, None, Bool, true, false, ◌&&◌, if◌then◌else◌}
 use Rattle.aud_text.specs.declared.place.Pos.{Pos}
 use Rattle.aud_typed.specs.Tree.{Plan}
 use Rattle.aud_meaning.specs.declared.state.Form.{Form}
 use Rattle.aud_meaning.specs.declared.state.Form.TheVariants.{Plain, Conditional, TimedTo}
 use Rattle.aud_meaning.specs.declared.state.Owner.{Owner}
 use Rattle.aud_meaning.specs.declared.state.Owner.TheVariants as owner
+use Rattle.aud_meaning.specs.declared.state.Status.TheVariants.{Running}
 use Rattle.aud_meaning.specs.declared.state.StepKind.{StepKind}
 use Rattle.aud_meaning.specs.Configuration.{Call, Own, TaskAt, All}
 use Rattle.aud_meaning.specs.Control.{Coming, simply, ending, selecting, calling, starting}
@@ -15,6 +16,12 @@ use Rattle.aud_meaning.specs.Run.{construct_left, end_kind_by, master_left_by}
 use Rattle.aud_code.specs.Flat.{Flat, coming_at}
 use Rattle.aud_code.specs.Places.{Spot}
 use Rattle.aud_sequential.specs.Next.{place_in}
+
+-- it runs, is not abnormal and services no object
+pub record IsPlain (own : Own) : Type 0 where
+  pub runs : own.status ≡ Running
+  pub normal : own.abnormal ≡ false
+  pub free : own.serving ≡ None
 
 -- what comes next of a task's own statements
 abbrev pub coming_by : Flat → Plan → Sight → Option (TaskAt Spot) → Coming

@@ -3,7 +3,7 @@
 ghost use Rattle.std.specs.Prelude.{◌≡◌, ◌||◌, ℕ, [], true, if◌then◌else◌, map, slice_index_or, IfOk, OnOk, OnErr};
 ghost use Rattle.aud_meaning.specs.Parts.{any, contains, is_terminated, with_frames};
 ghost use Rattle.aud_over.specs.Over.{forgotten, object_names};
-ghost use Rattle.aud_state.specs.Held.{is_held, keeps};
+ghost use Rattle.aud_state.specs.Held.{given_back, is_held, keeps};
 ghost use Rattle.aud_state.specs.View.{plain_object, plain_task};
 
 use crate::object::Object;
@@ -19,12 +19,13 @@ impl State {
     }
 
     /// Gives back the frames that are over: those that no task sees, has open or comes back to, that lie around no object, and
-    /// that are no master of a task which isn't terminated (RM 9.3). Nothing depends on them any more.
+    /// that are no master of a task which isn't terminated (RM 9.3). Nothing depends on them any more. All others stay as they are.
     ///
     /// # Errors
     ///
     /// Where memory is refused. Nothing has changed then.
     pub fn forget(&mut self, alloc: Global) -> Result<(), AllocError>
+        ensures given_back { OnOk result (self.new ≡ given_back self.old) }
         ensures left { OnOk result (forgotten self.new ≡ forgotten self.old) }
         ensures others { self.new ≡ with_frames self.new.shared.frames self.old }
         ensures held { (frame : ℕ) → is_held frame self.old ≡ true →
@@ -43,9 +44,8 @@ impl Task {
     // Puts the frames that it keeps after others: those that it names, and unless it is terminated those of the masters on which it
     // depends.
     fn put_kept(&self, kept: &mut Vec<usize>) -> Result<(), AllocError>
-        ensures { OnOk result ((frame : ℕ) →
-            (contains frame kept.old.items || keeps frame (plain_task self.now)) ≡ true →
-            contains frame kept.new.items ≡ true) }
+        ensures { OnOk result ((frame : ℕ) → contains frame kept.new.items ≡
+            (contains frame kept.old.items || keeps frame (plain_task self.now))) }
     {
         self.parked.stack().names(kept)?;
         kept.extend_from_slice(self.masters_held())?;
@@ -67,7 +67,7 @@ impl Task {
 // The frames that these tasks keep.
 fn kept_by_tasks(alloc: Global, tasks: &[Task]) -> Result<Vec<usize>, AllocError>
     ensures { IfOk result (λ kept. (frame : ℕ) →
-        any (keeps frame) (map plain_task tasks.now) ≡ true → contains frame kept.items ≡ true) }
+        contains frame kept.items ≡ any (keeps frame) (map plain_task tasks.now)) }
 {
     let mut kept = Vec::new(alloc);
     for task in tasks {
@@ -78,9 +78,8 @@ fn kept_by_tasks(alloc: Global, tasks: &[Task]) -> Result<Vec<usize>, AllocError
 
 // Puts the frames around these objects after others.
 fn put_around(objects: &[Object], kept: &mut Vec<usize>) -> Result<(), AllocError>
-    ensures { OnOk result ((frame : ℕ) →
-        (contains frame kept.old.items || any (object_names frame) (map plain_object objects.now)) ≡ true →
-        contains frame kept.new.items ≡ true) }
+    ensures { OnOk result ((frame : ℕ) → contains frame kept.new.items ≡
+        (contains frame kept.old.items || any (object_names frame) (map plain_object objects.now))) }
 {
     for object in objects {
         kept.extend_from_slice(&object.display)?;

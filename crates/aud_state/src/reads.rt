@@ -1,12 +1,12 @@
 // What is read of one task.
 
-ghost use Rattle.std.specs.Prelude.{◌≡◌, Some, slice_get};
+ghost use Rattle.std.specs.Prelude.{◌≡◌, Some, slice_get, IsTrue};
 ghost use Rattle.aud_typed.specs.Tree.{Plan};
 ghost use Rattle.aud_meaning.specs.Configuration.{TaskAt};
 ghost use Rattle.aud_meaning.specs.Evaluation.{Sight};
 ghost use Rattle.aud_meaning.specs.Parts.{call_of, is_idle, is_queued, is_selected, object_of, own_of};
 ghost use Rattle.aud_code.specs.Places.{Spot};
-ghost use Rattle.aud_state.specs.Reads.{cancelled_from, coming_by, is_free, place_by, time_by, IsOfItsKind, LeavesBy};
+ghost use Rattle.aud_state.specs.Reads.{cancelled_from, coming_by, is_free, place_by, time_by, IsOfItsKind, IsPlain, LeavesBy};
 ghost use Rattle.aud_state.specs.View.{plain_task};
 
 use crate::state::State;
@@ -108,6 +108,18 @@ impl State {
         if task < self.tasks.len() {
             let found = &self.tasks[task];
             return found.abnormal;
+        }
+        false
+    }
+
+    /// Whether it runs, is not abnormal and services no object, as most tasks do at most steps.
+    #[tactic(auto, using(crate::proofs::Changed::own_got, crate::proofs::Changed::own_past))]
+    pub fn is_plain(&self, task: usize) -> bool
+        ensures { IsTrue result → IsPlain (own_of task self.now) }
+    {
+        if task < self.tasks.len() {
+            let found = &self.tasks[task];
+            return found.is_plain();
         }
         false
     }
@@ -221,6 +233,13 @@ impl State {
 }
 
 impl Task {
+    // Whether it runs, is not abnormal and services no object.
+    fn is_plain(&self) -> bool
+        ensures { IsTrue result → IsPlain (plain_task self.now).own }
+    {
+        matches!(self.status, Status::Running) && !self.abnormal && self.serving.is_none()
+    }
+
     // The master that its own next step leaves.
     fn master_left(&self, code: &SoundCode) -> Option<usize>
         ensures { (plan : Plan) → (s : Sight) → LeavesBy (plain_task self.now).own result

@@ -1,15 +1,17 @@
 -- The names of open frames in memory.
-use Rattle.std.proofs.Common.{◌≡◌, ℕ, zero, suc, ◌+◌, ◌-◌, ◌<◌, List, [], ◌∷◌, ◌++◌, Bool, true, false, ◌||◌, Option, Some, None, length, get_or, take, set, reverse, nat_eq, flat_map, sym, ap, ◌∙◌, refl, inl, inr, append_assoc, append-nil}
+use Rattle.std.proofs.Common.{◌≡◌, ℕ, zero, suc, ◌+◌, ◌-◌, ◌<◌, List, [], ◌∷◌, ◌++◌, Bool, true, false, ◌||◌, Option, Some, None, length, get_or, take, take_all, set, reverse, nat_eq, flat_map, sym, ap, ◌∙◌, refl, inl, inr, append_assoc, append-nil, arith}
+use Rattle.std.specs.Prelude.{slice_get}
 use Rattle.std.specs.Option.{option_to_list}
 use Rattle.std.proofs.lemmas.Bool.{or_cases, or_left, or_right}
-use Rattle.std.proofs.lemmas.List.{flat_map_more, reverse-append, take_more}
+use Rattle.std.proofs.lemmas.List.{flat_map_more, reverse-append, reverse-reverse, take_more}
 use Rattle.aud_meaning.specs.Configuration.{Back}
 use Rattle.aud_meaning.specs.Parts.{contains}
+use Rattle.aud_store.specs.declared.display.Replaced.{Replaced}
 use Rattle.aud_store.specs.declared.stack.Open.{Open}
-use Rattle.aud_store.specs.Ties.Display.{Display, seen, put_back, without_last}
+use Rattle.aud_store.specs.Ties.Display.{Display, seen, put_by, put_back, without_last}
 use Rattle.aud_meaning.specs.Ties.Named.{opened_name}
 use Rattle.aud_store.specs.Ties.Named.{names_of, NamesAll}
-use Rattle.aud_store.specs.Ties.Stored.{outer_backs, plain_opened}
+use Rattle.aud_store.specs.Ties.Stored.{kept_of, outer_backs, plain_opened, ArePlaced}
 
 -- Numbers among others.
 
@@ -113,21 +115,102 @@ names_more before xs i x within read =
     ∙ ap (λ o. before ++ names_in (take i xs ++ o ∷ [])) read
     ∙ sym (ap (λ l. before ++ names_in l) (take_more xs i x within))
 
--- all are among what was there, the numbers of a display, and those of open frames
-pub names_all : (old new : List ℕ) (d : Display) (xs : List Open) (bs : List Back) → new ≡ (old ++ d.numbers) ++ names_in xs → NamesAll old new (seen d) (plain_opened d (reverse xs) bs)
-names_all old new d xs bs is f h = ap (contains f) is ∙ elim (or_cases (contains f old) (contains f (seen d) || opened_name f (plain_opened d (reverse xs) bs)) h) [
-  | inl before ↦ in_front (among_both f old d.numbers (or_left (contains f old) (contains f d.numbers) before))
-  | inr more ↦ elim (or_cases (contains f (seen d)) (opened_name f (plain_opened d (reverse xs) bs)) more) [
-    | inl shown ↦ numbered (among_first f d.count d.numbers shown)
-    | inr open_so ↦ elim (or_cases (contains f d.numbers) (contains f (names_in (reverse xs))) (opened_named f d (reverse xs) bs open_so)) [
-      | inl there ↦ numbered there
-      | inr own ↦ among_both f (old ++ d.numbers) (names_in xs) (or_right (contains f (old ++ d.numbers)) (contains f (names_in xs)) (among_turned f xs own))
+-- Among the numbers of a display, and among those of open frames, there are only names.
+
+alone : (b : Bool) → (b || false) ≡ true → b ≡ true
+alone true h = refl
+alone false h = h
+
+stood_there : (f : ℕ) (xs : List ℕ) (n : ℕ) → contains f (option_to_list (slice_get xs n)) ≡ true → contains f xs ≡ true
+stood_there f [] zero h = absurd (cc)
+stood_there f [] (suc n) h = absurd (cc)
+stood_there f (x ∷ xs) zero h = or_left (nat_eq f x) (contains f xs) (alone (nat_eq f x) h)
+stood_there f (x ∷ xs) (suc n) h = or_right (nat_eq f x) (contains f xs) (stood_there f xs n h)
+
+among_put : (f : ℕ) (o : Option ℕ) (n x : ℕ) (xs : List ℕ) → contains f (put_by o n x xs) ≡ true → (contains f xs || nat_eq f x) ≡ true
+among_put f None n x xs h = or_else (contains f xs) (nat_eq f x || false) (contains f xs) (nat_eq f x) (among_either f xs (x ∷ []) h) (λ e. e) (λ e. alone (nat_eq f x) e)
+among_put f (Some old) n x xs h = among_set f xs n x h
+
+module _ (f : ℕ) where
+  abbrev IsNamed : Display → List Open → List Back → Type 0
+  IsNamed d os bs = (contains f (seen d) || opened_name f (plain_opened d os bs)) ≡ true
+
+  opened_only : (d : Display) (o : Open) (os : List Open) (bs : List Back) → (nat_eq f o.frame || (contains f (seen (put_back o.replaced d)) || opened_name f (plain_opened (put_back o.replaced d) os (outer_backs o.purpose bs)))) ≡ true → IsNamed d (o ∷ os) bs
+  opened_only d o os bs h = or_right (contains f (seen d)) (opened_name f (plain_opened d (o ∷ os) bs)) h
+
+  numbers_only : (d : Display) (os : List Open) (bs : List Back) → ArePlaced d os → contains f d.numbers ≡ true → IsNamed d os bs
+  numbers_only d [] bs are h = or_left (contains f (seen d)) false (ap (contains f) (take_all d.count d.numbers (omega (arith, are))) ∙ h)
+  numbers_only d (o ∷ os) bs are h =
+      let before = put_back o.replaced d in
+      let kept = kept_of o.purpose before.count in
+      let rest = contains f (seen before) || opened_name f (plain_opened before os (outer_backs o.purpose bs)) in
+      let numbers = sym (ap (λ (x : Display). contains f x.numbers) are.0.0) ∙ h in
+      opened_only d o os bs (elim (or_cases (contains f before.numbers) (nat_eq f o.frame) (among_put f (slice_get before.numbers kept) kept o.frame before.numbers numbers)) [
+        | inl there ↦ or_right (nat_eq f o.frame) rest (numbers_only before os (outer_backs o.purpose bs) are.1 there)
+        | inr own ↦ or_left (nat_eq f o.frame) rest own
+      ])
+
+  open_only : (d : Display) (os : List Open) (bs : List Back) → ArePlaced d os → contains f (names_in os) ≡ true → opened_name f (plain_opened d os bs) ≡ true
+  open_only d [] bs are h = absurd (cc)
+  open_only d (o ∷ os) bs are h =
+      let before = put_back o.replaced d in
+      let kept = kept_of o.purpose before.count in
+      let outer = opened_name f (plain_opened before os (outer_backs o.purpose bs)) in
+      let rest = contains f (seen before) || outer in
+      elim (or_cases (contains f (names_of o)) (contains f (names_in os)) (among_either f (names_of o) (names_in os) h)) [
+        | inl this ↦ elim (or_cases (nat_eq f o.frame) (contains f (option_to_list o.replaced.number)) this) [
+          | inl own ↦ or_left (nat_eq f o.frame) rest own
+          | inr stood ↦ or_right (nat_eq f o.frame) rest (
+              numbers_only before os (outer_backs o.purpose bs) are.1
+              (stood_there f before.numbers kept (sym (ap (λ (r : Replaced). contains f (option_to_list r.number)) are.0.1) ∙ stood)))
+        ]
+        | inr behind ↦ or_right (nat_eq f o.frame) rest (or_right (contains f (seen before)) outer (open_only before os (outer_backs o.purpose bs) are.1 behind))
+      ]
+
+-- All that is named is among what was there, the numbers of a display, and those of open frames, and nothing else is.
+
+both : (a b : Bool) → (a ≡ true → b ≡ true) → (b ≡ true → a ≡ true) → a ≡ b
+both true b there back = sym (there refl)
+both false true there back = back refl
+both false false there back = refl
+
+module _ (f : ℕ) (old : List ℕ) (d : Display) (xs : List Open) (bs : List Back) where
+  abbrev shown : Bool
+  shown = contains f (seen d)
+
+  abbrev opened : Bool
+  opened = opened_name f (plain_opened d (reverse xs) bs)
+
+  told : (contains f old || (shown || opened)) ≡ true → contains f ((old ++ d.numbers) ++ names_in xs) ≡ true
+  told h = elim (or_cases (contains f old) (shown || opened) h) [
+    | inl before ↦ in_front (among_both f old d.numbers (or_left (contains f old) (contains f d.numbers) before))
+    | inr more ↦ elim (or_cases shown opened more) [
+      | inl seen_so ↦ numbered (among_first f d.count d.numbers seen_so)
+      | inr open_so ↦ elim (or_cases (contains f d.numbers) (contains f (names_in (reverse xs))) (opened_named f d (reverse xs) bs open_so)) [
+        | inl there ↦ numbered there
+        | inr own ↦ among_both f (old ++ d.numbers) (names_in xs) (or_right (contains f (old ++ d.numbers)) (contains f (names_in xs)) (among_turned f xs own))
+      ]
     ]
   ]
-]
-  where
-    in_front : contains f (old ++ d.numbers) ≡ true → contains f ((old ++ d.numbers) ++ names_in xs) ≡ true
-    in_front e = among_both f (old ++ d.numbers) (names_in xs) (or_left (contains f (old ++ d.numbers)) (contains f (names_in xs)) e)
+    where
+      in_front : contains f (old ++ d.numbers) ≡ true → contains f ((old ++ d.numbers) ++ names_in xs) ≡ true
+      in_front e = among_both f (old ++ d.numbers) (names_in xs) (or_left (contains f (old ++ d.numbers)) (contains f (names_in xs)) e)
 
-    numbered : contains f d.numbers ≡ true → contains f ((old ++ d.numbers) ++ names_in xs) ≡ true
-    numbered e = in_front (among_both f old d.numbers (or_right (contains f old) (contains f d.numbers) e))
+      numbered : contains f d.numbers ≡ true → contains f ((old ++ d.numbers) ++ names_in xs) ≡ true
+      numbered e = in_front (among_both f old d.numbers (or_right (contains f old) (contains f d.numbers) e))
+
+  told_only : ArePlaced d (reverse xs) → contains f ((old ++ d.numbers) ++ names_in xs) ≡ true → (contains f old || (shown || opened)) ≡ true
+  told_only are h = elim (or_cases (contains f (old ++ d.numbers)) (contains f (names_in xs)) (among_either f (old ++ d.numbers) (names_in xs) h)) [
+    | inl front ↦ elim (or_cases (contains f old) (contains f d.numbers) (among_either f old d.numbers front)) [
+      | inl before ↦ or_left (contains f old) (shown || opened) before
+      | inr there ↦ or_right (contains f old) (shown || opened) (numbers_only f d (reverse xs) bs are there)
+    ]
+    | inr own ↦
+        let turned = among_turned f (reverse xs) (ap (λ os. contains f (names_in os)) (reverse-reverse xs) ∙ own) in
+        or_right (contains f old) (shown || opened) (or_right shown opened (open_only f d (reverse xs) bs are turned))
+  ]
+
+pub names_all : (old new : List ℕ) (d : Display) (xs : List Open) (bs : List Back) → ArePlaced d (reverse xs) → new ≡ (old ++ d.numbers) ++ names_in xs → NamesAll old new (seen d) (plain_opened d (reverse xs) bs)
+names_all old new d xs bs are is f =
+    ap (contains f) is
+    ∙ both (contains f ((old ++ d.numbers) ++ names_in xs)) (contains f old || (shown f old d xs bs || opened f old d xs bs)) (told_only f old d xs bs are) (told f old d xs bs)

@@ -121,7 +121,7 @@ seen_many d h = omega (arith, h, length-take d.count d.numbers)
 
 -- so many numbers are there
 held : (d : Display) (os : List Open) → ArePlaced d os → d.count ≤ length d.numbers
-held d [] are = are
+held d [] are = omega (arith, are)
 held d (o ∷ os) are =
     let before = put_back o.replaced d in
     let s = seen_placed o.purpose o.frame before (seen before) refl (seen_many before (held before os are.1)) in

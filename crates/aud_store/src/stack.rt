@@ -339,8 +339,8 @@ impl Stack {
         Ok(frames)
     }
 
-    /// Appends the numbers of all frames that it names: of those that are seen or hidden, of those that are open, and of those that an
-    /// open one stands in place of. Some may be there more than once.
+    /// Appends the numbers of all frames that it names, and no other: of those that are seen or hidden, of those that are open, and of
+    /// those that an open one stands in place of. Some may be there more than once.
     pub fn names(&self, into: &mut Vec<usize>) -> Result<(), AllocError>
         ensures { OnOk result
             (NamesAll into.old.items into.new.items self.now.display self.now.opened) }

@@ -4,14 +4,16 @@ use Rattle.std.specs.Prelude.{is_some}
 use Rattle.aud_typed.specs.Tree.{Plan}
 use Rattle.aud_meaning.specs.declared.state.Serving.{Serving}
 use Rattle.aud_meaning.specs.declared.state.Status.{Status}
+use Rattle.aud_meaning.specs.declared.state.Status.TheVariants.{Running}
 use Rattle.aud_meaning.specs.Configuration.{Own, TaskAt, All}
 use Rattle.aud_meaning.specs.Control.{Coming, Seen, simply, ending, selecting, calling, starting}
 use Rattle.aud_meaning.specs.Parts.{own_of}
 use Rattle.aud_meaning.specs.Run.{at_once, construct_left, is_bound, is_leave, master_left_by, seen, turn_by, under_way, usual}
 use Rattle.aud_code.specs.Places.{Spot}
 use Rattle.aud_code.specs.Flat.{Flat, barrier_at, flat_controls}
-use Rattle.aud_state.specs.Reads.{LeavesBy}
-use Rattle.aud_tasks.specs.Turning.{bound_in, deferred_in, seen_in, turn_in, usual_in}
+use Rattle.aud_state.specs.Reads.{IsPlain, LeavesBy}
+use Rattle.aud_tasks.specs.declared.turn.Turn.TheVariants.{Acting}
+use Rattle.aud_tasks.specs.Turning.{bound_in, deferred_in, seen_in, turn_in, turned, usual_in}
 use Rattle.aud_tasks.proofs.Seen.{turn_law}
 
 pub or_if : (a b : Bool) → (a || b) ≡ (if a then true else b)
@@ -60,3 +62,7 @@ module _ (plan : Plan) (code : Flat) (n : ℕ) (c : All Spot) where
 
   pub usual_normal : o.abnormal ≡ false → under_way plan (barrier_at code) o.abnormal n t d ≡ usual_in plan code n c
   usual_normal normal = ap (λ b. under_way plan (barrier_at code) b n t d) normal
+
+  -- one that runs, is not abnormal and services nothing acts
+  pub turn_plain : IsPlain o → turn_in plan code n c ≡ turned plan code n c Acting
+  turn_plain plain = turn_as Running plain.runs ∙ usual_normal plain.normal ∙ usual_as None Running plain.free plain.runs

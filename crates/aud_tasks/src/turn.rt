@@ -30,6 +30,9 @@ pub enum Turn {
 pub(crate) fn turn_of(state: &State, code: &SoundCode, n: usize) -> Turn
     ensures { (plan : Plan) → turn_in plan code.now n state.now ≡ turned plan code.now n state.now result }
 {
+    if state.is_plain(n) {
+        return Turn::Acting;
+    }
     match state.status(n) {
         Status::Created | Status::Terminated => Turn::Resting,
         Status::Completed => Turn::Closing,

@@ -4,12 +4,12 @@ use crate::fault::Fault;
 use crate::halls::deed::{Deed, event};
 use crate::halls::words::{alone, texts, words};
 use aud_bench::bench::Work;
+use aud_text::limits::Limits;
 use aud_worlds::event::Event;
 use aud_worlds::fault::HallFault;
 use aud_worlds::hall::Hall;
 use aud_worlds::laws::world_run;
 use aud_worlds::reply::Reply;
-use aud_text::limits::Limits;
 use std::alloc::{AllocError, Global};
 
 /// A call, and the words of the reply that must come.

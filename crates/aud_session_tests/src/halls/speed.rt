@@ -4,8 +4,8 @@ use crate::fault::Fault;
 use crate::halls::ask::{Ask, Source, request};
 use aud_bench::bench::{Bench, GiveFault};
 use aud_bench::request::Request;
-use aud_worlds::hall::Hall;
 use aud_text::limits::{Limits, RUN, STANDARD};
+use aud_worlds::hall::Hall;
 use std::alloc::{AllocError, Global};
 
 // So many RUNs use up the steps of a LOAD.

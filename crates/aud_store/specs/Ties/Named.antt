@@ -1,14 +1,14 @@
 -- Which frames the open frames of a task name.
-use Rattle.std.specs.Prelude.{◌≡◌, ℕ, List, ◌∷◌, true, ◌||◌}
+use Rattle.std.specs.Prelude.{◌≡◌, ℕ, List, ◌∷◌, ◌||◌}
 use Rattle.std.specs.Option.{option_to_list}
 use Rattle.aud_meaning.specs.Configuration.{Opened}
 use Rattle.aud_meaning.specs.Parts.{contains}
 use Rattle.aud_meaning.specs.Ties.Named.{opened_name}
 use Rattle.aud_store.specs.declared.stack.Open.{Open}
 
--- what was there is there still, and so is each frame that is seen, or that open ones name
+-- what was there is there still, and so is each frame that is seen, or that open ones name, and no other
 abbrev pub NamesAll : List ℕ → List ℕ → List ℕ → List Opened → Type 0
-NamesAll old new display opened = (f : ℕ) → (contains f old || (contains f display || opened_name f opened)) ≡ true → contains f new ≡ true
+NamesAll old new display opened = (f : ℕ) → contains f new ≡ (contains f old || (contains f display || opened_name f opened))
 
 -- its own number, and the one that it stands in place of
 abbrev pub names_of : Open → List ℕ

@@ -1,5 +1,5 @@
 -- What is kept of the frames of a program, with those that are open of the task whose part lies there.
-use Rattle.std.specs.Prelude.{◌≡◌, ◌≤◌, ◌-◌, ℕ, suc, ℤ, pos, List, [], ◌∷◌, ◌++◌, length, min, take, drop, Option, Some, None, Bool, false, slice_index_or}
+use Rattle.std.specs.Prelude.{◌≡◌, ◌-◌, ℕ, suc, ℤ, pos, List, [], ◌∷◌, ◌++◌, length, min, take, drop, Option, Some, None, Bool, false, slice_index_or}
 use Rattle.aud_text.specs.declared.place.Pos.{Pos}
 use Rattle.aud_typed.specs.declared.program.Exception.{Exception}
 use Rattle.aud_meaning.specs.Configuration.{Frame, Back, Target, Opened, for_body, for_block, for_loop, for_procedure, for_operation, for_entry, for_accept}
@@ -59,9 +59,9 @@ plain_opened display (o ∷ os) backs =
 abbrev pub IsPlaced : Open → Display → Display → Type 0
 IsPlaced o before display = (display ≡ placed (kept_of o.purpose before.count) o.frame before) × (o.replaced ≡ stands (kept_of o.purpose before.count) before)
 
--- so it is with each, innermost first, behind as many as were seen before any was opened
+-- so it is with each, innermost first; before any was opened, all numbers were those of frames that were seen
 abbrev pub ArePlaced : Display → List Open → Type 0
-ArePlaced display [] = display.count ≤ length display.numbers
+ArePlaced display [] = display.count ≡ length display.numbers
 ArePlaced display (o ∷ os) = IsPlaced o (put_back o.replaced display) display × ArePlaced (put_back o.replaced display) os
 
 -- the innermost open frame

@@ -1,4 +1,4 @@
-use Rattle.std.proofs.Common.{◌≡◌, ℕ, true, drop}
+use Rattle.std.proofs.Common.{◌≡◌, ℕ, drop}
 use Rattle.std.specs.Prelude.{◌||◌}
 use Rattle.aud_meaning.specs.Parts.{any, contains}
 use Rattle.aud_state.specs.declared.task.Task.{Task}
@@ -8,5 +8,4 @@ use Rattle.aud_state.proofs.forget.kept_by_tasks.Given as goal
 
 abbrev pub invariant-loop-task : goal.invariant-loop-task
 invariant-loop-task l =
-    (frame : ℕ) → any (λ (z : Task). keeps frame (plain_task z)) l.tasks ≡ true
-    → (contains frame l.kept.items || any (λ (z : Task). keeps frame (plain_task z)) (drop l.task-index l.tasks)) ≡ true
+    (frame : ℕ) → (contains frame l.kept.items || any (λ (z : Task). keeps frame (plain_task z)) (drop l.task-index l.tasks)) ≡ any (λ (z : Task). keeps frame (plain_task z)) l.tasks

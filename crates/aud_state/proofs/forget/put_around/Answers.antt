@@ -9,14 +9,15 @@ use Rattle.aud_state.proofs.Numbered.{any_map}
 use Rattle.aud_state.proofs.forget.put_around.Goals as goal
 
 pub loop-object-preserved : goal.loop-object-preserved
-loop-object-preserved c = λ frame h.
+loop-object-preserved c = λ frame.
     let p : Object → Bool = λ z. object_names frame (plain_object z) in
     one_more p c.args.objects.now c.loop-object.object-index c.object-item.result (contains frame c.loop-object.kept.items) (contains frame c.extend_from_slice.new.self.items) (omega arith) c.object-item.is
     (around_more frame c.loop-object.kept.items c.deref.result.now c.extend_from_slice.new.self.items c.object-item.result.display.items c.in_ok-extend_from_slice.ensures.items c.deref.ensures.value)
-    (c.loop-object.invariant frame h)
+    ∙ c.loop-object.invariant frame
 
 pub returns : goal.returns
-returns c = λ frame h.
+returns c = λ frame.
     let p : Object → Bool = λ z. object_names frame (plain_object z) in
-    all_more p c.args.objects.now c.loop-object.object-index (contains frame c.loop-object.kept.items) (omega arith)
-    (c.loop-object.invariant frame (ap (λ b. contains frame c.args.kept.now.items || b) (sym (any_map plain_object (object_names frame) c.args.objects.now)) ∙ h))
+    sym (all_more p c.args.objects.now c.loop-object.object-index (contains frame c.loop-object.kept.items) (omega arith))
+    ∙ c.loop-object.invariant frame
+    ∙ ap (λ b. contains frame c.args.kept.now.items || b) (sym (any_map plain_object (object_names frame) c.args.objects.now))

@@ -1,4 +1,4 @@
-use Rattle.std.proofs.Common.{◌≡◌, ℕ, true, drop}
+use Rattle.std.proofs.Common.{◌≡◌, ℕ, drop}
 use Rattle.std.specs.Prelude.{◌||◌}
 use Rattle.aud_meaning.specs.Parts.{any, contains}
 use Rattle.aud_over.specs.Over.{object_names}
@@ -8,5 +8,4 @@ use Rattle.aud_state.proofs.forget.put_around.Given as goal
 
 abbrev pub invariant-loop-object : goal.invariant-loop-object
 invariant-loop-object l =
-    (frame : ℕ) → (contains frame l.initial.kept.items || any (λ (z : Object). object_names frame (plain_object z)) l.objects) ≡ true
-    → (contains frame l.kept.items || any (λ (z : Object). object_names frame (plain_object z)) (drop l.object-index l.objects)) ≡ true
+    (frame : ℕ) → (contains frame l.kept.items || any (λ (z : Object). object_names frame (plain_object z)) (drop l.object-index l.objects)) ≡ (contains frame l.initial.kept.items || any (λ (z : Object). object_names frame (plain_object z)) l.objects)

@@ -1,26 +1,35 @@
-use Rattle.std.proofs.Common.{◌≡◌, ℕ, List, [], map, slice_index_or, true, ap, ◌∙◌}
+use Rattle.std.proofs.Common.{◌≡◌, ℕ, List, [], map, slice_index_or, ap, ◌∙◌}
 use Rattle.std.specs.Prelude.{◌||◌}
 use Rattle.aud_meaning.specs.Configuration.{All}
 use Rattle.aud_meaning.specs.Parts.{any, contains}
 use Rattle.aud_meaning.specs.Ties.Part.{Part}
 use Rattle.aud_code.specs.Places.{Spot}
 use Rattle.aud_over.specs.Over.{forgotten, object_names}
-use Rattle.aud_state.specs.Held.{is_held, keeps}
+use Rattle.aud_state.specs.Held.{given_back, is_held, keeps}
 use Rattle.aud_state.specs.View.{all_of, plain_object, plain_task}
-use Rattle.aud_state.proofs.Giving.{given_held, given_left}
+use Rattle.aud_state.proofs.Giving.{given_back_so, given_held, given_left}
 use Rattle.aud_state.proofs.state.State.forget.Goals as goal
 use Rattle.aud_state.proofs.state.State.forget.Goals.{After-forget}
 
 abbrev before : After-forget → All Spot
 before c = let i = c.self.inside in all_of i.tasks.items i.progress i.calls i.objects.items
 
-tasks_kept : (c : After-forget) (f : ℕ) → any (keeps f) (before c).tasks ≡ true → contains f c.in_ok-kept.kept.items ≡ true
-tasks_kept c f h = c.in_ok-kept.ensures f (ap (λ ts. any (keeps f) (map plain_task ts)) c.deref.ensures.value ∙ h)
+tasks_kept : (c : After-forget) (f : ℕ) → contains f c.in_ok-kept.kept.items ≡ any (keeps f) (before c).tasks
+tasks_kept c f = c.in_ok-kept.ensures f ∙ ap (λ ts. any (keeps f) (map plain_task ts)) c.deref.ensures.value
 
-all_kept : (c : After-forget) (f : ℕ) → (contains f c.in_ok-kept.kept.items || any (object_names f) (before c).shared.objects) ≡ true → contains f c.deref_mut.result.now ≡ true
-all_kept c f h =
+all_kept : (c : After-forget) (f : ℕ) → contains f c.deref_mut.result.now ≡ (contains f c.in_ok-kept.kept.items || any (object_names f) (before c).shared.objects)
+all_kept c f =
     ap (contains f) c.deref_mut.ensures.value
-    ∙ c.in_ok-put_around.ensures f (ap (λ os. contains f c.in_ok-kept.kept.items || any (object_names f) (map plain_object os)) c.deref-2.ensures.value ∙ h)
+    ∙ c.in_ok-put_around.ensures f
+    ∙ ap (λ os. contains f c.in_ok-kept.kept.items || any (object_names f) (map plain_object os)) c.deref-2.ensures.value
+
+pub returns-clause-given_back : goal.returns-clause-given_back
+returns-clause-given_back c =
+    let at = (goal.at.returns-clause-given_back c).After-forget in
+    let i = c.self.inside in
+    ap (λ (p : Part Spot). all_of i.tasks.items p i.calls i.objects.items) c.forget.ensures
+    ∙ given_back_so (before at) c.in_ok-kept.kept.items c.deref_mut.result.now (tasks_kept at) (all_kept at)
+    ∙ ap given_back c.self.view_is
 
 pub returns-clause-left : goal.returns-clause-left
 returns-clause-left c =

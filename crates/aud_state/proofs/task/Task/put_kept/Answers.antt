@@ -1,4 +1,4 @@
-use Rattle.std.proofs.Common.{◌≡◌, ◌++◌, true, ap, ◌∙◌, subst}
+use Rattle.std.proofs.Common.{◌≡◌, ◌++◌, ap, ◌∙◌, subst}
 use Rattle.std.specs.Prelude.{◌||◌}
 use Rattle.aud_meaning.specs.Parts.{contains, is_terminated}
 use Rattle.aud_meaning.specs.Ties.Named.{opened_name}
@@ -9,10 +9,9 @@ use Rattle.aud_state.proofs.Giving.{kept_more}
 use Rattle.aud_state.proofs.task.Task.put_kept.Goals as goal
 
 pub returns : goal.returns
-returns c = λ frame h.
+returns c = λ frame.
     let before = c.args.kept.now.items in
     let named = c.names.new.into.items in
     kept_more frame before named c.extend_from_slice.new.self.items c.args.self.now.masters.items (own_names frame (plain_task c.args.self.now).own) (is_terminated c.args.self.now.status)
-    (subst (λ (s : Stack). (contains frame before || (contains frame s.display || opened_name frame s.opened)) ≡ true → contains frame named ≡ true) c.stack.ensures (c.in_ok-names.ensures frame))
+    (subst (λ (s : Stack). contains frame named ≡ (contains frame before || (contains frame s.display || opened_name frame s.opened))) c.stack.ensures (c.in_ok-names.ensures frame))
     (c.in_ok-extend_from_slice.ensures.items ∙ ap (λ l. named ++ l) c.masters_held.ensures)
-    h

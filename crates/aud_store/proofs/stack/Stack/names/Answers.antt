@@ -18,7 +18,7 @@ returns c =
     let items = c.deref-open-items.result.now in
     let shown = c.in_ok-extend_from_slice.ensures.items ∙ ap (λ l. before ++ l) c.all.ensures in
     let all = take_all c.loop-open.open-index items (omega arith) ∙ c.deref-open-items.ensures.value in
-    rw (← c.self.view_is) (names_all before c.loop-open.into.items display opened c.self.inside.backs.items
+    rw (← c.self.view_is) (names_all before c.loop-open.into.items display opened c.self.inside.backs.items c.self.invariant
     (c.loop-open.invariant
     ∙ ap (λ l. l ++ names_in (take c.loop-open.open-index items)) shown
     ∙ ap (λ l. before ++ display.numbers ++ names_in l) all))
