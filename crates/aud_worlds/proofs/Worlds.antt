@@ -114,7 +114,7 @@ sliced_true units refused b t = by b.spent refl
               made_short b.limits b.journal (b.units + done units refused b) (omega (arith, some, less, t.within));
         }
 
-slot_right : (out : List (Option Parcel)) (n : ℕ) (p : Parcel) → Each IsRightSlot out → parcel_at out n ≡ Some p → IsTrue p.bench
+pub slot_right : (out : List (Option Parcel)) (n : ℕ) (p : Parcel) → Each IsRightSlot out → parcel_at out n ≡ Some p → IsTrue p.bench
 slot_right out n p all e = by (at out n) refl e
   where
     by : (o : Option (Option Parcel)) → at out n ≡ o → joined o ≡ Some p → IsTrue p.bench

@@ -2,6 +2,7 @@
 // list.
 
 ghost use Rattle.aud_worlds.specs.Headline.{HeadlineLaw, EverySeatLaw, SliceLaw, SessionLaw, TwoWorldsLaw, AmpleLaw};
+ghost use Rattle.aud_worlds.specs.Taken.{LastLaw};
 ghost use Rattle.aud_worlds.specs.Why.Laws.{WorldLaw, IsolationLaw, IdleLaw, TellsIdleLaw, AwaitedLaw, RoomLaw, OthersLaw, RefusalLaw};
 ghost use Rattle.aud_worlds.specs.Why.Rows.{Rows};
 ghost use Rattle.aud_worlds.specs.Why.Runs.{RunLaw};
@@ -12,6 +13,11 @@ pub use crate::run::world_run;
 /// and all of them where no work is in hand.
 pub fn headline_law()
     ensures { HeadlineLaw }
+{}
+
+/// At every seat the answers so far are exactly what the bench that it took in last has made.
+pub fn last_law()
+    ensures { LastLaw }
 {}
 
 /// Every seat that is claimed is a session's.
