@@ -106,10 +106,7 @@ impl<R: Wait> Print for Surroundings<R> {
 impl<R: Wait + AllocGlobal> Eprint for Surroundings<R> {
     fn eprint<D: Display + Drop>(&self, value: D) -> io::Result<()> {
         let text = format!(in self.rt.alloc(); "{value}")?;
-        Ok(self
-            .said
-            .lock(&self.rt)
-            .extend_from_slice(text.as_bytes())?)
+        Ok(self.said.lock(&self.rt).extend_from_slice(text.as_bytes())?)
     }
 
     fn eprintln<D: Display + Drop>(&self, value: D) -> io::Result<()> {
