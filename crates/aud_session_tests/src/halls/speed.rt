@@ -4,8 +4,8 @@ use crate::fault::Fault;
 use crate::halls::ask::{Ask, Source, request};
 use aud_bench::bench::{Bench, GiveFault};
 use aud_bench::request::Request;
-use aud_worlds::hall::Hall;
 use aud_text::limits::{Limits, RUN, STANDARD};
+use aud_worlds::hall::Hall;
 use std::alloc::{AllocError, Global};
 
 // So many RUNs use up the steps of a LOAD.
@@ -113,7 +113,9 @@ pub fn idle_hall(alloc: Global, seats: usize) -> Result<Hall, Fault> {
     for seat in 1..=seats {
         hall.claim(alloc, seat)?;
         hall.submit(seat, request(alloc, Ask::Load(Source::Ends))?)?;
-        let _done = turn(alloc, &mut hall, seat, 1)?;
+        if turn(alloc, &mut hall, seat, 1)? != 1 {
+            return Err(Fault::Undone);
+        }
     }
     Ok(hall)
 }

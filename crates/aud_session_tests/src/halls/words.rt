@@ -3,10 +3,10 @@
 use aud_bench::bench::Work;
 use aud_bench::request::{Answer, Request};
 use aud_bench::session::Session;
-use aud_worlds::next::Next;
-use aud_worlds::reply::Reply;
 use aud_lines::answers::answer_text;
 use aud_text::limits::Limits;
+use aud_worlds::next::Next;
+use aud_worlds::reply::Reply;
 use std::alloc::{AllocError, Global};
 
 /// The words of a reply; of answers, their texts.
