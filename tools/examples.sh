@@ -1,6 +1,6 @@
 #!/bin/sh
 # Whether the sessions of examples/ are those of crates/aud_session_tests/data/examples.txt, which the gate runs: `rt ci` reads the folders of crates
-# alone. With a folder it writes all of them there, one after the other and a QUIT, as `stdin`, and what is answered as `stdout`.
+# alone, and whether all files of sessions are looked at. With a folder it writes all of them there, one after the other and a QUIT, as `stdin`, and what is answered as `stdout`.
 set -eu
 cd "$(dirname "$0")/../examples"
 sessions="first loop array recursion tasks"
@@ -15,3 +15,5 @@ if [ "$(cat $sessions)" != "$(sed -n 's/^> \{0,1\}//p' "$data")" ] || [ "$(answe
     echo "examples: the sessions of examples/ are not those of crates/aud_session_tests/data/examples.txt" >&2
     exit 1
 fi
+cd ../crates/aud_session_tests
+{ printf '%s\n' --lists 1000; LC_ALL=C ls data; } | cmp - args

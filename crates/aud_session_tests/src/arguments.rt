@@ -22,14 +22,10 @@ pub enum Task<'a> {
 ///
 /// # Errors
 ///
-/// `Arguments` where a number is missing or is none.
+/// `Arguments` where nothing is asked for, and where a number is missing or is none.
 pub fn task_of(words: &[String]) -> Result<Task<'_>, Fault> {
-    let Some((_, words)) = words.split_first() else {
-        return Ok(Task::Files(words));
-    };
-    let Some((first, rest)) = words.split_first() else {
-        return Ok(Task::Files(words));
-    };
+    let (_, words) = words.split_first().ok_or(Fault::Arguments)?;
+    let (first, rest) = words.split_first().ok_or(Fault::Arguments)?;
     match first.as_str() {
         "--lists" => {
             let (lists, files) = number(rest)?;

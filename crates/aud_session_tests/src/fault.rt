@@ -1,6 +1,7 @@
 // Why the program ends with another status than 0, or does not look at a file.
 
 use crate::halls::deed::Deed;
+use crate::halls::row::Title;
 use crate::session::LineFault;
 use aud_solo::solo::SoloFault;
 use aud_worlds::fault::HallFault;
@@ -16,28 +17,44 @@ pub enum Fault {
     Line(usize),
     #[error("line {0} has no form of a line that is sent or written")]
     Form(usize),
+    #[error("line {0} names a session that sends nothing")]
+    Silent(usize),
+    #[error("there is no session")]
+    NoSession,
     #[error("a server ended: {0}")]
     Server(SoloFault),
-    /// A reply of a row is another than it must be.
-    #[error("{row}: {deed:?} is answered '{found}', and not '{wanted}'")]
+    /// Nothing is called in a row.
+    #[error("{0}: there is no call")]
+    NoCalls(Title),
+    /// A row has more or fewer replies than calls.
+    #[error("{title}: {replies} replies to {calls} calls")]
+    Replies {
+        title: Title,
+        calls: usize,
+        replies: usize,
+    },
+    /// A reply is another than it must be.
+    #[error("{title}: {deed:?} is answered '{found}', and not '{wanted}'")]
     Reply {
-        row: &'static str,
+        title: Title,
         deed: Deed,
         found: String,
-        wanted: &'static str,
+        wanted: String,
     },
-    /// An outbox of a row has others than the private server's answers.
+    /// An outbox has others than the private server's answers.
     #[error("{0}: an outbox has other answers")]
-    Outbox(&'static str),
-    /// So has one of the list of this number, or it has too few.
-    #[error("list {0}: an outbox has other answers, or too few")]
-    List(u32),
+    Outbox(Title),
+    /// At a seat whose bench is at home an outbox has too few.
+    #[error("{0}: an outbox has too few answers")]
+    TooFew(Title),
     /// A call that must succeed was refused.
     #[error("refused: {0}")]
     Refused(HallFault),
     /// A hall does not take in what it sent out.
     #[error("a parcel that is a stranger where it comes from")]
     Stranger,
+    #[error("a slice did not do what was left")]
+    Undone,
     #[error("bad arguments")]
     Arguments,
     #[error("out of memory")]
@@ -83,6 +100,8 @@ impl From<LineFault> for Fault {
             LineFault::Memory => Fault::Memory,
             LineFault::Line(number) => Fault::Line(number),
             LineFault::Form(number) => Fault::Form(number),
+            LineFault::Silent(number) => Fault::Silent(number),
+            LineFault::NoSession => Fault::NoSession,
         }
     }
 }

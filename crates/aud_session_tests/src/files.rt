@@ -1,12 +1,14 @@
-// The sessions of files, and what servers in memory answer.
+// The sessions of files, what servers in memory answer, and what is read from the canonical texts of what they load.
 
 use crate::fault::Fault;
+use crate::reread::{Reread, read_back};
 use crate::server::answers;
 use crate::session::{Session, sessions};
 use std::alloc::Global;
 use std::{fs, io};
 
-/// How many sessions of these files are answered otherwise than their file says, and files cannot be looked at. Tells of each file.
+/// How many sessions of these files are answered otherwise than their file says, programs are read otherwise from their canonical texts,
+/// and files cannot be looked at. Tells of each file.
 pub fn look_at_files(rt: &HostRuntime, files: &[String]) -> io::Result<usize> {
     let mut others = 0usize;
     for file in files {
@@ -22,14 +24,17 @@ pub fn look_at_files(rt: &HostRuntime, files: &[String]) -> io::Result<usize> {
     Ok(others)
 }
 
-// How many sessions of a file are answered otherwise.
+// How many sessions of a file are answered otherwise, and its programs read otherwise.
 fn look_at_file(rt: &HostRuntime, file: &str) -> Result<usize, Fault> {
     let text = fs::read_to_string(rt, file)?;
     let sessions = sessions(rt.alloc(), text.as_str())?;
     let found = look_at(rt, sessions.as_slice())?;
     let count = sessions.len();
-    println!(rt; "{file}: {count} sessions, {found} answered otherwise")?;
-    Ok(found)
+    let Reread { programs, others } = read_all_back(rt.alloc(), sessions.as_slice())?;
+    println!(rt;
+        "{file}: {count} sessions, {found} answered otherwise; {programs} programs, {others} read otherwise"
+    )?;
+    Ok(found.saturating_add(others))
 }
 
 // A server reads what a session sends whole, and in pieces of so many bytes.
@@ -46,6 +51,17 @@ fn look_at(rt: &HostRuntime, sessions: &[Session]) -> Result<usize, Fault> {
         others = others.saturating_add(usize::from(!is_same));
     }
     Ok(others)
+}
+
+fn read_all_back(alloc: Global, sessions: &[Session]) -> Result<Reread, Fault> {
+    let mut all = Reread {
+        programs: 0,
+        others: 0,
+    };
+    for session in sessions {
+        all = all.with(read_back(alloc, session.sent.as_slice())?);
+    }
+    Ok(all)
 }
 
 // Whether the session is answered as its file says, where a server reads it in pieces of so many bytes at most.

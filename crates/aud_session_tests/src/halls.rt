@@ -3,7 +3,9 @@
 mod ask;
 pub mod deed;
 pub mod lists;
-mod row;
+mod model;
+mod private;
+pub mod row;
 pub mod rows;
 pub mod speed;
 mod words;

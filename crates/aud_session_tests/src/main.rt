@@ -7,6 +7,7 @@ mod fault;
 mod files;
 mod halls;
 mod repeated;
+mod reread;
 mod server;
 mod session;
 
@@ -31,7 +32,7 @@ fn main(rt: HostRuntime) -> ExitCode {
     }
 }
 
-// How many sessions of files are answered otherwise.
+// How many sessions of files are answered otherwise, and programs read otherwise.
 fn run(rt: &HostRuntime) -> Result<usize, Fault> {
     let words: Vec<String> = env::args(rt)?.collect(rt.alloc())?;
     match task_of(&words)? {
@@ -40,7 +41,7 @@ fn run(rt: &HostRuntime) -> Result<usize, Fault> {
             tell_rows(rt)?;
             let tally = look_at_lists(rt.alloc(), lists)?;
             println!(rt;
-                "{lists} lists of {CALLS} calls: each outbox as the private server answers; {tally:?}"
+                "{lists} lists of {CALLS} calls: each reply as the definitions tell, each outbox as the private server answers; {tally:?}"
             )?;
             return Ok(look_at_files(rt, files)?);
         }

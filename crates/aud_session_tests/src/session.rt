@@ -5,7 +5,7 @@
 // - `* 127 ` and a line that is sent or written so many times, itself a text as `repeated` has it;
 // - `- ` and such a text, which no line feed ends.
 //
-// Empty lines, and those that begin with `#`, are for the reader.
+// Empty lines, and those that begin with `#`, are for the reader. A session that sends no byte says so by a line that sends an empty text.
 
 use crate::repeated::{TextFault, push_lines, push_text};
 use std::alloc::{AllocError, Global};
@@ -16,6 +16,9 @@ pub struct Session {
     pub name: String,
     pub sent: Vec<u8>,
     pub written: Vec<u8>,
+    // The line of its name, and whether it has a line that is sent.
+    line: usize,
+    sends: bool,
 }
 
 /// Why a text has no sessions. Its lines are counted from 1.
@@ -26,6 +29,9 @@ pub enum LineFault {
     Line(usize),
     /// What stands behind the sign of this line has none of these forms.
     Form(usize),
+    /// The session that this line names has no line that is sent.
+    Silent(usize),
+    NoSession,
 }
 
 impl From<AllocError> for LineFault {
@@ -38,7 +44,8 @@ impl From<AllocError> for LineFault {
 ///
 /// # Errors
 ///
-/// `Line` or `Form` with the first line that is none of a session; `Memory` where memory is refused.
+/// `Line` or `Form` with the first line that is none of a session, `Silent` with the first session that sends nothing, and `NoSession`
+/// where there is none; `Memory` where memory is refused.
 pub fn sessions(alloc: Global, text: &str) -> Result<Vec<Session>, LineFault> {
     let mut sessions = Vec::new(alloc);
     let mut number = 0usize;
@@ -46,13 +53,27 @@ pub fn sessions(alloc: Global, text: &str) -> Result<Vec<Session>, LineFault> {
         number = number.saturating_add(1);
         if let Some(name) = line.strip_prefix("= ") {
             sessions
-                .push(named(alloc, name)?)
+                .push(named(alloc, name, number)?)
                 .map_err(|_| LineFault::Memory)?;
         } else if !adds(alloc, sessions.last_mut(), line).map_err(|fault| at(number, fault))? {
             return Err(LineFault::Line(number));
         }
     }
+    look_at_silent(&sessions)?;
     Ok(sessions)
+}
+
+// Nothing is tested where there is no session, or one that sends nothing.
+fn look_at_silent(sessions: &[Session]) -> Result<(), LineFault> {
+    if sessions.is_empty() {
+        return Err(LineFault::NoSession);
+    }
+    for session in sessions {
+        if !session.sends {
+            return Err(LineFault::Silent(session.line));
+        }
+    }
+    Ok(())
 }
 
 fn at(number: usize, fault: TextFault) -> LineFault {
@@ -62,11 +83,13 @@ fn at(number: usize, fault: TextFault) -> LineFault {
     }
 }
 
-fn named(alloc: Global, name: &str) -> Result<Session, AllocError> {
+fn named(alloc: Global, name: &str, line: usize) -> Result<Session, AllocError> {
     Ok(Session {
         name: String::from_str(alloc, name)?,
         sent: Vec::new(alloc),
         written: Vec::new(alloc),
+        line,
+        sends: false,
     })
 }
 
@@ -80,6 +103,7 @@ fn adds(alloc: Global, session: Option<&mut Session>, line: &str) -> Result<bool
     };
     if let Some(sent) = line.strip_prefix('>') {
         push_line(alloc, &mut session.sent, sent)?;
+        session.sends = true;
         return Ok(true);
     }
     if let Some(written) = line.strip_prefix('<') {

@@ -8,7 +8,7 @@ use rand::rngs::SmallRng;
 use std::alloc::{AllocError, Global};
 
 /// A source text, of one line.
-#[derive(Clone, Copy, Debug)]
+#[derive(Clone, Copy, PartialEq, Eq, Debug)]
 pub enum Source {
     /// Ends after three steps.
     Ends,
@@ -22,7 +22,7 @@ pub enum Source {
 }
 
 /// A request.
-#[derive(Clone, Copy, Debug)]
+#[derive(Clone, Copy, PartialEq, Eq, Debug)]
 pub enum Ask {
     Load(Source),
     Run(u32),

@@ -3,7 +3,7 @@
 use crate::fault::Fault;
 use crate::halls::ask::{Ask, Source};
 use crate::halls::deed::Deed;
-use crate::halls::row::{Line, Row, look_at};
+use crate::halls::row::{Line, Row, Title, look_at};
 use aud_text::limits::{Limits, REQUESTS, STANDARD};
 use std::alloc::{AllocError, Global};
 
@@ -20,7 +20,7 @@ pub fn look_at_rows(alloc: Global) -> Result<usize, Fault> {
     look_at(
         alloc,
         Row {
-            name: "a full journal",
+            title: Title::Row("a full journal"),
             limits: FOUR,
             lines: &lines,
         },
@@ -40,73 +40,73 @@ const UNLIKE: &[Limits] = &[STANDARD, LARGE, STANDARD];
 
 const ROWS: [Row<'static>; 13] = [
     Row {
-        name: "a parcel at another seat",
+        title: Title::Row("a parcel at another seat"),
         limits: FOUR,
         lines: ANOTHER_SEAT,
     },
     Row {
-        name: "two seats in turn",
+        title: Title::Row("two seats in turn"),
         limits: FOUR,
         lines: IN_TURN,
     },
     Row {
-        name: "requests while the bench is out",
+        title: Title::Row("requests while the bench is out"),
         limits: FOUR,
         lines: WHILE_OUT,
     },
     Row {
-        name: "an earlier session's parcel before the session's own",
+        title: Title::Row("an earlier session's parcel before the session's own"),
         limits: FOUR,
         lines: EARLIER_FIRST,
     },
     Row {
-        name: "an earlier session's parcel after the session's own",
+        title: Title::Row("an earlier session's parcel after the session's own"),
         limits: FOUR,
         lines: EARLIER_LAST,
     },
     Row {
-        name: "a parcel whose session is over",
+        title: Title::Row("a parcel whose session is over"),
         limits: FOUR,
         lines: OVER,
     },
     Row {
-        name: "a parcel whose answers were taken out elsewhere",
+        title: Title::Row("a parcel whose answers were taken out elsewhere"),
         limits: FOUR,
         lines: TAKEN_ELSEWHERE,
     },
     Row {
-        name: "a parcel that is gone",
+        title: Title::Row("a parcel that is gone"),
         limits: FOUR,
         lines: GONE,
     },
     Row {
-        name: "a parcel with other limits",
+        title: Title::Row("a parcel with other limits"),
         limits: UNLIKE,
         lines: OTHER_LIMITS,
     },
     Row {
-        name: "a program at the limits of each seat",
+        title: Title::Row("a program at the limits of each seat"),
         limits: UNLIKE,
         lines: AT_LIMITS,
     },
     Row {
-        name: "a session that ends",
+        title: Title::Row("a session that ends"),
         limits: FOUR,
         lines: QUITS,
     },
     Row {
-        name: "refusals in their order",
+        title: Title::Row("refusals in their order"),
         limits: FOUR,
         lines: REFUSALS,
     },
     Row {
-        name: "reasons in their order",
+        title: Title::Row("reasons in their order"),
         limits: UNLIKE,
         lines: REASONS,
     },
 ];
 
-const ANOTHER_SEAT: &[Line] = &[
+const ANOTHER_SEAT: &[Line<'static>] = &[
     (Deed::Claim(3), "accepted"),
     (Deed::Claim(4), "accepted"),
     (Deed::Submit(3, Ask::Output), "accepted"),
@@ -120,7 +120,7 @@ const ANOTHER_SEAT: &[Line] = &[
     (Deed::SendOut(4), "sent"),
 ];
 
-const IN_TURN: &[Line] = &[
+const IN_TURN: &[Line<'static>] = &[
     (Deed::Claim(1), "accepted"),
     (Deed::Claim(2), "accepted"),
     (Deed::Submit(1, Ask::Load(Source::Ends)), "accepted"),
@@ -141,7 +141,7 @@ const IN_TURN: &[Line] = &[
     (Deed::SendOut(2), "stays"),
 ];
 
-const WHILE_OUT: &[Line] = &[
+const WHILE_OUT: &[Line<'static>] = &[
     (Deed::Claim(2), "accepted"),
     (Deed::Submit(2, Ask::Load(Source::Tasks)), "accepted"),
     (Deed::SendOut(2), "sent"),
@@ -160,10 +160,11 @@ const WHILE_OUT: &[Line] = &[
     (Deed::Collect(2, 3), "no answer"),
 ];
 
-const EARLIER_FIRST: &[Line] = &[
+const EARLIER_FIRST: &[Line<'static>] = &[
     (Deed::Claim(3), "accepted"),
     (Deed::Submit(3, Ask::Output), "accepted"),
     (Deed::SendOut(3), "sent"),
+    (Deed::Collect(3, 0), "no answer"),
     (Deed::Free(3), "accepted"),
     (Deed::Claim(3), "accepted"),
     (Deed::Submit(3, Ask::Output), "accepted"),
@@ -171,12 +172,16 @@ const EARLIER_FIRST: &[Line] = &[
     (Deed::CheckIn(0, 3), "taken in, more"),
     (Deed::Slice(1, 1), "did 1, left 0"),
     (Deed::CheckIn(1, 3), "stranger: no parcel is out"),
+    (Deed::SendOut(3), "sent"),
+    (Deed::CheckIn(1, 3), "taken in, idle"),
+    (Deed::Collect(3, 0), "- E14 no program\n"),
 ];
 
-const EARLIER_LAST: &[Line] = &[
+const EARLIER_LAST: &[Line<'static>] = &[
     (Deed::Claim(3), "accepted"),
     (Deed::Submit(3, Ask::Output), "accepted"),
     (Deed::SendOut(3), "sent"),
+    (Deed::Collect(3, 0), "no answer"),
     (Deed::Free(3), "accepted"),
     (Deed::Claim(3), "accepted"),
     (Deed::Submit(3, Ask::Output), "accepted"),
@@ -191,16 +196,17 @@ const EARLIER_LAST: &[Line] = &[
     (Deed::Collect(3, 1), "- E14 no program\n"),
 ];
 
-const OVER: &[Line] = &[
+const OVER: &[Line<'static>] = &[
     (Deed::Claim(3), "accepted"),
     (Deed::Submit(3, Ask::Output), "accepted"),
     (Deed::SendOut(3), "sent"),
+    (Deed::Collect(3, 0), "no answer"),
     (Deed::Free(3), "accepted"),
     (Deed::CheckIn(0, 3), "stranger: request 0 differs"),
     (Deed::CheckIn(0, 5), "stranger: no such seat"),
 ];
 
-const TAKEN_ELSEWHERE: &[Line] = &[
+const TAKEN_ELSEWHERE: &[Line<'static>] = &[
     (Deed::Claim(3), "accepted"),
     (Deed::Submit(3, Ask::Output), "accepted"),
     (Deed::SendOut(3), "sent"),
@@ -208,6 +214,7 @@ const TAKEN_ELSEWHERE: &[Line] = &[
     (Deed::CheckIn(0, 3), "taken in, idle"),
     (Deed::Submit(3, Ask::Output), "accepted"),
     (Deed::SendOut(3), "sent"),
+    (Deed::Collect(3, 1), "no answer"),
     (Deed::Free(3), "accepted"),
     (Deed::Claim(3), "accepted"),
     (Deed::Submit(3, Ask::Output), "accepted"),
@@ -218,7 +225,7 @@ const TAKEN_ELSEWHERE: &[Line] = &[
     (Deed::CheckIn(2, 3), "taken in, idle"),
 ];
 
-const GONE: &[Line] = &[
+const GONE: &[Line<'static>] = &[
     (Deed::Claim(1), "accepted"),
     (Deed::Slice(0, 1), "nothing"),
     (Deed::CheckIn(0, 1), "nothing"),
@@ -235,7 +242,7 @@ const GONE: &[Line] = &[
     (Deed::Collect(1, 0), "- E10 unknown command\n"),
 ];
 
-const OTHER_LIMITS: &[Line] = &[
+const OTHER_LIMITS: &[Line<'static>] = &[
     (Deed::Claim(1), "accepted"),
     (Deed::Claim(2), "accepted"),
     (Deed::Submit(1, Ask::Output), "accepted"),
@@ -250,7 +257,7 @@ const OTHER_LIMITS: &[Line] = &[
     (Deed::CheckIn(0, 1), "taken in, more"),
 ];
 
-const AT_LIMITS: &[Line] = &[
+const AT_LIMITS: &[Line<'static>] = &[
     (Deed::Claim(1), "accepted"),
     (Deed::Claim(2), "accepted"),
     (Deed::Submit(1, Ask::Load(Source::ManyTasks)), "accepted"),
@@ -276,7 +283,7 @@ const AT_LIMITS: &[Line] = &[
     ),
 ];
 
-const QUITS: &[Line] = &[
+const QUITS: &[Line<'static>] = &[
     (Deed::Claim(1), "accepted"),
     (Deed::Submit(1, Ask::Load(Source::Wrong)), "accepted"),
     (Deed::Submit(1, Ask::Quit), "accepted"),
@@ -293,7 +300,7 @@ const QUITS: &[Line] = &[
     (Deed::Submit(1, Ask::Output), "accepted"),
 ];
 
-const REFUSALS: &[Line] = &[
+const REFUSALS: &[Line<'static>] = &[
     (Deed::Claim(0), "E92 no such seat"),
     (Deed::Claim(5), "E92 no such seat"),
     (Deed::Submit(5, Ask::Output), "E92 no such seat"),
@@ -313,7 +320,7 @@ const REFUSALS: &[Line] = &[
     (Deed::Free(1), "E93 seat not claimed"),
 ];
 
-const REASONS: &[Line] = &[
+const REASONS: &[Line<'static>] = &[
     (Deed::Claim(1), "accepted"),
     (Deed::Submit(1, Ask::Output), "accepted"),
     (Deed::SendOut(1), "sent"),
@@ -344,7 +351,7 @@ const REASONS: &[Line] = &[
     (Deed::CheckIn(0, 1), "taken in, more"),
 ];
 
-const BEHIND_FULL: [Line; 10] = [
+const BEHIND_FULL: [Line<'static>; 10] = [
     (Deed::Submit(1, Ask::Output), "E13 journal full"),
     (Deed::Submit(1, Ask::Quit), "accepted"),
     (Deed::Submit(1, Ask::Output), "E93 seat not claimed"),
@@ -358,7 +365,7 @@ const BEHIND_FULL: [Line; 10] = [
 ];
 
 // As many requests as a session may have, and then what is refused and what is not.
-fn full(alloc: Global) -> Result<Vec<Line>, AllocError> {
+fn full(alloc: Global) -> Result<Vec<Line<'static>>, AllocError> {
     let mut lines = Vec::new(alloc);
     lines.push((Deed::Claim(1), "accepted"))?;
     for _ in 0..REQUESTS {

@@ -113,7 +113,9 @@ pub fn idle_hall(alloc: Global, seats: usize) -> Result<Hall, Fault> {
     for seat in 1..=seats {
         hall.claim(alloc, seat)?;
         hall.submit(seat, request(alloc, Ask::Load(Source::Ends))?)?;
-        let _done = turn(alloc, &mut hall, seat, 1)?;
+        if turn(alloc, &mut hall, seat, 1)? != 1 {
+            return Err(Fault::Undone);
+        }
     }
     Ok(hall)
 }

@@ -8,23 +8,27 @@ use std::process::Abort;
 use std::test::Fail;
 
 const LOOPS: &[u8] =
-    b"procedure M is X, Y : Integer := 0; P : Boolean; begin while X < 9 loop X := X + 1; Y := Y - X; Y := X * 2; exit when X = Y; P := X > Y and then P; if P then Y := (X + 1) * 2; else null; end if; Put (X'Image); end loop; end M;\n";
+    b"procedure M is X, Y : Integer := 0; P : Boolean; begin while X < 9 loop X := X + 1; X := X - 1; Y := X * 2; X := X + Y; Y := Y - X; X := X * Y; exit when X = Y; P := X > Y and then P; if P then Y := (X + 1) * 2; else null; end if; Put (X'Image); end loop; end M;\n";
 
-const STEPS_AT_ONCE: [&str; 17] = [
+const STEPS_AT_ONCE: [&str; 20] = [
     // the declarations of X and Y, and of P
-    "another",
-    "another",
+    "apart",
+    "apart",
     // `while`, and the statements of its loop
     "test of a variable and a number",
     "sum of a variable and a number",
+    "difference of a variable and a number",
+    "other operator on a variable and a number",
+    "sum of two variables",
     "difference of two variables",
-    "a variable and a number",
+    "other operator on two variables",
     "test of two variables",
     "target",
     "truth value of a variable",
     "target and variable",
     "null",
-    "another",
+    // the text that is put
+    "apart",
     // where handlers would be, and the end
     "apart",
     "apart",
@@ -34,19 +38,49 @@ const STEPS_AT_ONCE: [&str; 17] = [
     "apart",
 ];
 
+// Each has a word of its own.
 fn word(fused: Fused) -> &'static str {
     match fused {
         Fused::Apart => "apart",
-        Fused::Null { .. } => "null",
+        Fused::Push(_) => "number",
+        Fused::Load(_) => "variable",
+        Fused::OnOne(_) => "operator on one",
+        Fused::OnTwo(_) => "operator on two",
+        Fused::OnCell(_, _) => "operator on the newest and a variable",
+        Fused::OnNumber(_, _) => "operator on the newest and a number",
+        Fused::OnCells(_, _, _) => "operator on two variables",
+        Fused::OnCellNumber(_, _, _) => "operator on a variable and a number",
+        Fused::Check(_) => "check",
+        Fused::Cell => "cell of a truth value",
+        Fused::PushTruth(_) => "truth value",
+        Fused::LoadTruth(_) => "truth value of a variable",
+        Fused::Negate => "negation",
+        Fused::Relate(_) => "relation",
+        Fused::RelateCell(_, _) => "relation of the newest and a variable",
+        Fused::RelateNumber(_, _) => "relation of the newest and a number",
+        Fused::RelateCellNumber(_, _, _) => "relation of a variable and a number",
+        Fused::Compare(_) => "relation of truth values",
+        Fused::Combine(_) => "logical operator",
+        Fused::PassIfFalse(_) => "passing if false",
+        Fused::PassIfTrue(_) => "passing if true",
+        Fused::PassUnless { .. } => "passing unless a relation holds",
         Fused::Find(_, _) => "target",
         Fused::FindAndLoad { .. } => "target and variable",
-        Fused::LoadTruth(_) => "truth value of a variable",
+        Fused::Null { .. } => "null",
+        Fused::Assign { .. } => "end of an assignment",
+        Fused::AssignChecked { .. } => "check and end of an assignment",
+        Fused::AssignTwo { .. } => "operator and end of an assignment",
+        Fused::AssignTruth { .. } => "end of an assignment of a truth value",
+        Fused::Test { .. } => "end of a test",
+        Fused::TestNewest { .. } => "relation and end of a test",
         Fused::AssignSum { .. } => "sum of a variable and a number",
+        Fused::AssignDifference { .. } => "difference of a variable and a number",
+        Fused::AssignNumber { .. } => "other operator on a variable and a number",
+        Fused::AssignSumOfCells { .. } => "sum of two variables",
         Fused::AssignDifferenceOfCells { .. } => "difference of two variables",
-        Fused::AssignNumber { .. } => "a variable and a number",
+        Fused::AssignCells { .. } => "other operator on two variables",
         Fused::TestNumber { .. } => "test of a variable and a number",
         Fused::TestCells { .. } => "test of two variables",
-        _ => "another",
     }
 }
 

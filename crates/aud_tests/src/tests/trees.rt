@@ -33,7 +33,7 @@ fn expect_canonical(
 // A text, and the canonical one of its program.
 type Row = (&'static [u8], &'static [u8]);
 
-const ROWS: [Row; 5] = [
+const ROWS: [Row; 7] = [
     (
         b"procedure main is -- a comment\n  x,Y: Integer:=1_000; z : integer;\nbegin\n  \
         x:=-(y+2)*abs x MOD 3-99999999999;NULL;\n  Put_Line(\"say \"\"hi\"\" & \"&Integer'Image(x)&x'image);\nEND Main;",
@@ -66,6 +66,30 @@ const ROWS: [Row; 5] = [
         b"procedure P is\ntask T ;\ntask type U is\nend U ;\nA : array ( 1 .. 2 ) of U ;\ntask V is\nend ;\n\
         task body T is\nX : U ;\nbegin\nnull ;\nend T ;\ntask body U is\nbegin\nnull ;\nexception\n\
         when others =>\nnull ;\nend ;\nbegin\nif T ' CALLABLE and not A ( 1 ) ' TERMINATED then\nnull ;\nend if ;\nend ;\n",
+    ),
+    (
+        b"procedure P is E,F:exception;C:constant integer:=-1;\
+        procedure Q(A,B:Integer;D:in Boolean;G:out U;H:in out Integer)is begin return;end q;\
+        procedure R is X:Integer;begin raise e;exception when e|F=>raise;when others=>return X+1;end;\
+        begin Q(1,2);K:declare Y:Boolean;begin null;end k;declare begin exit;end;begin null;end;end P;",
+        b"procedure P is\nE , F : exception ;\nC : constant INTEGER := - 1 ;\n\
+        procedure Q ( A , B : INTEGER ;\nD : in BOOLEAN ;\nG : out U ;\nH : in out INTEGER ) is\nbegin\nreturn ;\nend Q ;\n\
+        procedure R is\nX : INTEGER ;\nbegin\nraise E ;\nexception\nwhen E | F =>\nraise ;\n\
+        when others =>\nreturn X + 1 ;\nend ;\n\
+        begin\nQ ( 1 , 2 ) ;\nK : declare\nY : BOOLEAN ;\nbegin\nnull ;\nend K ;\n\
+        declare\nbegin\nexit ;\nend ;\nbegin\nnull ;\nend ;\nend P ;\n",
+    ),
+    (
+        b"procedure P is V,W:array(-3..-1)of Boolean;Y:array(0..5)of integer;begin\n\
+        for I in 1..N loop exit when V(I)<=2;end loop;L:for J in reverse A+1..B*2 loop null;end loop l;\n\
+        V(-1):=A and then B and then C;X:=A or B or C;X:=A xor B xor C;X:=A and B and C;X:=\"a\"&\"\"&(\"b\"&C);\n\
+        X:=A-B-C;X:=-A/B rem C;X:=(A<B)=(C>D);M:begin loop null;end loop;end M;end;",
+        b"procedure P is\nV , W : array ( - 3 .. - 1 ) of BOOLEAN ;\nY : array ( 0 .. 5 ) of INTEGER ;\nbegin\n\
+        for I in 1 .. N loop\nexit when V ( I ) <= 2 ;\nend loop ;\n\
+        L : for J in reverse A + 1 .. B * 2 loop\nnull ;\nend loop L ;\n\
+        V ( - 1 ) := A and then B and then C ;\nX := A or B or C ;\nX := A xor B xor C ;\nX := A and B and C ;\n\
+        X := \"a\" & \"\" & ( \"b\" & C ) ;\nX := A - B - C ;\nX := - A / B rem C ;\nX := ( A < B ) = ( C > D ) ;\n\
+        M : begin\nloop\nnull ;\nend loop ;\nend M ;\nend ;\n",
     ),
 ];
 
