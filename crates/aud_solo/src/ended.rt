@@ -32,9 +32,9 @@ pub fn run_solo<S: Source, T: Sink>(
 ) -> u8
     ensures ended { EndsAs result (λ served.
         Serves served (S.remaining reader.old) (S.remaining reader.new)
-            (T.contents writer.old) (T.contents writer.new)
+        (T.contents writer.old) (T.contents writer.new)
         × CountsReadsTo (S.calls reader.new ≡ counted_by READS (S.calls reader.old)) served
-            (S.failures reader.old) (S.failures reader.new)
+        (S.failures reader.old) (S.failures reader.new)
         × CountsWrites served (T.failures writer.old) (T.failures writer.new)) }
     ensures quit { StopsAtQuit (S.remaining reader.old) (S.remaining reader.new) }
     ensures reads { CountsUpTo READS (S.calls reader.old) (S.calls reader.new) }

@@ -23,7 +23,10 @@ type Wanted = (u8, &'static [u8], &'static [u8]);
 const SESSIONS: [(Given, Wanted); 9] = [
     ((b"", false, 0), (0, b"", b"")),
     ((b"RUN 1\n", false, 99), (0, ANSWER, b"")),
-    ((b"RUN 1\nQUIT\nRUN 1\n", false, 99), (0, b"- E14 no program\n+ 0\n", b"")),
+    (
+        (b"RUN 1\nQUIT\nRUN 1\n", false, 99),
+        (0, b"- E14 no program\n+ 0\n", b""),
+    ),
     // Nothing is read behind a QUIT.
     ((b"QUIT\n", true, 99), (0, b"+ 0\n", b"")),
     ((b"", true, 99), (1, b"", READ)),

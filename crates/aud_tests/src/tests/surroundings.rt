@@ -61,7 +61,14 @@ impl<'a, R: AllocGlobal> Surroundings<'a, R> {
 
     // What stands in the output, and on the standard error.
     pub fn told(self) -> (Vec<u8>, Vec<u8>) {
-        (self.written.into_inner(), self.said.into_inner())
+        let Surroundings {
+            rt: _,
+            sent: _,
+            room: _,
+            written,
+            said,
+        } = self;
+        (written.into_inner(), said.into_inner())
     }
 }
 
@@ -106,10 +113,7 @@ impl<R: Wait> Print for Surroundings<'_, R> {
 impl<R: Wait + AllocGlobal> Eprint for Surroundings<'_, R> {
     fn eprint<D: Display + Drop>(&self, value: D) -> io::Result<()> {
         let text = format!(in self.rt.alloc(); "{value}")?;
-        Ok(self
-            .said
-            .lock(self.rt)
-            .extend_from_slice(text.as_bytes())?)
+        Ok(self.said.lock(self.rt).extend_from_slice(text.as_bytes())?)
     }
 
     fn eprintln<D: Display + Drop>(&self, value: D) -> io::Result<()> {
