@@ -80,7 +80,7 @@ impl<R> Input for Surroundings<'_, R> {
     type Reader = Sent;
 
     fn read_line<A: Allocator + Clone>(&self, _buf: &mut String<A>) -> io::Result<usize> {
-        unasked()
+        Err(io::Error::from(ErrorKind::Unsupported))
     }
 
     fn lines<A: Allocator>(&self, alloc: A) -> Lines<Sent, A> {
