@@ -38,17 +38,17 @@ impl BufRead for Sent {
 
 // The runtime that a test has, but for its standard streams: `sent` is the input, and what is written is kept, in the output
 // as long as there is room.
-pub struct Surroundings<R> {
-    rt: R,
+pub struct Surroundings<'a, R> {
+    rt: &'a R,
     sent: Sent,
     room: usize,
     written: Mutex<Vec<u8>>,
     said: Mutex<Vec<u8>>,
 }
 
-impl<R: AllocGlobal> Surroundings<R> {
+impl<'a, R: AllocGlobal> Surroundings<'a, R> {
     // A write fails where so many bytes stand in the output, or more.
-    pub fn new(rt: R, sent: Sent, room: usize) -> Surroundings<R> {
+    pub fn new(rt: &'a R, sent: Sent, room: usize) -> Surroundings<'a, R> {
         let (written, said) = (Vec::new(rt.alloc()), Vec::new(rt.alloc()));
         Surroundings {
             rt,
@@ -61,7 +61,14 @@ impl<R: AllocGlobal> Surroundings<R> {
 
     // What stands in the output, and on the standard error.
     pub fn told(self) -> (Vec<u8>, Vec<u8>) {
-        (self.written.into_inner(), self.said.into_inner())
+        let Surroundings {
+            rt: _,
+            sent: _,
+            room: _,
+            written,
+            said,
+        } = self;
+        (written.into_inner(), said.into_inner())
     }
 }
 
@@ -69,11 +76,11 @@ fn unasked<T>() -> io::Result<T> {
     Err(io::Error::from(ErrorKind::Unsupported))
 }
 
-impl<R> Input for Surroundings<R> {
+impl<R> Input for Surroundings<'_, R> {
     type Reader = Sent;
 
     fn read_line<A: Allocator + Clone>(&self, _buf: &mut String<A>) -> io::Result<usize> {
-        unasked()
+        Err(io::Error::from(ErrorKind::Unsupported))
     }
 
     fn lines<A: Allocator>(&self, alloc: A) -> Lines<Sent, A> {
@@ -85,7 +92,7 @@ impl<R> Input for Surroundings<R> {
     }
 }
 
-impl<R: Wait> Print for Surroundings<R> {
+impl<R: Wait> Print for Surroundings<'_, R> {
     fn print<D: Display + Drop>(&self, _value: D) -> io::Result<()> {
         unasked()
     }
@@ -95,7 +102,7 @@ impl<R: Wait> Print for Surroundings<R> {
     }
 
     fn write_all(&self, bytes: &[u8]) -> io::Result<()> {
-        let mut written = self.written.lock(&self.rt);
+        let mut written = self.written.lock(self.rt);
         if self.room <= written.len() {
             return Err(io::Error::from(ErrorKind::StorageFull));
         }
@@ -103,10 +110,10 @@ impl<R: Wait> Print for Surroundings<R> {
     }
 }
 
-impl<R: Wait + AllocGlobal> Eprint for Surroundings<R> {
+impl<R: Wait + AllocGlobal> Eprint for Surroundings<'_, R> {
     fn eprint<D: Display + Drop>(&self, value: D) -> io::Result<()> {
         let text = format!(in self.rt.alloc(); "{value}")?;
-        Ok(self.said.lock(&self.rt).extend_from_slice(text.as_bytes())?)
+        Ok(self.said.lock(self.rt).extend_from_slice(text.as_bytes())?)
     }
 
     fn eprintln<D: Display + Drop>(&self, value: D) -> io::Result<()> {
@@ -115,7 +122,7 @@ impl<R: Wait + AllocGlobal> Eprint for Surroundings<R> {
     }
 }
 
-impl<R: AllocGlobal> Alloc for Surroundings<R> {
+impl<R: AllocGlobal> Alloc for Surroundings<'_, R> {
     type A = Global;
 
     fn alloc(&self) -> Global {
@@ -123,7 +130,7 @@ impl<R: AllocGlobal> Alloc for Surroundings<R> {
     }
 }
 
-impl<R: Net> Net for Surroundings<R> {
+impl<R: Net> Net for Surroundings<'_, R> {
     type Stream = R::Stream;
 
     type Listener = R::Listener;
@@ -137,6 +144,6 @@ impl<R: Net> Net for Surroundings<R> {
     }
 }
 
-impl<R: Wait> Wait for Surroundings<R> {}
+impl<R: Wait> Wait for Surroundings<'_, R> {}
 
-impl<R: Threads> Threads for Surroundings<R> {}
+impl<R: Threads> Threads for Surroundings<'_, R> {}
