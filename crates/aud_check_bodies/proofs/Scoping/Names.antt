@@ -135,6 +135,7 @@ module _ (known : Known) (scope : Scope) where
   selected_scoped : (m : Meaning) (p : plain.NamePart) (ps : plain.Parts) (n : Place) → VisibleScoped known scope (resolution.selected m p ps n).denoted.meaning
   selected_scoped (Task v) (plain.part i plain.no_args) (plain.more_parts q qs) n = tt
   selected_scoped (TaskArray a) (plain.part i (plain.more_args e es)) (plain.more_parts q qs) n = tt
+  selected_scoped (Array a) (plain.part i (plain.more_args e es)) (plain.more_parts q qs) n = tt
   selected_scoped _ p ps n = tt
 
   denoted_scoped : (m : Meaning) (p : plain.NamePart) (ps : plain.Parts) (n : Place) → MeaningScoped known scope m → VisibleScoped known scope (resolution.denoted_by m p ps n).denoted.meaning
