@@ -8,7 +8,7 @@ use Rattle.aud_bench.specs.Seen.{Seen as Bench, told, answers_of}
 use Rattle.aud_hall.specs.declared.why.Why.{Why}
 use Rattle.aud_hall.specs.Numbered.{at}
 use Rattle.aud_hall.specs.Slices.{given}
-use Rattle.aud_hall.specs.Replies.{Reply, Then}
+use Rattle.aud_hall.specs.Replies.{Then}
 use Rattle.aud_hall.specs.Seats.{Seat, has_closed, claimed, submitting, submitted, taken_in, sends, sending_by, sending, sent, collected}
 use Rattle.aud_hall.specs.CheckIns.{judged, checked}
 use Rattle.aud_hall.specs.Halls.{Place, nobodys, place_at, put_place, with_seat, at_place, at_seat, claiming, freeing, sends_out, sending_place, sending_seat, checking_place, checking_seat}

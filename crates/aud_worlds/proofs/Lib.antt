@@ -1,5 +1,6 @@
 pub mod Numbered
 pub mod Worlds
+pub mod LastTaken
 pub mod Marks
 pub mod Sessions
 pub mod Isolation
