@@ -4,6 +4,7 @@ Loops: the same in each, the first once more with a handler around it that nothi
 whole sessions is taken, of a LOAD alone and of a LOAD with RUNs up to the program's end; the difference is
 the loop. The others time their loops themselves.
 Tasks: steps a second of programs whose tasks loop, in the order of the tasks and by choices.
+Views: requests a second of a session that takes steps of a program with tasks and looks at it after them.
 Memory: the most that a session has that takes all steps of a LOAD, where programs enter and leave frames with arrays; and python3, with
 calls and lists.
 LOADs: the largest source text of several shapes, how the time grows from a quarter of it, and the memory; one of the most lines that
@@ -11,7 +12,7 @@ there may be, of which each read gives a byte, and how the time grows from a qua
 Halls: steps a second of many seats that take turns beside those of one bench, and the memory of a seat at which nothing is to be done.
 Desk: steps a second of the listening program with all seats busy, by several numbers of workers, beside those of one bench.
 Each figure is the median of several processes, which take turns. tools/check calls it.
-usage: benchmark.py PROGRAM WORLDS, or benchmark.py desk PROGRAM
+usage: benchmark.py PROGRAM WORLDS, or benchmark.py desk PROGRAM, or benchmark.py views PROGRAM
 """
 import os
 import shutil
@@ -31,6 +32,7 @@ SOURCE = 32_768  # bytes of the largest source text
 LINES = 32_768  # the most lines of a LOAD
 LINE = 1_000  # bytes that are put on a line, which may have 1,024
 LOADS = 20  # LOADs in a session that times them
+VIEWS = b"RUN 1000\nMOVES\nTASKS\nQUEUES\nVARS 1\nCLOCK\n" * 682  # with a LOAD nearly as many requests as a session may have
 SEATS = 64  # the most that a hall has
 SEAT_STEPS = 500_000  # steps at each of them
 PAIRS = 31  # measures of a hall, each between two of one bench
@@ -443,6 +445,32 @@ def tasks(program):
         print(f"    {name:50}{fast(speeds[0])}   {fast(speeds[1])}")
 
 
+VIEWED = """procedure M is
+Sum : Integer := 0;
+Seen : array (1 .. 8) of Integer;
+task type Adder;
+All_Of : array (1 .. 8) of Adder;
+task body Adder is
+begin loop Sum := Sum + 1; end loop; end Adder;
+begin
+loop Seen (1) := Sum; end loop;
+end M;
+"""
+
+
+def views(program):
+    load = load_of(VIEWED).encode()
+    seconds = []
+    for _ in range(TIMES):
+        alone, _ = measure([program, "--solo"], load)
+        whole, wrote = measure([program, "--solo"], load + VIEWS)
+        if b"- E" in wrote:
+            sys.exit("benchmark: a listing is refused")
+        seconds.append(whole - alone)
+    speed = VIEWS.count(b"\n") / max(median(seconds), 1e-6)
+    print(f"Views: {speed:,.0f} requests a second, one in six of them a RUN of 1,000 steps (wanted: 2,000)")
+
+
 def filled(head, unit, tail, size, joint=""):
     """As many units as fit into a source text of a size, in lines of no more than LINE bytes."""
     text, line, count = head + "\n", "", 0
@@ -695,6 +723,7 @@ def main(program, worlds):
             others["lua5.4"] = Other([lua, script], lambda loop: loop.lua + LUA_LOOP, LUA_LOAD)
         loops(program, others)
         tasks(program)
+        views(program)
         frames(program)
         loads_beside(program, others)
         loads(program)
@@ -705,5 +734,7 @@ def main(program, worlds):
 
 if sys.argv[1] == "desk":
     desk(sys.argv[2])
+elif sys.argv[1] == "views":
+    views(sys.argv[2])
 else:
     main(sys.argv[1], sys.argv[2])

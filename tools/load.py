@@ -155,7 +155,7 @@ def by_chance():
 
 
 def long_ones():
-    """Long runs, long outputs and races."""
+    """Long runs, long outputs, races and listings."""
     by = Random(f"long {SEED}")
     for count in range(1, 12):
         yield f"long: {count} times all steps", (ENDLESS + b"RUN 100000\n" * 11) * count
@@ -163,6 +163,7 @@ def long_ones():
         parts = [b"CHOOSE " + b" ".join(b"%d" % by.randrange(10_000) for _ in range(150)) + b"\nRUN %d\n" % by.randrange(1, 400) for _ in range(count)]
         yield f"long: {count} choices", RACE + b"OUTPUT\n".join(parts) + b"OUTPUT\n"
         yield f"long: {20 * count} loads", (ENDLESS + b"RUN 7\n") * 20 * count
+        yield f"long: {40 * count} looks", RACE + b"RUN 7\nSTEP 1\nMOVES\nTASKS\nVARS 2\nCLOCK\n" * 40 * count
 
 
 def full_ones():

@@ -1,4 +1,5 @@
-"""Writes sessions by chance: a program that the checker takes, and requests that run it in pieces, with choices where it has tasks."""
+"""Writes sessions by chance: a program that the checker takes, and requests that run it in pieces and look at it between them, with
+choices where it has tasks."""
 import random
 
 EXCEPTIONS = ["Constraint_Error", "Program_Error", "Storage_Error", "Tasking_Error"]
@@ -216,19 +217,35 @@ class Writer:
         return lines + [f"end loop{' ' + label if label else ''};"]
 
     def program(self):
+        """Its lines: no string has a space, so any space may be a line's end."""
         seen = []
-        return ["procedure M is"] + self.part(seen, 3) + self.part(seen, 3) + self.body(seen, 3, True, " M")
+        lines = ["procedure M is"] + self.part(seen, 3) + self.part(seen, 3) + self.body(seen, 3, True, " M")
+        return "".join("\n" if it == " " and self.often(0.03) else it for it in "\n".join(lines)).split("\n")
+
+
+def deed(by, with_tasks):
+    kind = by.random()
+    if with_tasks and kind < 0.2:
+        return "CHOOSE " + " ".join(str(by.choice([0, 1, 2, 3, 7, 9_999, by.randrange(10)])) for _ in range(by.randrange(1, 40)))
+    if kind < 0.5:
+        return f"RUN {by.choice([1, 2, 3, by.randrange(1, 30)])}"
+    if kind < 0.95:
+        return f"STEP {by.choice([0, 0, 0, 0, 0, 1, 1, 2, by.randrange(5), 9_999] if with_tasks else [0, 0, 0, 0, 0, 1])}"
+    return by.choice(["RESET", f"ADVANCE {by.choice([0, 1, 250, 1_000_000_000])}"])
+
+
+def look(by):
+    if by.random() < 0.5:
+        return f"VARS {by.choice([0, 1, 1, 1, 1, 2, 2, 3, by.randrange(1, 9), 65, 9_999])}"
+    return by.choice(["MOVES", "MOVES", "TASKS", "TASKS", "QUEUES", "CLOCK"])
 
 
 def requests(by, with_tasks):
-    """Runs in pieces, and choices."""
+    """Steps and runs in pieces, choices, and what is shown between them; then the program to its end."""
     lines = []
-    for _ in range(by.randrange(6)):
-        if with_tasks and by.random() < 0.6:
-            lines.append("CHOOSE " + " ".join(str(by.choice([0, 1, 2, 3, 7, 9_999, by.randrange(10)])) for _ in range(by.randrange(1, 40))))
-        else:
-            lines.append(f"RUN {by.randrange(1, 30)}")
-    return lines + ["RUN 20000", "OUTPUT"] + (["CHOOSE 0"] if with_tasks else []) + ["QUIT"]
+    for _ in range(by.randrange(30)):
+        lines += [deed(by, with_tasks)] + [look(by) for _ in range(by.randrange(4))]
+    return lines + ["RUN 20000", "MOVES", "TASKS", "VARS 1", "VARS 2", "OUTPUT", "CLOCK"] + (["CHOOSE 0"] if with_tasks else []) + ["QUIT"]
 
 
 def session(seed, with_tasks):

@@ -1,42 +1,47 @@
 """Compares the answers of the model with those of sessions that are written down, and with those of `aud --solo` on programs made by
 chance. tools/check calls it, with the program, the first seed and how many seeds to take, and `tasks` where the programs may have tasks."""
+import re
 import subprocess
 import sys
 from pathlib import Path
 
 import chance
-import meaning
+import session
 
 SESSIONS = Path(__file__).resolve().parents[2] / "crates/aud_session_tests/data"
+REPEATED = re.compile(r"\{(\d+) (#?)([^}]*)\}")
+AT_PLACE = re.compile(r"^- E\d\d \d", re.MULTILINE)
 
 
-def sessions(text):
-    """The name of each session, the lines sent, and those of the answers; none of those that repeat or cut lines."""
+def text(line):
+    """What stands behind the sign of a line, as crates/aud_session_tests/src/session.rt reads it."""
+    form = line[:2] if line.startswith(("* ", "- ")) else ""
+    if not form:
+        return line[1:] + "\n"
+    count, _, plain = line[2:].partition(" ") if form == "* " else ("1", "", line[2:])
+    plain = REPEATED.sub(lambda it: int(it[1]) * (chr(int(it[3])) if it[2] else it[3]), plain)
+    return int(count) * (plain + "\n" if form == "* " else plain)
+
+
+def sessions(file):
+    """The name of each session, what is sent and what is answered."""
     found = []
-    for line in text.split("\n"):
+    for line in file.split("\n"):
         if line.startswith("= "):
-            found.append((line[2:], [], []))
-        elif line.startswith(("> ", ">\t")) or line == ">":
-            found[-1][1].append(line[2:])
-        elif line.startswith("< ") or line == "<":
-            found[-1][2].append(line[2:])
+            found.append([line[2:], "", ""])
         elif line.startswith((">", "<")):
-            found[-1][2].append("- E")
+            found[-1][1 if line[0] == ">" else 2] += text(line[1:])
     return found
 
 
-def is_taken(told):
-    """Whether nothing is refused but a budget."""
-    return not any(line.startswith("- E") and line[3:5] not in ("17", "18") for line in told)
-
-
 def compare_sessions():
+    """Those in which no source text is refused at a place."""
     same = other = 0
     for file in sorted(SESSIONS.glob("*.txt")):
         for name, sent, told in sessions(file.read_text(encoding="latin-1")):
-            if not is_taken(told):
+            if AT_PLACE.search(told):
                 continue
-            if meaning.answers(sent) == told:
+            if session.answers(sent) == told:
                 same += 1
             else:
                 other += 1
@@ -50,13 +55,14 @@ def compare_programs(program, first, count, with_tasks):
     for seed in range(first, first + count):
         sent = chance.session(seed, with_tasks)
         sent[-3:-3] = [f"SEAT {seed * 4_999 % 20_000:05}"] * (seed % 3 == 0)
-        wanted = meaning.answers(sent)
-        done = subprocess.run([program, "--solo"], input="".join(line + "\n" for line in sent), capture_output=True, text=True, encoding="latin-1")
-        told = done.stdout.split("\n")[:-1]
-        refused += not is_taken(told[:1])
-        if told != wanted:
+        sent = "".join(line + "\n" for line in sent)
+        wanted = session.answers(sent)
+        done = subprocess.run([program, "--solo"], input=sent, capture_output=True, text=True, encoding="latin-1")
+        refused += done.stdout.startswith("-")
+        if done.stdout != wanted:
             other += 1
-            print(f"seed {seed}: {next((pair for pair in zip(told, wanted) if pair[0] != pair[1]), 'one ends before the other')}")
+            told = zip(done.stdout.split("\n"), wanted.split("\n"))
+            print(f"seed {seed}: {next((pair for pair in told if pair[0] != pair[1]), 'one ends before the other')}")
     print(f"programs: {count - other} alike, {other} not, {refused} refused")
     return other
 

@@ -14,25 +14,33 @@ TOKEN = re.compile(r'\s*(?:(?P<number>\d[\d_]*)|(?P<word>[A-Za-z]\w*)|(?P<string
 
 @dataclass
 class Token:
-    """What it is (number, name, string, mark or end), and its text, names in capitals, reserved words in small letters."""
+    """What it is (number, name, string, mark or end), its text, names in capitals, reserved words in small letters, and its line."""
 
     kind: str
     text: str
+    line: int
 
 
 def tokens(source):
     source = COMMENT.sub(lambda found: found[1] or " ", source).rstrip()
-    at = 0
+    at, line = 0, 1
     while at < len(source):
         found = TOKEN.match(source, at)
+        line += source.count("\n", at, found.end())
         at = found.end()
         kind, text = found.lastgroup, found[found.lastgroup]
         if kind == "word":
             word = text.lower()
-            yield Token("mark", word) if word in RESERVED else Token("name", text.upper())
+            yield Token("mark", word, line) if word in RESERVED else Token("name", text.upper(), line)
         else:
-            yield Token(kind, text)
-    yield Token("end", "")
+            yield Token(kind, text, line)
+    yield Token("end", "", line)
+
+
+class Placed:
+    """A declaration or a statement, with the line of its first token."""
+
+    line = 0
 
 
 @dataclass
@@ -75,14 +83,14 @@ class Binary:
 
 
 @dataclass
-class Objects:
+class Objects(Placed):
     names: list
     subtype: str
     value: object = None
 
 
 @dataclass
-class Arrays:
+class Arrays(Placed):
     names: list
     low: int
     high: int
@@ -90,7 +98,7 @@ class Arrays:
 
 
 @dataclass(eq=False)
-class Exceptions:
+class Exceptions(Placed):
     names: list
 
 
@@ -103,56 +111,63 @@ class Formal:
 
 @dataclass
 class Body:
-    """A declarative part, the statements behind it, and their handlers, each with its choices."""
+    """A declarative part, the statements behind it, and their handlers, each with its choices; the lines of its `begin` and its `end`."""
 
     declarations: list
     statements: list
     handlers: list
+    begin: int
+    end: int
 
 
 @dataclass
-class Procedure:
+class Procedure(Placed):
     name: str
     formals: list
     body: Body
 
 
 @dataclass
-class Task:
+class Task(Placed):
+    """Its body comes later in the same declarative part."""
+
     name: str
     is_type: bool
+    body: "TaskBody" = None
 
 
 @dataclass
-class TaskBody:
+class TaskBody(Placed):
     name: str
     body: Body
 
 
 @dataclass
-class Null:
+class Null(Placed):
     pass
 
 
 @dataclass
-class Assign:
+class Assign(Placed):
     target: Name
     value: object
 
 
 @dataclass
-class Call:
+class Call(Placed):
     name: Name
 
 
 @dataclass
-class If:
+class If(Placed):
+    """Its conditions, each with the statements behind it and the line of its `if` or `elsif`."""
+
     arms: list
     otherwise: list
 
 
 @dataclass
-class Loop:
+class Loop(Placed):
     label: str
     condition: object
     over: object
@@ -161,30 +176,33 @@ class Loop:
 
 @dataclass
 class Range:
+    """With the line of its `for`."""
+
     parameter: str
     backward: bool
     low: object
     high: object
+    line: int
 
 
 @dataclass
-class Block:
+class Block(Placed):
     body: Body
 
 
 @dataclass
-class Exit:
+class Exit(Placed):
     label: str
     condition: object
 
 
 @dataclass
-class Return:
+class Return(Placed):
     pass
 
 
 @dataclass
-class Raise:
+class Raise(Placed):
     name: str
 
 
@@ -208,6 +226,16 @@ class Reader:
 
     def take(self, mark):
         assert self.has(mark), f"{mark} wanted, {self.next()} found"
+
+    def line_of(self, mark):
+        self.take(mark)
+        return self.tokens[self.at - 1].line
+
+    def placed(self, read):
+        line = self.next().line
+        found = read()
+        found.line = line
+        return found
 
     def is_name(self):
         return self.next().kind == "name"
@@ -236,16 +264,20 @@ class Reader:
     def part_and_body(self):
         declarations = []
         while not self.stands("begin"):
-            declarations.append(self.declaration())
+            declarations.append(self.placed(self.declaration))
+        bodies = {it.name: it for it in declarations if isinstance(it, TaskBody)}
+        for it in declarations:
+            if isinstance(it, Task):
+                it.body = bodies[it.name]
         return self.body(declarations)
 
     def body(self, declarations):
-        self.take("begin")
+        begin = self.line_of("begin")
         statements, handlers = self.statements(), self.handlers()
-        self.take("end")
+        end = self.line_of("end")
         self.name_if()
         self.take(";")
-        return Body(declarations, statements, handlers)
+        return Body(declarations, statements, handlers, begin, end)
 
     def handlers(self):
         handlers = []
@@ -332,7 +364,7 @@ class Reader:
     def statements(self):
         statements = []
         while not self.stands("end", "exception", "elsif", "else", "when"):
-            statements.append(self.statement())
+            statements.append(self.placed(self.statement))
         return statements
 
     def statement(self):
@@ -366,24 +398,24 @@ class Reader:
         return Assign(name, self.expression()) if self.has(":=") else Call(name)
 
     def if_statement(self):
-        self.take("if")
-        arms = [self.arm()]
-        while self.has("elsif"):
-            arms.append(self.arm())
+        arms = [self.arm("if")]
+        while self.stands("elsif"):
+            arms.append(self.arm("elsif"))
         otherwise = self.statements() if self.has("else") else []
         self.take("end")
         self.take("if")
         self.take(";")
         return If(arms, otherwise)
 
-    def arm(self):
+    def arm(self, mark):
+        line = self.line_of(mark)
         condition = self.expression()
         self.take("then")
-        return condition, self.statements()
+        return condition, self.statements(), line
 
     def loop(self, label):
         condition = self.expression() if self.has("while") else None
-        over = self.range() if self.has("for") else None
+        over = self.range() if self.stands("for") else None
         self.take("loop")
         statements = self.statements()
         self.take("end")
@@ -393,12 +425,13 @@ class Reader:
         return Loop(label, condition, over, statements)
 
     def range(self):
+        line = self.line_of("for")
         parameter = self.take_name()
         self.take("in")
         backward = self.has("reverse")
         low = self.simple()
         self.take("..")
-        return Range(parameter, backward, low, self.simple())
+        return Range(parameter, backward, low, self.simple(), line)
 
     def name(self):
         name, predefined = self.take_name(), False

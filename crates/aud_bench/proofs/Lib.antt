@@ -1,3 +1,4 @@
+pub mod Asking
 pub mod Benches
 pub mod Fronts
 pub mod Journals
@@ -6,6 +7,7 @@ pub mod Sameness
 pub mod Serving
 pub mod Sessions
 pub mod Standing
+pub mod Times
 pub mod Truths
 pub mod Told
 pub mod Loads

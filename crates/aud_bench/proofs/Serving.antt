@@ -1,29 +1,36 @@
 -- A RUN that is cut into slices comes to what it comes to at once.
 use Rattle.std.specs.Prelude.{min, max, ◌==◌, nat_lt, if◌then◌else◌, ◌⊎◌}
-use Rattle.std.proofs.Common.{◌≡◌, ℕ, ◌+◌, ◌-◌, ◌<◌, ◌≤◌, List, [], length, Option, Some, None, Result, Ok, Err, Bool, true, false, inl, inr, refl, sym, ap, ◌∙◌, subst, arith}
+use Rattle.std.proofs.Common.{◌≡◌, ℕ, ◌+◌, ◌-◌, ◌<◌, ◌≤◌, List, [], length, slice_get, Option, Some, None, Result, Ok, Err, Bool, true, false, inl, inr, refl, sym, ap, ◌∙◌, subst, arith}
 use Rattle.aud_text.specs.declared.refusal.Refusal.TheVariants as refusal
 use Rattle.aud_text.specs.declared.limits.Limits.{Limits}
-use Rattle.aud_text.specs.declared.limits.TheConstants.{STEPS, CHOICES}
+use Rattle.aud_text.specs.declared.limits.TheConstants.{CLOCK, STEPS, CHOICES, WAIT}
 use Rattle.aud_typed.specs.Tree as tree
 use Rattle.aud_typed.specs.Ties.View.{plain_program}
 use Rattle.aud_meaning.specs.declared.state.State.TheVariants as state
 use Rattle.aud_meaning.specs.Configuration.{Item, Configuration}
 use Rattle.aud_meaning.specs.Control.{Controls}
 use Rattle.aud_meaning.specs.Statements.{controls}
-use Rattle.aud_meaning.specs.Run.{moves_in, run, main_raised, supplied}
+use Rattle.aud_meaning.specs.declared.state.Move.{Move}
+use Rattle.aud_meaning.specs.Run.{moves_in, step, run, main_raised, supplied, advanced, opening}
+use Rattle.aud_meaning.specs.Listings.{view}
+use Rattle.aud_meaning.proofs.Limits.Steps.{limits_law}
 use Rattle.aud_meaning.proofs.Counts.{run_moves, run_stays, run_full, run_cut, more_moves, no_moves}
+use Rattle.std.proofs.lemmas.Option.{same_Some}
 use Rattle.aud_tasks.specs.declared.run.Ran.{Ran}
 use Rattle.aud_machine.specs.Shown.{Shown, program_in}
-use Rattle.aud_machine.specs.Shows.{Shows, RunsFrom}
+use Rattle.aud_machine.specs.Shows.{Shows, IfShows, Did, RunsFrom, Takes}
+use Rattle.aud_debug.specs.declared.lines.Lines.{Lines}
+use Rattle.aud_debug.specs.declared.listing.Listing.{Listing}
+use Rattle.aud_debug.specs.Listed.{listed}
 use Rattle.aud_bench.specs.declared.request.Request.{Request}
 use Rattle.aud_bench.specs.declared.request.Request.TheVariants as request
 use Rattle.aud_bench.specs.declared.request.Answer.{Answer}
 use Rattle.aud_bench.specs.declared.request.Answer.TheVariants as answer
-use Rattle.aud_bench.specs.declared.request.Raised.{Raised}
+use Rattle.aud_bench.specs.declared.request.Report.{Report}
 use Rattle.aud_bench.specs.declared.service.Served.{Served}
-use Rattle.aud_bench.specs.Alone.{Loaded, answers_only, named_if, ended_by, report, ran_reply, steps_left, run_reply, load_reply, chosen_reply, choose_reply, output_reply, replied}
+use Rattle.aud_bench.specs.Alone.{Loaded, answers_only, named_if, ended_by, report, ran_reply, steps_left, run_reply, stepped_reply, step_reply, reset_reply, load_reply, chosen_reply, choose_reply, advance_reply, clock_reply, listed_reply, list_reply, output_reply, replied}
 use Rattle.aud_bench.specs.Loading.{program_of}
-use Rattle.aud_bench.specs.Ties.Serving.{Holds, Replies, RepliesAs, UnderWay, ServesBy, Serves, GoesOn}
+use Rattle.aud_bench.specs.Ties.Serving.{Holds, Replies, RepliesAs, RepliesInTime, UnderWay, ServesBy, Serves, GoesOn}
 
 is_none : (n : ℕ) → n ≡ 0 → (n == 0) ≡ true
 is_none n e = ap (λ k. k == 0) e
@@ -57,16 +64,50 @@ pub output_costs : (loaded : Option Loaded) → (output_reply loaded).cost ≡ 1
 output_costs None = refl
 output_costs (Some l) = refl
 
+pub reset_costs : (loaded : Option Loaded) → (reset_reply loaded).cost ≡ 1
+reset_costs None = refl
+reset_costs (Some l) = refl
+
+pub step_costs : (limits : Limits) (n : ℕ) (loaded : Option Loaded) → (step_reply limits n loaded).cost ≡ 1
+step_costs limits n None = refl
+step_costs limits n (Some l) = by (steps_left l.now == 0) (slice_get (moves_in l.program l.now) n)
+  where
+    by : (b : Bool) (o : Option Move) → (if b then answers_only (answer.Refused refusal.StepBudget) (Some l) else stepped_reply limits o l).cost ≡ 1
+    by true o = refl
+    by false None = refl
+    by false (Some move) = omega (arith, (limits_law l.program.plan (controls l.program) limits).counted l.now move)
+
+pub advance_costs : (milliseconds : ℕ) (loaded : Option Loaded) → (advance_reply milliseconds loaded).cost ≡ 1
+advance_costs milliseconds None = refl
+advance_costs milliseconds (Some l) = refl
+
+pub clock_costs : (loaded : Option Loaded) → (clock_reply loaded).cost ≡ 1
+clock_costs None = refl
+clock_costs (Some l) = refl
+
+listed_costs : (o : Option Lines) (l : Loaded) → (listed_reply o l).cost ≡ 1
+listed_costs None l = refl
+listed_costs (Some lines) l = refl
+
+pub list_costs : (listing : Listing) (loaded : Option Loaded) → (list_reply listing loaded).cost ≡ 1
+list_costs listing None = refl
+list_costs listing (Some l) = listed_costs (listed listing (view l.program l.now)) l
+
 -- each request costs a unit at least
 pub costs_some : (limits : Limits) (r : Request) (loaded : Option Loaded) → 1 ≤ (replied limits loaded r).cost
 costs_some limits (request.Load source) loaded = omega (arith, load_costs loaded (program_of limits source))
+costs_some limits request.Reset loaded = omega (arith, reset_costs loaded)
 costs_some limits (request.Run n) None = omega arith
 costs_some limits (request.Run n) (Some l) = by (steps_left l.now == 0)
   where
     by : (b : Bool) → 1 ≤ (if b then answers_only (answer.Refused refusal.StepBudget) (Some l) else ran_reply l (run limits l.program (min n (steps_left l.now)) l.now)).cost
     by true = omega arith
     by false = omega arith
+costs_some limits (request.Step n) loaded = omega (arith, step_costs limits n loaded)
 costs_some limits (request.Choose choices) loaded = omega (arith, choose_costs choices loaded)
+costs_some limits (request.Advance milliseconds) loaded = omega (arith, advance_costs milliseconds loaded)
+costs_some limits request.Clock loaded = omega (arith, clock_costs loaded)
+costs_some limits (request.List listing) loaded = omega (arith, list_costs listing loaded)
 costs_some limits request.Output loaded = omega (arith, output_costs loaded)
 costs_some limits (request.Seat number) loaded = omega arith
 costs_some limits request.Quit loaded = omega arith
@@ -76,12 +117,18 @@ costs_some limits (request.Bad why) loaded = omega arith
 pub of_program : (limits : Limits) (n p units : ℕ) (old : Shown) (served : Served) (after : Option Shown) →
     ((l : Loaded) → UnderWay limits (request.Run n) (Some l) p (Some old) → Serves limits (request.Run n) (Some l) p units served after) →
     GoesOn limits (request.Run n) p units (Some old) served after
-of_program limits n p units old served after each None under = absurd under.is_behind
-of_program limits n p units old served after each (Some l) under = each l under
+of_program limits n p units old served after each None time under = absurd under.is_behind
+of_program limits n p units old served after each (Some l) time under = each l under
 
 -- a request that is answered at once
 pub at_once : (limits : Limits) (r : Request) (loaded : Option Loaded) (done units : ℕ) (machine : Option Shown) (a : Answer) → (replied limits loaded r).cost ≡ 1 → done < (replied limits loaded r).cost → Replies limits a machine (replied limits loaded r) → ServesBy (Some a) limits r loaded done units 1 0 machine
 at_once limits r loaded done units machine a one unanswered replies = (replies, omega (arith, one, unanswered), refl)
+
+pub served_at_once : (limits : Limits) (r asked : Request) → r ≡ asked → (loaded : Option Loaded) (done units : ℕ) (before after : Option Shown) (a : Answer) (s : Served) → s ≡ record { answer = Some a; progress = 0; cost = 1 } → (replied limits loaded asked).cost ≡ 1
+    → (UnderWay limits asked loaded done before → Replies limits a after (replied limits loaded asked)) → UnderWay limits r loaded done before → Serves limits r loaded done units s after
+served_at_once limits r asked is loaded done units before after a s s_is one replies =
+    subst (λ (x : Request). UnderWay limits x loaded done before → Serves limits x loaded done units s after) (sym is)
+    (λ under. subst (λ (x : Served). Serves limits asked loaded done units x after) (sym s_is) (at_once limits asked loaded done units after a one under.unanswered (replies under)))
 
 -- choices for which there is no room, and those that are supplied; so many wait before
 module _ (choices : List ℕ) (old : Shown) (waiting : ℕ) (before : (c : Configuration) → Shows old c → waiting ≡ length c.choices) where
@@ -109,6 +156,114 @@ module _ (choices : List ℕ) (old : Shown) (waiting : ℕ) (before : (c : Confi
             shows = shows;
           };
         })
+
+-- the program begins anew
+pub is_reset : (old new : Shown) → (new.limits ≡ old.limits) × (new.program ≡ old.program) → Shows new (opening (program_in old)) → (limits : Limits) → RepliesAs reset_reply limits (Some old) answer.Done (Some new)
+is_reset old new kept shows limits None holds = absurd holds
+is_reset old new kept shows limits (Some l) holds = record {
+  answer_is = refl;
+  loaded = record {
+    limits_are = kept.0 ∙ holds.limits_are;
+    program_is = ap plain_program kept.1 ∙ holds.program_is;
+    shows = subst (λ program. Shows new (opening program)) holds.program_is shows;
+  };
+}
+
+-- time passes
+pub has_passed : (old new : Shown) (asked some after : ℕ) → (new.limits ≡ old.limits) × (new.program ≡ old.program)
+    → IfShows old (λ c. (c.clock + asked ≤ CLOCK → some ≡ asked) × Shows new (advanced some c)) → IfShows new (λ c. after ≡ c.clock)
+    → asked ≤ WAIT → (limits : Limits) → RepliesInTime (advance_reply asked) limits (Some old) (answer.Clock after) (Some new)
+has_passed old new asked some after kept passes shown brief limits None time holds = absurd holds
+has_passed old new asked some after kept passes shown brief limits (Some l) time holds =
+    let there = passes l.now holds.shows in
+    let all : some ≡ asked = there.0 (omega (arith, brief, time)) in
+    let shows : Shows new (advanced asked l.now) = subst (λ k. Shows new (advanced k l.now)) all there.1 in
+    record {
+      answer_is = ap answer.Clock (shown (advanced asked l.now) shows);
+      loaded = record {
+        limits_are = kept.0 ∙ holds.limits_are;
+        program_is = ap plain_program kept.1 ∙ holds.program_is;
+        shows = shows;
+      };
+    }
+
+-- a move that is asked for by its index
+module _ (n : ℕ) (old : Shown) (steps : ℕ) (before : IfShows old (λ c. steps ≡ c.steps)) where
+  step_by : (limits : Limits) (l : Loaded) (b : Bool) → (steps_left l.now == 0) ≡ b
+      → step_reply limits n (Some l) ≡ (if b then answers_only (answer.Refused refusal.StepBudget) (Some l) else stepped_reply limits (slice_get (moves_in l.program l.now) n) l)
+  step_by limits l b is = ap (λ b. if b then answers_only (answer.Refused refusal.StepBudget) (Some l) else stepped_reply limits (slice_get (moves_in l.program l.now) n) l) is
+
+  pub no_step : STEPS ≤ steps → (limits : Limits) → RepliesAs (step_reply limits n) limits (Some old) (answer.Refused refusal.StepBudget) (Some old)
+  no_step all limits None holds = absurd holds
+  no_step all limits (Some l) holds =
+      let is = is_none (steps_left l.now) (omega (arith, all, before l.now holds.shows)) in
+      subst (λ reply. Replies limits (answer.Refused refusal.StepBudget) (Some old) reply) (sym (step_by limits l true is)) (record { answer_is = refl; loaded = holds })
+
+  module _ (room : steps < STEPS) (new : Shown) where
+    -- there is no such move
+    pub no_move : IfShows old (λ c. Takes old.limits (program_in old) c (slice_get (moves_in (program_in old) c) n) old new None)
+        → (limits : Limits) → RepliesAs (step_reply limits n) limits (Some old) (answer.Refused refusal.NoSuchMove) (Some new)
+    no_move takes limits None holds = absurd holds
+    no_move takes limits (Some l) holds =
+        subst (λ reply. Replies limits (answer.Refused refusal.NoSuchMove) (Some new) reply) (sym (step_by limits l false (is_some (steps_left l.now) (omega (arith, room, before l.now holds.shows)))))
+        (by (slice_get (moves_in l.program l.now) n) taken)
+      where
+        taken : Takes limits l.program l.now (slice_get (moves_in l.program l.now) n) old new None
+        taken =
+            subst (λ bounds. Takes bounds l.program l.now (slice_get (moves_in l.program l.now) n) old new None) holds.limits_are
+            (subst (λ program. Takes old.limits program l.now (slice_get (moves_in program l.now) n) old new None) holds.program_is (takes l.now holds.shows))
+
+        by : (o : Option Move) → Takes limits l.program l.now o old new None → Replies limits (answer.Refused refusal.NoSuchMove) (Some new) (stepped_reply limits o l)
+        by None told = record { answer_is = refl; loaded = subst (λ m. Holds limits m l) (sym told.1) holds }
+        by (Some move) told = absurd (cc (told.1))
+
+    -- it is taken
+    pub is_taken : (ran : Ran) → (new.limits ≡ old.limits) × (new.program ≡ old.program)
+        → IfShows old (λ c. Takes old.limits (program_in old) c (slice_get (moves_in (program_in old) c) n) old new (Some ran))
+        → (told : Report) → IfShows new (λ c. told ≡ record { steps = ran.steps; state = ran.state; raised = ended_by ran.state (named_if (program_in new).plan.exceptions (main_raised c.tasks)) })
+        → (limits : Limits) → RepliesAs (step_reply limits n) limits (Some old) (answer.Ran told) (Some new)
+    is_taken ran kept takes told told_is limits None holds = absurd holds
+    is_taken ran kept takes told told_is limits (Some l) holds =
+        subst (λ reply. Replies limits (answer.Ran told) (Some new) reply) (sym (step_by limits l false (is_some (steps_left l.now) (omega (arith, room, before l.now holds.shows)))))
+        (by (slice_get (moves_in l.program l.now) n) taken)
+      where
+        taken : Takes limits l.program l.now (slice_get (moves_in l.program l.now) n) old new (Some ran)
+        taken =
+            subst (λ bounds. Takes bounds l.program l.now (slice_get (moves_in l.program l.now) n) old new (Some ran)) holds.limits_are
+            (subst (λ program. Takes old.limits program l.now (slice_get (moves_in program l.now) n) old new (Some ran)) holds.program_is (takes l.now holds.shows))
+
+        program_is : program_in new ≡ l.program
+        program_is = ap plain_program kept.1 ∙ holds.program_is
+
+        by : (o : Option Move) → Takes limits l.program l.now o old new (Some ran) → Replies limits (answer.Ran told) (Some new) (stepped_reply limits o l)
+        by None none = absurd (cc (none.0))
+        by (Some move) (other, is, shows, did) =
+            let to : Configuration = step limits l.program l.now move in
+            let same : other ≡ ran = sym (same_Some ran other is) in
+            let done : Did l.program ran l.now to = subst (λ (r : Ran). Did l.program r l.now to) same did in
+            let steps_are : ran.steps ≡ to.steps - l.now.steps = omega (arith, done.steps) in
+            record {
+              answer_is =
+                  ap answer.Ran
+                  (told_is to shows
+                  ∙ ap (λ (p : tree.Program). record { steps = ran.steps; state = ran.state; raised = ended_by ran.state (named_if p.plan.exceptions (main_raised to.tasks)) }) program_is
+                  ∙ ap (λ k. record { steps = k; state = ran.state; raised = ended_by ran.state (named_if l.program.plan.exceptions (main_raised to.tasks)) }) steps_are
+                  ∙ ap (λ s. record { steps = to.steps - l.now.steps; state = s; raised = ended_by s (named_if l.program.plan.exceptions (main_raised to.tasks)) }) done.state);
+              loaded = record { limits_are = kept.0 ∙ holds.limits_are; program_is = program_is; shows = shows };
+            }
+
+-- what is told of a machine leaves it as it is
+pub clock_keeps : (loaded : Option Loaded) → (clock_reply loaded).loaded ≡ loaded
+clock_keeps None = refl
+clock_keeps (Some l) = refl
+
+listed_keeps : (o : Option Lines) (l : Loaded) → (listed_reply o l).loaded ≡ Some l
+listed_keeps None l = refl
+listed_keeps (Some lines) l = refl
+
+pub list_keeps : (listing : Listing) (loaded : Option Loaded) → (list_reply listing loaded).loaded ≡ loaded
+list_keeps listing None = refl
+list_keeps listing (Some l) = listed_keeps (listed listing (view l.program l.now)) l
 
 module _ (limits : Limits) (n p : ℕ) (l : Loaded) (old : Shown) (under : UnderWay limits (request.Run n) (Some l) p (Some old)) where
   abbrev plan : tree.Plan
@@ -208,18 +363,19 @@ module _ (limits : Limits) (n p : ℕ) (l : Loaded) (old : Shown) (under : Under
         let split : whole ≡ (p + now) + on = omega (arith, whole_is, is_now) in
         ap (λ k. run limits l.program k l.now) split ∙ run_cut plan k limits (p + now) on l.now ∙ ap (run limits l.program on) cut ∙ run_stays plan k limits on (run limits l.program now here) none
 
-    pub is_done : (wanted ≤ now) ⊎ (¬ (ran.state ≡ state.More)) → (raised : Option Raised) → raised ≡ ended_by ran.state (named_if l.program.plan.exceptions (main_raised (run limits l.program now here).tasks)) → (cost : ℕ) → cost ≡ max ran.steps 1 → ServesBy (Some (answer.Ran (record { steps = p + ran.steps; state = ran.state; raised = raised }))) limits (request.Run n) (Some l) p units cost 0 (Some new)
-    is_done ends raised raised_is cost cost_is =
+    pub is_done : (wanted ≤ now) ⊎ (¬ (ran.state ≡ state.More)) → (told : Report) → IfShows new (λ c. told ≡ record { steps = p + ran.steps; state = ran.state; raised = ended_by ran.state (named_if (program_in new).plan.exceptions (main_raised c.tasks)) }) → (cost : ℕ) → cost ≡ max ran.steps 1 → ServesBy (Some (answer.Ran told)) limits (request.Run n) (Some l) p units cost 0 (Some new)
+    is_done ends told told_is cost cost_is =
         let to : Configuration = run limits l.program now here in
         let reply : run_reply limits n (Some l) ≡ ran_reply l to = reply_is ∙ ap (ran_reply l) (same_end ends) in
         let steps : p + ran.steps ≡ to.steps - l.now.steps = omega (arith, did.did.steps, under.stepped.steps) in
-        let told : record { steps = p + ran.steps; state = ran.state; raised = raised } ≡ report l.program l.now to =
-        ap (λ k. record { steps = k; state = ran.state; raised = raised }) steps
-        ∙ ap (λ r. record { steps = to.steps - l.now.steps; state = ran.state; raised = r }) raised_is
+        let program_is : program_in new ≡ l.program = ap plain_program kept.1 ∙ under.is_behind.program_is in
+        let is : told ≡ report l.program l.now to =
+        told_is to did.shows
+        ∙ ap (λ (q : tree.Program). record { steps = p + ran.steps; state = ran.state; raised = ended_by ran.state (named_if q.plan.exceptions (main_raised to.tasks)) }) program_is
+        ∙ ap (λ k. record { steps = k; state = ran.state; raised = ended_by ran.state (named_if l.program.plan.exceptions (main_raised to.tasks)) }) steps
         ∙ ap (λ s. record { steps = to.steps - l.now.steps; state = s; raised = ended_by s (named_if l.program.plan.exceptions (main_raised to.tasks)) }) did.did.state in
         let costs : (run_reply limits n (Some l)).cost ≡ max 1 (to.steps - l.now.steps) = ap (λ r. r.cost) reply in (
-          subst (λ r. Replies limits (answer.Ran (record { steps = p + ran.steps; state = ran.state; raised = raised })) (Some new) r) (sym reply)
-              (record { answer_is = ap answer.Ran told; loaded = holds }),
+          subst (λ r. Replies limits (answer.Ran told) (Some new) r) (sym reply) (record { answer_is = ap answer.Ran is; loaded = holds }),
           omega (arith, costs, steps, under.unanswered, cost_is),
           refl,
         )

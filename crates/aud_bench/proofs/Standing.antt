@@ -57,9 +57,14 @@ module _ (limits : Limits) where
 
       by : (r : Request) (loaded : Option Loaded) → IsLoaded limits machine loaded → UnderWay limits r loaded 0 machine
       by (request.Load source) loaded h = record { unanswered = some (request.Load source) loaded; is_behind = h; stepped = tt }
+      by request.Reset loaded h = record { unanswered = some request.Reset loaded; is_behind = h; stepped = tt }
       by (request.Run n) None h = record { unanswered = some (request.Run n) None; is_behind = h; stepped = tt }
       by (request.Run n) (Some l) h = record { unanswered = some (request.Run n) (Some l); is_behind = h; stepped = record { steps = omega arith; room = inl refl } }
+      by (request.Step n) loaded h = record { unanswered = some (request.Step n) loaded; is_behind = h; stepped = tt }
       by (request.Choose choices) loaded h = record { unanswered = some (request.Choose choices) loaded; is_behind = h; stepped = tt }
+      by (request.Advance milliseconds) loaded h = record { unanswered = some (request.Advance milliseconds) loaded; is_behind = h; stepped = tt }
+      by request.Clock loaded h = record { unanswered = some request.Clock loaded; is_behind = h; stepped = tt }
+      by (request.List listing) loaded h = record { unanswered = some (request.List listing) loaded; is_behind = h; stepped = tt }
       by request.Output loaded h = record { unanswered = some request.Output loaded; is_behind = h; stepped = tt }
       by (request.Seat number) loaded h = record { unanswered = some (request.Seat number) loaded; is_behind = h; stepped = tt }
       by request.Quit loaded h = record { unanswered = some request.Quit loaded; is_behind = h; stepped = tt }

@@ -1,17 +1,22 @@
 -- What a private server never answers, and how many answers it gives.
 use Rattle.std.specs.Prelude.{◌==◌, nat_lt, if◌then◌else◌}
-use Rattle.std.proofs.Common.{◌≡◌, ℕ, ◌+◌, ◌≤◌, List, [], ◌∷◌, length, ◌||◌, Option, Some, None, Result, Ok, Err, Bool, true, false, refl, sym, ap, ◌∙◌, arith}
+use Rattle.std.proofs.Common.{◌≡◌, ◌+◌, ◌≤◌, List, [], ◌∷◌, length, slice_get, ◌||◌, Option, Some, None, Result, Ok, Err, Bool, true, false, refl, ap, ◌∙◌, arith}
 use Rattle.std.specs.List.{list_any}
 use Rattle.aud_text.specs.declared.refusal.Refusal.TheVariants as refusal
 use Rattle.aud_text.specs.declared.limits.Limits.{Limits}
 use Rattle.aud_text.specs.declared.limits.TheConstants.{CHOICES}
 use Rattle.aud_typed.specs.Tree as tree
+use Rattle.aud_meaning.specs.declared.state.Move.{Move}
+use Rattle.aud_meaning.specs.Run.{moves_in}
+use Rattle.aud_meaning.specs.Listings.{view}
+use Rattle.aud_debug.specs.declared.lines.Lines.{Lines}
+use Rattle.aud_debug.specs.Listed.{listed}
 use Rattle.aud_bench.specs.declared.request.BadRequest.TheVariants as bad
 use Rattle.aud_bench.specs.declared.request.Request.{Request}
 use Rattle.aud_bench.specs.declared.request.Request.TheVariants as request
 use Rattle.aud_bench.specs.declared.request.Answer.{Answer}
 use Rattle.aud_bench.specs.declared.request.Answer.TheVariants as answer
-use Rattle.aud_bench.specs.Alone.{Loaded, Server, Reply, answers_only, ran_reply, chosen_reply, steps_left, load_reply, replied, is_quit, fits, fresh, kept, answers_after, answers_from, alone}
+use Rattle.aud_bench.specs.Alone.{Loaded, Server, Reply, answers_only, stepped_reply, listed_reply, steps_left, load_reply, replied, is_quit, fits, fresh, kept, answers_after, answers_from, alone}
 use Rattle.aud_bench.specs.Seen.{tells_memory}
 use Rattle.aud_bench.specs.Ties.Kept.{NeverLaw, CountLaw}
 use Rattle.aud_bench.proofs.Loads.{IsOther, program_other}
@@ -31,13 +36,31 @@ choices_other : (b : Bool) (l : Loaded) (reply : Reply) → tells_memory reply.a
 choices_other true l reply h = refl
 choices_other false l reply h = h
 
+step_other : (limits : Limits) (o : Option Move) (l : Loaded) → tells_memory (stepped_reply limits o l).answer ≡ false
+step_other limits None l = refl
+step_other limits (Some move) l = refl
+
+listing_other : (o : Option Lines) (l : Loaded) → tells_memory (listed_reply o l).answer ≡ false
+listing_other None l = refl
+listing_other (Some lines) l = refl
+
 -- no request is answered so
 reply_other : (limits : Limits) (loaded : Option Loaded) (r : Request) → tells_memory (replied limits loaded r).answer ≡ false
 reply_other limits loaded (request.Load source) = load_other loaded _ (program_other limits source)
+reply_other limits None request.Reset = refl
+reply_other limits (Some l) request.Reset = refl
 reply_other limits None (request.Run n) = refl
 reply_other limits (Some l) (request.Run n) = budget_other (steps_left l.now == 0) l _ refl
+reply_other limits None (request.Step n) = refl
+reply_other limits (Some l) (request.Step n) = budget_other (steps_left l.now == 0) l _ (step_other limits (slice_get (moves_in l.program l.now) n) l)
 reply_other limits None (request.Choose choices) = refl
 reply_other limits (Some l) (request.Choose choices) = choices_other (nat_lt CHOICES (length l.now.choices + length choices)) l _ refl
+reply_other limits None (request.Advance milliseconds) = refl
+reply_other limits (Some l) (request.Advance milliseconds) = refl
+reply_other limits None request.Clock = refl
+reply_other limits (Some l) request.Clock = refl
+reply_other limits None (request.List listing) = refl
+reply_other limits (Some l) (request.List listing) = listing_other (listed listing (view l.program l.now)) l
 reply_other limits None request.Output = refl
 reply_other limits (Some l) request.Output = refl
 reply_other limits loaded (request.Seat number) = refl

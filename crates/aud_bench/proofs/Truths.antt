@@ -1,5 +1,5 @@
 -- What the answers of tests say.
-use Rattle.std.specs.Prelude.{nat_le, ◌&&◌, ◌||◌}
+use Rattle.std.specs.Prelude.{nat_le, nat_lt, ◌&&◌, ◌||◌}
 use Rattle.std.proofs.Common.{◌≡◌, ℕ, ◌<◌, ◌≤◌, Bool, true, false, refl, ap, ◌∙◌, arith}
 pub use Rattle.aud_bench.specs.Ties.Sameness.{eq_true, eq_self}
 
@@ -30,6 +30,9 @@ le_false a b h = grind (arith, h)
 
 pub true_le : (a b : ℕ) → nat_le a b ≡ true → a ≤ b
 true_le a b h = grind (arith, h)
+
+pub true_lt : (a b : ℕ) → nat_lt a b ≡ true → a < b
+true_lt a b h = grind (arith, h)
 
 pub false_le : (a b : ℕ) → nat_le a b ≡ false → b < a
 false_le a b h = grind (arith, h)

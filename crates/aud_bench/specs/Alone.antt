@@ -1,5 +1,5 @@
 -- A private server, of one user alone: what it answers to a list of requests, and how many units each costs.
-use Rattle.std.specs.Prelude.{ℕ, ◌+◌, ◌-◌, min, max, List, [], ◌∷◌, length, Option, Some, None, Result, Ok, Err, Bool, true, false, ◌==◌, nat_lt, nat_le, ◌&&◌, ◌||◌, if◌then◌else◌, slice_index_or}
+use Rattle.std.specs.Prelude.{ℕ, ◌+◌, ◌-◌, min, max, List, [], ◌∷◌, length, Option, Some, None, Result, Ok, Err, Bool, true, false, ◌==◌, nat_lt, nat_le, ◌&&◌, ◌||◌, if◌then◌else◌, slice_get, slice_index_or}
 use Rattle.aud_text.specs.declared.refusal.Refusal.{Refusal}
 use Rattle.aud_text.specs.declared.refusal.Refusal.TheVariants as refusal
 use Rattle.aud_text.specs.declared.limits.Limits.{Limits}
@@ -10,7 +10,12 @@ use Rattle.aud_typed.specs.Tree as tree
 use Rattle.aud_meaning.specs.declared.state.State.{State}
 use Rattle.aud_meaning.specs.declared.state.State.TheVariants as state
 use Rattle.aud_meaning.specs.Configuration.{Configuration}
-use Rattle.aud_meaning.specs.Run.{opening, run, state_in, main_raised, supplied}
+use Rattle.aud_meaning.specs.declared.state.Move.{Move}
+use Rattle.aud_meaning.specs.Run.{opening, step, run, moves_in, state_in, main_raised, supplied, advanced}
+use Rattle.aud_meaning.specs.Listings.{view}
+use Rattle.aud_debug.specs.declared.lines.Lines.{Lines}
+use Rattle.aud_debug.specs.declared.listing.Listing.{Listing}
+use Rattle.aud_debug.specs.Listed.{listed}
 use Rattle.aud_bench.specs.declared.request.Raised.{Raised}
 use Rattle.aud_bench.specs.declared.request.Raised.TheVariants.{Predefined, Declared}
 use Rattle.aud_bench.specs.declared.request.Report.{Report}
@@ -48,6 +53,11 @@ abbrev pub load_reply : Result tree.Program Answer → Option Loaded → Reply
 load_reply (Ok program) loaded = answers_only (answer.Loaded program.name) (Some (record { program = program; now = opening program }))
 load_reply (Err refusal) loaded = answers_only refusal loaded
 
+-- a reply by what is loaded; a refusal where nothing is
+abbrev pub if_loaded : (Loaded → Reply) → Option Loaded → Reply
+if_loaded reply None = answers_only (answer.Refused refusal.NoProgram) None
+if_loaded reply (Some loaded) = reply loaded
+
 -- an exception, and the name of one that the program declares
 abbrev pub named : List (List ℕ) → Exception → Raised
 named names (exception.Predefined raise) = Predefined raise
@@ -83,25 +93,53 @@ ran_reply loaded after = record {
 abbrev pub steps_left : Configuration → ℕ
 steps_left c = STEPS - c.steps
 
+-- nothing is done where no step is left
+abbrev pub within_budget : (Loaded → Reply) → Loaded → Reply
+within_budget reply loaded = if steps_left loaded.now == 0 then answers_only (answer.Refused refusal.StepBudget) (Some loaded) else reply loaded
+
 abbrev pub run_reply : Limits → ℕ → Option Loaded → Reply
-run_reply limits n None = answers_only (answer.Refused refusal.NoProgram) None
-run_reply limits n (Some loaded) =
-    if steps_left loaded.now == 0 then answers_only (answer.Refused refusal.StepBudget) (Some loaded)
-    else ran_reply loaded (run limits loaded.program (min n (steps_left loaded.now)) loaded.now)
+run_reply limits n = if_loaded (within_budget (λ loaded. ran_reply loaded (run limits loaded.program (min n (steps_left loaded.now)) loaded.now)))
+
+-- the move is taken, where there is such a one
+abbrev pub stepped_reply : Limits → Option Move → Loaded → Reply
+stepped_reply limits None loaded = answers_only (answer.Refused refusal.NoSuchMove) (Some loaded)
+stepped_reply limits (Some move) loaded = ran_reply loaded (step limits loaded.program loaded.now move)
+
+-- no choice is used
+abbrev pub step_reply : Limits → ℕ → Option Loaded → Reply
+step_reply limits n = if_loaded (within_budget (λ loaded. stepped_reply limits (slice_get (moves_in loaded.program loaded.now) n) loaded))
+
+-- the program begins anew
+abbrev pub reset_reply : Option Loaded → Reply
+reset_reply = if_loaded (λ loaded. answers_only answer.Done (Some (record loaded { now = opening loaded.program })))
 
 abbrev pub chosen_reply : Loaded → Configuration → Reply
 chosen_reply loaded after = answers_only (answer.Choices (length after.choices)) (Some (record loaded { now = after }))
 
 -- choices are supplied all together, where there is room for them behind those that wait
 abbrev pub choose_reply : List ℕ → Option Loaded → Reply
-choose_reply choices None = answers_only (answer.Refused refusal.NoProgram) None
-choose_reply choices (Some loaded) =
+choose_reply choices = if_loaded (λ loaded.
     if nat_lt CHOICES (length loaded.now.choices + length choices) then answers_only (answer.Refused refusal.ChoicesFull) (Some loaded)
-    else chosen_reply loaded (supplied choices loaded.now)
+    else chosen_reply loaded (supplied choices loaded.now))
+
+abbrev pub timed_reply : Loaded → Configuration → Reply
+timed_reply loaded after = answers_only (answer.Clock after.clock) (Some (record loaded { now = after }))
+
+abbrev pub advance_reply : ℕ → Option Loaded → Reply
+advance_reply milliseconds = if_loaded (λ loaded. timed_reply loaded (advanced milliseconds loaded.now))
+
+abbrev pub clock_reply : Option Loaded → Reply
+clock_reply = if_loaded (λ loaded. answers_only (answer.Clock loaded.now.clock) (Some loaded))
+
+abbrev pub listed_reply : Option Lines → Loaded → Reply
+listed_reply None loaded = answers_only (answer.Refused refusal.NoSuchTask) (Some loaded)
+listed_reply (Some lines) loaded = answers_only (answer.Listed lines) (Some loaded)
+
+abbrev pub list_reply : Listing → Option Loaded → Reply
+list_reply listing = if_loaded (λ loaded. listed_reply (listed listing (view loaded.program loaded.now)) loaded)
 
 abbrev pub output_reply : Option Loaded → Reply
-output_reply None = answers_only (answer.Refused refusal.NoProgram) None
-output_reply (Some loaded) = answers_only (answer.Output loaded.now.shared.output) (Some loaded)
+output_reply = if_loaded (λ loaded. answers_only (answer.Output loaded.now.shared.output) (Some loaded))
 
 -- what a malformed request is answered
 abbrev pub refusal_of : BadRequest → Refusal
@@ -112,8 +150,13 @@ refusal_of bad.NotAscii = refusal.NotAscii
 
 abbrev pub replied : Limits → Option Loaded → Request → Reply
 replied limits loaded (request.Load source) = load_reply (program_of limits source) loaded
+replied limits loaded request.Reset = reset_reply loaded
 replied limits loaded (request.Run n) = run_reply limits n loaded
+replied limits loaded (request.Step n) = step_reply limits n loaded
 replied limits loaded (request.Choose choices) = choose_reply choices loaded
+replied limits loaded (request.Advance milliseconds) = advance_reply milliseconds loaded
+replied limits loaded request.Clock = clock_reply loaded
+replied limits loaded (request.List listing) = list_reply listing loaded
 replied limits loaded request.Output = output_reply loaded
 replied limits loaded (request.Seat number) = answers_only (answer.Refused refusal.UnknownCommand) loaded
 replied limits loaded request.Quit = answers_only answer.Done loaded
@@ -122,8 +165,13 @@ replied limits loaded (request.Bad why) = answers_only (answer.Refused (refusal_
 abbrev pub is_quit : Request → Bool
 is_quit request.Quit = true
 is_quit (request.Load source) = false
+is_quit request.Reset = false
 is_quit (request.Run n) = false
+is_quit (request.Step n) = false
 is_quit (request.Choose choices) = false
+is_quit (request.Advance milliseconds) = false
+is_quit request.Clock = false
+is_quit (request.List listing) = false
 is_quit request.Output = false
 is_quit (request.Seat number) = false
 is_quit (request.Bad why) = false

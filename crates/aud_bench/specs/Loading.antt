@@ -13,7 +13,7 @@ use Rattle.aud_fault.specs.declared.fault.Fault.{Fault}
 use Rattle.aud_check.specs.Checked.{checked}
 use Rattle.aud_bench.specs.declared.request.Answer.{Answer}
 use Rattle.aud_bench.specs.declared.request.Answer.TheVariants.{Refused, RefusedAt}
-use Rattle.aud_bench.specs.Size.{line_count}
+use Rattle.aud_text.specs.Lines.{line_count}
 
 -- where a token of this index stands; behind the last one, the line after the last line
 abbrev pub place_by : Option Element → List ℕ → Pos

@@ -4,3 +4,4 @@ pub mod Loads
 pub mod Sameness
 pub mod Serving
 pub mod Standing
+pub mod Times

@@ -77,6 +77,7 @@ impl Model for Bench {
     ghost use Rattle.aud_bench.specs.Ties.Standing.{IsAt, units_done};
     ghost use Rattle.aud_bench.specs.Seen.{Seen, has_quit};
     ghost use Rattle.aud_bench.specs.Ties.Kept.{is_kept};
+    ghost use Rattle.aud_bench.specs.Ties.Times.{are_brief};
     ghost use Rattle.aud_bench.specs.Size.{bytes_of};
 
     ghost Value = { Seen };
@@ -94,7 +95,8 @@ impl Model for Bench {
         × (length b.journal.items < vec_capacity b.answers)
         × (b.quit ≡ false → (b.bytes ≡ bytes_of b.journal.items) × (b.bytes ≤ REQUEST_BYTES))
         × (b.quit ≡ has_quit b.journal.items)
-        × (is_kept b.journal.items ≡ true) };
+        × (is_kept b.journal.items ≡ true)
+        × (are_brief b.journal.items ≡ true) };
 }
 
 impl Bench {

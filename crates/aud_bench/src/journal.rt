@@ -3,25 +3,33 @@
 ghost use Rattle.std.specs.Prelude.{◌≡◌, ◌+◌, ◌*◌, ◌<◌, ◌≤◌, length, All, true, false};
 ghost use Rattle.std.specs.Fmt.{decimal};
 ghost use Rattle.aud_bench.specs.Alone.{is_quit, has_room, fits};
-ghost use Rattle.aud_bench.specs.Size.{numbers_size, size};
+ghost use Rattle.aud_bench.specs.Size.{listing_size, numbers_size, size};
+ghost use Rattle.aud_bench.specs.Ties.Times.{is_brief};
 ghost use Rattle.aud_text.specs.declared.limits.TheConstants.{CHOICE};
 
-use crate::loading::line_count;
 use crate::request::Request;
+use aud_debug::listing::Listing;
 use aud_text::limits::{REQUEST_BYTES, REQUESTS};
+use aud_text::lines::line_count;
 
 /// The bytes that a request takes in the journal: those of its text with single spaces, no leading zeros, and line
 /// feeds; a malformed one takes one.
 pub fn size(request: &Request) -> usize
-    ensures { result ≡ size request.now }
+    ensures size { result ≡ size request.now }
+    ensures brief { is_brief request.now ≡ true }
 {
     match request {
         Request::Load(source) => {
             let source = source.as_bytes();
             6 + digit_count(line_count(source) as u64) + source.len()
         }
+        Request::Reset => 6,
         Request::Run(steps) => 5 + digit_count(u64::from(*steps)),
+        Request::Step(nth) => 6 + digit_count(u64::from(*nth)),
         Request::Choose(choices) => 7 + numbers_size(choices.as_slice()),
+        Request::Advance(wait) => 9 + digit_count(wait.milliseconds()),
+        Request::Clock => 6,
+        Request::List(listing) => listing_size(*listing),
         Request::Output => 7,
         Request::Seat(number) => 6 + digit_count(u64::from(*number)),
         Request::Quit => 5,
@@ -53,6 +61,16 @@ fn has_room(requests: usize, bytes: usize, size: usize) -> bool
     requests < REQUESTS as usize
         && size <= REQUEST_BYTES as usize
         && bytes <= REQUEST_BYTES as usize - size
+}
+
+fn listing_size(listing: Listing) -> usize
+    ensures { result ≡ listing_size listing }
+{
+    match listing {
+        Listing::Moves | Listing::Tasks => 6,
+        Listing::Queues => 7,
+        Listing::Variables(task) => 6 + digit_count(u64::from(task)),
+    }
 }
 
 // The bytes of the numbers of choices, with a space before each.

@@ -9,3 +9,4 @@ pub mod loading;
 pub mod request;
 pub mod service;
 pub mod session;
+pub mod wait;

@@ -7,7 +7,6 @@ ghost use Rattle.aud_lex.specs.Lexed.{lexed};
 ghost use Rattle.aud_syntax.specs.Ties.View.{plain_unit};
 ghost use Rattle.aud_bench.specs.Loading.{after_checking, after_lexing, after_parsing, place_of, program_of};
 ghost use Rattle.aud_bench.specs.Ties.Loads.{Gives};
-ghost use Rattle.aud_bench.specs.Size.{line_count};
 ghost use Rattle.aud_check.specs.Checked as rules;
 ghost use Rattle.aud_parse.specs.Ties.Gives as parses;
 ghost use Rattle.aud_grammar.specs.Parsed as syntax;
@@ -24,6 +23,7 @@ use aud_lex::token::Token;
 use aud_parse::{SyntaxFault, parse};
 use aud_syntax::tree::Unit;
 use aud_text::limits::Limits;
+use aud_text::lines::line_count;
 use aud_text::place::Pos;
 use aud_text::refusal::Refusal;
 use aud_typed::program::Program;
@@ -111,11 +111,4 @@ fn place_of(source: &[u8], tokens: &[Token], index: usize) -> Pos
             col: 1,
         },
     }
-}
-
-/// How many line feeds the text has.
-pub fn line_count(source: &[u8]) -> usize
-    ensures { result ≡ line_count source.now }
-{
-    source.iter().filter(|byte| **byte == b'\n').count()
 }

@@ -7,6 +7,9 @@ ghost use Rattle.aud_bench.specs.Same.{same_request};
 ghost use Rattle.aud_bench.specs.Ties.Sameness.{same_requests};
 
 use crate::choices::Choices;
+use crate::wait::Wait;
+use aud_debug::lines::Lines;
+use aud_debug::listing::Listing;
 use aud_meaning::state::State;
 use aud_text::name::Name;
 use aud_text::place::Pos;
@@ -20,10 +23,20 @@ use std::alloc::{AllocError, Global};
 pub enum Request {
     /// Take this source text: its lines, each followed by a line feed.
     Load(Text),
+    /// Begin the program anew.
+    Reset,
     /// Do this many steps, or as many as can be done.
     Run(u32),
+    /// Take the enabled move of this index. No choice is used.
+    Step(u32),
     /// Let these choices wait behind those that wait already.
     Choose(Choices),
+    /// Let the clock of the program go on.
+    Advance(Wait),
+    /// Tell the time on that clock.
+    Clock,
+    /// List what is shown of the program between two steps.
+    List(Listing),
     /// Tell what the program has put out.
     Output,
     /// Claim the seat of this number. A private server has no seats, and knows no such command.
@@ -45,8 +58,13 @@ impl Request {
     {
         match self {
             Request::Load(source) => Ok(Request::Load(source.try_clone(alloc)?)),
+            Request::Reset => Ok(Request::Reset),
             Request::Run(steps) => Ok(Request::Run(*steps)),
+            Request::Step(nth) => Ok(Request::Step(*nth)),
             Request::Choose(choices) => Ok(Request::Choose(choices.try_clone(alloc)?)),
+            Request::Advance(wait) => Ok(Request::Advance(*wait)),
+            Request::Clock => Ok(Request::Clock),
+            Request::List(listing) => Ok(Request::List(*listing)),
             Request::Output => Ok(Request::Output),
             Request::Seat(number) => Ok(Request::Seat(*number)),
             Request::Quit => Ok(Request::Quit),
@@ -65,11 +83,17 @@ impl PartialEq for Request {
         match (self, other) {
             (Request::Load(source), Request::Load(text)) => source.as_bytes() == text.as_bytes(),
             (Request::Run(steps), Request::Run(number)) => *steps == *number,
+            (Request::Step(nth), Request::Step(number)) => *nth == *number,
+            (Request::Advance(wait), Request::Advance(time)) => *wait == *time,
+            (Request::List(listing), Request::List(other)) => *listing == *other,
             (Request::Seat(seat), Request::Seat(number)) => *seat == *number,
             (Request::Choose(choices), Request::Choose(numbers)) => {
                 choices.as_slice() == numbers.as_slice()
             }
-            (Request::Output, Request::Output) | (Request::Quit, Request::Quit) => true,
+            (Request::Reset, Request::Reset)
+            | (Request::Clock, Request::Clock)
+            | (Request::Output, Request::Output)
+            | (Request::Quit, Request::Quit) => true,
             (Request::Bad(why), Request::Bad(reason)) => *why == *reason,
             _ => false,
         }
@@ -130,7 +154,7 @@ impl Raised {
     }
 }
 
-/// What came of a RUN: the steps done, what can happen next, and the exception that ended the program.
+/// What came of a RUN or a STEP: the steps done, what can happen next, and the exception that ended the program.
 #[derive(Drop)]
 pub struct Report {
     pub steps: u32,
@@ -172,6 +196,10 @@ pub enum Answer {
     Ran(Report),
     /// How many choices wait.
     Choices(usize),
+    /// The time on the clock of the program, in milliseconds.
+    Clock(u64),
+    /// What is listed.
+    Listed(Lines),
     /// What the program has put out.
     Output(Text),
     Done,
@@ -193,6 +221,8 @@ impl Answer {
             Answer::Loaded(name) => Ok(Answer::Loaded(name.try_clone(alloc)?)),
             Answer::Ran(report) => Ok(Answer::Ran(report.try_clone(alloc)?)),
             Answer::Choices(count) => Ok(Answer::Choices(*count)),
+            Answer::Clock(milliseconds) => Ok(Answer::Clock(*milliseconds)),
+            Answer::Listed(lines) => Ok(Answer::Listed(lines.try_clone(alloc)?)),
             Answer::Output(text) => Ok(Answer::Output(text.try_clone(alloc)?)),
             Answer::Done => Ok(Answer::Done),
             Answer::Refused(refusal) => Ok(Answer::Refused(*refusal)),

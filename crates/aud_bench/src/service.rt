@@ -4,17 +4,23 @@ ghost use Rattle.std.specs.Prelude.{◌≡◌, ◌≤◌, min, true, false, Opti
 ghost use Rattle.aud_typed.specs.declared.program.Program.{Program as Programs};
 ghost use Rattle.aud_typed.specs.Ties.View.{plain_program};
 ghost use Rattle.aud_meaning.specs.declared.state.State.TheVariants as states;
+ghost use Rattle.aud_meaning.specs.Run.{main_raised};
+ghost use Rattle.aud_machine.specs.Shown.{program_in};
+ghost use Rattle.aud_machine.specs.Shows.{IfShows};
 ghost use Rattle.aud_text.specs.declared.limits.Limits.{Limits as Bounds};
 ghost use Rattle.aud_bench.specs.declared.request.Request.TheVariants as asked;
 ghost use Rattle.aud_bench.specs.Loading.{program_of};
-ghost use Rattle.aud_bench.specs.Alone.{Loaded, named, named_if, ended_by, load_reply, choose_reply, output_reply, replied};
-ghost use Rattle.aud_bench.specs.Ties.Serving.{IsLoaded, RepliesAs, GoesOn};
+ghost use Rattle.aud_bench.specs.Alone.{Loaded, named, named_if, ended_by, load_reply, reset_reply, step_reply, choose_reply, advance_reply, clock_reply, listed_reply, list_reply, output_reply, replied};
+ghost use Rattle.aud_bench.specs.Ties.Serving.{IsLoaded, RepliesAs, RepliesInTime, GoesOn};
 
 use crate::loading::{LoadFault, load};
 use crate::request::{Answer, Raised, Report, Request};
+use crate::wait::Wait;
+use aud_debug::lines::Lines;
+use aud_debug::listing::{Listing, list};
 use aud_machine::machine::Machine;
 use aud_meaning::state::State;
-use aud_text::limits::{CHOICES, Limits, STEPS};
+use aud_text::limits::{CHOICES, CLOCK, Limits, STEPS};
 use aud_text::name::Name;
 use aud_text::refusal::Refusal;
 use aud_text::text::Text;
@@ -49,11 +55,16 @@ pub fn serve(
 {
     match request {
         Request::Load(source) => Ok(answered(take(alloc, limits, machine, source.as_bytes())?)),
+        Request::Reset => Ok(answered(reset(alloc, machine)?)),
         Request::Run(steps) => match machine {
             None => Ok(answered(Answer::Refused(Refusal::NoProgram))),
             Some(machine) => run(alloc, machine, *steps, progress, units),
         },
+        Request::Step(nth) => Ok(answered(step(alloc, machine, *nth)?)),
         Request::Choose(choices) => Ok(answered(choose(machine, choices.as_slice())?)),
+        Request::Advance(wait) => Ok(answered(advance(machine, *wait))),
+        Request::Clock => Ok(answered(clock(machine))),
+        Request::List(listing) => Ok(answered(listed(alloc, machine, *listing)?)),
         Request::Output => Ok(answered(output(alloc, machine)?)),
         Request::Seat(_) => Ok(answered(Answer::Refused(Refusal::UnknownCommand))),
         Request::Quit => Ok(answered(Answer::Done)),
@@ -68,7 +79,7 @@ pub fn answer(
     machine: &mut Option<Machine>,
     request: &Request,
 ) -> Result<Answer, AllocError>
-    ensures { IfOk result (λ answer. RepliesAs (λ loaded. replied limits loaded request.now)
+    ensures { IfOk result (λ answer. RepliesInTime (λ loaded. replied limits loaded request.now)
         limits machine.old answer machine.new) }
 {
     let Served {
@@ -132,6 +143,48 @@ fn replace(machine: &mut Option<Machine>, new: Option<Machine>)
     *machine = new;
 }
 
+fn reset(alloc: Global, machine: &mut Option<Machine>) -> Result<Answer, AllocError>
+    ensures { IfOk result (λ answer. (bounds : Bounds) →
+        RepliesAs reset_reply bounds machine.old answer machine.new) }
+{
+    match machine {
+        None => Ok(Answer::Refused(Refusal::NoProgram)),
+        Some(machine) => begin_anew(alloc, machine),
+    }
+}
+
+fn begin_anew(alloc: Global, machine: &mut Machine) -> Result<Answer, AllocError>
+    ensures { IfOk result (λ answer. (bounds : Bounds) →
+        RepliesAs reset_reply bounds (Some machine.old) answer (Some machine.new)) }
+{
+    machine.reset(alloc)?;
+    Ok(Answer::Done)
+}
+
+fn step(alloc: Global, machine: &mut Option<Machine>, nth: u32) -> Result<Answer, AllocError>
+    ensures { IfOk result (λ answer. (bounds : Bounds) →
+        RepliesAs (step_reply bounds nth) bounds machine.old answer machine.new) }
+{
+    match machine {
+        None => Ok(Answer::Refused(Refusal::NoProgram)),
+        Some(machine) => take_move(alloc, machine, nth),
+    }
+}
+
+// The enabled move of this index, where the LOAD has a step left.
+fn take_move(alloc: Global, machine: &mut Machine, nth: u32) -> Result<Answer, AllocError>
+    ensures { IfOk result (λ answer. (bounds : Bounds) →
+        RepliesAs (step_reply bounds nth) bounds (Some machine.old) answer (Some machine.new)) }
+{
+    if machine.steps() >= STEPS {
+        return Ok(Answer::Refused(Refusal::StepBudget));
+    }
+    let Some(ran) = machine.take(alloc, nth as usize)? else {
+        return Ok(Answer::Refused(Refusal::NoSuchMove));
+    };
+    Ok(Answer::Ran(report(alloc, machine, ran.steps, ran.state)?))
+}
+
 fn choose(machine: &mut Option<Machine>, choices: &[u32]) -> Result<Answer, AllocError>
     ensures { IfOk result (λ answer. (bounds : Bounds) →
         RepliesAs (choose_reply choices.now) bounds machine.old answer machine.new) }
@@ -153,6 +206,55 @@ fn supply(machine: &mut Machine, choices: &[u32]) -> Result<Answer, AllocError>
     }
     machine.choose(choices)?;
     Ok(Answer::Choices(machine.choices()))
+}
+
+fn advance(machine: &mut Option<Machine>, wait: Wait) -> Answer
+    ensures { (bounds : Bounds) →
+        RepliesInTime (advance_reply wait) bounds machine.old result machine.new }
+{
+    match machine {
+        None => Answer::Refused(Refusal::NoProgram),
+        Some(machine) => let_pass(machine, wait),
+    }
+}
+
+// A session ends before its clock does: there is room for all that it may ask.
+fn let_pass(machine: &mut Machine, wait: Wait) -> Answer
+    ensures { (bounds : Bounds) →
+        RepliesInTime (advance_reply wait) bounds (Some machine.old) result (Some machine.new) }
+{
+    let room = CLOCK - machine.clock();
+    machine.advance(wait.milliseconds().min(room));
+    Answer::Clock(machine.clock())
+}
+
+fn clock(machine: &Option<Machine>) -> Answer
+    ensures { (bounds : Bounds) → (loaded : Option Loaded) →
+        IsLoaded bounds machine.now loaded → result ≡ (clock_reply loaded).answer }
+{
+    match machine {
+        None => Answer::Refused(Refusal::NoProgram),
+        Some(machine) => Answer::Clock(machine.clock()),
+    }
+}
+
+fn listed(alloc: Global, machine: &Option<Machine>, listing: Listing) -> Result<Answer, AllocError>
+    ensures { IfOk result (λ answer. (bounds : Bounds) → (loaded : Option Loaded) →
+        IsLoaded bounds machine.now loaded → answer ≡ (list_reply listing loaded).answer) }
+{
+    match machine {
+        None => Ok(Answer::Refused(Refusal::NoProgram)),
+        Some(machine) => Ok(with_lines(list(machine, alloc, listing)?)),
+    }
+}
+
+fn with_lines(lines: Option<Lines>) -> Answer
+    ensures { (loaded : Loaded) → result ≡ (listed_reply lines loaded).answer }
+{
+    match lines {
+        None => Answer::Refused(Refusal::NoSuchTask),
+        Some(lines) => Answer::Listed(lines),
+    }
 }
 
 fn output(alloc: Global, machine: &Option<Machine>) -> Result<Answer, AllocError>
@@ -197,13 +299,9 @@ fn run(
             cost: units,
         });
     }
-    let raised = named_if(alloc, &machine.program().exceptions, machine.raised())?;
+    let report = report(alloc, machine, done, ran.state)?;
     Ok(Served {
-        answer: Some(Answer::Ran(Report {
-            steps: done,
-            state: ran.state,
-            raised: ended_by(ran.state, raised),
-        })),
+        answer: Some(Answer::Ran(report)),
         progress: 0,
         cost: u64::from(ran.steps.max(1)),
     })
@@ -228,6 +326,23 @@ fn within(steps: u32, units: u64) -> u32
         Ok(units) => steps.min(units),
         Err(_) => steps,
     }
+}
+
+// What is told of so many steps that led to this state.
+fn report(alloc: Global, machine: &Machine, steps: u32, state: State) -> Result<Report, AllocError>
+    ensures { IfOk result (λ report. IfShows machine.now (λ c. report ≡ record {
+      steps = steps;
+      state = state;
+      raised = ended_by state (named_if (program_in machine.now).plan.exceptions
+          (main_raised c.tasks));
+    })) }
+{
+    let raised = named_if(alloc, &machine.program().exceptions, machine.raised())?;
+    Ok(Report {
+        steps,
+        state,
+        raised: ended_by(state, raised),
+    })
 }
 
 // The exception that ended the program.

@@ -34,8 +34,13 @@ refused_more (x ∷ asked) (u ∷ told) r t (h, hs) k = (h, refused_more asked t
 -- what is no SEAT is refused so
 pub other_refused : (r : Request) → ((number : ℕ) → r ≡ request.Seat number → ⊥) → IsRefused r (Faulted NotClaimed)
 other_refused (request.Load source) other = refl
+other_refused request.Reset other = refl
 other_refused (request.Run steps) other = refl
+other_refused (request.Step n) other = refl
 other_refused (request.Choose choices) other = refl
+other_refused (request.Advance milliseconds) other = refl
+other_refused request.Clock other = refl
+other_refused (request.List listing) other = refl
 other_refused request.Output other = refl
 other_refused (request.Seat number) other = absurd (other number refl)
 other_refused request.Quit other = refl

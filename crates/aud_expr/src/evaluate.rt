@@ -1,8 +1,9 @@
 // One instruction after the other, up to the ending of the step.
 
-ghost use Rattle.std.specs.Prelude.{◌≡◌, ◌+◌, ◌<◌, ◌≤◌, IfOk};
+ghost use Rattle.std.specs.Prelude.{◌≡◌, ◌+◌, ◌<◌, ◌≤◌, is_ok, IfOk};
 ghost use Rattle.aud_code.specs.Sound.{counts_of, IsStart};
 ghost use Rattle.aud_code.specs.View.{plain_instruction};
+ghost use Rattle.aud_expr.specs.declared.flow.Flow.TheVariants.{Passes};
 ghost use Rattle.aud_expr.specs.Flow.{InSight, FindsOperands, Acts, ended, evaluated_at, ReachesEnd, FitsEnd};
 ghost use Rattle.aud_expr.specs.Size.{size};
 ghost use Rattle.aud_expr.specs.Ticks.{ticks_at};
@@ -55,37 +56,45 @@ pub fn eval_step<F: Facts>(
 {
     *ticks += 1;
     match instruction {
-        Instruction::Push(value) => operands.push(*value)?,
-        Instruction::Load(variable) => operands.push(value_of(*variable, display, frames))?,
-        Instruction::LoadElement(array) => return load_element(*array, display, frames, operands),
-        Instruction::OnOne(operator) => return on_one(*operator, operands),
-        Instruction::OnTwo(operator) => return on_two(*operator, operands),
-        Instruction::Check(subtype) => return check(*subtype, operands),
-        Instruction::Cell => cell(operands)?,
-        Instruction::PushTruth(value) => operands.push_truth(*value)?,
-        Instruction::Truth => truth(operands)?,
-        Instruction::Negate => negate(operands)?,
-        Instruction::Relate(relation) => relate(*relation, operands)?,
-        Instruction::Compare(relation) => compare(*relation, operands)?,
-        Instruction::Combine(operator) => combine(*operator, operands)?,
-        Instruction::IsCallable => is_callable(facts, operands)?,
-        Instruction::IsTerminated => is_terminated(facts, operands)?,
-        Instruction::PassIfFalse(count) => return pass_if(false, *count, operands),
-        Instruction::PassIfTrue(count) => return pass_if(true, *count, operands),
+        Instruction::Push(value) => passes(operands.push(*value)),
+        Instruction::Load(variable) => passes(operands.push(value_of(*variable, display, frames))),
+        Instruction::LoadElement(array) => load_element(*array, display, frames, operands),
+        Instruction::OnOne(operator) => on_one(*operator, operands),
+        Instruction::OnTwo(operator) => on_two(*operator, operands),
+        Instruction::Check(subtype) => check(*subtype, operands),
+        Instruction::Cell => passes(cell(operands)),
+        Instruction::PushTruth(value) => passes(operands.push_truth(*value)),
+        Instruction::Truth => passes(truth(operands)),
+        Instruction::Negate => passes(negate(operands)),
+        Instruction::Relate(relation) => passes(relate(*relation, operands)),
+        Instruction::Compare(relation) => passes(compare(*relation, operands)),
+        Instruction::Combine(operator) => passes(combine(*operator, operands)),
+        Instruction::IsCallable => passes(is_callable(facts, operands)),
+        Instruction::IsTerminated => passes(is_terminated(facts, operands)),
+        Instruction::PassIfFalse(count) => pass_if(false, *count, operands),
+        Instruction::PassIfTrue(count) => pass_if(true, *count, operands),
         Instruction::Find(variable, subtype) => {
-            operands.push_target(target_of(*variable, *subtype, display))?
+            passes(operands.push_target(target_of(*variable, *subtype, display)))
         }
         Instruction::FindElement(array, subtype) => {
-            return find_element(*array, *subtype, display, frames, operands);
+            find_element(*array, *subtype, display, frames, operands)
         }
-        Instruction::LoadFound => load_found(frames, operands)?,
-        Instruction::Pass => pass(operands)?,
-        Instruction::PassCopy(formal) => pass_copy(*formal, operands)?,
-        Instruction::AppendText(text) => operands.append(text.as_bytes())?,
-        Instruction::AppendImage => append_image(operands)?,
-        Instruction::AppendTruth => append_truth(operands)?,
-        Instruction::AppendNewLine => operands.append(b"\n")?,
+        Instruction::LoadFound => passes(load_found(frames, operands)),
+        Instruction::Pass => passes(pass(operands)),
+        Instruction::PassCopy(formal) => passes(pass_copy(*formal, operands)),
+        Instruction::AppendText(text) => passes(operands.append(text.as_bytes())),
+        Instruction::AppendImage => passes(append_image(operands)),
+        Instruction::AppendTruth => passes(append_truth(operands)),
+        Instruction::AppendNewLine => passes(operands.append(b"\n")),
     }
+}
+
+// Behind an instruction that passes no other one.
+fn passes(done: Result<(), AllocError>) -> Result<Flow, AllocError>
+    ensures passes { IfOk result (λ flow. flow ≡ Passes 0) }
+    ensures alike { is_ok result ≡ is_ok done }
+{
+    done?;
     Ok(Flow::Passes(0))
 }
 

@@ -5,5 +5,6 @@ pub mod Lines
 pub mod Elaborations
 pub mod Activations
 pub mod Constructs
+pub mod Counted
 pub mod Arguments
 pub mod Units

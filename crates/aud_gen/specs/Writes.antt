@@ -1,5 +1,5 @@
 -- What is written of the statements and bodies of a program in memory.
-use Rattle.std.specs.Prelude.{◌≡◌, ℕ, suc, ◌+◌, List, [], ◌∷◌, ◌++◌, length, map, Option, None, Some, Bool, true, false, if◌then◌else◌, Result, OnOk}
+use Rattle.std.specs.Prelude.{◌≡◌, ℕ, suc, ◌+◌, ◌-◌, ◌^◌, min, List, [], ◌∷◌, ◌++◌, length, map, Option, None, Some, Bool, true, false, if◌then◌else◌, Result, OnOk}
 use Rattle.std.specs.declared.alloc.AllocError.{AllocError}
 use Rattle.aud_text.specs.declared.place.Pos.{Pos}
 use Rattle.aud_typed.specs.Tree as tree
@@ -24,6 +24,10 @@ use Rattle.aud_layout.specs.Assembly.{within_moved, step_lines}
 use Rattle.aud_layout.specs.Written.{flat_step, written, written_bodies}
 
 -- Lengths.
+
+-- a length as it is counted, which stops at the largest number
+abbrev pub counted : ℕ → ℕ
+counted n = min n (2 ^ 64 - 1)
 
 -- the condition of an arm, its step, its statements
 abbrev pub arm_length : Arm → ℕ → ℕ

@@ -8,7 +8,7 @@ ghost use Rattle.aud_layout.specs.Instructions.{argument_code, arguments_code, c
 ghost use Rattle.aud_layout.specs.Instructions.{integer_code, task_code, condition_code, value_code, reference_code, text_code};
 ghost use Rattle.aud_gen.specs.Writes.{right_code, Writes};
 
-use crate::lengths::boolean_length;
+use crate::lengths::{boolean_length, exact};
 use crate::writer::{Writer, Written};
 use aud_code::instruction::Instruction;
 use aud_meaning::values::nearest_zero;
@@ -119,11 +119,11 @@ impl Writer {
                 self.instruct(Instruction::Combine(operator))
             }
             Connective::AndThen => {
-                self.instruct(Instruction::PassIfFalse(boolean_length(e)?))?;
+                self.instruct(Instruction::PassIfFalse(exact(boolean_length(e))?))?;
                 self.write_boolean(e)
             }
             Connective::OrElse => {
-                self.instruct(Instruction::PassIfTrue(boolean_length(e)?))?;
+                self.instruct(Instruction::PassIfTrue(exact(boolean_length(e))?))?;
                 self.write_boolean(e)
             }
         }

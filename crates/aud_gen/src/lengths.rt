@@ -1,6 +1,6 @@
-// How many lines each part of a program becomes.
+// How many lines each part of a program becomes. Those of expressions stop at the largest number.
 
-ghost use Rattle.std.specs.Prelude.{◌≡◌, ◌+◌, ℕ, length, IfOk};
+ghost use Rattle.std.specs.Prelude.{◌≡◌, ◌+◌, ◌^◌, ◌-◌, ◌<◌, ℕ, length, IfOk};
 ghost use Rattle.aud_typed.specs.Tree.{part_of};
 ghost use Rattle.aud_typed.specs.Ties.View.{plain_argument, plain_arguments};
 ghost use Rattle.aud_typed.specs.Ties.View.{plain_integer, plain_task, plain_boolean, plain_value, plain_reference, plain_text, plain_statement, plain_statements, statements_in, if_in, for_in, handlers_in, elaborations_in, body_in, block_in};
@@ -9,7 +9,7 @@ ghost use Rattle.aud_layout.specs.Instructions.{argument_code, arguments_code, c
 ghost use Rattle.aud_layout.specs.Instructions.{integer_code, task_code, condition_code, value_code, reference_code, text_code};
 ghost use Rattle.aud_layout.specs.Layout.{statement_size_by, part_size_by, handlers_size_by, body_size_by, end_place_by};
 ghost use Rattle.aud_layout.specs.Written.{flat_step};
-ghost use Rattle.aud_gen.specs.Writes.{arm_length};
+ghost use Rattle.aud_gen.specs.Writes.{arm_length, counted};
 
 use aud_layout::sum::sum;
 use aud_typed::program::{
@@ -19,109 +19,117 @@ use aud_typed::program::{
 use std::alloc::AllocError;
 
 /// Of an expression of type Integer.
-pub fn integer_length(e: &IntegerExpression) -> Result<usize, AllocError>
-    ensures { IfOk result (λ n. n ≡ length (integer_code (plain_integer e.now))) }
+pub fn integer_length(e: &IntegerExpression) -> usize
+    ensures { result ≡ counted (length (integer_code (plain_integer e.now))) }
 {
     match e {
-        IntegerExpression::Number(_) => Ok(1),
-        IntegerExpression::Variable(_) => Ok(1),
-        IntegerExpression::Element(_, index) => sum(integer_length(index)?, 1),
-        IntegerExpression::Unary(_, x) => sum(integer_length(x)?, 1),
+        IntegerExpression::Number(_) => 1,
+        IntegerExpression::Variable(_) => 1,
+        IntegerExpression::Element(_, index) => integer_length(index).saturating_add(1),
+        IntegerExpression::Unary(_, x) => integer_length(x).saturating_add(1),
         IntegerExpression::Chain(first, rest) => {
-            let mut total = integer_length(first)?;
+            let mut total = integer_length(first);
             for next in rest {
-                total = sum(sum(total, integer_length(&next.right)?)?, 1)?;
+                total = total
+                    .saturating_add(integer_length(&next.right))
+                    .saturating_add(1);
             }
-            Ok(total)
+            total
         }
     }
 }
 
 /// Of the name of a task.
-fn task_length(t: &TaskName) -> Result<usize, AllocError>
-    ensures { IfOk result (λ n. n ≡ length (task_code (plain_task t.now))) }
+fn task_length(t: &TaskName) -> usize
+    ensures { result ≡ counted (length (task_code (plain_task t.now))) }
 {
     match t {
-        TaskName::Single(_) => Ok(1),
-        TaskName::Element(_, index) => sum(integer_length(index)?, 1),
+        TaskName::Single(_) => 1,
+        TaskName::Element(_, index) => integer_length(index).saturating_add(1),
     }
 }
 
 /// Of an expression of type Boolean.
-pub fn boolean_length(e: &BooleanExpression) -> Result<usize, AllocError>
-    ensures { IfOk result (λ n. n ≡ length (condition_code (plain_boolean e.now))) }
+pub fn boolean_length(e: &BooleanExpression) -> usize
+    ensures { result ≡ counted (length (condition_code (plain_boolean e.now))) }
 {
     match e {
-        BooleanExpression::Truth(_) => Ok(1),
-        BooleanExpression::Variable(_) => Ok(2),
-        BooleanExpression::Element(_, index) => sum(integer_length(index)?, 2),
-        BooleanExpression::Not(x) => sum(boolean_length(x)?, 1),
+        BooleanExpression::Truth(_) => 1,
+        BooleanExpression::Variable(_) => 2,
+        BooleanExpression::Element(_, index) => integer_length(index).saturating_add(2),
+        BooleanExpression::Not(x) => boolean_length(x).saturating_add(1),
         BooleanExpression::Relation(_, x, y) => {
-            sum(sum(integer_length(x)?, integer_length(y)?)?, 1)
+            integer_length(x)
+                .saturating_add(integer_length(y))
+                .saturating_add(1)
         }
         BooleanExpression::Comparison(_, x, y) => {
-            sum(sum(boolean_length(x)?, boolean_length(y)?)?, 1)
+            boolean_length(x)
+                .saturating_add(boolean_length(y))
+                .saturating_add(1)
         }
         BooleanExpression::Chain(_, first, rest) => {
-            let mut total = boolean_length(first)?;
+            let mut total = boolean_length(first);
             for next in rest {
-                total = sum(sum(total, boolean_length(next)?)?, 1)?;
+                total = total.saturating_add(boolean_length(next)).saturating_add(1);
             }
-            Ok(total)
+            total
         }
-        BooleanExpression::Callable(task) => sum(task_length(task)?, 1),
-        BooleanExpression::Terminated(task) => sum(task_length(task)?, 1),
+        BooleanExpression::Callable(task) => task_length(task).saturating_add(1),
+        BooleanExpression::Terminated(task) => task_length(task).saturating_add(1),
     }
 }
 
 /// Of a value for a place that asks for a subtype.
-pub fn value_length(e: &ValueExpression) -> Result<usize, AllocError>
-    ensures { IfOk result (λ n. n ≡ length (value_code (plain_value e.now))) }
+pub fn value_length(e: &ValueExpression) -> usize
+    ensures { result ≡ counted (length (value_code (plain_value e.now))) }
 {
     match e {
-        ValueExpression::Whole(_, x) => sum(integer_length(x)?, 1),
-        ValueExpression::Truth(x) => sum(boolean_length(x)?, 1),
+        ValueExpression::Whole(_, x) => integer_length(x).saturating_add(1),
+        ValueExpression::Truth(x) => boolean_length(x).saturating_add(1),
     }
 }
 
 /// Of a text.
-pub fn text_length(t: &TextExpression) -> Result<usize, AllocError>
-    ensures { IfOk result (λ n. n ≡ length (text_code (plain_text t.now))) }
+pub fn text_length(t: &TextExpression) -> usize
+    ensures { result ≡ counted (length (text_code (plain_text t.now))) }
 {
     match t {
-        TextExpression::Literal(_) => Ok(1),
-        TextExpression::Image(e) => sum(integer_length(e)?, 1),
-        TextExpression::ImageTruth(e) => sum(boolean_length(e)?, 1),
+        TextExpression::Literal(_) => 1,
+        TextExpression::Image(e) => integer_length(e).saturating_add(1),
+        TextExpression::ImageTruth(e) => boolean_length(e).saturating_add(1),
         TextExpression::Join(first, rest) => {
-            let mut total = text_length(first)?;
+            let mut total = text_length(first);
             for next in rest {
-                total = sum(total, text_length(next)?)?;
+                total = total.saturating_add(text_length(next));
             }
-            Ok(total)
+            total
         }
-        TextExpression::NewLine => Ok(1),
+        TextExpression::NewLine => 1,
     }
 }
 
 /// Of what is assigned.
-pub fn reference_length(r: &Reference) -> Result<usize, AllocError>
-    ensures { IfOk result (λ n. n ≡ length (reference_code (plain_reference r.now))) }
+pub fn reference_length(r: &Reference) -> usize
+    ensures { result ≡ counted (length (reference_code (plain_reference r.now))) }
 {
     match r {
-        Reference::Scalar(..) => Ok(1),
-        Reference::Element(_, index, _) => sum(integer_length(index)?, 1),
+        Reference::Scalar(..) => 1,
+        Reference::Element(_, index, _) => integer_length(index).saturating_add(1),
     }
 }
 
 /// Of an argument of a call, whatever the number of its formal.
-pub fn argument_length(argument: &Argument) -> Result<usize, AllocError>
-    ensures { IfOk result (λ n. (number : ℕ) →
-        n ≡ length (argument_code number (plain_argument argument.now))) }
+pub fn argument_length(argument: &Argument) -> usize
+    ensures { (number : ℕ) →
+        result ≡ counted (length (argument_code number (plain_argument argument.now))) }
 {
     match argument {
-        Argument::ByValue(e) => sum(value_length(e)?, 1),
+        Argument::ByValue(e) => value_length(e).saturating_add(1),
         Argument::ByCopy(is_in, _, r) => {
-            sum(sum(reference_length(r)?, first_value_length(*is_in))?, 1)
+            reference_length(r)
+                .saturating_add(first_value_length(*is_in))
+                .saturating_add(1)
         }
     }
 }
@@ -134,15 +142,30 @@ fn first_value_length(is_in: bool) -> usize
 }
 
 /// Of all arguments of a call.
-pub fn arguments_length(arguments: &[Argument]) -> Result<usize, AllocError>
-    ensures { IfOk result (λ n.
-        n ≡ length (arguments_code 0 (plain_arguments arguments.now))) }
+pub fn arguments_length(arguments: &[Argument]) -> usize
+    ensures { result ≡ counted (length (arguments_code 0 (plain_arguments arguments.now))) }
 {
-    let mut total = 0;
+    let mut total: usize = 0;
     for argument in arguments {
-        total = sum(total, argument_length(argument)?)?;
+        total = total.saturating_add(argument_length(argument));
     }
-    Ok(total)
+    total
+}
+
+/// A length that has not stopped at the largest number.
+///
+/// # Errors
+///
+/// Memory is refused where it has, since no memory holds such code.
+pub fn exact(length: usize) -> Result<usize, AllocError>
+    ensures same { IfOk result (λ n. n ≡ length) }
+    ensures whole { IfOk result (λ n. n < 2 ^ 64 - 1) }
+{
+    if length < usize::MAX {
+        Ok(length)
+    } else {
+        Err(AllocError)
+    }
 }
 
 /// Of a statement, with all that is in it, out of which this number of ways leads: of the loops around it, and out of the body.
@@ -151,28 +174,36 @@ pub fn statement_length(s: &Statement, ways: usize) -> Result<usize, AllocError>
     ensures { IfOk result (λ n. n ≡ statement_size_by flat_step (plain_statement s.now) ways) }
 {
     match s {
-        Statement::Declare(_, _, e) => sum(value_length(e)?, 1),
+        Statement::Declare(_, _, e) => exact(value_length(e).saturating_add(1)),
         Statement::DeclareArray(..) => Ok(1),
         Statement::Null(_) => Ok(1),
         Statement::Assign(_, target, e) => {
-            sum(sum(reference_length(target)?, value_length(e)?)?, 1)
+            exact(
+                reference_length(target)
+                    .saturating_add(value_length(e))
+                    .saturating_add(1),
+            )
         }
-        Statement::Put(_, t) => sum(text_length(t)?, 1),
+        Statement::Put(_, t) => exact(text_length(t).saturating_add(1)),
         Statement::If(branches) => if_length(branches, ways),
         Statement::While(_, condition, body) => {
-            sum(
-                boolean_length(condition)?,
-                sum(statements_length(body, sum(ways, 1)?)?, 1)?,
+            let inside = statements_length(body, sum(ways, 1)?)?;
+            exact(
+                boolean_length(condition)
+                    .saturating_add(inside)
+                    .saturating_add(1),
             )
         }
         Statement::Loop(body) => statements_length(body, sum(ways, 1)?),
         Statement::For(s) => for_length(s, ways),
-        Statement::Exit(_, _, condition) => sum(boolean_length(condition)?, 1),
+        Statement::Exit(_, _, condition) => { exact(boolean_length(condition).saturating_add(1)) }
         Statement::Raise(..) => Ok(1),
         Statement::RaiseAgain(_) => Ok(1),
         Statement::Block(block) => block_length(block, ways),
         Statement::Return(_) => Ok(1),
-        Statement::ProcedureCall(_, _, arguments) => sum(arguments_length(arguments)?, 1),
+        Statement::ProcedureCall(_, _, arguments) => {
+            exact(arguments_length(arguments).saturating_add(1))
+        }
         Statement::DeclareTasks(..) => Ok(1),
         Statement::Activated(_) => Ok(1),
     }
@@ -196,9 +227,11 @@ fn if_length(s: &IfStatement, ways: usize) -> Result<usize, AllocError>
 fn arm_length(arm: &Arm, ways: usize) -> Result<usize, AllocError>
     ensures { IfOk result (λ n. n ≡ arm_length arm.now ways) }
 {
-    sum(
-        boolean_length(&arm.condition)?,
-        sum(statements_length(&arm.statements, ways)?, 1)?,
+    let inside = statements_length(&arm.statements, ways)?;
+    exact(
+        boolean_length(&arm.condition)
+            .saturating_add(inside)
+            .saturating_add(1),
     )
 }
 
@@ -207,9 +240,13 @@ fn arm_length(arm: &Arm, ways: usize) -> Result<usize, AllocError>
 fn for_length(s: &ForStatement, ways: usize) -> Result<usize, AllocError>
     ensures { IfOk result (λ n. n ≡ statement_size_by flat_step (for_in s.now) ways) }
 {
-    let bounds = sum(integer_length(&s.first)?, integer_length(&s.last)?)?;
     let inside = statements_length(&s.statements, sum(ways, 1)?)?;
-    sum(sum(bounds, 2)?, inside)
+    exact(
+        integer_length(&s.first)
+            .saturating_add(integer_length(&s.last))
+            .saturating_add(inside)
+            .saturating_add(2),
+    )
 }
 
 // The step of the block, its body, and a line for each way out of it.
@@ -217,7 +254,11 @@ fn for_length(s: &ForStatement, ways: usize) -> Result<usize, AllocError>
 fn block_length(block: &BlockStatement, ways: usize) -> Result<usize, AllocError>
     ensures { IfOk result (λ n. n ≡ statement_size_by flat_step (block_in block.now) ways) }
 {
-    sum(sum(body_length(&block.body, ways)?, ways)?, 1)
+    exact(
+        body_length(&block.body, ways)?
+            .saturating_add(ways)
+            .saturating_add(1),
+    )
 }
 
 /// Of a body: its declarations and their activation, its statements, the line that guards them, its handlers, and its end.
@@ -236,9 +277,12 @@ pub fn place_of_end(body: &Body, place: usize, ways: usize) -> Result<usize, All
     let elaborations = elaborations_length(body, ways)?;
     let statements = statements_length(&body.statements, ways)?;
     let handlers = handlers_length(&body.handlers, ways)?;
-    sum(
-        sum(place, elaborations)?,
-        sum(statements, sum(handlers, 1)?)?,
+    exact(
+        place
+            .saturating_add(elaborations)
+            .saturating_add(statements)
+            .saturating_add(handlers)
+            .saturating_add(1),
     )
 }
 

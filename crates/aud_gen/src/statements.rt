@@ -9,7 +9,7 @@ ghost use Rattle.aud_layout.specs.Leading.{around};
 ghost use Rattle.aud_gen.specs.Writes.{statement_lines, part_lines, has_statements, listed_lines, arm_lines, while_lines, for_lines, handlers_lines, body_lines, Writes, WritesInside};
 
 use crate::lengths::{
-    boolean_length, elaborations_length, integer_length, list_length, place_of_end,
+    boolean_length, elaborations_length, exact, integer_length, list_length, place_of_end,
     statement_length, statements_length,
 };
 use crate::writer::{Writer, Written};
@@ -177,7 +177,8 @@ impl Writer {
         ensures { WritesInside result self.old self.new (around out ways.now) (λ place a.
             arm_lines arm.now more place next a) }
     {
-        let inside = sum(self.place(), sum(boolean_length(&arm.condition)?, 1)?)?;
+        let step = exact(boolean_length(&arm.condition).saturating_add(1))?;
+        let inside = sum(self.place(), step)?;
         let behind = sum(inside, statements_length(&arm.statements, ways.count()?)?)?;
         let otherwise = if more { behind } else { next };
         self.write_boolean(&arm.condition)?;
@@ -214,7 +215,8 @@ impl Writer {
         ensures { Writes result self.old self.new
             (while_lines at (plain_boolean condition.now) (length self.old) next out within) }
     {
-        let inside = sum(self.place(), sum(boolean_length(condition)?, 1)?)?;
+        let step = exact(boolean_length(condition).saturating_add(1))?;
+        let inside = sum(self.place(), step)?;
         self.write_boolean(condition)?;
         self.end_statement(Ending::While(inside), next, at, out, within)
     }
@@ -226,8 +228,8 @@ impl Writer {
             statement_lines (for_in s.now) place next a) }
     {
         let place = self.place();
-        let bounds = sum(integer_length(&s.first)?, integer_length(&s.last)?)?;
-        let again = sum(sum(place, bounds)?, 1)?;
+        let bounds = integer_length(&s.first).saturating_add(integer_length(&s.last));
+        let again = sum(place, exact(bounds.saturating_add(1))?)?;
         let inner = ways.in_for(self.alloc(), place, next)?;
         self.write_control(s, place, again, out, next, ways.within)?;
         self.write_statements(&s.statements, &inner, out, again)

@@ -4,7 +4,7 @@ use Rattle.std.specs.Prelude.{◌==◌, if◌then◌else◌}
 use Rattle.std.proofs.lemmas.List.{nil_from_length}
 use Rattle.aud_bench.specs.declared.request.BadRequest.{BadRequest}
 use Rattle.aud_bench.specs.declared.request.Request.{Request}
-use Rattle.aud_bench.specs.Size.{line_count}
+use Rattle.aud_text.specs.Lines.{line_count}
 use Rattle.aud_lines.specs.Ties.Splits.{Splits}
 use Rattle.aud_lines.specs.Lines.{onto_line, lines_of, trimmed}
 use Rattle.aud_lines.specs.Requests.{Loads, command, line_fault, Ready, first_fault, gathered, requests_from, requests}

@@ -6,7 +6,7 @@ use Rattle.aud_lines.specs.Lines.{onto_line, lines_of, trimmed}
 use Rattle.aud_text.specs.declared.limits.TheConstants.{LINE}
 use Rattle.aud_bench.specs.declared.request.BadRequest.{BadRequest}
 use Rattle.aud_bench.specs.declared.request.BadRequest.TheVariants.{LineTooLong, NotAscii}
-use Rattle.aud_bench.specs.Size.{line_count}
+use Rattle.aud_text.specs.Lines.{line_count}
 use Rattle.aud_bench.proofs.Truths.{true_le, false_le}
 use Rattle.aud_bench.specs.declared.request.Request.{Request}
 use Rattle.aud_lines.specs.Requests.{Command, Whole, Loads, command_by, command, has_high_byte, line_fault, Ready, first_fault, load_of, gathered, requests_from, requests}

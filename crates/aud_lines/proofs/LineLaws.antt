@@ -7,7 +7,7 @@ use Rattle.std.specs.Prelude.{if◌then◌else◌}
 use Rattle.memchr.specs.Find.{Nowhere, Passes, is_byte, IsFirstByte}
 use Rattle.std.proofs.lemmas.List.Recursion.{is_count_by}
 use Rattle.std.proofs.lemmas.List.Sums.{sum_by-append}
-use Rattle.aud_bench.specs.Size.{line_count}
+use Rattle.aud_text.specs.Lines.{line_count}
 use Rattle.aud_lines.specs.Lines.{onto_line, lines_of, onto_word, pieces, without_empty, words_of}
 
 -- where the byte stands nowhere, it stands nowhere behind the first

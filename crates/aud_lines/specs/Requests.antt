@@ -1,7 +1,8 @@
 -- The requests of a stream of bytes.
 use Rattle.std.specs.Prelude.{ℕ, zero, suc, List, [], ◌∷◌, ◌++◌, length, Option, Some, None, Bool, true, false, nat_le, nat_lt, ◌&&◌, if◌then◌else◌, codes}
 use Rattle.std.specs.Str.{bytes_eq}
-use Rattle.aud_text.specs.declared.limits.TheConstants.{CHOICE, LINE, LINES, RUN, SEAT}
+use Rattle.aud_text.specs.declared.limits.TheConstants.{CHOICE, LINE, LINES, MOVE, RUN, SEAT, TASK, WAIT}
+use Rattle.aud_debug.specs.declared.listing.Listing.TheVariants as listing
 use Rattle.aud_bench.specs.declared.request.BadRequest.{BadRequest}
 use Rattle.aud_bench.specs.declared.request.BadRequest.TheVariants as bad
 use Rattle.aud_bench.specs.declared.request.Request.{Request}
@@ -54,8 +55,16 @@ abbrev pub command_of : List (List ℕ) → Command
 command_of [] = Whole (request.Bad bad.UnknownCommand)
 command_of (word ∷ arguments) =
     if bytes_eq word (codes "LOAD") then one_number 0 LINES arguments (λ n. Loads n)
+    else if bytes_eq word (codes "RESET") then no_argument arguments request.Reset
     else if bytes_eq word (codes "RUN") then one_number 1 RUN arguments (λ n. Whole (request.Run n))
+    else if bytes_eq word (codes "STEP") then one_number 0 MOVE arguments (λ n. Whole (request.Step n))
     else if bytes_eq word (codes "CHOOSE") then some_numbers 0 CHOICE arguments (λ choices. Whole (request.Choose choices))
+    else if bytes_eq word (codes "ADVANCE") then one_number 0 WAIT arguments (λ n. Whole (request.Advance n))
+    else if bytes_eq word (codes "CLOCK") then no_argument arguments request.Clock
+    else if bytes_eq word (codes "MOVES") then no_argument arguments (request.List listing.Moves)
+    else if bytes_eq word (codes "TASKS") then no_argument arguments (request.List listing.Tasks)
+    else if bytes_eq word (codes "QUEUES") then no_argument arguments (request.List listing.Queues)
+    else if bytes_eq word (codes "VARS") then one_number 0 TASK arguments (λ n. Whole (request.List (listing.Variables n)))
     else if bytes_eq word (codes "OUTPUT") then no_argument arguments request.Output
     else if bytes_eq word (codes "SEAT") then one_number 0 SEAT arguments (λ n. Whole (request.Seat n))
     else if bytes_eq word (codes "QUIT") then no_argument arguments request.Quit

@@ -6,6 +6,7 @@ use Rattle.aud_text.specs.declared.refusal.Refusal.{Refusal}
 use Rattle.aud_text.specs.Refusal.{number, words}
 use Rattle.aud_text.specs.Raise.{raise_name}
 use Rattle.aud_meaning.specs.Listings.{state_words}
+use Rattle.aud_debug.specs.declared.lines.Lines.{Lines}
 use Rattle.aud_bench.specs.declared.request.Raised.{Raised}
 use Rattle.aud_bench.specs.declared.request.Raised.TheVariants.{Predefined, Declared}
 use Rattle.aud_bench.specs.declared.request.Report.{Report}
@@ -37,6 +38,12 @@ report_text r (Some raised) = head 2 ++ ran_line r ++ codes "main raised " ++ ra
 abbrev pub choices_text : ℕ → List ℕ
 choices_text waiting = head 1 ++ codes "choices " ++ decimal waiting ++ line_end
 
+abbrev pub clock_text : ℕ → List ℕ
+clock_text milliseconds = head 1 ++ codes "clock " ++ decimal milliseconds ++ line_end
+
+abbrev pub listed_text : Lines → List ℕ
+listed_text lines = head lines.count ++ lines.text
+
 -- whether the text goes on behind its last line feed
 abbrev pub is_open : List ℕ → Bool
 is_open [] = false
@@ -65,6 +72,8 @@ abbrev pub answer_text : Answer → List ℕ
 answer_text (answer.Loaded name) = loaded_text name
 answer_text (answer.Ran r) = report_text r r.raised
 answer_text (answer.Choices waiting) = choices_text waiting
+answer_text (answer.Clock milliseconds) = clock_text milliseconds
+answer_text (answer.Listed lines) = listed_text lines
 answer_text (answer.Output bytes) = output_text bytes
 answer_text answer.Done = head 0
 answer_text (answer.Refused why) = refused_text why

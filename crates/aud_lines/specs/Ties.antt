@@ -1,4 +1,3 @@
-pub mod Adds
 pub mod Asked
 pub mod Pieces
 pub mod Splits

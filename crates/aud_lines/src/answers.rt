@@ -2,10 +2,11 @@
 
 ghost use Rattle.std.specs.Prelude.{◌≡◌, IfOk, Some, None};
 ghost use Rattle.aud_meaning.specs.Listings.{state_words};
-ghost use Rattle.aud_lines.specs.Ties.Adds.{Adds};
-ghost use Rattle.aud_lines.specs.Text.{line_end, head, loaded_text, ran_line, raised_name, report_text, choices_text, is_open, output_lines, output_text, refusal, refused_text, refused_at_text, answer_text};
+ghost use Rattle.aud_text.specs.Ties.Adds.{Adds};
+ghost use Rattle.aud_lines.specs.Text.{line_end, head, loaded_text, ran_line, raised_name, report_text, choices_text, clock_text, listed_text, is_open, output_lines, output_text, refusal, refused_text, refused_at_text, answer_text};
 
 use aud_bench::request::{Answer, Raised, Report};
+use aud_debug::lines::Lines;
 use aud_meaning::state::State;
 use aud_text::digits::push_decimal;
 use aud_text::place::Pos;
@@ -33,6 +34,8 @@ fn push_answer(out: &mut Vec<u8>, answer: &Answer) -> Result<(), AllocError>
         Answer::Loaded(name) => push_loaded(out, name.as_bytes()),
         Answer::Ran(report) => push_report(out, report),
         Answer::Choices(waiting) => push_choices(out, *waiting),
+        Answer::Clock(milliseconds) => push_clock(out, *milliseconds),
+        Answer::Listed(lines) => push_listed(out, lines),
         Answer::Output(bytes) => push_output(out, bytes.as_bytes()),
         Answer::Done => push_head(out, 0),
         Answer::Refused(why) => push_refusal(out, *why),
@@ -132,6 +135,22 @@ fn push_choices(out: &mut Vec<u8>, waiting: usize) -> Result<(), AllocError>
     out.extend_from_slice(b"choices ")?;
     push_decimal(out, waiting as u64)?;
     push_line_end(out)
+}
+
+fn push_clock(out: &mut Vec<u8>, milliseconds: u64) -> Result<(), AllocError>
+    ensures { Adds result out.old out.new (clock_text milliseconds) }
+{
+    push_head(out, 1)?;
+    out.extend_from_slice(b"clock ")?;
+    push_decimal(out, milliseconds)?;
+    push_line_end(out)
+}
+
+fn push_listed(out: &mut Vec<u8>, lines: &Lines) -> Result<(), AllocError>
+    ensures { Adds result out.old out.new (listed_text lines.now) }
+{
+    push_head(out, lines.count as u64)?;
+    out.extend_from_slice(lines.text.as_bytes())
 }
 
 fn push_output(out: &mut Vec<u8>, bytes: &[u8]) -> Result<(), AllocError>

@@ -2,7 +2,8 @@
 
 ghost use Rattle.std.specs.Prelude.{◌≡◌, ◌≤◌, ℕ, List, [], ◌∷◌, IfOk, IfSome};
 ghost use Rattle.std.specs.Str.{bytes_eq};
-ghost use Rattle.aud_text.specs.declared.limits.TheConstants.{CHOICE, SEAT};
+ghost use Rattle.aud_text.specs.declared.limits.TheConstants.{CHOICE, MOVE, SEAT, TASK, WAIT};
+ghost use Rattle.aud_debug.specs.declared.listing.Listing.TheVariants as listing;
 ghost use Rattle.aud_bench.specs.declared.request.BadRequest.TheVariants as bad;
 ghost use Rattle.aud_bench.specs.declared.request.Request.TheVariants as request;
 ghost use Rattle.aud_lines.specs.Ties.Asked.{asked, given};
@@ -12,7 +13,9 @@ ghost use Rattle.aud_lines.specs.Requests.{has_high_byte, line_fault, Command as
 use crate::lines::{first_word, number, trimmed};
 use aud_bench::choices::Choices;
 use aud_bench::request::{BadRequest, Request};
-use aud_text::limits::{CHOICE, LINE, LINES, RUN, SEAT};
+use aud_bench::wait::Wait;
+use aud_debug::listing::Listing;
+use aud_text::limits::{CHOICE, LINE, LINES, MOVE, RUN, SEAT, TASK, WAIT};
 use std::alloc::{AllocError, Global};
 
 /// What a request's first line asks.
@@ -73,10 +76,26 @@ fn command_with(alloc: Global, word: &[u8], arguments: &[u8]) -> Result<Command,
 {
     if is(word, b"LOAD") {
         Ok(load(arguments))
+    } else if is(word, b"RESET") {
+        Ok(no_argument(arguments, Request::Reset))
     } else if is(word, b"RUN") {
         Ok(run(arguments))
+    } else if is(word, b"STEP") {
+        Ok(step(arguments))
     } else if is(word, b"CHOOSE") {
         choose(alloc, arguments)
+    } else if is(word, b"ADVANCE") {
+        Ok(advance(arguments))
+    } else if is(word, b"CLOCK") {
+        Ok(no_argument(arguments, Request::Clock))
+    } else if is(word, b"MOVES") {
+        Ok(no_argument(arguments, Request::List(Listing::Moves)))
+    } else if is(word, b"TASKS") {
+        Ok(no_argument(arguments, Request::List(Listing::Tasks)))
+    } else if is(word, b"QUEUES") {
+        Ok(no_argument(arguments, Request::List(Listing::Queues)))
+    } else if is(word, b"VARS") {
+        Ok(variables(arguments))
     } else if is(word, b"OUTPUT") {
         Ok(no_argument(arguments, Request::Output))
     } else if is(word, b"SEAT") {
@@ -115,6 +134,36 @@ fn run(arguments: &[u8]) -> Command
 {
     match number_within(1, RUN, arguments) {
         Some(steps) => Command::Whole(Request::Run(steps)),
+        None => wrong_argument(),
+    }
+}
+
+fn step(arguments: &[u8]) -> Command
+    ensures { asked result
+        ≡ one_number 0 MOVE (words_of arguments.now) (λ n. Whole (request.Step n)) }
+{
+    match number_within(0, MOVE, arguments) {
+        Some(nth) => Command::Whole(Request::Step(nth)),
+        None => wrong_argument(),
+    }
+}
+
+fn advance(arguments: &[u8]) -> Command
+    ensures { asked result
+        ≡ one_number 0 WAIT (words_of arguments.now) (λ n. Whole (request.Advance n)) }
+{
+    match number_within(0, WAIT, arguments) {
+        Some(milliseconds) => Command::Whole(Request::Advance(Wait::new(milliseconds))),
+        None => wrong_argument(),
+    }
+}
+
+fn variables(arguments: &[u8]) -> Command
+    ensures { asked result ≡ one_number 0 TASK (words_of arguments.now)
+        (λ n. Whole (request.List (listing.Variables n))) }
+{
+    match number_within(0, TASK, arguments) {
+        Some(task) => Command::Whole(Request::List(Listing::Variables(task))),
         None => wrong_argument(),
     }
 }
@@ -177,8 +226,9 @@ fn wrong_argument() -> Command
 
 // The one number that stands there, if it lies in the range.
 fn number_within(low: u32, high: u32, arguments: &[u8]) -> Option<u32>
-    ensures { (use_of : ℕ → Asked) →
+    ensures value { (use_of : ℕ → Asked) →
         one_number low high (words_of arguments.now) use_of ≡ given result use_of }
+    ensures within { IfSome result (λ n. n ≤ high) }
 {
     let (word, others) = first_word(arguments)?;
     if first_word(others).is_some() {

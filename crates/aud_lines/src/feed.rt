@@ -6,8 +6,8 @@ ghost use Rattle.aud_lines.specs.Ties.Held.{held};
 
 use crate::held::hold;
 use crate::requests::{Split, lines_missing, split_requests};
-use aud_bench::loading::line_count;
 use aud_bench::request::Request;
+use aud_text::lines::line_count;
 use std::alloc::{AllocError, Global};
 use std::marker::Model;
 

@@ -8,8 +8,8 @@ ghost use Rattle.aud_lines.specs.Ties.Waits.{Waits};
 
 use crate::commands::{Command, line_fault, read_command};
 use crate::lines::{first_line, trimmed};
-use aud_bench::loading::line_count;
 use aud_bench::request::{BadRequest, Request};
+use aud_text::lines::line_count;
 use aud_text::text::Text;
 use std::alloc::{AllocError, Global};
 

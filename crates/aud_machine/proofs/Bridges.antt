@@ -41,7 +41,7 @@ use Rattle.aud_machine.specs.Shows.{Shows, Did, RunsFrom}
 use Rattle.aud_machine.specs.Shows as shown
 
 -- What is seen of all tasks are their own parts.
-owns_seen : {C : Type 0} (plan : tree.Plan) (k : Controls C) (i : ℕ) (ts : List (TaskAt C)) (os : List Own) (shared : Shared) → owns (seen_from plan k i ts os shared) ≡ owns ts
+pub owns_seen : {C : Type 0} (plan : tree.Plan) (k : Controls C) (i : ℕ) (ts : List (TaskAt C)) (os : List Own) (shared : Shared) → owns (seen_from plan k i ts os shared) ≡ owns ts
 owns_seen plan k i [] os shared = refl
 owns_seen plan k i (t ∷ ts) os shared = ap (λ xs. t.own ∷ xs) (owns_seen plan k (suc i) ts os shared)
 

@@ -1,2 +1,3 @@
 mod Bridges
+mod Views
 pub mod Sent

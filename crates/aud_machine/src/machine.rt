@@ -4,7 +4,7 @@ ghost use Rattle.std.specs.Prelude.{◌≡◌, ◌+◌, ◌*◌, ◌<◌, ◌≤
 ghost use Rattle.aud_typed.specs.Ties.View.{plain_program};
 ghost use Rattle.aud_meaning.specs.Parts.{owns};
 ghost use Rattle.aud_meaning.specs.Run.{moves_in, state_in, main_raised, supplied, advanced, opening, opening_with};
-ghost use Rattle.aud_meaning.specs.Listings.{coming_step_in};
+ghost use Rattle.aud_meaning.specs.Listings.{coming_step_in, view, view_at};
 ghost use Rattle.aud_meaning.specs.Why.Limits.{IsWithin};
 ghost use Rattle.aud_code.specs.Flat.{flat_controls};
 ghost use Rattle.aud_code.specs.Places.{Spot};
@@ -115,6 +115,13 @@ impl Machine {
         self.limits
     }
 
+    /// Whether memory was refused to it: it shows no program then.
+    pub fn is_spent(&self) -> bool
+        ensures { result ≡ self.now.spent }
+    {
+        self.spent
+    }
+
     /// The output so far (RM A.10.7).
     pub fn output(&self) -> &[u8]
         ensures shown { IfShows self.now (λ c. result.now ≡ c.shared.output) }
@@ -199,7 +206,7 @@ impl Machine {
 
     /// All that it has: the frames, the tasks, the calls, the protected objects, the clock and the steps taken. Its
     /// limits hold of them, if the machine isn't spent: so many tasks and objects, so many live frames of each task, and so much
-    /// output. Of frames and calls that are over, nothing need be left.
+    /// output. Of frames and calls that are over, nothing need be left, and nothing of them is shown.
     pub fn parts(&self) -> &State
         ensures all { result.now ≡ self.now.all }
         ensures within { self.now.spent ≡ false → 1 ≤ self.now.limits.tasks →
@@ -210,6 +217,8 @@ impl Machine {
         ensures choices { IfShows self.now (λ c. result.now.choices ≡ c.choices) }
         ensures clock { IfShows self.now (λ c. result.now.clock ≡ c.clock) }
         ensures steps { IfShows self.now (λ c. result.now.steps ≡ c.steps) }
+        ensures view { IfShows self.now (λ c. let plan = (program_in self.now).plan in
+            view_at plan (flat_controls plan self.now.code) result.now ≡ view (program_in self.now) c) }
     {
         &self.state
     }
@@ -324,8 +333,8 @@ impl Machine {
         Ok(taken)
     }
 
-    // What its execution needs.
-    fn compiled(&self) -> Compiled<'_>
+    /// Its program with the code of that and the limits, for what is read of a state.
+    pub fn compiled(&self) -> Compiled<'_>
         ensures program { result.program.now ≡ self.now.program }
         ensures code { result.code.now ≡ self.now.code }
         ensures limits { result.limits ≡ self.now.limits }

@@ -11,7 +11,7 @@ use Rattle.aud_meaning.specs.Evaluation.{Sight}
 use Rattle.aud_meaning.specs.Control.{Coming, simply, ending, selecting, calling, starting, Seen, Controls}
 use Rattle.aud_meaning.specs.Parts.{owns}
 use Rattle.aud_meaning.specs.declared.state.Move.{Move}
-use Rattle.aud_meaning.specs.Run.{picks, Turn, resting, closing, completing, withdrawing, serving, expiring, cancelling, acting, turn, only, each_or_one, serve_moves, end_moves, call_moves, acting_moves, turn_moves, moves_from, has_ended, moves_by, waiting_by, some_move, state_by, seen_from, seen, moves_at, state_at, step_of, take_by, take_one, run_by, run_with}
+use Rattle.aud_meaning.specs.Run.{picks, Turn, resting, closing, completing, withdrawing, serving, expiring, cancelling, acting, turn, only, each_or_one, serve_moves, end_moves, call_moves, acting_moves, turn_moves, moves_from, has_ended, moves_by, waiting_by, some_move, state_by, seen_from, seen, moves_at, state_at, step_of, step_with, take_by, take_one, run_by, run_with}
 
 -- Moves of the task of a number.
 
@@ -185,22 +185,25 @@ module _ {C : Type 0} (plan : Plan) (k : Controls C) where
             ∙ ap (λ ms. go n (run_by plan k limits (go m) ms c)) (sym h)
 
     -- steps take no time
+    time_kept : (t : Option (TaskAt C)) (m : Move) (c : All C) → (step_of plan k limits t m c).clock ≡ c.clock
+    time_kept None m c = refl
+    time_kept (Some t) m c = refl
+
+    pub step_timeless : (m : Move) (c : All C) → (step_with plan k limits c m).clock ≡ c.clock
+    step_timeless m c = time_kept (slice_get c.tasks m.task) m c
+
     pub clock_kept : (n : ℕ) (c : All C) → (go n c).clock ≡ c.clock
     clock_kept zero c = refl
     clock_kept (suc n) c = by (clock_kept n) (moves_at plan k c)
       where
-        step_kept : (t : Option (TaskAt C)) (m : Move) (d : All C) → (step_of plan k limits t m d).clock ≡ d.clock
-        step_kept None m d = refl
-        step_kept (Some t) m d = refl
-
         by_kept : (first : Move) (ms : List Move) (choices : List ℕ) (d : All C) → (take_by plan k limits first ms choices d).clock ≡ d.clock
-        by_kept first ms [] d = step_kept (slice_get d.tasks first.task) first d
+        by_kept first ms [] d = step_timeless first d
         by_kept first ms (choice ∷ choices) d =
             let m : Move = slice_index_or ms (choice % length ms) first in
-            step_kept (slice_get d.tasks m.task) m (record d { choices = choices })
+            step_timeless m (record d { choices = choices })
 
         one_kept : (m : Move) (ms : List Move) (d : All C) → (take_one plan k limits m ms d).clock ≡ d.clock
-        one_kept m [] d = step_kept (slice_get d.tasks m.task) m d
+        one_kept m [] d = step_timeless m d
         one_kept m (x ∷ ms) d = by_kept m (m ∷ x ∷ ms) d.choices d
 
         by : ((d : All C) → (go n d).clock ≡ d.clock) → (ms : List Move) → (run_by plan k limits (go n) ms c).clock ≡ c.clock

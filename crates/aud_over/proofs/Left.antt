@@ -9,8 +9,9 @@ use Rattle.aud_meaning.specs.declared.state.Move.{Move}
 use Rattle.aud_meaning.specs.Run.{moves, moves_at, state_at, seen, step_with, take_by, take_one, run_by, run_with}
 use Rattle.aud_over.specs.Over.{forgotten}
 use Rattle.aud_over.specs.Looks.{Looks}
-use Rattle.aud_meaning.specs.Listings.{vars, queues, tasks_view, moves_view, coming_step_at}
-use Rattle.aud_over.specs.Law.{IsOneOf, Listed, listed}
+use Rattle.aud_meaning.specs.declared.state.State.{State}
+use Rattle.aud_meaning.specs.Listings.{View, view_at, vars, queues, tasks_view, moves_view, coming_step_at}
+use Rattle.aud_over.specs.Law.{IsOneOf}
 use Rattle.aud_over.proofs.Beside.{beside}
 use Rattle.aud_over.proofs.Forgetting.{kept_in, forgotten_may, left_same}
 use Rattle.aud_over.proofs.Looking.{moves_at_same, state_at_same}
@@ -20,8 +21,8 @@ use Rattle.aud_over.proofs.Runs.{MayStep, may_step, step_chosen, choosing, step_
 pub again : {C : Type 0} (c : All C) → forgotten (forgotten c) ≡ forgotten c
 again c = sym (left_same (kept_in c) c (forgotten c) (beside (kept_in c) c (forgotten c).shared.frames (forgotten c).shared.calls (forgotten_may c)))
 
-abbrev listed_as : (ℕ → List (List ℕ)) → List (List ℕ) → List (List ℕ) → List (List ℕ) → Listed
-listed_as vars queues tasks moves = record { vars = vars; queues = queues; tasks = tasks; moves = moves }
+abbrev shown : List (List ℕ) → List (List ℕ) → (ℕ → List (List ℕ)) → List (List ℕ) → ℕ → List ℕ → State → View
+shown tasks queues vars moves clock output state = record { tasks = tasks; queues = queues; vars = vars; moves = moves; clock = clock; output = output; state = state }
 
 module _ {C : Type 0} (plan : Plan) (k : Controls C) (through : Looks k) where
   pub moves_left : (c d : All C) → forgotten c ≡ forgotten d → moves_at plan k c ≡ moves_at plan k d
@@ -125,9 +126,18 @@ module _ {C : Type 0} (plan : Plan) (k : Controls C) (through : Looks k) where
       of : (x : All C) → coming_step_at plan k n x ≡ coming_step_at plan k n (forgotten x)
       of x = coming_same (kept_in x) plan k through n x (forgotten x).shared.frames (forgotten x).shared.calls (forgotten_may x)
 
-  pub listed_left : (c d : All C) → forgotten c ≡ forgotten d → listed plan k c ≡ listed plan k d
-  listed_left c d h =
-      ap (λ v. listed_as v (queues plan c) (tasks_view plan k.barrier (seen plan k c)) (moves_view plan k.barrier (seen plan k c))) (fun_ext (λ n. vars_left n c d h))
-      ∙ ap (λ q. listed_as (λ n. vars plan n d) q (tasks_view plan k.barrier (seen plan k c)) (moves_view plan k.barrier (seen plan k c))) (queues_left c d h)
-      ∙ ap (λ t. listed_as (λ n. vars plan n d) (queues plan d) t (moves_view plan k.barrier (seen plan k c))) (tasks_left c d h)
-      ∙ ap (λ m. listed_as (λ n. vars plan n d) (queues plan d) (tasks_view plan k.barrier (seen plan k d)) m) (moves_listed_left c d h)
+  pub view_left : (c d : All C) → forgotten c ≡ forgotten d → view_at plan k c ≡ view_at plan k d
+  view_left c d h =
+      ap (λ x. shown x (queues plan c) (λ n. vars plan n c) (moves_of c) c.clock c.shared.output (state_at plan k c)) (tasks_left c d h)
+      ∙ ap (λ x. shown (tasks_of d) x (λ n. vars plan n c) (moves_of c) c.clock c.shared.output (state_at plan k c)) (queues_left c d h)
+      ∙ ap (λ x. shown (tasks_of d) (queues plan d) x (moves_of c) c.clock c.shared.output (state_at plan k c)) (fun_ext (λ n. vars_left n c d h))
+      ∙ ap (λ x. shown (tasks_of d) (queues plan d) (λ n. vars plan n d) x c.clock c.shared.output (state_at plan k c)) (moves_listed_left c d h)
+      ∙ ap (λ x. shown (tasks_of d) (queues plan d) (λ n. vars plan n d) (moves_of d) x c.shared.output (state_at plan k c)) (ap (λ (a : All C). a.clock) h)
+      ∙ ap (λ x. shown (tasks_of d) (queues plan d) (λ n. vars plan n d) (moves_of d) d.clock x (state_at plan k c)) (ap (λ (a : All C). a.shared.output) h)
+      ∙ ap (λ x. shown (tasks_of d) (queues plan d) (λ n. vars plan n d) (moves_of d) d.clock d.shared.output x) (state_left c d h)
+    where
+      tasks_of : All C → List (List ℕ)
+      tasks_of x = tasks_view plan k.barrier (seen plan k x)
+
+      moves_of : All C → List (List ℕ)
+      moves_of x = moves_view plan k.barrier (seen plan k x)

@@ -5,10 +5,10 @@ use Rattle.aud_typed.specs.Tree.{Plan, Program}
 use Rattle.aud_meaning.specs.Configuration.{Frame, Call, All}
 use Rattle.aud_meaning.specs.Control.{Controls}
 use Rattle.aud_meaning.specs.declared.state.Move.{Move}
-use Rattle.aud_meaning.specs.Run.{moves_at, state_at, seen, step_with, run_with, supplied, advanced, main_raised}
+use Rattle.aud_meaning.specs.Run.{moves_at, state_at, step_with, run_with, supplied, advanced, main_raised}
 use Rattle.aud_meaning.specs.Parts.{owns, no_call}
 use Rattle.aud_meaning.specs.Statements.{controls}
-use Rattle.aud_meaning.specs.Listings.{vars, queues, tasks_view, moves_view, coming_step_at}
+use Rattle.aud_meaning.specs.Listings.{view_at, coming_step_at}
 use Rattle.aud_code.specs.Flat.{Flat, flat_controls}
 use Rattle.aud_over.specs.Over.{is_named, is_call_over, is_served, with_kept, forgotten}
 use Rattle.aud_over.specs.Looks.{Looks}
@@ -29,25 +29,15 @@ IsOneOf m (x ∷ xs) = (m ≡ x) ⊎ IsOneOf m xs
 abbrev pub AgainLaw : (C : Type 0) → Type 0
 AgainLaw C = (c : All C) → forgotten (forgotten c) ≡ forgotten c
 
--- Two programs under way of which the same is left have the same moves, state and listings ..
+-- Two programs under way of which the same is left have the same moves and state, and the same is shown of them ..
 abbrev pub MovesLaw : (C : Type 0) → Type 0
 MovesLaw C = (plan : Plan) (k : Controls C) (c d : All C) → Looks k → forgotten c ≡ forgotten d → moves_at plan k c ≡ moves_at plan k d
 
 abbrev pub StateLaw : (C : Type 0) → Type 0
 StateLaw C = (plan : Plan) (k : Controls C) (c d : All C) → Looks k → forgotten c ≡ forgotten d → state_at plan k c ≡ state_at plan k d
 
--- what is listed of it
-pub record Listed : Type 0 where
-  pub vars : ℕ → List (List ℕ)
-  pub queues : List (List ℕ)
-  pub tasks : List (List ℕ)
-  pub moves : List (List ℕ)
-
-abbrev pub listed : {C : Type 0} → Plan → Controls C → All C → Listed
-listed plan k c = record { vars = λ n. vars plan n c; queues = queues plan c; tasks = tasks_view plan k.barrier (seen plan k c); moves = moves_view plan k.barrier (seen plan k c) }
-
-abbrev pub ListedLaw : (C : Type 0) → Type 0
-ListedLaw C = (plan : Plan) (k : Controls C) (c d : All C) → Looks k → forgotten c ≡ forgotten d → listed plan k c ≡ listed plan k d
+abbrev pub ViewLaw : (C : Type 0) → Type 0
+ViewLaw C = (plan : Plan) (k : Controls C) (c d : All C) → Looks k → forgotten c ≡ forgotten d → view_at plan k c ≡ view_at plan k d
 
 abbrev pub ComingLaw : (C : Type 0) → Type 0
 ComingLaw C = (plan : Plan) (k : Controls C) (n : ℕ) (c d : All C) → Looks k → forgotten c ≡ forgotten d → coming_step_at plan k n c ≡ coming_step_at plan k n d

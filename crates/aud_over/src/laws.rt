@@ -4,7 +4,7 @@
 ghost use Rattle.std.specs.Prelude.{List};
 ghost use Rattle.aud_meaning.specs.Configuration.{Item};
 ghost use Rattle.aud_code.specs.Places.{Spot};
-ghost use Rattle.aud_over.specs.Law.{StatementsLook, CodeLooks, AgainLaw, MovesLaw, StateLaw, ListedLaw, ComingLaw, StepLaw, RunLaw, KeptLaw, SuppliedLaw};
+ghost use Rattle.aud_over.specs.Law.{StatementsLook, CodeLooks, AgainLaw, MovesLaw, StateLaw, ViewLaw, ComingLaw, StepLaw, RunLaw, KeptLaw, SuppliedLaw};
 ghost use Rattle.aud_over.specs.Standing.{OpensLaw, KeepsLaw, AlwaysLaw, PinsLaw, NamedLaw, OpenLaw, InnermostLaw, MemoryLaw};
 
 /// Statements and code look at variables only through what is seen.
@@ -31,10 +31,10 @@ pub fn state_law()
     ensures code { StateLaw Spot }
 {}
 
-/// The same is listed of them.
-pub fn listed_law()
-    ensures statements { ListedLaw (List Item) }
-    ensures code { ListedLaw Spot }
+/// The same is shown of them.
+pub fn view_law()
+    ensures statements { ViewLaw (List Item) }
+    ensures code { ViewLaw Spot }
     ensures statements_coming { ComingLaw (List Item) }
     ensures code_coming { ComingLaw Spot }
 {}

@@ -5,6 +5,7 @@ ghost use Rattle.aud_text.specs.declared.raise.Raise.{Raise as RaiseOf};
 ghost use Rattle.aud_typed.specs.Tree.{Plan};
 ghost use Rattle.aud_meaning.specs.Effects.{innermost};
 ghost use Rattle.aud_meaning.specs.Evaluation.{Sight};
+ghost use Rattle.aud_meaning.specs.Listings.{serves_now};
 ghost use Rattle.aud_meaning.specs.Orders.{Orders};
 ghost use Rattle.aud_meaning.specs.Parts.{acts_on, any, body_master, depends, in_action, is_created, may_terminate};
 ghost use Rattle.aud_meaning.specs.Parts.{numbers, own_of, Closable};
@@ -109,6 +110,19 @@ impl State {
             return found.parked.stack().accepts(alloc);
         }
         Vec::new(alloc)
+    }
+
+    /// Whether a task services an object: it is about to, or an entry body is under way for another task's call.
+    #[tactic(auto, using(crate::proofs::Changed::own_got, crate::proofs::Changed::own_past))]
+    pub fn is_servicing(&self, task: usize) -> bool
+        ensures { (plan : Plan) → (barrier : ℕ → Sight → Result Bool RaiseOf) → result ≡ serves_now plan barrier
+            (own_of task self.now).serving (own_of task self.now).opened }
+    {
+        if task < self.tasks.len() {
+            let found = &self.tasks[task];
+            return found.is_servicing();
+        }
+        false
     }
 
     /// The innermost of a task's open frames.

@@ -13,7 +13,7 @@ mod found;
 mod marks;
 pub mod object;
 mod opening;
-mod reads;
+pub mod reads;
 mod returning;
 mod seen;
 pub mod state;

@@ -1,21 +1,49 @@
 // What is read of one task.
 
-ghost use Rattle.std.specs.Prelude.{◌≡◌, Some, slice_get, IsTrue};
+ghost use Rattle.std.specs.Prelude.{◌≡◌, [], Some, map, reverse, slice_get, slice_index_or, IsTrue};
 ghost use Rattle.aud_typed.specs.Tree.{Plan};
 ghost use Rattle.aud_meaning.specs.Configuration.{TaskAt};
 ghost use Rattle.aud_meaning.specs.Evaluation.{Sight};
 ghost use Rattle.aud_meaning.specs.Parts.{call_of, is_idle, is_queued, is_selected, object_of, own_of};
 ghost use Rattle.aud_code.specs.Places.{Spot};
+ghost use Rattle.aud_store.specs.Ties.Extents.{extent, extent_in};
 ghost use Rattle.aud_state.specs.Reads.{cancelled_from, coming_by, is_free, place_by, time_by, IsOfItsKind, IsPlain, LeavesBy};
-ghost use Rattle.aud_state.specs.View.{plain_task};
+ghost use Rattle.aud_state.specs.View.{element_name, plain_task};
 
 use crate::state::State;
 use crate::task::Task;
 use aud_code::sound_code::SoundCode;
 use aud_meaning::state::{CallState, Form, OpenDelay, Owner, Pending, Serving, Status, StepKind};
+use aud_store::stack::Open;
+use aud_text::int32::Int32;
 use aud_text::place::Pos;
 
+/// The name of a task: of an element of an array that of the array, and the number of the element.
+#[derive(Clone, Copy)]
+pub struct TaskName<'a> {
+    pub name: &'a [u8],
+    pub element: Option<i64>,
+}
+
 impl State {
+    /// Its name, which is empty where there is no such task.
+    #[tactic(auto, using(crate::proofs::Changed::own_got, crate::proofs::Changed::own_past))]
+    pub fn name(&self, task: usize) -> TaskName<'_>
+        ensures { element_name result.name.now result.element ≡ (own_of task self.now).name }
+    {
+        if task < self.tasks.len() {
+            let found = &self.tasks[task];
+            return TaskName {
+                name: found.name.as_bytes(),
+                element: found.element,
+            };
+        }
+        TaskName {
+            name: &[],
+            element: None,
+        }
+    }
+
     /// The exception that is pending in a task.
     #[tactic(auto, using(crate::proofs::Changed::own_got, crate::proofs::Changed::own_past))]
     pub fn pending(&self, task: usize) -> Option<Pending>
@@ -74,6 +102,25 @@ impl State {
             return &found.waits.delays;
         }
         &[]
+    }
+
+    /// Its open frames, the outermost one first.
+    #[tactic(auto, using(crate::proofs::Changed::own_got, crate::proofs::Changed::own_past))]
+    pub fn opened(&self, task: usize) -> &[Open]
+        ensures { map extent_in result.now ≡ map extent (reverse (own_of task self.now).opened) }
+    {
+        if task < self.tasks.len() {
+            let found = &self.tasks[task];
+            return found.parked.stack().opened();
+        }
+        &[]
+    }
+
+    /// The cells of a frame; none where there is no frame of this number, or it was given back.
+    pub fn frame(&self, number: usize) -> &[Int32]
+        ensures { result.now ≡ slice_index_or self.now.shared.frames number [] }
+    {
+        self.progress.store().cells(number)
     }
 
     /// Its entry call.
@@ -200,8 +247,8 @@ impl State {
         Pos { line: 0, col: 0 }
     }
 
-    // How far a call is.
-    fn call_state(&self, id: usize) -> CallState
+    /// How far a call is.
+    pub fn call_state(&self, id: usize) -> CallState
         ensures { result ≡ (call_of id self.now).state }
     {
         self.calls.state(id)

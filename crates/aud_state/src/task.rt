@@ -4,6 +4,7 @@ ghost use Rattle.std.specs.Prelude.{◌≡◌, ◌||◌, ◌&&◌, [], None, Som
 ghost use Rattle.aud_text.specs.declared.raise.Raise.{Raise as RaiseOf};
 ghost use Rattle.aud_typed.specs.Tree.{Plan};
 ghost use Rattle.aud_meaning.specs.Evaluation.{Sight};
+ghost use Rattle.aud_meaning.specs.Listings.{serves_now};
 ghost use Rattle.aud_meaning.specs.Orders.{Orders};
 ghost use Rattle.aud_meaning.specs.Tasks as effect;
 ghost use Rattle.aud_code.specs.Places.{Spot};
@@ -111,6 +112,17 @@ impl Task {
             | Status::Accepting
             | Status::Delaying
             | Status::Calling => !self.abnormal,
+        }
+    }
+
+    /// Whether it services an object: it is about to, or an entry body is under way for another task's call.
+    pub(crate) fn is_servicing(&self) -> bool
+        ensures { (plan : Plan) → (barrier : ℕ → Sight → Result Bool RaiseOf) → result
+            ≡ serves_now plan barrier (plain_task self.now).own.serving (plain_task self.now).own.opened }
+    {
+        match self.serving {
+            Some(_) => true,
+            None => self.parked.stack().is_serving(),
         }
     }
 

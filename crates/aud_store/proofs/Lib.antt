@@ -1,3 +1,4 @@
+pub mod Extents
 pub mod Framed
 pub mod Keeping
 pub mod Laid

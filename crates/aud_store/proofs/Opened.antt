@@ -1,11 +1,16 @@
 -- Open frames in memory, of which the innermost one is the last.
-use Rattle.std.proofs.Common.{◌≡◌, Option, Some, None, Bool, cond, not, ℕ, zero, suc, ◌-◌, ◌<◌, ◌≤◌, true, List, [], ◌∷◌, ◌++◌, length, drop, reverse, slice_index_or, slice_set, refl, ap, sym, subst, ◌∙◌, arith, length-append}
+use Rattle.std.proofs.Common.{◌≡◌, Option, Some, None, Result, Bool, cond, not, ℕ, zero, suc, ◌-◌, ◌<◌, ◌≤◌, true, false, List, [], ◌∷◌, ◌++◌, length, drop, reverse, slice_index_or, slice_set, refl, ap, sym, subst, ◌∙◌, arith, length-append}
 use Rattle.std.specs.Option.{is_some, option_and_then}
 use Rattle.std.specs.List.{find}
 use Rattle.std.proofs.lemmas.List.{drop_all, drop_at, length-reverse, length-take, reverse-append, take_at}
+use Rattle.aud_text.specs.declared.raise.Raise.{Raise}
 use Rattle.aud_typed.specs.declared.program.Exception.{Exception}
+use Rattle.aud_typed.specs.Tree.{Plan}
 use Rattle.aud_meaning.specs.Configuration.{Back, Opened}
 use Rattle.aud_meaning.specs.Effects.{changed_first, handled, is_counted, is_loop, live_frames}
+use Rattle.aud_meaning.specs.Evaluation.{Sight}
+use Rattle.aud_meaning.specs.Listings.{is_served}
+use Rattle.aud_meaning.specs.Parts.{any}
 use Rattle.aud_store.specs.declared.stack.Purpose.{Purpose}
 use Rattle.aud_store.specs.declared.stack.Purpose.TheVariants.{Body, Block, Loop, Procedure}
 use Rattle.aud_store.specs.declared.display.Replaced.{Replaced}
@@ -139,6 +144,21 @@ no_accepts d [] bs = refl
 no_accepts d (o ∷ os) bs =
     ap (accepted_by (plain_purpose o.purpose (own_backs o.purpose bs))) (no_accepts (put_back o.replaced d) os (outer_backs o.purpose bs))
     ∙ accepts_none o.purpose (own_backs o.purpose bs)
+
+-- no entry body is under way
+module _ (plan : Plan) (barrier : ℕ → Sight → Result Bool Raise) where
+  pub none_served : (d : Display) (os : List Open) (bs : List Back) → any (is_served plan barrier) (plain_opened d os bs) ≡ false
+  none_served d [] bs = refl
+  none_served d (o ∷ os) bs = by o.purpose (none_served (put_back o.replaced d) os (outer_backs o.purpose bs))
+    where
+      rest : Purpose → List Opened
+      rest p = plain_opened (put_back o.replaced d) os (outer_backs p bs)
+
+      by : (p : Purpose) → any (is_served plan barrier) (rest p) ≡ false → any (is_served plan barrier) (plain_opened d (record o { purpose = p } ∷ os) bs) ≡ false
+      by Body none = none
+      by Block none = none
+      by Loop none = none
+      by (Procedure level n into) none = none
 
 -- the first of them that is no loop's
 abbrev is_construct : Open → Bool

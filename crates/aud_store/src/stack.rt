@@ -1,9 +1,14 @@
 // The open frames, which lie in one another.
 
-ghost use Rattle.std.specs.Prelude.{◌≡◌, [], ◌++◌, None, filter, length, map, reverse, take, IfOk, OnOk, OnErr};
+ghost use Rattle.std.specs.Prelude.{◌≡◌, ℕ, [], ◌++◌, None, Bool, Result, filter, length, map, reverse, take, IfOk, OnOk, OnErr};
+ghost use Rattle.aud_text.specs.declared.raise.Raise.{Raise as RaiseOf};
+ghost use Rattle.aud_typed.specs.Tree.{Plan};
 ghost use Rattle.aud_meaning.specs.Effects.{elaborated_in, handled, innermost, is_loop, live_frames, outermost};
-ghost use Rattle.aud_meaning.specs.Parts.{is_master};
+ghost use Rattle.aud_meaning.specs.Evaluation.{Sight};
+ghost use Rattle.aud_meaning.specs.Listings.{is_served};
+ghost use Rattle.aud_meaning.specs.Parts.{any, is_master};
 ghost use Rattle.aud_meaning.specs.Ties.Stack.{closed, closed_times, opens_after, out_of_loops};
+ghost use Rattle.aud_store.specs.Ties.Extents.{extent, extent_in};
 ghost use Rattle.aud_store.specs.Ties.Named.{names_of, NamesAll};
 ghost use Rattle.aud_store.specs.Ties.Stored.{accepted_in, copies_of, innermost_backs, is_in_loop, kept_by, kept_of};
 ghost use Rattle.aud_store.specs.Ties.Stored.{plain_open, plain_purpose, with_handling, with_elaborated};
@@ -240,6 +245,15 @@ impl Stack {
         Vec::new(alloc)
     }
 
+    /// Whether an entry body is under way for another task's call; as yet no frame is opened for one.
+    pub fn is_serving(&self) -> bool
+        ensures { (plan : Plan) → (barrier : ℕ → Sight → Result Bool RaiseOf) →
+            result ≡ any (is_served plan barrier) self.now.opened }
+    {
+        let _ = &self.opened;
+        false
+    }
+
     /// The innermost one but for loops within it: that of the construct which is left next.
     pub fn construct(&self) -> Option<Open>
         ensures { IsInnermost result (out_of_loops self.now).opened }
@@ -337,6 +351,14 @@ impl Stack {
     {
         let frames = numbers_of(alloc, &self.opened)?;
         Ok(frames)
+    }
+
+    /// All open frames, the outermost one first.
+    #[tactic(auto, using(crate::proofs::Extents::extents_reversed))]
+    pub fn opened(&self) -> &[Open]
+        ensures { map extent_in result.now ≡ map extent (reverse self.now.opened) }
+    {
+        &self.opened
     }
 
     /// Appends the numbers of all frames that it names, and no other: of those that are seen or hidden, of those that are open, and of

@@ -267,6 +267,17 @@ impl Store {
         }
     }
 
+    /// The cells of a frame; none where there is no frame of this number, or it was given back.
+    pub fn cells(&self, frame: usize) -> &[Int32]
+        ensures { result.now ≡ slice_index_or self.now.frames frame [] }
+    {
+        if frame < self.frames.len() {
+            self.frames.frame(frame)
+        } else {
+            &[]
+        }
+    }
+
     // What a cell of a frame holds, or 0 where there is none.
     fn load_at(&self, frame: usize, index: usize) -> Int32
         ensures { result ≡ slice_index_or (slice_index_or self.now.frames frame []) index (pos 0) }

@@ -9,6 +9,7 @@ pub mod RunningSteps
 pub mod RunningStill
 pub mod RunningTaking
 pub mod Seen
+pub mod Shown
 pub mod Soonest
 pub mod Stepping
 pub mod Turning

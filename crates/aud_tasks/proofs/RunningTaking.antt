@@ -65,6 +65,15 @@ is_own m h = by m.alternative h
 
 -- None waits, or there are no others.
 
+pub is_none_of : (m : Option Move) → is_some m ≡ false → m ≡ None
+is_none_of None h = refl
+is_none_of (Some m) h = absurd cc
+
+pub alone_at : (ms : List Move) → slice_get ms 1 ≡ None → length ms ≤ 1
+alone_at [] none = omega arith
+alone_at (x ∷ []) none = omega arith
+alone_at (x ∷ y ∷ ms) none = absurd cc
+
 pub nothing_chosen : (ms : List Move) → length ms ≤ 1 → (choices : List ℕ) → IsUnchosen (drop 1 ms) choices
 nothing_chosen ms few choices = subst (λ l. IsUnchosen l choices) (sym (few_behind ms few)) tt
 
@@ -75,7 +84,7 @@ nothing_waits (m ∷ ms) (choice ∷ choices) none = absurd (omega (arith, none)
 
 -- Whose move it is.
 
-abbrev AreOf : ℕ → List Move → Type 0
+abbrev pub AreOf : ℕ → List Move → Type 0
 AreOf n [] = Unit {0}
 AreOf n (m ∷ ms) = (m.task ≡ n) × AreOf n ms
 
@@ -129,7 +138,7 @@ module _ (plan : Plan) (barrier : ℕ → Sight → Result Bool Raise) where
   acting_of (calling (Some task) entry) n c = each_of (alternatives_of plan barrier (open_alternatives (own_of task c) entry)) n
   acting_of (starting object reading) n c = only_of (not (in_the_way n reading (object_of object c))) n
 
-  moves_of : (u : Turn) (n : ℕ) (c : All Seen) → AreOf n (turn_moves plan barrier u n c)
+  pub moves_of : (u : Turn) (n : ℕ) (c : All Seen) → AreOf n (turn_moves plan barrier u n c)
   moves_of resting n c = tt
   moves_of closing n c = only_of (Closable (body_master (own_of n c)) c) n
   moves_of completing n c = (refl, tt)

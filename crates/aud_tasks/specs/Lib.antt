@@ -2,6 +2,7 @@ pub mod Turning
 pub mod Moving
 pub mod Enabled
 pub mod Listed
+pub mod Shown
 pub mod Running
 pub mod Acting
 pub mod Endings

@@ -8,6 +8,7 @@ ghost use Rattle.aud_meaning.specs.Parts.{own_of, unit_of};
 ghost use Rattle.aud_code.specs.Flat.{barrier_at, flat_controls};
 ghost use Rattle.aud_sequential.specs.Shown.{plans_of, unit_in};
 ghost use Rattle.aud_tasks.specs.Listed.{rests, usual_place_in};
+ghost use Rattle.aud_tasks.specs.Shown.{step_in};
 ghost use Rattle.aud_tasks.specs.Turning.{seen_in, turned};
 
 use crate::compiled::Compiled;
@@ -33,6 +34,18 @@ pub fn coming(state: &State, compiled: Compiled<'_>, task: usize) -> Option<Next
     let kind = kind_of(state, compiled.code, task, turn);
     let at = place_of(state, compiled, task, turn);
     Some(NextStep { kind, at })
+}
+
+/// What is shown of the task of this number, counted from 0, whether it rests or not: the kind of the step of its turn, `Null` where
+/// it rests, and the place.
+pub fn shown_step(state: &State, compiled: Compiled<'_>, task: usize) -> NextStep
+    ensures { let plan = (plain_program compiled.entry.program.now).plan in
+        result ≡ step_in plan compiled.entry.code.now task state.now }
+{
+    let turn = turn_of(state, compiled.code, task);
+    let kind = kind_of(state, compiled.code, task, turn);
+    let at = place_of(state, compiled, task, turn);
+    NextStep { kind, at }
 }
 
 // Whether that is nothing.

@@ -9,6 +9,7 @@ mod endings;
 mod leave;
 pub mod moves;
 pub mod run;
+pub mod status;
 mod step;
 mod times;
 pub mod turn;

@@ -1,6 +1,6 @@
 // What can happen next.
 
-ghost use Rattle.std.specs.Prelude.{◌≡◌, ℕ, [], length, not, ◌||◌, IfOk, slice_get};
+ghost use Rattle.std.specs.Prelude.{◌≡◌, ℕ, [], length, not, ◌||◌, IfOk, is_some, slice_get};
 ghost use Rattle.aud_typed.specs.Tree.{Plan};
 ghost use Rattle.aud_typed.specs.Ties.View.{plain_program};
 ghost use Rattle.aud_meaning.specs.Parts.{is_terminated, own_of};
@@ -109,6 +109,15 @@ fn may_move(state: &State) -> bool
     ensures { result ≡ not (is_terminated (own_of 0 state.now).status || state.now.shared.cut) }
 {
     !(has_ended(state) || state.is_cut())
+}
+
+/// Whether the task of this number has a move.
+pub(crate) fn has_move(state: &State, code: &SoundCode, task: usize) -> bool
+    ensures { (plan : Plan) → plan.objects ≡ [] →
+        result ≡ is_some (slice_get (moves_of plan code.now task state.now) 0) }
+{
+    let enabled = enabled_of(state, code, task);
+    nth(enabled, task, state.clock(), 0).is_some()
 }
 
 // The moves of the task of this number.

@@ -1,7 +1,7 @@
 -- The number and the words of each refusal.
 use Rattle.std.specs.Prelude.{ℕ, List, codes}
 use Rattle.aud_text.specs.declared.refusal.Refusal.{Refusal}
-use Rattle.aud_text.specs.declared.refusal.Refusal.TheVariants.{UnknownCommand, BadArgument, LineTooLong, JournalFull, NoProgram, StepBudget, ChoicesFull, NotAscii, Lexical, Syntax, SourceTooLong, TooDeep, NameNotDeclared, DeclaredTwice, WrongKindOfName, WrongType, WrongNumberOfArguments, NotAVariable, WrongNameAtEnd, NoMatchingBody, ExitWithoutLoop, ReturnOutOfPlace, RaiseWithoutHandler, BadHandlerChoice, NumberTooLarge, OutOfMemory}
+use Rattle.aud_text.specs.declared.refusal.Refusal.TheVariants.{UnknownCommand, BadArgument, LineTooLong, JournalFull, NoProgram, NoSuchTask, NoSuchMove, StepBudget, ChoicesFull, NotAscii, Lexical, Syntax, SourceTooLong, TooDeep, NameNotDeclared, DeclaredTwice, WrongKindOfName, WrongType, WrongNumberOfArguments, NotAVariable, WrongNameAtEnd, NoMatchingBody, ExitWithoutLoop, ReturnOutOfPlace, RaiseWithoutHandler, BadHandlerChoice, NumberTooLarge, OutOfMemory}
 
 abbrev pub told : Refusal → ℕ × List ℕ
 told UnknownCommand = (10, codes "unknown command")
@@ -9,6 +9,8 @@ told BadArgument = (11, codes "bad argument")
 told LineTooLong = (12, codes "line too long")
 told JournalFull = (13, codes "journal full")
 told NoProgram = (14, codes "no program")
+told NoSuchTask = (15, codes "no such task")
+told NoSuchMove = (16, codes "no such move")
 told StepBudget = (17, codes "step budget")
 told ChoicesFull = (18, codes "choice list full")
 told NotAscii = (19, codes "not ASCII")

@@ -10,6 +10,7 @@ use Rattle.aud_bench.specs.declared.request.Request.TheVariants as request
 use Rattle.aud_bench.specs.declared.request.Answer.{Answer}
 use Rattle.aud_bench.specs.declared.service.Served.{Served}
 use Rattle.aud_bench.specs.Alone.{Loaded, Reply, steps_left, replied}
+use Rattle.aud_bench.specs.Ties.Times.{HasTime}
 
 -- a machine of the loaded program and with these limits, which shows how far the program is
 pub record Holds (limits : Limits) (machine : Shown) (loaded : Loaded) : Type 0 where
@@ -33,6 +34,10 @@ pub record Replies (limits : Limits) (answer : Answer) (machine : Option Shown) 
 abbrev pub RepliesAs : (Option Loaded → Reply) → Limits → Option Shown → Answer → Option Shown → Type 0
 RepliesAs reply limits before answer after = (loaded : Option Loaded) → IsLoaded limits before loaded → Replies limits answer after (reply loaded)
 
+-- the same, where the clock has room
+abbrev pub RepliesInTime : (Option Loaded → Reply) → Limits → Option Shown → Answer → Option Shown → Type 0
+RepliesInTime reply limits before answer after = (loaded : Option Loaded) → HasTime loaded → IsLoaded limits before loaded → Replies limits answer after (reply loaded)
+
 -- the program n steps on
 abbrev pub behind_steps : Limits → ℕ → Option Loaded → Option Loaded
 behind_steps limits n None = None
@@ -41,8 +46,13 @@ behind_steps limits n (Some loaded) = Some (record loaded { now = run limits loa
 -- what is loaded while the request is under way: a RUN has done a step for each unit
 abbrev pub behind : Limits → Request → ℕ → Option Loaded → Option Loaded
 behind limits (request.Load source) done loaded = loaded
+behind limits request.Reset done loaded = loaded
 behind limits (request.Run n) done loaded = behind_steps limits done loaded
+behind limits (request.Step n) done loaded = loaded
 behind limits (request.Choose choices) done loaded = loaded
+behind limits (request.Advance milliseconds) done loaded = loaded
+behind limits request.Clock done loaded = loaded
+behind limits (request.List listing) done loaded = loaded
 behind limits request.Output done loaded = loaded
 behind limits (request.Seat number) done loaded = loaded
 behind limits request.Quit done loaded = loaded
@@ -57,7 +67,12 @@ abbrev pub EachStepped : Limits → Request → ℕ → Option Loaded → Type 0
 EachStepped limits (request.Run n) done (Some loaded) = HasRun limits n done loaded
 EachStepped limits (request.Run n) done None = Unit {0}
 EachStepped limits (request.Load source) done loaded = Unit {0}
+EachStepped limits request.Reset done loaded = Unit {0}
+EachStepped limits (request.Step n) done loaded = Unit {0}
 EachStepped limits (request.Choose choices) done loaded = Unit {0}
+EachStepped limits (request.Advance milliseconds) done loaded = Unit {0}
+EachStepped limits request.Clock done loaded = Unit {0}
+EachStepped limits (request.List listing) done loaded = Unit {0}
 EachStepped limits request.Output done loaded = Unit {0}
 EachStepped limits (request.Seat number) done loaded = Unit {0}
 EachStepped limits request.Quit done loaded = Unit {0}
@@ -80,6 +95,6 @@ ServesBy None limits r loaded done units cost after machine =
 abbrev pub Serves : Limits → Request → Option Loaded → (done units : ℕ) → Served → Option Shown → Type 0
 Serves limits r loaded done units served machine = ServesBy served.answer limits r loaded done units served.cost served.progress machine
 
--- it is work on the request, whatever was loaded before that
+-- it is work on the request, whatever was loaded before that, if the clock of it has room
 abbrev pub GoesOn : Limits → Request → (done units : ℕ) → Option Shown → Served → Option Shown → Type 0
-GoesOn limits r done units before served after = (loaded : Option Loaded) → UnderWay limits r loaded done before → Serves limits r loaded done units served after
+GoesOn limits r done units before served after = (loaded : Option Loaded) → HasTime loaded → UnderWay limits r loaded done before → Serves limits r loaded done units served after

@@ -1,6 +1,6 @@
 -- How far the request is that a stream's bytes begin.
 use Rattle.std.specs.Prelude.{◌≡◌, ℕ, ◌<◌, List, [], ◌++◌}
-use Rattle.aud_bench.specs.Size.{line_count}
+use Rattle.aud_text.specs.Lines.{line_count}
 use Rattle.aud_lines.specs.Requests.{requests}
 
 -- no request is whole as long as fewer than n lines more have ended

@@ -25,8 +25,11 @@ pub enum Source {
 #[derive(Clone, Copy, PartialEq, Eq, Debug)]
 pub enum Ask {
     Load(Source),
+    Reset,
     Run(u32),
+    Step(u32),
     Choose(u8),
+    Clock,
     Output,
     Bad,
     Quit,
@@ -50,8 +53,11 @@ fn text(source: Source) -> &'static [u8] {
 pub fn request(alloc: Global, ask: Ask) -> Result<Request, AllocError> {
     Ok(match ask {
         Ask::Load(source) => Request::Load(Text::from_slice(alloc, text(source))?),
+        Ask::Reset => Request::Reset,
         Ask::Run(steps) => Request::Run(steps),
+        Ask::Step(nth) => Request::Step(nth),
         Ask::Choose(choice) => Request::Choose(one_choice(alloc, choice)?),
+        Ask::Clock => Request::Clock,
         Ask::Output => Request::Output,
         Ask::Bad => Request::Bad(BadRequest::UnknownCommand),
         Ask::Quit => Request::Quit,
@@ -73,7 +79,11 @@ pub fn drawn(rng: &mut SmallRng) -> Ask {
         14..=15 => Ask::Load(Source::Wrong),
         16..=35 => Ask::Run(rng.random_range(1u32..21)),
         36..=39 => Ask::Choose(rng.random_range(0u8..4)),
-        40..=55 => Ask::Output,
+        40..=42 => Ask::Step(0),
+        43 => Ask::Step(1),
+        44..=45 => Ask::Clock,
+        46 => Ask::Reset,
+        47..=55 => Ask::Output,
         56..=58 => Ask::Bad,
         _ => Ask::Quit,
     }

@@ -6,7 +6,7 @@ use aud_bench::session::Session;
 use aud_text::limits::Limits;
 use std::alloc::{AllocError, Global};
 
-/// An answer, and the units of work that its request costs: a RUN its steps, but at least one, and any other one.
+/// An answer, and the units of work that its request costs: a RUN or STEP its steps, but at least one, and any other one.
 #[derive(Drop)]
 pub struct Served {
     pub answer: Answer,

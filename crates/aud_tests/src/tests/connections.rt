@@ -11,6 +11,7 @@ use aud_solo::streams::{Fused, Stream};
 use std::alloc::{AllocError, Global};
 use std::cell::Cell;
 use std::io::Read;
+use std::process::Abort;
 use std::sync::Wait;
 use std::test::*;
 use std::thread;
@@ -185,81 +186,89 @@ fn tells_what_is_due(rt: HostRuntime) -> Result<(), Fail> {
     Ok(())
 }
 
+// At desks without workers: a session that fills its journal, and another one that is cut short at any byte.
 #[test]
-fn fills_its_journal(rt: HostRuntime) -> Result<(), AllocError> {
+fn frees_its_seat(rt: HostRuntime) -> Result<(), AllocError> {
     let alloc = rt.alloc();
-    let desk = desk_of(alloc, 1)?;
-    desk.stop(&rt);
-    let (asked, told) = script(alloc, JOURNAL)?;
-    let wanted: Served = (Ok(()), told);
-    assert!(rt; served(&rt, alloc, &desk, asked.as_slice()) == wanted);
-    assert!(rt; is_free(&rt, alloc, &desk));
-    Ok(())
-}
-
-// Each front of the session as a whole connection.
-#[test]
-fn frees_its_seat_at_any_end(rt: HostRuntime) -> Result<(), AllocError> {
-    let alloc = rt.alloc();
-    let desk = desk_of(alloc, 8)?;
-    desk.stop(&rt);
-    let (asked, _) = script(alloc, SESSION)?;
-    let mut front = Vec::new(alloc);
-    for byte in &asked {
-        let count = front.len();
-        let wanted: Served = (Ok(()), due(alloc, count)?);
-        assert!(rt;
-            served(&rt, alloc, &desk, front.as_slice()) == wanted,
-            "{count} bytes"
-        );
-        assert!(rt; is_free(&rt, alloc, &desk), "{count} bytes");
-        front.push(*byte)?;
-    }
-    Ok(())
-}
-
-// Each read of a byte fails in turn.
-#[test]
-fn frees_its_seat_where_a_read_fails(rt: HostRuntime) -> Result<(), AllocError> {
-    let alloc = rt.alloc();
+    let one = desk_of(alloc, 1)?;
+    one.stop(&rt);
+    fills_its_journal(&rt, alloc, &one)?;
     let desk = desk_of(alloc, 8)?;
     desk.stop(&rt);
     let (asked, _) = script(alloc, SESSION)?;
     for count in 0..asked.len() {
-        let given = Cell::new(0);
-        let bytes = Counted {
-            rest: asked.as_slice(),
-            given: &given,
-        };
-        let reader = Fused::new(bytes, (count as u64).saturating_add(1));
-        let wanted: Served = (Err(ServeFault::Read), due(alloc, count)?);
-        assert!(rt;
-            served(&rt, alloc, &desk, reader) == wanted,
-            "{count} bytes"
-        );
-        assert!(rt; is_free(&rt, alloc, &desk), "{count} bytes");
+        ends_after(&rt, alloc, &desk, &asked[..count])?;
+        fails_after(&rt, alloc, &desk, &asked, count)?;
     }
+    fails_to_write(&rt, alloc, &desk, &asked)
+}
+
+fn fills_its_journal<R: Abort + Wait>(
+    rt: &R,
+    alloc: Global,
+    desk: &Desk,
+) -> Result<(), AllocError> {
+    let (asked, told) = script(alloc, JOURNAL)?;
+    let wanted: Served = (Ok(()), told);
+    assert!(rt; served(rt, alloc, desk, asked.as_slice()) == wanted);
+    assert!(rt; is_free(rt, alloc, desk));
+    Ok(())
+}
+
+// A connection that ends after these bytes of the session.
+fn ends_after<R: Abort + Wait>(
+    rt: &R,
+    alloc: Global,
+    desk: &Desk,
+    front: &[u8],
+) -> Result<(), AllocError> {
+    let wanted: Served = (Ok(()), due(alloc, front.len())?);
+    assert!(rt;
+        served(rt, alloc, desk, front) == wanted,
+        "{} bytes",
+        front.len()
+    );
+    assert!(rt; is_free(rt, alloc, desk), "{} bytes", front.len());
+    Ok(())
+}
+
+// One whose read fails after so many bytes.
+fn fails_after<R: Abort + Wait>(
+    rt: &R,
+    alloc: Global,
+    desk: &Desk,
+    asked: &[u8],
+    count: usize,
+) -> Result<(), AllocError> {
+    let given = Cell::new(0);
+    let bytes = Counted {
+        rest: asked,
+        given: &given,
+    };
+    let reader = Fused::new(bytes, (count as u64).saturating_add(1));
+    let wanted: Served = (Err(ServeFault::Read), due(alloc, count)?);
+    assert!(rt; served(rt, alloc, desk, reader) == wanted, "read {count}");
+    assert!(rt; is_free(rt, alloc, desk), "read {count}");
     Ok(())
 }
 
 // Each write of an answer fails in turn.
-#[test]
-fn frees_its_seat_where_a_write_fails(rt: HostRuntime) -> Result<(), AllocError> {
-    let alloc = rt.alloc();
-    let desk = desk_of(alloc, 8)?;
-    desk.stop(&rt);
-    let (asked, _) = script(alloc, SESSION)?;
+fn fails_to_write<R: Abort + Wait>(
+    rt: &R,
+    alloc: Global,
+    desk: &Desk,
+    asked: &[u8],
+) -> Result<(), AllocError> {
     let mut wanted = Vec::new(alloc);
     let mut call = 0u64;
     for &(_, _, answer) in SESSION {
         call = call.saturating_add(1);
         let mut written = Vec::new(alloc);
-        let mut reader = Stream::new(asked.as_slice());
         let mut writer = Stream::new(Fused::new(&mut written, call));
-        let ended = serve(&rt, alloc, &desk, &mut reader, &mut writer);
+        let ended = serve(rt, alloc, desk, &mut Stream::new(asked), &mut writer);
         assert!(rt; ended == Err(ServeFault::Write), "write {call}");
         assert!(rt; written == wanted, "write {call}");
-        assert!(rt; is_free(&rt, alloc, &desk), "write {call}");
+        assert!(rt; is_free(rt, alloc, desk), "write {call}");
         wanted.extend_from_slice(answer)?;
     }
     Ok(())

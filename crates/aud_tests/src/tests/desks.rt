@@ -15,6 +15,7 @@ use aud_server::host::Host;
 use aud_text::limits::STANDARD;
 use aud_text::text::Text;
 use std::alloc::{AllocError, Global};
+use std::process::Abort;
 use std::sync::Wait;
 use std::sync::atomic::{AtomicBool, AtomicU64, Ordering};
 use std::test::*;
@@ -159,48 +160,69 @@ fn a_slice_of_one_seat_is_held(rt: HostRuntime) -> Result<(), Fail> {
     Ok(())
 }
 
-// Refused at another desk, which stores nothing, and goes on at its own.
+// At desks without workers, which do what is sent at once.
 #[test]
-fn a_pass_of_another_desk(rt: HostRuntime) -> Result<(), Fail> {
+fn passes(rt: HostRuntime) -> Result<(), Fail> {
     let alloc = rt.alloc();
-    let one = desk_of(alloc, 1)?;
-    let other = desk_of(alloc, 1)?;
+    let one = desk_of(alloc, 2)?;
+    let other = desk_of(alloc, 2)?;
     one.stop(&rt);
-    let mut pass = one.open(&rt, alloc, 1)?;
-    let there = other.open(&rt, alloc, 1)?;
-    one.submit(&rt, alloc, &mut pass, Request::Output)?;
-    let refused = Err(DeskFault::NotThisDesk(0));
-    assert!(rt; other.submit(&rt, alloc, &mut pass, Request::Output) == refused);
-    let Err((mut pass, fault)) = other.close(&rt, pass) else {
-        return Err(Fail::new("closed at another desk"));
-    };
-    assert!(rt; fault == DeskFault::NotThisDesk(0));
-    assert!(rt; other.close(&rt, there).is_ok());
-    let text = told(&rt, alloc, &one, &mut pass)?;
-    finds(&rt, "its own desk", &text, b"- E14 no program\n");
-    assert!(rt; one.close(&rt, pass).is_ok());
+    refuses_seats(&rt, alloc, &one)?;
+    is_answered(&rt, alloc, &one)?;
+    is_refused_elsewhere(&rt, alloc, &one, &other)
+}
+
+fn refuses_seats<R: Abort + Wait>(rt: &R, alloc: Global, desk: &Desk) -> Result<(), Fail> {
+    let pass = desk.open(rt, alloc, 2)?;
+    assert!(rt; matches!(desk.open(rt, alloc, 2), Err(DeskFault::SeatInUse)));
+    assert!(rt; matches!(desk.open(rt, alloc, 0), Err(DeskFault::NoSuchSeat)));
+    assert!(rt; matches!(desk.open(rt, alloc, 3), Err(DeskFault::NoSuchSeat)));
+    assert!(rt; desk.close(rt, pass).is_ok());
     Ok(())
 }
 
-// A desk that has stopped does what is sent at once.
-#[test]
-fn what_is_sent_is_answered(rt: HostRuntime) -> Result<(), Fail> {
-    let alloc = rt.alloc();
-    let desk = desk_of(alloc, 2)?;
-    desk.stop(&rt);
-    let mut pass = desk.open(&rt, alloc, 2)?;
-    assert!(rt; matches!(desk.open(&rt, alloc, 2), Err(DeskFault::SeatInUse)));
-    assert!(rt; matches!(desk.open(&rt, alloc, 0), Err(DeskFault::NoSuchSeat)));
-    assert!(rt; matches!(desk.open(&rt, alloc, 3), Err(DeskFault::NoSuchSeat)));
-    desk.submit(&rt, alloc, &mut pass, Request::Output)?;
-    assert!(rt; desk.collect(&rt, alloc, &mut pass)? == Got::New(1));
-    desk.submit(&rt, alloc, &mut pass, Request::Quit)?;
-    let refused = desk.submit(&rt, alloc, &mut pass, Request::Output);
+fn is_answered<R: Abort + Wait>(rt: &R, alloc: Global, desk: &Desk) -> Result<(), Fail> {
+    let mut pass = desk.open(rt, alloc, 2)?;
+    asks_to_its_end(rt, alloc, desk, &mut pass)?;
+    assert!(rt; desk.close(rt, pass).is_ok());
+    Ok(())
+}
+
+fn asks_to_its_end<R: Abort + Wait>(
+    rt: &R,
+    alloc: Global,
+    desk: &Desk,
+    pass: &mut Pass,
+) -> Result<(), Fail> {
+    desk.submit(rt, alloc, pass, Request::Output)?;
+    assert!(rt; desk.collect(rt, alloc, pass)? == Got::New(1));
+    desk.submit(rt, alloc, pass, Request::Quit)?;
+    let refused = desk.submit(rt, alloc, pass, Request::Output);
     assert!(rt; refused == Err(DeskFault::NotClaimed));
-    let text = told(&rt, alloc, &desk, &mut pass)?;
-    finds(&rt, "answers", &text, b"- E14 no program\n+ 0\n");
-    assert!(rt; desk.close(&rt, pass).is_ok());
-    let again = desk.open(&rt, alloc, 2)?;
-    assert!(rt; desk.close(&rt, again).is_ok());
+    let text = told(rt, alloc, desk, pass)?;
+    finds(rt, "answers", &text, b"- E14 no program\n+ 0\n");
+    Ok(())
+}
+
+// A pass is refused at another desk, which stores nothing, and goes on at its own.
+fn is_refused_elsewhere<R: Abort + Wait>(
+    rt: &R,
+    alloc: Global,
+    desk: &Desk,
+    other: &Desk,
+) -> Result<(), Fail> {
+    let mut pass = desk.open(rt, alloc, 1)?;
+    desk.submit(rt, alloc, &mut pass, Request::Output)?;
+    let there = other.open(rt, alloc, 1)?;
+    let refused = Err(DeskFault::NotThisDesk(0));
+    assert!(rt; other.submit(rt, alloc, &mut pass, Request::Output) == refused);
+    let Err((mut pass, fault)) = other.close(rt, pass) else {
+        return Err(Fail::new("closed at another desk"));
+    };
+    assert!(rt; fault == DeskFault::NotThisDesk(0));
+    assert!(rt; other.close(rt, there).is_ok());
+    let text = told(rt, alloc, desk, &mut pass)?;
+    finds(rt, "its own desk", &text, b"- E14 no program\n");
+    assert!(rt; desk.close(rt, pass).is_ok());
     Ok(())
 }

@@ -7,6 +7,7 @@ use Rattle.aud_layout.specs.Layout.{statement_size_by, part_size_by}
 use Rattle.aud_layout.specs.Written.{flat_step}
 use Rattle.aud_gen.proofs.Elaborations.{activated_length}
 use Rattle.aud_gen.proofs.Loops.{if_ok}
+use Rattle.aud_gen.proofs.Counted.{exactly}
 use Rattle.aud_gen.proofs.Lists.{arms_length, if_length}
 use Rattle.aud_gen.proofs.lengths.+lengths.Goals as goal
 
@@ -32,14 +33,14 @@ statement_length-returns-in-Block t c =
     let is = ap plain_statement c.in-Block.is ∙ block_open c.in-Block.block.value in
     if_ok c.block_length.result (λ n h. h ∙ ap (λ z. statement_size_by flat_step (block_in z) c.args.ways) c.deref-in-Block.ensures ∙ ap (λ z. statement_size_by flat_step z c.args.ways) (sym is)) c.block_length.ensures
 
-pub statement_length-returns-in_ok-sum-in-While-2 : goal.statement_length-returns-in_ok-sum-in-While-2
-statement_length-returns-in_ok-sum-in-While-2 t c =
+pub statement_length-returns-in_ok-inside-in-While : goal.statement_length-returns-in_ok-inside-in-While
+statement_length-returns-in_ok-inside-in-While t c =
     let ways = c.args.ways in
     let body = statements_in c.in-While.body.value in
     let is = ap plain_statement c.in-While.is ∙ while_open c.in-While.field-0 c.in-While.condition c.in-While.body in
     let more : c.in_ok-sum-in-While.field-0 ≡ suc ways = omega (arith, c.in_ok-sum-in-While.ensures) in
-    let inside = c.in_ok-statements_length-in-While.ensures ∙ ap (λ z. statement_size_by flat_step (statements_in z) c.in_ok-sum-in-While.field-0) c.deref-in-While.ensures ∙ ap (statement_size_by flat_step body) more in
-    if_ok c.sum-in-While-3.result (λ n h. omega (arith, h, c.in_ok-boolean_length-in-While.ensures, inside, c.in_ok-sum-in-While-2.ensures, ap (λ z. statement_size_by flat_step z ways) is)) c.sum-in-While-3.ensures
+    let within = c.in_ok-inside-in-While.ensures ∙ ap (λ z. statement_size_by flat_step (statements_in z) c.in_ok-sum-in-While.field-0) c.deref-in-While.ensures ∙ ap (statement_size_by flat_step body) more in
+    exactly c.exact-in-While.result _ _ (omega (arith, ap (λ z. statement_size_by flat_step z ways) is)) c.exact-in-While.ensures.same c.exact-in-While.ensures.whole
 
 pub statement_length-returns-in_ok-sum-in-Loop : goal.statement_length-returns-in_ok-sum-in-Loop
 statement_length-returns-in_ok-sum-in-Loop t c =

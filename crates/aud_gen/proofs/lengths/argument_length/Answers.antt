@@ -2,11 +2,9 @@ use Rattle.std.proofs.Common.{length, ap, arith}
 use Rattle.aud_typed.specs.Ties.View.{plain_argument, plain_reference}
 use Rattle.aud_layout.specs.Instructions.{argument_code, reference_code}
 use Rattle.aud_gen.proofs.Arguments.{copy_length}
-use Rattle.aud_gen.proofs.Loops.{if_ok}
 use Rattle.aud_gen.proofs.lengths.argument_length.Goals as goal
 
-pub returns-in_ok-sum-in-ByCopy : goal.returns-in_ok-sum-in-ByCopy
-returns-in_ok-sum-in-ByCopy c =
+pub returns-in-ByCopy : goal.returns-in-ByCopy
+returns-in-ByCopy c =
     let found = reference_code (plain_reference c.in-ByCopy.r) in
-    if_ok c.sum-in-ByCopy-2.result (λ n h. λ number.
-    omega (arith, h, c.in_ok-sum-in-ByCopy.ensures, c.in_ok-reference_length-in-ByCopy.ensures, c.first_value_length.ensures c.in-ByCopy.field-1, copy_length c.in-ByCopy.is_in c.in-ByCopy.field-1 number found, ap (λ a. length (argument_code number (plain_argument a))) c.in-ByCopy.is)) c.sum-in-ByCopy-2.ensures
+    λ number. omega (arith, c.first_value_length.ensures c.in-ByCopy.field-1, copy_length c.in-ByCopy.is_in c.in-ByCopy.field-1 number found, ap (λ a. length (argument_code number (plain_argument a))) c.in-ByCopy.is)

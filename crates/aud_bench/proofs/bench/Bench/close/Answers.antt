@@ -19,6 +19,7 @@ invariant_of-self c =
       c.self.invariant.2,
       c.self.invariant.3,
       c.self.invariant.4,
+      c.self.invariant.5,
     )
 
 pub returns : goal.returns

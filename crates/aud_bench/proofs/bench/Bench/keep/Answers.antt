@@ -6,7 +6,9 @@ use Rattle.aud_bench.specs.Size.{bytes_of}
 use Rattle.aud_bench.specs.Seen.{Seen, has_quit}
 use Rattle.aud_bench.specs.Ties.Standing.{IsAt, units_done}
 use Rattle.aud_bench.specs.Ties.Kept.{is_kept}
+use Rattle.aud_bench.specs.Ties.Times.{are_brief}
 use Rattle.aud_bench.proofs.Fronts.{kept_more}
+use Rattle.aud_bench.proofs.Times.{brief_more}
 use Rattle.aud_bench.proofs.Benches.{count_within, given, given_units}
 use Rattle.aud_bench.proofs.Journals.{bytes_append, last_quits, room_left}
 use Rattle.aud_bench.proofs.Truths.{or_right}
@@ -33,11 +35,12 @@ invariant_of-self-2 c =
       omega (arith, count, ap length c.in_ok-push.ensures.items, length-append s.journal.items (r ∷ []), c.in_ok-reserve.ensures.ok, c.in_ok-reserve.ensures.len, c.len.ensures, c.len-2.ensures, s.journal.ok.0, s.answers.ok.0),
       (λ other.
           let within = room_left (length s.journal.items) (bytes_of s.journal.items) r room (sym c.is_quit-quit.ensures ∙ other) in (
-            omega (arith, bytes, c.size-size.ensures, ap bytes_of c.in_ok-push.ensures.items, bytes_append s.journal.items r),
-            omega (arith, within, bytes, c.size-size.ensures),
+            omega (arith, bytes, c.size-size.ensures.size, ap bytes_of c.in_ok-push.ensures.items, bytes_append s.journal.items r),
+            omega (arith, within, bytes, c.size-size.ensures.size),
           )),
       c.is_quit-quit.ensures ∙ sym (last_quits s.journal.items r going) ∙ ap has_quit (sym c.in_ok-push.ensures.items),
       ap is_kept c.in_ok-push.ensures.items ∙ kept_more s.journal.items r c.self.invariant.4 going room,
+      ap are_brief c.in_ok-push.ensures.items ∙ brief_more s.journal.items r c.self.invariant.5 c.size-size.ensures.brief,
     )
 
 pub returns-clause-ok : goal.returns-clause-ok

@@ -29,6 +29,7 @@ invariant_of-self c =
       c.self.invariant.2,
       c.self.invariant.3,
       c.self.invariant.4,
+      c.self.invariant.5,
     )
 
 pub returns-clause-items : goal.returns-clause-items

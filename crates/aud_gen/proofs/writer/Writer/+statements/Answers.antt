@@ -23,7 +23,7 @@ pub write_arm-returns : goal.write_arm-returns
 write_arm-returns t c =
     let a = around c.args.out c.args.ways.now in
     let size = statement_size_by flat_step (statements_in c.args.arm.now.statements) (ways_count a) in
-    let inside_is : c.in_ok-inside.inside ≡ suc (length c.args.self.now + length (condition_code (plain_boolean c.args.arm.now.condition))) = omega (arith, c.in_ok-inside.ensures, c.in_ok-sum.ensures, c.in_ok-boolean_length.ensures, c.place.ensures) in
+    let inside_is : c.in_ok-inside.inside ≡ suc (length c.args.self.now + length (condition_code (plain_boolean c.args.arm.now.condition))) = omega arith in
     let behind_is : c.in_ok-behind.behind ≡ c.in_ok-inside.inside + size = c.in_ok-behind.ensures ∙ ap (λ n. c.in_ok-inside.inside + n) (c.in_ok-statements_length.ensures ∙ ap (statement_size_by flat_step (statements_in c.args.arm.now.statements)) c.in_ok-count.ensures) in
     let leads : c.if-more.otherwise ≡ (if c.args.more then c.in_ok-inside.inside + size else c.args.next) =
     elim c.if-more.branch [
@@ -115,7 +115,7 @@ write_block-returns t c =
 
 pub write_for-returns : goal.write_for-returns
 write_for-returns t c =
-    let again_is : c.in_ok-again.again ≡ suc (length c.args.self.now + bounds c.args.s.now) = omega (arith, c.in_ok-again.ensures, c.in_ok-sum.ensures, c.place-place.ensures, c.in_ok-bounds.ensures, c.in_ok-integer_length.ensures, c.in_ok-integer_length-2.ensures) in
+    let again_is : c.in_ok-again.again ≡ suc (length c.args.self.now + bounds c.args.s.now) = omega arith in
     whole_for c.write_statements.result c.args.s.now c.args.self.now c.write_control.new.self c.write_statements.new.self c.place-place.result c.in_ok-again.again c.args.next (around c.args.out c.args.ways.now) (around c.args.out c.in_ok-inner.inner) c.place-place.ensures again_is (c.in_ok-inner.ensures c.args.out) c.in_ok-write_control.ensures c.write_statements.ensures
 
 pub write_handlers-loop-handler-preserved : goal.write_handlers-loop-handler-preserved

@@ -1,6 +1,6 @@
 use Rattle.std.proofs.Common.{◌≡◌, ◌-◌, ◌<◌, ◌++◌, List, [], sym, ap, ◌∙◌, subst, arith}
 use Rattle.aud_bench.specs.declared.request.Request.{Request}
-use Rattle.aud_bench.specs.Size.{line_count}
+use Rattle.aud_text.specs.Lines.{line_count}
 use Rattle.aud_lines.specs.Ties.Splits.{Splits}
 use Rattle.aud_lines.specs.Ties.Waits.{Waits}
 use Rattle.aud_lines.specs.Ties.Held.{held_from, IsHeld}

@@ -1,4 +1,5 @@
 use Rattle.aud_machine.proofs.Bridges.{owns_shown, shared_shown}
+use Rattle.aud_machine.proofs.Views.{view_shown}
 use Rattle.aud_machine.proofs.machine.Machine.parts.Goals as goal
 
 pub returns-clause-tasks : goal.returns-clause-tasks
@@ -10,3 +11,8 @@ pub returns-clause-shared : goal.returns-clause-shared
 returns-clause-shared c =
     let inside = c.self.inside in
     rw (← c.self.view_is) (λ shown h. shared_shown inside.program inside.code c.self.invariant.0 inside.limits inside.spent inside.state shown h)
+
+pub returns-clause-view : goal.returns-clause-view
+returns-clause-view c =
+    let inside = c.self.inside in
+    rw (← c.self.view_is) (λ shown h. view_shown inside.program inside.code c.self.invariant.0 inside.limits inside.spent inside.state shown h)

@@ -1,11 +1,11 @@
-use Rattle.aud_over.proofs.Left.{listed_left, coming_left}
-use Rattle.aud_over.proofs.laws.listed_law.Goals as goal
+use Rattle.aud_over.proofs.Left.{view_left, coming_left}
+use Rattle.aud_over.proofs.laws.view_law.Goals as goal
 
 pub returns-clause-statements : goal.returns-clause-statements
-returns-clause-statements c = λ plan k x y through same. listed_left plan k through x y same
+returns-clause-statements c = λ plan k x y through same. view_left plan k through x y same
 
 pub returns-clause-code : goal.returns-clause-code
-returns-clause-code c = λ plan k x y through same. listed_left plan k through x y same
+returns-clause-code c = λ plan k x y through same. view_left plan k through x y same
 
 pub returns-clause-statements_coming : goal.returns-clause-statements_coming
 returns-clause-statements_coming c = λ plan k n x y through same. coming_left plan k through n x y same

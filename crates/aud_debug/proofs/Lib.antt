@@ -1,0 +1,9 @@
+pub mod Cells
+pub mod Counted
+pub mod Ended
+pub mod Frames
+pub mod Grouped
+pub mod Moving
+pub mod Pages
+pub mod Queued
+pub mod Tasked

@@ -1,0 +1,28 @@
+use Rattle.std.proofs.Common.{false, sym, ◌∙◌}
+use Rattle.aud_meaning.specs.declared.state.Status.TheVariants.{Accepting, Activating, Calling, Completed, Created, Delaying, Running, Terminated}
+use Rattle.aud_tasks.proofs.Shown.{calling_as, running_as, status_as}
+use Rattle.aud_tasks.proofs.status.otherwise.Goals as goal
+
+pub returns-in-Created : goal.returns-in-Created
+returns-in-Created c = λ plan none. sym (status_as plan c.args.code.now c.args.task c.args.state.now false Created (sym c.status.ensures ∙ c.in-Created.is))
+
+pub returns-in-Activating : goal.returns-in-Activating
+returns-in-Activating c = λ plan none. sym (status_as plan c.args.code.now c.args.task c.args.state.now false Activating (sym c.status.ensures ∙ c.in-Activating.is))
+
+pub returns-in-Accepting : goal.returns-in-Accepting
+returns-in-Accepting c = λ plan none. sym (status_as plan c.args.code.now c.args.task c.args.state.now false Accepting (sym c.status.ensures ∙ c.in-Accepting.is))
+
+pub returns-in-Delaying : goal.returns-in-Delaying
+returns-in-Delaying c = λ plan none. sym (status_as plan c.args.code.now c.args.task c.args.state.now false Delaying (sym c.status.ensures ∙ c.in-Delaying.is))
+
+pub returns-in-Completed : goal.returns-in-Completed
+returns-in-Completed c = λ plan none. sym (status_as plan c.args.code.now c.args.task c.args.state.now false Completed (sym c.status.ensures ∙ c.in-Completed.is))
+
+pub returns-in-Terminated : goal.returns-in-Terminated
+returns-in-Terminated c = λ plan none. sym (status_as plan c.args.code.now c.args.task c.args.state.now false Terminated (sym c.status.ensures ∙ c.in-Terminated.is))
+
+pub returns-in-Running : goal.returns-in-Running
+returns-in-Running c = λ plan none. c.running.ensures plan none ∙ sym (running_as plan c.args.code.now c.args.task c.args.state.now (sym c.status.ensures ∙ c.in-Running.is))
+
+pub returns-in-Calling : goal.returns-in-Calling
+returns-in-Calling c = λ plan none. c.calling.ensures plan none ∙ sym (calling_as plan c.args.code.now c.args.task c.args.state.now (sym c.status.ensures ∙ c.in-Calling.is))

@@ -1,0 +1,19 @@
+use Rattle.std.proofs.Common.{sym, ◌∙◌}
+use Rattle.aud_tasks.specs.Moving.{moves_of}
+use Rattle.aud_tasks.specs.Shown.{words_of}
+use Rattle.aud_tasks.proofs.Shown.{ready_as, ready_by}
+use Rattle.aud_tasks.proofs.status.ready_or.Goals as goal
+
+pub returns-then-has_move : goal.returns-then-has_move
+returns-then-has_move c = λ plan none.
+    let code = c.args.code.now in
+    let s = c.args.state.now in
+    let n = c.args.task in
+    ready_by plan code n s (words_of c.args.other) (moves_of plan code n s) (sym (c.has_move.ensures plan none) ∙ c.if-has_move.true)
+
+pub returns-else-has_move : goal.returns-else-has_move
+returns-else-has_move c = λ plan none.
+    let code = c.args.code.now in
+    let s = c.args.state.now in
+    let n = c.args.task in
+    ready_as plan code n s (words_of c.args.other) (moves_of plan code n s) (sym (c.has_move.ensures plan none) ∙ c.if-has_move.false)

@@ -1,0 +1,202 @@
+"""Answers a session: what its lines ask, what the journal keeps of them, and what they cost. Source texts have to be right."""
+import re
+from dataclasses import dataclass
+from itertools import islice
+
+import listings
+from meaning import Machine
+
+STEPS, CHOICES, SOURCE, LINE, REQUESTS, REQUEST_BYTES = 1_000_000, 10_000, 32_768, 1_024, 4_096, 1_048_576
+NUMBER = re.compile("[0-9]{1,10}")
+RANGES = {"LOAD": (0, 32_768), "RUN": (1, 100_000), "STEP": (0, 9_999), "CHOOSE": (0, 9_999), "ADVANCE": (0, 10**9), "VARS": (0, 9_999), "SEAT": (0, 9_999)}
+ALONE = ("RESET", "CLOCK", "MOVES", "TASKS", "QUEUES", "OUTPUT", "QUIT")
+REFUSALS = {
+    10: "unknown command", 11: "bad argument", 12: "line too long", 13: "journal full", 14: "no program", 15: "no such task",
+    16: "no such move", 17: "step budget", 18: "choice list full", 19: "not ASCII", 22: "source too long",
+}
+
+
+class Refused(Exception):
+    """By the refusal of this number."""
+
+    def __init__(self, number):
+        self.number = number
+
+
+def look_at(line):
+    """Refuses a line by how it came."""
+    if len(line) > LINE:
+        raise Refused(12)
+    if any(ord(byte) > 127 for byte in line):
+        raise Refused(19)
+
+
+def trimmed(line):
+    return line.removesuffix("\r").rstrip(" ")
+
+
+def numbers(words, low, high):
+    for word in words:
+        if not NUMBER.fullmatch(word) or not low <= int(word) <= high:
+            raise Refused(11)
+    return [int(word) for word in words]
+
+
+def command(line):
+    """The word of a request and its numbers."""
+    look_at(line)
+    words = [word for word in trimmed(line).split(" ") if word] or [""]
+    word, arguments = words[0], words[1:]
+    if word in ALONE:
+        if arguments:
+            raise Refused(11)
+        return word, []
+    if word not in RANGES:
+        raise Refused(10)
+    if not arguments or len(arguments) > 1 and word != "CHOOSE":
+        raise Refused(11)
+    return word, numbers(arguments, *RANGES[word])
+
+
+def gathered(lines):
+    """The source text of a LOAD; the first bad line refuses it."""
+    for line in lines:
+        look_at(line)
+    return "".join(trimmed(line) + "\n" for line in lines)
+
+
+@dataclass
+class Request:
+    """A word, its numbers and its source text; a malformed one has no word, and the number of its refusal."""
+
+    word: str
+    numbers: list
+    source: str = ""
+
+    def size(self):
+        return len(" ".join([self.word, *map(str, self.numbers)])) + 1 + len(self.source) if self.word else 1
+
+
+def requests(sent):
+    """Those of whole lines. A LOAD whose lines do not all come is none."""
+    lines = iter(sent.split("\n")[:-1])
+    for line in lines:
+        try:
+            word, given = command(line)
+            count = given[0] if word == "LOAD" else 0
+            texts = list(islice(lines, count))
+            if len(texts) < count:
+                return
+            request = Request(word, given, gathered(texts))
+        except Refused as refused:
+            request = Request("", [refused.number])
+        yield request
+
+
+class Session:
+    """What is loaded, the requests of the journal and their bytes, and the units that they have cost."""
+
+    def __init__(self):
+        self.machine, self.source = None, ""
+        self.kept, self.bytes, self.units = 0, 0, 0
+
+    def answer(self, request):
+        """Its lines."""
+        if request.word != "QUIT" and (self.kept == REQUESTS or self.bytes + request.size() > REQUEST_BYTES):
+            raise Refused(13)
+        self.kept, self.bytes = self.kept + 1, self.bytes + request.size()
+        before = self.machine.steps if self.machine and request.word in ("RUN", "STEP") else None
+        try:
+            return self.reply(request)
+        finally:
+            self.units += 1 if before is None else max(1, self.machine.steps - before)
+
+    def reply(self, request):
+        if not request.word:
+            raise Refused(request.numbers[0])
+        if request.word == "SEAT":
+            raise Refused(10)
+        if request.word == "QUIT":
+            return []
+        if request.word == "LOAD":
+            return self.load(request.source)
+        if self.machine is None:
+            raise Refused(14)
+        return getattr(self, request.word.lower())(*([request.numbers] if request.word == "CHOOSE" else request.numbers))
+
+    def load(self, source):
+        if len(source) > SOURCE:
+            raise Refused(22)
+        self.machine, self.source = Machine(source), source
+        return [f"loaded {self.machine.program.name}"]
+
+    def reset(self):
+        self.machine = Machine(self.source)
+        return []
+
+    def run(self, count):
+        self.look_at_steps()
+        return self.ran(self.machine.run(min(count, STEPS - self.machine.steps)))
+
+    def step(self, move):
+        self.look_at_steps()
+        moves = self.machine.moves()
+        if move >= len(moves):
+            raise Refused(16)
+        self.machine.take(moves[move])
+        return self.ran(1)
+
+    def look_at_steps(self):
+        if self.machine.steps == STEPS:
+            raise Refused(17)
+
+    def ran(self, steps):
+        state, raised = self.machine.state(), self.machine.tasks[0].raised
+        name = raised if isinstance(raised, str) or raised is None else raised[1]
+        return [f"ran {steps} {state}"] + ([f"main raised {name}"] if name and state == "ended" else [])
+
+    def choose(self, choices):
+        if len(self.machine.choices) + len(choices) > CHOICES:
+            raise Refused(18)
+        self.machine.choices += choices
+        return [f"choices {len(self.machine.choices)}"]
+
+    def advance(self, milliseconds):
+        self.machine.clock += milliseconds
+        return self.clock()
+
+    def clock(self):
+        return [f"clock {self.machine.clock}"]
+
+    def moves(self):
+        return listings.moves(self.machine)
+
+    def tasks(self):
+        return listings.tasks(self.machine)
+
+    def queues(self):
+        return listings.queues(self.machine)
+
+    def vars(self, number):
+        lines = listings.variables(self.machine, number)
+        if lines is None:
+            raise Refused(15)
+        return lines
+
+    def output(self):
+        lines = self.machine.output.decode("latin-1").split("\n")
+        return [f"bytes {len(self.machine.output)}"] + (lines if lines[-1] else lines[:-1])
+
+
+def answers(sent):
+    """The text of all answers to the text that is sent."""
+    session, told = Session(), []
+    for request in requests(sent):
+        try:
+            lines = session.answer(request)
+            told += [f"+ {len(lines)}", *lines]
+        except Refused as refused:
+            told.append(f"- E{refused.number} {REFUSALS[refused.number]}")
+        if request.word == "QUIT":
+            break
+    return "".join(line + "\n" for line in told)
