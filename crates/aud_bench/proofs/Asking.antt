@@ -12,9 +12,9 @@ use Rattle.aud_bench.specs.Size.{size}
 use Rattle.aud_bench.specs.Alone.{Server, is_quit, fits, kept, replied, answers_from, alone}
 use Rattle.aud_bench.specs.Ties.Answered.{server, HasAnswered}
 use Rattle.aud_bench.specs.Ties.Serving.{Replies}
-use Rattle.aud_bench.specs.Ties.Times.{HasTime, is_brief}
+use Rattle.aud_bench.specs.Ties.Times.{HasRoom, is_brief}
 use Rattle.aud_bench.proofs.Sessions.{not_kept, last_one, goes_on}
-use Rattle.aud_bench.proofs.Times.{reply_time}
+use Rattle.aud_bench.proofs.Times.{reply_time, room_of}
 
 module _ (asked : List Request) (s : Session) (r : Request) (has : HasAnswered asked s) (going : s.over ≡ false) where
   abbrev now : Server
@@ -23,8 +23,8 @@ module _ (asked : List Request) (s : Session) (r : Request) (has : HasAnswered a
   behind : (more : List Request) → alone s.limits (asked ++ more) ≡ alone s.limits asked ++ answers_from s.limits now more
   behind more = has.goes_on more ∙ ap (λ (b : Bool). alone s.limits asked ++ (if b then [] else answers_from s.limits now more)) going
 
-  pub in_time : HasTime has.loaded
-  in_time = omega (arith, has.few, has.time going)
+  pub with_room : HasRoom r has.loaded
+  with_room = room_of r has.loaded (omega (arith, has.few, has.time going))
 
   -- the answer to it, and those behind it
   module _ (one : Answer) (rest : List Request → List Answer) (is : (more : List Request) → answers_from s.limits now (r ∷ more) ≡ one ∷ rest more) (none : rest [] ≡ []) where

@@ -17,10 +17,10 @@ use Rattle.aud_bench.specs.Alone.{replied, cost_from, cost, made}
 use Rattle.aud_bench.specs.Ties.Serving.{UnderWay, ServesBy, GoesOn}
 use Rattle.aud_bench.specs.Seen.{Seen, told, unanswered, answers_of, untaken}
 use Rattle.aud_bench.specs.Ties.Kept.{is_kept}
-use Rattle.aud_bench.specs.Ties.Times.{HasTime, are_brief}
+use Rattle.aud_bench.specs.Ties.Times.{HasRoom, are_brief}
 use Rattle.aud_bench.specs.Ties.Standing.{loaded_after, answers_to, units_done, AtFirst, answers_at, IsAt}
 use Rattle.aud_bench.proofs.Made.{length_answers}
-use Rattle.aud_bench.proofs.Times.{has_time}
+use Rattle.aud_bench.proofs.Times.{has_time, room_of}
 use Rattle.aud_bench.proofs.Standing.{cost_append, opens, still_first, loaded_append, answers_append, made_is, units_within}
 
 answers_prop : (xs ys : List Answer) → IsProp (xs ≡ ys)
@@ -185,8 +185,8 @@ module _ (limits : Limits) (journal : List Request) (i p t : ℕ) (answers : Lis
     below : i < length journal
     below = below_is b next.is next.some
 
-    time : HasTime (loaded_after limits None (take i journal))
-    time = has_time limits journal i next.kept next.brief below
+    with_room : HasRoom r (loaded_after limits None (take i journal))
+    with_room = room_of r _ (has_time limits journal i next.kept next.brief below)
 
     next_is : drop i journal ≡ r ∷ drop (i + 1) journal
     next_is = next_request journal i r next.at_hand below
@@ -206,7 +206,7 @@ module _ (limits : Limits) (journal : List Request) (i p t : ℕ) (answers : Lis
           ∥∥₁_map at
           (λ a.
           let loaded = loaded_after limits None (take i journal) in
-          let on = subst (λ (o : Option Answer). ServesBy o limits r loaded p units served.cost served.progress after) none (serves loaded time (under_way a)) in
+          let on = subst (λ (o : Option Answer). ServesBy o limits r loaded p units served.cost served.progress after) none (serves loaded with_room (under_way a)) in
           record {
             known = a.known;
             taken_within = a.taken_within;
@@ -222,7 +222,7 @@ module _ (limits : Limits) (journal : List Request) (i p t : ℕ) (answers : Lis
           (∥∥₁_elim at (number_prop _ _)
           (λ a.
           let loaded = loaded_after limits None (take i journal) in
-          let on = subst (λ (o : Option Answer). ServesBy o limits r loaded p units served.cost served.progress after) none (serves loaded time (under_way a)) in
+          let on = subst (λ (o : Option Answer). ServesBy o limits r loaded p units served.cost served.progress after) none (serves loaded with_room (under_way a)) in
           omega (arith, on.1, on.2)))
 
       module _ (answer : Answer) (some : served.answer ≡ Some answer) where
@@ -232,7 +232,7 @@ module _ (limits : Limits) (journal : List Request) (i p t : ℕ) (answers : Lis
         done : IsAt limits journal i p t answers spent machine → ServesBy (Some answer) limits r (loaded_after limits None (take i journal)) p units served.cost served.progress after
         done a =
             let loaded = loaded_after limits None (take i journal) in
-            subst (λ (o : Option Answer). ServesBy o limits r loaded p units served.cost served.progress after) some (serves loaded time (under_way a))
+            subst (λ (o : Option Answer). ServesBy o limits r loaded p units served.cost served.progress after) some (serves loaded with_room (under_way a))
 
         -- the request is answered
         pub is_answered : ∥ IsAt limits journal (i + 1) served.progress t (answers ++ answer ∷ []) spent after ∥₁

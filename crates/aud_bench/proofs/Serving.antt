@@ -117,8 +117,8 @@ costs_some limits (request.Bad why) loaded = omega arith
 pub of_program : (limits : Limits) (n p units : ℕ) (old : Shown) (served : Served) (after : Option Shown) →
     ((l : Loaded) → UnderWay limits (request.Run n) (Some l) p (Some old) → Serves limits (request.Run n) (Some l) p units served after) →
     GoesOn limits (request.Run n) p units (Some old) served after
-of_program limits n p units old served after each None time under = absurd under.is_behind
-of_program limits n p units old served after each (Some l) time under = each l under
+of_program limits n p units old served after each None room under = absurd under.is_behind
+of_program limits n p units old served after each (Some l) room under = each l under
 
 -- a request that is answered at once
 pub at_once : (limits : Limits) (r : Request) (loaded : Option Loaded) (done units : ℕ) (machine : Option Shown) (a : Answer) → (replied limits loaded r).cost ≡ 1 → done < (replied limits loaded r).cost → Replies limits a machine (replied limits loaded r) → ServesBy (Some a) limits r loaded done units 1 0 machine

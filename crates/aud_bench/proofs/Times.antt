@@ -21,7 +21,7 @@ use Rattle.aud_bench.specs.Size.{size}
 use Rattle.aud_bench.specs.Alone.{Loaded, answers_only, ran_reply, steps_left, stepped_reply, chosen_reply, listed_reply, load_reply, replied, is_quit, has_room, fits}
 use Rattle.aud_bench.specs.Ties.Kept.{ends_there, kept_behind, is_kept}
 use Rattle.aud_bench.specs.Ties.Standing.{loaded_after}
-use Rattle.aud_bench.specs.Ties.Times.{clock_of, HasTime, is_brief, are_brief}
+use Rattle.aud_bench.specs.Ties.Times.{clock_of, HasTime, HasRoom, is_brief, are_brief}
 use Rattle.aud_bench.proofs.Truths.{and_left, and_right, and_both, true_le, true_lt}
 
 module _ (limits : Limits) where
@@ -104,6 +104,21 @@ few_behind requests bytes (r ∷ rs) h few =
     by false xs e ends fitting rest =
         let less = fits_few requests bytes r fitting e in
         omega (arith, less, rest (omega (arith, less)))
+
+-- where there is time for an ADVANCE there is room for any request
+pub room_of : (r : Request) (loaded : Option Loaded) → HasTime loaded → HasRoom r loaded
+room_of (request.Load source) loaded time = tt
+room_of request.Reset loaded time = tt
+room_of (request.Run n) loaded time = tt
+room_of (request.Step n) loaded time = tt
+room_of (request.Choose choices) loaded time = tt
+room_of (request.Advance milliseconds) loaded time = time
+room_of request.Clock loaded time = tt
+room_of (request.List listing) loaded time = tt
+room_of request.Output loaded time = tt
+room_of (request.Seat number) loaded time = tt
+room_of request.Quit loaded time = tt
+room_of (request.Bad why) loaded time = tt
 
 -- kept requests leave the clock room before each of them
 pub has_time : (limits : Limits) (journal : List Request) (i : ℕ) → is_kept journal ≡ true → are_brief journal ≡ true → i < length journal → HasTime (loaded_after limits None (take i journal))

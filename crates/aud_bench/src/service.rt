@@ -10,8 +10,8 @@ ghost use Rattle.aud_machine.specs.Shows.{IfShows};
 ghost use Rattle.aud_text.specs.declared.limits.Limits.{Limits as Bounds};
 ghost use Rattle.aud_bench.specs.declared.request.Request.TheVariants as asked;
 ghost use Rattle.aud_bench.specs.Loading.{program_of};
-ghost use Rattle.aud_bench.specs.Alone.{Loaded, named, named_if, ended_by, load_reply, reset_reply, step_reply, choose_reply, advance_reply, clock_reply, listed_reply, list_reply, output_reply, replied};
-ghost use Rattle.aud_bench.specs.Ties.Serving.{IsLoaded, RepliesAs, RepliesInTime, GoesOn};
+ghost use Rattle.aud_bench.specs.Alone.{Loaded, named, named_if, ended_by, load_reply, reset_reply, step_reply, choose_reply, advance_reply, clock_reply, listed_reply, list_reply, output_reply};
+ghost use Rattle.aud_bench.specs.Ties.Serving.{IsLoaded, RepliesAs, RepliesInTime, RepliesTo, GoesOn};
 
 use crate::loading::{LoadFault, load};
 use crate::request::{Answer, Raised, Report, Request};
@@ -79,8 +79,7 @@ pub fn answer(
     machine: &mut Option<Machine>,
     request: &Request,
 ) -> Result<Answer, AllocError>
-    ensures { IfOk result (λ answer. RepliesInTime (λ loaded. replied limits loaded request.now)
-        limits machine.old answer machine.new) }
+    ensures { IfOk result (λ answer. RepliesTo limits request.now machine.old answer machine.new) }
 {
     let Served {
         answer,

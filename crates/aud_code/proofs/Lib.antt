@@ -1,9 +1,9 @@
 pub mod Counting
 pub mod Fine
 pub mod Framing
-pub mod Needing
-pub mod Passing
+pub mod Tabling
 pub mod Verifying
 pub mod Plainly
 pub mod Standing
+pub mod Tables
 pub mod Starts

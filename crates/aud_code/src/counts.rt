@@ -1,11 +1,11 @@
-// How many operands an instruction or an ending needs.
+// How many operands stand at a place, and what instructions and endings make of them.
 
-ghost use Rattle.std.specs.Prelude.{◌≡◌, ◌↔◌, ◌+◌, ◌-◌, ◌^◌, ◌≤◌, ◌<◌, ℕ, List, ◌∷◌, IsTrue};
-ghost use Rattle.aud_code.specs.Instruction.{Instruction as Plain};
-ghost use Rattle.aud_code.specs.Flat.{Last as PlainLast};
-ghost use Rattle.aud_code.specs.Sound.{Counts as Wanted, no_counts, AreFine, EndingFine, LastFine};
+ghost use Rattle.std.specs.Prelude.{◌≡◌, ◌↔◌, ◌+◌, ◌-◌, ◌≤◌, List, IsTrue};
+ghost use Rattle.aud_code.specs.Flat.{FlatLine};
+ghost use Rattle.aud_code.specs.Sound.{Counts as Standing, no_counts, EndingFine, InstructionFine, LastFine};
 ghost use Rattle.aud_code.specs.View.{plain_instruction, plain_ending, plain_last};
-ghost use Rattle.aud_code.specs.Verified.{IsEnough, Needs, AreAtMost, passed_of};
+ghost use Rattle.aud_code.specs.Verified.{IsEnough, Needs};
+ghost use Rattle.aud_code.specs.Tabled.{behind, changed, counts, GoesOver, LeadsTo};
 
 use crate::instruction::Instruction;
 use crate::line::{Ending, Last};
@@ -25,116 +25,135 @@ pub const NOTHING: Counts = Counts {
     targets: 0,
 };
 
-// One target.
+const INTEGER: Counts = Counts {
+    integers: 1,
+    ..NOTHING
+};
+
+const INTEGERS: Counts = Counts {
+    integers: 2,
+    ..NOTHING
+};
+
+const TRUTH: Counts = Counts {
+    booleans: 1,
+    ..NOTHING
+};
+
+const TRUTHS: Counts = Counts {
+    booleans: 2,
+    ..NOTHING
+};
+
 const TARGET: Counts = Counts {
     targets: 1,
     ..NOTHING
 };
 
-// One target, and one Integer.
 const TARGET_AND_INTEGER: Counts = Counts {
     integers: 1,
     ..TARGET
 };
 
-fn integers(count: usize) -> Counts
-    ensures { result ≡ record { integers = count; booleans = 0; targets = 0 } }
-{
-    Counts {
-        integers: count,
-        ..NOTHING
-    }
-}
-
-fn booleans(count: usize) -> Counts
-    ensures { result ≡ record { integers = 0; booleans = count; targets = 0 } }
-{
-    Counts {
-        booleans: count,
-        ..NOTHING
-    }
+/// What an instruction takes, and what it leaves for the line behind it.
+#[derive(Clone, Copy)]
+pub struct Effect {
+    pub takes: Counts,
+    pub leaves: Counts,
 }
 
 impl Counts {
-    /// Whether a step that needs them needs nothing.
-    pub fn is_nothing(self) -> bool
-        ensures { IsTrue result ↔ IsEnough self no_counts }
+    /// Whether there are none.
+    pub(crate) fn is_nothing(self) -> bool
+        ensures { IsTrue result ↔ (counts self ≡ no_counts) }
     {
         self.integers == 0 && self.booleans == 0 && self.targets == 0
     }
 
-    // What is needed before some are taken and others are left, where this is needed behind it.
-    fn before(self, taken: Counts, left: Counts) -> Counts
-        requires integers { self.integers + taken.integers < usize.MAX }
-        requires booleans { self.booleans + taken.booleans < usize.MAX }
-        requires targets { self.targets + taken.targets < usize.MAX }
-        ensures { result ≡ record {
-          integers = self.integers - left.integers + taken.integers;
-          booleans = self.booleans - left.booleans + taken.booleans;
-          targets = self.targets - left.targets + taken.targets;
-        } }
+    /// Whether these are found among all that there are.
+    pub(crate) fn are_among(self, all: Counts) -> bool
+        ensures { IsTrue result ↔ IsEnough self (counts all) }
     {
-        Counts {
-            integers: self.integers.saturating_sub(left.integers) + taken.integers,
-            booleans: self.booleans.saturating_sub(left.booleans) + taken.booleans,
-            targets: self.targets.saturating_sub(left.targets) + taken.targets,
-        }
-    }
-
-    // The fewest that are enough for both.
-    fn or(self, other: Counts) -> Counts
-        ensures exact { (c : Wanted) → IsEnough result c ↔ (IsEnough self c × IsEnough other c) }
-        ensures few { (n : ℕ) → AreAtMost self n → AreAtMost other n → AreAtMost result n }
-    {
-        Counts {
-            integers: self.integers.max(other.integers),
-            booleans: self.booleans.max(other.booleans),
-            targets: self.targets.max(other.targets),
-        }
+        self.integers <= all.integers
+            && self.booleans <= all.booleans
+            && self.targets <= all.targets
     }
 }
 
-/// What an instruction needs, where this is needed behind it, and that behind those that it passes.
-pub fn need_before(instruction: &Instruction, next: Counts, over: Counts) -> Counts
-    requires next { AreAtMost next (2 ^ 64 - 4) }
-    requires over { AreAtMost over (2 ^ 64 - 4) }
-    ensures exact { (rest : List Plain) → (last : PlainLast) →
-        Needs (AreFine (LastFine last) rest 0) next →
-        Needs (AreFine (LastFine last) rest (passed_of (plain_instruction instruction.now))) over →
-        Needs (AreFine (LastFine last) (plain_instruction instruction.now ∷ rest) 0) result }
-    ensures few { (n : ℕ) → AreAtMost next n → AreAtMost over n → AreAtMost result (n + 2) }
+impl Effect {
+    /// Whether it makes the ones of the others.
+    pub(crate) fn makes(self, before: Counts, next: Counts) -> bool
+        requires { IsEnough self.takes (counts before) }
+        ensures { IsTrue result ↔ (counts next ≡ changed self (counts before)) }
+    {
+        let Effect { takes, leaves } = self;
+        is_changed(
+            before.integers,
+            takes.integers,
+            leaves.integers,
+            next.integers,
+        ) && is_changed(
+            before.booleans,
+            takes.booleans,
+            leaves.booleans,
+            next.booleans,
+        ) && is_changed(before.targets, takes.targets, leaves.targets, next.targets)
+    }
+}
+
+// Operands of one sort.
+fn is_changed(before: usize, takes: usize, leaves: usize, next: usize) -> bool
+    requires { takes ≤ before }
+    ensures { IsTrue result ↔ (next ≡ before - takes + leaves) }
+{
+    leaves <= next && before - takes == next - leaves
+}
+
+/// What an instruction takes and leaves, which goes on with the next line. What one leaves that passes others is as
+/// many as there were before it.
+pub fn effect_of(instruction: &Instruction) -> Effect
+    ensures fine { (ls : List FlatLine) → (cs : List Standing) → (c : Standing) →
+        InstructionFine (plain_instruction instruction.now) (LeadsTo ls cs) c ↔ (
+        IsEnough result.takes c × (LeadsTo ls cs 0 (changed result c)
+        × GoesOver (plain_instruction instruction.now) (LeadsTo ls cs) c)) }
+    ensures next { (c : Standing) →
+        changed result c ≡ behind (plain_instruction instruction.now) c }
 {
     match instruction {
-        Instruction::Push(_) | Instruction::Load(_) => next.before(NOTHING, integers(1)),
+        Instruction::Push(_) | Instruction::Load(_) => makes(NOTHING, INTEGER),
         Instruction::LoadElement(_) | Instruction::OnOne(_) | Instruction::Check(_) => {
-            next.before(integers(1), integers(1))
+            makes(INTEGER, INTEGER)
         }
-        Instruction::OnTwo(_) => next.before(integers(2), integers(1)),
-        Instruction::Cell => next.before(booleans(1), integers(1)),
-        Instruction::PushTruth(_) => next.before(NOTHING, booleans(1)),
+        Instruction::OnTwo(_) => makes(INTEGERS, INTEGER),
+        Instruction::Cell => makes(TRUTH, INTEGER),
+        Instruction::PushTruth(_) => makes(NOTHING, TRUTH),
         Instruction::Truth | Instruction::IsCallable | Instruction::IsTerminated => {
-            next.before(integers(1), booleans(1))
+            makes(INTEGER, TRUTH)
         }
-        Instruction::Negate => next.before(booleans(1), booleans(1)),
-        Instruction::Relate(_) => next.before(integers(2), booleans(1)),
-        Instruction::Compare(_) | Instruction::Combine(_) => next.before(booleans(2), booleans(1)),
-        Instruction::PassIfFalse(_) | Instruction::PassIfTrue(_) => next
-            .before(booleans(1), NOTHING)
-            .or(over.before(booleans(1), booleans(1))),
-        Instruction::Find(_, _) => next.before(NOTHING, TARGET),
-        Instruction::FindElement(_, _) => next.before(integers(1), TARGET),
-        Instruction::LoadFound => next.before(TARGET, TARGET_AND_INTEGER),
-        Instruction::PassCopy(_) => next.before(TARGET_AND_INTEGER, NOTHING),
-        Instruction::AppendText(_) | Instruction::AppendNewLine => next,
-        Instruction::AppendImage | Instruction::Pass => next.before(integers(1), NOTHING),
-        Instruction::AppendTruth => next.before(booleans(1), NOTHING),
+        Instruction::Negate => makes(TRUTH, TRUTH),
+        Instruction::Relate(_) => makes(INTEGERS, TRUTH),
+        Instruction::Compare(_) | Instruction::Combine(_) => makes(TRUTHS, TRUTH),
+        Instruction::PassIfFalse(_) | Instruction::PassIfTrue(_) | Instruction::AppendTruth => {
+            makes(TRUTH, NOTHING)
+        }
+        Instruction::Find(_, _) => makes(NOTHING, TARGET),
+        Instruction::FindElement(_, _) => makes(INTEGER, TARGET),
+        Instruction::LoadFound => makes(TARGET, TARGET_AND_INTEGER),
+        Instruction::PassCopy(_) => makes(TARGET_AND_INTEGER, NOTHING),
+        Instruction::AppendText(_) | Instruction::AppendNewLine => makes(NOTHING, NOTHING),
+        Instruction::AppendImage | Instruction::Pass => makes(INTEGER, NOTHING),
     }
+}
+
+fn makes(takes: Counts, leaves: Counts) -> Effect
+    ensures { result ≡ record { takes = takes; leaves = leaves } }
+{
+    Effect { takes, leaves }
 }
 
 /// What the ending of a step needs.
-pub fn need_of_last(last: &Last) -> Counts
-    ensures exact { Needs (LastFine (plain_last last.now)) result }
-    ensures few { AreAtMost result 2 }
+pub(crate) fn need_of_last(last: &Last) -> Counts
+    ensures { Needs (LastFine (plain_last last.now)) result }
 {
     match last {
         Last::Does(ending, _) => need_of_ending(*ending),
@@ -150,14 +169,13 @@ pub fn need_of_last(last: &Last) -> Counts
 
 // What the ending of a statement's step needs.
 fn need_of_ending(ending: Ending) -> Counts
-    ensures exact { Needs (EndingFine (plain_ending ending)) result }
-    ensures few { AreAtMost result 2 }
+    ensures { Needs (EndingFine (plain_ending ending)) result }
 {
     match ending {
-        Ending::Declare { .. } => integers(1),
+        Ending::Declare { .. } => INTEGER,
         Ending::Assign => TARGET_AND_INTEGER,
-        Ending::If(_) | Ending::While(_) | Ending::Exit(_) => booleans(1),
-        Ending::Loop { .. } => integers(2),
+        Ending::If(_) | Ending::While(_) | Ending::Exit(_) => TRUTH,
+        Ending::Loop { .. } => INTEGERS,
         Ending::DeclareArray(_, _)
         | Ending::Null
         | Ending::Put

@@ -2,11 +2,11 @@
 #![tactic(auto)]
 
 pub mod control;
-mod counts;
+pub mod counts;
 mod frames;
 pub mod fused;
 mod fusing;
 pub mod instruction;
 pub mod line;
-mod needs;
 pub mod sound_code;
+mod table;

@@ -1,5 +1,6 @@
 // Code: a list of lines. Each step of a task is some instructions and the ending behind them. A place counts lines from 0.
 
+use crate::counts::Counts;
 use crate::instruction::Instruction;
 use aud_meaning::state::Construct;
 use aud_text::place::Pos;
@@ -109,11 +110,12 @@ pub enum Line {
     End(EndLine),
 }
 
-/// A program's code: its lines, the place where each body begins, by the bodies' numbers, and the place for a number that
-/// no body has.
+/// A program's code: its lines, how many operands stand before each of them, the place where each body begins, by the bodies'
+/// numbers, and the place for a number that no body has.
 #[derive(Drop)]
 pub struct Code {
     pub lines: Vec<Line>,
+    pub operands: Vec<Counts>,
     pub starts: Vec<usize>,
     pub spare: usize,
 }

@@ -8,3 +8,4 @@ pub mod Constructs
 pub mod Counted
 pub mod Arguments
 pub mod Units
+pub mod Tables

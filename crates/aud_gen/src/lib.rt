@@ -4,6 +4,7 @@
 mod bodies;
 mod expressions;
 mod lengths;
+mod operands;
 mod program;
 mod statements;
 mod writer;

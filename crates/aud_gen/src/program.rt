@@ -1,12 +1,14 @@
 // The code of a program.
 
-ghost use Rattle.std.specs.Prelude.{◌≡◌, length, IfOk};
+ghost use Rattle.std.specs.Prelude.{◌≡◌, length, map, IfOk};
 ghost use Rattle.aud_typed.specs.Ties.View.{body_in, plain_program};
+ghost use Rattle.aud_code.specs.Tabled.{counts, table_of};
 ghost use Rattle.aud_code.specs.View.{plain_code};
 ghost use Rattle.aud_layout.specs.Assembly.{flat_program};
 ghost use Rattle.aud_gen.specs.Writes.{unit_lines, units_code, Writes};
 
 use crate::lengths::place_of_end;
+use crate::operands::operands;
 use crate::writer::{Writer, Written};
 use aud_code::line::Code;
 use aud_code::sound_code::{SoundCode, verify};
@@ -27,9 +29,12 @@ impl Writer {
     }
 }
 
-// The code of all bodies, one after the other. Behind them stands what is run for a number that no body has.
+// The code of all bodies, one after the other, with the table of operands. Behind them stands what is run for a number that no
+// body has.
 fn write_code(alloc: Global, units: &[Unit]) -> Result<Code, AllocError>
-    ensures { IfOk result (λ code. plain_code code ≡ units_code units.now) }
+    ensures code { IfOk result (λ code. plain_code code ≡ units_code units.now) }
+    ensures table { IfOk result (λ code.
+        map counts code.operands.items ≡ table_of (plain_code code).lines) }
 {
     let mut writer = Writer::new(alloc);
     let mut starts = Vec::new(alloc);
@@ -39,8 +44,11 @@ fn write_code(alloc: Global, units: &[Unit]) -> Result<Code, AllocError>
     }
     let spare = writer.place();
     writer.write_idle()?;
+    let lines = writer.into_lines();
+    let operands = operands(alloc, &lines)?;
     Ok(Code {
-        lines: writer.into_lines(),
+        lines,
+        operands,
         starts,
         spare,
     })
@@ -51,9 +59,8 @@ pub fn generate(alloc: Global, program: &Program) -> Result<SoundCode, AllocErro
     ensures { IfOk result (λ code. code ≡ flat_program (plain_program program.now)) }
 {
     let code = write_code(alloc, &program.units)?;
-    let verified = verify(alloc, code)?;
-    match verified {
-        Some(sound) => Ok(sound),
+    match verify(alloc, code) {
+        Some(sound) => sound.fuse(alloc),
         None => unreachable!(),
     }
 }

@@ -4,6 +4,7 @@ pub mod Beginning
 pub mod Places
 pub mod Made
 pub mod Starting
+pub mod Tabling
 pub mod Activating
 pub mod Sound
 pub mod Laws

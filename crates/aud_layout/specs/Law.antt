@@ -11,6 +11,7 @@ use Rattle.aud_meaning.specs.Why.Agree.{Agrees, ShowsAll}
 use Rattle.aud_code.specs.Places.{Spot}
 use Rattle.aud_code.specs.Flat.{flat_controls}
 use Rattle.aud_code.specs.Sound.{IsStart, IsSound}
+use Rattle.aud_code.specs.Tabled.{IsTabled, table_of}
 use Rattle.aud_layout.specs.Layout.{Code, code_of, code_controls}
 use Rattle.aud_layout.specs.Shows.{UnitsAt, ShowsControl}
 use Rattle.aud_layout.specs.Assembly.{offset, flat_program}
@@ -92,3 +93,8 @@ StartLaw = (program : Program) (m : Spot) (items : List Item) → ShowsFlat prog
 -- the code of every program is sound whose declarative parts alone activate tasks
 abbrev pub SoundLaw : Type 0
 SoundLaw = (program : Program) → ActivatesInParts program → IsSound (flat_program program)
+
+-- each instruction of the code of every program works on the operands that the code's table has before it, and leaves those that it
+-- has where the instruction leads
+abbrev pub TabledLaw : Type 0
+TabledLaw = (program : Program) → IsTabled (flat_program program).lines (table_of (flat_program program).lines)

@@ -2,7 +2,7 @@
 // the law.
 
 ghost use Rattle.aud_layout.specs.Asking.{DeclarationLaw, NullLaw, AssignmentLaw, PutLaw, AskedLaw, ComingLaw, BarrierLaw};
-ghost use Rattle.aud_layout.specs.Law.{LayoutAgreementLaw, AgreementLaw, SeenLaw, OrderLaw, MovesLaw, StateLaw, RaisedLaw, StepLaw, RunLaw, OpeningLaw, SupplyLaw, AdvanceLaw, StartLaw, SoundLaw};
+ghost use Rattle.aud_layout.specs.Law.{LayoutAgreementLaw, AgreementLaw, SeenLaw, OrderLaw, MovesLaw, StateLaw, RaisedLaw, StepLaw, RunLaw, OpeningLaw, SupplyLaw, AdvanceLaw, StartLaw, SoundLaw, TabledLaw};
 ghost use Rattle.aud_layout.specs.Written.{WrittenLaw};
 
 /// The instructions of a declaration ask for the variable with its initial value (RM 3.3.1).
@@ -96,6 +96,11 @@ pub fn start_law()
 /// The code of every program is sound whose declarative parts alone activate tasks (RM 9.2(3)).
 pub fn sound_law()
     ensures { SoundLaw }
+{}
+
+/// The table of operands that belongs to the code of every program fits it.
+pub fn tabled_law()
+    ensures { TabledLaw }
 {}
 
 /// The code of every program, line by line from its first to its last.

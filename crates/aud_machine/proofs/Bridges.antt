@@ -9,7 +9,6 @@ use Rattle.aud_typed.specs.declared.program.Program.{Program}
 use Rattle.aud_typed.specs.Ties.View.{plain_program}
 use Rattle.aud_typed.specs.Tree as tree
 use Rattle.aud_meaning.specs.declared.state.State.{State}
-use Rattle.aud_meaning.specs.declared.state.NextStep.{NextStep}
 use Rattle.aud_meaning.specs.declared.state.Move.{Move}
 use Rattle.aud_meaning.specs.Configuration.{Own, Shared, TaskAt, All, Configuration}
 use Rattle.aud_meaning.specs.Control.{Controls, Seen}
@@ -18,7 +17,6 @@ use Rattle.aud_meaning.specs.Parts.{owns, with_frames}
 use Rattle.aud_meaning.specs.Run.{seen, seen_from, moves_at, state_at, step_with, run_with, moves_in, state_in, step, run, opening, opening_with, main_raised, supplied, advanced}
 use Rattle.aud_meaning.specs.Why.Limits.{IsWithin, KeepsLimits}
 use Rattle.aud_meaning.proofs.Limits.Steps.{limits_law}
-use Rattle.aud_meaning.specs.Listings.{coming_step, coming_step_at, coming_step_in}
 use Rattle.aud_code.specs.Places.{Spot}
 use Rattle.aud_code.specs.Flat.{Flat, flat_controls, start_at}
 use Rattle.aud_code.specs.Sound.{IsStart}
@@ -32,10 +30,10 @@ use Rattle.aud_over.specs.Over.{is_named, is_served, frames_left, calls_left, fo
 use Rattle.aud_over.specs.Looks.{Looks}
 use Rattle.aud_over.specs.Law.{IsOneOf}
 use Rattle.aud_over.proofs.Coding.{code_looks}
-use Rattle.aud_over.proofs.Left.{moves_left, state_left, step_left, run_left, coming_left}
+use Rattle.aud_over.proofs.Left.{moves_left, state_left, step_left, run_left}
 use Rattle.aud_tasks.specs.declared.run.Ran.{Ran}
 use Rattle.aud_tasks.specs.Running.{RunsLeaving, Takes, Took}
-use Rattle.aud_tasks.proofs.RunningTaking.{within_frames}
+use Rattle.aud_tasks.proofs.Running.Taking.{within_frames}
 use Rattle.aud_machine.specs.Shown.{Shown}
 use Rattle.aud_machine.specs.Shows.{Shows, Did, RunsFrom}
 use Rattle.aud_machine.specs.Shows as shown
@@ -96,14 +94,6 @@ module _ (p : Program) (lines : Flat) (is : lines ≡ flat_program (plain_progra
           ∙ sym (state_left program.plan K looks h.through m h.left)
           ∙ ap (λ x. state_at program.plan (flat_controls program.plan x) h.through) is
           ∙ state_law program h.through c h.all
-
-      pub coming_shown : (task : ℕ) (next : Option NextStep) → next ≡ coming_step_at program.plan K task m → next ≡ coming_step_in program task c
-      coming_shown task next told =
-          told
-          ∙ sym (coming_left program.plan K looks task h.through m h.left)
-          ∙ ap (λ x. coming_step_at program.plan (flat_controls program.plan x) task h.through) is
-          ∙ ap (coming_step program.plan (flat program).barrier task) (seen_law program h.through c h.all)
-          ∙ ap (λ b. coming_step program.plan b task (seen program.plan (controls program) c)) (agreement_law program).barrier
 
       moves_shown : moves_at program.plan K m ≡ moves_in program c
       moves_shown =

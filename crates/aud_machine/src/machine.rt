@@ -4,7 +4,7 @@ ghost use Rattle.std.specs.Prelude.{◌≡◌, ◌+◌, ◌*◌, ◌<◌, ◌≤
 ghost use Rattle.aud_typed.specs.Ties.View.{plain_program};
 ghost use Rattle.aud_meaning.specs.Parts.{owns};
 ghost use Rattle.aud_meaning.specs.Run.{moves_in, state_in, main_raised, supplied, advanced, opening, opening_with};
-ghost use Rattle.aud_meaning.specs.Listings.{coming_step_in, view, view_at};
+ghost use Rattle.aud_meaning.specs.Listings.{view, view_at};
 ghost use Rattle.aud_meaning.specs.Why.Limits.{IsWithin};
 ghost use Rattle.aud_code.specs.Flat.{flat_controls};
 ghost use Rattle.aud_code.specs.Places.{Spot};
@@ -17,9 +17,8 @@ ghost use Rattle.aud_machine.specs.Shows.{Shows, IfShows, Leaves, RunsFrom, Take
 use aud_code::sound_code::SoundCode;
 use aud_expr::operands::Operands;
 use aud_gen::generate;
-use aud_meaning::state::{Move, NextStep, State as Standing};
+use aud_meaning::state::{Move, State as Standing};
 use aud_state::state::State;
-use aud_tasks::coming::coming;
 use aud_tasks::compiled::Compiled;
 use aud_tasks::moves::{moves, state_of};
 pub use aud_tasks::run::Ran;
@@ -166,15 +165,6 @@ impl Machine {
         ensures { IfShows self.now (λ c. result ≡ main_raised c.tasks) }
     {
         self.state.raised()
-    }
-
-    /// What comes next of the task of this number, counted from 0: the kind of its step, and where that stands in the text; while
-    /// an exception is pending, that is where it was raised. None where there is no such task, it isn't activated yet, it waits for
-    /// activations, or it is terminated.
-    pub fn coming(&self, task: usize) -> Option<NextStep>
-        ensures { IfShows self.now (λ c. result ≡ coming_step_in (program_in self.now) task c) }
-    {
-        coming(&self.state, self.compiled(), task)
     }
 
     /// How many choices wait.

@@ -10,12 +10,12 @@ use Rattle.aud_meaning.specs.Run.{moves, moves_at, state_at, seen, step_with, ta
 use Rattle.aud_over.specs.Over.{forgotten}
 use Rattle.aud_over.specs.Looks.{Looks}
 use Rattle.aud_meaning.specs.declared.state.State.{State}
-use Rattle.aud_meaning.specs.Listings.{View, view_at, vars, queues, tasks_view, moves_view, coming_step_at}
+use Rattle.aud_meaning.specs.Listings.{View, view_at, vars, queues, tasks_view, moves_view}
 use Rattle.aud_over.specs.Law.{IsOneOf}
 use Rattle.aud_over.proofs.Beside.{beside}
 use Rattle.aud_over.proofs.Forgetting.{kept_in, forgotten_may, left_same}
 use Rattle.aud_over.proofs.Looking.{moves_at_same, state_at_same}
-use Rattle.aud_over.proofs.Listing.{vars_same, queues_same, tasks_at_same, moves_listed_same, coming_same}
+use Rattle.aud_over.proofs.Listing.{vars_same, queues_same, tasks_at_same, moves_listed_same}
 use Rattle.aud_over.proofs.Runs.{MayStep, may_step, step_chosen, choosing, step_beside}
 
 pub again : {C : Type 0} (c : All C) → forgotten (forgotten c) ≡ forgotten c
@@ -119,12 +119,6 @@ module _ {C : Type 0} (plan : Plan) (k : Controls C) (through : Looks k) where
     where
       of : (x : All C) → moves_view plan k.barrier (seen plan k x) ≡ moves_view plan k.barrier (seen plan k (forgotten x))
       of x = moves_listed_same (kept_in x) plan k through x (forgotten x).shared.frames (forgotten x).shared.calls (forgotten_may x)
-
-  pub coming_left : (n : ℕ) (c d : All C) → forgotten c ≡ forgotten d → coming_step_at plan k n c ≡ coming_step_at plan k n d
-  coming_left n c d h = of c ∙ ap (coming_step_at plan k n) h ∙ sym (of d)
-    where
-      of : (x : All C) → coming_step_at plan k n x ≡ coming_step_at plan k n (forgotten x)
-      of x = coming_same (kept_in x) plan k through n x (forgotten x).shared.frames (forgotten x).shared.calls (forgotten_may x)
 
   pub view_left : (c d : All C) → forgotten c ≡ forgotten d → view_at plan k c ≡ view_at plan k d
   view_left c d h =

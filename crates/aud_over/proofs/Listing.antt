@@ -15,7 +15,7 @@ use Rattle.aud_meaning.specs.Control.{Seen, Controls}
 use Rattle.aud_meaning.specs.Parts.{own_of, call_of, object_plan, entry_plan, Waiting, queue}
 use Rattle.aud_meaning.specs.declared.state.Move.{Move}
 use Rattle.aud_meaning.specs.Run.{Turn, turn, turn_moves, moves, seen}
-use Rattle.aud_meaning.specs.Listings.{spaced, frame_lines, opened_lines, vars, callers, queue_lines, entries_by, task_queues, object_queues, queues, place_by, line, serves_now, call_word, running_word, turn_leaves, status_by, abnormal_word, status_of, task_lines, tasks_view, move_lines_of, move_lines, moves_by_enabled, moves_view, next_of, coming_step, coming_step_at, unless_resting, step_shown, word, turn_kind, alternative_word}
+use Rattle.aud_meaning.specs.Listings.{spaced, frame_lines, opened_lines, vars, callers, queue_lines, entries_by, task_queues, object_queues, queues, place_by, line, serves_now, call_word, running_word, turn_leaves, status_by, abnormal_word, status_of, task_lines, tasks_view, move_lines_of, move_lines, moves_by_enabled, moves_view, word, turn_kind, alternative_word}
 use Rattle.aud_over.specs.Over.{with_kept, is_call_over}
 use Rattle.aud_over.specs.Looks.{Looks}
 use Rattle.aud_over.proofs.Frames.{Agree, agree_at}
@@ -153,18 +153,9 @@ module _ (p : Kept) (plan : Plan) (barrier : ℕ → Sight → Result Bool Raise
   pub moves_view_same : (c : All Seen) (fs : List Frame) (cs : List Call) → MayHave p c fs cs → moves_view plan barrier c ≡ moves_view plan barrier (with_kept fs cs c)
   moves_view_same c fs cs m = enabled_same (moves plan barrier c) c fs cs m ∙ ap (λ ms. moves_by_enabled plan barrier ms (with_kept fs cs c)) (moves_same p plan barrier through c fs cs m)
 
-  pub next_same : (o : Option (TaskAt Seen)) (n : ℕ) (c : All Seen) (fs : List Frame) (cs : List Call) → MayHave p c fs cs → next_of plan barrier o n c ≡ next_of plan barrier o n (with_kept fs cs c)
-  next_same None n c fs cs m = refl
-  next_same (Some t) n c fs cs m = ap (λ u. unless_resting plan barrier u (step_shown plan barrier u t)) (turn_same p plan barrier through n t c fs cs m)
-
 module _ {C : Type 0} (p : Kept) (plan : Plan) (k : Controls C) (through : Looks k) where
   pub tasks_at_same : (c : All C) (fs : List Frame) (cs : List Call) → MayHave p c fs cs → tasks_view plan k.barrier (seen plan k c) ≡ tasks_view plan k.barrier (seen plan k (with_kept fs cs c))
   tasks_at_same c fs cs m = tasks_view_same p plan k.barrier through.barrier (seen plan k c) fs cs (seen_may p plan k through c fs cs m) ∙ ap (tasks_view plan k.barrier) (seen_same p plan k through c fs cs m)
 
   pub moves_listed_same : (c : All C) (fs : List Frame) (cs : List Call) → MayHave p c fs cs → moves_view plan k.barrier (seen plan k c) ≡ moves_view plan k.barrier (seen plan k (with_kept fs cs c))
   moves_listed_same c fs cs m = moves_view_same p plan k.barrier through.barrier (seen plan k c) fs cs (seen_may p plan k through c fs cs m) ∙ ap (moves_view plan k.barrier) (seen_same p plan k through c fs cs m)
-
-  pub coming_same : (n : ℕ) (c : All C) (fs : List Frame) (cs : List Call) → MayHave p c fs cs → coming_step_at plan k n c ≡ coming_step_at plan k n (with_kept fs cs c)
-  coming_same n c fs cs m =
-      next_same p plan k.barrier through.barrier (slice_get (seen plan k c).tasks n) n (seen plan k c) fs cs (seen_may p plan k through c fs cs m)
-      ∙ ap (coming_step plan k.barrier n) (seen_same p plan k through c fs cs m)

@@ -8,7 +8,7 @@ use Rattle.aud_meaning.specs.declared.state.Move.{Move}
 use Rattle.aud_meaning.specs.Run.{moves_at, state_at, step_with, run_with, supplied, advanced, main_raised}
 use Rattle.aud_meaning.specs.Parts.{owns, no_call}
 use Rattle.aud_meaning.specs.Statements.{controls}
-use Rattle.aud_meaning.specs.Listings.{view_at, coming_step_at}
+use Rattle.aud_meaning.specs.Listings.{view_at}
 use Rattle.aud_code.specs.Flat.{Flat, flat_controls}
 use Rattle.aud_over.specs.Over.{is_named, is_call_over, is_served, with_kept, forgotten}
 use Rattle.aud_over.specs.Looks.{Looks}
@@ -38,9 +38,6 @@ StateLaw C = (plan : Plan) (k : Controls C) (c d : All C) → Looks k → forgot
 
 abbrev pub ViewLaw : (C : Type 0) → Type 0
 ViewLaw C = (plan : Plan) (k : Controls C) (c d : All C) → Looks k → forgotten c ≡ forgotten d → view_at plan k c ≡ view_at plan k d
-
-abbrev pub ComingLaw : (C : Type 0) → Type 0
-ComingLaw C = (plan : Plan) (k : Controls C) (n : ℕ) (c d : All C) → Looks k → forgotten c ≡ forgotten d → coming_step_at plan k n c ≡ coming_step_at plan k n d
 
 -- And of what an enabled step makes of them the same is left, and so of runs.
 abbrev pub StepLaw : (C : Type 0) → Type 0

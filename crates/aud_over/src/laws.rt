@@ -4,7 +4,7 @@
 ghost use Rattle.std.specs.Prelude.{List};
 ghost use Rattle.aud_meaning.specs.Configuration.{Item};
 ghost use Rattle.aud_code.specs.Places.{Spot};
-ghost use Rattle.aud_over.specs.Law.{StatementsLook, CodeLooks, AgainLaw, MovesLaw, StateLaw, ViewLaw, ComingLaw, StepLaw, RunLaw, KeptLaw, SuppliedLaw};
+ghost use Rattle.aud_over.specs.Law.{StatementsLook, CodeLooks, AgainLaw, MovesLaw, StateLaw, ViewLaw, StepLaw, RunLaw, KeptLaw, SuppliedLaw};
 ghost use Rattle.aud_over.specs.Standing.{OpensLaw, KeepsLaw, AlwaysLaw, PinsLaw, NamedLaw, OpenLaw, InnermostLaw, MemoryLaw};
 
 /// Statements and code look at variables only through what is seen.
@@ -35,8 +35,6 @@ pub fn state_law()
 pub fn view_law()
     ensures statements { ViewLaw (List Item) }
     ensures code { ViewLaw Spot }
-    ensures statements_coming { ComingLaw (List Item) }
-    ensures code_coming { ComingLaw Spot }
 {}
 
 /// An enabled step leaves the same of them.

@@ -4,10 +4,7 @@ pub mod Leaving
 pub mod Listed
 pub mod Moving
 pub mod Results
-pub mod RunningMoves
-pub mod RunningSteps
-pub mod RunningStill
-pub mod RunningTaking
+pub mod Running
 pub mod Seen
 pub mod Shown
 pub mod Soonest

@@ -183,11 +183,6 @@ module _ (plan : Plan) (code : Flat) where
         ap (λ l. slice_get l left) (moves_next n within ∙ ap (λ l. l ++ from (n + 1)) (sym is))
         ∙ get_behind ms (from (n + 1)) left k none e
 
-    pub counted_more : (n : ℕ) (ms : List Move) → n < length c.tasks → ms ≡ moves_of plan code n c → length (from n) ≡ length ms + length (from (n + 1))
-    counted_more n ms within is =
-        ap length (moves_next n within ∙ ap (λ l. l ++ from (n + 1)) (sym is))
-        ∙ joined ms (from (n + 1))
-
     -- Those of one task, by its turn.
 
     pub turn_told : (n : ℕ) (x y : Turn) → turn_in plan code n c ≡ turned plan code n c x → x ≡ y → moves_of plan code n c ≡ turn_moves plan (barrier_at code) (turned plan code n c y) n d

@@ -1,13 +1,13 @@
-// What comes next of a task.
+// What is shown of the next step of a task.
 
 ghost use Rattle.std.specs.Prelude.{◌≡◌};
 ghost use Rattle.aud_typed.specs.Tree.{Plan};
 ghost use Rattle.aud_typed.specs.Ties.View.{plain_program};
-ghost use Rattle.aud_meaning.specs.Listings.{coming_step_at, place_by, turn_kind};
+ghost use Rattle.aud_meaning.specs.Listings.{place_by, turn_kind};
 ghost use Rattle.aud_meaning.specs.Parts.{own_of, unit_of};
-ghost use Rattle.aud_code.specs.Flat.{barrier_at, flat_controls};
+ghost use Rattle.aud_code.specs.Flat.{barrier_at};
 ghost use Rattle.aud_sequential.specs.Shown.{plans_of, unit_in};
-ghost use Rattle.aud_tasks.specs.Listed.{rests, usual_place_in};
+ghost use Rattle.aud_tasks.specs.Listed.{usual_place_in};
 ghost use Rattle.aud_tasks.specs.Shown.{step_in};
 ghost use Rattle.aud_tasks.specs.Turning.{seen_in, turned};
 
@@ -20,24 +20,8 @@ use aud_state::state::State;
 use aud_text::place::Pos;
 use aud_typed::program::Unit;
 
-/// What comes next of the task of this number, counted from 0: the kind of its step, and where that stands in the text; while
-/// an exception is pending, that is where it was raised. None where there is no such task, it isn't activated yet, it waits for
-/// activations, or it is terminated.
-pub fn coming(state: &State, compiled: Compiled<'_>, task: usize) -> Option<NextStep>
-    ensures { let plan = (plain_program compiled.entry.program.now).plan in
-        result ≡ coming_step_at plan (flat_controls plan compiled.entry.code.now) task state.now }
-{
-    let turn = turn_of(state, compiled.code, task);
-    if is_resting(turn) {
-        return None;
-    }
-    let kind = kind_of(state, compiled.code, task, turn);
-    let at = place_of(state, compiled, task, turn);
-    Some(NextStep { kind, at })
-}
-
-/// What is shown of the task of this number, counted from 0, whether it rests or not: the kind of the step of its turn, `Null` where
-/// it rests, and the place.
+/// What is shown of the task of this number, counted from 0: the kind of the step of its turn, `Null` where it rests; and the place
+/// of the step in the text, or, while an exception is pending, the place where that was raised.
 pub fn shown_step(state: &State, compiled: Compiled<'_>, task: usize) -> NextStep
     ensures { let plan = (plain_program compiled.entry.program.now).plan in
         result ≡ step_in plan compiled.entry.code.now task state.now }
@@ -46,13 +30,6 @@ pub fn shown_step(state: &State, compiled: Compiled<'_>, task: usize) -> NextSte
     let kind = kind_of(state, compiled.code, task, turn);
     let at = place_of(state, compiled, task, turn);
     NextStep { kind, at }
-}
-
-// Whether that is nothing.
-fn is_resting(turn: Turn) -> bool
-    ensures { result ≡ rests turn }
-{
-    matches!(turn, Turn::Resting)
 }
 
 // The kind of the step of a turn.

@@ -1,6 +1,6 @@
 // What can happen next.
 
-ghost use Rattle.std.specs.Prelude.{◌≡◌, ℕ, [], length, not, ◌||◌, IfOk, is_some, slice_get};
+ghost use Rattle.std.specs.Prelude.{◌≡◌, ℕ, [], not, ◌||◌, IfOk, OnOk, is_some, slice_get};
 ghost use Rattle.aud_typed.specs.Tree.{Plan};
 ghost use Rattle.aud_typed.specs.Ties.View.{plain_program};
 ghost use Rattle.aud_meaning.specs.Parts.{is_terminated, own_of};
@@ -30,14 +30,33 @@ pub fn moves(state: &State, alloc: Global, compiled: Compiled<'_>) -> Result<Vec
         moves.items ≡ moves_at plan (flat_controls plan compiled.entry.code.now) state.now) }
 {
     let mut moves = Vec::new(alloc);
+    list_moves(state, compiled, &mut moves)?;
+    Ok(moves)
+}
+
+/// Puts them in the place of what the list had.
+///
+/// # Errors
+///
+/// Where memory is refused.
+pub(crate) fn list_moves(
+    state: &State,
+    compiled: Compiled<'_>,
+    moves: &mut Vec<Move>,
+) -> Result<(), AllocError>
+    ensures { OnOk result (let plan = (plain_program compiled.entry.program.now).plan in
+        moves.new.items ≡ moves_at plan (flat_controls plan compiled.entry.code.now) state.now) }
+{
+    moves.clear();
     if !may_move(state) {
-        return Ok(moves);
+        return Ok(());
     }
+    let clock = state.clock();
     for task in 0..state.len() {
         let enabled = enabled_of(state, compiled.code, task);
-        list(enabled, task, state.clock(), &mut moves)?;
+        list(enabled, task, clock, moves)?;
     }
-    Ok(moves)
+    Ok(())
 }
 
 /// The move of this index, counted from 0.
@@ -58,23 +77,6 @@ pub(crate) fn nth_move(state: &State, compiled: Compiled<'_>, index: usize) -> O
         left -= count(enabled, task, clock);
     }
     None
-}
-
-/// How many moves are enabled.
-pub(crate) fn count_moves(state: &State, compiled: Compiled<'_>) -> u128
-    ensures { let plan = (plain_program compiled.entry.program.now).plan in
-        result ≡ length (moves_at plan (flat_controls plan compiled.entry.code.now) state.now) }
-{
-    if !may_move(state) {
-        return 0;
-    }
-    let clock = state.clock();
-    let mut all = 0;
-    for task in 0..state.len() {
-        let enabled = enabled_of(state, compiled.code, task);
-        all += count(enabled, task, clock) as u128;
-    }
-    all
 }
 
 /// What can happen next.

@@ -21,6 +21,8 @@ use aud_text::limits::STEPS;
 use std::alloc::{AllocError, Global};
 
 /// The step that a move picks. It gives the instructions that were executed.
+// A run spends its time here.
+#[inline(always)]
 pub(crate) fn step(
     state: &mut State,
     alloc: Global,

@@ -10,7 +10,7 @@ use Rattle.aud_bench.specs.declared.request.Request.TheVariants as request
 use Rattle.aud_bench.specs.declared.request.Answer.{Answer}
 use Rattle.aud_bench.specs.declared.service.Served.{Served}
 use Rattle.aud_bench.specs.Alone.{Loaded, Reply, steps_left, replied}
-use Rattle.aud_bench.specs.Ties.Times.{HasTime}
+use Rattle.aud_bench.specs.Ties.Times.{HasTime, HasRoom}
 
 -- a machine of the loaded program and with these limits, which shows how far the program is
 pub record Holds (limits : Limits) (machine : Shown) (loaded : Loaded) : Type 0 where
@@ -34,9 +34,13 @@ pub record Replies (limits : Limits) (answer : Answer) (machine : Option Shown) 
 abbrev pub RepliesAs : (Option Loaded → Reply) → Limits → Option Shown → Answer → Option Shown → Type 0
 RepliesAs reply limits before answer after = (loaded : Option Loaded) → IsLoaded limits before loaded → Replies limits answer after (reply loaded)
 
--- the same, where the clock has room
+-- the same, where there is time for an ADVANCE
 abbrev pub RepliesInTime : (Option Loaded → Reply) → Limits → Option Shown → Answer → Option Shown → Type 0
 RepliesInTime reply limits before answer after = (loaded : Option Loaded) → HasTime loaded → IsLoaded limits before loaded → Replies limits answer after (reply loaded)
+
+-- the answer to a request, if the clock has room for it
+abbrev pub RepliesTo : Limits → Request → Option Shown → Answer → Option Shown → Type 0
+RepliesTo limits r before answer after = (loaded : Option Loaded) → HasRoom r loaded → IsLoaded limits before loaded → Replies limits answer after (replied limits loaded r)
 
 -- the program n steps on
 abbrev pub behind_steps : Limits → ℕ → Option Loaded → Option Loaded
@@ -95,6 +99,6 @@ ServesBy None limits r loaded done units cost after machine =
 abbrev pub Serves : Limits → Request → Option Loaded → (done units : ℕ) → Served → Option Shown → Type 0
 Serves limits r loaded done units served machine = ServesBy served.answer limits r loaded done units served.cost served.progress machine
 
--- it is work on the request, whatever was loaded before that, if the clock of it has room
+-- it is work on the request, whatever was loaded before that, if the clock has room for it
 abbrev pub GoesOn : Limits → Request → (done units : ℕ) → Option Shown → Served → Option Shown → Type 0
-GoesOn limits r done units before served after = (loaded : Option Loaded) → HasTime loaded → UnderWay limits r loaded done before → Serves limits r loaded done units served after
+GoesOn limits r done units before served after = (loaded : Option Loaded) → HasRoom r loaded → UnderWay limits r loaded done before → Serves limits r loaded done units served after

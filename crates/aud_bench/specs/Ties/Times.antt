@@ -10,9 +10,24 @@ abbrev pub clock_of : Option Loaded → ℕ
 clock_of None = 0
 clock_of (Some loaded) = loaded.now.clock
 
--- there is room for one ADVANCE more
+-- there is time for one ADVANCE more
 abbrev pub HasTime : Option Loaded → Type 0
 HasTime loaded = clock_of loaded + WAIT ≤ CLOCK
+
+-- the clock has room for what the request asks of it
+abbrev pub HasRoom : Request → Option Loaded → Type 0
+HasRoom (request.Load source) loaded = Unit {0}
+HasRoom request.Reset loaded = Unit {0}
+HasRoom (request.Run n) loaded = Unit {0}
+HasRoom (request.Step n) loaded = Unit {0}
+HasRoom (request.Choose choices) loaded = Unit {0}
+HasRoom (request.Advance milliseconds) loaded = HasTime loaded
+HasRoom request.Clock loaded = Unit {0}
+HasRoom (request.List listing) loaded = Unit {0}
+HasRoom request.Output loaded = Unit {0}
+HasRoom (request.Seat number) loaded = Unit {0}
+HasRoom request.Quit loaded = Unit {0}
+HasRoom (request.Bad why) loaded = Unit {0}
 
 -- an ADVANCE asks for no more time than one may
 abbrev pub is_brief : Request → Bool

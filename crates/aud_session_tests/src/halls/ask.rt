@@ -2,6 +2,8 @@
 
 use aud_bench::choices::Choices;
 use aud_bench::request::{BadRequest, Request};
+use aud_bench::wait::Wait;
+use aud_debug::listing::Listing;
 use aud_text::text::Text;
 use rand::RngExt;
 use rand::rngs::SmallRng;
@@ -29,7 +31,11 @@ pub enum Ask {
     Run(u32),
     Step(u32),
     Choose(u8),
+    Advance(u8),
     Clock,
+    Moves,
+    Tasks,
+    Variables(u32),
     Output,
     Bad,
     Quit,
@@ -57,7 +63,11 @@ pub fn request(alloc: Global, ask: Ask) -> Result<Request, AllocError> {
         Ask::Run(steps) => Request::Run(steps),
         Ask::Step(nth) => Request::Step(nth),
         Ask::Choose(choice) => Request::Choose(one_choice(alloc, choice)?),
+        Ask::Advance(milliseconds) => Request::Advance(Wait::new(u32::from(milliseconds))),
         Ask::Clock => Request::Clock,
+        Ask::Moves => Request::List(Listing::Moves),
+        Ask::Tasks => Request::List(Listing::Tasks),
+        Ask::Variables(task) => Request::List(Listing::Variables(task)),
         Ask::Output => Request::Output,
         Ask::Bad => Request::Bad(BadRequest::UnknownCommand),
         Ask::Quit => Request::Quit,
@@ -72,7 +82,7 @@ fn one_choice(alloc: Global, choice: u8) -> Result<Choices, AllocError> {
 
 /// A random request.
 pub fn drawn(rng: &mut SmallRng) -> Ask {
-    match rng.random_range(0u32..60) {
+    match rng.random_range(0u32..66) {
         0..=1 => Ask::Load(Source::Ends),
         2..=7 => Ask::Load(Source::Loops),
         8..=13 => Ask::Load(Source::Tasks),
@@ -85,6 +95,10 @@ pub fn drawn(rng: &mut SmallRng) -> Ask {
         46 => Ask::Reset,
         47..=55 => Ask::Output,
         56..=58 => Ask::Bad,
-        _ => Ask::Quit,
+        59 => Ask::Quit,
+        60 => Ask::Moves,
+        61..=62 => Ask::Tasks,
+        63 => Ask::Variables(rng.random_range(0u32..4)),
+        _ => Ask::Advance(rng.random_range(0u8..200)),
     }
 }

@@ -33,6 +33,7 @@ const SESSION: &[Turn] = &[
         b"LOAD 1\nprocedure M is begin null; end M;\n",
         b"+ 1\nloaded M\n",
     ),
+    (1, b"TASKS\n", b"+ 1\n1 M ready 1\n"),
     (1, b"RUN 10\n", b"+ 1\nran 3 ended\n"),
     (1, b"SEAT 1\n", b"- E10 unknown command\n"),
     (1, b"QUIT\n", b"+ 0\n"),
@@ -295,8 +296,8 @@ fn answers_before_it_reads_on(rt: HostRuntime) -> Result<(), AllocError> {
     let ended = serve(&rt, alloc, &desk, &mut reader, &mut writer);
     assert_eq!(rt; ended, Ok(()));
     let wanted =
-        b"7: - E92 no such seat\n13: - E93 seat not claimed\n20: + 0\n61: + 1\nloaded M\n68: + 1\nran 3 ended\n75: - E10 unknown command\n80: + 0\n";
+        b"7: - E92 no such seat\n13: - E93 seat not claimed\n20: + 0\n61: + 1\nloaded M\n67: + 1\n1 M ready 1\n74: + 1\nran 3 ended\n81: - E10 unknown command\n86: + 0\n";
     finds(&rt, "answers", &written, wanted);
-    assert_eq!(rt; given.get(), 80);
+    assert_eq!(rt; given.get(), 86);
     Ok(())
 }

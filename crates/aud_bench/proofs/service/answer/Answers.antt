@@ -6,9 +6,9 @@ use Rattle.aud_bench.proofs.service.answer.Goals as goal
 
 pub returns : goal.returns
 returns c =
-    λ loaded time loads.
+    λ loaded room loads.
     let limits = c.args.limits in
     let r = c.args.request.now in
     let s = c.in_ok-answer.field-0 in
-    let serves = c.in_ok-answer.ensures.serves loaded time (opens limits loaded (r ∷ []) c.args.machine.now loads) in
+    let serves = c.in_ok-answer.ensures.serves loaded room (opens limits loaded (r ∷ []) c.args.machine.now loads) in
     (subst (λ (a : Option Answer). ServesBy a limits r loaded 0 18446744073709551615 s.cost s.progress c.serve.new.machine) c.in-Some.is serves).0

@@ -23,9 +23,9 @@ loop-unit-preserved c =
       (one_start b rest starts c.push.new.self.items _ now new h (c.in_ok-push.ensures.items ∙ ap (λ n. starts ++ n ∷ []) c.place.ensures) (ap (with_starts starts now) (sym first) ∙ inv.1.0), one_spare b rest _ now new h (ap (with_spare now) (sym first) ∙ inv.1.1)),
     )
 
-pub returns : goal.returns
-returns c =
+pub returns-clause-code : goal.returns-clause-code
+returns-clause-code c =
     let units = c.args.units.now in
     let none : bodies_in (drop c.loop-unit.unit-index units) ≡ [] = ap bodies_in (drop_all c.loop-unit.unit-index units (omega (arith, c.loop-unit-test.false))) in
     let inv = rw none at c.loop-unit.invariant in
-    units_written (bodies_in units) c.loop-unit.writer (map plain_line c.into_lines.result.items) c.loop-unit.starts.items c.place-spare.result inv.0 inv.1.0 inv.1.1 c.place-spare.ensures (c.into_lines.ensures ∙ c.in_ok-write_idle.ensures)
+    units_written (bodies_in units) c.loop-unit.writer (map plain_line c.into_lines-lines.result.items) c.loop-unit.starts.items c.place-spare.result inv.0 inv.1.0 inv.1.1 c.place-spare.ensures (c.into_lines-lines.ensures ∙ c.in_ok-write_idle.ensures)

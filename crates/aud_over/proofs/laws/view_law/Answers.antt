@@ -1,4 +1,4 @@
-use Rattle.aud_over.proofs.Left.{view_left, coming_left}
+use Rattle.aud_over.proofs.Left.{view_left}
 use Rattle.aud_over.proofs.laws.view_law.Goals as goal
 
 pub returns-clause-statements : goal.returns-clause-statements
@@ -6,9 +6,3 @@ returns-clause-statements c = λ plan k x y through same. view_left plan k throu
 
 pub returns-clause-code : goal.returns-clause-code
 returns-clause-code c = λ plan k x y through same. view_left plan k through x y same
-
-pub returns-clause-statements_coming : goal.returns-clause-statements_coming
-returns-clause-statements_coming c = λ plan k n x y through same. coming_left plan k through n x y same
-
-pub returns-clause-code_coming : goal.returns-clause-code_coming
-returns-clause-code_coming c = λ plan k n x y through same. coming_left plan k through n x y same

@@ -1,9 +1,0 @@
-use Rattle.aud_machine.proofs.Bridges.{coming_shown}
-use Rattle.aud_machine.proofs.machine.Machine.coming.Goals as goal
-
-pub returns : goal.returns
-returns c =
-    let inside = c.self.inside in
-    let told = rw (c.compiled.ensures.program, c.compiled.ensures.code, ← c.self.view_is) at c.coming.ensures in
-    rw (← c.self.view_is) (λ shown h.
-    coming_shown inside.program inside.code c.self.invariant.0 inside.limits inside.spent inside.state shown h c.args.task c.coming.result told)

@@ -1,0 +1,4 @@
+pub mod Moves
+pub mod Steps
+pub mod Still
+pub mod Taking

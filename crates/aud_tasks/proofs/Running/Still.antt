@@ -1,0 +1,121 @@
+-- What comes next of other tasks stays of the same sort while one of them goes on by itself.
+use Rattle.std.proofs.Common.{◌≡◌, ℕ, zero, suc, List, [], ◌∷◌, Option, Some, None, true, refl, sym, subst, slice_get}
+use Rattle.std.proofs.lemmas.Option.{same_Some}
+use Rattle.aud_typed.specs.Tree.{Plan}
+use Rattle.aud_meaning.specs.declared.state.Pending.{Pending}
+use Rattle.aud_meaning.specs.Configuration.{Frame, Own, Shared, TaskAt, All}
+use Rattle.aud_meaning.specs.Evaluation.{Sight}
+use Rattle.aud_meaning.specs.Control.{Coming, simply, Controls}
+use Rattle.aud_meaning.specs.Statements.{coming_raised}
+use Rattle.aud_meaning.specs.Parts.{owns, changed, sight_in, on_control, with_frames}
+use Rattle.aud_meaning.specs.Run.{seen, seen_from, moves_at}
+use Rattle.aud_code.specs.declared.line.EndLine.{EndLine}
+use Rattle.aud_code.specs.declared.line.Ending.TheVariants.{Declare, DeclareArray, Null, Assign, Put, If, While, Loop, Exit, Raise, RaiseAgain, Block, Return, Call}
+use Rattle.aud_code.specs.declared.line.Last.{Last}
+use Rattle.aud_code.specs.declared.line.Last.TheVariants.{Does, DeclaresTasks, Activates, EndsActivation, Continues, Guards, Ends, Leaves}
+use Rattle.aud_code.specs.Places.{Spot, is_there}
+use Rattle.aud_code.specs.Instruction.{Ended, no_operands}
+use Rattle.aud_code.specs.Eval.{eval}
+use Rattle.aud_code.specs.Flat.{Flat, flat_controls, coming_at, coming_last, handler_at, instructions_at, no_scene}
+use Rattle.aud_code.specs.Flat as flat
+use Rattle.aud_code.specs.View.{plain_found, plain_last, EndsPlainly}
+use Rattle.aud_tasks.specs.Turning.{turn_in}
+use Rattle.aud_tasks.specs.Running.{is_acting}
+use Rattle.aud_tasks.proofs.Running.Moves.{AreAlike, alike_self, AlikeTasks, moves_there, acting_there}
+use Rattle.aud_sequential.specs.Fast.{ComesPlainly}
+
+-- whether the step at a place leaves a construct is not a question of what is seen
+module _ (plan : Plan) (s r : Sight) where
+  last_alike : (last : Last) (x y : Ended) → AreAlike (coming_last plan (plain_last last) s x) (coming_last plan (plain_last last) r y)
+  last_alike (Does (Declare up_to again) next) x y = tt
+  last_alike (Does (DeclareArray t n) next) x y = tt
+  last_alike (Does Null next) x y = tt
+  last_alike (Does Assign next) x y = tt
+  last_alike (Does Put next) x y = tt
+  last_alike (Does (If inside) next) x y = tt
+  last_alike (Does (While inside) next) x y = tt
+  last_alike (Does (Loop f inside) next) x y = tt
+  last_alike (Does (Exit w) next) x y = tt
+  last_alike (Does (Raise z) next) x y = tt
+  last_alike (Does RaiseAgain next) x y = tt
+  last_alike (Does (Block region inside) next) x y = tt
+  last_alike (Does (Return w) next) x y = tt
+  last_alike (Does (Call unit) next) x y = tt
+  last_alike (DeclaresTasks ts next) x y = tt
+  last_alike (Activates next) x y = tt
+  last_alike (EndsActivation next) x y = tt
+  last_alike (Continues f behind inside) x y = tt
+  last_alike (Guards gs) x y = tt
+  last_alike (Ends c next) x y = tt
+  last_alike (Leaves n to) x y = tt
+
+  found_alike : (place : ℕ) (l : Option EndLine) (x y : Ended) → AreAlike (coming_last plan (plain_found place l).last s x) (coming_last plan (plain_found place l).last r y)
+  found_alike place None x y = tt
+  found_alike place (Some l) x y = last_alike l.last x y
+
+  pub comes_alike : (code : Flat) → EndsPlainly code → (pending : Option Pending) (t : Spot) → AreAlike (coming_at code plan pending s t) (coming_at code plan pending r t)
+  comes_alike code plain None t =
+      let x = eval true (no_scene s) (instructions_at code t.place) 0 no_operands in
+      let y = eval true (no_scene r) (instructions_at code t.place) 0 no_operands in
+      subst (λ (l : flat.EndLine). AreAlike (coming_last plan l.last s x) (coming_last plan l.last r y)) (plain t.place).1 (found_alike t.place (plain t.place).0 x y)
+  comes_alike code plain (Some p) t = alike_self (coming_raised (is_there (handler_at code p.exception t)))
+
+plainly_alike : (x y : Coming) → ComesPlainly x → ComesPlainly y → AreAlike x y
+plainly_alike (simply w) (simply v) h g = tt
+plainly_alike (simply w) y h g = absurd g
+plainly_alike x y h g = absurd h
+
+module _ (plan : Plan) (code : Flat) where
+  abbrev K : Controls Spot
+  K = flat_controls plan code
+
+  self_seen : (i : ℕ) (ts : List (TaskAt Spot)) (os : List Own) (shared : Shared) → AlikeTasks (seen_from plan K i ts os shared) (seen_from plan K i ts os shared)
+  self_seen i [] os shared = tt
+  self_seen i (t ∷ ts) os shared = (record { own = refl; coming = alike_self (coming_at code plan t.own.pending (sight_in i os shared) t.control) }, self_seen (suc i) ts os shared)
+
+  -- choices decide on no move
+  pub moves_unchosen : plan.objects ≡ [] → (c : All Spot) (choices : List ℕ) → moves_at plan K c ≡ moves_at plan K (record c { choices = choices })
+  moves_unchosen no_objects c choices =
+      moves_there plan K.barrier no_objects (seen plan K c) (seen plan K c).tasks c.shared.frames choices c.steps (self_seen 0 c.tasks (owns c.tasks) c.shared)
+
+  -- it goes on from one simple step to the next
+  pub record GoesThere (t : TaskAt Spot) (u : Spot) : Type 0 where
+    pub none : t.own.pending ≡ None
+    pub here : (s : Sight) → ComesPlainly (coming_at code plan None s t.control)
+    pub there : (s : Sight) → ComesPlainly (coming_at code plan None s u)
+
+  abbrev goes_to : Spot → TaskAt Spot → TaskAt Spot
+  goes_to u t = record t { control = u }
+
+  module _ (plain : EndsPlainly code) (os rs : List Own) (sh th : Shared) where
+    others_seen : (i : ℕ) (ts : List (TaskAt Spot)) → AlikeTasks (seen_from plan K i ts os sh) (seen_from plan K i ts rs th)
+    others_seen i [] = tt
+    others_seen i (t ∷ ts) = (record { own = refl; coming = comes_alike plan (sight_in i os sh) (sight_in i rs th) code plain t.own.pending t.control }, others_seen (suc i) ts)
+
+    goes_alike : (i : ℕ) (t : TaskAt Spot) (u : Spot) → GoesThere t u → AreAlike (coming_at code plan t.own.pending (sight_in i os sh) t.control) (coming_at code plan t.own.pending (sight_in i rs th) u)
+    goes_alike i t u goes =
+        subst (λ p. AreAlike (coming_at code plan p (sight_in i os sh) t.control) (coming_at code plan p (sight_in i rs th) u)) (sym goes.none)
+        (plainly_alike (coming_at code plan None (sight_in i os sh) t.control) (coming_at code plan None (sight_in i rs th) u) (goes.here (sight_in i os sh)) (goes.there (sight_in i rs th)))
+
+    all_seen : (n i : ℕ) (ts : List (TaskAt Spot)) (t : TaskAt Spot) (u : Spot) → slice_get ts n ≡ Some t → GoesThere t u → AlikeTasks (seen_from plan K i ts os sh) (seen_from plan K i (changed n (goes_to u) ts) rs th)
+    all_seen n i [] t u is goes = tt
+    all_seen zero i (x ∷ ts) t u is goes =
+        (record { own = refl; coming = goes_alike i x u (subst (λ (y : TaskAt Spot). GoesThere y u) (sym (same_Some x t is)) goes) }, others_seen (suc i) ts)
+    all_seen (suc n) i (x ∷ ts) t u is goes = (
+      record { own = refl; coming = comes_alike plan (sight_in i os sh) (sight_in i rs th) code plain x.own.pending x.control },
+      all_seen n (suc i) ts t u is goes,
+    )
+
+  -- the same moves are enabled where one has gone on so
+  module _ (plain : EndsPlainly code) (no_objects : plan.objects ≡ []) (c : All Spot) (n : ℕ) (t : TaskAt Spot) (u : Spot) (frames : List Frame) (at : slice_get c.tasks n ≡ Some t) (goes : GoesThere t u) where
+    abbrev gone : All Spot
+    gone = with_frames frames (on_control n (λ v. u) (record c { steps = suc c.steps }))
+
+    alike_gone : AlikeTasks (seen plan K c).tasks (seen plan K gone).tasks
+    alike_gone = all_seen plain (owns c.tasks) (owns gone.tasks) c.shared gone.shared n 0 c.tasks t u at goes
+
+    pub moves_still : moves_at plan K c ≡ moves_at plan K gone
+    moves_still = moves_there plan K.barrier no_objects (seen plan K c) (seen plan K gone).tasks frames c.choices (suc c.steps) alike_gone
+
+    pub acts_still : is_acting (turn_in plan code n c) ≡ is_acting (turn_in plan code n gone)
+    acts_still = acting_there plan K.barrier no_objects (seen plan K c) (seen plan K gone).tasks frames c.choices (suc c.steps) alike_gone n

@@ -1,0 +1,7 @@
+use Rattle.std.proofs.Common.{◌≡◌, ◌++◌, []}
+use Rattle.aud_typed.specs.Tree.{Plan}
+use Rattle.aud_tasks.proofs.Moving.{from}
+use Rattle.aud_tasks.proofs.moves.list_moves.Given as goal
+
+abbrev pub invariant-loop-task : goal.invariant-loop-task
+invariant-loop-task l = (plan : Plan) → plan.objects ≡ [] → l.moves.items ++ from plan l.compiled.code.now l.state l.task ≡ from plan l.compiled.code.now l.state 0
