@@ -32,7 +32,9 @@ SOURCE = 32_768  # bytes of the largest source text
 LINES = 32_768  # the most lines of a LOAD
 LINE = 1_000  # bytes that are put on a line, which may have 1,024
 LOADS = 20  # LOADs in a session that times them
-VIEWS = b"RUN 1000\nMOVES\nTASKS\nQUEUES\nVARS 1\nCLOCK\n" * 682  # with a LOAD nearly as many requests as a session may have
+# Of nine tasks each goes on, and 500 turns are nearly as many requests as a session may have.
+VIEWS = b"CHOOSE " + b" ".join(b"%d" % (at % 9) for at in range(90)) + b"\nRUN 1000\nMOVES\nTASKS\nQUEUES\nVARS 1\nCLOCK\n"
+TURNS = 500
 SEATS = 64  # the most that a hall has
 SEAT_STEPS = 500_000  # steps at each of them
 PAIRS = 31  # measures of a hall, each between two of one bench
@@ -459,16 +461,16 @@ end M;
 
 
 def views(program):
-    load = load_of(VIEWED).encode()
+    turn = load_of(VIEWED).encode() + VIEWS
     seconds = []
     for _ in range(TIMES):
-        alone, _ = measure([program, "--solo"], load)
-        whole, wrote = measure([program, "--solo"], load + VIEWS)
+        alone, _ = measure([program, "--solo"], turn)
+        whole, wrote = measure([program, "--solo"], turn * (TURNS + 1))
         if b"- E" in wrote:
             sys.exit("benchmark: a listing is refused")
         seconds.append(whole - alone)
-    speed = VIEWS.count(b"\n") / max(median(seconds), 1e-6)
-    print(f"Views: {speed:,.0f} requests a second, one in six of them a RUN of 1,000 steps (wanted: 2,000)")
+    speed = 8 * TURNS / max(median(seconds), 1e-6)
+    print(f"Views: {speed:,.0f} requests a second: LOAD, CHOOSE, RUN 1000 and the five listings in turn (wanted: 2,000)")
 
 
 def filled(head, unit, tail, size, joint=""):

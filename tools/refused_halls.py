@@ -8,8 +8,11 @@ import subprocess
 import sys
 import tempfile
 from concurrent.futures import ThreadPoolExecutor
+from pathlib import Path
 
 from calls import counted, library, surroundings
+
+ROWS = Path(__file__).resolve().parents[1] / "crates/aud_session_tests/data/halls/rows.txt"
 
 REFUSED = (4, b"aud_session_tests: out of memory\n", b"")
 
@@ -21,7 +24,7 @@ def run(built, words, number):
 
 
 def main(program):
-    words, others, unneeded = [program, "--rows"], 0, 0
+    words, others, unneeded = [program, "--halls", str(ROWS)], 0, 0
     with tempfile.TemporaryDirectory() as folder, ThreadPoolExecutor(2) as runs:
         built = library(folder)
         (count, _, _), written = counted(built, words, b"")

@@ -1,7 +1,5 @@
 // Why the program ends with another status than 0, or does not look at a file.
 
-use crate::halls::deed::Deed;
-use crate::halls::row::Title;
 use crate::session::LineFault;
 use aud_solo::solo::SoloFault;
 use aud_worlds::fault::HallFault;
@@ -23,30 +21,8 @@ pub enum Fault {
     NoSession,
     #[error("a server ended: {0}")]
     Server(SoloFault),
-    /// Nothing is called in a row.
-    #[error("{0}: there is no call")]
-    NoCalls(Title),
-    /// A row has more or fewer replies than calls.
-    #[error("{title}: {replies} replies to {calls} calls")]
-    Replies {
-        title: Title,
-        calls: usize,
-        replies: usize,
-    },
-    /// A reply is another than it must be.
-    #[error("{title}: {deed:?} is answered '{found}', and not '{wanted}'")]
-    Reply {
-        title: Title,
-        deed: Deed,
-        found: String,
-        wanted: String,
-    },
-    /// An outbox has others than the private server's answers.
-    #[error("{0}: an outbox has other answers")]
-    Outbox(Title),
-    /// At a seat whose bench is at home an outbox has too few.
-    #[error("{0}: an outbox has too few answers")]
-    TooFew(Title),
+    #[error("{0}: a line is no call")]
+    Call(String),
     /// A call that must succeed was refused.
     #[error("refused: {0}")]
     Refused(HallFault),

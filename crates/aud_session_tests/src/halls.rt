@@ -1,11 +1,6 @@
-// Halls of many users: rows that are known, lists of random calls, and measures.
+// Halls of many users: sessions of calls, and measures.
 
-mod ask;
-pub mod deed;
-pub mod lists;
-mod model;
-mod private;
-pub mod row;
-pub mod rows;
+mod calls;
+pub mod compared;
 pub mod speed;
 mod words;

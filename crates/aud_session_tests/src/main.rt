@@ -1,5 +1,5 @@
-// Sends sessions to servers in memory, makes the calls of sessions in halls, and tells which are answered otherwise than they must be;
-// it also times halls.
+// Makes the calls of rows in halls, prints programs, sends sessions to servers in memory, and tells where something else comes than must
+// come; it also times halls.
 #![tactic(auto)]
 
 mod arguments;
@@ -8,15 +8,15 @@ mod files;
 mod halls;
 mod repeated;
 mod reread;
+mod rows;
 mod server;
 mod session;
 
-use crate::arguments::{Task, task_of};
+use crate::arguments::{Files, Task, task_of};
 use crate::fault::Fault;
 use crate::files::look_at_files;
-use crate::halls::lists::{CALLS, look_at_lists};
-use crate::halls::rows::look_at_rows;
 use crate::halls::speed::{idle_hall, work_off};
+use crate::rows::{Rows, look_at_rows};
 use std::env;
 use std::process::ExitCode;
 
@@ -32,20 +32,11 @@ fn main(rt: HostRuntime) -> ExitCode {
     }
 }
 
-// How many sessions of files are answered otherwise, and programs read otherwise.
+// How many rows and sessions come to something else than is written, or programs are read otherwise.
 fn run(rt: &HostRuntime) -> Result<usize, Fault> {
     let words: Vec<String> = env::args(rt)?.collect(rt.alloc())?;
     match task_of(&words)? {
-        Task::Files(files) => return Ok(look_at_files(rt, files)?),
-        Task::All { lists, files } => {
-            tell_rows(rt)?;
-            let tally = look_at_lists(rt.alloc(), lists)?;
-            println!(rt;
-                "{lists} lists of {CALLS} calls: each reply as the definitions tell, each outbox as the private server answers; {tally:?}"
-            )?;
-            return Ok(look_at_files(rt, files)?);
-        }
-        Task::Rows => tell_rows(rt)?,
+        Task::Look(files) => return look_at(rt, files),
         Task::Work(measure) => {
             let units = work_off(rt.alloc(), measure)?;
             println!(rt; "{units} units")?;
@@ -55,12 +46,11 @@ fn run(rt: &HostRuntime) -> Result<usize, Fault> {
     Ok(0)
 }
 
-fn tell_rows(rt: &HostRuntime) -> Result<(), Fault> {
-    let rows = look_at_rows(rt.alloc())?;
-    println!(rt;
-        "{rows} rows: each reply as it must be, each outbox a front of the private server's answers"
-    )?;
-    Ok(())
+fn look_at(rt: &HostRuntime, files: Files) -> Result<usize, Fault> {
+    let halls = look_at_rows(rt, Rows::Halls, files.halls)?;
+    let programs = look_at_rows(rt, Rows::Programs, files.programs)?;
+    let sessions = look_at_files(rt, files.sessions)?;
+    Ok(halls.saturating_add(programs).saturating_add(sessions))
 }
 
 // Has so many seats stay idle until a line of the input comes or its end.

@@ -1,6 +1,7 @@
 // Source texts, and what is read from their canonical texts.
 
 use crate::fault::Fault;
+use crate::session::Session;
 use aud_bench::request::Request;
 use aud_lex::fault::LexFault;
 use aud_lex::lex;
@@ -62,6 +63,28 @@ fn read_one_back(alloc: Global, source: &[u8]) -> Result<Reread, Fault> {
         programs: 1,
         others: usize::from(!is_same),
     })
+}
+
+/// The canonical text of a row's program, where it is not the one that is written, or of that one, where it is not its own.
+///
+/// # Errors
+///
+/// `Memory` where memory is refused.
+pub fn look_at(alloc: Global, row: &Session) -> Result<Option<String>, Fault> {
+    for text in [&row.sent, &row.written] {
+        let found = canonical(alloc, text)?;
+        if found.as_bytes() != row.written.as_slice() {
+            return Ok(Some(found));
+        }
+    }
+    Ok(None)
+}
+
+fn canonical(alloc: Global, text: &[u8]) -> Result<String, Fault> {
+    match read(alloc, text)? {
+        Some(program) => Ok(String::from_utf8_lossy(alloc, program.canonical.as_bytes())?),
+        None => Ok(String::from_str(alloc, "no program")?),
+    }
 }
 
 // The tokens of a program, and its canonical text.

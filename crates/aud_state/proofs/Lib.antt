@@ -1,10 +1,13 @@
 pub mod Beside
 pub mod Changed
+pub mod Choosing
 pub mod Creating
 pub mod Evaluating
 pub mod Giving
+pub mod InLine
+pub mod Lines
 pub mod Numbered
-pub mod Queued
+pub mod Queueing
 pub mod Reading
 pub mod Running
 pub mod Started

@@ -3,3 +3,5 @@ pub mod Fast
 pub mod Opening
 pub mod Reads
 pub mod Held
+pub mod Queues
+pub mod Chosen

@@ -3,6 +3,7 @@ use Rattle.std.specs.Prelude.{ℕ, ℤ, List, [], ◌∷◌, ◌++◌, map, Opti
 use Rattle.aud_text.specs.declared.raise.Raise.TheVariants.{Tasking}
 use Rattle.aud_typed.specs.declared.program.Exception.TheVariants.{Predefined}
 use Rattle.aud_meaning.specs.declared.state.Pending.{Pending}
+use Rattle.aud_meaning.specs.declared.state.CallState.TheVariants.{Selected}
 use Rattle.aud_meaning.specs.Effects.{handles, pends}
 use Rattle.aud_meaning.specs.Configuration.{TaskAt, All, Own}
 use Rattle.aud_meaning.specs.Configuration as meaning
@@ -11,6 +12,7 @@ use Rattle.aud_meaning.specs.Parts.{nobody, number_name, runs}
 use Rattle.aud_meaning.specs.Ties.Part.{Part, within_own}
 use Rattle.aud_code.specs.Places.{Spot}
 use Rattle.aud_state.specs.declared.calls.Call.{Call}
+use Rattle.aud_state.specs.declared.calls.NewCall.{NewCall}
 use Rattle.aud_state.specs.declared.object.Object.{Object}
 use Rattle.aud_state.specs.declared.task.Task.{Task}
 use Rattle.aud_state.specs.declared.task.Waits.{Waits}
@@ -54,6 +56,10 @@ plain_task t = record { control = t.parked.control; own = within_own (plain_own 
 abbrev pub plain_call : Call → meaning.Call
 plain_call c = record { caller = c.caller; owner = c.owner; entry = c.entry; arrival = c.arrival; values = c.values.items; backs = c.backs.items; form = c.form; at = c.at; state = c.state }
 
+-- one that is made just now
+abbrev pub made_call : NewCall → meaning.Call
+made_call c = record { caller = c.caller; owner = c.owner; entry = c.entry; arrival = 0; values = c.values.items; backs = c.backs.items; form = c.form; at = c.at; state = Selected }
+
 abbrev pub plain_object : Object → meaning.Object
 plain_object o = record { declaration = o.declaration; display = o.display.items; actions = o.actions.items }
 
@@ -69,6 +75,10 @@ all_of tasks p kept objects = record {
 -- it goes on, and a part follows of what stands there
 abbrev pub resumes : Orders Spot → ℕ → TaskAt Spot → TaskAt Spot
 resumes go part t = record { control = go.takes part t.control; own = runs t.own }
+
+-- it goes on, with what the accept of this alternative does
+abbrev pub begins_accept : Orders Spot → ℕ → TaskAt Spot → TaskAt Spot
+begins_accept go alternative t = record { control = go.accepts alternative t.control; own = runs t.own }
 
 -- all activations have ended for which it waited
 abbrev pub goes_on_behind : Orders Spot → TaskAt Spot → TaskAt Spot

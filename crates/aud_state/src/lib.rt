@@ -1,7 +1,9 @@
 // All tasks with what they share in memory, as the meaning has them.
 #![tactic(auto)]
 
+mod accepting;
 mod alone;
+mod calling;
 pub mod calls;
 mod copies;
 mod creation;
@@ -9,13 +11,16 @@ mod ending;
 mod evaluation;
 mod fast;
 mod forget;
+mod formals;
 mod found;
 mod marks;
 pub mod object;
 mod opening;
+mod queues;
 pub mod reads;
 mod returning;
 mod seen;
 pub mod state;
 mod supplies;
 pub mod task;
+mod waiting;

@@ -12,13 +12,13 @@ mod frames;
 mod fusing;
 mod listening;
 mod machines;
+mod queues;
 mod reading;
 mod serving;
 mod sound;
 mod statuses;
 mod surroundings;
 mod tokens;
-mod trees;
 
 use aud_bench::loading::load;
 use aud_text::limits::STANDARD;

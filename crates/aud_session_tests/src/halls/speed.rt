@@ -1,12 +1,16 @@
 // How fast halls and benches work, and halls in which nothing is to be done.
 
 use crate::fault::Fault;
-use crate::halls::ask::{Ask, Source, request};
 use aud_bench::bench::{Bench, GiveFault};
 use aud_bench::request::Request;
 use aud_text::limits::{Limits, RUN, STANDARD};
+use aud_text::text::Text;
 use aud_worlds::hall::Hall;
 use std::alloc::{AllocError, Global};
+
+const LOOPS: &[u8] = b"procedure M is begin loop null; end loop; end M;\n";
+
+const ENDS: &[u8] = b"procedure M is begin null; end M;\n";
 
 // So many RUNs use up the steps of a LOAD.
 const RUNS: u64 = 10;
@@ -71,7 +75,7 @@ fn requests(alloc: Global, steps: u64) -> Result<Vec<Request>, AllocError> {
             return Ok(requests);
         }
         if number % (RUNS + 1) == 0 {
-            requests.push(request(alloc, Ask::Load(Source::Loops))?)?;
+            requests.push(Request::Load(Text::from_slice(alloc, LOOPS)?))?;
         } else {
             let steps = u32::try_from(left).unwrap_or(RUN).min(RUN);
             requests.push(Request::Run(steps))?;
@@ -112,7 +116,7 @@ pub fn idle_hall(alloc: Global, seats: usize) -> Result<Hall, Fault> {
     let mut hall = hall(alloc, seats)?;
     for seat in 1..=seats {
         hall.claim(alloc, seat)?;
-        hall.submit(seat, request(alloc, Ask::Load(Source::Ends))?)?;
+        hall.submit(seat, Request::Load(Text::from_slice(alloc, ENDS)?))?;
         if turn(alloc, &mut hall, seat, 1)? != 1 {
             return Err(Fault::Undone);
         }

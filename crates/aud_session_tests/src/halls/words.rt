@@ -9,12 +9,12 @@ use aud_worlds::next::Next;
 use aud_worlds::reply::Reply;
 use std::alloc::{AllocError, Global};
 
-/// The words of a reply; of answers, their texts.
+/// The words of a reply as lines; of answers, their texts.
 pub fn words(alloc: Global, reply: &Reply) -> Result<String, AllocError> {
     match reply {
-        Reply::Refused(fault) => format!(in alloc; "{fault}"),
-        Reply::Worked(Work { done, left }) => format!(in alloc; "did {done}, left {left}"),
-        Reply::Stranger(why) => format!(in alloc; "stranger: {why}"),
+        Reply::Refused(fault) => format!(in alloc; "{fault}\n"),
+        Reply::Worked(Work { done, left }) => format!(in alloc; "did {done}, left {left}\n"),
+        Reply::Stranger(why) => format!(in alloc; "stranger: {why}\n"),
         Reply::Answers(answers) if !answers.is_empty() => texts(alloc, answers),
         _ => String::from_str(alloc, plain(reply)),
     }
@@ -23,13 +23,13 @@ pub fn words(alloc: Global, reply: &Reply) -> Result<String, AllocError> {
 // Those of a reply without numbers and answers.
 fn plain(reply: &Reply) -> &'static str {
     match reply {
-        Reply::Accepted => "accepted",
-        Reply::Sent(true) => "sent",
-        Reply::Sent(false) => "stays",
-        Reply::Taken(Next::More) => "taken in, more",
-        Reply::Taken(Next::Idle) => "taken in, idle",
-        Reply::Answers(_) => "no answer",
-        _ => "nothing",
+        Reply::Accepted => "accepted\n",
+        Reply::Sent(true) => "sent\n",
+        Reply::Sent(false) => "stays\n",
+        Reply::Taken(Next::More) => "taken in, more\n",
+        Reply::Taken(Next::Idle) => "taken in, idle\n",
+        Reply::Answers(_) => "no answer\n",
+        _ => "nothing\n",
     }
 }
 

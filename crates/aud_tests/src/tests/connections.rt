@@ -161,47 +161,75 @@ fn is_free<R: Wait>(rt: &R, alloc: Global, desk: &Desk) -> bool {
 // Each session whole, while a worker works, and behind it at the same desk byte by byte, without one.
 #[test]
 fn tells_what_is_due(rt: HostRuntime) -> Result<(), Fail> {
-    let alloc = rt.alloc();
     for (name, turns) in SESSIONS {
-        let desk = desk_of(alloc, 8)?;
-        let held = desk.open(&rt, alloc, 2)?;
-        let (asked, told) = script(alloc, turns)?;
-        let wanted: Served = (Ok(()), told);
-        assert!(rt;
-            with_worker(&rt, alloc, &desk, &desk, &asked) == wanted,
-            "{name}"
-        );
-        assert!(rt; is_free(&rt, alloc, &desk), "{name}");
-        let given = Cell::new(0);
-        let reader = Counted {
-            rest: asked.as_slice(),
-            given: &given,
-        };
-        assert!(rt;
-            served(&rt, alloc, &desk, reader) == wanted,
-            "{name} by bytes"
-        );
-        assert!(rt; is_free(&rt, alloc, &desk), "{name} by bytes");
-        assert!(rt; desk.close(&rt, held).is_ok(), "{name}");
+        let desk = desk_of(rt.alloc(), 8)?;
+        at_desk(&rt, rt.alloc(), &desk, &desk, name, turns)?;
     }
     Ok(())
+}
+
+fn at_desk<R: Abort + Threads + Wait + Sync, H: Host + Sync>(
+    rt: &R,
+    alloc: Global,
+    host: &H,
+    desk: &Desk,
+    name: &str,
+    turns: &[Turn],
+) -> Result<(), Fail> {
+    let (asked, told) = script(alloc, turns)?;
+    let held = desk.open(rt, alloc, 2)?;
+    let by_worker = with_worker(rt, alloc, host, desk, &asked);
+    is_told(rt, alloc, desk, name, &by_worker, &told);
+    let given = Cell::new(0);
+    let reader = Counted {
+        rest: asked.as_slice(),
+        given: &given,
+    };
+    let by_bytes = served(rt, alloc, desk, reader);
+    is_told(rt, alloc, desk, name, &by_bytes, &told);
+    assert!(rt; desk.close(rt, held).is_ok());
+    Ok(())
+}
+
+// Tests that the connection ended well, was told this, and has left its seat.
+fn is_told<R: Abort + Wait>(
+    rt: &R,
+    alloc: Global,
+    desk: &Desk,
+    name: &str,
+    served: &Served,
+    told: &[u8],
+) {
+    assert!(rt; served.0.is_ok());
+    finds(rt, name, &served.1, told);
+    assert!(rt; is_free(rt, alloc, desk));
 }
 
 // At desks without workers: a session that fills its journal, and another one that is cut short at any byte.
 #[test]
 fn frees_its_seat(rt: HostRuntime) -> Result<(), AllocError> {
-    let alloc = rt.alloc();
-    let one = desk_of(alloc, 1)?;
-    one.stop(&rt);
-    fills_its_journal(&rt, alloc, &one)?;
-    let desk = desk_of(alloc, 8)?;
+    let desk = desk_of(rt.alloc(), 8)?;
     desk.stop(&rt);
+    is_left(&rt, rt.alloc(), &desk)
+}
+
+fn is_left<R: Abort + Wait>(rt: &R, alloc: Global, desk: &Desk) -> Result<(), AllocError> {
+    fills_its_journal(rt, alloc, desk)?;
     let (asked, _) = script(alloc, SESSION)?;
+    is_cut_short(rt, alloc, desk, &asked)
+}
+
+fn is_cut_short<R: Abort + Wait>(
+    rt: &R,
+    alloc: Global,
+    desk: &Desk,
+    asked: &[u8],
+) -> Result<(), AllocError> {
     for count in 0..asked.len() {
-        ends_after(&rt, alloc, &desk, &asked[..count])?;
-        fails_after(&rt, alloc, &desk, &asked, count)?;
+        ends_after(rt, alloc, desk, &asked[..count])?;
+        fails_after(rt, alloc, desk, asked, count)?;
     }
-    fails_to_write(&rt, alloc, &desk, &asked)
+    fails_to_write(rt, alloc, desk, asked)
 }
 
 fn fills_its_journal<R: Abort + Wait>(
@@ -210,9 +238,8 @@ fn fills_its_journal<R: Abort + Wait>(
     desk: &Desk,
 ) -> Result<(), AllocError> {
     let (asked, told) = script(alloc, JOURNAL)?;
-    let wanted: Served = (Ok(()), told);
-    assert!(rt; served(rt, alloc, desk, asked.as_slice()) == wanted);
-    assert!(rt; is_free(rt, alloc, desk));
+    let found = served(rt, alloc, desk, asked.as_slice());
+    is_told(rt, alloc, desk, "a full journal", &found, &told);
     Ok(())
 }
 
@@ -223,13 +250,9 @@ fn ends_after<R: Abort + Wait>(
     desk: &Desk,
     front: &[u8],
 ) -> Result<(), AllocError> {
-    let wanted: Served = (Ok(()), due(alloc, front.len())?);
-    assert!(rt;
-        served(rt, alloc, desk, front) == wanted,
-        "{} bytes",
-        front.len()
-    );
-    assert!(rt; is_free(rt, alloc, desk), "{} bytes", front.len());
+    let told = due(alloc, front.len())?;
+    let found = served(rt, alloc, desk, front);
+    is_told(rt, alloc, desk, "a session that ends", &found, &told);
     Ok(())
 }
 
@@ -241,15 +264,17 @@ fn fails_after<R: Abort + Wait>(
     asked: &[u8],
     count: usize,
 ) -> Result<(), AllocError> {
+    let told = due(alloc, count)?;
     let given = Cell::new(0);
     let bytes = Counted {
         rest: asked,
         given: &given,
     };
     let reader = Fused::new(bytes, (count as u64).saturating_add(1));
-    let wanted: Served = (Err(ServeFault::Read), due(alloc, count)?);
-    assert!(rt; served(rt, alloc, desk, reader) == wanted, "read {count}");
-    assert!(rt; is_free(rt, alloc, desk), "read {count}");
+    let (ended, written) = served(rt, alloc, desk, reader);
+    assert!(rt; ended == Err(ServeFault::Read));
+    finds(rt, "a read that fails", &written, &told);
+    assert!(rt; is_free(rt, alloc, desk));
     Ok(())
 }
 
@@ -267,9 +292,9 @@ fn fails_to_write<R: Abort + Wait>(
         let mut written = Vec::new(alloc);
         let mut writer = Stream::new(Fused::new(&mut written, call));
         let ended = serve(rt, alloc, desk, &mut Stream::new(asked), &mut writer);
-        assert!(rt; ended == Err(ServeFault::Write), "write {call}");
-        assert!(rt; written == wanted, "write {call}");
-        assert!(rt; is_free(rt, alloc, desk), "write {call}");
+        assert!(rt; ended == Err(ServeFault::Write));
+        assert!(rt; written == wanted);
+        assert!(rt; is_free(rt, alloc, desk));
         wanted.extend_from_slice(answer)?;
     }
     Ok(())
@@ -278,9 +303,16 @@ fn fails_to_write<R: Abort + Wait>(
 // Each answer is written when the last byte of its request was read, and nothing is read behind a QUIT with a seat.
 #[test]
 fn answers_before_it_reads_on(rt: HostRuntime) -> Result<(), AllocError> {
-    let alloc = rt.alloc();
-    let desk = desk_of(alloc, 8)?;
+    let desk = desk_of(rt.alloc(), 8)?;
     desk.stop(&rt);
+    is_answered_first(&rt, rt.alloc(), &desk)
+}
+
+fn is_answered_first<R: Abort + Wait>(
+    rt: &R,
+    alloc: Global,
+    desk: &Desk,
+) -> Result<(), AllocError> {
     let (mut asked, _) = script(alloc, SESSION)?;
     asked.extend_from_slice(b"OUTPUT\n")?;
     let given = Cell::new(0);
@@ -293,11 +325,11 @@ fn answers_before_it_reads_on(rt: HostRuntime) -> Result<(), AllocError> {
         written: &mut written,
         given: &given,
     });
-    let ended = serve(&rt, alloc, &desk, &mut reader, &mut writer);
-    assert_eq!(rt; ended, Ok(()));
+    let ended = serve(rt, alloc, desk, &mut reader, &mut writer);
+    assert!(rt; ended.is_ok());
     let wanted =
         b"7: - E92 no such seat\n13: - E93 seat not claimed\n20: + 0\n61: + 1\nloaded M\n67: + 1\n1 M ready 1\n74: + 1\nran 3 ended\n81: - E10 unknown command\n86: + 0\n";
-    finds(&rt, "answers", &written, wanted);
-    assert_eq!(rt; given.get(), 86);
+    finds(rt, "answers", &written, wanted);
+    assert!(rt; given.get() == 86);
     Ok(())
 }

@@ -167,9 +167,13 @@ fn passes(rt: HostRuntime) -> Result<(), Fail> {
     let one = desk_of(alloc, 2)?;
     let other = desk_of(alloc, 2)?;
     one.stop(&rt);
-    refuses_seats(&rt, alloc, &one)?;
-    is_answered(&rt, alloc, &one)?;
-    is_refused_elsewhere(&rt, alloc, &one, &other)
+    at_desks(&rt, alloc, &one, &other)
+}
+
+fn at_desks<R: Abort + Wait>(rt: &R, alloc: Global, one: &Desk, other: &Desk) -> Result<(), Fail> {
+    refuses_seats(rt, alloc, one)?;
+    is_answered(rt, alloc, one)?;
+    is_refused_elsewhere(rt, alloc, one, other)
 }
 
 fn refuses_seats<R: Abort + Wait>(rt: &R, alloc: Global, desk: &Desk) -> Result<(), Fail> {
@@ -214,15 +218,25 @@ fn is_refused_elsewhere<R: Abort + Wait>(
     let mut pass = desk.open(rt, alloc, 1)?;
     desk.submit(rt, alloc, &mut pass, Request::Output)?;
     let there = other.open(rt, alloc, 1)?;
-    let refused = Err(DeskFault::NotThisDesk(0));
-    assert!(rt; other.submit(rt, alloc, &mut pass, Request::Output) == refused);
+    let refused = other.submit(rt, alloc, &mut pass, Request::Output);
+    assert!(rt; refused == Err(DeskFault::NotThisDesk(0)));
     let Err((mut pass, fault)) = other.close(rt, pass) else {
         return Err(Fail::new("closed at another desk"));
     };
     assert!(rt; fault == DeskFault::NotThisDesk(0));
     assert!(rt; other.close(rt, there).is_ok());
-    let text = told(rt, alloc, desk, &mut pass)?;
-    finds(rt, "its own desk", &text, b"- E14 no program\n");
+    goes_on(rt, alloc, desk, &mut pass)?;
     assert!(rt; desk.close(rt, pass).is_ok());
+    Ok(())
+}
+
+fn goes_on<R: Abort + Wait>(
+    rt: &R,
+    alloc: Global,
+    desk: &Desk,
+    pass: &mut Pass,
+) -> Result<(), DeskFault> {
+    let text = told(rt, alloc, desk, pass)?;
+    finds(rt, "its own desk", &text, b"- E14 no program\n");
     Ok(())
 }

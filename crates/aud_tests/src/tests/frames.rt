@@ -23,25 +23,29 @@ fn give_back(alloc: Global, store: &mut Store) -> Result<(), AllocError> {
     Ok(())
 }
 
-#[test]
-fn gives_keys_out_again(rt: HostRuntime) -> Result<(), Fail> {
-    let alloc = rt.alloc();
-    let mut store = Store::new(alloc);
+// Opens and leaves them; the greatest of their keys.
+fn greatest_key(alloc: Global, store: &mut Store) -> Result<usize, Fail> {
     store.enter(alloc, Purpose::Body, &[], 0, AT, &[Int32::new(1)], 1)?;
-    let mut keys = Vec::new(alloc);
+    let mut greatest = 0;
     for _ in 0..FRAMES {
         let frame = store.enter(alloc, Purpose::Block, &[], 1, AT, &[Int32::new(2)], 1)?;
-        keys.push(store.key(frame).ok_or("no key")?)?;
+        greatest = greatest.max(store.key(frame).ok_or("no key")?);
         store.leave();
         if store.is_due() {
-            give_back(alloc, &mut store)?;
+            give_back(alloc, store)?;
         }
     }
-    assert_eq!(rt; store.frames().len(), 1 + FRAMES);
+    Ok(greatest)
+}
+
+#[test]
+fn gives_keys_out_again(rt: HostRuntime) -> Result<(), Fail> {
+    let mut store = Store::new(rt.alloc());
+    let greatest = greatest_key(rt.alloc(), &mut store)?;
+    assert!(rt; store.frames().len() == 1 + FRAMES);
     assert!(rt; store.key(1).is_none() && store.key(FRAMES).is_some());
-    assert_eq!(rt; store.innermost_cell(0).get(), 1);
-    keys.sort_unstable();
-    keys.dedup();
-    assert!(rt; keys.len() < FRAMES);
+    assert!(rt; store.innermost_cell(0).get() == 1);
+    // Keys are numbered from 0.
+    assert!(rt; greatest < FRAMES - 1);
     Ok(())
 }

@@ -6,8 +6,10 @@ use aud_server::program::program;
 use std::alloc::{AllocError, Global};
 use std::io::{self, Read, Write};
 use std::net::{Ipv4Addr, Net, TcpListener, TcpStream};
+use std::process::Abort;
+use std::sync::Wait;
 use std::test::*;
-use std::thread;
+use std::thread::{self, Threads};
 use std::time::{Clock, Duration};
 
 // Behind SEAT 1: 64 tasks, a source of 32,768 bytes, and one of a byte more.
@@ -87,7 +89,7 @@ fn two_clients<R: Net<Stream = TcpStream> + Clock>(
     alloc: Global,
     port: u16,
     turns: &[Turn],
-) -> io::Result<([u8; 4], Vec<u8>, Vec<u8>)> {
+) -> io::Result<Told> {
     let mut first = connect(rt, port)?;
     let mut second = connect(rt, port)?;
     let mut seat = [0; 4];
@@ -99,31 +101,49 @@ fn two_clients<R: Net<Stream = TcpStream> + Clock>(
 
 #[test]
 fn serves_two_clients(rt: HostRuntime) -> Result<(), Fail> {
-    let alloc = rt.alloc();
     for (options, turns) in RUNS {
         let mut status = 3;
         // Again, where another program has taken the port.
         for _ in 0..3 {
             let port = free_port(&rt)?;
-            let line = format!(in alloc; "aud --port {port} {options}")?;
-            let words = words_of(alloc, line.as_str())?;
+            let words = words_at(rt.alloc(), port, options)?;
             let (ended, told) = thread::join(
                 &rt,
                 || program(&rt, &words),
-                || two_clients(&rt, alloc, port, turns),
+                || two_clients(&rt, rt.alloc(), port, turns),
             );
             status = ended;
             if status != 3 {
-                let (seat, of_second, of_first) = told?;
-                finds(&rt, options, &seat, b"+ 0\n");
-                finds(&rt, options, &of_second, &script(alloc, turns)?.1);
-                finds(&rt, options, &of_first, &script(alloc, FIRST)?.1);
+                are_told(&rt, rt.alloc(), options, turns, told)?;
                 break;
             }
         }
-        assert_eq!(rt; status, 0);
+        assert!(rt; status == 0);
     }
     Ok(())
+}
+
+// What the clients are told, as `two_clients` gives it.
+type Told = ([u8; 4], Vec<u8>, Vec<u8>);
+
+fn are_told(
+    rt: &impl Abort,
+    alloc: Global,
+    options: &str,
+    turns: &[Turn],
+    told: io::Result<Told>,
+) -> Result<(), Fail> {
+    let (seat, of_second, of_first) = told?;
+    finds(rt, options, &seat, b"+ 0\n");
+    finds(rt, options, &of_second, &script(alloc, turns)?.1);
+    finds(rt, options, &of_first, &script(alloc, FIRST)?.1);
+    Ok(())
+}
+
+// The words of a command line with a port and options.
+fn words_at(alloc: Global, port: u16, options: &str) -> Result<Vec<String>, Fail> {
+    let line = format!(in alloc; "aud --port {port} {options}")?;
+    Ok(words_of(alloc, line.as_str())?)
 }
 
 pub fn words_of(alloc: Global, line: &str) -> Result<Vec<String>, AllocError> {
@@ -181,17 +201,30 @@ const REFUSED: [&str; 9] = [
 
 #[test]
 fn takes_its_own_words_alone(rt: HostRuntime) -> Result<(), Fail> {
-    let alloc = rt.alloc();
     let listener = TcpListener::bind(&rt, (Ipv4Addr::LOCALHOST, 0u16))?;
+    takes_words(&rt, rt.alloc(), &listener)
+}
+
+fn takes_words<R>(rt: &R, alloc: Global, listener: &TcpListener) -> Result<(), Fail>
+where
+    R: Abort
+        + Input
+        + Print
+        + Eprint
+        + AllocGlobal
+        + Net<Listener = TcpListener, Stream = TcpStream>
+        + Threads
+        + Wait
+        + Sync,
+{
     let port = listener.local_addr()?.port();
     for (row, status) in STATUSES {
-        let line = format!(in alloc; "aud --port {port} {row}")?;
-        let words = words_of(alloc, line.as_str())?;
-        assert!(rt; program(&rt, &words) == status, "{row}");
+        let words = words_at(alloc, port, row)?;
+        assert!(rt; program(rt, &words) == status);
     }
     for line in REFUSED {
         let words = words_of(alloc, line)?;
-        assert!(rt; program(&rt, &words) == 2, "{line}");
+        assert!(rt; program(rt, &words) == 2);
     }
     Ok(())
 }

@@ -25,10 +25,10 @@ fn answers_before_it_reads_on(rt: HostRuntime) -> Result<(), AllocError> {
         given: &given,
     });
     let ended = solo(rt.alloc(), &mut reader, &mut writer);
-    assert_eq!(rt; ended, Ok(()));
+    assert!(rt; ended == Ok(()));
     let wanted = b"41: + 1\nloaded M\n48: + 1\nran 3 ended\n54: - E11 bad argument\n59: + 0\n";
     finds(&rt, "answers", &written, wanted);
-    assert_eq!(rt; given.get(), 59);
+    assert!(rt; given.get() == 59);
     Ok(())
 }
 
@@ -41,13 +41,13 @@ fn fails_at_one_call(rt: HostRuntime) {
     let second = reader.read(&mut piece);
     let third = reader.read(&mut piece);
     let reads = (first.is_ok(), second.is_ok(), third.is_ok(), piece[0]);
-    assert_eq!(rt; reads, (true, false, true, b'b'));
+    assert!(rt; reads == (true, false, true, b'b'));
     let mut written = Vec::new(rt.alloc());
     let mut writer = Fused::new(&mut written, 2);
     let first = writer.write(b"a");
     let second = writer.write(b"b");
     let third = writer.write(b"c");
     let writes = (first.is_ok(), second.is_ok(), third.is_ok());
-    assert_eq!(rt; writes, (true, false, true));
+    assert!(rt; writes == (true, false, true));
     finds(&rt, "what is written", &written, b"ac");
 }

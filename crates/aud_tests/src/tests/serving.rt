@@ -38,7 +38,7 @@ fn tells_read_faults(rt: HostRuntime) {
     let mut written = Vec::new(rt.alloc());
     let mut writer = Stream::new(&mut written);
     let ended = solo(rt.alloc(), &mut Stream::new(Empty), &mut writer);
-    assert_eq!(rt; ended, Err(SoloFault::Read));
+    assert!(rt; ended == Err(SoloFault::Read));
     finds(&rt, "no answer", &written, b"");
 }
 
@@ -81,15 +81,12 @@ fn writes_to<W: Write + Drop>(alloc: Global, writer: W) -> Result<(), SoloFault>
 #[test]
 fn tells_write_faults(rt: HostRuntime) {
     let asked = Cell::new(0);
-    assert_eq!(rt; writes_to(rt.alloc(), Full(&asked)), Err(SoloFault::Write));
-    assert_eq!(rt; asked.get(), 1);
-    assert_eq!(rt; writes_to(rt.alloc(), Idle(&asked)), Err(SoloFault::Write));
-    assert_eq!(rt; asked.get(), 2);
+    assert!(rt; writes_to(rt.alloc(), Full(&asked)) == Err(SoloFault::Write));
+    assert!(rt; asked.get() == 1);
+    assert!(rt; writes_to(rt.alloc(), Idle(&asked)) == Err(SoloFault::Write));
+    assert!(rt; asked.get() == 2);
     let mut written = Vec::new(rt.alloc());
-    assert_eq!(rt;
-        writes_to(rt.alloc(), Kept(&mut written)),
-        Err(SoloFault::Write)
-    );
+    assert!(rt; writes_to(rt.alloc(), Kept(&mut written)) == Err(SoloFault::Write));
     finds(&rt, "the first answer", &written, b"- E14 no program\n");
 }
 
@@ -146,6 +143,6 @@ fn tries_again_what_is_interrupted(rt: HostRuntime) {
         is_first: true,
     });
     let ended = solo(rt.alloc(), &mut reader, &mut writer);
-    assert_eq!(rt; ended, Ok(()));
+    assert!(rt; ended == Ok(()));
     finds(&rt, "answers", &written, b"- E14 no program\n+ 0\n");
 }

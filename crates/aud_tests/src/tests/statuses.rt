@@ -5,8 +5,12 @@ use crate::tests::listening::words_of;
 use crate::tests::surroundings::{Sent, Surroundings};
 use aud_server::program::{ProgramFault, program, refuse};
 use aud_solo::solo::SoloFault;
-use std::net::{Ipv4Addr, TcpListener};
+use std::alloc::Global;
+use std::net::{Ipv4Addr, Net, TcpListener, TcpStream};
+use std::process::Abort;
+use std::sync::Wait;
 use std::test::*;
+use std::thread::Threads;
 
 const ANSWER: &[u8] = b"- E14 no program\n";
 
@@ -41,22 +45,17 @@ const SESSIONS: [(Given, Wanted); 9] = [
 fn ends_as_its_session_did(rt: HostRuntime) -> Result<(), Fail> {
     let words = words_of(rt.alloc(), "aud --solo")?;
     for ((rest, fails, room), wanted) in SESSIONS {
-        let surroundings = Surroundings::new(&rt, Sent { rest, fails }, room);
-        let status = program(&surroundings, &words);
-        let (written, said) = surroundings.told();
-        assert_eq!(rt; status, wanted.0);
-        finds(&rt, "answers", &written, wanted.1);
-        finds(&rt, "a line", &said, wanted.2);
+        ends_so(&rt, &words, Sent { rest, fails }, room, wanted);
     }
     Ok(())
 }
 
-// Words of a command line, behind which there is a port that is taken.
+// Words of a command line with a port that is taken.
 const REFUSED: [(&str, u8, &[u8]); 4] = [
-    ("aud --solo --port", 2, b"aud: bad arguments\n"),
-    ("aud --seats 0 --port", 2, b"aud: bad arguments\n"),
-    ("aud --seats 8 --port", 3, b"aud: cannot listen\n"),
-    ("aud --port", 3, b"aud: cannot listen\n"),
+    ("aud --solo", 2, b"aud: bad arguments\n"),
+    ("aud --seats 0", 2, b"aud: bad arguments\n"),
+    ("aud --seats 8", 3, b"aud: cannot listen\n"),
+    ("aud", 3, b"aud: cannot listen\n"),
 ];
 
 const NOTHING: Sent = Sent {
@@ -66,19 +65,43 @@ const NOTHING: Sent = Sent {
 
 #[test]
 fn says_why_it_does_not_listen(rt: HostRuntime) -> Result<(), Fail> {
-    let alloc = rt.alloc();
     let listener = TcpListener::bind(&rt, (Ipv4Addr::LOCALHOST, 0u16))?;
+    says_why(&rt, rt.alloc(), &listener)
+}
+
+fn says_why<R>(rt: &R, alloc: Global, listener: &TcpListener) -> Result<(), Fail>
+where
+    R: Abort
+        + AllocGlobal
+        + Net<Listener = TcpListener, Stream = TcpStream>
+        + Threads
+        + Wait
+        + Sync,
+{
     let port = listener.local_addr()?.port();
     for (front, wanted, line) in REFUSED {
-        let words = words_of(alloc, format!(in alloc; "{front} {port}")?.as_str())?;
-        let surroundings = Surroundings::new(&rt, NOTHING, 0);
-        let status = program(&surroundings, &words);
-        let (written, said) = surroundings.told();
-        assert_eq!(rt; status, wanted);
-        finds(&rt, "no answer", &written, b"");
-        finds(&rt, front, &said, line);
+        let words = words_of(alloc, format!(in alloc; "{front} --port {port}")?.as_str())?;
+        ends_so(rt, &words, NOTHING, 0, (wanted, b"", line));
     }
     Ok(())
+}
+
+// Tests how the program ends where so much is sent, and so many bytes of answers are taken.
+fn ends_so<R>(rt: &R, words: &[String], sent: Sent, room: usize, wanted: Wanted)
+where
+    R: Abort
+        + AllocGlobal
+        + Net<Listener = TcpListener, Stream = TcpStream>
+        + Threads
+        + Wait
+        + Sync,
+{
+    let surroundings = Surroundings::new(rt, sent, room);
+    let status = program(&surroundings, words);
+    let (written, said) = surroundings.told();
+    assert!(rt; status == wanted.0);
+    finds(rt, "answers", &written, wanted.1);
+    finds(rt, "a line", &said, wanted.2);
 }
 
 // A test has no memory that is refused: this is what is said of it.
@@ -87,6 +110,6 @@ fn says_that_memory_is_out(rt: HostRuntime) {
     let surroundings = Surroundings::new(&rt, NOTHING, 0);
     let status = refuse(&surroundings, ProgramFault::Server(SoloFault::Memory));
     let (_, said) = surroundings.told();
-    assert_eq!(rt; status, 4);
+    assert!(rt; status == 4);
     finds(&rt, "a line", &said, b"aud: out of memory\n");
 }

@@ -1,0 +1,15 @@
+use Rattle.std.proofs.Common.{arith}
+use Rattle.aud_code.specs.Control.{going}
+use Rattle.aud_state.specs.View.{begins_accept}
+use Rattle.aud_state.proofs.Changed.{task_changed, no_task}
+use Rattle.aud_state.proofs.state.State.accept_body.Goals as goal
+
+pub returns-then-n-len : goal.returns-then-n-len
+returns-then-n-len c =
+    let s = c.self.inside in
+    task_changed (begins_accept (going c.args.code.now) c.args.alternative) s.tasks.items s.progress s.calls s.objects.items c.args.n c.index_mut.result.now c.accept_body.new.self c.args.self.now (omega arith) c.index_mut.ensures.value c.accept_body.ensures c.self.view_is
+
+pub returns-else-n-len : goal.returns-else-n-len
+returns-else-n-len c =
+    let s = c.self.inside in
+    no_task (begins_accept (going c.args.code.now) c.args.alternative) s.tasks.items s.progress s.calls s.objects.items c.args.n c.args.self.now (omega arith) c.self.view_is

@@ -1,0 +1,15 @@
+use Rattle.std.proofs.Common.{arith}
+use Rattle.aud_meaning.specs.declared.state.Status.TheVariants.{Calling}
+use Rattle.aud_meaning.specs.Parts.{blocks, no_waits}
+use Rattle.aud_state.proofs.Changed.{task_changed, no_task}
+use Rattle.aud_state.proofs.state.State.stand_at_call.Goals as goal
+
+pub returns-then-n-len : goal.returns-then-n-len
+returns-then-n-len c =
+    let s = c.self.inside in
+    task_changed (λ t. record t { own = record (blocks Calling c.args.at no_waits t.own) { call = c.args.id } }) s.tasks.items s.progress s.calls s.objects.items c.args.n c.index_mut.result.now c.stand_at_call.new.self c.args.self.now (omega arith) c.index_mut.ensures.value c.stand_at_call.ensures c.self.view_is
+
+pub returns-else-n-len : goal.returns-else-n-len
+returns-else-n-len c =
+    let s = c.self.inside in
+    no_task (λ t. record t { own = record (blocks Calling c.args.at no_waits t.own) { call = c.args.id } }) s.tasks.items s.progress s.calls s.objects.items c.args.n c.args.self.now (omega arith) c.self.view_is

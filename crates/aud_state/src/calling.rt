@@ -1,0 +1,59 @@
+// Entry calls on their way (RM 9.5.3).
+
+ghost use Rattle.std.specs.Prelude.{◌≡◌, IfOk, OnOk};
+ghost use Rattle.aud_meaning.specs.declared.state.CallState.TheVariants.{Selected};
+ghost use Rattle.aud_meaning.specs.Parts.{arrives, call_number, cancels, new_call, on_call, queue};
+ghost use Rattle.aud_state.specs.Queues.{oldest};
+ghost use Rattle.aud_state.specs.View.{made_call};
+
+use crate::calls::NewCall;
+use crate::state::State;
+use std::alloc::AllocError;
+
+impl State {
+    /// A call is made. It gives the call's number.
+    ///
+    /// # Errors
+    ///
+    /// Where memory is refused. Nothing is said of the state then.
+    pub fn make_call(&mut self, call: NewCall) -> Result<usize, AllocError>
+        ensures made { OnOk result (self.new ≡ new_call (made_call call) self.old) }
+        ensures number { IfOk result (λ id. id ≡ call_number self.old) }
+    {
+        let id = self.calls.push(call)?;
+        Ok(id)
+    }
+
+    /// A call arrives on the entry that it names now, behind those that are queued there.
+    ///
+    /// # Errors
+    ///
+    /// Where memory is refused. Nothing is said of the state then.
+    pub fn arrive(&mut self, id: usize) -> Result<(), AllocError>
+        ensures { OnOk result (self.new ≡ arrives id self.old) }
+    {
+        self.calls.arrive(id)?;
+        Ok(())
+    }
+
+    /// A call is selected, and leaves its queue.
+    pub fn select_call(&mut self, id: usize)
+        ensures { self.new ≡ on_call id (λ a. record a { state = Selected }) self.old }
+    {
+        self.calls.select(id);
+    }
+
+    /// A call is cancelled, and leaves its queue.
+    pub fn cancel_call(&mut self, id: usize)
+        ensures { self.new ≡ cancels id self.old }
+    {
+        self.calls.cancel(id);
+    }
+
+    /// The number of the call that waits for longest on an entry, whose owner is a task or an object.
+    pub fn first_queued(&self, owner: usize, entry: usize) -> Option<usize>
+        ensures { result ≡ oldest (queue owner entry self.now.shared.calls) }
+    {
+        self.calls.first(owner, entry)
+    }
+}

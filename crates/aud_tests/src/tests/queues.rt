@@ -1,0 +1,78 @@
+// Entry calls that arrive in a queue, and leave it.
+
+use crate::tests::loaded;
+use aud_gen::generate;
+use aud_meaning::state::{Form, Owner};
+use aud_state::calls::NewCall;
+use aud_state::state::State;
+use aud_text::place::Pos;
+use std::alloc::{AllocError, Global};
+use std::test::Fail;
+
+const IDLE: &[u8] = b"procedure M is begin null; end M;\n";
+
+// The entry that is called, and the task that has it.
+const ENTRY: usize = 2;
+
+const OWNER: usize = 7;
+
+const CALLS: usize = 3;
+
+#[derive(Clone, Copy)]
+enum Act {
+    Arrive(usize),
+    Select(usize),
+    Cancel(usize),
+}
+
+// What happens to a call, and which one waits for longest then.
+const ROWS: [(Act, Option<usize>); 7] = [
+    (Act::Arrive(2), Some(2)),
+    (Act::Arrive(0), Some(2)),
+    (Act::Arrive(1), Some(2)),
+    (Act::Select(2), Some(0)),
+    // it goes behind the other one
+    (Act::Arrive(0), Some(1)),
+    (Act::Cancel(1), Some(0)),
+    (Act::Select(0), None),
+];
+
+#[test]
+fn the_oldest_call_comes_first(rt: HostRuntime) -> Result<(), Fail> {
+    let alloc = rt.alloc();
+    let program = loaded(alloc, IDLE)?;
+    let code = generate(alloc, &program)?;
+    let mut state = State::new(alloc, &code, &program.units, &program.name)?;
+    for number in 0..CALLS {
+        let id = state.make_call(call_of(alloc, number))?;
+        assert!(rt; id == number);
+    }
+    for (act, oldest) in ROWS {
+        does(&mut state, act)?;
+        assert!(rt; state.first_queued(OWNER, ENTRY) == oldest);
+        assert!(rt; state.first_queued(OWNER, ENTRY + 1).is_none());
+    }
+    Ok(())
+}
+
+fn does(state: &mut State, act: Act) -> Result<(), AllocError> {
+    match act {
+        Act::Arrive(id) => state.arrive(id)?,
+        Act::Select(id) => state.select_call(id),
+        Act::Cancel(id) => state.cancel_call(id),
+    }
+    Ok(())
+}
+
+// A call that a task makes.
+fn call_of(alloc: Global, caller: usize) -> NewCall {
+    NewCall {
+        caller,
+        owner: Owner::Task(OWNER),
+        entry: ENTRY,
+        values: Vec::new(alloc),
+        backs: Vec::new(alloc),
+        form: Form::Plain,
+        at: Pos { line: 1, col: 1 },
+    }
+}
