@@ -21,12 +21,12 @@ use aud_lex::fault::LexFault;
 use aud_lex::lex;
 use aud_lex::token::Token;
 use aud_parse::{SyntaxFault, parse};
+use aud_scoped::ScopedProgram;
 use aud_syntax::tree::Unit;
 use aud_text::limits::Limits;
 use aud_text::lines::line_count;
 use aud_text::place::Pos;
 use aud_text::refusal::Refusal;
-use aud_typed::program::Program;
 use std::alloc::Global;
 
 /// Why a source text is not loaded.
@@ -41,7 +41,7 @@ pub enum LoadFault {
 /// The program that a source text is. It is refused where it is longer than the limit, and else at its first lexical
 /// fault, at the first place where no program goes on or a level too many is opened, or at its least broken rule. Each
 /// variable of the program is elaborated before it is read or assigned (RM 3.3.1).
-pub fn load(alloc: Global, limits: Limits, source: &[u8]) -> Result<Program, LoadFault>
+pub fn load(alloc: Global, limits: Limits, source: &[u8]) -> Result<ScopedProgram, LoadFault>
     ensures answer { Gives (program_of limits source.now) result }
     ensures scoped { IfOk result (λ program. IsScoped (plain_program program)) }
 {
@@ -51,7 +51,7 @@ pub fn load(alloc: Global, limits: Limits, source: &[u8]) -> Result<Program, Loa
     read(alloc, source)
 }
 
-fn read(alloc: Global, source: &[u8]) -> Result<Program, LoadFault>
+fn read(alloc: Global, source: &[u8]) -> Result<ScopedProgram, LoadFault>
     ensures answer { Gives (after_lexing source.now (lexed source.now)) result }
     ensures scoped { IfOk result (λ program. IsScoped (plain_program program)) }
 {
@@ -62,7 +62,7 @@ fn read(alloc: Global, source: &[u8]) -> Result<Program, LoadFault>
     }
 }
 
-fn parsed(alloc: Global, source: &[u8], tokens: &[Token]) -> Result<Program, LoadFault>
+fn parsed(alloc: Global, source: &[u8], tokens: &[Token]) -> Result<ScopedProgram, LoadFault>
     ensures answer { Gives (after_parsing source.now tokens.now (syntax.parsed tokens.now)) result }
     ensures scoped { IfOk result (λ program. IsScoped (plain_program program)) }
 {
@@ -83,7 +83,7 @@ fn syntax_refusal(source: &[u8], tokens: &[Token], fault: SyntaxFault) -> LoadFa
     }
 }
 
-fn checked(alloc: Global, unit: &Unit) -> Result<Program, LoadFault>
+fn checked(alloc: Global, unit: &Unit) -> Result<ScopedProgram, LoadFault>
     ensures answer { Gives (after_checking (rules.checked (plain_unit unit.now))) result }
     ensures scoped { IfOk result (λ program. IsScoped (plain_program program)) }
 {

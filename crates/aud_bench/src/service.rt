@@ -20,11 +20,12 @@ use aud_debug::lines::Lines;
 use aud_debug::listing::{Listing, list};
 use aud_machine::machine::Machine;
 use aud_meaning::state::State;
+use aud_scoped::ScopedProgram;
 use aud_text::limits::{CHOICES, CLOCK, Limits, STEPS};
 use aud_text::name::Name;
 use aud_text::refusal::Refusal;
 use aud_text::text::Text;
-use aud_typed::program::{Exception, Program};
+use aud_typed::program::Exception;
 use std::alloc::{AllocError, Global};
 
 /// What some work on a request came to: its answer, if it is done, the steps that a RUN under way has done, and the
@@ -124,12 +125,12 @@ fn begin(
     alloc: Global,
     limits: Limits,
     machine: &mut Option<Machine>,
-    program: Program,
+    program: ScopedProgram,
 ) -> Result<Answer, AllocError>
     ensures { IfOk result (λ answer. RepliesAs (load_reply (Ok (plain_program program)))
         limits machine.old answer machine.new) }
 {
-    let name = program.name.try_clone(alloc)?;
+    let name = program.program().name.try_clone(alloc)?;
     let new = Machine::new(alloc, program, limits)?;
     replace(machine, Some(new));
     Ok(Answer::Loaded(name))

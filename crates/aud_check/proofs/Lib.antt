@@ -1,2 +1,3 @@
 mod Rows
 pub mod Judged
+pub mod Declaring

@@ -13,8 +13,8 @@ pub mod fault;
 use crate::fault::CheckFault;
 use aud_check_bodies::unit::typed;
 use aud_fault::fault::Least;
+use aud_scoped::ScopedProgram;
 use aud_syntax::tree::Unit;
-use aud_typed::program::Program;
 use std::alloc::Global;
 
 /// The typed program of a program without faults (RM 10.1.1). Each variable in it has been elaborated where it
@@ -24,14 +24,14 @@ use std::alloc::Global;
 ///
 /// `Wrong` with the first fault in the text, and of several at one place the one whose code has the
 /// least number; `Memory` where memory is refused.
-pub fn check(alloc: Global, unit: &Unit) -> Result<Program, CheckFault>
+pub fn check(alloc: Global, unit: &Unit) -> Result<ScopedProgram, CheckFault>
     ensures answer { Gives plain_program (checked (plain_unit unit.now)) result }
     ensures scoped { IfOk result (λ program. IsScoped (plain_program program)) }
 {
     let mut faults = Least::new();
     let program = typed(alloc, unit, &mut faults)?;
     match faults.get() {
-        None => Ok(program),
+        None => Ok(ScopedProgram::new(program)),
         Some(fault) => Err(CheckFault::Wrong(fault)),
     }
 }

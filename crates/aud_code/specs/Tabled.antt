@@ -3,6 +3,7 @@
 use Rattle.std.specs.Prelude.{◌≡◌, ◌≤◌, ℕ, zero, suc, ◌+◌, ◌-◌, List, [], ◌∷◌, length, map, Some, true, false, slice_get}
 use Rattle.aud_code.specs.Instruction.{Instruction, Push, Load, LoadElement, OnOne, OnTwo, Count, Check, Cell, PushTruth, Truth, Negate, Relate, Compare, Combine, PassIfFalse, PassIfTrue, IsCallable, IsTerminated, Find, FindElement, LoadFound, Pass, PassCopy, AppendText, AppendImage, AppendTruth, AppendNewLine, Name, Milliseconds, Seconds, BeginObject, Component, OpensAccept, OpensDelay, OpensTerminate, Mark, PassUnlessNext, SetTime}
 use Rattle.aud_code.specs.Flat.{FlatLine, instructs, end, instructions_from}
+use Rattle.aud_code.specs.Seen.{IsSeen}
 use Rattle.aud_code.specs.Sound.{Counts, no_counts, AndThen, InstructionFine, LastFine, IsSound}
 use Rattle.aud_code.specs.View.{plain_code}
 use Rattle.aud_code.specs.declared.counts.Counts.{Counts as InMemory}
@@ -45,9 +46,10 @@ FirstTabled (l ∷ ls) (c ∷ cs) = LineTabled l c ls cs
 abbrev pub counts : InMemory → Counts
 counts c = record { integers = c.integers; booleans = c.booleans; targets = c.targets; names = 0; cells = false }
 
--- what is verified: the table fits the code, and the code is sound
+-- what is verified: both tables fit the code, and the code is sound
 pub record IsVerified (code : Code) : Type 0 where
   pub tabled : IsTabled (plain_code code).lines (map counts code.operands.items)
+  pub seen : IsSeen (plain_code code) code.tasks.items code.seen.items
   pub sound : IsSound (plain_code code)
 
 -- some are taken and others left

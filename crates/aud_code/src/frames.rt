@@ -182,8 +182,8 @@ fn block_around(lines: &[Line], within: Option<usize>) -> Option<&EndLine>
     }
 }
 
-// The step that opened the innermost frame.
-fn opener(lines: &[Line], within: Option<usize>) -> Option<&EndLine>
+/// The step that opened the innermost frame.
+pub(crate) fn opener(lines: &[Line], within: Option<usize>) -> Option<&EndLine>
     ensures some { IfSome result (λ step.
         opener (map plain_line lines.now) within ≡ Some (plain_end step.now)) }
     ensures none { IfNone result (opener (map plain_line lines.now) within ≡ None) }

@@ -8,5 +8,6 @@ pub mod fused;
 mod fusing;
 pub mod instruction;
 pub mod line;
+mod seen;
 pub mod sound_code;
 mod table;

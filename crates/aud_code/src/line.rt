@@ -110,12 +110,14 @@ pub enum Line {
     End(EndLine),
 }
 
-/// A program's code: its lines, how many operands stand before each of them, the place where each body begins, by the bodies'
-/// numbers, and the place for a number that no body has.
+/// A program's code: its lines, how many operands stand before each of them and how many frames are open there, the place where
+/// each body begins, by the bodies' numbers, the place for a number that no body has, and the body of each type of tasks.
 #[derive(Drop)]
 pub struct Code {
     pub lines: Vec<Line>,
     pub operands: Vec<Counts>,
+    pub seen: Vec<usize>,
     pub starts: Vec<usize>,
     pub spare: usize,
+    pub tasks: Vec<usize>,
 }

@@ -4,9 +4,10 @@ use Rattle.std.proofs.lemmas.List.{take_more, take-append-drop}
 use Rattle.std.specs.Prelude.{Result, IfSome, OnOk}
 use Rattle.std.specs.Io.KnownBytes.{Appends, Consumes, IsAtEnd}
 use Rattle.aud_bench.specs.declared.request.Request.{Request}
+use Rattle.aud_lines.specs.Ties.Begun.{Begun, nothing, requests_behind}
 use Rattle.aud_lines.specs.Ties.Splits.{Splits}
 use Rattle.aud_lines.specs.Requests.{requests}
-use Rattle.aud_lines.proofs.FeedLaws.{fed_more, fed_all}
+use Rattle.aud_lines.proofs.FeedLaws.{fed_more, fed_all, none_whole, of_nothing}
 use Rattle.aud_solo.specs.declared.solo.SoloFault.{SoloFault}
 use Rattle.aud_solo.specs.Streams.{AppendsFront}
 use Rattle.aud_solo.proofs.SoloLaws.{appends_more}
@@ -42,23 +43,21 @@ tells_all r before now some more all visit next is ok tells = record {
 
 -- ---- bytes read
 
-pub served_start : (left before : Option (List ℕ)) (feed : List ℕ) (visit : Visit) → feed ≡ [] → visit.pass ≡ None → visit.over ≡ false → HasServed left left before before feed visit
-unfolding requests
+pub served_start : (left before : Option (List ℕ)) (feed : Begun) (visit : Visit) → feed ≡ nothing → visit.pass ≡ None → visit.over ≡ false → HasServed left left before before feed visit
 served_start left before feed visit empty none going = record {
   input = [];
   asked = [];
   taken = consumes_none left;
-  fed = λ more. ap (λ xs. requests (xs ++ more)) (sym empty);
-  begun = ap requests empty;
+  fed = λ more. sym (of_nothing more) ∙ ap (λ begun. requests_behind begun more) (sym empty);
+  begun = ap (λ begun. requests_behind begun []) empty ∙ none_whole nothing refl;
   told = told_start before visit none going;
 }
 
-module _ (left remaining before now : Option (List ℕ)) (feed : List ℕ) (visit : Visit) (h : HasServed left remaining before now feed visit) where
+module _ (left remaining before now : Option (List ℕ)) (feed : Begun) (visit : Visit) (h : HasServed left remaining before now feed visit) where
   asked_all : requests h.input ≡ h.asked
   asked_all =
       ap requests (sym (append-nil h.input))
       ∙ h.fed []
-      ∙ ap (λ xs. h.asked ++ requests xs) (append-nil feed)
       ∙ ap (λ rs. h.asked ++ rs) h.begun
       ∙ append-nil h.asked
 
@@ -88,9 +87,9 @@ module _ (left remaining before now : Option (List ℕ)) (feed : List ℕ) (visi
       by None new taken = tt
       by (Some all) None taken = absurd taken
       by (Some all) (Some rest) taken =
-          let t = told_over before now h.asked visit h.told over (requests (feed ++ rest)) in
-          let whole : requests all ≡ h.asked ++ requests (feed ++ rest) = ap requests taken ∙ h.fed rest in
-          subst (WritesAll before now) (sym whole) (t.text, tells_of (h.asked ++ requests (feed ++ rest)) t.text visit.pass visit.over t.is, t.written)
+          let t = told_over before now h.asked visit h.told over (requests_behind feed rest) in
+          let whole : requests all ≡ h.asked ++ requests_behind feed rest = ap requests taken ∙ h.fed rest in
+          subst (WritesAll before now) (sym whole) (t.text, tells_of (h.asked ++ requests_behind feed rest) t.text visit.pass visit.over t.is, t.written)
 
   -- at the end all that was left is read
   end_known : IsAtEnd remaining → IfSome left (λ all. WritesAll before now (requests all))
@@ -109,9 +108,9 @@ module _ (left remaining before now : Option (List ℕ)) (feed : List ℕ) (visi
   ended_known false (inr end) ended = end_known end
 
   -- bytes more, of which some requests are whole
-  module _ (piece next : List ℕ) (given : List Request) (split : Splits (feed ++ piece) given next) where
+  module _ (piece : List ℕ) (next : Begun) (given : List Request) (split : Splits feed piece given next) where
     given_all : requests (h.input ++ piece) ≡ h.asked ++ given
-    given_all = h.fed piece ∙ ap (λ rs. h.asked ++ rs) (fed_all (feed ++ piece) next given split)
+    given_all = h.fed piece ∙ ap (λ rs. h.asked ++ rs) (fed_all feed piece next given split)
 
     pub some_given : (new : Option (List ℕ)) → WritesSome before new (h.asked ++ given) → WritesSome before new (requests (h.input ++ piece))
     some_given new = subst (WritesSome before new) (sym given_all)
@@ -125,13 +124,13 @@ module _ (left remaining before now : Option (List ℕ)) (feed : List ℕ) (visi
       asked = h.asked ++ given;
       taken = consumes_more left remaining rest h.input piece h.taken taken;
       fed = fed_more h.input piece feed next h.asked given h.fed split;
-      begun = split.begun;
+      begun = split.none;
       told = told;
     }
 
   -- bytes more that were not looked at
   pub some_read : (piece : List ℕ) → WritesSome before now (requests (h.input ++ piece))
-  some_read piece = subst (WritesSome before now) (sym (h.fed piece)) (some_told before now h.asked visit h.told (requests (feed ++ piece)))
+  some_read piece = subst (WritesSome before now) (sym (h.fed piece)) (some_told before now h.asked visit h.told (requests_behind feed piece))
 
 -- whether a turn is due
 pub due : (over : Bool) (remaining : Option (List ℕ)) → GoesOn (not over) over remaining

@@ -2,6 +2,7 @@
 
 ghost use Rattle.std.specs.Prelude.{◌≡◌, ℕ, List, [], ◌∷◌, Option, false, None, IfOk, OnOk, IsErrOf};
 ghost use Rattle.aud_bench.specs.declared.request.Request.{Request};
+ghost use Rattle.aud_lines.specs.Ties.Begun.{nothing};
 ghost use Rattle.aud_solo.specs.declared.solo.TheConstants.{READS};
 ghost use Rattle.aud_solo.specs.declared.solo.SoloFault.TheVariants as fault;
 ghost use Rattle.aud_solo.specs.Solo.{CountsReads, CountsReadsTo, CountsWrites};
@@ -94,7 +95,7 @@ fn serve_pieces<R: Wait, S: Source, T: Sink>(
     writer: &mut T,
 ) -> Result<(), ServeFault>
     requires visit { (visit.old.pass ≡ None) × (visit.old.over ≡ false) }
-    requires feed { feed.old ≡ [] }
+    requires feed { feed.old ≡ nothing }
     ensures serves { ServesSome result (S.remaining reader.old) (S.remaining reader.new)
         (T.contents writer.old) (T.contents writer.new) }
     ensures reads { CountsUpTo READS (S.calls reader.old) (S.calls reader.new) }

@@ -9,3 +9,4 @@ pub mod Counted
 pub mod Arguments
 pub mod Units
 pub mod Tables
+pub mod Openings

@@ -3,6 +3,7 @@
 
 mod bodies;
 mod expressions;
+mod frames;
 mod lengths;
 mod operands;
 mod program;

@@ -5,8 +5,11 @@ ghost use Rattle.aud_typed.specs.Ties.View.{body_in, plain_program};
 ghost use Rattle.aud_code.specs.Tabled.{counts, table_of};
 ghost use Rattle.aud_code.specs.View.{plain_code};
 ghost use Rattle.aud_layout.specs.Assembly.{flat_program};
+ghost use Rattle.aud_layout.specs.Opened.{BodiesCount};
+ghost use Rattle.aud_gen.specs.Opening.{body_in_type, level_in};
 ghost use Rattle.aud_gen.specs.Writes.{unit_lines, units_code, Writes};
 
+use crate::frames::frames;
 use crate::lengths::place_of_end;
 use crate::operands::operands;
 use crate::writer::{Writer, Written};
@@ -14,7 +17,8 @@ use aud_code::line::Code;
 use aud_code::sound_code::{SoundCode, verify};
 use aud_layout::ways::Ways;
 use aud_meaning::state::Construct;
-use aud_typed::program::{Body, Program, Unit};
+use aud_scoped::ScopedProgram;
+use aud_typed::program::{Body, TaskType, Unit};
 use std::alloc::{AllocError, Global};
 
 impl Writer {
@@ -29,10 +33,12 @@ impl Writer {
     }
 }
 
-// The code of all bodies, one after the other, with the table of operands. Behind them stands what is run for a number that no
-// body has.
-fn write_code(alloc: Global, units: &[Unit]) -> Result<Code, AllocError>
+// The code of all bodies, one after the other, with its tables. Behind them stands what is run for a number that no body has.
+fn write_code(alloc: Global, units: &[Unit], types: &[TaskType]) -> Result<Code, AllocError>
     ensures code { IfOk result (λ code. plain_code code ≡ units_code units.now) }
+    ensures frames { IfOk result (λ code. BodiesCount (plain_code code).lines code.seen.items
+        (map level_in units.now) (plain_code code).starts (plain_code code).spare) }
+    ensures tasks { IfOk result (λ code. code.tasks.items ≡ map body_in_type types.now) }
     ensures table { IfOk result (λ code.
         map counts code.operands.items ≡ table_of (plain_code code).lines) }
 {
@@ -46,19 +52,35 @@ fn write_code(alloc: Global, units: &[Unit]) -> Result<Code, AllocError>
     writer.write_idle()?;
     let lines = writer.into_lines();
     let operands = operands(alloc, &lines)?;
+    let seen = frames(alloc, &lines, &starts, spare, units)?;
+    let tasks = task_bodies(alloc, types)?;
     Ok(Code {
         lines,
         operands,
+        seen,
         starts,
         spare,
+        tasks,
     })
 }
 
+// The body of each task type.
+fn task_bodies(alloc: Global, types: &[TaskType]) -> Result<Vec<usize>, AllocError>
+    ensures { IfOk result (λ bodies. bodies.items ≡ map body_in_type types.now) }
+{
+    let mut bodies = Vec::with_capacity(alloc, types.len())?;
+    for task_type in types {
+        bodies.push(task_type.unit)?;
+    }
+    Ok(bodies)
+}
+
 /// The code of a program. It is refused only where memory is refused.
-pub fn generate(alloc: Global, program: &Program) -> Result<SoundCode, AllocError>
+pub fn generate(alloc: Global, program: &ScopedProgram) -> Result<SoundCode, AllocError>
     ensures { IfOk result (λ code. code ≡ flat_program (plain_program program.now)) }
 {
-    let code = write_code(alloc, &program.units)?;
+    let program = program.program();
+    let code = write_code(alloc, &program.units, &program.tasks)?;
     match verify(alloc, code) {
         Some(sound) => sound.fuse(alloc),
         None => unreachable!(),

@@ -16,3 +16,7 @@ pub mod Frames
 pub mod FramesWays
 pub mod FramesStatements
 pub mod FramesLaw
+pub mod Numbers
+pub mod Seeing
+pub mod SeeingStatements
+pub mod SeeingLaw

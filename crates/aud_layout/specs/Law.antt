@@ -2,6 +2,8 @@
 use Rattle.std.specs.Prelude.{◌≡◌, ℕ, List, [], ◌∷◌, map}
 use Rattle.aud_text.specs.declared.limits.Limits.{Limits}
 use Rattle.aud_typed.specs.Tree.{Program}
+use Rattle.aud_typed.specs.Why.Scoped.{IsScoped}
+use Rattle.aud_scoped.specs.Declares.{DeclaresInParts}
 use Rattle.aud_meaning.specs.Configuration.{Item, All, Configuration}
 use Rattle.aud_meaning.specs.Control.{Moved, Controls, ordered}
 use Rattle.aud_meaning.specs.Statements.{controls}
@@ -10,12 +12,14 @@ use Rattle.aud_meaning.specs.Run.{seen, moves_at, state_at, step_with, run_with,
 use Rattle.aud_meaning.specs.Why.Agree.{Agrees, ShowsAll}
 use Rattle.aud_code.specs.Places.{Spot}
 use Rattle.aud_code.specs.Flat.{flat_controls}
+use Rattle.aud_code.specs.Seen.{IsSeen}
 use Rattle.aud_code.specs.Sound.{IsStart, IsSound}
 use Rattle.aud_code.specs.Tabled.{IsTabled, table_of}
 use Rattle.aud_layout.specs.Layout.{Code, code_of, code_controls}
 use Rattle.aud_layout.specs.Shows.{UnitsAt, ShowsControl}
 use Rattle.aud_layout.specs.Assembly.{offset, flat_program}
 use Rattle.aud_layout.specs.Activations.{ActivatesInParts}
+use Rattle.aud_layout.specs.Opened.{task_bodies, CountsFrames}
 
 -- the layout, one line a step: where each body stands where it begins, places agree with statements
 abbrev pub LayoutAgreementLaw : Type 0
@@ -98,3 +102,8 @@ SoundLaw = (program : Program) → ActivatesInParts program → IsSound (flat_pr
 -- has where the instruction leads
 abbrev pub TabledLaw : Type 0
 TabledLaw = (program : Program) → IsTabled (flat_program program).lines (table_of (flat_program program).lines)
+
+-- a table that counts the frames of the code of a scoped program fits it: each variable that is named is of a frame that is open there,
+-- and each way leads to where those frames are open that are written there
+abbrev pub SeenTabledLaw : Type 0
+SeenTabledLaw = (program : Program) (seen : List ℕ) → IsScoped program → DeclaresInParts program → CountsFrames program seen → IsSeen (flat_program program) (task_bodies program) seen

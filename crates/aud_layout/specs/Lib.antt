@@ -5,5 +5,6 @@ pub mod Leading
 pub mod Shows
 pub mod Assembly
 pub mod Activations
+pub mod Opened
 pub mod Law
 pub mod Written

@@ -1,5 +1,5 @@
 -- The first request of a stream, and the lines of a LOAD one by one.
-use Rattle.std.proofs.Common.{◌≡◌, ℕ, suc, List, [], ◌∷◌, ◌++◌, Option, Some, None, refl, sym, ◌∙◌, ap, append-nil}
+use Rattle.std.proofs.Common.{◌≡◌, ℕ, zero, suc, ◌<◌, List, [], ◌∷◌, ◌++◌, Option, Some, None, refl, sym, ◌∙◌, ap, append-nil, append_assoc, arith}
 use Rattle.std.specs.Option.{option_or}
 use Rattle.std.specs.Prelude.{MatchOption}
 use Rattle.aud_bench.specs.declared.request.BadRequest.{BadRequest}
@@ -30,29 +30,34 @@ first_of_two None other = refl
 first_of_two (Some why) other = refl
 
 -- one line more of a LOAD
-pub gathered_more : (n m : ℕ) (source : List ℕ) (fault : Option BadRequest) (bytes line rest : List ℕ) → n ≡ suc m → lines_of bytes ≡ line ∷ lines_of rest → gathered n source fault (requests_from (lines_of bytes)) ≡ gathered m (source ++ (trimmed line ++ 10 ∷ [])) (option_or fault (line_fault line)) (requests_from (lines_of rest))
-gathered_more n m source fault bytes line rest left e =
-    ap (λ k. gathered k source fault (requests_from (lines_of bytes))) left
-    ∙ (ap (λ ls. requests_from ls (Gathering (suc m) source fault)) e
-    ∙ ap (λ f. gathered m (source ++ (trimmed line ++ 10 ∷ [])) f (requests_from (lines_of rest))) (sym (first_of_two fault (line_fault line))))
+pub gathered_more : (n m : ℕ) (before source : List ℕ) (fault : Option BadRequest) (bytes line rest : List ℕ) → n ≡ suc m → lines_of bytes ≡ line ∷ lines_of rest →
+    gathered n (before ++ source) fault (requests_from (lines_of bytes)) ≡ gathered m (before ++ (source ++ (trimmed line ++ 10 ∷ []))) (option_or fault (line_fault line)) (requests_from (lines_of rest))
+gathered_more n m before source fault bytes line rest left e =
+    ap (λ k. gathered k (before ++ source) fault (requests_from (lines_of bytes))) left
+    ∙ ap (λ ls. requests_from ls (Gathering (suc m) (before ++ source) fault)) e
+    ∙ ap (λ f. gathered m ((before ++ source) ++ (trimmed line ++ 10 ∷ [])) f (requests_from (lines_of rest))) (sym (first_of_two fault (line_fault line)))
+    ∙ ap (λ s. gathered m s (option_or fault (line_fault line)) (requests_from (lines_of rest))) (append_assoc before source (trimmed line ++ 10 ∷ []))
 
 -- where no line comes, a LOAD that wants one is none
-pub gathered_none : (n m : ℕ) (source : List ℕ) (fault : Option BadRequest) (bytes : List ℕ) → n ≡ suc m → lines_of bytes ≡ [] → gathered n source fault (requests_from (lines_of bytes)) ≡ []
-gathered_none n m source fault bytes left e =
-    ap (λ k. gathered k source fault (requests_from (lines_of bytes))) left ∙ ap (λ ls. requests_from ls (Gathering (suc m) source fault)) e
+gathered_none : (n : ℕ) (source : List ℕ) (fault : Option BadRequest) (bytes : List ℕ) → 0 < n → lines_of bytes ≡ [] → gathered n source fault (requests_from (lines_of bytes)) ≡ []
+gathered_none zero source fault bytes some e = absurd (omega arith)
+gathered_none (suc n) source fault bytes some e = ap (λ ls. requests_from ls (Gathering (suc n) source fault)) e
 
-pub gathered_all : (n : ℕ) (source : List ℕ) (fault : Option BadRequest) (bytes : List ℕ) → n ≡ 0 → gathered n source fault (requests_from (lines_of bytes)) ≡ load_of source fault ∷ requests bytes
-unfolding requests
-gathered_all n source fault bytes none = ap (λ k. gathered k source fault (requests_from (lines_of bytes))) none
+-- so many lines have been gathered of a LOAD
+module _ (k n : ℕ) (source : List ℕ) (fault : Option BadRequest) (bytes rest : List ℕ)
+    (whole : (before more : List ℕ) → gathered k before None (requests_from (lines_of (bytes ++ more))) ≡ gathered n (before ++ source) fault (requests_from (lines_of (rest ++ more)))) where
+  -- not all
+  pub load_none : 0 < n → lines_of rest ≡ [] → gathered k [] None (requests_from (lines_of bytes)) ≡ []
+  load_none some e =
+      ap (λ xs. gathered k [] None (requests_from (lines_of xs))) (sym (append-nil bytes))
+      ∙ whole [] []
+      ∙ ap (λ xs. gathered n source fault (requests_from (lines_of xs))) (append-nil rest)
+      ∙ gathered_none n source fault rest some e
 
--- what is said of the bytes and whatever stands behind them, of the bytes alone
-pub gathered_here : (n k : ℕ) (source : List ℕ) (fault : Option BadRequest) (rest bytes : List ℕ) →
-    ((more : List ℕ) → gathered n source fault (requests_from (lines_of (rest ++ more))) ≡ gathered k [] None (requests_from (lines_of (bytes ++ more)))) →
-    gathered n source fault (requests_from (lines_of rest)) ≡ gathered k [] None (requests_from (lines_of bytes))
-gathered_here n k source fault rest bytes h =
-    ap (λ xs. gathered n source fault (requests_from (lines_of xs))) (sym (append-nil rest))
-    ∙ h []
-    ∙ ap (λ xs. gathered k [] None (requests_from (lines_of xs))) (append-nil bytes)
+  -- all
+  pub load_all : n ≡ 0 → (more : List ℕ) → gathered k [] None (requests_from (lines_of (bytes ++ more))) ≡ load_of source fault ∷ requests (rest ++ more)
+  unfolding requests
+  load_all none more = whole [] more ∙ ap (λ m. gathered m source fault (requests_from (lines_of (rest ++ more)))) none
 
 -- a request that the bytes begin, or none, where a LOAD is what they begin with
 pub load_first : {X : Type 0} (o : Option X) (request : X → Request) (rest : X → List ℕ) (bytes behind : List ℕ) (n : ℕ) →

@@ -1,7 +1,7 @@
 -- The requests of a stream of bytes.
-use Rattle.std.specs.Prelude.{ℕ, zero, suc, List, [], ◌∷◌, ◌++◌, length, Option, Some, None, Bool, true, false, nat_le, nat_lt, ◌&&◌, if◌then◌else◌, codes}
+use Rattle.std.specs.Prelude.{ℕ, zero, suc, ◌+◌, List, [], ◌∷◌, ◌++◌, length, take, Option, Some, None, Bool, true, false, nat_le, nat_lt, ◌&&◌, if◌then◌else◌, codes}
 use Rattle.std.specs.Str.{bytes_eq}
-use Rattle.aud_text.specs.declared.limits.TheConstants.{CHOICE, LINE, LINES, MOVE, RUN, SEAT, TASK, WAIT}
+use Rattle.aud_text.specs.declared.limits.TheConstants.{CHOICE, LINE, LINES, MOVE, REQUEST_BYTES, RUN, SEAT, TASK, WAIT}
 use Rattle.aud_debug.specs.declared.listing.Listing.TheVariants as listing
 use Rattle.aud_bench.specs.declared.request.BadRequest.{BadRequest}
 use Rattle.aud_bench.specs.declared.request.BadRequest.TheVariants as bad
@@ -87,9 +87,10 @@ abbrev pub first_fault : Option BadRequest → Option BadRequest → Option BadR
 first_fault (Some why) other = Some why
 first_fault None other = other
 
+-- a source that no journal has room for is refused whatever it is, so of a longer one the first bytes stand for all
 abbrev pub load_of : List ℕ → Option BadRequest → Request
 load_of source (Some why) = request.Bad why
-load_of source None = request.Load source
+load_of source None = request.Load (take (REQUEST_BYTES + 1) source)
 
 -- with the lines of a LOAD so far: the request where none is left to come
 abbrev pub gathered : ℕ → List ℕ → Option BadRequest → (Reading → List Request) → List Request

@@ -1,5 +1,4 @@
 pub mod Asked
+pub mod Begun
 pub mod Pieces
 pub mod Splits
-pub mod Waits
-pub mod Held

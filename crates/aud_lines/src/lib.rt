@@ -4,7 +4,6 @@
 pub mod answers;
 pub mod commands;
 pub mod feed;
-mod held;
 pub mod laws;
 pub mod lines;
 pub mod requests;

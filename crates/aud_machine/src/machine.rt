@@ -18,6 +18,7 @@ use aud_code::sound_code::SoundCode;
 use aud_expr::operands::Operands;
 use aud_gen::generate;
 use aud_meaning::state::{Move, State as Standing};
+use aud_scoped::ScopedProgram;
 use aud_state::state::State;
 use aud_tasks::compiled::Compiled;
 use aud_tasks::moves::{moves, state_of};
@@ -84,12 +85,13 @@ impl Machine {
     /// # Errors
     ///
     /// Where memory is refused.
-    pub fn new(alloc: Global, program: Program, limits: Limits) -> Result<Machine, AllocError>
+    pub fn new(alloc: Global, program: ScopedProgram, limits: Limits) -> Result<Machine, AllocError>
         ensures shows { IfOk result (λ m. Shows m (opening (plain_program program))) }
         ensures program { IfOk result (λ m. m.program ≡ program) }
         ensures limits { IfOk result (λ m. m.limits ≡ limits) }
     {
         let code = generate(alloc, &program)?;
+        let program = program.into_program();
         let state = opened(alloc, &code, &program, limits)?;
         Ok(Machine {
             program,

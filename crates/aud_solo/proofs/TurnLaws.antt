@@ -13,10 +13,11 @@ use Rattle.aud_bench.specs.Alone.{is_quit, answers_from, alone}
 use Rattle.aud_bench.specs.Ties.Answered.{server, HasAnswered}
 use Rattle.aud_bench.proofs.Journals.{or_assoc}
 use Rattle.aud_bench.proofs.Sessions.{alone_front}
+use Rattle.aud_lines.specs.Ties.Begun.{Begun, nothing, requests_behind}
 use Rattle.aud_lines.specs.Ties.Splits.{Splits}
 use Rattle.aud_lines.specs.Requests.{requests}
 use Rattle.aud_lines.specs.Text.{text}
-use Rattle.aud_lines.proofs.FeedLaws.{fed_more, fed_all}
+use Rattle.aud_lines.proofs.FeedLaws.{fed_more, fed_all, none_whole, of_nothing}
 use Rattle.aud_solo.specs.declared.solo.SoloFault.{SoloFault}
 use Rattle.aud_solo.specs.declared.solo.TheConstants.{PIECE}
 use Rattle.aud_solo.specs.Solo.{StopsAtQuit, answers_to, WritesAll, WritesSome, WritesFront}
@@ -105,25 +106,23 @@ due false known remaining is = sym is
 
 -- ---- bytes read
 
-pub served_start : (left before : Option (List ℕ)) (feed : List ℕ) (session : Session) → feed ≡ [] → session.limits ≡ STANDARD → HasAnswered [] session →
+pub served_start : (left before : Option (List ℕ)) (feed : Begun) (session : Session) → feed ≡ nothing → session.limits ≡ STANDARD → HasAnswered [] session →
     session.over ≡ false → HasServed left left before before feed session
-unfolding requests
 served_start left before feed session empty same none over = record {
   input = [];
   asked = [];
   taken = consumes_none left;
-  fed = λ more. ap (λ xs. requests (xs ++ more)) (sym empty);
-  begun = ap requests empty;
+  fed = λ more. sym (of_nothing more) ∙ ap (λ begun. requests_behind begun more) (sym empty);
+  begun = ap (λ begun. requests_behind begun []) empty ∙ none_whole nothing refl;
   told = told_start before session same none;
   quit = over;
 }
 
-module _ (left remaining before now : Option (List ℕ)) (feed : List ℕ) (session : Session) (h : HasServed left remaining before now feed session) where
+module _ (left remaining before now : Option (List ℕ)) (feed : Begun) (session : Session) (h : HasServed left remaining before now feed session) where
   asked_all : requests h.input ≡ h.asked
   asked_all =
       ap requests (sym (append-nil h.input))
       ∙ h.fed []
-      ∙ ap (λ xs. h.asked ++ requests xs) (append-nil feed)
       ∙ ap (λ rs. h.asked ++ rs) h.begun
       ∙ append-nil h.asked
 
@@ -172,7 +171,7 @@ module _ (left remaining before now : Option (List ℕ)) (feed : List ℕ) (sess
       by (Some all) None taken = absurd taken
       by (Some all) (Some rest) taken =
           let whole : answers_to all ≡ alone STANDARD h.asked =
-          ap answers_to taken ∙ ap (alone STANDARD) (h.fed rest) ∙ nothing_more (requests (feed ++ rest)) in
+          ap answers_to taken ∙ ap (alone STANDARD) (h.fed rest) ∙ nothing_more (requests_behind feed rest) in
           subst (λ answers. Appends before now (text answers)) (sym whole) h.told.written
 
   -- at the end all that was left is read
@@ -193,9 +192,9 @@ module _ (left remaining before now : Option (List ℕ)) (feed : List ℕ) (sess
   ended_known false (inr end) ended = end_known end
 
   -- bytes more, of which some requests are whole
-  module _ (piece next : List ℕ) (given : List Request) (split : Splits (feed ++ piece) given next) where
+  module _ (piece : List ℕ) (next : Begun) (given : List Request) (split : Splits feed piece given next) where
     given_all : requests (h.input ++ piece) ≡ h.asked ++ given
-    given_all = h.fed piece ∙ ap (λ rs. h.asked ++ rs) (fed_all (feed ++ piece) next given split)
+    given_all = h.fed piece ∙ ap (λ rs. h.asked ++ rs) (fed_all feed piece next given split)
 
     pub some_given : (new : Option (List ℕ)) → WritesSome before new (alone STANDARD (h.asked ++ given)) → WritesSome before new (answers_to (h.input ++ piece))
     some_given new = subst (λ rs. WritesSome before new (alone STANDARD rs)) (sym given_all)
@@ -210,7 +209,7 @@ module _ (left remaining before now : Option (List ℕ)) (feed : List ℕ) (sess
       asked = h.asked ++ given;
       taken = consumes_more left remaining rest h.input piece h.taken taken;
       fed = fed_more h.input piece feed next h.asked given h.fed split;
-      begun = split.begun;
+      begun = split.none;
       told = told;
       quit = quit_more session.over session'.over h.asked given h.quit over;
     }
@@ -218,5 +217,5 @@ module _ (left remaining before now : Option (List ℕ)) (feed : List ℕ) (sess
   -- bytes more that were not looked at
   pub some_read : (piece : List ℕ) → WritesSome before now (answers_to (h.input ++ piece))
   some_read piece =
-      let front = alone_front STANDARD h.asked (requests (feed ++ piece)) in
+      let front = alone_front STANDARD h.asked (requests_behind feed piece) in
       (alone STANDARD h.asked, front.0, ap (alone STANDARD) (h.fed piece) ∙ front.1, h.told.written)

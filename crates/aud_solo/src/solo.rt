@@ -9,6 +9,7 @@ ghost use Rattle.aud_bench.specs.declared.request.Answer.TheVariants as answer;
 ghost use Rattle.aud_bench.specs.Alone.{is_quit};
 ghost use Rattle.aud_bench.specs.Ties.Answered.{HasAnswered};
 ghost use Rattle.aud_lines.specs.Text.{answer_text};
+ghost use Rattle.aud_lines.specs.Ties.Begun.{nothing};
 ghost use Rattle.aud_solo.specs.declared.solo.TheConstants.{READS};
 ghost use Rattle.aud_solo.specs.declared.solo.SoloFault.TheVariants as fault;
 ghost use Rattle.aud_solo.specs.Solo.{Serves, StopsAtQuit, CountsReads, CountsReadsTo, CountsWrites};
@@ -107,7 +108,7 @@ fn serve_pieces<S: Source, T: Sink>(
 ) -> Result<(), SoloFault>
     requires session { (session.old.limits ≡ STANDARD) × HasAnswered [] session.old }
     requires over { session.old.over ≡ false }
-    requires feed { feed.old ≡ [] }
+    requires feed { feed.old ≡ nothing }
     ensures serves { ServesSome result (S.remaining reader.old) (S.remaining reader.new)
         (T.contents writer.old) (T.contents writer.new) }
     ensures quit { StopsAtQuit (S.remaining reader.old) (S.remaining reader.new) }

@@ -21,13 +21,13 @@ mod surroundings;
 mod tokens;
 
 use aud_bench::loading::load;
+use aud_scoped::ScopedProgram;
 use aud_text::limits::STANDARD;
-use aud_typed::program::Program;
 use std::alloc::{AllocError, Global};
 use std::process::Abort;
 
 // The program of a source text. A text that has faults fails the test as refused memory does.
-fn loaded(alloc: Global, source: &[u8]) -> Result<Program, AllocError> {
+fn loaded(alloc: Global, source: &[u8]) -> Result<ScopedProgram, AllocError> {
     match load(alloc, STANDARD, source) {
         Ok(program) => Ok(program),
         Err(_) => Err(AllocError),

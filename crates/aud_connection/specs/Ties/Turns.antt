@@ -5,6 +5,7 @@ use Rattle.aud_text.specs.declared.limits.Limits.{Limits}
 use Rattle.aud_bench.specs.declared.request.Request.{Request}
 use Rattle.aud_bench.specs.Seen.{has_quit}
 use Rattle.aud_lines.specs.Requests.{requests}
+use Rattle.aud_lines.specs.Ties.Begun.{Begun, requests_behind}
 use Rattle.aud_solo.specs.declared.solo.SoloFault.{SoloFault}
 use Rattle.aud_solo.specs.declared.solo.SoloFault.TheVariants as fault
 use Rattle.aud_solo.specs.Solo.{HasRead}
@@ -51,16 +52,16 @@ abbrev pub TellsMore : {A : Type 0} → Result A SoloFault → (old new : Option
 TellsMore result old new more visit next =
     (before : Option (List ℕ)) (asked : List Request) → HasTold before old asked visit → TellsTo result before new (asked ++ more) next
 
--- of what was left bytes are read, all their requests are told of, and the feed has the rest
-pub record HasServed (left remaining before now : Option (List ℕ)) (feed : List ℕ) (visit : Visit) : Type 0 where
+-- of what was left bytes are read, all their requests are told of, and the feed has what they begin
+pub record HasServed (left remaining before now : Option (List ℕ)) (feed : Begun) (visit : Visit) : Type 0 where
   pub input : List ℕ
   pub asked : List Request
   pub taken : Consumes left remaining input
-  pub fed : (more : List ℕ) → requests (input ++ more) ≡ asked ++ requests (feed ++ more)
-  pub begun : requests feed ≡ []
+  pub fed : (more : List ℕ) → requests (input ++ more) ≡ asked ++ requests_behind feed more
+  pub begun : requests_behind feed [] ≡ []
   pub told : HasTold before now asked visit
 
-pub record ServesTurn {A : Type 0} (result : Result A SoloFault) (left remaining before now : Option (List ℕ)) (feed : List ℕ) (visit : Visit) : Type 0 where
+pub record ServesTurn {A : Type 0} (result : Result A SoloFault) (left remaining before now : Option (List ℕ)) (feed : Begun) (visit : Visit) : Type 0 where
   pub served : OnOk result (HasServed left remaining before now feed visit)
   pub read : IsErrOf result fault.Read → HasServed left remaining before now feed visit
   pub memory : IsErrOf result fault.Memory → HasRead left remaining (λ input. WritesSome before now (requests input))

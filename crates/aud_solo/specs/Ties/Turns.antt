@@ -8,6 +8,7 @@ use Rattle.aud_bench.specs.declared.session.Session.{Session}
 use Rattle.aud_bench.specs.Alone.{is_quit, alone}
 use Rattle.aud_bench.specs.Ties.Answered.{HasAnswered}
 use Rattle.aud_lines.specs.Requests.{requests}
+use Rattle.aud_lines.specs.Ties.Begun.{Begun, requests_behind}
 use Rattle.aud_lines.specs.Text.{text}
 use Rattle.aud_solo.specs.declared.solo.SoloFault.{SoloFault}
 use Rattle.aud_solo.specs.declared.solo.SoloFault.TheVariants as fault
@@ -31,19 +32,19 @@ abbrev pub TellsMore : {A : Type 0} → Result A SoloFault → (old new : Option
 TellsMore result old new more session next =
     (before : Option (List ℕ)) (asked : List Request) → HasTold before old asked session → Tells result before new (asked ++ more) next
 
--- of what was left bytes are read, all their requests are answered, and the feed has the rest
-pub record HasServed (left remaining before now : Option (List ℕ)) (feed : List ℕ) (session : Session) : Type 0 where
+-- of what was left bytes are read, all their requests are answered, and the feed has what they begin
+pub record HasServed (left remaining before now : Option (List ℕ)) (feed : Begun) (session : Session) : Type 0 where
   pub input : List ℕ
   pub asked : List Request
   pub taken : Consumes left remaining input
-  pub fed : (more : List ℕ) → requests (input ++ more) ≡ asked ++ requests (feed ++ more)
-  pub begun : requests feed ≡ []
+  pub fed : (more : List ℕ) → requests (input ++ more) ≡ asked ++ requests_behind feed more
+  pub begun : requests_behind feed [] ≡ []
   pub told : HasTold before now asked session
   pub quit : session.over ≡ list_any is_quit asked
 
 -- What a turn makes of what was served before it. Behind that, all that has come with this turn is served; where its read failed, there is
 -- nothing more. Where memory is refused, or a write failed, it is read, and a front of its answers is written.
-pub record ServesTurn {A : Type 0} (result : Result A SoloFault) (left remaining before now : Option (List ℕ)) (feed : List ℕ) (session : Session) : Type 0 where
+pub record ServesTurn {A : Type 0} (result : Result A SoloFault) (left remaining before now : Option (List ℕ)) (feed : Begun) (session : Session) : Type 0 where
   pub served : OnOk result (HasServed left remaining before now feed session)
   pub read : IsErrOf result fault.Read → HasServed left remaining before now feed session
   pub memory : IsErrOf result fault.Memory → HasRead left remaining (λ input. WritesSome before now (answers_to input))

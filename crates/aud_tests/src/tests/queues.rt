@@ -42,6 +42,7 @@ fn the_oldest_call_comes_first(rt: HostRuntime) -> Result<(), Fail> {
     let alloc = rt.alloc();
     let program = loaded(alloc, IDLE)?;
     let code = generate(alloc, &program)?;
+    let program = program.into_program();
     let mut state = State::new(alloc, &code, &program.units, &program.name)?;
     for number in 0..CALLS {
         let id = state.make_call(call_of(alloc, number))?;

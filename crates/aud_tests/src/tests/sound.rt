@@ -1,41 +1,57 @@
-// Code that is built by hand, a step that puts its text and the end of its body: it is sound, or an operand is missing, or another
-// number of operands is written than stands there.
+// Code that is built by hand: it is sound, or an operand is missing, or other operands or open frames are written than stand there.
 
 use aud_code::counts::{Counts, NOTHING};
 use aud_code::instruction::Instruction;
-use aud_code::line::{Code, EndLine, Ending, Last, Line};
+use aud_code::line::{Code, EndLine, Ending, ForLoop, Last, Line, Way};
 use aud_code::sound_code::verify;
 use aud_meaning::state::Construct;
 use aud_text::place::Pos;
+use aud_typed::program::Variable;
 use std::alloc::{AllocError, Global};
 
-fn line(last: Last) -> Line {
+const AT: Pos = Pos { line: 1, col: 1 };
+
+fn line(last: Last, out: usize, within: Option<usize>) -> Line {
     Line::End(EndLine {
         last,
-        at: Pos { line: 1, col: 1 },
-        out: 2,
-        within: None,
+        at: AT,
+        out,
+        within,
     })
 }
 
-// An instruction, behind which these operands are written.
-fn is_sound(alloc: Global, instruction: Instruction, left: Counts) -> Result<bool, AllocError> {
-    let mut lines = Vec::new(alloc);
-    lines.push(Line::Instruction(instruction))?;
-    lines.push(line(Last::Does(Ending::Put, 2)))?;
-    lines.push(line(Last::Ends(Construct::Unit, 0)))?;
-    let mut operands = Vec::new(alloc);
-    operands.push(NOTHING)?;
-    operands.push(left)?;
-    operands.push(NOTHING)?;
+// The code of one body, with these tables.
+fn is_sound(
+    alloc: Global,
+    lines: Vec<Line>,
+    operands: Vec<Counts>,
+    seen: Vec<usize>,
+) -> Result<bool, AllocError> {
     let code = Code {
         lines,
         operands,
+        seen,
         starts: vec![in alloc; 0; 1]?,
         spare: 0,
+        tasks: Vec::new(alloc),
     };
     Ok(verify(alloc, code).is_some())
 }
+
+// A step that puts a text, and the end of its body; behind the step's instruction these operands are written.
+fn puts(alloc: Global, instruction: Instruction, left: Counts) -> Result<bool, AllocError> {
+    let mut lines = Vec::new(alloc);
+    lines.push(Line::Instruction(instruction))?;
+    lines.push(line(Last::Does(Ending::Put, 2), 2, None))?;
+    lines.push(line(Last::Ends(Construct::Unit, 0), 2, None))?;
+    let operands = Vec::from_array(alloc, [NOTHING, left, NOTHING])?;
+    is_sound(alloc, lines, operands, vec![in alloc; 1; 3]?)
+}
+
+const INTEGER: Counts = Counts {
+    integers: 1,
+    ..NOTHING
+};
 
 const TRUTH: Counts = Counts {
     booleans: 1,
@@ -44,14 +60,86 @@ const TRUTH: Counts = Counts {
 
 #[test]
 fn looks_for_operands(rt: HostRuntime) -> Result<(), AllocError> {
-    assert!(rt; is_sound(rt.alloc(), Instruction::AppendNewLine, NOTHING)?);
-    assert!(rt; !is_sound(rt.alloc(), Instruction::AppendImage, NOTHING)?);
+    assert!(rt; puts(rt.alloc(), Instruction::AppendNewLine, NOTHING)?);
+    assert!(rt; !puts(rt.alloc(), Instruction::AppendImage, NOTHING)?);
     Ok(())
 }
 
 #[test]
 fn compares_operands_with_those_written(rt: HostRuntime) -> Result<(), AllocError> {
-    assert!(rt; is_sound(rt.alloc(), Instruction::PushTruth(true), TRUTH)?);
-    assert!(rt; !is_sound(rt.alloc(), Instruction::PushTruth(true), NOTHING)?);
+    assert!(rt; puts(rt.alloc(), Instruction::PushTruth(true), TRUTH)?);
+    assert!(rt; !puts(rt.alloc(), Instruction::PushTruth(true), NOTHING)?);
+    Ok(())
+}
+
+// The first variable of the frame at this level, where only the body's own frame is open.
+fn reads(alloc: Global, level: usize) -> Result<bool, AllocError> {
+    puts(
+        alloc,
+        Instruction::Load(Variable { level, index: 0 }),
+        INTEGER,
+    )
+}
+
+#[test]
+fn reads_variables_of_open_frames(rt: HostRuntime) -> Result<(), AllocError> {
+    assert!(rt; reads(rt.alloc(), 0)?);
+    assert!(rt; !reads(rt.alloc(), 1)?);
+    Ok(())
+}
+
+const LOOP: ForLoop = ForLoop {
+    at: AT,
+    next_at: AT,
+    region: 1,
+    backward: false,
+};
+
+// A loop from whose inside a return leads to the end of the body, out of so many loops; so many frames are written inside.
+fn returns(alloc: Global, loops: usize, inside: usize) -> Result<bool, AllocError> {
+    let begins = Ending::Loop {
+        control: LOOP,
+        inside: 6,
+    };
+    let goes_on = Last::Continues {
+        control: LOOP,
+        behind: 7,
+        inside: 6,
+    };
+    let mut lines = Vec::new(alloc);
+    for _ in 0..2 {
+        lines.push(Line::Instruction(Instruction::PushTruth(true)))?;
+        lines.push(Line::Instruction(Instruction::Cell))?;
+    }
+    lines.push(line(Last::Does(begins, 7), 7, None))?;
+    lines.push(line(goes_on, 7, Some(0)))?;
+    let way = Way { to: 7, loops };
+    lines.push(line(Last::Does(Ending::Return(way), 5), 7, Some(0)))?;
+    lines.push(line(Last::Ends(Construct::Unit, 0), 7, None))?;
+    let second = Counts {
+        booleans: 1,
+        ..INTEGER
+    };
+    let both = Counts {
+        integers: 2,
+        ..NOTHING
+    };
+    let operands = [
+        NOTHING, TRUTH, INTEGER, second, both, NOTHING, NOTHING, NOTHING,
+    ];
+    let seen = [1, 1, 1, 1, 1, inside, inside, 1];
+    is_sound(
+        alloc,
+        lines,
+        Vec::from_array(alloc, operands)?,
+        Vec::from_array(alloc, seen)?,
+    )
+}
+
+#[test]
+fn leaves_the_frames_that_are_left(rt: HostRuntime) -> Result<(), AllocError> {
+    assert!(rt; returns(rt.alloc(), 1, 2)?);
+    assert!(rt; !returns(rt.alloc(), 0, 2)?);
+    assert!(rt; !returns(rt.alloc(), 1, 1)?);
     Ok(())
 }

@@ -61,7 +61,7 @@ returns-in_err-attend_each-clause-serves g c =
     let next = c.feed.new.self in
     let piece = take c.in-Ok.count c.pull.new.piece in
     let given = c.deref.result.now in
-    let split = subst (λ rs. Splits (feed ++ piece) rs next) (sym c.deref.ensures.value) c.in_ok-requests.ensures.given in
+    let split = subst (λ rs. Splits feed piece rs next) (sym c.deref.ensures.value) c.in_ok-requests.ensures.given in
     λ left before h.
     let taken = consumes_more left middle rest h.input piece h.taken c.in-Ok.ensures.bytes.0 in
     let tells = c.attend_each.ensures.tells before h.asked h.told in
@@ -83,7 +83,7 @@ returns-clause-serves g c =
     let next = c.feed.new.self in
     let piece = take c.in-Ok.count c.pull.new.piece in
     let given = c.deref.result.now in
-    let split = subst (λ rs. Splits (feed ++ piece) rs next) (sym c.deref.ensures.value) c.in_ok-requests.ensures.given in
+    let split = subst (λ rs. Splits feed piece rs next) (sym c.deref.ensures.value) c.in_ok-requests.ensures.given in
     λ left before h.
     let told = (c.in_ok-attend_each.ensures.tells before h.asked h.told).all in
     record {

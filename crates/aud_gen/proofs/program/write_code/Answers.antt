@@ -1,9 +1,10 @@
-use Rattle.std.proofs.Common.{◌≡◌, ◌∷◌, ◌++◌, ◌+◌, [], drop, map, ap, sym, ◌∙◌, arith}
-use Rattle.std.proofs.lemmas.List.{drop_all}
+use Rattle.std.proofs.Common.{◌≡◌, length, length-append, ◌∷◌, ◌++◌, ◌+◌, [], drop, map, ap, sym, ◌∙◌, arith}
+use Rattle.std.proofs.lemmas.List.{drop_all, length-map}
 use Rattle.aud_typed.specs.Ties.View.{body_in}
 use Rattle.aud_code.specs.View.{plain_line}
 use Rattle.aud_gen.specs.Writes.{bodies_in}
 use Rattle.aud_gen.proofs.Loops.{dropped}
+use Rattle.aud_gen.proofs.Openings.{written_long, written_ordered}
 use Rattle.aud_gen.proofs.Units.{with_units, with_starts, with_spare, one_unit, one_start, one_spare, units_written}
 use Rattle.aud_gen.proofs.program.write_code.Goals as goal
 
@@ -29,3 +30,20 @@ returns-clause-code c =
     let none : bodies_in (drop c.loop-unit.unit-index units) ≡ [] = ap bodies_in (drop_all c.loop-unit.unit-index units (omega (arith, c.loop-unit-test.false))) in
     let inv = rw none at c.loop-unit.invariant in
     units_written (bodies_in units) c.loop-unit.writer (map plain_line c.into_lines-lines.result.items) c.loop-unit.starts.items c.place-spare.result inv.0 inv.1.0 inv.1.1 c.place-spare.ensures (c.into_lines-lines.ensures ∙ c.in_ok-write_idle.ensures)
+
+pub frames-requires-clause-long : goal.frames-requires-clause-long
+frames-requires-clause-long c =
+    let units = c.args.units.now in
+    let none : bodies_in (drop c.loop-unit.unit-index units) ≡ [] = ap bodies_in (drop_all c.loop-unit.unit-index units (omega (arith, c.loop-unit-test.false))) in
+    let inv = rw none at c.loop-unit.invariant in
+    rw c.deref-3.ensures.value (written_long units c.loop-unit.writer c.loop-unit.starts.items inv.1.0)
+
+pub frames-requires-clause-order : goal.frames-requires-clause-order
+frames-requires-clause-order c =
+    let units = c.args.units.now in
+    let none : bodies_in (drop c.loop-unit.unit-index units) ≡ [] = ap bodies_in (drop_all c.loop-unit.unit-index units (omega (arith, c.loop-unit-test.false))) in
+    let inv = rw none at c.loop-unit.invariant in
+    let lines = c.into_lines-lines.result.items in
+    let grown = ap length (c.into_lines-lines.ensures ∙ c.in_ok-write_idle.ensures) ∙ length-append c.loop-unit.writer _ in
+    let long : length (map plain_line lines) ≡ length lines = length-map lines plain_line in
+    rw (c.deref-2.ensures.value, c.deref-3.ensures.value) (written_ordered (bodies_in units) c.loop-unit.writer c.loop-unit.starts.items c.place-spare.result (length lines) inv.1.0 inv.1.1 c.place-spare.ensures (omega (arith, grown, long)))

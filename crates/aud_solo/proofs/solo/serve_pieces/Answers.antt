@@ -1,4 +1,4 @@
-use Rattle.std.proofs.Common.{rules, ◌≡◌, ◌+◌, inl, inr, refl, ◌∙◌, subst, arith}
+use Rattle.std.proofs.Common.{rules, ◌+◌, inl, inr, refl, ◌∙◌, subst, arith}
 use Rattle.aud_solo.specs.declared.solo.TheConstants.{READS}
 use Rattle.aud_solo.specs.Ties.Turns.{GoesOn}
 use Rattle.aud_solo.proofs.StreamLaws.{turn_counted, turns_counted}

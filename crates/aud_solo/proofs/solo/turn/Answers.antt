@@ -1,4 +1,4 @@
-use Rattle.std.proofs.Common.{rules, ◌≡◌, ◌+◌, ◌++◌, [], take, ap, sym, ◌∙◌, subst, arith}
+use Rattle.std.proofs.Common.{rules, ◌++◌, [], take, ap, sym, subst, arith}
 use Rattle.std.proofs.lemmas.List.{length-take}
 use Rattle.std.specs.Io.KnownBytes.{Consumes}
 use Rattle.aud_lines.specs.Ties.Splits.{Splits}
@@ -66,7 +66,7 @@ returns-in_err-answer_each-clause-serves g c =
     let session = c.args.session.now in
     let piece = take c.in-Ok.count c.pull.new.piece in
     let given = c.deref.result.now in
-    let split = subst (λ rs. Splits (feed ++ piece) rs next) (sym c.deref.ensures.value) c.in_ok-requests.ensures.given in
+    let split = subst (λ rs. Splits feed piece rs next) (sym c.deref.ensures.value) c.in_ok-requests.ensures.given in
     λ left before h.
     let taken = consumes_more left middle rest h.input piece h.taken c.in-Ok.ensures.bytes.0 in
     let tells = c.answer_each.ensures.tells before h.asked h.told in
@@ -89,7 +89,7 @@ returns-clause-serves g c =
     let session = c.args.session.now in
     let piece = take c.in-Ok.count c.pull.new.piece in
     let given = c.deref.result.now in
-    let split = subst (λ rs. Splits (feed ++ piece) rs next) (sym c.deref.ensures.value) c.in_ok-requests.ensures.given in
+    let split = subst (λ rs. Splits feed piece rs next) (sym c.deref.ensures.value) c.in_ok-requests.ensures.given in
     λ left before h.
     let told = (c.in_ok-answer_each.ensures.tells before h.asked h.told).all in
     record {

@@ -1,0 +1,114 @@
+-- The table of frames beside code: before each line, how many frames are open whose variables may be named there, the main procedure's
+-- first. It is checked line by line, against what is written where the line leads.
+use Rattle.std.specs.Prelude.{◌≡◌, ◌⊎◌, ◌<◌, ◌≤◌, ℕ, zero, suc, ◌+◌, List, [], ◌∷◌, length, Option, Some, None, slice_get, slice_index_or}
+use Rattle.aud_typed.specs.declared.program.ArrayAt.{ArrayAt}
+use Rattle.aud_meaning.specs.declared.state.Construct.TheVariants as construct
+use Rattle.aud_code.specs.Places.{Way, Guard}
+use Rattle.aud_code.specs.Instruction.{Instruction, Load, LoadElement, Count, Find, FindElement, Ending, DeclareTasks, Loop, Block, Proc, Operation, CallObject}
+use Rattle.aud_code.specs.Flat.{Last, Does, Continues, Guards, Ends, Leaves, EndLine, FlatLine, instructs, end, Flat, start_at}
+use Rattle.aud_code.specs.Frames.{opener, Found}
+
+-- what holds of the number that is written
+abbrev pub IsWritten : Option ℕ → (ℕ → Type 0) → Type 0
+IsWritten None P = ⊥
+IsWritten (Some n) P = P n
+
+-- an array without elements has no variable
+abbrev pub ArrayOpen : ArrayAt → ℕ → Type 0
+ArrayOpen a n = (a.length ≡ 0) ⊎ (a.first.level < n)
+
+-- each variable that it names is of a frame that is open
+abbrev pub NamesOpen : Instruction → ℕ → Type 0
+NamesOpen (Load v) n = v.level < n
+NamesOpen (LoadElement a) n = ArrayOpen a n
+NamesOpen (Count v entry) n = v.level < n
+NamesOpen (Find v t) n = v.level < n
+NamesOpen (FindElement a t) n = ArrayOpen a n
+NamesOpen i n = Unit {0}
+
+-- within the frame that a step opens there is one more
+abbrev pub inside : Ending → ℕ → ℕ
+inside (Loop f) n = suc n
+inside (Block region) n = suc n
+inside e n = n
+
+module _ (seen : List ℕ) where
+  -- at a place so many fewer are open than n
+  abbrev pub Fewer : ℕ → ℕ → ℕ → Type 0
+  Fewer k n place = IsWritten (slice_get seen place) (λ m. m + k ≡ n)
+
+  abbrev pub EachSame : ℕ → List ℕ → Type 0
+  EachSame n [] = Unit {0}
+  EachSame n (p ∷ ps) = Fewer 0 n p × EachSame n ps
+
+  -- the first way leads to where k fewer are open than n, the others to where m are
+  abbrev pub WaysSee : ℕ → ℕ → ℕ → List ℕ → Type 0
+  WaysSee k n m [] = Unit {0}
+  WaysSee k n m (p ∷ ps) = Fewer k n p × EachSame m ps
+
+  -- what an accept does has one more, or it is what follows
+  abbrev pub BodiesSee : ℕ → List ℕ → Type 0
+  BodiesSee n [] = Unit {0}
+  BodiesSee n (p ∷ ps) = (Fewer 0 n p ⊎ Fewer 0 (suc n) p) × BodiesSee n ps
+
+  abbrev pub WaySees : ℕ → Option Way → Type 0
+  WaySees n None = Unit {0}
+  WaySees n (Some w) = Fewer w.loops n w.to
+
+  abbrev pub GuardsSee : ℕ → List Guard → Type 0
+  GuardsSee n [] = Unit {0}
+  GuardsSee n (g ∷ gs) = Fewer 0 n g.to × GuardsSee n gs
+
+  -- the innermost frame is one more than where the step stands that opened it
+  abbrev pub WithinSees : Option ℕ → ℕ → Type 0
+  WithinSees None n = Unit {0}
+  WithinSees (Some opened) n = Fewer 1 n opened
+
+  -- An exception leads out of as many loops as are around the step, which its frames tell; directly in a body it leads out of none.
+  abbrev pub OutSees : Option ℕ → ℕ → ℕ → Type 0
+  OutSees None n out = Fewer 0 n out
+  OutSees (Some opened) n out = IsWritten (slice_get seen out) (λ m. m ≤ n)
+
+  -- a body is entered where n are open: it sees some of them, and its own
+  abbrev pub BodySees : ℕ → ℕ → Type 0
+  BodySees n place = IsWritten (slice_get seen place) (λ m. (1 ≤ m) × (m ≤ suc n))
+
+-- the body of each task type by its number, of which code itself says nothing
+module _ (code : Flat) (tasks seen : List ℕ) where
+  -- the bodies that are entered, and objects that are named
+  abbrev pub EndingSees : Ending → ℕ → Type 0
+  EndingSees (DeclareTasks ts) n = BodySees seen n (start_at code (slice_index_or tasks ts.task_type 0))
+  EndingSees (Proc unit) n = BodySees seen n (start_at code unit)
+  EndingSees (Operation v unit) n = (v.level < n) × BodySees seen n (start_at code unit)
+  EndingSees (CallObject v entry form) n = v.level < n
+  EndingSees e n = Unit {0}
+
+  -- behind the end of a construct its frame is left; what is around it stands within the step that opened it
+  abbrev pub BehindSees : ℕ → EndLine → ℕ → Type 0
+  BehindSees zero l next = ⊥
+  BehindSees (suc n) l next = Fewer seen 0 n next × Found (opener code.lines l.within) (λ o. OutSees seen o.within n l.out)
+
+  abbrev pub LastSees : Last → ℕ → EndLine → Type 0
+  LastSees (Does e) n l =
+      EndingSees e n × (WaysSee seen 0 n (inside e n) l.ways × (BodiesSee seen n l.bodies × (WaySees seen n l.exit × OutSees seen l.within n l.out)))
+  LastSees (Continues f) n l = WaysSee seen 1 n n l.ways
+  LastSees (Guards gs) n l = GuardsSee seen n gs × Fewer seen 0 n l.out
+  LastSees (Ends construct.Unit next) n l = Unit {0}
+  LastSees (Ends construct.Block next) n l = BehindSees n l next
+  LastSees (Ends construct.Accept next) n l = BehindSees n l next
+  LastSees (Leaves loops to) n l = Fewer seen (suc loops) n to
+
+  -- An instruction names variables of frames that are open, and the line behind it has as many. An ending leads to where the frames are
+  -- open that are written there.
+  abbrev pub LineSees : Option FlatLine → ℕ → ℕ → Type 0
+  LineSees None place n = Unit {0}
+  LineSees (Some (instructs i)) place n = NamesOpen i n × Fewer seen 0 n (suc place)
+  LineSees (Some (end l)) place n = WithinSees seen l.within n × LastSees l.last n l
+
+  abbrev pub PlaceSees : ℕ → Type 0
+  PlaceSees place = IsWritten (slice_get seen place) (LineSees (slice_get code.lines place) place)
+
+  -- the main procedure has its own frame alone
+  pub record IsSeen : Type 0 where
+    pub main : BodySees seen 0 (start_at code 0)
+    pub each : (place : ℕ) → place < length code.lines → PlaceSees place

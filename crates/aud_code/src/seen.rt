@@ -1,0 +1,238 @@
+// The table of frames that stands beside code: each line is checked against what is written before it and at each place that it
+// leads to.
+
+ghost use Rattle.std.specs.Prelude.{◌≡◌, ◌↔◌, ◌+◌, ◌<◌, ◌≤◌, ℕ, suc, map, length, Some, slice_get, slice_index_or, IsTrue};
+ghost use Rattle.aud_code.specs.Flat.{start_at};
+ghost use Rattle.aud_code.specs.Seen.{inside, BehindSees, BodySees, EachSame, EndingSees, Fewer};
+ghost use Rattle.aud_code.specs.Seen.{GuardsSee, IsSeen, IsWritten, LastSees, LineSees, NamesOpen};
+ghost use Rattle.aud_code.specs.Seen.{OutSees, PlaceSees, WaySees, WithinSees};
+ghost use Rattle.aud_code.specs.View.{inside_of, plain_code, plain_end, plain_ending, plain_guard};
+ghost use Rattle.aud_code.specs.View.{plain_instruction, plain_last, plain_line, way_of};
+
+use crate::frames::opener;
+use crate::instruction::Instruction;
+use crate::line::{Code, EndLine, Ending, Guard, Last, Line};
+use aud_meaning::state::Construct;
+
+/// Whether each line names variables of frames that are open alone, by the table of frames, and leads to where those are open that
+/// are written there.
+pub(crate) fn is_seen(code: &Code) -> bool
+    ensures { IsTrue result ↔ IsSeen (plain_code code.now) code.now.tasks.items code.now.seen.items }
+{
+    body_sees(&code.seen, 0, start(code, 0)) && places_see(code)
+}
+
+fn places_see(code: &Code) -> bool
+    ensures { IsTrue result ↔ ((place : ℕ) → place < length code.now.lines.items →
+        PlaceSees (plain_code code.now) code.now.tasks.items code.now.seen.items place) }
+{
+    for place in 0..code.lines.len() {
+        if !place_sees(code, place) {
+            return false;
+        }
+    }
+    true
+}
+
+fn place_sees(code: &Code, place: usize) -> bool
+    requires { place < length code.now.lines.items }
+    ensures { IsTrue result ↔
+        PlaceSees (plain_code code.now) code.now.tasks.items code.now.seen.items place }
+{
+    match code.seen.get(place) {
+        Some(frames) => line_sees(code, &code.lines[place], place, *frames),
+        None => false,
+    }
+}
+
+// A line, before which so many frames are open.
+fn line_sees(code: &Code, line: &Line, place: usize, frames: usize) -> bool
+    requires { place < length code.now.lines.items }
+    ensures { IsTrue result ↔ LineSees (plain_code code.now) code.now.tasks.items code.now.seen.items
+        (Some (plain_line line.now)) place frames }
+{
+    match line {
+        Line::Instruction(instruction) => {
+            names_open(instruction, frames) && is_fewer(&code.seen, 0, frames, place + 1)
+        }
+        Line::End(end) => within_sees(&code.seen, end.within, frames)
+            && last_sees(code, end, frames),
+    }
+}
+
+// Whether each variable that an instruction names is of a frame that is open.
+fn names_open(instruction: &Instruction, frames: usize) -> bool
+    ensures { IsTrue result ↔ NamesOpen (plain_instruction instruction.now) frames }
+{
+    match instruction {
+        Instruction::Load(variable) | Instruction::Find(variable, _) => variable.level < frames,
+        Instruction::LoadElement(array) | Instruction::FindElement(array, _) => {
+            array.length == 0 || array.first.level < frames
+        }
+        _ => true,
+    }
+}
+
+fn last_sees(code: &Code, end: &EndLine, frames: usize) -> bool
+    ensures { IsTrue result ↔ LastSees (plain_code code.now) code.now.tasks.items code.now.seen.items
+        (plain_last end.now.last) frames (plain_end end.now) }
+{
+    let seen = &code.seen;
+    match &end.last {
+        Last::Does(ending, next) => {
+            ending_sees(code, *ending, frames)
+                && is_fewer(seen, 0, frames, *next)
+                && out_sees(seen, end.within, frames, end.out)
+        }
+        Last::DeclaresTasks(tasks, next) => {
+            body_sees(seen, frames, start(code, body_of(code, tasks.task_type)))
+                && is_fewer(seen, 0, frames, *next)
+                && out_sees(seen, end.within, frames, end.out)
+        }
+        Last::Activates(next) | Last::EndsActivation(next) => {
+            is_fewer(seen, 0, frames, *next) && out_sees(seen, end.within, frames, end.out)
+        }
+        Last::Continues { behind, inside, .. } => {
+            is_fewer(seen, 1, frames, *behind) && is_fewer(seen, 0, frames, *inside)
+        }
+        Last::Guards(guards) => {
+            guards_see(seen, guards, frames) && is_fewer(seen, 0, frames, end.out)
+        }
+        Last::Ends(Construct::Unit, _) => true,
+        Last::Ends(Construct::Block | Construct::Accept, next) => {
+            behind_sees(code, end, frames, *next)
+        }
+        Last::Leaves { loops, to } => frames != 0 && is_fewer(seen, *loops, frames - 1, *to),
+    }
+}
+
+// Where a statement's step leads besides, and the body that it enters.
+fn ending_sees(code: &Code, ending: Ending, frames: usize) -> bool
+    ensures { IsTrue result ↔ (EndingSees (plain_code code.now) code.now.tasks.items code.now.seen.items
+        (plain_ending ending) frames
+        × (EachSame code.now.seen.items (inside (plain_ending ending) frames) (inside_of ending)
+        × WaySees code.now.seen.items frames (way_of ending))) }
+{
+    let seen = &code.seen;
+    match ending {
+        Ending::Declare { again: inside, .. } | Ending::If(inside) | Ending::While(inside) => {
+            is_fewer(seen, 0, frames, inside)
+        }
+        Ending::Loop { inside, .. } | Ending::Block { inside, .. } => {
+            is_one_more(seen, frames, inside)
+        }
+        Ending::Exit(way) | Ending::Return(way) => is_fewer(seen, way.loops, frames, way.to),
+        Ending::Call(unit) => body_sees(seen, frames, start(code, unit)),
+        Ending::DeclareArray(_, _)
+        | Ending::Null
+        | Ending::Assign
+        | Ending::Put
+        | Ending::Raise(_)
+        | Ending::RaiseAgain => true,
+    }
+}
+
+// Behind the end of a construct, whose frame is left.
+fn behind_sees(code: &Code, end: &EndLine, frames: usize, next: usize) -> bool
+    ensures { IsTrue result ↔
+        BehindSees (plain_code code.now) code.now.tasks.items code.now.seen.items
+        frames (plain_end end.now) next }
+{
+    match opener(&code.lines, end.within) {
+        Some(step) => {
+            frames != 0
+                && is_fewer(&code.seen, 0, frames - 1, next)
+                && out_sees(&code.seen, step.within, frames - 1, end.out)
+        }
+        None => false,
+    }
+}
+
+fn guards_see(seen: &[usize], guards: &[Guard], frames: usize) -> bool
+    ensures { IsTrue result ↔ GuardsSee seen.now frames (map plain_guard guards.now) }
+{
+    for guard in guards {
+        if !is_fewer(seen, 0, frames, guard.to) {
+            return false;
+        }
+    }
+    true
+}
+
+// The innermost frame is one more than where the step stands that opened it.
+fn within_sees(seen: &[usize], within: Option<usize>, frames: usize) -> bool
+    ensures { IsTrue result ↔ WithinSees seen.now within frames }
+{
+    match within {
+        Some(opened) => is_fewer(seen, 1, frames, opened),
+        None => true,
+    }
+}
+
+// Where an exception leads.
+fn out_sees(seen: &[usize], within: Option<usize>, frames: usize, out: usize) -> bool
+    ensures { IsTrue result ↔ OutSees seen.now within frames out }
+{
+    match within {
+        Some(_) => is_at_most(seen, frames, out),
+        None => is_fewer(seen, 0, frames, out),
+    }
+}
+
+fn is_at_most(seen: &[usize], frames: usize, place: usize) -> bool
+    ensures { IsTrue result ↔ IsWritten (slice_get seen.now place) (λ m. m ≤ frames) }
+{
+    match seen.get(place) {
+        Some(there) => *there <= frames,
+        None => false,
+    }
+}
+
+// Whether so many frames fewer are open at a place.
+fn is_fewer(seen: &[usize], fewer: usize, frames: usize, place: usize) -> bool
+    ensures { IsTrue result ↔ Fewer seen.now fewer frames place }
+{
+    match seen.get(place) {
+        Some(there) => *there <= frames && frames - *there == fewer,
+        None => false,
+    }
+}
+
+fn is_one_more(seen: &[usize], frames: usize, place: usize) -> bool
+    ensures { IsTrue result ↔ Fewer seen.now 0 (suc frames) place }
+{
+    match seen.get(place) {
+        Some(there) => frames < *there && *there - frames == 1,
+        None => false,
+    }
+}
+
+// Whether a body that begins at a place may be entered where so many frames are open.
+fn body_sees(seen: &[usize], frames: usize, place: usize) -> bool
+    ensures { IsTrue result ↔ BodySees seen.now frames place }
+{
+    match seen.get(place) {
+        Some(there) => 1 <= *there && *there - 1 <= frames,
+        None => false,
+    }
+}
+
+// Where the body of a number begins.
+fn start(code: &Code, body: usize) -> usize
+    ensures { result ≡ start_at (plain_code code.now) body }
+{
+    match code.starts.get(body) {
+        Some(place) => *place,
+        None => code.spare,
+    }
+}
+
+// The body of a type of tasks.
+fn body_of(code: &Code, task_type: usize) -> usize
+    ensures { result ≡ slice_index_or code.now.tasks.items task_type 0 }
+{
+    match code.tasks.get(task_type) {
+        Some(body) => *body,
+        None => 0,
+    }
+}

@@ -1,0 +1,164 @@
+-- Numbers of frames: what is written at places, and that the instructions of scoped expressions name variables of open frames.
+use Rattle.std.proofs.Common.{◌≡◌, ◌⊎◌, inl, inr, ℕ, zero, suc, ◌+◌, ◌≤◌, ◌<◌, List, [], ◌∷◌, ◌++◌, length, map, slice_get, slice_index_or, true, false, Option, Some, None, refl, sym, ap, ◌∙◌, subst, arith, length-append}
+use Rattle.std.proofs.lemmas.Bool.{cases_lt}
+use Rattle.aud_typed.specs.declared.program.Variable.{Variable}
+use Rattle.aud_typed.specs.declared.program.ArrayAt.{ArrayAt}
+use Rattle.aud_typed.specs.Tree as tree
+use Rattle.aud_typed.specs.Tree.{IntegerExpression, number, variable, element, unary, binary, count, Reference, scalar, component, TaskName, single, indexed, BooleanExpression, truth, stored, negation, relation, comparison, logical, and_then, or_else, callable, terminated, ValueExpression, whole, boolean, TextExpression, literal, image, image_truth, join, new_line, Argument, by_value, by_copy, Statement, sequence, declare, declare_array, declare_tasks, declare_object, activated, activate, null, assign, put, if_then, plain_loop, while_loop, for_loop, exit, return, return_value, raising, raising_again, block, procedure_call, own_entry_call, operation_call, entry_call, delay, accept, select, abort, Plan}
+use Rattle.aud_typed.specs.Why.Scoped.{Elaborated, Scope, cells_at, IsElaborated, AreElaborated, IntegerScoped, ReferenceScoped, TaskScoped, BooleanScoped, ValueScoped, ArgumentScoped, ArgumentsScoped, TextScoped, in_innermost, declared_up_to, declared_with, scope_after, Entry, AreOpen, StatementScoped}
+use Rattle.aud_code.specs.Instruction.{Instruction, PassIfFalse, PassIfTrue}
+use Rattle.aud_code.specs.Seen.{IsWritten, ArrayOpen, NamesOpen, Fewer, OutSees}
+use Rattle.aud_layout.specs.Instructions.{integer_code, loaded_code, reference_code, task_code, condition_code, value_code, text_code, into_code, copied_code, argument_code, arguments_code, instructions_of}
+
+pub is_written : (o : Option ℕ) (n : ℕ) (P : ℕ → Type 0) → o ≡ Some n → P n → IsWritten o P
+is_written o n P e p = subst (λ x. IsWritten x P) (sym e) p
+
+written_more : (o : Option ℕ) (P Q : ℕ → Type 0) → ((m : ℕ) → P m → Q m) → IsWritten o P → IsWritten o Q
+written_more None P Q f h = h
+written_more (Some n) P Q f h = f n h
+
+module _ (seen : List ℕ) where
+  pub same_there : (place n : ℕ) → slice_get seen place ≡ Some n → Fewer seen 0 n place
+  same_there place n e = is_written (slice_get seen place) n (λ m. m + 0 ≡ n) e (omega arith)
+
+  pub one_there : (place n : ℕ) → slice_get seen place ≡ Some n → Fewer seen 1 (suc n) place
+  one_there place n e = is_written (slice_get seen place) n (λ m. m + 1 ≡ suc n) e (omega arith)
+
+  pub one_out : (k n place : ℕ) → Fewer seen k n place → Fewer seen (suc k) (suc n) place
+  one_out k n place h = written_more (slice_get seen place) (λ m. m + k ≡ n) (λ m. m + suc k ≡ suc n) (λ m e. omega (arith, e)) h
+
+  pub out_same : (w : Option ℕ) (n place : ℕ) → Fewer seen 0 n place → OutSees seen w n place
+  out_same None n place h = h
+  out_same (Some opened) n place h = written_more (slice_get seen place) (λ m. m + 0 ≡ n) (λ m. m ≤ n) (λ m e. omega (arith, e)) h
+
+  pub out_more : (w : Option ℕ) (opened n place : ℕ) → OutSees seen w n place → OutSees seen (Some opened) (suc n) place
+  out_more None opened n place h = written_more (slice_get seen place) (λ m. m + 0 ≡ n) (λ m. m ≤ suc n) (λ m e. omega (arith, e)) h
+  out_more (Some other) opened n place h = written_more (slice_get seen place) (λ m. m ≤ n) (λ m. m ≤ suc n) (λ m e. omega (arith, e)) h
+
+-- Lengths of scopes.
+
+in_innermost_long : (f : Elaborated → Elaborated) (scope : Scope) → length (in_innermost f scope) ≡ length scope
+in_innermost_long f [] = refl
+in_innermost_long f (e ∷ []) = refl
+in_innermost_long f (e ∷ x ∷ es) = ap suc (in_innermost_long f (x ∷ es))
+
+pub after_long : (s : Statement) (scope : Scope) → length (scope_after s scope) ≡ length scope
+after_long (sequence a b) scope = after_long b (scope_after a scope) ∙ after_long a scope
+after_long (declare at up_to e) scope = in_innermost_long (declared_up_to up_to) scope
+after_long (declare_array at t n) scope = in_innermost_long (declared_with n) scope
+after_long (declare_tasks at ts) scope = in_innermost_long (declared_with ts.length) scope
+after_long s scope = refl
+
+pub one_longer : (scope : Scope) (e : Elaborated) (n : ℕ) → length scope ≡ n → length (scope ++ e ∷ []) ≡ suc n
+one_longer scope e n is = let l = length-append scope (e ∷ []) in omega (arith, l, is)
+
+pub open_long : (es scope : Scope) → AreOpen es scope → length es ≤ length scope
+open_long [] scope h = omega arith
+open_long (e ∷ es) [] h = absurd h
+open_long (e ∷ es) (x ∷ xs) h = let l = open_long es xs h.1 in omega (arith, l)
+
+-- Variables of open frames.
+
+level_open : (level : ℕ) (scope : Scope) → 0 < cells_at level scope → level < length scope
+level_open zero [] h = absurd (omega (arith, h))
+level_open (suc n) [] h = absurd (omega (arith, h))
+level_open zero (e ∷ es) h = omega arith
+level_open (suc n) (e ∷ es) h = let l = level_open n es h in omega (arith, l)
+
+variable_open : (v : Variable) (scope : Scope) → IsElaborated v scope → v.level < length scope
+variable_open v scope h = level_open v.level scope (omega (arith, h))
+
+array_open : (a : ArrayAt) (scope : Scope) → AreElaborated a scope → ArrayOpen a (length scope)
+array_open a scope h = by (cases_lt 0 a.length) where
+  by : (0 < a.length) ⊎ (a.length ≤ 0) → ArrayOpen a (length scope)
+  by (inl some) = inr (level_open a.first.level scope (omega (arith, some, h)))
+  by (inr none) = inl (omega (arith, none))
+
+abbrev pub AllOpen : ℕ → List Instruction → Type 0
+AllOpen n [] = Unit {0}
+AllOpen n (i ∷ is) = NamesOpen i n × AllOpen n is
+
+both : (n : ℕ) (is js : List Instruction) → AllOpen n is → AllOpen n js → AllOpen n (is ++ js)
+both n [] js h k = k
+both n (i ∷ is) js h k = (h.0, both n is js h.1 k)
+
+module _ (scope : Scope) where
+  abbrev N : ℕ
+  N = length scope
+
+  integer_open : (e : IntegerExpression) → IntegerScoped e scope → AllOpen N (integer_code e)
+  integer_open (number z) h = (tt, tt)
+  integer_open (variable v) h = (variable_open v scope h, tt)
+  integer_open (element a e) h = both N (integer_code e) _ (integer_open e h.1) (array_open a scope h.0, tt)
+  integer_open (unary f x) h = both N (integer_code x) _ (integer_open x h) (tt, tt)
+  integer_open (binary f x y) h = both N (integer_code x) _ (integer_open x h.0) (both N (integer_code y) _ (integer_open y h.1) (tt, tt))
+  integer_open (count v entry) h = absurd h
+
+  loaded_open : (r : Reference) → ReferenceScoped r scope → AllOpen N (loaded_code r)
+  loaded_open (scalar v t) h = (variable_open v scope h, tt)
+  loaded_open (component a e t) h = both N (integer_code e) _ (integer_open e h.1) (array_open a scope h.0, tt)
+
+  reference_open : (r : Reference) → ReferenceScoped r scope → AllOpen N (reference_code r)
+  reference_open (scalar v t) h = (variable_open v scope h, tt)
+  reference_open (component a e t) h = both N (integer_code e) _ (integer_open e h.1) (array_open a scope h.0, tt)
+
+  task_open : (t : TaskName) → TaskScoped t scope → AllOpen N (task_code t)
+  task_open (single v) h = (variable_open v scope h, tt)
+  task_open (indexed a e) h = both N (integer_code e) _ (integer_open e h.1) (array_open a scope h.0, tt)
+
+  condition_open : (e : BooleanExpression) → BooleanScoped e scope → AllOpen N (condition_code e)
+  condition_open (truth b) h = (tt, tt)
+  condition_open (stored r) h = both N (loaded_code r) _ (loaded_open r h) (tt, tt)
+  condition_open (negation x) h = both N (condition_code x) _ (condition_open x h) (tt, tt)
+  condition_open (relation f x y) h = both N (integer_code x) _ (integer_open x h.0) (both N (integer_code y) _ (integer_open y h.1) (tt, tt))
+  condition_open (comparison f x y) h = both N (condition_code x) _ (condition_open x h.0) (both N (condition_code y) _ (condition_open y h.1) (tt, tt))
+  condition_open (logical f x y) h = both N (condition_code x) _ (condition_open x h.0) (both N (condition_code y) _ (condition_open y h.1) (tt, tt))
+  condition_open (and_then x y) h = both N (condition_code x) _ (condition_open x h.0) (tt, condition_open y h.1)
+  condition_open (or_else x y) h = both N (condition_code x) _ (condition_open x h.0) (tt, condition_open y h.1)
+  condition_open (callable t) h = both N (task_code t) _ (task_open t h) (tt, tt)
+  condition_open (terminated t) h = both N (task_code t) _ (task_open t h) (tt, tt)
+
+  value_open : (e : ValueExpression) → ValueScoped e scope → AllOpen N (value_code e)
+  value_open (whole t e) h = both N (integer_code e) _ (integer_open e h) (tt, tt)
+  value_open (boolean e) h = both N (condition_code e) _ (condition_open e h) (tt, tt)
+
+  text_open : (t : TextExpression) → TextScoped t scope → AllOpen N (text_code t)
+  text_open (literal text) h = (tt, tt)
+  text_open (image e) h = both N (integer_code e) _ (integer_open e h) (tt, tt)
+  text_open (image_truth e) h = both N (condition_code e) _ (condition_open e h) (tt, tt)
+  text_open (join x y) h = both N (text_code x) _ (text_open x h.0) (text_open y h.1)
+  text_open new_line h = (tt, tt)
+
+  argument_open : (n : ℕ) (a : Argument) → ArgumentScoped a scope → AllOpen N (argument_code n a)
+  argument_open n (by_value e) h = both N (value_code e) _ (value_open e h) (tt, tt)
+  argument_open n (by_copy true formal r) h = both N (reference_code r) _ (reference_open r h) (tt, (tt, (tt, tt)))
+  argument_open n (by_copy false formal r) h = both N (reference_code r) _ (reference_open r h) (tt, (tt, tt))
+
+  arguments_open : (n : ℕ) (xs : List Argument) → ArgumentsScoped xs scope → AllOpen N (arguments_code n xs)
+  arguments_open n [] h = tt
+  arguments_open n (x ∷ xs) h = both N (argument_code n x) _ (argument_open n x h.0) (arguments_open (n + 1) xs h.1)
+
+  module _ (plan : Plan) (entries : List Entry) where
+    -- of a statement's own step
+    statement_open : (s : Statement) → StatementScoped plan entries s scope → AllOpen N (instructions_of s)
+    statement_open (declare at up_to e) h = value_open e h
+    statement_open (assign at r e) h = both N (reference_code r) _ (reference_open r h.0) (value_open e h.1)
+    statement_open (put at t) h = text_open t h
+    statement_open (if_then at e a p) h = condition_open e h.0
+    statement_open (while_loop at e a) h = condition_open e h.0
+    statement_open (for_loop f a b s) h = both N (integer_code a) _ (integer_open a h.0) (integer_open b h.1)
+    statement_open (exit at n e) h = condition_open e h
+    statement_open (procedure_call at c) h =
+        subst (λ r. AllOpen N (into_code r ++ arguments_code 0 c.arguments)) (sym h.4) (arguments_open 0 c.arguments h.3)
+    statement_open (declare_object at n es) h = absurd h
+    statement_open (return_value at e) h = absurd h
+    statement_open (own_entry_call at es form) h = absurd h
+    statement_open (operation_call at v c) h = absurd h
+    statement_open (entry_call at c p q) h = absurd h
+    statement_open (delay at e) h = absurd h
+    statement_open (select at offered p) h = absurd h
+    statement_open (abort at ts) h = absurd h
+    statement_open s h = tt
+
+  pub names_open : (plan : Plan) (entries : List Entry) (n : ℕ) (s : Statement) → length scope ≡ n → StatementScoped plan entries s scope → AllOpen n (instructions_of s)
+  names_open plan entries n s e h = subst (λ m. AllOpen m (instructions_of s)) e (statement_open plan entries s h)
