@@ -5,7 +5,7 @@ use Rattle.aud_text.specs.declared.place.Pos.{Pos}
 use Rattle.aud_syntax.specs.declared.tree.Ident.{Ident}
 use Rattle.aud_syntax.specs.declared.tree.Bound.{Bound}
 use Rattle.aud_syntax.specs.Plain as plain
-use Rattle.aud_syntax.specs.Plain.{MaybeExpression, no_expression, an_expression, Declaration, object, constant, array, exception, procedure, task, task_body, no_declarations, more_declarations, Statement, null, assign, call, if_then, loop, exit, block, return, raise, Arms, no_arms, more_arms, Iteration, forever, while, for, Statements, in_order, MoreStatements, no_statements, more_statements, Declarations, Body, body, Handlers, no_handlers, more_handlers}
+use Rattle.aud_syntax.specs.Plain.{MaybeExpression, no_expression, an_expression, Declaration, object, constant, array, exception, procedure, task, task_body, protected, protected_body, no_declarations, more_declarations, Statement, null, assign, call, if_then, loop, exit, block, return, raise, accepting, delaying, select_accept, select_call, abort, requeue, Arms, no_arms, more_arms, Iteration, forever, while, for, Statements, in_order, MoreStatements, no_statements, more_statements, Declarations, Body, body, Handlers, no_handlers, more_handlers}
 use Rattle.aud_typed.specs.declared.program.ArrayAt.{ArrayAt}
 use Rattle.aud_typed.specs.declared.program.Exception.{Exception}
 use Rattle.aud_typed.specs.declared.program.Subtype.{Subtype}
@@ -226,6 +226,12 @@ mutual
       record { made = x.made; units = x.units }
   statement_good (return at e) around place t h = record { made = in_return at e; units = h }
   statement_good (raise at name) around place t h = record { made = in_raise at name place; units = h }
+  statement_good (accepting x) around place t h = record { made = tt; units = h }
+  statement_good (delaying x) around place t h = record { made = tt; units = h }
+  statement_good (select_accept at e x xs otherwise) around place t h = record { made = tt; units = h }
+  statement_good (select_call at x behind otherwise) around place t h = record { made = tt; units = h }
+  statement_good (abort at x xs) around place t h = record { made = tt; units = h }
+  statement_good (requeue at x with_abort) around place t h = record { made = tt; units = h }
 
   arms_good : (arms : Arms) (around : Around) (place : Place) (t : Tables) → EachUnit t.units → Good EachArm (checked_arms arms around place t)
   arms_good no_arms around place t h = record { made = tt; units = h }
@@ -289,6 +295,8 @@ mutual
       let here = place_behind i place in
       let x = entered_good true b (λ further t2. checked_declarations ds further t2) (λ further t2. checked_body b task_around further t2) (task_place i.name here) (body_tables unit t) (λ p u k. declarations_good ds p u k) (λ p u k. body_good b task_around p u k) (none_awaited unit t h) in
       record { made = tt; units = unit_set _ (body_unit unit t) _ x.units x.made }
+  declaration_good (protected at i operations hidden last) place t h = record { made = tt; units = h }
+  declaration_good (protected_body at i inner last) place t h = record { made = tt; units = h }
 
 bodies_declare : (us : List tree.UnitBody) → EachUnit us → BodiesDeclare (map (λ (u : tree.UnitBody). u.body) us)
 bodies_declare [] h = tt

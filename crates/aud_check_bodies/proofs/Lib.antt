@@ -13,3 +13,4 @@ pub mod Scoping
 pub mod Called
 pub mod Passing
 pub mod Kept
+pub mod Later

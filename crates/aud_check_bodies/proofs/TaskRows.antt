@@ -112,7 +112,7 @@ twice_row = refl
 own_type_row : faults (main (task_t true ∷ body_of_t (an_x ∷ []) (null (at 5 7)) ∷ []) nothing) ≡ fault (at 3 5) WrongKindOfName ∷ []
 own_type_row = refl
 
-end_name_row : faults (main (task (at 2 1) false (id (codes "T") (at 2 6)) (Some (record { end_name = Some (id (codes "S") (at 2 20)) })) ∷ body_of_t [] (null (at 5 7)) ∷ []) nothing) ≡ fault (at 2 20) WrongNameAtEnd ∷ []
+end_name_row : faults (main (task (at 2 1) false (id (codes "T") (at 2 6)) (Some (record { entries = []; end_name = Some (id (codes "S") (at 2 20)) })) ∷ body_of_t [] (null (at 5 7)) ∷ []) nothing) ≡ fault (at 2 20) WrongNameAtEnd ∷ []
 end_name_row = refl
 
 return_row : faults (main (task_t false ∷ body_of_t [] (return (at 5 7) no_expression) ∷ []) nothing) ≡ fault (at 5 7) ReturnOutOfPlace ∷ []

@@ -2,7 +2,7 @@
 use Rattle.std.specs.Prelude.{ℕ, Bool, true, false, List, [], ◌∷◌, ◌++◌, Option, Some, None, is_some, pos, not}
 use Rattle.aud_text.specs.declared.place.Pos.{Pos}
 use Rattle.aud_syntax.specs.declared.tree.Ident.{Ident}
-use Rattle.aud_syntax.specs.Plain.{Expression, MaybeExpression, no_expression, an_expression, Formal, Declaration, object, constant, array, exception, procedure, task, task_body, no_declarations, more_declarations, Statement, null, assign, call, if_then, loop, exit, block, return, raise, Arms, no_arms, more_arms, Iteration, forever, while, for, Statements, in_order, MoreStatements, no_statements, more_statements, Declarations, Body, body, Handlers, no_handlers, more_handlers, Choices, Simple}
+use Rattle.aud_syntax.specs.Plain.{Expression, MaybeExpression, no_expression, an_expression, Formal, Declaration, object, constant, array, exception, procedure, task, task_body, protected, protected_body, no_declarations, more_declarations, Statement, null, assign, call, if_then, loop, exit, block, return, raise, accepting, delaying, select_accept, select_call, abort, requeue, Arms, no_arms, more_arms, Iteration, forever, while, for, Statements, in_order, MoreStatements, no_statements, more_statements, Declarations, Body, body, Handlers, no_handlers, more_handlers, Choices, Simple}
 use Rattle.aud_typed.specs.declared.program.Exception.{Exception}
 use Rattle.aud_typed.specs.Tree as tree
 use Rattle.aud_fault.specs.declared.fault.Fault.{Fault}
@@ -10,7 +10,7 @@ use Rattle.aud_names.specs.declared.rules.Base.TheVariants.{Whole}
 use Rattle.aud_names.specs.Names.{Place, innermost, in_region, place_in, next_frame, in_frame, hiding}
 use Rattle.aud_check_bodies.specs.Labels.{Labels, exit_loop}
 use Rattle.aud_names.specs.Rules.{declared_once, right_name_at_end, right_label_at_end, exit_in_loop, return_in_place}
-use Rattle.aud_check_bodies.specs.Tables.{Tables, Outcome, fine, after, and_then, next_region, with_region, region_kept, region_named, next_unit, unit_kept, with_unit}
+use Rattle.aud_check_bodies.specs.Tables.{nowhere, Tables, Outcome, fine, after, and_then, next_region, with_region, region_kept, region_named, next_unit, unit_kept, with_unit}
 use Rattle.aud_typing.specs.Expressions.{Typed, number, checked_simple, checked_expression, simple_at, wants}
 use Rattle.aud_typing.specs.Conditions.{condition_faults, condition, maybe_condition_faults, maybe_condition}
 use Rattle.aud_check_bodies.specs.Declarations.{Declared, leaving, checked_objects, checked_arrays, checked_exceptions, with_procedure, nothing_declared, joined_declared}
@@ -214,6 +214,13 @@ abbrev mutual
       fine (tree.block (begin_at label at) (next_region t) x) t1))
   checked_statement (return at e) around place t = after (return_faults at e around.in_task place) (fine (typed_return at e) t)
   checked_statement (raise at name) around place t = after (raise_faults at name around.in_handler place) (fine (typed_raise at name place) t)
+  -- no program has these yet
+  checked_statement (accepting x) around place t = fine (tree.null nowhere) t
+  checked_statement (delaying x) around place t = fine (tree.null nowhere) t
+  checked_statement (select_accept at e x xs otherwise) around place t = fine (tree.null nowhere) t
+  checked_statement (select_call at x behind otherwise) around place t = fine (tree.null nowhere) t
+  checked_statement (abort at x xs) around place t = fine (tree.null nowhere) t
+  checked_statement (requeue at x with_abort) around place t = fine (tree.null nowhere) t
 
   -- RM 5.3
   pub checked_arms : Arms → Around → Place → Tables → Outcome (List TypedArm)
@@ -258,6 +265,9 @@ abbrev mutual
   checked_declaration (task_body at i ds b) place t =
       task_body_of i (unit_awaited i place) (λ inner t1.
       unit_of at i.name (end_name b) inner (next_region t1) (entered true b (λ further t2. checked_declarations ds further t2) (λ further t2. checked_body b task_around further t2) inner t1)) (place_behind i place) t
+  -- no program has these yet
+  checked_declaration (protected at i operations hidden last) place t = fine (nothing_declared place) t
+  checked_declaration (protected_body at i inner last) place t = fine (nothing_declared place) t
 
 -- The same of a loop behind the check of its label.
 

@@ -36,11 +36,14 @@ use aud_syntax::tree::{
     Arm, BlockStatement, Body, Declaration, Handler, IfStatement, Iteration, LoopParameter,
     LoopStatement, ProcedureDeclaration, Statement, Statements, TaskBody,
 };
+use aud_text::place::Pos;
 use aud_typed::program::{
     Arm as TypedArm, Body as TypedBody, Handler as TypedHandler, Statement as TypedStatement,
     Statements as TypedStatements,
 };
 use aud_typing::condition::condition;
+
+const NOWHERE: Pos = Pos { line: 0, col: 0 };
 
 // What is left of a statement.
 type Stated = Left<TypedStatement>;
@@ -71,6 +74,11 @@ fn statement<'a>(
         }
         Statement::Return(at, value) => return_from(*at, value, within.in_task, scope, faults),
         Statement::Raise(at, name) => raise(*at, name, within.in_handler, scope, faults),
+        // No program has these yet.
+        Statement::Accept(_) => null_at(scope.alloc(), NOWHERE),
+        Statement::Delay(_) => null_at(scope.alloc(), NOWHERE),
+        Statement::Select(_) => null_at(scope.alloc(), NOWHERE),
+        Statement::SelectCall(_) => null_at(scope.alloc(), NOWHERE),
     }
 }
 

@@ -13,7 +13,7 @@ use Rattle.aud_syntax.specs.declared.tree.Mode.TheVariants as mode
 use Rattle.aud_syntax.specs.declared.tree.Connective.{Connective}
 use Rattle.aud_syntax.specs.declared.tree.Connective.TheVariants as connective
 use Rattle.aud_syntax.specs.Plain as m
-use Rattle.aud_syntax.specs.Why.Bare.{nowhere, bare_ident, bare_number, bare_literal, bare_signed, bare_operator, bare_sign, bare_highest, bare_end, bare_expression, bare_relation, bare_relations, bare_name, bare_part, bare_parts, bare_args, bare_simple, bare_addeds, bare_added, bare_term, bare_multiplieds, bare_multiplied, bare_factor, bare_primary, bare_maybe, bare_mode, bare_formal, bare_definition, bare_declaration, bare_declarations, bare_statement, bare_more_statements, bare_statements, bare_body, bare_context, bare, bare_arms, bare_iteration, bare_bound, bare_choices, bare_handlers}
+use Rattle.aud_syntax.specs.Why.Bare.{nowhere, bare_ident, bare_number, bare_literal, bare_signed, bare_operator, bare_sign, bare_highest, bare_end, bare_expression, bare_relation, bare_relations, bare_name, bare_part, bare_parts, bare_args, bare_simple, bare_addeds, bare_added, bare_term, bare_multiplieds, bare_multiplied, bare_factor, bare_primary, bare_maybe, bare_mode, bare_formal, bare_task_definition, bare_definition, bare_declaration, bare_declarations, bare_statement, bare_more_statements, bare_statements, bare_body, bare_context, bare, bare_arms, bare_iteration, bare_bound, bare_choices, bare_handlers, bare_real, bare_entry, bare_operation, bare_private_item, bare_private, bare_delay, bare_names, bare_operation_body, bare_operation_bodies, bare_accept, bare_doing, bare_alternative, bare_alternatives, bare_other}
 use Rattle.aud_grammar.specs.Grammar as g
 use Rattle.aud_grammar.specs.Grammar.{Phrase, Symbol, T, P, N, L, Down, A, Opt, Rep, rule}
 use Rattle.aud_grammar.specs.Actions as a
@@ -72,12 +72,32 @@ bare_item (a.an_array x y i) = a.an_array (bare_bound x) (bare_bound y) (bare_id
 bare_item a.an_exception = a.an_exception
 bare_item (a.a_mode x) = a.a_mode (bare_mode x)
 bare_item (a.a_formal x) = a.a_formal (bare_formal x)
-bare_item (a.a_definition x) = a.a_definition (record { end_name = bare_end x.end_name })
+bare_item (a.a_definition x) = a.a_definition (bare_task_definition x)
 bare_item (a.a_task is_type x definition) = a.a_task is_type (bare_ident x) (bare_definition definition)
 bare_item (a.a_task_body x ds rest) = a.a_task_body (bare_ident x) (bare_declarations ds) (bare_body rest)
 bare_item (a.a_declaration x) = a.a_declaration (bare_declaration x)
 bare_item (a.a_context x) = a.a_context (bare_context x)
 bare_item (a.a_unit x) = a.a_unit (bare x)
+bare_item (a.a_real x) = a.a_real (bare_real x)
+bare_item (a.seconds x) = a.seconds (bare_real x)
+bare_item (a.duration_of e) = a.duration_of (bare_expression e)
+bare_item (a.a_delay x) = a.a_delay (bare_delay x)
+bare_item (a.an_entry x) = a.an_entry (bare_entry x)
+bare_item (a.a_doing x) = a.a_doing (bare_doing x)
+bare_item (a.an_accept x) = a.an_accept (bare_accept x)
+bare_item (a.an_alternative x) = a.an_alternative (bare_alternative x)
+bare_item (a.guarded e x) = a.guarded (bare_maybe e) (bare_alternative x)
+bare_item (a.unguarded x xs statements) = a.unguarded (bare_alternative x) (bare_alternatives xs) (bare_more_statements statements)
+bare_item (a.further xs statements) = a.further (bare_alternatives xs) (bare_more_statements statements)
+bare_item (a.selects e x xs statements) = a.selects (bare_maybe e) (bare_alternative x) (bare_alternatives xs) (bare_more_statements statements)
+bare_item (a.selects_call x behind other) = a.selects_call (bare_name x) (bare_more_statements behind) (bare_other other)
+bare_item (a.an_otherwise x) = a.an_otherwise (bare_other x)
+bare_item (a.an_operation x) = a.an_operation (bare_operation x)
+bare_item (a.a_private_item x) = a.a_private_item (bare_private_item x)
+bare_item (a.some_private xs) = a.some_private (map bare_private_item xs)
+bare_item (a.a_protected i operations hidden end) = a.a_protected (bare_ident i) (map bare_operation operations) (bare_private hidden) (bare_end end)
+bare_item (a.a_protected_body i bodies end) = a.a_protected_body (bare_ident i) (bare_operation_bodies bodies) (bare_end end)
+bare_item (a.an_operation_body x) = a.an_operation_body (bare_operation_body x)
 
 abbrev pub bares : List Item → List Item
 bares [] = []
@@ -377,6 +397,111 @@ bare_begun i (a.calls xs ps) = refl
 bare_begun i (a.a_statement x) = bare_labelled i x
 bare_begun i _ = refl
 
+bare_delayed : (at : Pos) (x : Item) → a.delayed nowhere (bare_item x) ≡ bare_delay (a.delayed at x)
+bare_delayed at (a.seconds x) = refl
+bare_delayed at (a.duration_of e) = refl
+bare_delayed at _ = refl
+
+bare_the_real : (x : Item) → a.the_real (bare_item x) ≡ bare_real (a.the_real x)
+bare_the_real (a.a_real y) = refl
+bare_the_real _ = refl
+
+bare_the_delay : (x : Item) → a.the_delay (bare_item x) ≡ bare_delay (a.the_delay x)
+bare_the_delay (a.a_delay y) = refl
+bare_the_delay _ = refl
+
+bare_the_entry : (x : Item) → a.the_entry (bare_item x) ≡ bare_entry (a.the_entry x)
+bare_the_entry (a.an_entry y) = refl
+bare_the_entry _ = refl
+
+bare_the_entries : (x : Item) → a.the_entries (bare_item x) ≡ map bare_entry (a.the_entries x)
+bare_the_entries (cons x y) = cc (bare_the_entry x, bare_the_entries y)
+bare_the_entries _ = refl
+
+bare_the_doing : (x : Item) → a.the_doing (bare_item x) ≡ bare_doing (a.the_doing x)
+bare_the_doing (a.a_doing y) = refl
+bare_the_doing _ = refl
+
+bare_the_accept : (x : Item) → a.the_accept (bare_item x) ≡ bare_accept (a.the_accept x)
+bare_the_accept (a.an_accept y) = refl
+bare_the_accept _ = refl
+
+bare_the_alternative : (x : Item) → a.the_alternative (bare_item x) ≡ bare_alternative (a.the_alternative x)
+bare_the_alternative (a.an_alternative y) = refl
+bare_the_alternative _ = refl
+
+bare_with_guarded : (x : Item) (xs : m.Alternatives) → a.with_guarded (bare_item x) (bare_alternatives xs) ≡ bare_alternatives (a.with_guarded x xs)
+bare_with_guarded (a.guarded e y) xs = refl
+bare_with_guarded _ xs = refl
+
+bare_the_alternatives : (x : Item) → a.the_alternatives (bare_item x) ≡ bare_alternatives (a.the_alternatives x)
+bare_the_alternatives (cons x y) = ap (λ z. a.with_guarded (bare_item x) z) (bare_the_alternatives y) ∙ bare_with_guarded x (a.the_alternatives y)
+bare_the_alternatives _ = refl
+
+-- an alternative behind another one, which is behind its guard
+bare_second : (x y : Item) → a.with_guarded (bare_item x) (a.the_alternatives (bare_item y)) ≡ bare_alternatives (a.with_guarded x (a.the_alternatives y))
+bare_second x y = ap (λ z. a.with_guarded (bare_item x) z) (bare_the_alternatives y) ∙ bare_with_guarded x (a.the_alternatives y)
+
+bare_first_alternative : (x : Item) → a.first_alternative (bare_item x) ≡ bare_alternative (a.first_alternative x)
+bare_first_alternative (a.unguarded y ys inner) = refl
+bare_first_alternative _ = refl
+
+bare_other_alternatives : (x : Item) → a.other_alternatives (bare_item x) ≡ bare_alternatives (a.other_alternatives x)
+bare_other_alternatives (a.unguarded y ys inner) = refl
+bare_other_alternatives (a.further ys inner) = refl
+bare_other_alternatives _ = refl
+
+bare_else_part : (x : Item) → a.else_part (bare_item x) ≡ bare_more_statements (a.else_part x)
+bare_else_part (a.unguarded y ys inner) = refl
+bare_else_part (a.further ys inner) = refl
+bare_else_part _ = refl
+
+bare_the_otherwise : (x : Item) → a.the_otherwise (bare_item x) ≡ bare_other (a.the_otherwise x)
+bare_the_otherwise (a.an_otherwise y) = refl
+bare_the_otherwise _ = refl
+
+bare_selected : (at : Pos) (x : Item) → a.selected nowhere (bare_item x) ≡ bare_statement (a.selected at x)
+bare_selected at (a.selects e x xs inner) = refl
+bare_selected at (a.selects_call x behind other) = refl
+bare_selected at _ = refl
+
+bare_the_operation : (x : Item) → a.the_operation (bare_item x) ≡ bare_operation (a.the_operation x)
+bare_the_operation (a.an_operation y) = refl
+bare_the_operation _ = refl
+
+bare_the_operations : (x : Item) → a.the_operations (bare_item x) ≡ map bare_operation (a.the_operations x)
+bare_the_operations (cons x y) = cc (bare_the_operation x, bare_the_operations y)
+bare_the_operations _ = refl
+
+bare_the_private_item : (x : Item) → a.the_private_item (bare_item x) ≡ bare_private_item (a.the_private_item x)
+bare_the_private_item (a.a_private_item y) = refl
+bare_the_private_item _ = refl
+
+bare_the_private_items : (x : Item) → a.the_private_items (bare_item x) ≡ map bare_private_item (a.the_private_items x)
+bare_the_private_items (cons x y) = cc (bare_the_private_item x, bare_the_private_items y)
+bare_the_private_items _ = refl
+
+bare_opt_private : (x : Item) → a.opt_private (bare_item x) ≡ bare_private (a.opt_private x)
+bare_opt_private (a.some_private ys) = refl
+bare_opt_private _ = refl
+
+bare_the_operation_body : (x : Item) → a.the_operation_body (bare_item x) ≡ bare_operation_body (a.the_operation_body x)
+bare_the_operation_body (a.an_operation_body y) = refl
+bare_the_operation_body _ = refl
+
+bare_the_operation_bodies : (x : Item) → a.the_operation_bodies (bare_item x) ≡ bare_operation_bodies (a.the_operation_bodies x)
+bare_the_operation_bodies (cons x y) = cc (bare_the_operation_body x, bare_the_operation_bodies y)
+bare_the_operation_bodies _ = refl
+
+bare_protected_declared : (at : Pos) (x : Item) → a.protected_declared nowhere (bare_item x) ≡ bare_declaration (a.protected_declared at x)
+bare_protected_declared at (a.a_protected i operations hidden end) = refl
+bare_protected_declared at (a.a_protected_body i inner end) = refl
+bare_protected_declared at _ = refl
+
+bare_the_names : (x : Item) → a.the_names (bare_item x) ≡ bare_names (a.the_names x)
+bare_the_names (cons x y) = cc (bare_the_name x, bare_the_names y)
+bare_the_names _ = refl
+
 -- an item made of those on top
 
 bare_top : (st : List Item) → top (bares st) ≡ bare_item (top st)
@@ -442,6 +567,7 @@ abbrev pub is_leaf : Phrase → Bool
 is_leaf g.Identifier = true
 is_leaf g.Number = true
 is_leaf g.Literal = true
+is_leaf g.Real = true
 is_leaf _ = false
 
 pub bare_made : (p : Phrase) → is_leaf p ≡ false → (st : List Item) → bares (made p st) ≡ made p (bares st)
@@ -471,7 +597,7 @@ bare_made g.OutMode e = made_1 (λ x. a.a_mode (mode.Out (a.place x))) (λ x. ap
 bare_made g.Task e = made_2 (λ x y. a.a_declaration (a.task_declared (a.place x) y)) (λ x y. cc (bare_place x, bare_task_declared (a.place x) y))
 bare_made g.TaskDeclaration e = made_3 (λ x y z. a.a_task (a.is_there x) (a.the_ident y) (a.opt_definition z)) (λ x y z. cc (bare_is_there x, bare_the_ident y, bare_opt_definition z))
 bare_made g.TaskType e = λ st. refl
-bare_made g.TaskDefinition e = made_1 (λ x. a.a_definition (record { end_name = a.opt_ident x })) (λ x. ap (λ (z : Option Ident). a.a_definition (record { end_name = z })) (bare_opt_ident x))
+bare_made g.TaskDefinition e = made_1 (λ x. a.a_definition (record { entries = []; end_name = a.opt_ident x })) (λ x. ap (λ (z : Option Ident). a.a_definition (record { entries = []; end_name = z })) (bare_opt_ident x))
 bare_made g.TaskBody e = made_3 (λ x y z. a.a_task_body (a.the_ident x) (a.the_declarations y) (a.the_body z)) (λ x y z. cc (bare_the_ident x, bare_the_declarations y, bare_the_body z))
 bare_made g.Body e =
     made_6 (λ x y h z w s. a.a_body (m.body (a.place x) (a.the_statements y) (a.the_handlers h) (a.place z) (a.opt_ident w) (a.place s)))
@@ -542,4 +668,52 @@ bare_made g.InArgs e = made_2 (λ x y. a.some_args (m.more_args (a.the_expressio
 bare_made g.Identifier e = λ st. cc
 bare_made g.Number e = λ st. cc
 bare_made g.Literal e = λ st. cc
+bare_made g.Real e = λ st. cc
+bare_made g.DelayStatement e = made_1 (λ x. a.a_statement (m.delaying (a.the_delay x))) (λ x. cc (bare_the_delay x))
+bare_made g.Delay e = made_2 (λ x y. a.a_delay (a.delayed (a.place x) y)) (λ x y. cc (bare_place x, bare_delayed (a.place x) y))
+bare_made g.Seconds e = made_1 (λ x. a.seconds (a.the_real x)) (λ x. cc (bare_the_real x))
+bare_made g.DurationOf e = made_1 (λ x. a.duration_of (a.inside x)) (λ x. cc (bare_inside x))
+bare_made g.EntryDeclaration e =
+    made_2 (λ x y. a.an_entry (record { name = a.the_ident x; formals = a.the_formals y }))
+    (λ x y. ap (λ (z : Ident). a.an_entry (record { name = z; formals = a.the_formals (bare_item y) })) (bare_the_ident x) ∙ ap (λ (z : List m.Formal). a.an_entry (record { name = bare_ident (a.the_ident x); formals = z })) (bare_the_formals y))
+bare_made g.DefinitionWithEntries e =
+    made_2 (λ x y. a.a_definition (record { entries = a.the_entries x; end_name = a.opt_ident y }))
+    (λ x y. ap (λ (z : List m.EntryDeclaration). a.a_definition (record { entries = z; end_name = a.opt_ident (bare_item y) })) (bare_the_entries x) ∙ ap (λ (z : Option Ident). a.a_definition (record { entries = map bare_entry (a.the_entries x); end_name = z })) (bare_opt_ident y))
+bare_made g.AcceptStatement e = made_1 (λ x. a.a_statement (m.accepting (a.the_accept x))) (λ x. cc (bare_the_accept x))
+bare_made g.Accept e = made_4 (λ x y z u. a.an_accept (m.accept (a.place x) (a.the_ident y) (a.the_formals z) (a.the_doing u))) (λ x y z u. cc (bare_place x, bare_the_ident y, bare_the_formals z, bare_the_doing u))
+bare_made g.Do e = made_6 (λ x y z u v w. a.a_doing (m.with_do (m.body (a.place x) (a.the_statements y) (a.the_handlers z) (a.place u) (a.opt_ident v) (a.place w)))) (λ x y z u v w. cc (bare_place x, bare_the_statements y, bare_the_handlers z, bare_place u, bare_opt_ident v, bare_place w))
+bare_made g.WithoutDo e = λ st. refl
+bare_made g.Select e = made_2 (λ x y. a.a_statement (a.selected (a.place x) y)) (λ x y. cc (bare_place x, bare_selected (a.place x) y))
+bare_made g.CallSelect e = made_3 (λ x y z. a.selects_call (a.the_name x) (a.otherwise y) (a.the_otherwise z)) (λ x y z. cc (bare_the_name x, bare_otherwise y, bare_the_otherwise z))
+bare_made g.OrDelay e = made_2 (λ x y. a.an_otherwise (m.or_delay (a.the_delay x) (a.otherwise y))) (λ x y. cc (bare_the_delay x, bare_otherwise y))
+bare_made g.OrElsePart e = made_1 (λ x. a.an_otherwise (m.or_else (a.the_statements x))) (λ x. cc (bare_the_statements x))
+bare_made g.AcceptSelect e = made_2 (λ x y. a.selects (a.opt_expression x) (a.first_alternative y) (a.other_alternatives y) (a.else_part y)) (λ x y. cc (bare_opt_expression x, bare_first_alternative y, bare_other_alternatives y, bare_else_part y))
+bare_made g.AcceptsOnly e = made_2 (λ x y. a.unguarded (a.the_alternative x) (a.other_alternatives y) (a.else_part y)) (λ x y. cc (bare_the_alternative x, bare_other_alternatives y, bare_else_part y))
+bare_made g.SelectElse e = made_1 (λ x. a.further m.no_alternatives (a.otherwise x)) (λ x. cc (bare_otherwise x))
+bare_made g.OrAny e = made_2 (λ x y. a.further (m.more_alternatives (a.opt_expression x) (a.first_alternative y) (a.other_alternatives y)) (a.else_part y)) (λ x y. cc (bare_opt_expression x, bare_first_alternative y, bare_other_alternatives y, bare_else_part y))
+bare_made g.WithDelays e = made_2 (λ x y. a.unguarded (a.the_alternative x) (a.the_alternatives y) m.no_statements) (λ x y. cc (bare_the_alternative x, bare_the_alternatives y))
+bare_made g.WithTerminate e = made_2 (λ x y. a.unguarded (a.the_alternative x) (a.the_alternatives y) m.no_statements) (λ x y. cc (bare_the_alternative x, bare_the_alternatives y))
+bare_made g.DelaysAccept e = made_2 (λ x y. a.unguarded (a.the_alternative x) (a.the_alternatives y) m.no_statements) (λ x y. cc (bare_the_alternative x, bare_the_alternatives y))
+bare_made g.OrEither e = made_2 (λ x y. a.guarded (a.opt_expression x) (a.the_alternative y)) (λ x y. cc (bare_opt_expression x, bare_the_alternative y))
+bare_made g.OrAccept e = made_2 (λ x y. a.guarded (a.opt_expression x) (a.the_alternative y)) (λ x y. cc (bare_opt_expression x, bare_the_alternative y))
+bare_made g.DelaysFirst e = made_3 (λ x y z. a.unguarded (a.the_alternative x) (m.more_alternatives (a.opt_expression y) (a.first_alternative z) (a.other_alternatives z)) (a.else_part z)) (λ x y z. cc (bare_the_alternative x, bare_opt_expression y, bare_first_alternative z, bare_other_alternatives z, bare_else_part z))
+bare_made g.TerminateFirst e = made_3 (λ x y z. a.unguarded (a.the_alternative x) (a.with_guarded y (a.the_alternatives z)) m.no_statements) (λ x y z. cc (bare_the_alternative x, bare_second y z))
+bare_made g.AcceptAlternative e = made_2 (λ x y. a.an_alternative (m.accept_alternative (a.the_accept x) (a.otherwise y))) (λ x y. cc (bare_the_accept x, bare_otherwise y))
+bare_made g.DelayAlternative e = made_2 (λ x y. a.an_alternative (m.delay_alternative (a.the_delay x) (a.otherwise y))) (λ x y. cc (bare_the_delay x, bare_otherwise y))
+bare_made g.TerminateAlternative e = λ st. refl
+bare_made g.Protected e = made_2 (λ x y. a.a_declaration (a.protected_declared (a.place x) y)) (λ x y. cc (bare_place x, bare_protected_declared (a.place x) y))
+bare_made g.ProtectedDeclaration e = made_4 (λ x y z u. a.a_protected (a.the_ident x) (a.the_operations y) (a.opt_private z) (a.opt_ident u)) (λ x y z u. cc (bare_the_ident x, bare_the_operations y, bare_opt_private z, bare_opt_ident u))
+bare_made g.PrivatePart e = made_1 (λ x. a.some_private (a.the_private_items x)) (λ x. cc (bare_the_private_items x))
+bare_made g.PrivateOperation e = made_1 (λ x. a.a_private_item (m.private_operation (a.the_operation x))) (λ x. cc (bare_the_operation x))
+bare_made g.Components e = made_3 (λ x y z. a.a_private_item (m.components (a.first_name x) (a.other_names x) (a.the_ident y) (a.opt_expression z))) (λ x y z. cc (bare_first_name x, bare_other_names x, bare_the_ident y, bare_opt_expression z))
+bare_made g.EntryOperation e = made_1 (λ x. a.an_operation (m.entry_operation (a.the_entry x))) (λ x. cc (bare_the_entry x))
+bare_made g.ProcedureOperation e = made_2 (λ x y. a.an_operation (m.procedure_operation (a.the_ident x) (a.the_formals y))) (λ x y. cc (bare_the_ident x, bare_the_formals y))
+bare_made g.FunctionOperation e = made_3 (λ x y z. a.an_operation (m.function_operation (a.the_ident x) (a.the_formals y) (a.the_ident z))) (λ x y z. cc (bare_the_ident x, bare_the_formals y, bare_the_ident z))
+bare_made g.ProtectedBody e = made_3 (λ x y z. a.a_protected_body (a.the_ident x) (a.the_operation_bodies y) (a.opt_ident z)) (λ x y z. cc (bare_the_ident x, bare_the_operation_bodies y, bare_opt_ident z))
+bare_made g.EntryBody e = made_6 (λ x y z u v w. a.an_operation_body (m.entry_body (a.place x) (a.the_ident y) (a.the_formals z) (a.the_expression u) (a.the_declarations v) (a.the_body w))) (λ x y z u v w. cc (bare_place x, bare_the_ident y, bare_the_formals z, bare_the_expression u, bare_the_declarations v, bare_the_body w))
+bare_made g.ProcedureBody e = made_5 (λ x y z u v. a.an_operation_body (m.procedure_body (a.place x) (a.the_ident y) (a.the_formals z) (a.the_declarations u) (a.the_body v))) (λ x y z u v. cc (bare_place x, bare_the_ident y, bare_the_formals z, bare_the_declarations u, bare_the_body v))
+bare_made g.FunctionBody e = made_6 (λ x y z u v w. a.an_operation_body (m.function_body (a.place x) (a.the_ident y) (a.the_formals z) (a.the_ident u) (a.the_declarations v) (a.the_body w))) (λ x y z u v w. cc (bare_place x, bare_the_ident y, bare_the_formals z, bare_the_ident u, bare_the_declarations v, bare_the_body w))
+bare_made g.Abort e = made_3 (λ x y z. a.a_statement (m.abort (a.place x) (a.the_name y) (a.the_names z))) (λ x y z. cc (bare_place x, bare_the_name y, bare_the_names z))
+bare_made g.Requeue e = made_3 (λ x y z. a.a_statement (m.requeue (a.place x) (a.the_name y) (a.is_there z))) (λ x y z. cc (bare_place x, bare_the_name y, bare_is_there z))
+bare_made g.WithAbort e = λ st. refl
 bare_made _ e = λ st. refl

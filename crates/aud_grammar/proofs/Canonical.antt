@@ -3,7 +3,7 @@ use Rattle.std.proofs.Common.{◌≡◌, ℕ, zero, suc, ◌+◌, ◌-◌, ◌<�
 use Rattle.std.proofs.lemmas.Bool.{eqb-true, eqb-false, ne_eqb, lt-leb, and_parts, and_left, and_right, or_right, cond-true, cond-false}
 use Rattle.std.proofs.lemmas.Fmt.{decimal_by_steps}
 use Rattle.std.specs.Fmt.{decimal}
-use Rattle.std.specs.Prelude.{◌⊎◌, ◌==◌, ◌&&◌, ◌||◌, nat_le, ◌*◌, ◌/◌, ◌%◌, ◌^◌, pos, if◌then◌else◌, Some, None, codes}
+use Rattle.std.specs.Prelude.{◌⊎◌, ◌==◌, ◌&&◌, ◌||◌, nat_le, ◌*◌, ◌/◌, ◌%◌, ◌^◌, pos, if◌then◌else◌, Some, None}
 use Rattle.std.specs.List.{list_all}
 use Rattle.aud_text.specs.Name.{capital, capitals}
 use Rattle.aud_lex.specs.declared.token.Kind.{Kind}
@@ -11,7 +11,7 @@ use Rattle.aud_lex.specs.declared.token.Kind.TheVariants as kind
 use Rattle.aud_lex.specs.declared.automaton.Class.{Class}
 use Rattle.aud_lex.specs.declared.automaton.Class.TheVariants.{Letter, Digit, Underscore, Quote, Point, Colon, Equals, Less, Greater, Slash, Star, Single, Graphic, Control}
 use Rattle.aud_lex.specs.declared.automaton.State.{State}
-use Rattle.aud_lex.specs.declared.automaton.State.TheVariants.{Start, Dead, InWord, InNumber, InDecimals, InString, BehindQuote, Whole}
+use Rattle.aud_lex.specs.declared.automaton.State.TheVariants.{Start, Dead, InWord, InNumber, AfterPoint, InDecimals, InString, BehindQuote, Whole}
 use Rattle.aud_lex.specs.Bytes.{between, is_single, class}
 use Rattle.aud_lex.specs.Element.{Element}
 use Rattle.aud_lex.specs.Kinds.{Spelled, kind_number, reserved, delimiters}
@@ -19,9 +19,10 @@ use Rattle.aud_lex.specs.Why.Spaced.{Word}
 use Rattle.aud_lex.specs.Tokens.{step, accepts, run, is_token, small, found, kind_in, kind_of}
 use Rattle.std.specs.Str.{bytes_eq}
 use Rattle.aud_lex.proofs.Fronts.{run_dead}
-use Rattle.aud_syntax.specs.Why.Printed.{number_digits, doubled, quoted}
-use Rattle.aud_grammar.specs.Values.{with_digit, digits_value, number_value, inner, unquoted}
+use Rattle.aud_syntax.specs.Why.Printed.{number_digits, decimal_digits, real_digits, doubled, quoted}
+use Rattle.aud_grammar.specs.Values.{with_digit, digits_value, number_value, before_point, behind_point, only_digits, thousandths, whole_part, decimals, inner, unquoted}
 use Rattle.aud_grammar.proofs.Literals.{fits}
+use Rattle.aud_grammar.proofs.Reals.{Pointless, pointless_append, before_append, behind_append, digits_behind, to_point, a_digit, decimals_stay}
 
 -- the spelling of the kind with this number
 abbrev spelling_in : List Spelled → ℕ → List ℕ
@@ -33,7 +34,7 @@ abbrev pub spelling : ℕ → List ℕ → List ℕ
 spelling c text =
     if c == 100 then capitals text
     else if c == 101 then number_digits (number_value text)
-    else if c == 102 then text
+    else if c == 102 then real_digits (whole_part text) (decimals text)
     else if c == 103 then quoted (unquoted text)
     else spelling_in (reserved ++ delimiters) c
 
@@ -53,6 +54,8 @@ pub record Stays (c : ℕ) (text bytes : List ℕ) : Type 0 where
   pub kind : kind_number (kind_of bytes) ≡ c
   pub name : c ≡ 100 → capitals text ≡ capitals bytes
   pub number : c ≡ 101 → number_value text ≡ number_value bytes
+  pub whole : c ≡ 102 → whole_part text ≡ whole_part bytes
+  pub fraction : c ≡ 102 → decimals text ≡ decimals bytes
   pub literal : c ≡ 103 → unquoted text ≡ unquoted bytes
 
 -- Words and delimiters
@@ -97,6 +100,8 @@ table_stays c text h =
       kind = eqb-true _ _ k.1;
       name = λ e. absurd (omega (arith, e, h));
       number = λ e. absurd (omega (arith, e, h));
+      whole = λ e. absurd (omega (arith, e, h));
+      fraction = λ e. absurd (omega (arith, e, h));
       literal = λ e. absurd (omega (arith, e, h));
     })
 
@@ -167,6 +172,8 @@ ident_stays text e h =
       kind = ap (λ s. kind_number (kind_in s (capitals text))) r ∙ ap (λ l. kind_number (found reserved l kind.Identifier)) (small_capitals text) ∙ h;
       name = λ e. sym (capitals_twice text);
       number = λ e. absurd (omega (arith, e));
+      whole = λ e. absurd (omega (arith, e));
+      fraction = λ e. absurd (omega (arith, e));
       literal = λ e. absurd (omega (arith, e));
     }
 
@@ -180,56 +187,69 @@ value_append : (xs ys : List ℕ) (n : ℕ) → digits_value n (xs ++ ys) ≡ di
 value_append [] ys n = refl
 value_append (x ∷ xs) ys n = value_append xs ys (with_digit n x)
 
-a_digit : (d n : ℕ) → d < 10 → (class (48 + d) ≡ Digit) × (with_digit n (48 + d) ≡ n * 10 + d)
-a_digit zero n h = (refl, refl)
-a_digit (suc zero) n h = (refl, refl)
-a_digit (suc (suc zero)) n h = (refl, refl)
-a_digit (suc (suc (suc zero))) n h = (refl, refl)
-a_digit (suc (suc (suc (suc zero)))) n h = (refl, refl)
-a_digit (suc (suc (suc (suc (suc zero))))) n h = (refl, refl)
-a_digit (suc (suc (suc (suc (suc (suc zero)))))) n h = (refl, refl)
-a_digit (suc (suc (suc (suc (suc (suc (suc zero))))))) n h = (refl, refl)
-a_digit (suc (suc (suc (suc (suc (suc (suc (suc zero)))))))) n h = (refl, refl)
-a_digit (suc (suc (suc (suc (suc (suc (suc (suc (suc zero))))))))) n h = (refl, refl)
-a_digit (suc (suc (suc (suc (suc (suc (suc (suc (suc (suc d)))))))))) n h = absurd (omega arith)
-
 abbrev Numeral : ℕ → List ℕ → Type 0
-Numeral n bytes = (run Start bytes ≡ InNumber) × (digits_value 0 bytes ≡ n)
+Numeral n bytes = (run Start bytes ≡ InNumber) × (digits_value 0 bytes ≡ n) × Pointless bytes
 
 one_digit : (n : ℕ) → n < 10 → Numeral n ((48 + n) ∷ [])
-one_digit n h = (ap (λ c. step Start c) (a_digit n 0 h).0, (a_digit n 0 h).1 ∙ (let e : 0 * 10 + n ≡ n = omega arith in e))
+one_digit n h = (ap (λ c. step Start c) (a_digit n 0 h).0, (a_digit n 0 h).1 ∙ (let e : 0 * 10 + n ≡ n = omega arith in e), (ne_eqb (48 + n) 46 (λ e. omega (arith, e)), tt))
 
 more_digits : (n : ℕ) (bytes : List ℕ) → 10 ≤ n → Numeral (n / 10) bytes → Numeral n (bytes ++ ((48 + n % 10) ∷ []))
 more_digits n bytes h k =
     let d : n % 10 < 10 = omega arith in (
       run_append bytes ((48 + n % 10) ∷ []) Start ∙ ap (λ s. step s (class (48 + n % 10))) k.0 ∙ ap (λ c. step InNumber c) (a_digit (n % 10) 0 d).0,
       value_append bytes ((48 + n % 10) ∷ []) 0 ∙ ap (λ v. with_digit v (48 + n % 10)) k.1 ∙ (a_digit (n % 10) (n / 10) d).1 ∙ (let e : n / 10 * 10 + n % 10 ≡ n = omega arith in e),
+      pointless_append bytes ((48 + n % 10) ∷ []) k.2 (ne_eqb (48 + n % 10) 46 (λ e. omega (arith, e)), tt),
     )
 
 numeral : (n : ℕ) → n < 2 ^ 64 → Numeral n (decimal n)
 numeral = decimal_by_steps Numeral one_digit more_digits
 
-integer_stays : (text bytes : List ℕ) → run Start bytes ≡ InNumber → number_value text ≡ number_value bytes → Stays 101 text bytes
-integer_stays text bytes r v = record {
-  token = ap accepts r;
-  kind = ap (λ s. kind_number (kind_in s bytes)) r;
-  name = λ e. absurd (omega (arith, e));
-  number = λ e. v;
-  literal = λ e. absurd (omega (arith, e));
-}
+-- bytes that are a whole number and mean what the others mean
+abbrev SameNumber : List ℕ → List ℕ → Type 0
+SameNumber text bytes = (run Start bytes ≡ InNumber) × (number_value text ≡ number_value bytes) × Pointless bytes
 
-number_stays : (text : List ℕ) → Stays 101 text (number_digits (number_value text))
-number_stays text = at (nat_le (digits_value 0 text) 2147483647) refl
+same_number : (text : List ℕ) → SameNumber text (number_digits (number_value text))
+same_number text = at (nat_le (digits_value 0 text) 2147483647) refl
   where
-    at : (t : Bool) → nat_le (digits_value 0 text) 2147483647 ≡ t → Stays 101 text (number_digits (number_value text))
+    at : (t : Bool) → nat_le (digits_value 0 text) 2147483647 ≡ t → SameNumber text (number_digits (number_value text))
     at true e =
         let l : digits_value 0 text ≤ 2147483647 = leb-true _ _ e in
         let n : Numeral (digits_value 0 text) (decimal (digits_value 0 text)) = numeral (digits_value 0 text) (omega (arith, l)) in
         let v : number_value text ≡ Some (pos (digits_value 0 text)) = fits text (digits_value 0 text) refl l in
-        subst (λ z. Stays 101 text (number_digits z)) (sym v) (integer_stays text (decimal (digits_value 0 text)) n.0 (v ∙ sym (fits (decimal (digits_value 0 text)) (digits_value 0 text) n.1 l)))
+        subst (λ z. SameNumber text (number_digits z)) (sym v) (n.0, v ∙ sym (fits (decimal (digits_value 0 text)) (digits_value 0 text) n.1 l), n.2)
     at false e =
         let v : number_value text ≡ None = cond-false (nat_le (digits_value 0 text) 2147483647) _ _ e in
-        subst (λ z. Stays 101 text (number_digits z)) (sym v) (integer_stays text (codes "2147483648") refl v)
+        subst (λ z. SameNumber text (number_digits z)) (sym v) (refl, v, (refl, (refl, (refl, (refl, (refl, (refl, (refl, (refl, (refl, (refl, tt)))))))))))
+
+number_stays : (text : List ℕ) → Stays 101 text (number_digits (number_value text))
+number_stays text =
+    let n = same_number text in
+    record {
+      token = ap accepts n.0;
+      kind = ap (λ s. kind_number (kind_in s (number_digits (number_value text)))) n.0;
+      name = λ e. absurd (omega (arith, e));
+      number = λ e. n.1;
+      whole = λ e. absurd (omega (arith, e));
+      fraction = λ e. absurd (omega (arith, e));
+      literal = λ e. absurd (omega (arith, e));
+    }
+
+real_stays : (text : List ℕ) → run Start text ≡ InDecimals → Stays 102 text (real_digits (whole_part text) (decimals text))
+real_stays text e =
+    let whole : List ℕ = number_digits (whole_part text) in
+    let behind : List ℕ = decimal_digits (decimals text) in
+    let n = same_number (before_point text) in
+    let d = decimals_stay (only_digits (behind_point text)) (digits_behind (behind_point text) AfterPoint refl (to_point text Start refl e)) in
+    let r : run Start (whole ++ (46 ∷ behind)) ≡ InDecimals = run_append whole (46 ∷ behind) Start ∙ ap (λ s. run s (46 ∷ behind)) n.0 ∙ d.0 in
+    record {
+      token = ap accepts r;
+      kind = ap (λ s. kind_number (kind_in s (whole ++ (46 ∷ behind)))) r;
+      name = λ e. absurd (omega (arith, e));
+      number = λ e. absurd (omega (arith, e));
+      whole = λ e. n.1 ∙ sym (ap number_value (before_append whole behind n.2));
+      fraction = λ e. sym (ap (λ z. thousandths (only_digits z)) (behind_append whole behind n.2) ∙ d.1);
+      literal = λ e. absurd (omega (arith, e));
+    }
 
 -- String literals
 
@@ -385,19 +405,12 @@ literal_stays text h =
       kind = ap (λ s. kind_number (kind_in s (quoted (unquoted text)))) r;
       name = λ e. absurd (omega (arith, e));
       number = λ e. absurd (omega (arith, e));
+      whole = λ e. absurd (omega (arith, e));
+      fraction = λ e. absurd (omega (arith, e));
       literal = λ e. sym (inner_doubled (unquoted text));
     }
 
 -- Any token
-
-real_stays : (text : List ℕ) → run Start text ≡ InDecimals → Stays 102 text text
-real_stays text r = record {
-  token = ap accepts r;
-  kind = ap (λ s. kind_number (kind_in s text)) r;
-  name = λ e. refl;
-  number = λ e. refl;
-  literal = λ e. refl;
-}
 
 found_stays : (text : List ℕ) (c : ℕ) (other : ℕ) → (c ≡ other) ⊎ (c < 100) → (c ≡ other → Stays c text (spelling c text)) → Stays c text (spelling c text)
 found_stays text c other h k = ⊎_elim k (λ l. table_stays c text l) h

@@ -9,6 +9,7 @@ pub mod Total
 pub mod Spelled
 pub mod Verdicts
 pub mod Literals
+pub mod Reals
 pub mod OneAnswer
 pub mod Answered
 pub mod Bared
@@ -16,9 +17,16 @@ pub mod Places
 pub mod Canonical
 pub mod SameWords
 pub mod Sorts
+pub mod Told
+pub mod ProgramWords
+pub mod StatementWords
+pub mod ExpressionWords
+pub mod TaskWords
+pub mod ProtectedWords
 pub mod Worded
 pub mod RoundTrip
 pub mod Rows
 pub mod ControlRows
 pub mod ProcedureRows
 pub mod TaskRows
+pub mod LaterRows

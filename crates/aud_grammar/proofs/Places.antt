@@ -9,6 +9,7 @@ use Rattle.aud_lex.specs.Element.{Element}
 use Rattle.aud_lex.specs.Kinds.{kind_number}
 use Rattle.aud_text.specs.Name.{capitals}
 use Rattle.aud_syntax.specs.Why.Bare.{nowhere, bare}
+use Rattle.aud_grammar.specs.Values.{whole_part, decimals}
 use Rattle.aud_grammar.specs.Grammar as g
 use Rattle.aud_grammar.specs.Grammar.{Word, Phrase, Symbol, T, P, W, N, L, Down, A, Opt, Rep, rule}
 use Rattle.aud_grammar.specs.First.{spelling, among, same_text, is_word, next_word, next_in, firsts}
@@ -124,6 +125,9 @@ mutual
   follows (o_rule {p = g.Literal} o) us h =
       leaf_follows o us h g.Literal (λ x. a.a_literal (a.literal_of x)) (λ k r us es w x. o_rule x)
       (λ t u e i. ap (λ (z : List ℕ). a.a_literal (record { text = z; at = nowhere })) (e.literal i))
+  follows (o_rule {p = g.Real} o) us h =
+      leaf_follows o us h g.Real (λ x. a.a_real (a.real_of x)) (λ k r us es w x. o_rule x)
+      (λ t u e i. ap (λ (z : Option ℤ). a.a_real (record { whole = z; thousandths = decimals t.text; at = nowhere })) (e.whole i) ∙ ap (λ (z : Option ℕ). a.a_real (record { whole = whole_part u.text; thousandths = z; at = nowhere })) (e.fraction i))
   follows (o_rule {p = p} o) us h = new_items (made p) (bare_made p refl) (follows o us h) (λ es w x. o_rule x)
   follows (o_level o) us h = same_items (follows o us h) (λ es w x. o_level x)
   follows (o_deep {p} {k} {ts} e) us h = fault_follows [] (Deep ts) (Deep us) (o_deep (next_alike (firsts p) ts us h ∙ e)) (length_alike ts us h)

@@ -14,7 +14,7 @@ use Rattle.aud_lex.proofs.Spacing.{read_back}
 use Rattle.aud_syntax.specs.Plain as m
 use Rattle.aud_syntax.specs.Why.Bare.{bare}
 use Rattle.aud_syntax.specs.Why.Printed.{unit_words, printed}
-use Rattle.aud_grammar.specs.Values.{number_value, unquoted}
+use Rattle.aud_grammar.specs.Values.{number_value, whole_part, decimals, unquoted}
 use Rattle.aud_grammar.specs.Parsed.{parsed, Fault}
 use Rattle.aud_grammar.specs.Why.Alike.{Alike, AllAlike, stripped}
 use Rattle.aud_grammar.specs.Why.Laws.{RoundTrip, OneText}
@@ -49,6 +49,8 @@ one_alike t e h k p =
       kind = sym s.kind ∙ ap (λ b. kind_number (kind_of b)) (sym p) ∙ ap (λ (z : Element). kind_number z.kind) k;
       name = λ i. s.name i ∙ ap capitals (sym p);
       number = λ i. s.number i ∙ ap number_value (sym p);
+      whole = λ i. s.whole i ∙ ap whole_part (sym p);
+      fraction = λ i. s.fraction i ∙ ap decimals (sym p);
       literal = λ i. s.literal i ∙ ap unquoted (sym p);
     }
 

@@ -24,11 +24,11 @@ texts_append (u ∷ us) vs = ap (λ z. u.bytes ∷ z) (texts_append us vs)
 pub same_both : (us us' vs vs' : List Word) → Same us us' → Same vs vs' → Same (us ++ vs) (us' ++ vs')
 same_both us us' vs vs' e h = texts_append us vs ∙ ap (λ z. z ++ texts vs) e ∙ ap (λ z. texts us' ++ z) h ∙ sym (texts_append us' vs')
 
-same_on : (us vs vs' : List Word) → Same vs vs' → Same (us ++ vs) (us ++ vs')
+pub same_on : (us vs vs' : List Word) → Same vs vs' → Same (us ++ vs) (us ++ vs')
 same_on us vs vs' h = same_both us us vs vs' refl h
 
 -- words behind a phrase of several, and behind one word
-on : (a b ws c : List Word) → b ++ ws ≡ c → (a ++ b) ++ ws ≡ a ++ c
+pub on : (a b ws c : List Word) → b ++ ws ≡ c → (a ++ b) ++ ws ≡ a ++ c
 on a b ws c e = append_assoc a b ws ∙ ap (λ z. a ++ z) e
 
 pub one_on : (x : Word) (b c : List Word) → b ≡ c → x ∷ b ≡ x ∷ c
@@ -103,6 +103,66 @@ pub body_same : (us ts hs gs last : List Word) → Same us ts → Same hs gs →
 body_same us ts hs gs last h i =
     let end : List Word = word (codes "end") ∷ (last ++ (last_word (codes ";") ∷ [])) in
     ap (λ z. codes "begin" ∷ z) (same_both us ts (hs ++ end) (gs ++ end) h (same_both hs gs end end i refl))
+
+-- what is done in an accept statement
+
+abbrev pub in_do : List Word → List Word → List Word → List Word → List Word
+in_do us hs last ws = word (codes "do") ∷ (us ++ (hs ++ (word (codes "end") ∷ (last ++ (last_word (codes ";") ∷ ws)))))
+
+pub do_words : (us hs last ws : List Word) → in_do us hs last [] ++ ws ≡ in_do us hs last ws
+do_words us hs last ws = one_on _ _ _ (on us _ _ _ (on hs _ _ _ (one_on _ _ _ (on last _ _ _ refl))))
+
+pub do_same : (us ts hs gs : List Word) (last : Option Ident) → Same us ts → Same hs gs → Same (in_do us hs (w.end_words last) []) (w.enclosed_words (codes "do") ts gs last)
+do_same us ts hs gs last h i = ap (λ z. codes "do" ∷ z) (same_both us ts (hs ++ w.ending_words last) (gs ++ w.ending_words last) h (same_both hs gs (w.ending_words last) (w.ending_words last) i refl))
+
+-- a guard, an alternative behind `or` and its guard, and alternatives behind the first
+
+abbrev pub guard_tokens : m.Expression → List Word
+guard_tokens e = word (codes "when") ∷ (w.expression_words e ++ (word (codes "=>") ∷ []))
+
+pub guard_same : (e : m.Expression) → Same (guard_tokens e) (w.guard_words (m.an_expression e))
+guard_same e = ap (λ z. codes "when" ∷ z) (same_on (w.expression_words e) (word (codes "=>") ∷ []) (last_word (codes "=>") ∷ []) refl)
+
+abbrev pub or_words : m.MaybeExpression → m.Alternative → List Word
+or_words e x = last_word (codes "or") ∷ (w.guard_words e ++ w.alternative_words x)
+
+abbrev pub else_words : m.MoreStatements → List Word
+else_words statements = w.otherwise_words statements (w.more_statements_words statements)
+
+abbrev pub behind_first : m.Alternatives → m.MoreStatements → List Word
+behind_first xs statements = w.alternatives_words xs ++ else_words statements
+
+abbrev pub from_first : m.Alternative → m.Alternatives → m.MoreStatements → List Word
+from_first x xs statements = w.alternative_words x ++ behind_first xs statements
+
+pub or_same : (gs us : List Word) (e : m.MaybeExpression) (x : m.Alternative) (xs : m.Alternatives) (statements : m.MoreStatements) → Same gs (w.guard_words e) → Same us (from_first x xs statements) →
+    Same (word (codes "or") ∷ (gs ++ us)) (behind_first (m.more_alternatives e x xs) statements)
+or_same gs us e x xs statements h j =
+    let guard : List Word = w.guard_words e in
+    let first : List Word = w.alternative_words x in
+    let others : List Word = w.alternatives_words xs in
+    ap (λ z. codes "or" ∷ z)
+    (same_both gs guard us (from_first x xs statements) h j
+    ∙ ap texts (sym (append_assoc (guard ++ first) others (else_words statements) ∙ append_assoc guard first (others ++ else_words statements))))
+
+-- an operation's body
+
+pub headed_on : (spelling : List ℕ) (i : Ident) (fs : List m.Formal) (behind es us ws : List Word) →
+    w.headed_words spelling i fs behind (es ++ us) ++ ws ≡ word spelling ∷ w.ident_word i ∷ (w.formals_words fs ++ (behind ++ (last_word (codes "is") ∷ (es ++ (us ++ ws)))))
+headed_on spelling i fs behind es us ws = one_on _ _ _ (one_on _ _ _ (on (w.formals_words fs) _ _ _ (on behind _ _ _ (one_on _ _ _ (append_assoc es us ws)))))
+
+pub headed_same : (spelling : List ℕ) (i : Ident) (fs : List m.Formal) (behind es ds us vs : List Word) → Same es ds → Same us vs → Same (w.headed_words spelling i fs behind (es ++ us)) (w.headed_words spelling i fs behind (ds ++ vs))
+headed_same spelling i fs behind es ds us vs h j =
+    same_on (w.head_words spelling i fs) (behind ++ (last_word (codes "is") ∷ (es ++ us))) (behind ++ (last_word (codes "is") ∷ (ds ++ vs)))
+    (same_on behind (last_word (codes "is") ∷ (es ++ us)) (last_word (codes "is") ∷ (ds ++ vs)) (ap (λ z. codes "is" ∷ z) (same_both es ds us vs h j)))
+
+-- what stands behind `protected`
+
+abbrev pub protected_words : Ident → List m.Operation → Option (List m.PrivateItem) → Option Ident → List Word
+protected_words i operations hidden last = w.ident_word i ∷ last_word (codes "is") ∷ (w.operations_words operations ++ (w.private_words hidden ++ w.ending_words last))
+
+abbrev pub protected_body_words : Ident → List Word → Option Ident → List Word
+protected_body_words i bodies last = word (codes "body") ∷ w.ident_word i ∷ last_word (codes "is") ∷ (bodies ++ w.ending_words last)
 
 -- a procedure, whose formal parameters, declarations and body have these words; a program is one behind its context clauses
 abbrev pub procedure_words : Ident → List Word → List Word → List Word → List Word

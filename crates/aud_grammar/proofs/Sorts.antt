@@ -14,6 +14,8 @@ pub data Sort : Type 0 where
   s_expression s_logic s_and_rest s_or_rest s_relation s_compared s_relational s_simple s_sign s_added s_adding s_term s_multiplied s_multiplying s_factor s_operator : Sort
   s_primary s_attribute s_parens s_name s_part s_args s_ident s_number s_literal : Sort
   s_arm s_else s_unlabelled s_iteration s_reverse s_when s_declare s_handlers s_handler_list s_handler s_choices : Sort
+  s_real s_time s_delay s_entry s_doing s_accept s_select_rest s_otherwise s_guard s_alternative s_guarded s_unguarded s_further : Sort
+  s_operation s_private_item s_private s_protected_rest s_operation_body s_more_name s_with_abort : Sort
   -- a further name behind this delimiter
   s_more_ident : List ℕ → Sort
   -- a further relation behind this operator
@@ -153,3 +155,62 @@ sort g.InArgs = s_args
 sort g.Identifier = s_ident
 sort g.Number = s_number
 sort g.Literal = s_literal
+sort g.Real = s_real
+sort g.DelayStatement = s_statement
+sort g.Delay = s_delay
+sort g.DelayTime = s_time
+sort g.Seconds = s_time
+sort g.DurationOf = s_time
+sort g.EntryDeclaration = s_entry
+sort g.DefinitionWithEntries = s_definition
+sort g.AcceptStatement = s_statement
+sort g.Accept = s_accept
+sort g.AcceptRest = s_doing
+sort g.Do = s_doing
+sort g.WithoutDo = s_doing
+sort g.Select = s_statement
+sort g.SelectRest = s_select_rest
+sort g.CallSelect = s_select_rest
+sort g.Otherwise = s_otherwise
+sort g.OrDelay = s_otherwise
+sort g.OrElsePart = s_otherwise
+sort g.AcceptSelect = s_select_rest
+sort g.Guard = s_guard
+sort g.FirstAlternative = s_unguarded
+sort g.AcceptsOnly = s_unguarded
+sort g.AfterAccept = s_further
+sort g.SelectElse = s_further
+sort g.OrAny = s_further
+sort g.AnyAlternative = s_unguarded
+sort g.WithDelays = s_unguarded
+sort g.OrEither = s_guarded
+sort g.Either = s_alternative
+sort g.WithTerminate = s_unguarded
+sort g.OrAccept = s_guarded
+sort g.DelaysFirst = s_unguarded
+sort g.NeedAccept = s_unguarded
+sort g.DelaysAccept = s_unguarded
+sort g.TerminateFirst = s_unguarded
+sort g.AcceptAlternative = s_alternative
+sort g.DelayAlternative = s_alternative
+sort g.TerminateAlternative = s_alternative
+sort g.Protected = s_declaration
+sort g.ProtectedRest = s_protected_rest
+sort g.ProtectedDeclaration = s_protected_rest
+sort g.PrivatePart = s_private
+sort g.PrivateItem = s_private_item
+sort g.PrivateOperation = s_private_item
+sort g.Components = s_private_item
+sort g.Operation = s_operation
+sort g.EntryOperation = s_operation
+sort g.ProcedureOperation = s_operation
+sort g.FunctionOperation = s_operation
+sort g.ProtectedBody = s_protected_rest
+sort g.OperationBody = s_operation_body
+sort g.EntryBody = s_operation_body
+sort g.ProcedureBody = s_operation_body
+sort g.FunctionBody = s_operation_body
+sort g.Abort = s_statement
+sort g.MoreNames = s_more_name
+sort g.Requeue = s_statement
+sort g.WithAbort = s_with_abort

@@ -5,6 +5,7 @@ use Rattle.aud_text.specs.declared.place.Pos.{Pos}
 use Rattle.aud_lex.specs.Element.{Element}
 use Rattle.aud_syntax.specs.declared.tree.Ident.{Ident}
 use Rattle.aud_syntax.specs.declared.tree.Number.{Number}
+use Rattle.aud_syntax.specs.declared.tree.Real.{Real}
 use Rattle.aud_syntax.specs.declared.tree.Literal.{Literal}
 use Rattle.aud_syntax.specs.declared.tree.Signed.{Signed}
 use Rattle.aud_syntax.specs.declared.tree.Sign.TheVariants as sign
@@ -23,7 +24,7 @@ use Rattle.aud_syntax.specs.declared.tree.Mode.{Mode}
 use Rattle.aud_syntax.specs.declared.tree.Mode.TheVariants as mode
 use Rattle.aud_syntax.specs.Plain as m
 use Rattle.aud_grammar.specs.Grammar as g
-use Rattle.aud_grammar.specs.Values.{number_value, unquoted}
+use Rattle.aud_grammar.specs.Values.{number_value, whole_part, decimals, unquoted}
 
 -- what is read so far, from the front: a token, nothing, a list, or a tree of one of these sorts
 pub data Item : Type 0 where
@@ -99,6 +100,32 @@ pub data Item : Type 0 where
   a_declaration : m.Declaration → Item
   a_context : m.Context → Item
   a_unit : m.Unit → Item
+  a_real : Real → Item
+  -- for how long a delay is
+  seconds : Real → Item
+  duration_of : m.Expression → Item
+  a_delay : m.Delay → Item
+  an_entry : m.EntryDeclaration → Item
+  a_doing : m.Doing → Item
+  an_accept : m.Accept → Item
+  an_alternative : m.Alternative → Item
+  -- an alternative behind `or` and its guard
+  guarded : m.MaybeExpression → m.Alternative → Item
+  -- alternatives, of which the guard of the first stands further in front, and the statements behind `else`
+  unguarded : m.Alternative → m.Alternatives → m.MoreStatements → Item
+  -- what follows an alternative
+  further : m.Alternatives → m.MoreStatements → Item
+  -- what follows `select`: the guard of the first alternative as well; of an entry call, what its statement has
+  selects : m.MaybeExpression → m.Alternative → m.Alternatives → m.MoreStatements → Item
+  selects_call : m.Name → m.MoreStatements → m.Otherwise → Item
+  an_otherwise : m.Otherwise → Item
+  an_operation : m.Operation → Item
+  a_private_item : m.PrivateItem → Item
+  some_private : List m.PrivateItem → Item
+  -- what follows `protected`
+  a_protected : Ident → List m.Operation → Option (List m.PrivateItem) → Option Ident → Item
+  a_protected_body : Ident → m.OperationBodies → Option Ident → Item
+  an_operation_body : m.OperationBody → Item
 
 abbrev pub top : List Item → Item
 top [] = none
@@ -472,12 +499,124 @@ task_declared at (a_task is_type i definition) = m.task at is_type i definition
 task_declared at (a_task_body i ds x) = m.task_body at i ds x
 task_declared at _ = no_declaration
 
+-- what is not let in yet
+
+abbrev pub the_real : Item → Real
+the_real (a_real x) = x
+the_real _ = record { whole = None; thousandths = None; at = no_place }
+
+-- the delay statement that begins at a place, by what follows `delay` (RM 9.6)
+abbrev pub delayed : Pos → Item → m.Delay
+delayed at (seconds x) = m.delay_real at x
+delayed at (duration_of e) = m.delay_duration at e
+delayed at _ = m.delay_duration at nothing
+
+abbrev pub the_delay : Item → m.Delay
+the_delay (a_delay x) = x
+the_delay _ = m.delay_duration no_place nothing
+
+abbrev no_entry : m.EntryDeclaration
+no_entry = record { name = no_ident; formals = [] }
+
+abbrev pub the_entry : Item → m.EntryDeclaration
+the_entry (an_entry x) = x
+the_entry _ = no_entry
+
+abbrev pub the_entries : Item → List m.EntryDeclaration
+the_entries (cons x xs) = the_entry x ∷ the_entries xs
+the_entries _ = []
+
+abbrev pub the_doing : Item → m.Doing
+the_doing (a_doing x) = x
+the_doing _ = m.without_do
+
+abbrev pub the_accept : Item → m.Accept
+the_accept (an_accept x) = x
+the_accept _ = m.accept no_place no_ident [] m.without_do
+
+abbrev pub the_alternative : Item → m.Alternative
+the_alternative (an_alternative x) = x
+the_alternative _ = m.terminate_alternative
+
+abbrev pub with_guarded : Item → m.Alternatives → m.Alternatives
+with_guarded (guarded e x) xs = m.more_alternatives e x xs
+with_guarded _ xs = xs
+
+abbrev pub the_alternatives : Item → m.Alternatives
+the_alternatives (cons x xs) = with_guarded x (the_alternatives xs)
+the_alternatives _ = m.no_alternatives
+
+abbrev pub first_alternative : Item → m.Alternative
+first_alternative (unguarded x xs inner) = x
+first_alternative _ = m.terminate_alternative
+
+abbrev pub other_alternatives : Item → m.Alternatives
+other_alternatives (unguarded x xs inner) = xs
+other_alternatives (further xs inner) = xs
+other_alternatives _ = m.no_alternatives
+
+abbrev pub else_part : Item → m.MoreStatements
+else_part (unguarded x xs inner) = inner
+else_part (further xs inner) = inner
+else_part _ = m.no_statements
+
+abbrev pub the_otherwise : Item → m.Otherwise
+the_otherwise (an_otherwise x) = x
+the_otherwise _ = m.or_else no_statements
+
+-- the statement that begins with `select` at a place, by what follows it (RM 9.7)
+abbrev pub selected : Pos → Item → m.Statement
+selected at (selects e x xs statements) = m.select_accept at e x xs statements
+selected at (selects_call x behind other) = m.select_call at x behind other
+selected at _ = no_statement
+
+abbrev pub the_operation : Item → m.Operation
+the_operation (an_operation x) = x
+the_operation _ = m.entry_operation no_entry
+
+abbrev pub the_operations : Item → List m.Operation
+the_operations (cons x xs) = the_operation x ∷ the_operations xs
+the_operations _ = []
+
+abbrev pub the_private_item : Item → m.PrivateItem
+the_private_item (a_private_item x) = x
+the_private_item _ = m.private_operation (m.entry_operation no_entry)
+
+abbrev pub the_private_items : Item → List m.PrivateItem
+the_private_items (cons x xs) = the_private_item x ∷ the_private_items xs
+the_private_items _ = []
+
+abbrev pub opt_private : Item → Option (List m.PrivateItem)
+opt_private (some_private xs) = Some xs
+opt_private _ = None
+
+abbrev pub the_operation_body : Item → m.OperationBody
+the_operation_body (an_operation_body x) = x
+the_operation_body _ = m.procedure_body no_place no_ident [] m.no_declarations no_body
+
+abbrev pub the_operation_bodies : Item → m.OperationBodies
+the_operation_bodies (cons x xs) = m.more_bodies (the_operation_body x) (the_operation_bodies xs)
+the_operation_bodies _ = m.no_bodies
+
+-- the declaration that begins with `protected` at a place, by what follows it (RM 9.4)
+abbrev pub protected_declared : Pos → Item → m.Declaration
+protected_declared at (a_protected i operations hidden end) = m.protected at i operations hidden end
+protected_declared at (a_protected_body i bodies end) = m.protected_body at i bodies end
+protected_declared at _ = no_declaration
+
+abbrev pub the_names : Item → m.Names
+the_names (cons x xs) = m.more_names (the_name x) (the_names xs)
+the_names _ = m.no_names
+
 -- an identifier's letters are kept as capitals (RM 2.3(5))
 abbrev pub ident_of : Item → Ident
 ident_of x = record { name = capitals (the_text x); at = place x }
 
 abbrev pub number_of : Item → Number
 number_of x = record { value = number_value (the_text x); at = place x }
+
+abbrev pub real_of : Item → Real
+real_of x = record { whole = whole_part (the_text x); thousandths = decimals (the_text x); at = place x }
 
 abbrev pub literal_of : Item → Literal
 literal_of x = record { text = unquoted (the_text x); at = place x }
@@ -515,7 +654,7 @@ made g.OutMode st = a_mode (mode.Out (place (top st))) ∷ pop st
 made g.Task st = a_declaration (task_declared (place (top st)) (top (pop st))) ∷ pop (pop st)
 made g.TaskDeclaration st = a_task (is_there (top st)) (the_ident (top (pop st))) (opt_definition (top (pop (pop st)))) ∷ pop (pop (pop st))
 made g.TaskType st = there ∷ st
-made g.TaskDefinition st = a_definition (record { end_name = opt_ident (top st) }) ∷ pop st
+made g.TaskDefinition st = a_definition (record { entries = []; end_name = opt_ident (top st) }) ∷ pop st
 made g.TaskBody st = a_task_body (the_ident (top st)) (the_declarations (top (pop st))) (the_body (top (pop (pop st)))) ∷ pop (pop (pop st))
 made g.Body st = a_body (m.body (place (top st)) (the_statements (top (pop st))) (the_handlers (top (pop (pop st)))) (place (top (pop (pop (pop st))))) (opt_ident (top (pop (pop (pop (pop st)))))) (place (top (pop (pop (pop (pop (pop st)))))))) ∷ pop (pop (pop (pop (pop (pop st)))))
 made g.HandlerList st = listed st
@@ -581,4 +720,48 @@ made g.InArgs st = some_args (m.more_args (the_expression (top st)) (expression_
 made g.Identifier st = an_ident (ident_of (top st)) ∷ pop st
 made g.Number st = a_number (number_of (top st)) ∷ pop st
 made g.Literal st = a_literal (literal_of (top st)) ∷ pop st
+made g.Real st = a_real (real_of (top st)) ∷ pop st
+made g.DelayStatement st = a_statement (m.delaying (the_delay (top st))) ∷ pop st
+made g.Delay st = a_delay (delayed (place (top st)) (top (pop st))) ∷ pop (pop st)
+made g.Seconds st = seconds (the_real (top st)) ∷ pop st
+made g.DurationOf st = duration_of (inside (top st)) ∷ pop st
+made g.EntryDeclaration st = an_entry (record { name = the_ident (top st); formals = the_formals (top (pop st)) }) ∷ pop (pop st)
+made g.DefinitionWithEntries st = a_definition (record { entries = the_entries (top st); end_name = opt_ident (top (pop st)) }) ∷ pop (pop st)
+made g.AcceptStatement st = a_statement (m.accepting (the_accept (top st))) ∷ pop st
+made g.Accept st = an_accept (m.accept (place (top st)) (the_ident (top (pop st))) (the_formals (top (pop (pop st)))) (the_doing (top (pop (pop (pop st)))))) ∷ pop (pop (pop (pop st)))
+made g.Do st = a_doing (m.with_do (m.body (place (top st)) (the_statements (top (pop st))) (the_handlers (top (pop (pop st)))) (place (top (pop (pop (pop st))))) (opt_ident (top (pop (pop (pop (pop st)))))) (place (top (pop (pop (pop (pop (pop st))))))))) ∷ pop (pop (pop (pop (pop (pop st)))))
+made g.WithoutDo st = a_doing m.without_do ∷ st
+made g.Select st = a_statement (selected (place (top st)) (top (pop st))) ∷ pop (pop st)
+made g.CallSelect st = selects_call (the_name (top st)) (otherwise (top (pop st))) (the_otherwise (top (pop (pop st)))) ∷ pop (pop (pop st))
+made g.OrDelay st = an_otherwise (m.or_delay (the_delay (top st)) (otherwise (top (pop st)))) ∷ pop (pop st)
+made g.OrElsePart st = an_otherwise (m.or_else (the_statements (top st))) ∷ pop st
+made g.AcceptSelect st = selects (opt_expression (top st)) (first_alternative (top (pop st))) (other_alternatives (top (pop st))) (else_part (top (pop st))) ∷ pop (pop st)
+made g.AcceptsOnly st = unguarded (the_alternative (top st)) (other_alternatives (top (pop st))) (else_part (top (pop st))) ∷ pop (pop st)
+made g.SelectElse st = further m.no_alternatives (otherwise (top st)) ∷ pop st
+made g.OrAny st = further (m.more_alternatives (opt_expression (top st)) (first_alternative (top (pop st))) (other_alternatives (top (pop st)))) (else_part (top (pop st))) ∷ pop (pop st)
+made g.WithDelays st = unguarded (the_alternative (top st)) (the_alternatives (top (pop st))) m.no_statements ∷ pop (pop st)
+made g.WithTerminate st = unguarded (the_alternative (top st)) (the_alternatives (top (pop st))) m.no_statements ∷ pop (pop st)
+made g.DelaysAccept st = unguarded (the_alternative (top st)) (the_alternatives (top (pop st))) m.no_statements ∷ pop (pop st)
+made g.OrEither st = guarded (opt_expression (top st)) (the_alternative (top (pop st))) ∷ pop (pop st)
+made g.OrAccept st = guarded (opt_expression (top st)) (the_alternative (top (pop st))) ∷ pop (pop st)
+made g.DelaysFirst st = unguarded (the_alternative (top st)) (m.more_alternatives (opt_expression (top (pop st))) (first_alternative (top (pop (pop st)))) (other_alternatives (top (pop (pop st))))) (else_part (top (pop (pop st)))) ∷ pop (pop (pop st))
+made g.TerminateFirst st = unguarded (the_alternative (top st)) (with_guarded (top (pop st)) (the_alternatives (top (pop (pop st))))) m.no_statements ∷ pop (pop (pop st))
+made g.AcceptAlternative st = an_alternative (m.accept_alternative (the_accept (top st)) (otherwise (top (pop st)))) ∷ pop (pop st)
+made g.DelayAlternative st = an_alternative (m.delay_alternative (the_delay (top st)) (otherwise (top (pop st)))) ∷ pop (pop st)
+made g.TerminateAlternative st = an_alternative m.terminate_alternative ∷ st
+made g.Protected st = a_declaration (protected_declared (place (top st)) (top (pop st))) ∷ pop (pop st)
+made g.ProtectedDeclaration st = a_protected (the_ident (top st)) (the_operations (top (pop st))) (opt_private (top (pop (pop st)))) (opt_ident (top (pop (pop (pop st))))) ∷ pop (pop (pop (pop st)))
+made g.PrivatePart st = some_private (the_private_items (top st)) ∷ pop st
+made g.PrivateOperation st = a_private_item (m.private_operation (the_operation (top st))) ∷ pop st
+made g.Components st = a_private_item (m.components (first_name (top st)) (other_names (top st)) (the_ident (top (pop st))) (opt_expression (top (pop (pop st))))) ∷ pop (pop (pop st))
+made g.EntryOperation st = an_operation (m.entry_operation (the_entry (top st))) ∷ pop st
+made g.ProcedureOperation st = an_operation (m.procedure_operation (the_ident (top st)) (the_formals (top (pop st)))) ∷ pop (pop st)
+made g.FunctionOperation st = an_operation (m.function_operation (the_ident (top st)) (the_formals (top (pop st))) (the_ident (top (pop (pop st))))) ∷ pop (pop (pop st))
+made g.ProtectedBody st = a_protected_body (the_ident (top st)) (the_operation_bodies (top (pop st))) (opt_ident (top (pop (pop st)))) ∷ pop (pop (pop st))
+made g.EntryBody st = an_operation_body (m.entry_body (place (top st)) (the_ident (top (pop st))) (the_formals (top (pop (pop st)))) (the_expression (top (pop (pop (pop st))))) (the_declarations (top (pop (pop (pop (pop st)))))) (the_body (top (pop (pop (pop (pop (pop st)))))))) ∷ pop (pop (pop (pop (pop (pop st)))))
+made g.ProcedureBody st = an_operation_body (m.procedure_body (place (top st)) (the_ident (top (pop st))) (the_formals (top (pop (pop st)))) (the_declarations (top (pop (pop (pop st))))) (the_body (top (pop (pop (pop (pop st))))))) ∷ pop (pop (pop (pop (pop st))))
+made g.FunctionBody st = an_operation_body (m.function_body (place (top st)) (the_ident (top (pop st))) (the_formals (top (pop (pop st)))) (the_ident (top (pop (pop (pop st))))) (the_declarations (top (pop (pop (pop (pop st)))))) (the_body (top (pop (pop (pop (pop (pop st)))))))) ∷ pop (pop (pop (pop (pop (pop st)))))
+made g.Abort st = a_statement (m.abort (place (top st)) (the_name (top (pop st))) (the_names (top (pop (pop st))))) ∷ pop (pop (pop st))
+made g.Requeue st = a_statement (m.requeue (place (top st)) (the_name (top (pop st))) (is_there (top (pop (pop st))))) ∷ pop (pop (pop st))
+made g.WithAbort st = there ∷ st
 made _ st = st

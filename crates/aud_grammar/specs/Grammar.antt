@@ -1,4 +1,4 @@
--- The grammar, as data: each phrase is a list of symbols.
+-- The grammar, as data: each phrase is a list of symbols. What is not let in yet has its rules too, and no choice leads to them.
 use Rattle.std.specs.Prelude.{List, [], ◌∷◌}
 use Rattle.aud_lex.specs.declared.token.Kind.{Kind}
 use Rattle.aud_lex.specs.declared.token.Kind.TheVariants as kind
@@ -23,6 +23,17 @@ pub data Phrase : Type 0 where
   Primary Integer String Named Attribute Group Parens InParens : Phrase
   Name NamePart Args InArgs : Phrase
   Identifier Number Literal : Phrase
+  -- no choice leads to these yet
+  Real DelayStatement Delay DelayTime Seconds DurationOf : Phrase
+  EntryDeclaration DefinitionWithEntries AcceptStatement Accept AcceptRest Do WithoutDo : Phrase
+  Select SelectRest CallSelect Otherwise OrDelay OrElsePart : Phrase
+  AcceptSelect Guard FirstAlternative AcceptsOnly AfterAccept SelectElse OrAny AnyAlternative : Phrase
+  WithDelays OrEither Either WithTerminate OrAccept DelaysFirst NeedAccept DelaysAccept TerminateFirst : Phrase
+  AcceptAlternative DelayAlternative TerminateAlternative : Phrase
+  Protected ProtectedRest ProtectedDeclaration PrivatePart PrivateItem PrivateOperation Components : Phrase
+  Operation EntryOperation ProcedureOperation FunctionOperation : Phrase
+  ProtectedBody OperationBody EntryBody ProcedureBody FunctionBody : Phrase
+  Abort MoreNames Requeue WithAbort : Phrase
 
 -- the identifiers that the grammar names (RM A.10.1, 9.6)
 pub data Word : Type 0 where
@@ -199,3 +210,77 @@ rule MoreArgs = T kind.Comma ∷ N Expression ∷ []
 rule Identifier = P kind.Identifier ∷ []
 rule Number = P kind.Integer ∷ []
 rule Literal = P kind.Text ∷ []
+-- What follows is not let in. A statement may then be AcceptStatement, DelayStatement, Select, Abort or Requeue, a declaration Protected, and
+-- the definition of a task DefinitionWithEntries.
+rule Real = P kind.Real ∷ []
+-- RM 9.6
+rule DelayStatement = N Delay ∷ []
+rule Delay = P kind.Delay ∷ N DelayTime ∷ T kind.Semicolon ∷ []
+rule DelayTime = A (Seconds ∷ DurationOf ∷ []) ∷ []
+rule Seconds = N Real ∷ []
+rule DurationOf = W Duration ∷ N Parens ∷ []
+-- RM 9.1(4), 9.5.2
+rule EntryDeclaration = T kind.Entry ∷ N Identifier ∷ Opt Formals ∷ T kind.Semicolon ∷ []
+rule DefinitionWithEntries = T kind.Is ∷ Rep EntryDeclaration ∷ T kind.End ∷ Opt Identifier ∷ []
+rule AcceptStatement = N Accept ∷ []
+rule Accept = P kind.Accept ∷ N Identifier ∷ Opt Formals ∷ N AcceptRest ∷ []
+rule AcceptRest = A (Do ∷ WithoutDo ∷ []) ∷ []
+rule Do = P kind.Do ∷ N Statements ∷ Opt Handlers ∷ P kind.End ∷ Opt Identifier ∷ P kind.Semicolon ∷ []
+rule WithoutDo = T kind.Semicolon ∷ []
+-- timed and conditional calls (RM 9.7.2, 9.7.3), and selective accepts
+rule Select = P kind.Select ∷ N SelectRest ∷ T kind.End ∷ T kind.Select ∷ T kind.Semicolon ∷ []
+rule SelectRest = A (CallSelect ∷ AcceptSelect ∷ []) ∷ []
+rule CallSelect = N Name ∷ T kind.Semicolon ∷ Opt Statements ∷ N Otherwise ∷ []
+rule Otherwise = A (OrDelay ∷ OrElsePart ∷ []) ∷ []
+rule OrDelay = T kind.Or ∷ N Delay ∷ Opt Statements ∷ []
+rule OrElsePart = N ElsePart ∷ []
+-- at least one accept, and beside accepts either delays, one terminate or an else part (RM 9.7.1): which of these there are decides what
+-- may follow
+rule AcceptSelect = Opt Guard ∷ N FirstAlternative ∷ []
+rule Guard = T kind.When ∷ N Expression ∷ T kind.Arrow ∷ []
+rule FirstAlternative = A (AcceptsOnly ∷ DelaysFirst ∷ TerminateFirst ∷ []) ∷ []
+-- accepts so far
+rule AcceptsOnly = N AcceptAlternative ∷ Opt AfterAccept ∷ []
+rule AfterAccept = A (SelectElse ∷ OrAny ∷ []) ∷ []
+rule SelectElse = N ElsePart ∷ []
+rule OrAny = T kind.Or ∷ Opt Guard ∷ N AnyAlternative ∷ []
+rule AnyAlternative = A (AcceptsOnly ∷ WithDelays ∷ WithTerminate ∷ []) ∷ []
+-- a delay behind accepts
+rule WithDelays = N DelayAlternative ∷ Rep OrEither ∷ []
+rule OrEither = T kind.Or ∷ Opt Guard ∷ N Either ∷ []
+rule Either = A (AcceptAlternative ∷ DelayAlternative ∷ []) ∷ []
+-- a terminate behind accepts
+rule WithTerminate = N TerminateAlternative ∷ Rep OrAccept ∷ []
+rule OrAccept = T kind.Or ∷ Opt Guard ∷ N AcceptAlternative ∷ []
+-- delays so far, and an accept behind them
+rule DelaysFirst = N DelayAlternative ∷ T kind.Or ∷ Opt Guard ∷ N NeedAccept ∷ []
+rule NeedAccept = A (DelaysFirst ∷ DelaysAccept ∷ []) ∷ []
+rule DelaysAccept = N AcceptAlternative ∷ Rep OrEither ∷ []
+-- a terminate, and accepts behind it
+rule TerminateFirst = N TerminateAlternative ∷ N OrAccept ∷ Rep OrAccept ∷ []
+rule AcceptAlternative = N Accept ∷ Opt Statements ∷ []
+rule DelayAlternative = N Delay ∷ Opt Statements ∷ []
+rule TerminateAlternative = T kind.Terminate ∷ T kind.Semicolon ∷ []
+-- RM 9.4
+rule Protected = P kind.Protected ∷ N ProtectedRest ∷ []
+rule ProtectedRest = A (ProtectedBody ∷ ProtectedDeclaration ∷ []) ∷ []
+rule ProtectedDeclaration = N Identifier ∷ T kind.Is ∷ Rep Operation ∷ Opt PrivatePart ∷ T kind.End ∷ Opt Identifier ∷ T kind.Semicolon ∷ []
+rule PrivatePart = T kind.Private ∷ Rep PrivateItem ∷ []
+rule PrivateItem = A (PrivateOperation ∷ Components ∷ []) ∷ []
+rule PrivateOperation = N Operation ∷ []
+rule Components = N Identifiers ∷ T kind.Colon ∷ N Identifier ∷ Opt Initial ∷ T kind.Semicolon ∷ []
+rule Operation = A (EntryOperation ∷ ProcedureOperation ∷ FunctionOperation ∷ []) ∷ []
+rule EntryOperation = N EntryDeclaration ∷ []
+rule ProcedureOperation = T kind.Procedure ∷ N Identifier ∷ Opt Formals ∷ T kind.Semicolon ∷ []
+rule FunctionOperation = T kind.Function ∷ N Identifier ∷ Opt Formals ∷ T kind.Return ∷ N Identifier ∷ T kind.Semicolon ∷ []
+rule ProtectedBody = T kind.Body ∷ N Identifier ∷ T kind.Is ∷ Rep OperationBody ∷ T kind.End ∷ Opt Identifier ∷ T kind.Semicolon ∷ []
+rule OperationBody = A (EntryBody ∷ ProcedureBody ∷ FunctionBody ∷ []) ∷ []
+rule EntryBody = P kind.Entry ∷ N Identifier ∷ Opt Formals ∷ T kind.When ∷ N Expression ∷ T kind.Is ∷ Opt Declarations ∷ N Body ∷ []
+rule ProcedureBody = P kind.Procedure ∷ N Identifier ∷ Opt Formals ∷ T kind.Is ∷ Opt Declarations ∷ N Body ∷ []
+rule FunctionBody = P kind.Function ∷ N Identifier ∷ Opt Formals ∷ T kind.Return ∷ N Identifier ∷ T kind.Is ∷ Opt Declarations ∷ N Body ∷ []
+-- RM 9.8
+rule Abort = P kind.Abort ∷ N Name ∷ Rep MoreNames ∷ T kind.Semicolon ∷ []
+rule MoreNames = T kind.Comma ∷ N Name ∷ []
+-- RM 9.5.4
+rule Requeue = P kind.Requeue ∷ N Name ∷ Opt WithAbort ∷ T kind.Semicolon ∷ []
+rule WithAbort = T kind.With ∷ T kind.Abort ∷ []

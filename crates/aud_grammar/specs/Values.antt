@@ -14,6 +14,34 @@ digits_value before (byte ∷ bytes) = digits_value (with_digit before byte) byt
 abbrev pub number_value : List ℕ → Option ℤ
 number_value text = if nat_le (digits_value 0 text) 2147483647 then Some (pos (digits_value 0 text)) else None
 
+-- the digits of a real number before and behind its point; underscores do not count (RM 2.4.1(4, 5))
+abbrev pub before_point : List ℕ → List ℕ
+before_point [] = []
+before_point (byte ∷ bytes) = if byte == 46 then [] else byte ∷ before_point bytes
+
+abbrev pub behind_point : List ℕ → List ℕ
+behind_point [] = []
+behind_point (byte ∷ bytes) = if byte == 46 then bytes else behind_point bytes
+
+abbrev pub only_digits : List ℕ → List ℕ
+only_digits [] = []
+only_digits (byte ∷ bytes) = if byte == 95 then only_digits bytes else byte ∷ only_digits bytes
+
+-- at most three digits, in thousandths
+abbrev pub thousandths : List ℕ → Option ℕ
+thousandths [] = Some 0
+thousandths (a ∷ []) = Some (with_digit 0 a * 100)
+thousandths (a ∷ b ∷ []) = Some (with_digit (with_digit 0 a) b * 10)
+thousandths (a ∷ b ∷ c ∷ []) = Some (with_digit (with_digit (with_digit 0 a) b) c)
+thousandths (a ∷ b ∷ c ∷ d ∷ bytes) = None
+
+-- the whole part of a real number, where it is one of the type Integer, and what stands behind its point
+abbrev pub whole_part : List ℕ → Option ℤ
+whole_part text = number_value (before_point text)
+
+abbrev pub decimals : List ℕ → Option ℕ
+decimals text = thousandths (only_digits (behind_point text))
+
 -- of two quotes in a string literal one is a character (RM 2.6(4, 5)): a quote is left out, except the second of two
 abbrev pub is_left_out : ℕ → Bool → Bool
 is_left_out byte behind_quote = byte == 34 && not behind_quote

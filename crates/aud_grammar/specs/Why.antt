@@ -2,6 +2,7 @@ pub mod Alike
 pub mod Begun
 pub mod ControlRows
 pub mod Derives
+pub mod LaterRows
 pub mod Laws
 pub mod ProcedureRows
 pub mod Rows

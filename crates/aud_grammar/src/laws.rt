@@ -5,6 +5,7 @@ ghost use Rattle.aud_grammar.specs.Why.Rows as rows;
 ghost use Rattle.aud_grammar.specs.Why.ControlRows as control;
 ghost use Rattle.aud_grammar.specs.Why.ProcedureRows as procedures;
 ghost use Rattle.aud_grammar.specs.Why.TaskRows as tasks;
+ghost use Rattle.aud_grammar.specs.Why.LaterRows as later;
 
 /// The tree that is read is the tree that the tokens spell.
 pub fn spells_law()
@@ -114,4 +115,20 @@ pub fn faults_of_tasks()
 /// The token at which such texts open a level too many.
 pub fn levels_of_tasks()
     ensures { tasks.LevelsOfTasks }
+{}
+
+/// The trees of small texts that are not let in yet, each as its phrase: entries, accept, delay,
+/// select, abort and requeue statements, protected objects.
+pub fn trees_of_later()
+    ensures { later.TreesOfLater }
+{}
+
+/// The token at which such texts go wrong.
+pub fn faults_of_later()
+    ensures { later.FaultsOfLater }
+{}
+
+/// The token at which such texts open a level too many.
+pub fn levels_of_later()
+    ensures { later.LevelsOfLater }
 {}

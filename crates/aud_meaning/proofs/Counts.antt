@@ -15,7 +15,7 @@ use Rattle.aud_meaning.specs.Run.{picks, Turn, resting, closing, completing, wit
 
 -- Moves of the task of a number.
 
-abbrev Of : ℕ → List Move → Type 0
+abbrev pub Of : ℕ → List Move → Type 0
 Of n [] = Unit {0}
 Of n (m ∷ ms) = (m.task ≡ n) × Of n ms
 
@@ -55,7 +55,7 @@ module _ (plan : Plan) (barrier : ℕ → Sight → Result Bool Raise) where
   acting_of (calling task entry) n c = call_of_task task entry n c
   acting_of (starting object reading) n c = only_of _ n
 
-  turn_of : (u : Turn) (n : ℕ) (c : All Seen) → Of n (turn_moves plan barrier u n c)
+  pub turn_of : (u : Turn) (n : ℕ) (c : All Seen) → Of n (turn_moves plan barrier u n c)
   turn_of resting n c = tt
   turn_of closing n c = only_of _ n
   turn_of completing n c = (refl, tt)

@@ -61,12 +61,12 @@ due_in t (m ∷ ms) ns h = inl (tt, h.1)
 kept_first : {A : Type 0} (f : A → Move) (b : Bool) (x : A) (xs ys : List A) → b ≡ true → Full (map f (if b then x ∷ xs else ys))
 kept_first f b x xs ys h = subst (λ e. Full (map f (if e then x ∷ xs else ys))) (sym h) tt
 
-module _ (plan : Plan) (barrier : ℕ → Sight → Result Bool Raise) (s : All Seen) (t : ℕ) where
-  -- the same at another time
+module _ (plan : Plan) (barrier : ℕ → Sight → Result Bool Raise) (s : All Seen) (choices : List ℕ) (t : ℕ) where
+  -- the same at another time, and with other choices waiting
   abbrev later : All Seen
-  later = record s { clock = t }
+  later = record s { choices = choices; clock = t }
 
-  -- What a task does next is the same at any time.
+  -- What a task does next is the same at any time, whichever choices wait.
 
   usual_same : (v : Option Serving) (status : Status) (n : ℕ) (x : TaskAt Seen) → usual plan barrier v status n x later ≡ usual plan barrier v status n x s
   usual_same (Some v) status n x = refl
@@ -115,7 +115,7 @@ module _ (plan : Plan) (barrier : ℕ → Sight → Result Bool Raise) (s : All 
   turn_by_same Completed n x = refl
   turn_by_same Terminated n x = refl
 
-  turn_same : (n : ℕ) (x : TaskAt Seen) → turn plan barrier n x later ≡ turn plan barrier n x s
+  pub turn_same : (n : ℕ) (x : TaskAt Seen) → turn plan barrier n x later ≡ turn plan barrier n x s
   turn_same n x = turn_by_same x.own.status n x
 
   -- Without a time no other time makes a difference.
@@ -225,10 +225,10 @@ module _ {C : Type 0} (plan : Plan) (k : Controls C) where
     Times = times_from plan k.barrier 0 s.tasks s
 
     -- the moves at some time, where the program has not ended and its output is not full
-    moves_then : (t : ℕ) → has_ended plan k.barrier s.tasks ≡ false → c.shared.cut ≡ false → moves_at plan k (record c { clock = t }) ≡ moves_from plan k.barrier 0 s.tasks (later plan k.barrier s t)
+    moves_then : (t : ℕ) → has_ended plan k.barrier s.tasks ≡ false → c.shared.cut ≡ false → moves_at plan k (record c { clock = t }) ≡ moves_from plan k.barrier 0 s.tasks (later plan k.barrier s c.choices t)
     moves_then t ended cut =
-        ap (λ b. moves_by plan k.barrier b c.shared.cut (later plan k.barrier s t)) ended
-        ∙ ap (λ b. moves_by plan k.barrier false b (later plan k.barrier s t)) cut
+        ap (λ b. moves_by plan k.barrier b c.shared.cut (later plan k.barrier s c.choices t)) ended
+        ∙ ap (λ b. moves_by plan k.barrier false b (later plan k.barrier s c.choices t)) cut
 
     state_then : has_ended plan k.barrier s.tasks ≡ false → c.shared.cut ≡ false → state_at plan k c ≡ some_move plan k.barrier (moves_from plan k.barrier 0 s.tasks s) s
     state_then ended cut =
@@ -244,7 +244,7 @@ module _ {C : Type 0} (plan : Plan) (k : Controls C) where
           not_full = cut;
           no_move = λ times.
               ap (λ d. moves_at plan k d) (waited_is times c) ∙ moves_then (clock_after times c.clock) ended cut
-              ∙ moves_still plan k.barrier s (clock_after times c.clock) 0 s.tasks timeless ∙ none;
+              ∙ moves_still plan k.barrier s c.choices (clock_after times c.clock) 0 s.tasks timeless ∙ none;
         }
 
         timed : (times : List ℕ) → Times ≡ times → has_ended plan k.barrier s.tasks ≡ false → c.shared.cut ≡ false → moves_from plan k.barrier 0 s.tasks s ≡ [] → IsStuck (waiting_by plan k.barrier times) → NothingCanHappen C plan k c
@@ -272,8 +272,8 @@ module _ {C : Type 0} (plan : Plan) (k : Controls C) where
         by (m ∷ ms) e =
             let t : ℕ = c.clock + m in
             let due : Due t Times = subst (λ times. Due t times) (sym e) (tt, omega arith) in
-            let none : moves_from plan k.barrier 0 s.tasks (later plan k.barrier s t) ≡ [] = sym (moves_then t r.not_ended r.not_full) ∙ r.no_move (m ∷ []) in
-            absurd (subst (λ xs. Full xs) none (moves_due plan k.barrier s t 0 s.tasks due))
+            let none : moves_from plan k.barrier 0 s.tasks (later plan k.barrier s c.choices t) ≡ [] = sym (moves_then t r.not_ended r.not_full) ∙ r.no_move (m ∷ []) in
+            absurd (subst (λ xs. Full xs) none (moves_due plan k.barrier s c.choices t 0 s.tasks due))
 
 pub stuck_law : {C : Type 0} → StuckLaw C
 stuck_law = λ plan k c. (rests plan k c, is_stuck plan k c)

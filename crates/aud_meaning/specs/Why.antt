@@ -4,3 +4,4 @@ pub mod Carried
 pub mod Alone
 pub mod Stuck
 pub mod Limits
+pub mod Open

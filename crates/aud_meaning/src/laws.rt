@@ -7,6 +7,7 @@ ghost use Rattle.aud_meaning.specs.Why.Alone.{AloneLaw};
 ghost use Rattle.aud_meaning.specs.Why.Carried.{CarriedLaw};
 ghost use Rattle.aud_meaning.specs.Why.Stuck.{StuckLaw};
 ghost use Rattle.aud_meaning.specs.Why.Limits.{LimitsLaw};
+ghost use Rattle.aud_meaning.specs.Why.Open.{OpenLaw};
 
 /// A run may be cut anywhere.
 pub fn cut_law()
@@ -41,4 +42,9 @@ pub fn stuck_law()
 /// A program keeps the limits of its machine, whichever moves are taken.
 pub fn limits_law()
     ensures { LimitsLaw (List Item) }
+{}
+
+/// Between steps no call is queued on an open task entry, whichever enabled moves are taken.
+pub fn open_entry_law()
+    ensures { OpenLaw }
 {}

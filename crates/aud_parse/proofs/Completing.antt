@@ -48,6 +48,20 @@ exit_among {S = S} x e res is h before =
     let p = err_from_is_err_and res is in
     rw (p.1, p.2) (record { reads = fails_in S e h before; shorter = tt })
 
+-- several symbols that are read as the first of others, and the exit by a `?` of what has read them
+fails_more : (S s : List Symbol) (K : List Symbol → List Symbol) {r r' : ℕ} {ts ts' : List Element} {f : List Item → List Item} (e : Fault) →
+    FailsIn s r' ts' e → ((k : List Symbol) (ds : List Item) (v : Verdict) → Out (s ++ K k) r' ts' ds v → Out (S ++ k) r ts (f ds) v) → FailsIn S r ts e
+fails_more S s K fault.Memory h before = tt
+fails_more S s K {f = f} (fault.Wrong rest) h before = λ k. let o = h (K k) in (f o.0, before k o.0 _ o.1)
+fails_more S s K {f = f} (fault.Deep rest) h before = λ k. let o = h (K k) in (f o.0, before k o.0 _ o.1)
+
+pub exit_more : {S : List Symbol} (s : List Symbol) (K : List Symbol → List Symbol) {r r' : ℕ} {start : Rest} {ts' : List Element} {f : List Item → List Item} {X : Type 0} (x : X → List Item) (e : Fault)
+    (res : Result (X × Rest) Fault) → IsErrAnd res (λ y. y ≡ e) → FailsIn s r' ts' e →
+    ((k : List Symbol) (ds : List Item) (v : Verdict) → Out (s ++ K k) r' ts' ds v → Out (S ++ k) r start.tokens.now (f ds) v) → ReadsAll x S r start res
+exit_more {S = S} s K x e res is h before =
+    let p = err_from_is_err_and res is in
+    rw (p.1, p.2) (record { reads = fails_more S s K e h before; shorter = tt })
+
 -- what completes a tree behind symbols that are passed before
 pub completes_in : {make make' : List Item → List Item} {S s : List Symbol} {r : ℕ} (f : List Item → List Item) {X : Type 0} (x : X → Item) (start mid : Rest) (res : Result (X × Rest) Fault) → Completes make x s r mid res → NoMore mid start →
     ((k : List Symbol) (ds : List Item) (v : Verdict) → Out (s ++ k) r mid.tokens.now ds v → Out (S ++ k) r start.tokens.now (f ds) v) → ((ds : List Item) → make' (f ds) ≡ make ds) → Completes make' x S r start res

@@ -5,15 +5,15 @@
 
 ghost use Rattle.std.specs.Prelude.{◌≡◌, ◌++◌, ◌∷◌, [], map, IfOk, Some};
 ghost use Rattle.aud_syntax.specs.Plain as m;
-ghost use Rattle.aud_syntax.specs.Ties.View.{plain_name, plain_expression, plain_statement, plain_statements, plain_others, plain_iteration, arm_list, plain_choices, handler_list, plain_body, plain_formal, plain_declaration, plain_declarations};
+ghost use Rattle.aud_syntax.specs.Ties.View.{plain_name, plain_expression, plain_statement, plain_statements, plain_others, plain_iteration, arm_list, plain_choices, handler_list, plain_body, plain_done, plain_accept, plain_formal, plain_declaration, plain_declarations};
 ghost use Rattle.aud_grammar.specs.Actions.{begin_of};
 ghost use Rattle.aud_parse.specs.Ties.Parts.{assigned_or_called, else_statements, iteration_of, begins_at, declared_in, is_declared, declares_at};
 
 use crate::scheme::Scheme;
 use aud_syntax::tree::{
-    Arm, BlockStatement, Body, Choices, Declaration, Expression, Formal, Handler, Ident,
-    IfStatement, Iteration, LoopStatement, Name, ProcedureDeclaration, Statement, Statements,
-    TaskBody,
+    AcceptStatement, Arm, BlockStatement, Body, Choices, Declaration, Expression, Formal, Handler,
+    Ident, IfStatement, Iteration, LoopStatement, Name, ProcedureDeclaration, Statement,
+    Statements, TaskBody,
 };
 use aud_text::place::Pos;
 use std::alloc::{AllocError, Global};
@@ -27,7 +27,7 @@ pub type End = (Option<Ident>, Pos);
 /// The declarations of a block behind `declare`, and where that stands.
 pub type Declare = (Pos, Vec<Declaration>);
 
-/// The name of a procedure, and its formal parameters.
+/// A name, and the formal parameters behind it.
 pub type Specification = (Ident, Vec<Formal>);
 
 /// A list with one tree more.
@@ -314,6 +314,30 @@ pub fn made_procedure(
     )?;
     let boxed = Box::new(alloc, Declaration::Procedure(procedure))?;
     Ok(boxed)
+}
+
+/// An accept statement (RM 9.5.2(3)).
+#[inline(never)]
+pub fn made_accept(
+    alloc: Global,
+    at: Pos,
+    head: Specification,
+    doing: Option<Box<Body>>,
+) -> Result<Box<AcceptStatement>, AllocError>
+    ensures { IfOk result (λ b. plain_accept b.value ≡
+        m.accept at head.0 (map plain_formal head.1.items) (plain_done doing)) }
+{
+    let (name, formals) = head;
+    let statement = Box::new(
+        alloc,
+        AcceptStatement {
+            at,
+            name,
+            formals,
+            doing,
+        },
+    )?;
+    Ok(statement)
 }
 
 /// The body of a task (RM 9.1(6)).

@@ -70,14 +70,24 @@ fn opt_formals(alloc: Global, start: Rest, room: u32) -> Read<Vec<Formal>>
     Ok((none, start))
 }
 
+/// A name, and the formal parameters behind it (RM 6.1, 9.5.2).
+#[inline(never)]
+pub fn head(alloc: Global, start: Rest, room: u32) -> Read<Specification>
+    ensures { ReadsAll specification_items
+        (N g.Identifier ∷ Opt g.Formals ∷ []) room start.entry result }
+{
+    let (name, rest) = ident(alloc, start)?;
+    let (parts, rest) = both(name, opt_formals(alloc, rest, room))?;
+    Ok((parts, rest))
+}
+
 /// The name of a procedure, its formal parameters, and the `is` behind them (RM 6.1, 6.3).
 #[inline(never)]
 pub fn specification(alloc: Global, start: Rest, room: u32) -> Read<Specification>
     ensures { ReadsAll specification_items
         (N g.Identifier ∷ Opt g.Formals ∷ T kind.Is ∷ []) room start.entry result }
 {
-    let (name, rest) = ident(alloc, start)?;
-    let ((name, formals), rest) = both(name, opt_formals(alloc, rest, room))?;
-    let (parts, rest) = ended((name, formals), rest, Kind::Is)?;
+    let (parts, rest) = head(alloc, start, room)?;
+    let (parts, rest) = ended(parts, rest, Kind::Is)?;
     Ok((parts, rest))
 }

@@ -3,6 +3,7 @@
 
 mod build;
 mod declaration;
+mod entry;
 mod formals;
 mod parser;
 mod scheme;

@@ -547,6 +547,18 @@ fn end_body<'a>(
     Ok((body, rest))
 }
 
+/// Statements with handlers, behind their first word (RM 11.2).
+#[cycle(statement)]
+fn in_body<'a>(alloc: Global, begin: &Token, start: Rest<'a>, room: u32) -> Read<'a, Box<Body>>
+    ensures { Completes (λ es. made g.Body (token begin.now ∷ es)) boxed_body_item
+        (N g.Statements ∷ Opt g.Handlers ∷ P kind.End ∷ Opt g.Identifier ∷ P kind.Semicolon ∷ [])
+        room start.entry result }
+{
+    let (inner, rest) = statements(alloc, start, room)?;
+    let (handlers, rest) = opt_handlers(alloc, rest, room)?;
+    end_body(alloc, (inner, handlers), begin, rest)
+}
+
 /// Statements with handlers, between `begin` and `end` (RM 6.3, 11.2).
 #[cycle(statement)]
 #[inline(never)]
@@ -554,7 +566,5 @@ pub fn body(alloc: Global, start: Rest, room: u32) -> Read<Box<Body>>
     ensures { Reads boxed_body_item (N g.Body) room start.entry result }
 {
     let (begin, rest) = token(start, Kind::Begin)?;
-    let (inner, rest) = statements(alloc, rest, room)?;
-    let (handlers, rest) = opt_handlers(alloc, rest, room)?;
-    end_body(alloc, (inner, handlers), begin, rest)
+    in_body(alloc, begin, rest, room)
 }

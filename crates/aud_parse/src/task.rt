@@ -6,8 +6,9 @@ ghost use Rattle.aud_grammar.specs.Grammar.{N, Opt};
 ghost use Rattle.aud_grammar.specs.Actions.{token, made};
 ghost use Rattle.aud_cursor.specs.Ties.Items.{opt_item};
 ghost use Rattle.aud_parse.specs.Ties.Items.{definition_item, task_item, boxed_declaration_item};
-ghost use Rattle.aud_cursor.specs.Ties.Reads.{ReadsFlat, MayReadFlat, Completes};
+ghost use Rattle.aud_cursor.specs.Ties.Reads.{Reads, ReadsFlat, MayReadFlat, Completes};
 
+use crate::entry::entries;
 use aud_cursor::behind::{both, ended};
 use aud_cursor::cursor::{Read, Rest, accept, word};
 use aud_cursor::leaf::{ident, mark, opt_ident};
@@ -22,9 +23,21 @@ fn opt_definition(alloc: Global, start: Rest) -> Read<Option<TaskDefinition>>
     if let Some((_, behind)) = accept(start, Kind::Is) {
         let rest = word(behind, Kind::End)?;
         let (end_name, rest) = opt_ident(alloc, rest)?;
-        return Ok((Some(TaskDefinition { end_name }), rest));
+        let entries = Vec::new(alloc);
+        return Ok((Some(TaskDefinition { entries, end_name }), rest));
     }
     Ok((None, start))
+}
+
+/// The definition of a task with entries. No program has one yet.
+fn definition(alloc: Global, start: Rest, room: u32) -> Read<TaskDefinition>
+    ensures { Reads definition_item (N g.DefinitionWithEntries) room start.entry result }
+{
+    let rest = word(start, Kind::Is)?;
+    let (entries, rest) = entries(alloc, rest, room)?;
+    let (entries, rest) = ended(entries, rest, Kind::End)?;
+    let ((entries, end_name), rest) = both(entries, opt_ident(alloc, rest))?;
+    Ok((TaskDefinition { entries, end_name }, rest))
 }
 
 /// Whether a type is declared, the name, and the definition, if there is one.

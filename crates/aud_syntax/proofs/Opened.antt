@@ -22,12 +22,18 @@ use Rattle.aud_syntax.specs.declared.tree.Name as name
 use Rattle.aud_syntax.specs.declared.tree.Name.{out-Name, roll-Name, roll-out-Name, rolls-Name', Row_of-NamePart, end_of-NamePart, more_of-NamePart, items-the_row-NamePart, items_hidden-the_row-NamePart-2}
 use Rattle.aud_syntax.specs.declared.tree.Primary as primary
 use Rattle.aud_syntax.specs.declared.tree.Statement.{Statement, Row_of-Statement, end_of-Statement, more_of-Statement, items-the_row-Statement, items_hidden-the_row-Statement-0, items_shown-the_row-Statement-0}
-use Rattle.aud_syntax.specs.declared.tree.Statement.TheVariants.{Loop}
-use Rattle.aud_syntax.specs.declared.tree.Declaration.TheBlock.{hidden-the_row-Statement-0, shown-the_row-Statement-0, shown-the_row-Declaration-1, shown-the_row-Handler-2, shown-the_row-Arm-3}
+use Rattle.aud_syntax.specs.declared.tree.Statement.TheVariants.{Loop, SelectCall}
+use Rattle.aud_syntax.specs.declared.tree.Alternative.TheBlock.{hidden-the_row-Statement-0, shown-the_row-Statement-0, shown-the_row-Declaration-1, shown-the_row-Handler-2, shown-the_row-Arm-3, shown-the_row-Guarded-4}
 use Rattle.aud_syntax.specs.declared.tree.IfStatement.{IfStatement, IfStatement', out-IfStatement, roll-IfStatement, out-roll-IfStatement, Row_of-Arm, end_of-Arm, more_of-Arm, items-the_row-Arm, items_shown-the_row-Arm-3}
 use Rattle.aud_syntax.specs.declared.tree.Arm.{Arm}
 use Rattle.aud_syntax.specs.declared.tree.Handler.{Handler}
 use Rattle.aud_syntax.specs.declared.tree.Statements.{Statements}
+use Rattle.aud_syntax.specs.declared.tree.AcceptStatement.{AcceptStatement, AcceptStatement', out-AcceptStatement, roll-AcceptStatement, out-roll-AcceptStatement, None', Some'}
+use Rattle.aud_syntax.specs.declared.tree.Delay.{Delay}
+use Rattle.aud_syntax.specs.declared.tree.SelectStatement.{SelectStatement, SelectStatement', out-SelectStatement, Row_of-Guarded, end_of-Guarded, more_of-Guarded, items-the_row-Guarded, items_shown-the_row-Guarded-4}
+use Rattle.aud_syntax.specs.declared.tree.SelectedCall.{SelectedCall}
+use Rattle.aud_syntax.specs.declared.tree.Alternative.TheVariants as alternative
+use Rattle.aud_syntax.specs.declared.tree.Otherwise.TheVariants as otherwise
 use Rattle.aud_syntax.specs.declared.tree.Formal.{Formal}
 use Rattle.aud_syntax.specs.declared.tree.Declaration.{Declaration}
 use Rattle.aud_syntax.specs.declared.tree.ProcedureDeclaration.{ProcedureDeclaration, ProcedureDeclaration', out-ProcedureDeclaration, roll-ProcedureDeclaration, out-roll-ProcedureDeclaration}
@@ -36,7 +42,7 @@ use Rattle.aud_text.specs.declared.place.Pos.{Pos}
 use Rattle.aud_syntax.specs.declared.tree.LoopStatement.{LoopStatement}
 use Rattle.aud_syntax.specs.declared.tree.BlockStatement.{BlockStatement, BlockStatement', out-BlockStatement, roll-BlockStatement, out-roll-BlockStatement, Row_of-Declaration, end_of-Declaration, more_of-Declaration, items-the_row-Declaration, items_shown-the_row-Declaration-1}
 use Rattle.aud_syntax.specs.declared.tree.Body.{Body, Body', out-Body, roll-Body, out-roll-Body, Row_of-Handler, end_of-Handler, more_of-Handler, items-the_row-Handler, items_shown-the_row-Handler-2}
-use Rattle.aud_syntax.specs.Ties.View.{plain_expression, plain_boxed, plain_expressions, plain_args, plain_name, plain_part, plain_parts, part_list, plain_primary, plain_relation, plain_relations, relation_list, plain_chain, plain_comparison, plain_simple, plain_addeds, plain_added, plain_term, plain_multiplieds, plain_multiplied, plain_factor, plain_statement, plain_row, plain_others, plain_statements, plain_if, plain_arms, arm_list, plain_iteration, plain_if_statement, plain_loop_statement, plain_choices, plain_body, plain_handlers, handler_list, plain_body_parts, plain_block, plain_block_statement, plain_formal, plain_declaration, plain_declaration_row, plain_declarations, plain_procedure, plain_procedure_parts, plain_task_body, plain_task_body_parts}
+use Rattle.aud_syntax.specs.Ties.View.{plain_expression, plain_boxed, plain_expressions, plain_args, plain_name, plain_part, plain_parts, part_list, plain_primary, plain_relation, plain_relations, relation_list, plain_chain, plain_comparison, plain_simple, plain_addeds, plain_added, plain_term, plain_multiplieds, plain_multiplied, plain_factor, plain_statement, plain_row, plain_others, plain_statements, plain_if, plain_arms, arm_list, plain_iteration, plain_if_statement, plain_loop_statement, plain_choices, plain_body, plain_handlers, handler_list, plain_body_parts, plain_block, plain_block_statement, plain_formal, plain_declaration, plain_declaration_row, plain_declarations, plain_procedure, plain_procedure_parts, plain_task_body, plain_task_body_parts, plain_maybe, plain_delay, plain_accept, plain_accept_parts, plain_done, plain_select, plain_select_statement, plain_alternative, plain_alternatives, guarded_list, plain_selected_call, plain_other}
 use Rattle.aud_syntax.specs.Plain as m
 
 abbrev pub multiplied_list : List Multiplied → m.Multiplieds
@@ -149,6 +155,47 @@ pub if_roll : (first : Arm) (others : Vec Arm Global) (otherwise : Vec Statement
 if_roll first others otherwise =
     if_open (roll-IfStatement (record { first = first; others = others; otherwise = otherwise }))
     ∙ ap (λ x. m.if_then x.first.at (plain_expression x.first.condition) (plain_statements x.first.statements) (arm_list x.others.items) (plain_others x.otherwise.items)) (out-roll-IfStatement (record { first = first; others = others; otherwise = otherwise }))
+
+-- RM 9.5.2, 9.7
+
+pub accept_open : (x : AcceptStatement) → plain_accept x ≡ plain_accept_parts x
+unfolding out-AcceptStatement denote.Hole.Carrier.out
+accept_open (AcceptStatement' at i formals None') = refl
+accept_open (AcceptStatement' at i formals (Some' p x)) = refl
+
+-- an accept statement as it is made of its parts
+pub accept_roll : (at : Pos) (i : Ident) (formals : Vec Formal Global) (doing : Option (Box Body Global)) →
+    plain_accept (roll-AcceptStatement (record { at = at; name = i; formals = formals; doing = doing })) ≡ m.accept at i (map plain_formal formals.items) (plain_done doing)
+accept_roll at i formals doing =
+    accept_open (roll-AcceptStatement (record { at = at; name = i; formals = formals; doing = doing })) ∙ ap (λ y. m.accept y.at y.name (map plain_formal y.formals.items) (plain_done y.doing)) (out-roll-AcceptStatement (record { at = at; name = i; formals = formals; doing = doing }))
+
+guarded_rows : (n : _) (row : Row_of-Guarded n) → plain_alternatives row ≡ guarded_list (items-the_row-Guarded n row)
+guarded_rows n end_of-Guarded = refl
+guarded_rows n (more_of-Guarded guard x row) = ap (λ z. m.more_alternatives (plain_maybe guard) (plain_alternative x) z) (guarded_rows _ row)
+
+guarded_shown : (shape : Vec (Unit {0}) Global) (row : Row_of-Guarded (list_count (this {0}) shape.items 0)) → plain_alternatives row ≡ guarded_list (shown-the_row-Guarded-4 shape row).items
+guarded_shown shape row = guarded_rows _ row ∙ ap guarded_list (sym (items_shown-the_row-Guarded-4 shape row))
+
+pub select_open : (x : SelectStatement) → plain_select x ≡ plain_select_statement x
+unfolding out-SelectStatement shown-the_row-Statement-0 shown-the_row-Guarded-4 denote.Hole.Carrier.out
+select_open (SelectStatement' at guard x shape others else_shape otherwise) =
+    ap (λ z. m.select_accept at (plain_maybe guard) (plain_alternative x) z (plain_row otherwise)) (guarded_shown shape others)
+    ∙ ap (λ z. m.select_accept at (plain_maybe guard) (plain_alternative x) (guarded_list (shown-the_row-Guarded-4 shape others).items) z) (statements_shown else_shape otherwise)
+
+pub selected_call_open : (x : Box SelectedCall Global) → plain_statement (SelectCall x) ≡ plain_selected_call x.value
+selected_call_open x = ap (λ z. m.select_call x.value.at (plain_name x.value.call) z (plain_other x.value.otherwise)) (others_are x.value.behind)
+
+pub accept_alternative_open : (x : AcceptStatement) (v : Vec Statement Global) → plain_alternative (alternative.Accept x v) ≡ m.accept_alternative (plain_accept x) (plain_others v.items)
+accept_alternative_open x v = ap (λ z. m.accept_alternative (plain_accept x) z) (others_are v)
+
+pub delay_alternative_open : (x : Delay) (v : Vec Statement Global) → plain_alternative (alternative.Delay x v) ≡ m.delay_alternative (plain_delay x) (plain_others v.items)
+delay_alternative_open x v = ap (λ z. m.delay_alternative (plain_delay x) z) (others_are v)
+
+pub or_delay_open : (x : Delay) (v : Vec Statement Global) → plain_other (otherwise.Delay x v) ≡ m.or_delay (plain_delay x) (plain_others v.items)
+or_delay_open x v = ap (λ z. m.or_delay (plain_delay x) z) (others_are v)
+
+pub or_else_open : (x : Statements) → plain_other (otherwise.Else x) ≡ m.or_else (plain_statements x)
+or_else_open x = ap (λ z. m.or_else (m.in_order (plain_statement x.first) z)) (others_are x.others)
 
 handler_rows : (n : _) (row : Row_of-Handler n) → plain_handlers row ≡ handler_list (items-the_row-Handler n row)
 handler_rows n end_of-Handler = refl

@@ -7,7 +7,7 @@ use Rattle.std.specs.Prelude.{codes}
 use Rattle.aud_lex.specs.Why.Spaced.{Word, word, last_word, separator, spaced}
 use Rattle.aud_syntax.specs.declared.tree.Expression.{Expression}
 use Rattle.aud_syntax.specs.Plain as m
-use Rattle.std.specs.Prelude.{Option, None, Box}
+use Rattle.std.specs.Prelude.{Option, None, Box, Vec}
 use Rattle.std.specs.Global.{Global}
 use Rattle.std.proofs.Common.{append-nil, subst}
 use Rattle.aud_syntax.specs.declared.tree.Ident.{Ident}
@@ -16,7 +16,7 @@ use Rattle.aud_syntax.specs.declared.tree.Chain.{Chain}
 use Rattle.aud_syntax.specs.declared.tree.Expression.TheVariants.{Connected}
 use Rattle.aud_syntax.specs.declared.tree.Primary as primary
 use Rattle.aud_syntax.specs.declared.tree.Statement.{Statement}
-use Rattle.aud_syntax.specs.declared.tree.Statement.TheVariants.{Loop}
+use Rattle.aud_syntax.specs.declared.tree.Statement.TheVariants.{Loop, SelectCall}
 use Rattle.aud_syntax.specs.declared.tree.IfStatement.{IfStatement}
 use Rattle.aud_syntax.specs.declared.tree.LoopStatement.{LoopStatement}
 use Rattle.aud_syntax.specs.declared.tree.BlockStatement.{BlockStatement}
@@ -24,10 +24,17 @@ use Rattle.aud_syntax.specs.declared.tree.Body.{Body}
 use Rattle.aud_syntax.specs.declared.tree.Formal.{Formal}
 use Rattle.aud_syntax.specs.declared.tree.ProcedureDeclaration.{ProcedureDeclaration}
 use Rattle.aud_syntax.specs.declared.tree.TaskBody.{TaskBody}
+use Rattle.aud_syntax.specs.declared.tree.Statements.{Statements}
+use Rattle.aud_syntax.specs.declared.tree.AcceptStatement.{AcceptStatement}
+use Rattle.aud_syntax.specs.declared.tree.Delay.{Delay}
+use Rattle.aud_syntax.specs.declared.tree.SelectStatement.{SelectStatement}
+use Rattle.aud_syntax.specs.declared.tree.SelectedCall.{SelectedCall}
+use Rattle.aud_syntax.specs.declared.tree.Alternative.TheVariants as alternative
+use Rattle.aud_syntax.specs.declared.tree.Otherwise.TheVariants as otherwise
 use Rattle.aud_syntax.specs.declared.tree.Handler.{Handler}
-use Rattle.aud_syntax.specs.Ties.View.{plain_expression, plain_chain, plain_boxed, plain_expressions, plain_name, plain_primary, plain_statement, plain_others, plain_if, plain_if_statement, plain_loop_statement, plain_block, plain_block_statement, plain_body, plain_body_parts, handler_list, plain_formal, plain_procedure, plain_procedure_parts, plain_task_body, plain_task_body_parts}
-use Rattle.aud_syntax.specs.Why.Printed.{ident_word, expression_words, name_words, primary_words, argument_words, args_words, more_args_words, otherwise_words, statement_words, more_statements_words, body_words, handled_words, handlers_words, formal_words, more_formals_words, formals_words, declaration_words}
-use Rattle.aud_syntax.proofs.Opened.{chain_open, attribute_open, if_open, loop_open, block_open, body_open, procedure_open, task_body_open}
+use Rattle.aud_syntax.specs.Ties.View.{plain_expression, plain_chain, plain_boxed, plain_expressions, plain_name, plain_primary, plain_statement, plain_others, plain_if, plain_if_statement, plain_loop_statement, plain_block, plain_block_statement, plain_body, plain_body_parts, handler_list, plain_formal, plain_procedure, plain_procedure_parts, plain_task_body, plain_task_body_parts, plain_statements, plain_delay, plain_accept, plain_accept_parts, plain_select, plain_select_statement, plain_selected_call, plain_alternative, plain_other}
+use Rattle.aud_syntax.specs.Why.Printed.{ident_word, expression_words, name_words, primary_words, argument_words, args_words, more_args_words, otherwise_words, statement_words, more_statements_words, body_words, handled_words, handlers_words, formal_words, more_formals_words, formals_words, declaration_words, statements_words, words_behind, delay_words, accept_words, doing_words, alternative_words, other_words}
+use Rattle.aud_syntax.proofs.Opened.{chain_open, attribute_open, if_open, loop_open, block_open, body_open, procedure_open, task_body_open, accept_open, select_open, selected_call_open, accept_alternative_open, delay_alternative_open, or_delay_open, or_else_open}
 
 pub spaced_append : (a b : List Word) → spaced (a ++ b) ≡ spaced a ++ spaced b
 spaced_append [] b = refl
@@ -130,6 +137,59 @@ task_body_written r old new x h = written_as declaration_words r old new (plain_
 -- statements with handlers, by their parts
 pub body_written : {X E : Type 0} (r : Result X E) (old new : List ℕ) (x : Body) → OnOk r (new ≡ old ++ spaced (body_words (plain_body_parts x))) → OnOk r (new ≡ old ++ spaced (body_words (plain_body x)))
 body_written r old new x h = written_as body_words r old new (plain_body x) (plain_body_parts x) (body_open x) h
+
+-- the same behind another word than `begin`
+
+body_behind : (x : m.Body) → body_words x ≡ words_behind (codes "begin") x
+body_behind (m.body begin statements hs end last semicolon) = refl
+
+doing_behind : (x : m.Body) → doing_words (m.with_do x) ≡ words_behind (codes "do") x
+doing_behind (m.body begin statements hs end last semicolon) = refl
+
+pub enclosed_written : {X E : Type 0} (r : Result X E) (old new spelling : List ℕ) (x : Body) → OnOk r (new ≡ old ++ spaced (words_behind spelling (plain_body_parts x))) → OnOk r (new ≡ old ++ spaced (words_behind spelling (plain_body x)))
+enclosed_written r old new spelling x h = written_as (words_behind spelling) r old new (plain_body x) (plain_body_parts x) (body_open x) h
+
+pub begin_written : {X E : Type 0} (r : Result X E) (old new : List ℕ) (x : m.Body) → OnOk r (new ≡ old ++ spaced (words_behind (codes "begin") x)) → OnOk r (new ≡ old ++ spaced (body_words x))
+begin_written r old new x h = subst (λ z. OnOk r (new ≡ old ++ spaced z)) (sym (body_behind x)) h
+
+pub do_written : {X E : Type 0} (r : Result X E) (old new : List ℕ) (x : m.Body) → OnOk r (new ≡ old ++ spaced (words_behind (codes "do") x)) → OnOk r (new ≡ old ++ spaced (doing_words (m.with_do x)))
+do_written r old new x h = subst (λ z. OnOk r (new ≡ old ++ spaced z)) (sym (doing_behind x)) h
+
+-- accept and select statements, by their parts
+
+pub accept_written : {X E : Type 0} (r : Result X E) (old new : List ℕ) (x : AcceptStatement) → OnOk r (new ≡ old ++ spaced (accept_words (plain_accept_parts x))) → OnOk r (new ≡ old ++ spaced (accept_words (plain_accept x)))
+accept_written r old new x h = written_as accept_words r old new (plain_accept x) (plain_accept_parts x) (accept_open x) h
+
+pub select_written : {X E : Type 0} (r : Result X E) (old new : List ℕ) (x : SelectStatement) → OnOk r (new ≡ old ++ spaced (statement_words (plain_select_statement x))) → OnOk r (new ≡ old ++ spaced (statement_words (plain_select x)))
+select_written r old new x h = written_as statement_words r old new (plain_select x) (plain_select_statement x) (select_open x) h
+
+pub selected_call_written : {X E : Type 0} (r : Result X E) (old new : List ℕ) (x : Box SelectedCall Global) → OnOk r (new ≡ old ++ spaced (statement_words (plain_selected_call x.value))) → OnOk r (new ≡ old ++ spaced (statement_words (plain_statement (SelectCall x))))
+selected_call_written r old new x h = written_as statement_words r old new (plain_statement (SelectCall x)) (plain_selected_call x.value) (selected_call_open x) h
+
+pub accept_alternative_written : {X E : Type 0} (r : Result X E) (old mid new : List ℕ) (x : AcceptStatement) (v : Vec Statement Global) → mid ≡ old ++ spaced (accept_words (plain_accept x)) → OnOk r (new ≡ mid ++ spaced (more_statements_words (plain_others v.items))) →
+    OnOk r (new ≡ old ++ spaced (alternative_words (plain_alternative (alternative.Accept x v))))
+accept_alternative_written r old mid new x v h k =
+    written_as alternative_words r old new (plain_alternative (alternative.Accept x v)) (m.accept_alternative (plain_accept x) (plain_others v.items)) (accept_alternative_open x v)
+    (all_written r old mid new (accept_words (plain_accept x)) (more_statements_words (plain_others v.items)) h k)
+
+pub delay_alternative_written : {X E : Type 0} (r : Result X E) (old mid new : List ℕ) (x : Delay) (v : Vec Statement Global) → mid ≡ old ++ spaced (delay_words (plain_delay x)) → OnOk r (new ≡ mid ++ spaced (more_statements_words (plain_others v.items))) →
+    OnOk r (new ≡ old ++ spaced (alternative_words (plain_alternative (alternative.Delay x v))))
+delay_alternative_written r old mid new x v h k =
+    written_as alternative_words r old new (plain_alternative (alternative.Delay x v)) (m.delay_alternative (plain_delay x) (plain_others v.items)) (delay_alternative_open x v)
+    (all_written r old mid new (delay_words (plain_delay x)) (more_statements_words (plain_others v.items)) h k)
+
+pub or_delay_written : {X E : Type 0} (r : Result X E) (old first mid new : List ℕ) (x : Delay) (v : Vec Statement Global) → first ≡ old ++ spaced (last_word (codes "or") ∷ []) → mid ≡ first ++ spaced (delay_words (plain_delay x)) →
+    OnOk r (new ≡ mid ++ spaced (more_statements_words (plain_others v.items))) → OnOk r (new ≡ old ++ spaced (other_words (plain_other (otherwise.Delay x v))))
+or_delay_written r old first mid new x v h k l =
+    written_as other_words r old new (plain_other (otherwise.Delay x v)) (m.or_delay (plain_delay x) (plain_others v.items)) (or_delay_open x v)
+    (all_written r old first new (last_word (codes "or") ∷ []) (delay_words (plain_delay x) ++ more_statements_words (plain_others v.items)) h
+    (all_written r first mid new (delay_words (plain_delay x)) (more_statements_words (plain_others v.items)) k l))
+
+pub or_else_written : {X E : Type 0} (r : Result X E) (old mid new : List ℕ) (x : Statements) → mid ≡ old ++ spaced (last_word (codes "else") ∷ []) → OnOk r (new ≡ mid ++ spaced (statements_words (plain_statements x))) →
+    OnOk r (new ≡ old ++ spaced (other_words (plain_other (otherwise.Else x))))
+or_else_written r old mid new x h k =
+    written_as other_words r old new (plain_other (otherwise.Else x)) (m.or_else (plain_statements x)) (or_else_open x)
+    (all_written r old mid new (last_word (codes "else") ∷ []) (statements_words (plain_statements x)) h k)
 
 -- an else part
 pub else_written : {X E : Type 0} (r : Result X E) (old mid new : List ℕ) (xs : List Statement) → (length xs == 0) ≡ false → mid ≡ old ++ spaced (last_word (codes "else") ∷ []) → OnOk r (new ≡ mid ++ spaced (more_statements_words (plain_others xs))) →

@@ -1,8 +1,9 @@
--- Syntax trees as plain data, with nothing of where they lie in memory (RM 3 to 6).
+-- Syntax trees as plain data, with nothing of where they lie in memory (RM 3 to 6, 9, 11). The grammar says which of them programs have.
 use Rattle.std.specs.Prelude.{List, Option, Bool}
 use Rattle.aud_text.specs.declared.place.Pos.{Pos}
 use Rattle.aud_syntax.specs.declared.tree.Ident.{Ident}
 use Rattle.aud_syntax.specs.declared.tree.Number.{Number}
+use Rattle.aud_syntax.specs.declared.tree.Real.{Real}
 use Rattle.aud_syntax.specs.declared.tree.Literal.{Literal}
 use Rattle.aud_syntax.specs.declared.tree.Signed.{Signed}
 use Rattle.aud_syntax.specs.declared.tree.Adding.{Adding}
@@ -83,9 +84,36 @@ mutual
 pub data Formal : Type 0 where
   formal : Ident → List Ident → Mode → Ident → Formal
 
--- what stands in the declaration of a task behind `is`: the name behind `end` (RM 9.1(4))
+-- RM 9.5.2(2)
+pub record EntryDeclaration : Type 0 where
+  pub name : Ident
+  pub formals : List Formal
+
+-- what stands in the declaration of a task behind `is`: its entries, and the name behind `end` (RM 9.1(4))
 pub record TaskDefinition : Type 0 where
+  pub entries : List EntryDeclaration
   pub end_name : Option Ident
+
+-- what a protected object does for others (RM 9.4(5)); the subtype of a function's value is last
+pub data Operation : Type 0 where
+  entry_operation : EntryDeclaration → Operation
+  procedure_operation : Ident → List Formal → Operation
+  function_operation : Ident → List Formal → Ident → Operation
+
+-- what stands behind `private` (RM 9.4(6)): operations; components, with their subtype and value
+pub data PrivateItem : Type 0 where
+  private_operation : Operation → PrivateItem
+  components : Ident → List Ident → Ident → MaybeExpression → PrivateItem
+
+-- where `delay` stands, and for how long: so many seconds, or Duration of an expression (RM 9.6)
+pub data Delay : Type 0 where
+  delay_real : Pos → Real → Delay
+  delay_duration : Pos → Expression → Delay
+
+-- further names, each behind a comma (RM 9.8(2))
+pub data Names : Type 0 where
+  no_names : Names
+  more_names : Name → Names → Names
 
 -- RM 5.5(3)
 pub data Iteration : Type 0 where
@@ -116,6 +144,10 @@ mutual
     task : Pos → Bool → Ident → Option TaskDefinition → Declaration
     -- where `task` stands, the name, the declarations and the body (RM 9.1(6))
     task_body : Pos → Ident → Declarations → Body → Declaration
+    -- where `protected` stands, the name, the operations, what stands behind `private`, if it does, and the name behind `end` (RM 9.4)
+    protected : Pos → Ident → List Operation → Option (List PrivateItem) → Option Ident → Declaration
+    -- the same of a body: where it stands, the name, the bodies of the operations, and the name behind `end` (RM 9.4(7))
+    protected_body : Pos → Ident → OperationBodies → Option Ident → Declaration
 
   pub data Declarations : Type 0 where
     no_declarations : Declarations
@@ -138,6 +170,16 @@ mutual
     return : Pos → MaybeExpression → Statement
     -- where it stands, and the exception; none is named where one is raised again (RM 11.3)
     raise : Pos → Option Ident → Statement
+    accepting : Accept → Statement
+    delaying : Delay → Statement
+    -- where `select` stands, the guard of the first alternative, that alternative, the others, and the statements behind `else` (RM 9.7.1)
+    select_accept : Pos → MaybeExpression → Alternative → Alternatives → MoreStatements → Statement
+    -- where `select` stands, the entry call, the statements behind it, and what is done in place of it (RM 9.7.2, 9.7.3)
+    select_call : Pos → Name → MoreStatements → Otherwise → Statement
+    -- where it stands, the first task, and the others (RM 9.8)
+    abort : Pos → Name → Names → Statement
+    -- where it stands, the entry, and whether `with abort` stands behind it (RM 9.5.4)
+    requeue : Pos → Name → Bool → Statement
 
   -- the first statement, and those behind it (RM 5.1(2))
   pub data Statements : Type 0 where
@@ -160,6 +202,43 @@ mutual
   pub data Handlers : Type 0 where
     no_handlers : Handlers
     more_handlers : Choices → Statements → Handlers → Handlers
+
+  -- of each: where its first word stands, the name, the formal parameters, the declarations and the body (RM 9.4(8))
+  pub data OperationBody : Type 0 where
+    -- and the barrier (RM 9.5.2(5, 7))
+    entry_body : Pos → Ident → List Formal → Expression → Declarations → Body → OperationBody
+    procedure_body : Pos → Ident → List Formal → Declarations → Body → OperationBody
+    -- and the subtype of its value
+    function_body : Pos → Ident → List Formal → Ident → Declarations → Body → OperationBody
+
+  pub data OperationBodies : Type 0 where
+    no_bodies : OperationBodies
+    more_bodies : OperationBody → OperationBodies → OperationBodies
+
+  -- where `accept` stands, the entry, the formal parameters, and what is done (RM 9.5.2(3))
+  pub data Accept : Type 0 where
+    accept : Pos → Ident → List Formal → Doing → Accept
+
+  -- statements with handlers, which stand behind `do` in place of `begin`
+  pub data Doing : Type 0 where
+    without_do : Doing
+    with_do : Body → Doing
+
+  -- what is waited for, and the statements behind it (RM 9.7.1(3))
+  pub data Alternative : Type 0 where
+    accept_alternative : Accept → MoreStatements → Alternative
+    delay_alternative : Delay → MoreStatements → Alternative
+    terminate_alternative : Alternative
+
+  -- each behind its guard, if it has one (RM 9.7.1(2))
+  pub data Alternatives : Type 0 where
+    no_alternatives : Alternatives
+    more_alternatives : MaybeExpression → Alternative → Alternatives → Alternatives
+
+  -- in place of an entry call: a delay and the statements behind it, or statements (RM 9.7.2, 9.7.3)
+  pub data Otherwise : Type 0 where
+    or_delay : Delay → MoreStatements → Otherwise
+    or_else : Statements → Otherwise
 
 -- a context clause for Ada.Text_IO, and where it begins (RM 10.1.2, 8.4)
 pub data Context : Type 0 where

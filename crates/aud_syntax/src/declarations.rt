@@ -1,13 +1,14 @@
 // The canonical text of declarations in which no others lie, and of formal parameters.
 
-ghost use Rattle.std.specs.Prelude.{map};
+ghost use Rattle.std.specs.Prelude.{map, Some};
 ghost use Rattle.aud_syntax.specs.Ties.Writes.{Writes};
-ghost use Rattle.aud_syntax.specs.Ties.View.{plain_expression, plain_maybe, plain_formal, plain_definition, plain_task};
-ghost use Rattle.aud_syntax.specs.Why.Printed.{object_words, constant_words, minus_words, bound_words, range_words, index_words, array_words, exception_words, mode_words, formal_words, more_formals_words, formals_words, type_words, definition_words, declaration_words};
+ghost use Rattle.aud_syntax.specs.Ties.View.{plain_expression, plain_maybe, plain_formal, plain_entry, plain_task_definition, plain_definition, plain_task};
+ghost use Rattle.aud_syntax.specs.Why.Printed.{object_words, constant_words, minus_words, bound_words, range_words, index_words, array_words, exception_words, mode_words, formal_words, more_formals_words, formals_words, type_words, head_words, entry_words, entries_words, definition_words, declaration_words};
 
 use crate::expressions::{push_expression, push_maybe};
 use crate::tree::{
-    Bound, Expression, Formal, Ident, Identifiers, Mode, TaskDeclaration, TaskDefinition,
+    Bound, EntryDeclaration, Expression, Formal, Ident, Identifiers, Mode, TaskDeclaration,
+    TaskDefinition,
 };
 use crate::words::{
     push_end_name, push_ident, push_idents, push_last_word, push_number, push_two_words, push_word,
@@ -187,10 +188,48 @@ fn push_definition(out: &mut Vec<u8>, definition: &Option<TaskDefinition>) -> Re
 {
     match definition {
         None => Ok(()),
-        Some(definition) => {
-            push_last_word(out, b"is")?;
-            push_word(out, b"end")?;
-            push_end_name(out, &definition.end_name)
-        }
+        Some(definition) => push_task_definition(out, definition),
     }
+}
+
+fn push_task_definition(out: &mut Vec<u8>, definition: &TaskDefinition) -> Result<(), AllocError>
+    ensures { Writes result out.old out.new
+        (definition_words (Some (plain_task_definition definition.now))) }
+{
+    push_last_word(out, b"is")?;
+    push_entries(out, &definition.entries)?;
+    push_word(out, b"end")?;
+    push_end_name(out, &definition.end_name)
+}
+
+fn push_entries(out: &mut Vec<u8>, entries: &[EntryDeclaration]) -> Result<(), AllocError>
+    ensures { Writes result out.old out.new (entries_words (map plain_entry entries.now)) }
+{
+    for next in entries {
+        push_entry(out, next)?;
+    }
+    Ok(())
+}
+
+// RM 9.5.2(2)
+fn push_entry(out: &mut Vec<u8>, entry: &EntryDeclaration) -> Result<(), AllocError>
+    ensures { Writes result out.old out.new (entry_words (plain_entry entry.now)) }
+{
+    push_head(out, b"entry", &entry.name, &entry.formals)?;
+    push_last_word(out, b";")
+}
+
+// A word, a name and formal parameters.
+pub fn push_head(
+    out: &mut Vec<u8>,
+    spelling: &[u8],
+    name: &Ident,
+    formals: &[Formal],
+) -> Result<(), AllocError>
+    ensures { Writes result out.old out.new
+        (head_words spelling.now name.now (map plain_formal formals.now)) }
+{
+    push_word(out, spelling)?;
+    push_ident(out, name)?;
+    push_formals(out, formals)
 }

@@ -15,7 +15,7 @@ use crate::words::{push_ident, push_literal, push_number, push_two_words, push_w
 use std::alloc::AllocError;
 
 #[cycle(print)]
-fn push_in_parentheses(out: &mut Vec<u8>, inner: &Expression) -> Result<(), AllocError>
+pub fn push_in_parentheses(out: &mut Vec<u8>, inner: &Expression) -> Result<(), AllocError>
     ensures { Writes result out.old out.new
         (in_parentheses (expression_words (plain_expression inner.now))) }
 {

@@ -1,20 +1,23 @@
 // The canonical text of declarations, statements and bodies, which lie in one another.
 
 ghost use Rattle.aud_syntax.specs.Ties.Writes.{Writes};
-ghost use Rattle.aud_syntax.specs.Ties.View.{plain_declaration, plain_declarations, plain_procedure, plain_task_body, plain_expression, plain_maybe, plain_name, plain_statement, plain_others, plain_statements, plain_if, arm_list, plain_iteration, plain_parameter, plain_choices, plain_loop_statement, plain_block, plain_body, handler_list};
-ghost use Rattle.aud_syntax.specs.Why.Printed.{declaration_words, declarations_words, null_words, assignment_words, call_words, label_words, reverse_words, iteration_words, exit_words, value_words, return_words, raise_words, declare_words, choices_words, expression_words, arm_words, arms_words, otherwise_words, statement_words, more_statements_words, statements_words, body_words, handler_words, handlers_words, handled_words};
+ghost use Rattle.aud_syntax.specs.Ties.View.{plain_declaration, plain_declarations, plain_procedure, plain_task_body, plain_expression, plain_maybe, plain_name, plain_statement, plain_others, plain_statements, plain_if, arm_list, plain_iteration, plain_parameter, plain_choices, plain_loop_statement, plain_block, plain_body, handler_list, plain_delay, plain_accept, plain_done, plain_select, guarded_list, plain_alternative, plain_selected_call, plain_other};
+ghost use Rattle.aud_syntax.specs.Why.Printed.{declaration_words, declarations_words, null_words, assignment_words, call_words, label_words, reverse_words, iteration_words, exit_words, value_words, return_words, raise_words, declare_words, choices_words, expression_words, arm_words, arms_words, otherwise_words, statement_words, more_statements_words, statements_words, body_words, handler_words, handlers_words, handled_words, words_behind, seconds_words, duration_words, delay_words, accept_words, doing_words, guard_words, terminate_words, guarded_words, alternative_words, alternatives_words, other_words, end_select_words};
 
 use crate::declarations::{
-    push_array, push_constant, push_exceptions, push_formals, push_object, push_task,
+    push_array, push_constant, push_exceptions, push_formals, push_head, push_object, push_task,
 };
-use crate::expressions::{push_expression, push_maybe, push_name, push_simple};
+use crate::expressions::{
+    push_expression, push_in_parentheses, push_maybe, push_name, push_simple,
+};
 use crate::tree::{
-    Arm, BlockStatement, Body, Choices, Declaration, Expression, Handler, Ident, IfStatement,
-    Iteration, LoopParameter, LoopStatement, Name, ProcedureDeclaration, Statement, Statements,
-    TaskBody,
+    AcceptStatement, Alternative, Arm, BlockStatement, Body, Choices, Declaration, Delay,
+    Expression, Guarded, Handler, Ident, IfStatement, Iteration, LoopParameter, LoopStatement,
+    Name, Otherwise, ProcedureDeclaration, Real, SelectStatement, SelectedCall, Statement,
+    Statements, TaskBody,
 };
 use crate::words::{
-    push_end_name, push_ident, push_idents, push_last_word, push_two_words, push_word,
+    push_end_name, push_ident, push_idents, push_last_word, push_real, push_two_words, push_word,
 };
 use std::alloc::AllocError;
 
@@ -107,6 +110,10 @@ fn push_statement(out: &mut Vec<u8>, statement: &Statement) -> Result<(), AllocE
         Statement::Exit(_, label, condition) => push_exit(out, label, condition),
         Statement::Return(_, value) => push_return(out, value),
         Statement::Raise(_, exception) => push_raise(out, exception),
+        Statement::Accept(statement) => push_accept(out, statement),
+        Statement::Delay(statement) => push_delay(out, statement),
+        Statement::Select(statement) => push_select(out, statement),
+        Statement::SelectCall(statement) => push_selected_call(out, statement),
     }
 }
 
@@ -248,7 +255,15 @@ fn push_declare(out: &mut Vec<u8>, declare: bool) -> Result<(), AllocError>
 pub fn push_body(out: &mut Vec<u8>, body: &Body) -> Result<(), AllocError>
     ensures { Writes result out.old out.new (body_words (plain_body body.now)) }
 {
-    push_last_word(out, b"begin")?;
+    push_enclosed(out, b"begin", body)
+}
+
+// The same behind another word in place of `begin`.
+#[cycle(statement)]
+fn push_enclosed(out: &mut Vec<u8>, spelling: &[u8], body: &Body) -> Result<(), AllocError>
+    ensures { Writes result out.old out.new (words_behind spelling.now (plain_body body.now)) }
+{
+    push_last_word(out, spelling)?;
     push_statements(out, &body.statements)?;
     push_handled(out, &body.handlers)?;
     push_word(out, b"end")?;
@@ -300,6 +315,164 @@ fn push_choices(out: &mut Vec<u8>, choices: &Choices) -> Result<(), AllocError>
         Choices::Named(names) => push_idents(out, b"|", names),
         Choices::Others(_) => push_word(out, b"others"),
     }
+}
+
+// RM 9.5.2(3)
+#[cycle(statement)]
+fn push_accept(out: &mut Vec<u8>, statement: &AcceptStatement) -> Result<(), AllocError>
+    ensures { Writes result out.old out.new (accept_words (plain_accept statement.now)) }
+{
+    push_head(out, b"accept", &statement.name, &statement.formals)?;
+    push_doing(out, &statement.doing)
+}
+
+#[cycle(statement)]
+fn push_doing(out: &mut Vec<u8>, doing: &Option<Box<Body>>) -> Result<(), AllocError>
+    ensures { Writes result out.old out.new (doing_words (plain_done doing.now)) }
+{
+    match doing {
+        None => push_last_word(out, b";"),
+        Some(body) => push_enclosed(out, b"do", body),
+    }
+}
+
+// RM 9.7.1
+#[cycle(statement)]
+fn push_select(out: &mut Vec<u8>, statement: &SelectStatement) -> Result<(), AllocError>
+    ensures { Writes result out.old out.new (statement_words (plain_select statement.now)) }
+{
+    push_last_word(out, b"select")?;
+    push_guarded(out, &statement.first)?;
+    push_alternatives(out, &statement.others)?;
+    push_otherwise(out, &statement.otherwise)?;
+    push_end_select(out)
+}
+
+// The alternatives behind the first.
+#[cycle(statement)]
+fn push_alternatives(out: &mut Vec<u8>, others: &[Guarded]) -> Result<(), AllocError>
+    ensures { Writes result out.old out.new (alternatives_words (guarded_list others.now)) }
+{
+    for next in others {
+        push_last_word(out, b"or")?;
+        push_guarded(out, next)?;
+    }
+    Ok(())
+}
+
+// RM 9.7.1(2)
+#[cycle(statement)]
+fn push_guarded(out: &mut Vec<u8>, guarded: &Guarded) -> Result<(), AllocError>
+    ensures { Writes result out.old out.new
+        (guarded_words (plain_maybe guarded.now.guard)
+        (plain_alternative guarded.now.alternative)) }
+{
+    push_guard(out, &guarded.guard)?;
+    push_alternative(out, &guarded.alternative)
+}
+
+// RM 9.7.1(3)
+#[cycle(statement)]
+fn push_alternative(out: &mut Vec<u8>, alternative: &Alternative) -> Result<(), AllocError>
+    ensures { Writes result out.old out.new
+        (alternative_words (plain_alternative alternative.now)) }
+{
+    match alternative {
+        Alternative::Accept(statement, behind) => {
+            push_accept(out, statement)?;
+            push_more_statements(out, behind)
+        }
+        Alternative::Delay(delay, behind) => {
+            push_delay(out, delay)?;
+            push_more_statements(out, behind)
+        }
+        Alternative::Terminate => push_terminate(out),
+    }
+}
+
+// RM 9.7.2, 9.7.3
+#[cycle(statement)]
+fn push_selected_call(out: &mut Vec<u8>, statement: &SelectedCall) -> Result<(), AllocError>
+    ensures { Writes result out.old out.new
+        (statement_words (plain_selected_call statement.now)) }
+{
+    push_last_word(out, b"select")?;
+    push_call(out, &statement.call)?;
+    push_more_statements(out, &statement.behind)?;
+    push_other(out, &statement.otherwise)?;
+    push_end_select(out)
+}
+
+// What is done in place of the call.
+#[cycle(statement)]
+fn push_other(out: &mut Vec<u8>, otherwise: &Otherwise) -> Result<(), AllocError>
+    ensures { Writes result out.old out.new (other_words (plain_other otherwise.now)) }
+{
+    match otherwise {
+        Otherwise::Delay(delay, behind) => {
+            push_last_word(out, b"or")?;
+            push_delay(out, delay)?;
+            push_more_statements(out, behind)
+        }
+        Otherwise::Else(statements) => {
+            push_last_word(out, b"else")?;
+            push_statements(out, statements)
+        }
+    }
+}
+
+fn push_terminate(out: &mut Vec<u8>) -> Result<(), AllocError>
+    ensures { Writes result out.old out.new terminate_words }
+{
+    push_word(out, b"terminate")?;
+    push_last_word(out, b";")
+}
+
+fn push_end_select(out: &mut Vec<u8>) -> Result<(), AllocError>
+    ensures { Writes result out.old out.new end_select_words }
+{
+    push_two_words(out, b"end", b"select")?;
+    push_last_word(out, b";")
+}
+
+// The guard of an alternative, if it has one.
+fn push_guard(out: &mut Vec<u8>, guard: &Option<Expression>) -> Result<(), AllocError>
+    ensures { Writes result out.old out.new (guard_words (plain_maybe guard.now)) }
+{
+    match guard {
+        None => Ok(()),
+        Some(condition) => {
+            push_word(out, b"when")?;
+            push_expression(out, condition)?;
+            push_last_word(out, b"=>")
+        }
+    }
+}
+
+// RM 9.6
+fn push_delay(out: &mut Vec<u8>, delay: &Delay) -> Result<(), AllocError>
+    ensures { Writes result out.old out.new (delay_words (plain_delay delay.now)) }
+{
+    match delay {
+        Delay::Seconds(_, seconds) => push_seconds(out, *seconds),
+        Delay::Duration(_, seconds) => push_duration(out, seconds),
+    }
+}
+
+fn push_seconds(out: &mut Vec<u8>, seconds: Real) -> Result<(), AllocError>
+    ensures { Writes result out.old out.new (seconds_words seconds) }
+{
+    push_word(out, b"delay")?;
+    push_real(out, seconds)?;
+    push_last_word(out, b";")
+}
+
+fn push_duration(out: &mut Vec<u8>, seconds: &Expression) -> Result<(), AllocError>
+    ensures { Writes result out.old out.new (duration_words (plain_expression seconds.now)) }
+{
+    push_two_words(out, b"delay", b"DURATION")?;
+    push_in_parentheses(out, seconds)?;
+    push_last_word(out, b";")
 }
 
 // RM 5.7

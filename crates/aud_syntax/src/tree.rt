@@ -19,6 +19,15 @@ pub struct Number {
     pub at: Pos,
 }
 
+/// A real number (RM 2.4): its whole part, none where that is larger than any Integer, what follows its point in thousandths,
+/// none where that has more than three digits, and where it stands.
+#[derive(Clone, Copy, PartialEq, Eq)]
+pub struct Real {
+    pub whole: Option<Int32>,
+    pub thousandths: Option<u16>,
+    pub at: Pos,
+}
+
 /// A string literal (RM 2.6): its characters, and where it stands.
 #[derive(Drop)]
 pub struct Literal {
@@ -271,10 +280,18 @@ pub struct TaskDeclaration {
     pub definition: Option<TaskDefinition>,
 }
 
-/// What stands in the declaration of a task behind `is` (RM 9.1(4)): the name behind `end`.
+/// What stands in the declaration of a task behind `is` (RM 9.1(4)): its entries, and the name behind `end`.
 #[derive(Drop)]
 pub struct TaskDefinition {
+    pub entries: Vec<EntryDeclaration>,
     pub end_name: Option<Ident>,
+}
+
+/// An entry (RM 9.5.2(2)): its name and its formal parameters.
+#[derive(Drop)]
+pub struct EntryDeclaration {
+    pub name: Ident,
+    pub formals: Vec<Formal>,
 }
 
 /// The body of a task or a task type (RM 9.1(6)): where its `task` stands, its name, and its declarations.
@@ -305,6 +322,11 @@ pub enum Statement {
     Return(Pos, Option<Expression>),
     /// Where `raise` stands, and the exception; none is named where one is raised again (RM 11.3).
     Raise(Pos, Option<Ident>),
+    Accept(Box<AcceptStatement>),
+    Delay(Box<Delay>),
+    Select(Box<SelectStatement>),
+    /// A timed or a conditional entry call.
+    SelectCall(Box<SelectedCall>),
 }
 
 /// An if statement (RM 5.3): what stands behind `if`, what behind each `elsif`, and the statements behind `else`, of which
@@ -369,6 +391,72 @@ pub struct BlockStatement {
     pub declare: bool,
     pub declarations: Vec<Declaration>,
     pub body: Body,
+}
+
+/// An accept statement (RM 9.5.2(3)): where its `accept` stands, its entry, its formal parameters, and what is done, if anything
+/// is, with `do` in place of `begin`.
+#[derive(Drop)]
+#[cycle(statement)]
+pub struct AcceptStatement {
+    pub at: Pos,
+    pub name: Ident,
+    pub formals: Vec<Formal>,
+    pub doing: Option<Box<Body>>,
+}
+
+/// A delay statement (RM 9.6), and where its `delay` stands.
+#[derive(Drop)]
+pub enum Delay {
+    Seconds(Pos, Real),
+    /// Duration of an expression.
+    Duration(Pos, Expression),
+}
+
+/// A selective accept (RM 9.7.1): where its `select` stands, its alternatives, and the statements behind `else`, of which there
+/// are none where there is no `else`.
+#[derive(Drop)]
+#[cycle(statement)]
+pub struct SelectStatement {
+    pub at: Pos,
+    pub first: Guarded,
+    pub others: Vec<Guarded>,
+    pub otherwise: Vec<Statement>,
+}
+
+/// An alternative behind its guard, if it has one (RM 9.7.1(2)).
+#[derive(Drop)]
+#[cycle(statement)]
+pub struct Guarded {
+    pub guard: Option<Expression>,
+    pub alternative: Alternative,
+}
+
+/// What is waited for, and the statements behind it (RM 9.7.1(3)).
+#[derive(Drop)]
+#[cycle(statement)]
+pub enum Alternative {
+    Accept(AcceptStatement, Vec<Statement>),
+    Delay(Delay, Vec<Statement>),
+    Terminate,
+}
+
+/// A timed or a conditional entry call (RM 9.7.2, 9.7.3): where its `select` stands, the call, the statements behind it, and what
+/// is done in place of it.
+#[derive(Drop)]
+#[cycle(statement)]
+pub struct SelectedCall {
+    pub at: Pos,
+    pub call: Name,
+    pub behind: Vec<Statement>,
+    pub otherwise: Otherwise,
+}
+
+/// What is done in place of an entry call: statements behind a delay, or at once.
+#[derive(Drop)]
+#[cycle(statement)]
+pub enum Otherwise {
+    Delay(Delay, Vec<Statement>),
+    Else(Statements),
 }
 
 /// A sequence of statements (RM 5.1(2)): the first, and those behind it.

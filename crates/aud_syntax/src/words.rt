@@ -1,12 +1,13 @@
 // Words of canonical text, each with a blank or, at the end of a line, a line feed behind it.
 
-ghost use Rattle.std.specs.Prelude.{◌≡◌, ◌++◌, ◌∷◌, [], OnOk};
+ghost use Rattle.std.specs.Prelude.{◌≡◌, ◌+◌, ◌%◌, ◌++◌, ◌∷◌, [], OnOk};
 ghost use Rattle.aud_lex.specs.Why.Spaced.{word, last_word};
 ghost use Rattle.aud_syntax.specs.Ties.Writes.{Writes};
-ghost use Rattle.aud_syntax.specs.Why.Printed.{ident_word, number_word, doubled, literal_word, more_ident_words, separated_words, end_words};
+ghost use Rattle.aud_syntax.specs.Why.Printed.{ident_word, number_digits, number_word, decimal_digits, real_word, doubled, literal_word, more_ident_words, separated_words, end_words};
 
-use crate::tree::{Ident, Identifiers, Literal, Number};
+use crate::tree::{Ident, Identifiers, Literal, Number, Real};
 use aud_text::digits::push_decimal;
+use aud_text::int32::Int32;
 use std::alloc::AllocError;
 
 // Names, with the delimiter between each two.
@@ -60,6 +61,55 @@ pub fn push_number(out: &mut Vec<u8>, number: Number) -> Result<(), AllocError>
         }
         None => push_word(out, b"2147483648"),
     }
+}
+
+// RM 2.4.1
+pub fn push_real(out: &mut Vec<u8>, number: Real) -> Result<(), AllocError>
+    ensures { Writes result out.old out.new (real_word number ∷ []) }
+{
+    push_whole(out, number.whole)?;
+    out.push(b'.')?;
+    push_decimals(out, number.thousandths)?;
+    out.push(b' ')?;
+    Ok(())
+}
+
+// The digits of a whole number, or of the least one that is too large.
+fn push_whole(out: &mut Vec<u8>, value: Option<Int32>) -> Result<(), AllocError>
+    ensures { OnOk result (out.new.items ≡ out.old.items ++ number_digits value) }
+{
+    match value {
+        Some(value) => push_decimal(out, u64::from(value.get().unsigned_abs())),
+        None => {
+            out.extend_from_slice(b"2147483648")?;
+            Ok(())
+        }
+    }
+}
+
+// Three digits, or four where there were more.
+fn push_decimals(out: &mut Vec<u8>, thousandths: Option<u16>) -> Result<(), AllocError>
+    ensures { OnOk result (out.new.items ≡ out.old.items ++ decimal_digits thousandths) }
+{
+    match thousandths {
+        Some(number) => {
+            push_digit(out, number / 100)?;
+            push_digit(out, number / 10)?;
+            push_digit(out, number)
+        }
+        None => {
+            out.extend_from_slice(b"0000")?;
+            Ok(())
+        }
+    }
+}
+
+// The last digit of a number.
+fn push_digit(out: &mut Vec<u8>, number: u16) -> Result<(), AllocError>
+    ensures { OnOk result (out.new.items ≡ out.old.items ++ (48 + number % 10) ∷ []) }
+{
+    out.push(b'0' + (number % 10) as u8)?;
+    Ok(())
 }
 
 // RM 2.6

@@ -1,7 +1,7 @@
 -- The number and the words of each refusal.
 use Rattle.std.specs.Prelude.{ℕ, List, codes}
 use Rattle.aud_text.specs.declared.refusal.Refusal.{Refusal}
-use Rattle.aud_text.specs.declared.refusal.Refusal.TheVariants.{UnknownCommand, BadArgument, LineTooLong, JournalFull, NoProgram, NoSuchTask, NoSuchMove, StepBudget, ChoicesFull, NotAscii, Lexical, Syntax, SourceTooLong, TooDeep, NameNotDeclared, DeclaredTwice, WrongKindOfName, WrongType, WrongNumberOfArguments, NotAVariable, WrongNameAtEnd, NoMatchingBody, ExitWithoutLoop, ReturnOutOfPlace, RaiseWithoutHandler, BadHandlerChoice, NumberTooLarge, OutOfMemory}
+use Rattle.aud_text.specs.declared.refusal.Refusal.TheVariants.{UnknownCommand, BadArgument, LineTooLong, JournalFull, NoProgram, NoSuchTask, NoSuchMove, StepBudget, ChoicesFull, NotAscii, Lexical, Syntax, SourceTooLong, TooDeep, NameNotDeclared, DeclaredTwice, WrongKindOfName, WrongType, WrongNumberOfArguments, NotAVariable, WrongNameAtEnd, NoMatchingBody, AcceptOrCountOutOfPlace, FormalsDoNotConform, ExitWithoutLoop, ReturnOutOfPlace, RaiseWithoutHandler, BadHandlerChoice, FunctionCallOutOfPlace, NumberTooLarge, TooManyDecimals, ChangeWithinFunction, ParameterInBarrier, NotAnEntry, OutOfMemory}
 
 abbrev pub told : Refusal → ℕ × List ℕ
 told UnknownCommand = (10, codes "unknown command")
@@ -26,11 +26,18 @@ told WrongNumberOfArguments = (34, codes "wrong number of arguments")
 told NotAVariable = (35, codes "not a variable")
 told WrongNameAtEnd = (36, codes "wrong name at end")
 told NoMatchingBody = (37, codes "no matching body")
+told AcceptOrCountOutOfPlace = (38, codes "accept or Count out of place")
+told FormalsDoNotConform = (39, codes "formals do not conform")
 told ExitWithoutLoop = (40, codes "exit without loop")
 told ReturnOutOfPlace = (41, codes "return out of place")
 told RaiseWithoutHandler = (42, codes "raise without handler")
 told BadHandlerChoice = (43, codes "bad handler choice")
+told FunctionCallOutOfPlace = (44, codes "function call out of place")
 told NumberTooLarge = (45, codes "number too large")
+told TooManyDecimals = (46, codes "too many decimals")
+told ChangeWithinFunction = (47, codes "change within a function")
+told ParameterInBarrier = (48, codes "parameter in barrier")
+told NotAnEntry = (49, codes "not an entry")
 told OutOfMemory = (90, codes "out of memory")
 
 -- the number after the letter E; of two faults at one place the one with the lesser number is reported

@@ -301,6 +301,38 @@ exception_counted : (first : Ident) (others : List Ident) (n : Place) (t : Table
 unfolding DeclarationCounted
 exception_counted first others n t outer = none_counted (length t.units)
 
+accepting_counted : (x : plain.Accept) (around : Around) (n : Place) (t : Tables) (scope : Scope) → StatementCounted (plain.accepting x) around n t scope
+unfolding StatementCounted
+accepting_counted x around n t scope = none_counted (length t.units)
+
+delaying_counted : (x : plain.Delay) (around : Around) (n : Place) (t : Tables) (scope : Scope) → StatementCounted (plain.delaying x) around n t scope
+unfolding StatementCounted
+delaying_counted x around n t scope = none_counted (length t.units)
+
+select_accept_counted : (at : Pos) (e : plain.MaybeExpression) (x : plain.Alternative) (xs : plain.Alternatives) (otherwise : plain.MoreStatements) (around : Around) (n : Place) (t : Tables) (scope : Scope) → StatementCounted (plain.select_accept at e x xs otherwise) around n t scope
+unfolding StatementCounted
+select_accept_counted at e x xs otherwise around n t scope = none_counted (length t.units)
+
+select_call_counted : (at : Pos) (x : plain.Name) (behind : plain.MoreStatements) (otherwise : plain.Otherwise) (around : Around) (n : Place) (t : Tables) (scope : Scope) → StatementCounted (plain.select_call at x behind otherwise) around n t scope
+unfolding StatementCounted
+select_call_counted at x behind otherwise around n t scope = none_counted (length t.units)
+
+abort_counted : (at : Pos) (x : plain.Name) (xs : plain.Names) (around : Around) (n : Place) (t : Tables) (scope : Scope) → StatementCounted (plain.abort at x xs) around n t scope
+unfolding StatementCounted
+abort_counted at x xs around n t scope = none_counted (length t.units)
+
+requeue_counted : (at : Pos) (x : plain.Name) (with_abort : Bool) (around : Around) (n : Place) (t : Tables) (scope : Scope) → StatementCounted (plain.requeue at x with_abort) around n t scope
+unfolding StatementCounted
+requeue_counted at x with_abort around n t scope = none_counted (length t.units)
+
+protected_counted : (at : Pos) (i : Ident) (operations : List plain.Operation) (hidden : Option (List plain.PrivateItem)) (last : Option Ident) (n : Place) (t : Tables) (outer : Scope) → DeclarationCounted (plain.protected at i operations hidden last) n t outer
+unfolding DeclarationCounted
+protected_counted at i operations hidden last n t outer = none_counted (length t.units)
+
+protected_body_counted : (at : Pos) (i : Ident) (inner : plain.OperationBodies) (last : Option Ident) (n : Place) (t : Tables) (outer : Scope) → DeclarationCounted (plain.protected_body at i inner last) n t outer
+unfolding DeclarationCounted
+protected_body_counted at i inner last n t outer = none_counted (length t.units)
+
 mutual
   count_statement : (x : plain.Statement) (around : Around) (n : Place) (t : Tables) (scope : Scope) → StatementCounted x around n t scope
   count_statement (plain.null at) around n t scope = null_counted at around n t scope
@@ -312,6 +344,12 @@ mutual
   count_statement (plain.block label at declare ds b) around n t scope = block_counted label at declare ds b around n t scope (λ m u outer. count_declarations ds m u outer) (λ within m u inner. count_body b within m u inner)
   count_statement (plain.return at e) around n t scope = return_counted at e around n t scope
   count_statement (plain.raise at name) around n t scope = raise_counted at name around n t scope
+  count_statement (plain.accepting x) around n t scope = accepting_counted x around n t scope
+  count_statement (plain.delaying x) around n t scope = delaying_counted x around n t scope
+  count_statement (plain.select_accept at e x xs otherwise) around n t scope = select_accept_counted at e x xs otherwise around n t scope
+  count_statement (plain.select_call at x behind otherwise) around n t scope = select_call_counted at x behind otherwise around n t scope
+  count_statement (plain.abort at x xs) around n t scope = abort_counted at x xs around n t scope
+  count_statement (plain.requeue at x with_abort) around n t scope = requeue_counted at x with_abort around n t scope
 
   count_arms : (x : plain.Arms) (around : Around) (n : Place) (t : Tables) (scope : Scope) → ArmsCounted x around n t scope
   count_arms plain.no_arms around n t scope = no_arms_counted around n t scope
@@ -343,6 +381,8 @@ mutual
   count_declaration (plain.procedure at i fs ds b) n t outer = procedure_counted at i fs ds b n t outer (λ m u scope. count_declarations ds m u scope) (λ within m u inner. count_body b within m u inner)
   count_declaration (plain.task at is_type i x) n t outer = task_declaration_counted at is_type i x n t outer
   count_declaration (plain.task_body at i ds b) n t outer = task_body_counted at i ds b n t outer (λ m u scope. count_declarations ds m u scope) (λ within m u inner. count_body b within m u inner)
+  count_declaration (plain.protected at i operations hidden last) n t outer = protected_counted at i operations hidden last n t outer
+  count_declaration (plain.protected_body at i inner last) n t outer = protected_body_counted at i inner last n t outer
 
 pub statement_counted : (x : plain.Statement) (around : Around) (n : Place) (t : Tables) (scope : Scope) → length (s.checked_statement x around n t).tables.units ≡ length t.units + length (in_statement x around n t scope)
 unfolding StatementCounted

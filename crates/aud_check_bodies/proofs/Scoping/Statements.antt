@@ -57,6 +57,8 @@ one_widens (plain.exception first others) n t = omega (arith, exceptions_cells (
 one_widens (plain.procedure at i fs ds b) n t = omega (arith, procedure_cells i (length t.units) (names.innermost n))
 one_widens (plain.task at is_type i x) n t = task_more is_type i (length t.tasks) (length t.units) (names.innermost n)
 one_widens (plain.task_body at i ds b) n t = omega arith
+one_widens (plain.protected at i operations hidden last) n t = omega arith
+one_widens (plain.protected_body at i inner last) n t = omega arith
 
 declarations_widen : (xs : plain.Declarations) (n : Place) (t : Tables) → (names.innermost n).cells ≤ (names.innermost (s.checked_declarations xs n t).made.place).cells
 declarations_widen plain.no_declarations n t = omega arith
@@ -543,6 +545,38 @@ module _ (plan : Plan) (entries : List Entry) where
   unfolding DeclarationsFine
   no_declarations_fine n t outer full base = λ inside part enough p r q. ((inside, omega arith, refl, none_created (seen plan entries t) (outer ++ full ∷ [])), part, λ k lt. refl)
 
+  accepting_fine : (x : plain.Accept) (around : Around) (n : Place) (t : Tables) (scope : Scope) → StatementFine (plain.accepting x) around n t scope
+  unfolding StatementFine
+  accepting_fine x around n t scope = λ fits p r q. ((tt, refl), none_between plan entries t)
+
+  delaying_fine : (x : plain.Delay) (around : Around) (n : Place) (t : Tables) (scope : Scope) → StatementFine (plain.delaying x) around n t scope
+  unfolding StatementFine
+  delaying_fine x around n t scope = λ fits p r q. ((tt, refl), none_between plan entries t)
+
+  select_accept_fine : (at : Pos) (e : plain.MaybeExpression) (x : plain.Alternative) (xs : plain.Alternatives) (otherwise : plain.MoreStatements) (around : Around) (n : Place) (t : Tables) (scope : Scope) → StatementFine (plain.select_accept at e x xs otherwise) around n t scope
+  unfolding StatementFine
+  select_accept_fine at e x xs otherwise around n t scope = λ fits p r q. ((tt, refl), none_between plan entries t)
+
+  select_call_fine : (at : Pos) (x : plain.Name) (behind : plain.MoreStatements) (otherwise : plain.Otherwise) (around : Around) (n : Place) (t : Tables) (scope : Scope) → StatementFine (plain.select_call at x behind otherwise) around n t scope
+  unfolding StatementFine
+  select_call_fine at x behind otherwise around n t scope = λ fits p r q. ((tt, refl), none_between plan entries t)
+
+  abort_fine : (at : Pos) (x : plain.Name) (xs : plain.Names) (around : Around) (n : Place) (t : Tables) (scope : Scope) → StatementFine (plain.abort at x xs) around n t scope
+  unfolding StatementFine
+  abort_fine at x xs around n t scope = λ fits p r q. ((tt, refl), none_between plan entries t)
+
+  requeue_fine : (at : Pos) (x : plain.Name) (with_abort : Bool) (around : Around) (n : Place) (t : Tables) (scope : Scope) → StatementFine (plain.requeue at x with_abort) around n t scope
+  unfolding StatementFine
+  requeue_fine at x with_abort around n t scope = λ fits p r q. ((tt, refl), none_between plan entries t)
+
+  protected_fine : (at : Pos) (i : Ident) (operations : List plain.Operation) (hidden : Option (List plain.PrivateItem)) (last : Option Ident) (n : Place) (t : Tables) (outer : Scope) (full : Elaborated) (base : ℕ) → DeclarationFine (plain.protected at i operations hidden last) n t outer full base
+  unfolding DeclarationFine
+  protected_fine at i operations hidden last n t outer full base = λ inside part enough p r q. ((inside, omega arith, refl, none_created (seen plan entries t) (outer ++ full ∷ [])), part, λ k lt. refl)
+
+  protected_body_fine : (at : Pos) (i : Ident) (inner : plain.OperationBodies) (last : Option Ident) (n : Place) (t : Tables) (outer : Scope) (full : Elaborated) (base : ℕ) → DeclarationFine (plain.protected_body at i inner last) n t outer full base
+  unfolding DeclarationFine
+  protected_body_fine at i inner last n t outer full base = λ inside part enough p r q. ((inside, omega arith, refl, none_created (seen plan entries t) (outer ++ full ∷ [])), part, λ k lt. refl)
+
   mutual
     fine_statement : (x : plain.Statement) (around : Around) (n : Place) (t : Tables) (scope : Scope) → StatementFine x around n t scope
     fine_statement (plain.null at) around n t scope = null_fine at around n t scope
@@ -556,6 +590,12 @@ module _ (plan : Plan) (entries : List Entry) where
     fine_statement (plain.block label at declare ds b) around n t scope = block_fine label at declare ds b around n t scope (λ m u outer full base. fine_declarations ds m u outer full base) (λ within m u inner. fine_body b within m u inner)
     fine_statement (plain.return at x) around n t scope = return_fine at x around n t scope
     fine_statement (plain.raise at name) around n t scope = raise_fine at name around n t scope
+    fine_statement (plain.accepting x) around n t scope = accepting_fine x around n t scope
+    fine_statement (plain.delaying x) around n t scope = delaying_fine x around n t scope
+    fine_statement (plain.select_accept at e x xs otherwise) around n t scope = select_accept_fine at e x xs otherwise around n t scope
+    fine_statement (plain.select_call at x behind otherwise) around n t scope = select_call_fine at x behind otherwise around n t scope
+    fine_statement (plain.abort at x xs) around n t scope = abort_fine at x xs around n t scope
+    fine_statement (plain.requeue at x with_abort) around n t scope = requeue_fine at x with_abort around n t scope
 
     fine_arms : (x : plain.Arms) (around : Around) (n : Place) (t : Tables) (scope : Scope) → ArmsFine x around n t scope
     fine_arms plain.no_arms around n t scope = no_arms_fine around n t scope
@@ -587,6 +627,8 @@ module _ (plan : Plan) (entries : List Entry) where
     fine_declaration (plain.procedure at i fs ds b) n t outer full base = procedure_fine at i fs ds b n t outer full base (λ m u scope all first. fine_declarations ds m u scope all first) (λ within m u inner. fine_body b within m u inner)
     fine_declaration (plain.task at is_type i x) n t outer full base = task_fine at is_type i x n t outer full base
     fine_declaration (plain.task_body at i ds b) n t outer full base = task_body_fine at i ds b n t outer full base (λ m u scope all first. fine_declarations ds m u scope all first) (λ within m u inner. fine_body b within m u inner)
+    fine_declaration (plain.protected at i operations hidden last) n t outer full base = protected_fine at i operations hidden last n t outer full base
+    fine_declaration (plain.protected_body at i inner last) n t outer full base = protected_body_fine at i inner last n t outer full base
 
   pub entered_scoped : (of_task : Bool) (ds : plain.Declarations) (b : plain.Body) (around : Around) (n : Place) (t : Tables) (outer : Scope) → ((full : Elaborated) → InBody (seen plan entries t) outer full n) → (names.innermost n).awaited ≡ [] → InPlan plan t (s.entered_body of_task ds b around n t).tables → Ready entries t (in_entered ds b around n t outer) → (s.entered_body of_task ds b around n t).faults ≡ []
       → IsFine t (s.entered_body of_task ds b around n t).tables (BodyScoped plan entries (s.entered_body of_task ds b around n t).made (elaborated (names.innermost n)) (table plan (length t.regions)) outer)

@@ -264,6 +264,38 @@ exception_grows : (first : Ident) (others : List Ident) (n : Place) (t : Tables)
 unfolding DeclarationGrows
 exception_grows first others n t = exceptions_grow (first ∷ others) n t
 
+accepting_grows : (x : plain.Accept) (around : Around) (n : Place) (t : Tables) → StatementGrows (plain.accepting x) around n t
+unfolding StatementGrows
+accepting_grows x around n t = same t
+
+delaying_grows : (x : plain.Delay) (around : Around) (n : Place) (t : Tables) → StatementGrows (plain.delaying x) around n t
+unfolding StatementGrows
+delaying_grows x around n t = same t
+
+select_accept_grows : (at : Pos) (e : plain.MaybeExpression) (x : plain.Alternative) (xs : plain.Alternatives) (otherwise : plain.MoreStatements) (around : Around) (n : Place) (t : Tables) → StatementGrows (plain.select_accept at e x xs otherwise) around n t
+unfolding StatementGrows
+select_accept_grows at e x xs otherwise around n t = same t
+
+select_call_grows : (at : Pos) (x : plain.Name) (behind : plain.MoreStatements) (otherwise : plain.Otherwise) (around : Around) (n : Place) (t : Tables) → StatementGrows (plain.select_call at x behind otherwise) around n t
+unfolding StatementGrows
+select_call_grows at x behind otherwise around n t = same t
+
+abort_grows : (at : Pos) (x : plain.Name) (xs : plain.Names) (around : Around) (n : Place) (t : Tables) → StatementGrows (plain.abort at x xs) around n t
+unfolding StatementGrows
+abort_grows at x xs around n t = same t
+
+requeue_grows : (at : Pos) (x : plain.Name) (with_abort : Bool) (around : Around) (n : Place) (t : Tables) → StatementGrows (plain.requeue at x with_abort) around n t
+unfolding StatementGrows
+requeue_grows at x with_abort around n t = same t
+
+protected_grows : (at : Pos) (i : Ident) (operations : List plain.Operation) (hidden : Option (List plain.PrivateItem)) (last : Option Ident) (n : Place) (t : Tables) → DeclarationGrows (plain.protected at i operations hidden last) n t
+unfolding DeclarationGrows
+protected_grows at i operations hidden last n t = same t
+
+protected_body_grows : (at : Pos) (i : Ident) (inner : plain.OperationBodies) (last : Option Ident) (n : Place) (t : Tables) → DeclarationGrows (plain.protected_body at i inner last) n t
+unfolding DeclarationGrows
+protected_body_grows at i inner last n t = same t
+
 mutual
   statement_more : (x : plain.Statement) (around : Around) (n : Place) (t : Tables) → StatementGrows x around n t
   statement_more (plain.null at) around n t = null_grows at around n t
@@ -275,6 +307,12 @@ mutual
   statement_more (plain.block label at declare ds b) around n t = block_grows label at declare ds b around n t (λ m u. declarations_more ds m u) (λ within m u. body_more b within m u)
   statement_more (plain.return at e) around n t = return_grows at e around n t
   statement_more (plain.raise at name) around n t = raise_grows at name around n t
+  statement_more (plain.accepting x) around n t = accepting_grows x around n t
+  statement_more (plain.delaying x) around n t = delaying_grows x around n t
+  statement_more (plain.select_accept at e x xs otherwise) around n t = select_accept_grows at e x xs otherwise around n t
+  statement_more (plain.select_call at x behind otherwise) around n t = select_call_grows at x behind otherwise around n t
+  statement_more (plain.abort at x xs) around n t = abort_grows at x xs around n t
+  statement_more (plain.requeue at x with_abort) around n t = requeue_grows at x with_abort around n t
 
   arms_more : (x : plain.Arms) (around : Around) (n : Place) (t : Tables) → ArmsGrow x around n t
   arms_more plain.no_arms around n t = no_arms_grow around n t
@@ -306,6 +344,8 @@ mutual
   declaration_more (plain.procedure at i fs ds b) n t = procedure_grows at i fs ds b n t (λ m u. declarations_more ds m u) (λ within m u. body_more b within m u)
   declaration_more (plain.task at is_type i x) n t = task_declaration_grows at is_type i x n t
   declaration_more (plain.task_body at i ds b) n t = task_body_grows at i ds b n t (λ m u. declarations_more ds m u) (λ within m u. body_more b within m u)
+  declaration_more (plain.protected at i operations hidden last) n t = protected_grows at i operations hidden last n t
+  declaration_more (plain.protected_body at i inner last) n t = protected_body_grows at i inner last n t
 
 pub statement_grows : (x : plain.Statement) (around : Around) (n : Place) (t : Tables) → Grows t (s.checked_statement x around n t).tables
 unfolding StatementGrows

@@ -10,7 +10,7 @@ use Rattle.aud_grammar.specs.Why.ProcedureRows.{nothing_by}
 
 -- a definition with or without a name behind its `end`
 abbrev pub ended_by : Option Ident → Option m.TaskDefinition
-ended_by i = Some (record { end_name = i })
+ended_by i = Some (record { entries = []; end_name = i })
 
 -- RM 9.1
 abbrev pub Tasks : Type 0

@@ -7,7 +7,9 @@ use Rattle.aud_syntax.specs.declared.tree.Identifiers.{Identifiers}
 use Rattle.aud_syntax.specs.declared.tree.Simple.{Simple}
 use Rattle.aud_syntax.specs.declared.tree.Expression.{Expression}
 use Rattle.aud_syntax.specs.declared.tree.Formal.{Formal}
+use Rattle.aud_syntax.specs.declared.tree.EntryDeclaration.{EntryDeclaration}
 use Rattle.aud_syntax.specs.declared.tree.TaskDefinition.{TaskDefinition}
+use Rattle.aud_syntax.specs.declared.tree.AcceptStatement.{AcceptStatement}
 use Rattle.aud_syntax.specs.declared.tree.Declaration.{Declaration}
 use Rattle.aud_syntax.specs.declared.tree.Statement.{Statement}
 use Rattle.aud_syntax.specs.declared.tree.Statements.{Statements}
@@ -17,8 +19,8 @@ use Rattle.aud_syntax.specs.declared.tree.Bound.{Bound}
 use Rattle.aud_syntax.specs.declared.tree.Handler.{Handler}
 use Rattle.aud_syntax.specs.declared.tree.Body.{Body}
 use Rattle.aud_syntax.specs.declared.tree.Unit as declared
-use Rattle.aud_syntax.specs.Ties.View.{plain_expression, plain_maybe, plain_formal, plain_definition, plain_declaration, plain_declarations, plain_statement, plain_statements, plain_iteration, plain_choices, plain_body, plain_unit}
-use Rattle.aud_grammar.specs.Actions.{Item, an_ident, assigned, called, some_names, a_variable, a_constant, a_declaration, a_statement, some_statements, a_body, a_unit, an_arm, an_iteration, a_bound, an_index, an_array, a_formal, a_definition, a_task, a_declare, a_handler}
+use Rattle.aud_syntax.specs.Ties.View.{plain_expression, plain_maybe, plain_formal, plain_entry, plain_task_definition, plain_definition, plain_declaration, plain_declarations, plain_statement, plain_statements, plain_iteration, plain_choices, plain_body, plain_done, plain_accept, plain_unit}
+use Rattle.aud_grammar.specs.Actions.{Item, an_ident, assigned, called, some_names, a_variable, a_constant, a_declaration, a_statement, some_statements, a_body, a_unit, an_arm, an_iteration, a_bound, an_index, an_array, a_formal, a_definition, a_task, a_declare, a_handler, an_entry, a_doing, an_accept}
 use Rattle.aud_cursor.specs.Ties.Items.{vec_item, boxed_item}
 use Rattle.aud_parse_expr.specs.Ties.Items.{simple_item, expression_item}
 
@@ -51,12 +53,15 @@ array_item x = an_array x.0.0.value x.0.1.value x.1
 abbrev pub formal_item : Formal → Item
 formal_item x = a_formal (plain_formal x)
 
--- the name and the formal parameters of a procedure
+-- a name and the formal parameters behind it
 abbrev pub specification_items : Ident × Vec Formal Global → List Item
 specification_items x = an_ident x.0 ∷ vec_item formal_item x.1 ∷ []
 
+abbrev pub entry_item : EntryDeclaration → Item
+entry_item x = an_entry (plain_entry x)
+
 abbrev pub definition_item : TaskDefinition → Item
-definition_item x = a_definition (record { end_name = x.end_name })
+definition_item x = a_definition (plain_task_definition x)
 
 -- whether a task type is declared, the name, and the definition, if there is one
 abbrev pub task_item : Bool × Ident × Option TaskDefinition → Item
@@ -112,6 +117,16 @@ body_item x = a_body (plain_body x)
 
 abbrev pub boxed_body_item : Box Body Global → Item
 boxed_body_item b = body_item b.value
+
+-- what is done in an accept statement, if anything is
+abbrev pub doing_item : Option (Box Body Global) → Item
+doing_item x = a_doing (plain_done x)
+
+abbrev pub done_item : Box Body Global → Item
+done_item b = doing_item (Some b)
+
+abbrev pub boxed_accept_item : Box AcceptStatement Global → Item
+boxed_accept_item b = an_accept (plain_accept b.value)
 
 abbrev pub unit_item : declared.Unit → Item
 unit_item x = a_unit (plain_unit x)

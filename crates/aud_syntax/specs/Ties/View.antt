@@ -17,6 +17,7 @@ use Rattle.aud_syntax.specs.declared.tree.Primary.{Primary, Integer, Text, Name'
 use Rattle.aud_syntax.specs.declared.tree.Formal.{Formal}
 use Rattle.aud_syntax.specs.declared.tree.Declaration.{Declaration, Object, Constant, Array, Exception, Procedure', Task, TaskBody'}
 use Rattle.aud_syntax.specs.declared.tree.ProcedureDeclaration.{ProcedureDeclaration, ProcedureDeclaration', out-ProcedureDeclaration}
+use Rattle.aud_syntax.specs.declared.tree.EntryDeclaration.{EntryDeclaration}
 use Rattle.aud_syntax.specs.declared.tree.TaskDefinition.{TaskDefinition}
 use Rattle.aud_syntax.specs.declared.tree.TaskDeclaration.{TaskDeclaration}
 use Rattle.aud_syntax.specs.declared.tree.TaskBody as task
@@ -25,13 +26,24 @@ use Rattle.aud_syntax.specs.declared.tree.Choices.{Choices}
 use Rattle.aud_syntax.specs.declared.tree.Choices.TheVariants as choices
 use Rattle.aud_syntax.specs.declared.tree.BlockStatement.{BlockStatement, BlockStatement', out-BlockStatement, Row_of-Declaration, end_of-Declaration, more_of-Declaration}
 use Rattle.aud_syntax.specs.declared.tree.Handler.{Handler}
-use Rattle.aud_syntax.specs.declared.tree.Statement.{Statement, Null, Assign, Call, If', Loop', Block', Exit, Return, Raise, Row_of-Statement, end_of-Statement, more_of-Statement}
+use Rattle.aud_syntax.specs.declared.tree.Statement.{Statement, Null, Assign, Call, If', Loop', Block', Exit, Return, Raise, Accept', Select', SelectCall', Row_of-Statement, end_of-Statement, more_of-Statement}
+use Rattle.aud_syntax.specs.declared.tree.Statement as statement
 use Rattle.aud_syntax.specs.declared.tree.IfStatement.{IfStatement, IfStatement', out-IfStatement, Row_of-Arm, end_of-Arm, more_of-Arm}
 use Rattle.aud_syntax.specs.declared.tree.Arm.{Arm}
 use Rattle.aud_syntax.specs.declared.tree.LoopStatement.{LoopStatement}
 use Rattle.aud_syntax.specs.declared.tree.Iteration.{Iteration}
 use Rattle.aud_syntax.specs.declared.tree.Iteration.TheVariants as iteration
 use Rattle.aud_syntax.specs.declared.tree.Statements.{Statements}
+use Rattle.aud_syntax.specs.declared.tree.AcceptStatement.{AcceptStatement, AcceptStatement', out-AcceptStatement, Held-AcceptStatement-doing, None', Some'}
+use Rattle.aud_syntax.specs.declared.tree.Delay.{Delay}
+use Rattle.aud_syntax.specs.declared.tree.Delay.TheVariants as delay
+use Rattle.aud_syntax.specs.declared.tree.SelectStatement.{SelectStatement, SelectStatement', out-SelectStatement, Row_of-Guarded, end_of-Guarded, more_of-Guarded}
+use Rattle.aud_syntax.specs.declared.tree.Guarded.{Guarded}
+use Rattle.aud_syntax.specs.declared.tree.Alternative as alternative
+use Rattle.aud_syntax.specs.declared.tree.Alternative.{Alternative}
+use Rattle.aud_syntax.specs.declared.tree.SelectedCall.{SelectedCall}
+use Rattle.aud_syntax.specs.declared.tree.Otherwise as otherwise
+use Rattle.aud_syntax.specs.declared.tree.Otherwise.{Otherwise}
 use Rattle.aud_syntax.specs.declared.tree.Context.{Context}
 use Rattle.aud_syntax.specs.declared.tree.Context.TheVariants as context
 use Rattle.aud_syntax.specs.declared.tree.Body.{Body, Body', out-Body, Row_of-Handler, end_of-Handler, more_of-Handler}
@@ -130,10 +142,17 @@ plain_boxed (Some e) = m.an_expression (plain_expression e.value)
 abbrev pub plain_formal : Formal → m.Formal
 plain_formal x = m.formal x.names.first x.names.others.items x.mode x.subtype
 
+-- RM 9.5.2(2)
+abbrev pub plain_entry : EntryDeclaration → m.EntryDeclaration
+plain_entry x = record { name = x.name; formals = map plain_formal x.formals.items }
+
 -- RM 9.1(4)
+abbrev pub plain_task_definition : TaskDefinition → m.TaskDefinition
+plain_task_definition x = record { entries = map plain_entry x.entries.items; end_name = x.end_name }
+
 abbrev pub plain_definition : Option TaskDefinition → Option m.TaskDefinition
 plain_definition None = None
-plain_definition (Some x) = Some (record { end_name = x.end_name })
+plain_definition (Some x) = Some (plain_task_definition x)
 
 -- RM 9.1
 abbrev pub plain_task : TaskDeclaration → m.Declaration
@@ -152,6 +171,11 @@ plain_iteration (iteration.For x) = plain_parameter x
 abbrev pub plain_choices : Choices → m.Choices
 plain_choices (choices.Named names) = m.exceptions names.first names.others.items
 plain_choices (choices.Others at) = m.others at
+
+-- RM 9.6
+abbrev pub plain_delay : Delay → m.Delay
+plain_delay (delay.Seconds at x) = m.delay_real at x
+plain_delay (delay.Duration at e) = m.delay_duration at (plain_expression e)
 
 -- declarations, statements and bodies (RM 3.1, 5.1, 11.2)
 abbrev mutual
@@ -186,6 +210,10 @@ abbrev mutual
   plain_statement (Exit at label e) = m.exit at label (plain_maybe e)
   plain_statement (Return at e) = m.return at (plain_maybe e)
   plain_statement (Raise at x) = m.raise at x
+  plain_statement (Accept' _ x) = m.accepting (plain_accept x)
+  plain_statement (statement.Delay x) = m.delaying (plain_delay x.value)
+  plain_statement (Select' _ x) = plain_select x
+  plain_statement (SelectCall' _ at x _ behind otherwise) = m.select_call at (plain_name x) (plain_row behind) (plain_other otherwise)
 
   pub plain_row : {n : _} → Row_of-Statement n → m.MoreStatements
   plain_row end_of-Statement = m.no_statements
@@ -210,6 +238,32 @@ abbrev mutual
   pub plain_handlers : {n : _} → Row_of-Handler n → m.Handlers
   plain_handlers end_of-Handler = m.no_handlers
   plain_handlers (more_of-Handler x first _ others handlers) = m.more_handlers (plain_choices x) (m.in_order (plain_statement first) (plain_row others)) (plain_handlers handlers)
+
+  -- RM 9.5.2(3)
+  pub plain_accept : AcceptStatement → m.Accept
+  plain_accept (AcceptStatement' at i formals doing) = m.accept at i (map plain_formal formals.items) (plain_doing doing)
+
+  pub plain_doing : Held-AcceptStatement-doing → m.Doing
+  plain_doing None' = m.without_do
+  plain_doing (Some' _ x) = m.with_do (plain_body x)
+
+  -- RM 9.7.1
+  pub plain_select : SelectStatement → m.Statement
+  plain_select (SelectStatement' at guard x _ others _ otherwise) = m.select_accept at (plain_maybe guard) (plain_alternative x) (plain_alternatives others) (plain_row otherwise)
+
+  pub plain_alternatives : {n : _} → Row_of-Guarded n → m.Alternatives
+  plain_alternatives end_of-Guarded = m.no_alternatives
+  plain_alternatives (more_of-Guarded guard x others) = m.more_alternatives (plain_maybe guard) (plain_alternative x) (plain_alternatives others)
+
+  pub plain_alternative : Alternative → m.Alternative
+  plain_alternative (alternative.Accept' x _ behind) = m.accept_alternative (plain_accept x) (plain_row behind)
+  plain_alternative (alternative.Delay' x _ behind) = m.delay_alternative (plain_delay x) (plain_row behind)
+  plain_alternative alternative.Terminate = m.terminate_alternative
+
+  -- RM 9.7.2, 9.7.3
+  pub plain_other : Otherwise → m.Otherwise
+  plain_other (otherwise.Delay' x _ behind) = m.or_delay (plain_delay x) (plain_row behind)
+  plain_other (otherwise.Else' first _ others) = m.or_else (m.in_order (plain_statement first) (plain_row others))
 
 -- The same by the parts of what is in memory.
 
@@ -263,6 +317,30 @@ abbrev pub plain_body_parts : Body → m.Body
 plain_body_parts x =
     let y = out-Body x in
     m.body y.begin (plain_statements y.statements) (handler_list y.handlers.items) y.end y.name y.semicolon
+
+-- RM 9.5.2(3)
+abbrev pub plain_done : Option (Box Body Global) → m.Doing
+plain_done None = m.without_do
+plain_done (Some x) = m.with_do (plain_body x.value)
+
+abbrev pub plain_accept_parts : AcceptStatement → m.Accept
+plain_accept_parts s =
+    let x = out-AcceptStatement s in
+    m.accept x.at x.name (map plain_formal x.formals.items) (plain_done x.doing)
+
+-- RM 9.7.1
+abbrev pub guarded_list : List Guarded → m.Alternatives
+guarded_list [] = m.no_alternatives
+guarded_list (x ∷ xs) = m.more_alternatives (plain_maybe x.guard) (plain_alternative x.alternative) (guarded_list xs)
+
+abbrev pub plain_select_statement : SelectStatement → m.Statement
+plain_select_statement s =
+    let x = out-SelectStatement s in
+    m.select_accept x.at (plain_maybe x.first.guard) (plain_alternative x.first.alternative) (guarded_list x.others.items) (plain_others x.otherwise.items)
+
+-- RM 9.7.2, 9.7.3
+abbrev pub plain_selected_call : SelectedCall → m.Statement
+plain_selected_call x = m.select_call x.at (plain_name x.call) (plain_others x.behind.items) (plain_other x.otherwise)
 
 -- RM 8.4, 10.1.2
 abbrev pub plain_context : Context → m.Context

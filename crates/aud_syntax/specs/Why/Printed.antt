@@ -1,9 +1,10 @@
 -- The canonical text of a syntax tree: its words in order, each with a blank or, at the end of a line, a line feed behind it.
-use Rattle.std.specs.Prelude.{ℕ, ℤ, List, [], ◌∷◌, ◌++◌, ◌==◌, Bool, true, false, if◌then◌else◌, Option, Some, None, codes, nat_abs}
+use Rattle.std.specs.Prelude.{ℕ, ◌+◌, ◌/◌, ◌%◌, ℤ, List, [], ◌∷◌, ◌++◌, ◌==◌, Bool, true, false, if◌then◌else◌, Option, Some, None, codes, nat_abs}
 use Rattle.std.specs.Fmt.{decimal}
 use Rattle.aud_lex.specs.Why.Spaced.{Word, word, last_word, spaced}
 use Rattle.aud_syntax.specs.declared.tree.Ident.{Ident}
 use Rattle.aud_syntax.specs.declared.tree.Number.{Number}
+use Rattle.aud_syntax.specs.declared.tree.Real.{Real}
 use Rattle.aud_syntax.specs.declared.tree.Literal.{Literal}
 use Rattle.aud_syntax.specs.declared.tree.Sign.{Sign}
 use Rattle.aud_syntax.specs.declared.tree.Sign.TheVariants as sign
@@ -22,7 +23,7 @@ use Rattle.aud_syntax.specs.declared.tree.Connective.TheVariants as connective
 use Rattle.aud_syntax.specs.declared.tree.Bound.{Bound}
 use Rattle.aud_syntax.specs.declared.tree.Mode.{Mode}
 use Rattle.aud_syntax.specs.declared.tree.Mode.TheVariants as mode
-use Rattle.aud_syntax.specs.Plain.{Expression, alone, connected, Relations, no_relations, more_relations, Relation, unrelated, related, Simple, simple, Addeds, no_addeds, more_addeds, Added, added, Term, term, Multiplieds, no_multiplieds, more_multiplieds, Multiplied, multiplied, Factor, factor, Primary, integer, text, name, attribute, group, MaybeExpression, no_expression, an_expression, Name, named, Parts, no_parts, more_parts, NamePart, part, Args, no_args, more_args, Formal, formal, TaskDefinition, Declaration, object, constant, array, exception, procedure, task, task_body, Declarations, no_declarations, more_declarations, Statement, null, assign, call, if_then, loop, exit, block, return, raise, Arms, no_arms, more_arms, Iteration, forever, while, for, Choices, exceptions, others, Statements, in_order, MoreStatements, no_statements, more_statements, Body, body, Handlers, no_handlers, more_handlers, Context, with_text_io, use_text_io, Unit, unit}
+use Rattle.aud_syntax.specs.Plain.{Expression, alone, connected, Relations, no_relations, more_relations, Relation, unrelated, related, Simple, simple, Addeds, no_addeds, more_addeds, Added, added, Term, term, Multiplieds, no_multiplieds, more_multiplieds, Multiplied, multiplied, Factor, factor, Primary, integer, text, name, attribute, group, MaybeExpression, no_expression, an_expression, Name, named, Parts, no_parts, more_parts, NamePart, part, Args, no_args, more_args, Formal, formal, EntryDeclaration, TaskDefinition, Operation, entry_operation, procedure_operation, function_operation, PrivateItem, private_operation, components, Delay, delay_real, delay_duration, Names, no_names, more_names, Declaration, object, constant, array, exception, procedure, task, task_body, protected, protected_body, Declarations, no_declarations, more_declarations, Statement, null, assign, call, if_then, loop, exit, block, return, raise, accepting, delaying, select_accept, select_call, abort, requeue, Arms, no_arms, more_arms, Iteration, forever, while, for, Choices, exceptions, others, Statements, in_order, MoreStatements, no_statements, more_statements, Body, body, Handlers, no_handlers, more_handlers, OperationBody, entry_body, procedure_body, function_body, OperationBodies, no_bodies, more_bodies, Accept, accept, Doing, without_do, with_do, Alternative, accept_alternative, delay_alternative, terminate_alternative, Alternatives, no_alternatives, more_alternatives, Otherwise, or_delay, or_else, Context, with_text_io, use_text_io, Unit, unit}
 
 -- a name as the tree has it, in capitals (RM 2.3)
 abbrev pub ident_word : Ident → Word
@@ -35,6 +36,17 @@ number_digits None = codes "2147483648"
 
 abbrev pub number_word : Number → Word
 number_word x = word (number_digits x.value)
+
+-- the digits behind the point of a real number: three, or four where more than three were written (RM 2.4.1)
+abbrev pub decimal_digits : Option ℕ → List ℕ
+decimal_digits (Some n) = (48 + n / 100 % 10) ∷ (48 + n / 10 % 10) ∷ (48 + n % 10) ∷ []
+decimal_digits None = codes "0000"
+
+abbrev pub real_digits : Option ℤ → Option ℕ → List ℕ
+real_digits whole thousandths = number_digits whole ++ (46 ∷ decimal_digits thousandths)
+
+abbrev pub real_word : Real → Word
+real_word x = word (real_digits x.whole x.thousandths)
 
 -- a quote is written as two (RM 2.6(4))
 abbrev pub doubled : List ℕ → List ℕ
@@ -256,10 +268,22 @@ abbrev pub type_words : Bool → List Word
 type_words true = word (codes "type") ∷ []
 type_words false = []
 
+-- a word, a name and formal parameters
+abbrev pub head_words : List ℕ → Ident → List Formal → List Word
+head_words spelling x formals = word spelling ∷ ident_word x ∷ formals_words formals
+
+-- RM 9.5.2(2)
+abbrev pub entry_words : EntryDeclaration → List Word
+entry_words x = head_words (codes "entry") x.name x.formals ++ (last_word (codes ";") ∷ [])
+
+abbrev pub entries_words : List EntryDeclaration → List Word
+entries_words [] = []
+entries_words (x ∷ xs) = entry_words x ++ entries_words xs
+
 -- RM 9.1(4)
 abbrev pub definition_words : Option TaskDefinition → List Word
 definition_words None = []
-definition_words (Some x) = last_word (codes "is") ∷ word (codes "end") ∷ end_words x.end_name
+definition_words (Some x) = last_word (codes "is") ∷ (entries_words x.entries ++ (word (codes "end") ∷ end_words x.end_name))
 
 abbrev pub task_words : Bool → Ident → Option TaskDefinition → List Word
 task_words is_type x definition = word (codes "task") ∷ (type_words is_type ++ (ident_word x ∷ (definition_words definition ++ (last_word (codes ";") ∷ []))))
@@ -299,6 +323,70 @@ return_words e = word (codes "return") ∷ (value_words e ++ (last_word (codes "
 abbrev pub raise_words : Option Ident → List Word
 raise_words x = word (codes "raise") ∷ (end_words x ++ (last_word (codes ";") ∷ []))
 
+-- RM 9.6
+
+abbrev pub seconds_words : Real → List Word
+seconds_words x = word (codes "delay") ∷ real_word x ∷ last_word (codes ";") ∷ []
+
+abbrev pub duration_words : Expression → List Word
+duration_words e = word (codes "delay") ∷ word (codes "DURATION") ∷ (in_parentheses (expression_words e) ++ (last_word (codes ";") ∷ []))
+
+abbrev pub delay_words : Delay → List Word
+delay_words (delay_real at x) = seconds_words x
+delay_words (delay_duration at e) = duration_words e
+
+-- RM 9.8
+abbrev pub more_names_words : Names → List Word
+more_names_words no_names = []
+more_names_words (more_names x xs) = (word (codes ",") ∷ name_words x) ++ more_names_words xs
+
+abbrev pub abort_words : Name → Names → List Word
+abort_words x xs = word (codes "abort") ∷ ((name_words x ++ more_names_words xs) ++ (last_word (codes ";") ∷ []))
+
+-- RM 9.5.4
+abbrev pub with_abort_words : Bool → List Word
+with_abort_words true = word (codes "with") ∷ word (codes "abort") ∷ []
+with_abort_words false = []
+
+abbrev pub requeue_words : Name → Bool → List Word
+requeue_words x with_abort = word (codes "requeue") ∷ (name_words x ++ (with_abort_words with_abort ++ (last_word (codes ";") ∷ [])))
+
+-- the condition in front of an alternative (RM 9.7.1(2))
+abbrev pub guard_words : MaybeExpression → List Word
+guard_words no_expression = []
+guard_words (an_expression e) = word (codes "when") ∷ (expression_words e ++ (last_word (codes "=>") ∷ []))
+
+-- RM 9.4(5)
+abbrev pub operation_words : Operation → List Word
+operation_words (entry_operation x) = entry_words x
+operation_words (procedure_operation x formals) = head_words (codes "procedure") x formals ++ (last_word (codes ";") ∷ [])
+operation_words (function_operation x formals subtype) = head_words (codes "function") x formals ++ (word (codes "return") ∷ ident_word subtype ∷ last_word (codes ";") ∷ [])
+
+abbrev pub operations_words : List Operation → List Word
+operations_words [] = []
+operations_words (x ∷ xs) = operation_words x ++ operations_words xs
+
+-- RM 9.4(6)
+abbrev pub private_item_words : PrivateItem → List Word
+private_item_words (private_operation x) = operation_words x
+private_item_words (components x xs subtype value) = object_words x xs subtype value
+
+abbrev pub private_items_words : List PrivateItem → List Word
+private_items_words [] = []
+private_items_words (x ∷ xs) = private_item_words x ++ private_items_words xs
+
+abbrev pub private_words : Option (List PrivateItem) → List Word
+private_words None = []
+private_words (Some xs) = word (codes "private") ∷ private_items_words xs
+
+-- `end`, the name behind it and a semicolon
+abbrev pub ending_words : Option Ident → List Word
+ending_words last = word (codes "end") ∷ (end_words last ++ (last_word (codes ";") ∷ []))
+
+-- RM 9.4(3, 4)
+abbrev pub protected_words : Ident → List Operation → Option (List PrivateItem) → Option Ident → List Word
+protected_words x operations hidden last = word (codes "protected") ∷ ident_word x ∷ last_word (codes "is") ∷ (operations_words operations ++ (private_words hidden ++ ending_words last))
+
 -- RM 5.6
 abbrev pub declare_words : Bool → List Word
 declare_words true = last_word (codes "declare") ∷ []
@@ -327,6 +415,22 @@ abbrev pub otherwise_words : MoreStatements → List Word → List Word
 otherwise_words no_statements statements = []
 otherwise_words (more_statements x xs) statements = last_word (codes "else") ∷ statements
 
+-- statements behind `begin` or `do`, with their handlers (RM 11.2, 9.5.2(3))
+abbrev pub enclosed_words : List ℕ → List Word → List Word → Option Ident → List Word
+enclosed_words spelling statements handlers last = last_word spelling ∷ (statements ++ (handlers ++ ending_words last))
+
+-- the head of an operation's body, and the declarations and statements in it
+abbrev pub headed_words : List ℕ → Ident → List Formal → List Word → List Word → List Word
+headed_words spelling x formals further inside = head_words spelling x formals ++ (further ++ (last_word (codes "is") ∷ inside))
+
+-- RM 9.7.1(7)
+abbrev pub terminate_words : List Word
+terminate_words = word (codes "terminate") ∷ last_word (codes ";") ∷ []
+
+-- `end select;`
+abbrev pub end_select_words : List Word
+end_select_words = word (codes "end") ∷ word (codes "select") ∷ last_word (codes ";") ∷ []
+
 -- declarations, statements and bodies (RM 3.1, 5.1, 11.2)
 abbrev mutual
   pub declaration_words : Declaration → List Word
@@ -337,6 +441,8 @@ abbrev mutual
   declaration_words (procedure at x formals declarations rest) = word (codes "procedure") ∷ ident_word x ∷ (formals_words formals ++ (last_word (codes "is") ∷ (declarations_words declarations ++ body_words rest)))
   declaration_words (task at is_type x definition) = task_words is_type x definition
   declaration_words (task_body at x declarations rest) = word (codes "task") ∷ word (codes "body") ∷ ident_word x ∷ last_word (codes "is") ∷ (declarations_words declarations ++ body_words rest)
+  declaration_words (protected at x operations hidden last) = protected_words x operations hidden last
+  declaration_words (protected_body at x bodies last) = word (codes "protected") ∷ word (codes "body") ∷ ident_word x ∷ last_word (codes "is") ∷ (operation_bodies_words bodies ++ ending_words last)
 
   pub declarations_words : Declarations → List Word
   declarations_words no_declarations = []
@@ -352,6 +458,12 @@ abbrev mutual
   statement_words (block label at declare declarations rest) = label_words label ++ (declare_words declare ++ (declarations_words declarations ++ body_words rest))
   statement_words (return at e) = return_words e
   statement_words (raise at x) = raise_words x
+  statement_words (accepting x) = accept_words x
+  statement_words (delaying x) = delay_words x
+  statement_words (select_accept at e x xs otherwise) = last_word (codes "select") ∷ ((guard_words e ++ alternative_words x) ++ (alternatives_words xs ++ (otherwise_words otherwise (more_statements_words otherwise) ++ end_select_words)))
+  statement_words (select_call at x behind otherwise) = last_word (codes "select") ∷ (call_words x ++ (more_statements_words behind ++ (other_words otherwise ++ end_select_words)))
+  statement_words (abort at x xs) = abort_words x xs
+  statement_words (requeue at x with_abort) = requeue_words x with_abort
 
   pub more_statements_words : MoreStatements → List Word
   more_statements_words no_statements = []
@@ -366,11 +478,53 @@ abbrev mutual
 
   -- RM 11.2
   pub body_words : Body → List Word
-  body_words (body begin statements handlers end last semicolon) = last_word (codes "begin") ∷ (statements_words statements ++ (handled_words handlers (handlers_words handlers) ++ (word (codes "end") ∷ (end_words last ++ (last_word (codes ";") ∷ [])))))
+  body_words (body begin statements handlers end last semicolon) = enclosed_words (codes "begin") (statements_words statements) (handled_words handlers (handlers_words handlers)) last
 
   pub handlers_words : Handlers → List Word
   handlers_words no_handlers = []
   handlers_words (more_handlers x s xs) = handler_words x (statements_words s) ++ handlers_words xs
+
+  -- RM 9.4(8)
+  pub operation_body_words : OperationBody → List Word
+  operation_body_words (entry_body at x formals e declarations rest) = headed_words (codes "entry") x formals (word (codes "when") ∷ expression_words e) (declarations_words declarations ++ body_words rest)
+  operation_body_words (procedure_body at x formals declarations rest) = headed_words (codes "procedure") x formals [] (declarations_words declarations ++ body_words rest)
+  operation_body_words (function_body at x formals subtype declarations rest) = headed_words (codes "function") x formals (word (codes "return") ∷ ident_word subtype ∷ []) (declarations_words declarations ++ body_words rest)
+
+  pub operation_bodies_words : OperationBodies → List Word
+  operation_bodies_words no_bodies = []
+  operation_bodies_words (more_bodies x xs) = operation_body_words x ++ operation_bodies_words xs
+
+  -- RM 9.5.2(3)
+  pub accept_words : Accept → List Word
+  accept_words (accept at x formals doing) = head_words (codes "accept") x formals ++ doing_words doing
+
+  pub doing_words : Doing → List Word
+  doing_words without_do = last_word (codes ";") ∷ []
+  doing_words (with_do (body begin statements handlers end last semicolon)) = enclosed_words (codes "do") (statements_words statements) (handled_words handlers (handlers_words handlers)) last
+
+  -- RM 9.7.1(3)
+  pub alternative_words : Alternative → List Word
+  alternative_words (accept_alternative x behind) = accept_words x ++ more_statements_words behind
+  alternative_words (delay_alternative x behind) = delay_words x ++ more_statements_words behind
+  alternative_words terminate_alternative = terminate_words
+
+  -- RM 9.7.1(2)
+  pub alternatives_words : Alternatives → List Word
+  alternatives_words no_alternatives = []
+  alternatives_words (more_alternatives e x xs) = (last_word (codes "or") ∷ (guard_words e ++ alternative_words x)) ++ alternatives_words xs
+
+  -- RM 9.7.2, 9.7.3
+  pub other_words : Otherwise → List Word
+  other_words (or_delay x behind) = last_word (codes "or") ∷ (delay_words x ++ more_statements_words behind)
+  other_words (or_else statements) = last_word (codes "else") ∷ statements_words statements
+
+-- RM 9.7.1(2)
+abbrev pub guarded_words : MaybeExpression → Alternative → List Word
+guarded_words e x = guard_words e ++ alternative_words x
+
+-- a body behind this word
+abbrev pub words_behind : List ℕ → Body → List Word
+words_behind spelling (body begin statements handlers end last semicolon) = enclosed_words spelling (statements_words statements) (handled_words handlers (handlers_words handlers)) last
 
 -- RM 8.4, 10.1.2
 abbrev pub context_spelling : Context → List ℕ

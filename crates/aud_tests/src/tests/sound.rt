@@ -40,10 +40,12 @@ fn is_sound(
 
 // A step that puts a text, and the end of its body; behind the step's instruction these operands are written.
 fn puts(alloc: Global, instruction: Instruction, left: Counts) -> Result<bool, AllocError> {
-    let mut lines = Vec::new(alloc);
-    lines.push(Line::Instruction(instruction))?;
-    lines.push(line(Last::Does(Ending::Put, 2), 2, None))?;
-    lines.push(line(Last::Ends(Construct::Unit, 0), 2, None))?;
+    let lines = [
+        Line::Instruction(instruction),
+        line(Last::Does(Ending::Put, 2), 2, None),
+        line(Last::Ends(Construct::Unit, 0), 2, None),
+    ];
+    let lines = Vec::from_array(alloc, lines)?;
     let operands = Vec::from_array(alloc, [NOTHING, left, NOTHING])?;
     is_sound(alloc, lines, operands, vec![in alloc; 1; 3]?)
 }
@@ -106,16 +108,17 @@ fn returns(alloc: Global, loops: usize, inside: usize) -> Result<bool, AllocErro
         behind: 7,
         inside: 6,
     };
-    let mut lines = Vec::new(alloc);
-    for _ in 0..2 {
-        lines.push(Line::Instruction(Instruction::PushTruth(true)))?;
-        lines.push(Line::Instruction(Instruction::Cell))?;
-    }
-    lines.push(line(Last::Does(begins, 7), 7, None))?;
-    lines.push(line(goes_on, 7, Some(0)))?;
     let way = Way { to: 7, loops };
-    lines.push(line(Last::Does(Ending::Return(way), 5), 7, Some(0)))?;
-    lines.push(line(Last::Ends(Construct::Unit, 0), 7, None))?;
+    let lines = [
+        Line::Instruction(Instruction::PushTruth(true)),
+        Line::Instruction(Instruction::Cell),
+        Line::Instruction(Instruction::PushTruth(true)),
+        Line::Instruction(Instruction::Cell),
+        line(Last::Does(begins, 7), 7, None),
+        line(goes_on, 7, Some(0)),
+        line(Last::Does(Ending::Return(way), 5), 7, Some(0)),
+        line(Last::Ends(Construct::Unit, 0), 7, None),
+    ];
     let second = Counts {
         booleans: 1,
         ..INTEGER
@@ -130,7 +133,7 @@ fn returns(alloc: Global, loops: usize, inside: usize) -> Result<bool, AllocErro
     let seen = [1, 1, 1, 1, 1, inside, inside, 1];
     is_sound(
         alloc,
-        lines,
+        Vec::from_array(alloc, lines)?,
         Vec::from_array(alloc, operands)?,
         Vec::from_array(alloc, seen)?,
     )

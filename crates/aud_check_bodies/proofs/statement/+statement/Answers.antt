@@ -42,6 +42,7 @@ use Rattle.aud_check_bodies.proofs.Walked.{Is, is_fine, is_after, is_then, check
 use Rattle.aud_check_bodies.proofs.Bodies.{body_left, iterated_left, loop_left, behind_left, entered_left, block_left, unit_left, procedure_left, task_left}
 use Rattle.aud_check_bodies.proofs.Declared.{declares_all, declarations_ahead, all_declared, keeps_tables, declares_exceptions, declares_task}
 use Rattle.aud_typing.proofs.Notes.{noted_append}
+use Rattle.aud_check_bodies.proofs.Later.{left_null, accept_left, delay_left, select_left, is_selected_call, selected_call_left}
 use Rattle.aud_check_bodies.proofs.statement.+statement.Goals as goal
 
 pub arms-loop-next-init : goal.arms-loop-next-init
@@ -170,6 +171,22 @@ statement-returns-in-Exit t c =
     let found = c.exit_loop-found.result in
     let whole = checks_leaf (in_box plain_typed_statement) c.exit.result c.args.faults.now c.exit.new.faults (plain_tables c.args.tables.now) (exit_in_loop (is_some found) e.at ++ maybe_condition_faults (plain_maybe e.condition) place) (tree.exit e.at (loop_number found) (maybe_condition (plain_maybe e.condition) place)) c.exit.ensures in
     rw (e.is, sym c.exit_loop-found.ensures) whole
+
+pub statement-returns-in-Accept : goal.statement-returns-in-Accept
+statement-returns-in-Accept t c =
+    left_null c.null_at-in-Accept.result c.args.faults.now (plain_tables c.args.tables.now) (accept_left (around_of c.args.within) c.args.within.scope.now (plain_tables c.args.tables.now) c.in-Accept.is) c.null_at-in-Accept.ensures
+
+pub statement-returns-in-Delay : goal.statement-returns-in-Delay
+statement-returns-in-Delay t c =
+    left_null c.null_at-in-Delay.result c.args.faults.now (plain_tables c.args.tables.now) (delay_left (around_of c.args.within) c.args.within.scope.now (plain_tables c.args.tables.now) c.in-Delay.is) c.null_at-in-Delay.ensures
+
+pub statement-returns-in-Select : goal.statement-returns-in-Select
+statement-returns-in-Select t c =
+    left_null c.null_at-in-Select.result c.args.faults.now (plain_tables c.args.tables.now) (select_left (around_of c.args.within) c.args.within.scope.now (plain_tables c.args.tables.now) c.in-Select.is) c.null_at-in-Select.ensures
+
+pub statement-returns-in-SelectCall : goal.statement-returns-in-SelectCall
+statement-returns-in-SelectCall t c =
+    left_null c.null_at-in-SelectCall.result c.args.faults.now (plain_tables c.args.tables.now) (selected_call_left c.args.statement.now (around_of c.args.within) c.args.within.scope.now (plain_tables c.args.tables.now) (ap is_selected_call c.in-SelectCall.is)) c.null_at-in-SelectCall.ensures
 
 pub arm-returns : goal.arm-returns
 arm-returns t c =

@@ -4,8 +4,8 @@ use Rattle.aud_lex.specs.declared.token.Kind.TheVariants as kind
 use Rattle.std.proofs.Common.{List, [], ◌∷◌, ap, sym, ◌∙◌, refl, rules, arith}
 use Rattle.aud_grammar.specs.Ties.Outcome.{o_rule, o_this, o_other, o_last, o_yes, o_no, o_more}
 use Rattle.aud_grammar.specs.Actions.{an_ident, token, made}
-use Rattle.aud_cursor.specs.Ties.Items.{list_item}
-use Rattle.aud_parse.specs.Ties.Items.{handler_item, declaration_item, boxed_body_item}
+use Rattle.aud_cursor.specs.Ties.Items.{list_item, vec_item}
+use Rattle.aud_parse.specs.Ties.Items.{handler_item, declaration_item, boxed_body_item, boxed_statements_item}
 use Rattle.aud_cursor.proofs.Passing.{to, exit, hand_after, hand_on, level_on, no_level, word_passes, token_passes, turns_push, heads_none, heads_push, heads_end}
 use Rattle.aud_parse_expr.proofs.Joined.{exit_all, no_more_still}
 use Rattle.aud_parse.proofs.Completing.{completes, completes_in, exit_in, exit_among}
@@ -285,11 +285,16 @@ opt_handlers-returns t c = record { reads = λ k ds v o. to (o_no c.in_default.e
 pub body-returns-in_err-begin : goal.body-returns-in_err-begin
 body-returns-in_err-begin t c = exit _ _ _ c.from_residual.ensures.1 (c.in_err-begin.ensures.reads c.args.room) (λ k ds v o. o_rule o)
 
-pub body-returns-in_err-inner : goal.body-returns-in_err-inner
-body-returns-in_err-inner t c = exit _ _ _ c.from_residual-in_err-inner.ensures.1 c.in_err-inner.ensures.reads (λ k ds v o. o_rule (c.in_ok-begin.ensures.reads _ _ _ _ o))
-
-pub body-returns-in_err-handlers : goal.body-returns-in_err-handlers
-body-returns-in_err-handlers t c = exit _ _ _ c.from_residual-in_err-handlers.ensures.1 c.in_err-handlers.ensures.reads (λ k ds v o. o_rule (c.in_ok-begin.ensures.reads _ _ _ _ (c.in_ok-inner.ensures.reads _ _ _ o)))
-
 pub body-returns : goal.body-returns
-body-returns t c = completes _ c.args.start c.in_ok-handlers.rest _ (c.end_body.ensures c.args.room) (search rules) (λ k ds v o. o_rule (c.in_ok-begin.ensures.reads _ _ _ _ (c.in_ok-inner.ensures.reads _ _ _ (c.in_ok-handlers.ensures.reads _ _ _ o))))
+body-returns t c = completes _ c.args.start c.in_ok-begin.rest _ c.in_body.ensures (search rules) (λ k ds v o. o_rule (c.in_ok-begin.ensures.reads _ _ _ _ o))
+
+pub in_body-returns-in_err-inner : goal.in_body-returns-in_err-inner
+in_body-returns-in_err-inner t c = exit_in _ _ _ c.from_residual.ensures.1 c.in_err-inner.ensures.reads (λ k ds v o. o)
+
+pub in_body-returns-in_err-handlers : goal.in_body-returns-in_err-handlers
+in_body-returns-in_err-handlers t c = exit_in _ _ _ c.from_residual-in_err-handlers.ensures.1 c.in_err-handlers.ensures.reads (λ k ds v o. c.in_ok-inner.ensures.reads _ _ _ o)
+
+pub in_body-returns : goal.in_body-returns
+in_body-returns t c =
+    completes_in (λ ds. boxed_statements_item c.in_ok-inner.inner ∷ vec_item handler_item c.in_ok-handlers.handlers ∷ ds) _ c.args.start c.in_ok-handlers.rest _ (c.end_body.ensures c.args.room) (search rules)
+    (λ k ds v o. c.in_ok-inner.ensures.reads _ _ _ (c.in_ok-handlers.ensures.reads _ _ _ o)) (λ ds. refl)

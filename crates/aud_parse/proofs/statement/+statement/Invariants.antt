@@ -43,41 +43,44 @@ decreases-elsifs l = 16 * l.room + 3
 abbrev pub decreases-if_statement : goal.decreases-if_statement
 decreases-if_statement l = 16 * l.room + 4
 
+abbrev pub decreases-in_body : goal.decreases-in_body
+decreases-in_body l = 16 * l.room + 4
+
 abbrev pub decreases-body : goal.decreases-body
-decreases-body l = 16 * l.room + 4
+decreases-body l = 16 * l.room + 5
 
 abbrev pub decreases-block : goal.decreases-block
-decreases-block l = 16 * l.room + 5
+decreases-block l = 16 * l.room + 6
 
 abbrev pub decreases-procedure : goal.decreases-procedure
-decreases-procedure l = 16 * l.room + 5
+decreases-procedure l = 16 * l.room + 6
 
 abbrev pub decreases-task_body : goal.decreases-task_body
-decreases-task_body l = 16 * l.room + 5
+decreases-task_body l = 16 * l.room + 6
 
 abbrev pub decreases-task : goal.decreases-task
-decreases-task l = 16 * l.room + 6
+decreases-task l = 16 * l.room + 7
 
 abbrev pub decreases-declaration : goal.decreases-declaration
-decreases-declaration l = 16 * l.room + 7
+decreases-declaration l = 16 * l.room + 8
 
 abbrev pub decreases-declaration_list : goal.decreases-declaration_list
-decreases-declaration_list l = 16 * l.room + 8
+decreases-declaration_list l = 16 * l.room + 9
 
 abbrev pub decreases-labelled : goal.decreases-labelled
-decreases-labelled l = 16 * l.room + 6
+decreases-labelled l = 16 * l.room + 7
 
 abbrev pub decreases-name_statement : goal.decreases-name_statement
-decreases-name_statement l = 16 * l.room + 7
+decreases-name_statement l = 16 * l.room + 8
 
 abbrev pub decreases-statement : goal.decreases-statement
-decreases-statement l = 16 * l.room + 8
+decreases-statement l = 16 * l.room + 9
 
 abbrev pub decreases-more_statements : goal.decreases-more_statements
-decreases-more_statements l = 16 * l.room + 9
+decreases-more_statements l = 16 * l.room + 10
 
 abbrev pub decreases-statement_list : goal.decreases-statement_list
-decreases-statement_list l = 16 * l.room + 10
+decreases-statement_list l = 16 * l.room + 11
 
 abbrev pub invariant-elsifs-turns : goal.invariant-elsifs-turns
 invariant-elsifs-turns l = record { turns : Turns arm_item g.Elsif l.room l.start.tokens.now l.all.items l.rest.tokens.now; shorter : length l.rest.tokens.now ≤ length l.start.tokens.now }

@@ -11,7 +11,7 @@ pub returns-in_err-end_name : goal.returns-in_err-end_name
 returns-in_err-end_name c = exit_flat _ _ _ c.from_residual-in_err-end_name.ensures.1 (λ room. c.in_err-end_name.ensures.reads room) (λ room k ds v o. o_yes c.in-Some.ensures.reads.0 (o_rule (word_passes c.in-Some.ensures.reads _ _ _ (c.in_ok-rest.ensures.reads _ _ _ _ o))))
 
 pub returns-in-Some : goal.returns-in-Some
-returns-in-Some c = record { reads = λ room k ds v o. to (o_yes c.in-Some.ensures.reads.0 (o_rule (word_passes c.in-Some.ensures.reads _ _ _ (c.in_ok-rest.ensures.reads _ _ _ _ (c.in_ok-end_name.ensures.reads _ _ _ _ o))))) (definition_items c.in_ok-end_name.end_name ds); shorter = omega (arith, c.in-Some.ensures.shorter, c.in_ok-rest.ensures.shorter, c.in_ok-end_name.ensures.shorter) }
+returns-in-Some c = record { reads = λ room k ds v o. to (o_yes c.in-Some.ensures.reads.0 (o_rule (word_passes c.in-Some.ensures.reads _ _ _ (c.in_ok-rest.ensures.reads _ _ _ _ (c.in_ok-end_name.ensures.reads _ _ _ _ o))))) (definition_items c.new-entries.result c.in_ok-end_name.end_name ds c.new-entries.ensures.items); shorter = omega (arith, c.in-Some.ensures.shorter, c.in_ok-rest.ensures.shorter, c.in_ok-end_name.ensures.shorter) }
 
 pub returns : goal.returns
 returns c = record { reads = λ room k ds v o. o_no c.in_default.ensures.reads o; shorter = omega arith }
