@@ -408,11 +408,15 @@ def loops(program, others):
             print(f"    {name:23}{fast(each)}{beside}")
 
 
-def turns(tasks, over=0):
-    """So many tasks that loop beside as many as are terminated: each goes around until it has done its share of some 900,000 steps."""
+def turns(tasks, over=0, waiting=0):
+    """So many tasks that loop, beside others that are terminated or wait for a call: each goes around until it has done its share of some
+    900,000 steps."""
     count = 900_000 // (3 * tasks)
     lines = ["procedure B is", "task type Looping;"]
     lines += ["task type Over;", f"Gone : array (1 .. {over}) of Over;", "task body Over is begin null; end Over;"] if over else []
+    if waiting:
+        lines += ["task type Waiting is entry Stop; end Waiting;", f"Servers : array (1 .. {waiting}) of Waiting;"]
+        lines += ["task body Waiting is begin select accept Stop; or terminate; end select; end Waiting;"]
     lines += ["task body Looping is", "X, Y : Integer := 0;", "begin", f"while X < {count} loop", "X := X + 1;", "Y := X - Y;", "end loop;", "end Looping;"]
     lines += ["begin", "declare", f"All_Of : array (1 .. {tasks}) of Looping;", "begin", "null;", "end;", "end B;"]
     return "\n".join(lines) + "\n"
@@ -424,6 +428,8 @@ TASKS = [
     ("8 tasks that loop", turns(8)),
     ("60 tasks that loop", turns(60)),
     ("2 tasks that loop beside 58 that are terminated", turns(2, 58)),
+    ("1 task that loops beside 1 that waits", turns(1, waiting=1)),
+    ("1 task that loops beside 62 that wait", turns(1, waiting=62)),
 ]
 
 

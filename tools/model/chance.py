@@ -1,14 +1,21 @@
 """Writes sessions by chance: a program that the checker takes, and requests that run it in pieces and look at it between them, with
-choices where it has tasks."""
+choices and a clock that goes on where it has tasks; then programs that differ from it by a word, most of which it refuses."""
 import random
+import re
 
 EXCEPTIONS = ["Constraint_Error", "Program_Error", "Storage_Error", "Tasking_Error"]
 LONG = 60  # lists of statements behind which those that follow have one statement
 LINES = 400
+BROKEN = 5  # programs of a session that differ by a word
+
+
+INDEXES = ("1", "1", "2", "0")
 
 
 class Writer:
-    """What is visible is a list of kinds and names: variable, constant, array, exception, procedure, task, tasks, label."""
+    """What is visible is a list of kinds and names: variable, constant, array, exception, procedure, task, tasks, label; entry and
+    entries, with the names of the task, or the array of tasks, and the modes of their formals; accept, an entry of the task itself
+    with its formals, where it may be accepted; count, where its Count may stand."""
 
     def __init__(self, seed, with_tasks):
         self.by = random.Random(seed)
@@ -29,6 +36,9 @@ class Writer:
     def named(self, seen, *kinds):
         return [name for kind, name in seen if kind in kinds]
 
+    def without(self, seen, *kinds):
+        return [it for it in seen if it[0] not in kinds]
+
     # Expressions.
 
     def number(self, seen, depth=2):
@@ -41,13 +51,18 @@ class Writer:
             return f"{self.pick(*arrays)} ({self.pick('0', '1', '2', '3', '4')})"
         return self.pick(*scalars) if scalars and self.often(0.7) else str(self.pick(0, 1, 2, 3, 5, 2_147_483_647))
 
+    def index(self, seen):
+        return f" ({self.pick(*INDEXES) if self.often(0.8) else self.number(seen, 1)})"
+
     def truth(self, seen, depth=1):
         tasks = [(kind, name) for kind, name in seen if kind in ("task", "tasks")]
         kind = self.by.random()
         if tasks and kind < 0.3:
             kind, name = self.pick(*tasks)
-            index = f" ({self.pick('1', '1', '2', '0') if self.often(0.8) else self.number(seen, 1)})" if kind == "tasks" else ""
-            return f"{name}{index}'{self.pick('Callable', 'Terminated')}"
+            return f"{name}{self.index(seen) if kind == 'tasks' else ''}'{self.pick('Callable', 'Terminated')}"
+        counts = self.named(seen, "count")
+        if counts and kind < 0.45:
+            return f"{self.pick(*counts)}'Count {self.pick('=', '>', '<')} {self.pick(0, 1, 2)}"
         if kind < 0.5 and depth > 0:
             operator = self.pick("and", "or", "xor", "and then", "or else")
             return f"({self.truth(seen, depth - 1)} {operator} {self.truth(seen, depth - 1)})"
@@ -77,9 +92,9 @@ class Writer:
             return [f"{name} : exception;"]
         if depth <= 0:
             return []
-        if kind < 0.6 or not self.with_tasks:
+        if kind < 0.55 or not self.with_tasks:
             return self.procedure(seen, depth)
-        return self.single_task(seen, depth) if self.often(0.5) else self.task_type(seen, depth)
+        return self.single_tasks(seen, depth) if self.often(0.6) else self.task_type(seen, depth)
 
     def variables(self, seen):
         names = [self.fresh("V") for _ in range(self.pick(1, 1, 1, 2))]
@@ -88,46 +103,90 @@ class Writer:
         return [f"{', '.join(names)} : {self.pick('Integer', 'Integer', 'Natural', 'Positive')}{value};"]
 
     def procedure(self, seen, depth):
-        name, inner = self.fresh("P"), [it for it in seen if it[0] != "label"]
-        modes = [self.pick("in", "out", "in out") for _ in range(self.pick(0, 0, 1, 2))]
-        formals = [(self.fresh("F"), mode) for mode in modes]
-        inner += [("constant" if mode == "in" else "variable", formal) for formal, mode in formals]
-        text = "; ".join(f"{formal} : {mode} {self.pick('Integer', 'Natural')}" for formal, mode in formals)
-        lines = [f"procedure {name}{f' ({text})' if text else ''} is"]
-        lines += self.part(inner, depth - 1) + self.body(inner, depth - 1, True, f" {name}")
-        seen.append(("procedure", (name, tuple(modes))))
+        name, inner = self.fresh("P"), self.without(seen, "label", "accept", "count")
+        formals, text = self.formals()
+        inner += self.seen_within(formals)
+        lines = [f"procedure {name}{text} is"] + self.part(inner, depth - 1) + self.body(inner, depth - 1, True, f" {name}")
+        seen.append(("procedure", (name, self.modes(formals))))
         return lines
 
-    def single_task(self, seen, depth):
-        name = self.fresh("T")
-        head = f"task {name};" if self.often(0.7) else f"task {name} is end {name};"
-        seen.append(("task", name))
-        return [head] + self.task_body(name, seen, depth)
+    def formals(self):
+        """Names and modes, and their text."""
+        formals = [(self.fresh("F"), self.pick("in", "out", "in out")) for _ in range(self.pick(0, 0, 1, 2))]
+        text = "; ".join(f"{formal} : {mode} {self.pick('Integer', 'Natural')}" for formal, mode in formals)
+        return formals, f" ({text})" if text else ""
+
+    def seen_within(self, formals):
+        return [("constant" if mode == "in" else "variable", formal) for formal, mode in formals]
+
+    def modes(self, formals):
+        return tuple(mode for _, mode in formals)
+
+    def single_tasks(self, seen, depth):
+        """One, or two that see each other."""
+        lines, bodies = [], []
+        for _ in range(self.pick(1, 1, 2)):
+            name, entries = self.fresh("T"), self.entries()
+            lines += self.task_head("task", name, entries)
+            seen += [("task", name)] + self.seen_outside("entry", name, entries)
+            bodies.append((name, entries))
+        for name, entries in bodies:
+            lines += self.task_body(name, entries, seen, depth)
+        return lines
+
+    def entries(self):
+        return [(self.fresh("N"), *self.formals()) for _ in range(self.pick(0, 1, 1, 2))]
+
+    def task_head(self, word, name, entries):
+        if not entries and self.often(0.7):
+            return [f"{word} {name};"]
+        return [f"{word} {name} is"] + [f"entry {entry}{text};" for entry, _, text in entries] + [f"end {name};"]
+
+    def seen_outside(self, kind, name, entries):
+        return [(kind, (name, entry, self.modes(formals))) for entry, formals, _ in entries]
 
     def task_type(self, seen, depth):
-        name = self.fresh("TT")
+        name, entries = self.fresh("TT"), self.entries()
+        lines = self.task_head("task type", name, entries)
         if self.often(0.3):
-            objects = self.objects(name, seen)
-            return [f"task type {name};"] + objects + self.task_body(name, seen, depth)
-        body = self.task_body(name, seen, depth)
-        return [f"task type {name};"] + body + self.objects(name, seen)
+            return lines + self.objects(name, entries, seen) + self.task_body(name, entries, seen, depth)
+        return lines + self.task_body(name, entries, seen, depth) + self.objects(name, entries, seen)
 
-    def objects(self, task_type, seen):
+    def objects(self, task_type, entries, seen):
         lines = []
         for _ in range(self.pick(1, 1, 2)):
             name = self.fresh("O")
             if self.often(0.5):
                 lines.append(f"{name} : {task_type};")
-                seen.append(("task", name))
+                seen += [("task", name)] + self.seen_outside("entry", name, entries)
             else:
                 lines.append(f"{name} : array ({self.pick('1 .. 2', '1 .. 3', '1 .. 2', '0 .. 1', '1 .. 0')}) of {task_type};")
-                seen.append(("tasks", name))
+                seen += [("tasks", name)] + self.seen_outside("entries", name, entries)
         return lines
 
-    def task_body(self, name, seen, depth):
-        inner = [it for it in seen if it[0] != "label" and it != ("task", name)] + [("task", name)]
+    def task_body(self, name, entries, seen, depth):
+        inner = [it for it in self.without(seen, "label", "accept", "count") if it != ("task", name)] + [("task", name)]
+        for entry, formals, text in entries:
+            inner += [("accept", (entry, formals, text)), ("count", entry)]
         part = self.part(inner, depth - 1) if self.often(0.6) else []
+        if entries and self.often(0.5):
+            return [f"task body {name} is"] + part + ["begin"] + self.server(inner, depth - 1) + [f"end {name};"]
         return [f"task body {name} is"] + part + self.body(inner, depth - 1, False, f" {name}")
+
+    def server(self, seen, depth):
+        """A loop of accepts that ends with the program, or before."""
+        lines = ["loop"] + self.select(seen, depth, False, False, ["or", "terminate;"])
+        return lines + ([f"exit when {self.truth(seen)};"] if self.often(0.3) else []) + ["end loop;"]
+
+    def client(self, seen):
+        """A task that calls and calls."""
+        name, variable = self.fresh("T"), self.fresh("V")
+        inner = seen + [("variable", variable)]
+        lines = [f"task {name};", f"task body {name} is", f"{variable} : Integer;", "begin"]
+        lines += [f"for {self.fresh('I')} in 1 .. {self.pick(2, 3, 5)} loop", self.entry_call(inner) or self.delay(inner)]
+        for _ in range(self.pick(0, 1, 1, 2)):
+            lines += self.tasking(inner, 1, False, False)
+        return lines + ["end loop;", f"end {name};"]
 
     # Statements.
 
@@ -158,6 +217,8 @@ class Writer:
 
     def statement(self, seen, depth, returns, handling):
         kind = self.by.random()
+        if self.with_tasks and self.often(0.4 if self.named(seen, "entry", "entries") else 0.05):
+            return self.tasking(seen, depth, returns, handling)
         if kind < 0.63 or depth <= 0:
             return [self.simple(seen, kind, returns, handling)]
         if kind < 0.73:
@@ -192,10 +253,89 @@ class Writer:
         if not procedures:
             return "null;"
         name, modes = self.pick(*procedures)
+        arguments = self.arguments(seen, modes, variables)
+        return "null;" if arguments is None else f"{name}{arguments};"
+
+    def arguments(self, seen, modes, variables):
+        """None where a variable is wanted and none is there."""
         if not variables and any(mode != "in" for mode in modes):
-            return "null;"
+            return None
         arguments = [self.number(seen, 1) if mode == "in" else self.pick(*variables) for mode in modes]
-        return f"{name} ({', '.join(arguments)});" if arguments else f"{name};"
+        return f" ({', '.join(arguments)})" if arguments else ""
+
+    # Calls of entries, accepts, delays, selects.
+
+    def tasking(self, seen, depth, returns, handling):
+        kind = self.by.random()
+        accepts = self.named(seen, "accept")
+        if accepts and kind < 0.25:
+            return self.accept(seen, self.pick(*accepts), depth, handling)
+        if accepts and kind < 0.5:
+            return self.select(seen, depth, returns, handling, self.last(seen, depth, returns, handling))
+        if self.often(0.15):
+            return [self.delay(seen)]
+        call = self.entry_call(seen)
+        return self.offer(call, seen, depth, returns, handling) if call and self.often(0.6) else [call or "null;"]
+
+    def delay(self, seen):
+        if self.often(0.8):
+            return f"delay {self.pick('0.0', '0.001', '0.250', '0.5', '1.0', '1.0', '2.75')};"
+        return f"delay Duration ({self.number(seen, 1)});"
+
+    def entry_call(self, seen):
+        calls = [(kind, name) for kind, name in seen if kind in ("entry", "entries")]
+        if not calls:
+            return None
+        kind, (task, entry, modes) = self.pick(*calls)
+        arguments = self.arguments(seen, modes, self.named(seen, "variable"))
+        return None if arguments is None else f"{task}{self.index(seen) if kind == 'entries' else ''}.{entry}{arguments};"
+
+    def accept(self, seen, accept, depth, handling):
+        entry, formals, text = accept
+        head = f"accept {entry}{text}"
+        if self.often(0.2):
+            return [f"{head};"]
+        inner = [it for it in self.without(seen, "label") if it != ("accept", accept)] + self.seen_within(formals)
+        lines = [f"{head} do"] + self.statements(inner, depth - 1, True, handling)
+        if self.often(0.15):
+            lines += self.handlers(inner, depth - 1, True)
+        return lines + [f"end {entry};"]
+
+    def select(self, seen, depth, returns, handling, last):
+        lines = ["select"]
+        for number in range(self.pick(1, 2, 2, 3)):
+            lines += ["or"] * (number > 0) + self.guard(seen) + self.accept(seen, self.pick(*self.named(seen, "accept")), depth, handling)
+            lines += self.behind(seen, depth, returns, handling)
+        return lines + last + ["end select;"]
+
+    def guard(self, seen):
+        return [f"when {self.truth(seen)} =>"] if self.often(0.3) else []
+
+    def behind(self, seen, depth, returns, handling):
+        return self.statements(seen, depth - 1, returns, handling) if self.often(0.4) else []
+
+    def last(self, seen, depth, returns, handling):
+        """Beside the accepts of a select: nothing, an else part, delays, or terminate."""
+        kind = self.by.random()
+        if kind < 0.2:
+            return ["else"] + self.statements(seen, depth - 1, returns, handling)
+        if kind < 0.4:
+            return ["or"] + self.guard(seen) + ["terminate;"]
+        lines = []
+        for _ in range(self.pick(1, 1, 2) if kind < 0.8 else 0):
+            lines += ["or"] + self.guard(seen) + [self.delay(seen)] + self.behind(seen, depth, returns, handling)
+        return lines
+
+    def offer(self, call, seen, depth, returns, handling):
+        """A timed or conditional call."""
+        lines = ["select", call] + self.behind(seen, depth, returns, handling)
+        if self.often(0.4):
+            lines += ["else"] + self.statements(seen, depth - 1, returns, handling)
+        else:
+            lines += ["or", self.delay(seen)] + self.behind(seen, depth, returns, handling)
+        return lines + ["end select;"]
+
+    # Statements that hold others.
 
     def branch(self, seen, depth, returns, handling):
         lines = [f"if {self.truth(seen)} then"] + self.statements(seen, depth - 1, returns, handling)
@@ -219,7 +359,8 @@ class Writer:
     def program(self):
         """Its lines: no string has a space, so any space may be a line's end."""
         seen = []
-        lines = ["procedure M is"] + self.part(seen, 3) + self.part(seen, 3) + self.body(seen, 3, True, " M")
+        tasks = self.single_tasks(seen, 3) + self.client(seen) + self.client(seen) if self.with_tasks and self.often(0.7) else []
+        lines = ["procedure M is"] + tasks + self.part(seen, 3) + self.part(seen, 3) + self.body(seen, 3, True, " M")
         return "".join("\n" if it == " " and self.often(0.03) else it for it in "\n".join(lines)).split("\n")
 
 
@@ -234,6 +375,11 @@ def deed(by, with_tasks):
     return by.choice(["RESET", f"ADVANCE {by.choice([0, 1, 250, 1_000_000_000])}"])
 
 
+def waits(by):
+    """Time goes on, so that delays end."""
+    return [f"ADVANCE {by.choice([1, 250, 250, 500, 1_000, 2_750])}", "MOVES", f"RUN {by.randrange(1, 200)}"]
+
+
 def look(by):
     if by.random() < 0.5:
         return f"VARS {by.choice([0, 1, 1, 1, 1, 2, 2, 3, by.randrange(1, 9), 65, 9_999])}"
@@ -244,8 +390,26 @@ def requests(by, with_tasks):
     """Steps and runs in pieces, choices, and what is shown between them; then the program to its end."""
     lines = []
     for _ in range(by.randrange(30)):
-        lines += [deed(by, with_tasks)] + [look(by) for _ in range(by.randrange(4))]
-    return lines + ["RUN 20000", "MOVES", "TASKS", "VARS 1", "VARS 2", "OUTPUT", "CLOCK"] + (["CHOOSE 0"] if with_tasks else []) + ["QUIT"]
+        lines += waits(by) if with_tasks and by.random() < 0.15 else [deed(by, with_tasks)]
+        lines += [look(by) for _ in range(by.randrange(4))]
+    if with_tasks:
+        lines += ["RUN 5000", *waits(by), "QUEUES", *waits(by), "QUEUES", "ADVANCE 1000000000"]
+    return lines + ["RUN 20000", "MOVES", "TASKS", "VARS 1", "VARS 2", "OUTPUT", "CLOCK"] + (["CHOOSE 0"] if with_tasks else [])
+
+
+def broken(program, by):
+    """It with a name exchanged for another one, or with any word or sign left out, doubled, or exchanged."""
+    parts = re.findall(r"\s+|\w+|[^\w\s]", "\n".join(program))
+    form = by.choice([r"[A-Z]\w*", r"[A-Z]\w*|\d+", r"\S+"])
+    places = [place for place, part in enumerate(parts) if re.fullmatch(form, part)]
+    place, other = by.choice(places), by.choice(places)
+    changed = [parts[other]] if form != r"\S+" else ["", f"{parts[place]} {parts[place]}", parts[other], f"{parts[other]} {parts[place]}"]
+    parts[place] = by.choice(changed)
+    return "".join(parts).split("\n")
+
+
+def load(program):
+    return [f"LOAD {len(program)}"] + program
 
 
 def session(seed, with_tasks):
@@ -254,4 +418,8 @@ def session(seed, with_tasks):
     while len(program) > LINES or any(len(line) > 1_000 for line in program):
         seed += 1_000_003
         program = Writer(seed, with_tasks).program()
-    return [f"LOAD {len(program)}"] + program + requests(random.Random(seed), with_tasks)
+    by = random.Random(seed)
+    lines = load(program) + requests(by, with_tasks)
+    for _ in range(BROKEN):
+        lines += load(broken(program, by)) + ["RUN 100", "TASKS"]
+    return lines + ["QUIT"]

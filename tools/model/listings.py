@@ -1,13 +1,11 @@
 """What a program under way shows: a list of lines for each listing."""
-from meaning import Array, Running
+from state import Array, Running
 
 
 def status(machine, task):
-    if task.status in ("terminated", "completed", "created"):
+    if task.status != "running":
         return task.status
-    if task.status == "activating":
-        return "activation"
-    return "ready" if machine.is_enabled(task) else "master"
+    return "master" if machine.is_held(task) else "ready"
 
 
 def line(task):
@@ -23,13 +21,22 @@ def tasks(machine):
 
 
 def queues(machine):
-    """No program has entries so far."""
-    return []
+    numbers = {id(task): number for number, task in enumerate(machine.tasks, 1)}
+    lines = []
+    for number, task in enumerate(machine.tasks, 1):
+        for entry, calls in task.queues.items():
+            if calls:
+                lines.append(f"task {number} {task.name}.{entry}:" + "".join(f" {numbers[id(call.caller)]}" for call in calls))
+    return lines
 
 
 def moves(machine):
     numbers = {id(task): number for number, task in enumerate(machine.tasks, 1)}
-    return [f"{move} {numbers[id(task)]} {task.name} {line(task)} {task.next.kind}" for move, task in enumerate(machine.moves())]
+    lines = []
+    for number, move in enumerate(machine.moves()):
+        alternative = f" {move.alternative}" if move.alternative else ""
+        lines.append(f"{number} {numbers[id(move.task)]} {move.task.name} {line(move.task)} {move.kind}{alternative}")
+    return lines
 
 
 def shown(value):

@@ -1,215 +1,18 @@
-"""Reads a program of the language: tokens, then trees. It takes programs that are right; what is wrong is for the crates to tell."""
-import re
-from dataclasses import dataclass, field
-
-RESERVED = set(
-    "abort abs abstract accept access aliased all and array at begin body case constant declare delay delta digits do else elsif end entry"
-    " exception exit for function generic goto if in interface is limited loop mod new not null of or others out overriding package parallel"
-    " pragma private procedure protected raise range record rem renames requeue return reverse select separate some subtype synchronized"
-    " tagged task terminate then type until use when while with xor".split()
+"""Reads a program of the language, or tells the place at which it is none."""
+from tokens import Fault, Token, tokens, word
+from trees import (
+    Accept, Alternative, Arrays, Assign, Attribute, Binary, Block, Body, Call, Delay, Entry, Exceptions, Exit, Formal, If, Loop, Name,
+    Null, Number, Objects, Offer, Procedure, Raise, Range, Return, Select, String, Task, TaskBody, Terminate, Unary,
 )
-COMMENT = re.compile(r'("(?:[^"\n]|"")*")|--[^\n]*')
-TOKEN = re.compile(r'\s*(?:(?P<number>\d[\d_]*)|(?P<word>[A-Za-z]\w*)|(?P<string>"(?:[^"\n]|"")*")|(?P<mark>=>|\.\.|:=|/=|>=|<=|[&\'()*+,\-./:;<=>|]))')
 
-
-@dataclass
-class Token:
-    """What it is (number, name, string, mark or end), its text, names in capitals, reserved words in small letters, and its line."""
-
-    kind: str
-    text: str
-    line: int
-
-
-def tokens(source):
-    source = COMMENT.sub(lambda found: found[1] or " ", source).rstrip()
-    at, line = 0, 1
-    while at < len(source):
-        found = TOKEN.match(source, at)
-        line += source.count("\n", at, found.end())
-        at = found.end()
-        kind, text = found.lastgroup, found[found.lastgroup]
-        if kind == "word":
-            word = text.lower()
-            yield Token("mark", word, line) if word in RESERVED else Token("name", text.upper(), line)
-        else:
-            yield Token(kind, text, line)
-    yield Token("end", "", line)
-
-
-class Placed:
-    """A declaration or a statement, with the line of its first token."""
-
-    line = 0
-
-
-@dataclass
-class Number:
-    value: int
-
-
-@dataclass
-class String:
-    value: str
-
-
-@dataclass
-class Name:
-    """With its arguments or index, if it has any. One that stands behind `Ada.Text_IO.` is predefined."""
-
-    name: str
-    arguments: list = field(default_factory=list)
-    predefined: bool = False
-
-
-@dataclass
-class Attribute:
-    name: Name
-    word: str
-    argument: object = None
-
-
-@dataclass
-class Unary:
-    operator: str
-    operand: object
-
-
-@dataclass
-class Binary:
-    operator: str
-    left: object
-    right: object
-
-
-@dataclass
-class Objects(Placed):
-    names: list
-    subtype: str
-    value: object = None
-
-
-@dataclass
-class Arrays(Placed):
-    names: list
-    low: int
-    high: int
-    subtype: str
-
-
-@dataclass(eq=False)
-class Exceptions(Placed):
-    names: list
-
-
-@dataclass
-class Formal:
-    name: str
-    mode: str
-    subtype: str
-
-
-@dataclass
-class Body:
-    """A declarative part, the statements behind it, and their handlers, each with its choices; the lines of its `begin` and its `end`."""
-
-    declarations: list
-    statements: list
-    handlers: list
-    begin: int
-    end: int
-
-
-@dataclass
-class Procedure(Placed):
-    name: str
-    formals: list
-    body: Body
-
-
-@dataclass
-class Task(Placed):
-    """Its body comes later in the same declarative part."""
-
-    name: str
-    is_type: bool
-    body: "TaskBody" = None
-
-
-@dataclass
-class TaskBody(Placed):
-    name: str
-    body: Body
-
-
-@dataclass
-class Null(Placed):
-    pass
-
-
-@dataclass
-class Assign(Placed):
-    target: Name
-    value: object
-
-
-@dataclass
-class Call(Placed):
-    name: Name
-
-
-@dataclass
-class If(Placed):
-    """Its conditions, each with the statements behind it and the line of its `if` or `elsif`."""
-
-    arms: list
-    otherwise: list
-
-
-@dataclass
-class Loop(Placed):
-    label: str
-    condition: object
-    over: object
-    statements: list
-
-
-@dataclass
-class Range:
-    """With the line of its `for`."""
-
-    parameter: str
-    backward: bool
-    low: object
-    high: object
-    line: int
-
-
-@dataclass
-class Block(Placed):
-    body: Body
-
-
-@dataclass
-class Exit(Placed):
-    label: str
-    condition: object
-
-
-@dataclass
-class Return(Placed):
-    pass
-
-
-@dataclass
-class Raise(Placed):
-    name: str
+LEVELS = 200
+STATEMENTS = "null if accept delay select while for loop declare begin exit return raise".split()
 
 
 class Reader:
     def __init__(self, source):
         self.tokens = list(tokens(source))
-        self.at = 0
+        self.at, self.level = 0, 0
 
     def next(self, ahead=0):
         return self.tokens[self.at + ahead]
@@ -224,74 +27,126 @@ class Reader:
         self.at += 1
         return True
 
+    def wrong(self):
+        return Fault(21, self.next().place)
+
     def take(self, mark):
-        assert self.has(mark), f"{mark} wanted, {self.next()} found"
+        if not self.has(mark):
+            raise self.wrong()
 
     def line_of(self, mark):
         self.take(mark)
-        return self.tokens[self.at - 1].line
+        return self.tokens[self.at - 1].place[0]
 
     def placed(self, read):
-        line = self.next().line
+        place = self.next().place
         found = read()
-        found.line = line
+        found.place = place
         return found
 
-    def is_name(self):
-        return self.next().kind == "name"
+    def opened(self):
+        """A level, by the next token."""
+        if self.level == LEVELS:
+            raise Fault(23, self.next().place)
+        self.level += 1
 
-    def take_name(self):
-        assert self.is_name(), f"a name wanted, {self.next()} found"
+    def open_parenthesis(self):
+        if not self.stands("("):
+            raise self.wrong()
+        self.opened()
         self.at += 1
-        return self.tokens[self.at - 1].text
+
+    def has_parenthesis(self):
+        if not self.stands("("):
+            return False
+        self.open_parenthesis()
+        return True
+
+    def close_parenthesis(self):
+        self.take(")")
+        self.level -= 1
+
+    def is_name(self, *words):
+        return self.next().kind == "name" and (not words or self.next().text in words)
+
+    def take_name(self, *words):
+        if not self.is_name(*words):
+            raise self.wrong()
+        self.at += 1
+        return word(self.tokens[self.at - 1])
+
+    def ends(self, construct):
+        """The name behind an `end`, and the semicolon."""
+        construct.closing, construct.semicolon = self.name_if(), self.next().place
+        self.take(";")
+        return construct
 
     def name_if(self):
         return self.take_name() if self.is_name() else None
 
     def program(self):
-        while self.stands("with", "use"):
-            while not self.has(";"):
-                self.at += 1
-        return self.procedure()
+        while self.has("with") or self.has("use"):
+            self.take_name("ADA")
+            self.take(".")
+            self.take_name("TEXT_IO")
+            self.take(";")
+        self.take("procedure")
+        program = Procedure(self.take_name(), [], self.behind_is())
+        if self.next().kind != "end":
+            raise self.wrong()
+        return program
 
     def procedure(self):
         self.take("procedure")
-        name = self.take_name()
-        formals = self.formals() if self.has("(") else []
+        return Procedure(self.take_name(), self.formals_if(), self.behind_is())
+
+    def behind_is(self):
         self.take("is")
-        return Procedure(name, formals, self.part_and_body())
+        return self.part_and_body()
 
     def part_and_body(self):
-        declarations = []
-        while not self.stands("begin"):
-            declarations.append(self.placed(self.declaration))
+        declarations = self.part()
         bodies = {it.name: it for it in declarations if isinstance(it, TaskBody)}
         for it in declarations:
             if isinstance(it, Task):
-                it.body = bodies[it.name]
-        return self.body(declarations)
+                it.body = bodies.get(it.name)
+        return self.ends(self.body(declarations))
 
-    def body(self, declarations):
-        begin = self.line_of("begin")
+    def part(self):
+        if not self.is_name() and not self.stands("procedure", "task"):
+            return []
+        self.opened()
+        declarations = []
+        while not self.stands("begin"):
+            declarations.append(self.placed(self.declaration))
+        self.level -= 1
+        return declarations
+
+    def body(self, declarations, word="begin"):
+        begin = self.line_of(word)
         statements, handlers = self.statements(), self.handlers()
-        end = self.line_of("end")
-        self.name_if()
-        self.take(";")
-        return Body(declarations, statements, handlers, begin, end)
+        return Body(declarations, statements, handlers, begin, self.line_of("end"))
 
     def handlers(self):
         handlers = []
         if self.has("exception"):
-            while self.has("when"):
-                choices = [self.choice()]
-                while self.has("|"):
-                    choices.append(self.choice())
-                self.take("=>")
-                handlers.append((choices, self.statements()))
+            handlers.append(self.handler())
+            while self.stands("when"):
+                handlers.append(self.handler())
         return handlers
 
-    def choice(self):
-        return None if self.has("others") else self.take_name()
+    def handler(self):
+        self.take("when")
+        choices = [self.others() if self.stands("others") else self.take_name()]
+        while choices[-1] and self.has("|"):
+            choices.append(self.take_name())
+        self.take("=>")
+        return choices, self.statements()
+
+    def others(self):
+        place = self.next().place
+        self.take("others")
+        return word(Token("name", "", place))
 
     def names(self):
         names = [self.take_name()]
@@ -299,8 +154,10 @@ class Reader:
             names.append(self.take_name())
         return names
 
-    def formals(self):
+    def formals_if(self):
         formals = []
+        if not self.has_parenthesis():
+            return formals
         while True:
             names = self.names()
             self.take(":")
@@ -308,7 +165,7 @@ class Reader:
             subtype = self.take_name()
             formals += [Formal(name, mode, subtype) for name in names]
             if not self.has(";"):
-                self.take(")")
+                self.close_parenthesis()
                 return formals
 
     def declaration(self):
@@ -323,31 +180,38 @@ class Reader:
             return Exceptions(names)
         if self.has("array"):
             return self.arrays(names)
-        self.has("constant")
-        subtype = self.take_name()
-        value = self.expression() if self.has(":=") else None
+        is_constant, subtype, value = self.has("constant"), self.take_name(), None
+        if is_constant or self.stands(":="):
+            self.take(":=")
+            value = self.expression()
         self.take(";")
-        return Objects(names, subtype, value)
+        return Objects(names, subtype, value, is_constant)
 
     def task(self):
         if self.has("body"):
             name = self.take_name()
-            self.take("is")
-            return TaskBody(name, self.part_and_body())
+            return TaskBody(name, self.behind_is())
         is_type = self.has("type")
-        name = self.take_name()
-        if self.has("is"):
-            self.take("end")
-            self.name_if()
+        task = Task(self.take_name(), is_type, [])
+        if not self.has("is"):
+            self.take(";")
+            return task
+        while self.has("entry"):
+            task.entries.append(self.entry())
+        self.take("end")
+        return self.ends(task)
+
+    def entry(self):
+        entry = Entry(self.take_name(), self.formals_if())
         self.take(";")
-        return Task(name, is_type)
+        return entry
 
     def arrays(self, names):
-        self.take("(")
+        self.open_parenthesis()
         low = self.bound()
         self.take("..")
         high = self.bound()
-        self.take(")")
+        self.close_parenthesis()
         self.take("of")
         subtype = self.take_name()
         self.take(";")
@@ -358,18 +222,34 @@ class Reader:
         return sign * self.number()
 
     def number(self):
+        if self.next().kind != "number" or "." in self.next().text:
+            raise self.wrong()
         self.at += 1
         return int(self.tokens[self.at - 1].text.replace("_", ""))
 
+    def has_statement(self):
+        return self.is_name() or self.stands(*STATEMENTS)
+
     def statements(self):
+        if not self.has_statement():
+            raise self.wrong()
+        self.opened()
         statements = []
-        while not self.stands("end", "exception", "elsif", "else", "when"):
+        while self.has_statement():
             statements.append(self.placed(self.statement))
+        self.level -= 1
         return statements
+
+    def statements_if(self):
+        return self.statements() if self.has_statement() else []
 
     def statement(self):
         if self.stands("if"):
             return self.if_statement()
+        if self.stands("select"):
+            return self.select()
+        if self.stands("accept"):
+            return self.accept()
         label = None
         if self.is_name() and self.stands(":", ahead=1):
             label = self.take_name()
@@ -377,9 +257,9 @@ class Reader:
         if self.stands("while", "for", "loop"):
             return self.loop(label)
         if self.has("declare"):
-            return Block(self.part_and_body())
-        if self.stands("begin"):
-            return Block(self.body([]))
+            return Block(self.part_and_body(), label)
+        if label or self.stands("begin"):
+            return Block(self.ends(self.body([])), label)
         statement = self.simple_statement()
         self.take(";")
         return statement
@@ -391,11 +271,76 @@ class Reader:
             label = self.name_if()
             return Exit(label, self.expression() if self.has("when") else None)
         if self.has("return"):
-            return Return()
+            return Return(None if self.stands(";") else self.expression())
         if self.has("raise"):
             return Raise(self.name_if())
+        if self.has("delay"):
+            return self.duration()
         name = self.name()
         return Assign(name, self.expression()) if self.has(":=") else Call(name)
+
+    def accept(self):
+        self.take("accept")
+        accept = Accept(self.take_name(), self.formals_if(), None)
+        if self.stands("do"):
+            accept.body = self.ends(self.body([], "do"))
+        else:
+            self.take(";")
+        return accept
+
+    def delay(self):
+        self.take("delay")
+        delay = self.duration()
+        self.take(";")
+        return delay
+
+    def duration(self):
+        if self.next().kind == "number" and "." in self.next().text:
+            self.at += 1
+            whole, _, decimals = self.tokens[self.at - 1].text.replace("_", "").partition(".")
+            return Delay(int(whole + decimals.ljust(3, "0")))
+        self.take_name("DURATION")
+        return Delay(None, self.in_parentheses())
+
+    def select(self):
+        self.take("select")
+        select = self.offer() if self.is_name() else self.selective_accept()
+        self.take("end")
+        self.take("select")
+        self.take(";")
+        return select
+
+    def offer(self):
+        name = self.name()
+        self.take(";")
+        statements = self.statements_if()
+        if self.has("or"):
+            delay = self.placed(self.delay)
+            return Offer(name, statements, delay, self.statements_if())
+        self.take("else")
+        return Offer(name, statements, None, self.statements())
+
+    def selective_accept(self):
+        """Beside its accepts it has a Terminate, or Delays, or an else part, or nothing."""
+        alternatives = [self.alternative(None)]
+        while True:
+            kinds = {type(it.waits) for it in alternatives}
+            other = next(iter(kinds - {Accept}), None)
+            if Accept in kinds and not self.stands("or"):
+                return Select(alternatives, self.statements() if not other and self.has("else") else None)
+            self.take("or")
+            alternatives.append(self.alternative(other))
+
+    def alternative(self, other):
+        guard = None
+        if self.has("when"):
+            guard = self.expression()
+            self.take("=>")
+        if not other and self.has("terminate"):
+            self.take(";")
+            return Alternative(guard, Terminate(), [])
+        waits = self.placed(self.delay if other is not Terminate and self.stands("delay") else self.accept)
+        return Alternative(guard, waits, self.statements_if())
 
     def if_statement(self):
         arms = [self.arm("if")]
@@ -420,9 +365,7 @@ class Reader:
         statements = self.statements()
         self.take("end")
         self.take("loop")
-        self.name_if()
-        self.take(";")
-        return Loop(label, condition, over, statements)
+        return self.ends(Loop(label, condition, over, statements))
 
     def range(self):
         line = self.line_of("for")
@@ -434,80 +377,106 @@ class Reader:
         return Range(parameter, backward, low, self.simple(), line)
 
     def name(self):
-        name, predefined = self.take_name(), False
+        parts = [self.part_of_name()]
         while self.has("."):
-            name, predefined = self.take_name(), True
-        arguments = []
-        if self.has("("):
+            parts.append(self.part_of_name())
+        name = parts.pop()
+        name.prefix = parts
+        if parts:
+            name.first = parts[0].first
+        return name
+
+    def part_of_name(self):
+        word, arguments = self.take_name(), []
+        if self.has_parenthesis():
             arguments.append(self.expression())
             while self.has(","):
                 arguments.append(self.expression())
-            self.take(")")
-        return Name(name, arguments, predefined)
+            self.close_parenthesis()
+        name = Name(word, arguments)
+        name.first = word.place
+        return name
+
+    def from_left(self, operator, left, right):
+        binary = Binary(operator, left, right)
+        binary.first = left.first
+        return binary
+
+    def operator(self):
+        self.at += 1
+        return self.tokens[self.at - 1].text
 
     def chain(self, marks, operand):
         left = operand()
         while self.stands(*marks):
-            self.at += 1
-            left = Binary(self.tokens[self.at - 1].text, left, operand())
+            left = self.from_left(self.operator(), left, operand())
         return left
 
     def expression(self):
-        left = self.relation()
-        while self.stands("and", "or", "xor"):
-            self.at += 1
-            operator = self.tokens[self.at - 1].text
-            if operator == "and" and self.has("then"):
-                operator = "and then"
-            elif operator == "or" and self.has("else"):
-                operator = "or else"
-            left = Binary(operator, left, self.relation())
+        """All its connectives are the same."""
+        left, first = self.relation(), None
+        while self.stands(first.split()[0]) if first else self.stands("and", "or", "xor"):
+            operator = self.operator()
+            second = {"and": "then", "or": "else"}.get(operator)
+            if first and " " in first:
+                self.take(second)
+            elif not first and second and self.has(second):
+                operator = f"{operator} {second}"
+            first = first or operator
+            left = self.from_left(first, left, self.relation())
         return left
 
     def relation(self):
         left = self.simple()
         if self.stands("=", "/=", "<", "<=", ">", ">="):
-            self.at += 1
-            return Binary(self.tokens[self.at - 1].text, left, self.simple())
+            return self.from_left(self.operator(), left, self.simple())
         return left
 
     def simple(self):
-        negative = self.has("-")
-        if not negative:
-            self.has("+")
-        first = True
+        place, sign = self.next().place, None
+        if self.stands("-", "+"):
+            sign = self.operator()
+        left = self.term()
+        if sign:
+            left = Unary(sign, left)
+            left.first = place
+        while self.stands("+", "-", "&"):
+            left = self.from_left(self.operator(), left, self.term())
+        return left
 
-        def term():
-            nonlocal first
-            operand = self.chain(("*", "/", "mod", "rem"), self.factor)
-            if first and negative:
-                operand = Unary("-", operand)
-            first = False
-            return operand
-
-        return self.chain(("+", "-", "&"), term)
+    def term(self):
+        return self.chain(("*", "/", "mod", "rem"), self.factor)
 
     def factor(self):
-        for operator in ("abs", "not"):
-            if self.has(operator):
-                return Unary(operator, self.primary())
-        return self.primary()
+        place = self.next().place
+        if not self.stands("abs", "not"):
+            return self.primary()
+        unary = Unary(self.operator(), self.primary())
+        unary.first = place
+        return unary
 
     def primary(self):
+        place = self.next().place
         if self.next().kind == "number":
-            return Number(self.number())
-        if self.next().kind == "string":
+            found = Number(self.number())
+        elif self.next().kind == "string":
             self.at += 1
-            return String(self.tokens[self.at - 1].text[1:-1].replace('""', '"'))
-        if self.has("("):
-            expression = self.expression()
-            self.take(")")
-            return expression
-        name = self.name()
+            found = String(self.tokens[self.at - 1].text[1:-1].replace('""', '"'))
+        elif self.stands("("):
+            found = self.in_parentheses()
+            found.is_parenthesized = True
+        else:
+            found = self.attribute_if(self.name())
+        found.first = place
+        return found
+
+    def in_parentheses(self):
+        self.open_parenthesis()
+        expression = self.expression()
+        self.close_parenthesis()
+        return expression
+
+    def attribute_if(self, name):
         if not self.has("'"):
             return name
-        word, argument = self.take_name(), None
-        if self.has("("):
-            argument = self.expression()
-            self.take(")")
-        return Attribute(name, word, argument)
+        return Attribute(name, self.take_name(), self.in_parentheses() if self.stands("(") else None)

@@ -1,10 +1,13 @@
-"""Answers a session: what its lines ask, what the journal keeps of them, and what they cost. Source texts have to be right."""
+"""Answers a session: what its lines ask, what the journal keeps of them, and what they cost."""
 import re
 from dataclasses import dataclass
 from itertools import islice
 
+import checking
 import listings
 from meaning import Machine
+from reading import Reader
+from tokens import Fault
 
 STEPS, CHOICES, SOURCE, LINE, REQUESTS, REQUEST_BYTES = 1_000_000, 10_000, 32_768, 1_024, 4_096, 1_048_576
 NUMBER = re.compile("[0-9]{1,10}")
@@ -13,14 +16,22 @@ ALONE = ("RESET", "CLOCK", "MOVES", "TASKS", "QUEUES", "OUTPUT", "QUIT")
 REFUSALS = {
     10: "unknown command", 11: "bad argument", 12: "line too long", 13: "journal full", 14: "no program", 15: "no such task",
     16: "no such move", 17: "step budget", 18: "choice list full", 19: "not ASCII", 22: "source too long",
+    20: "lexical", 21: "syntax", 23: "too deep", 30: "name not declared", 31: "declared twice", 32: "wrong kind of name", 33: "wrong type",
+    34: "wrong number of arguments", 35: "not a variable", 36: "wrong name at end", 37: "no matching body",
+    38: "accept or Count out of place", 39: "formals do not conform", 40: "exit without loop", 41: "return out of place",
+    42: "raise without handler", 43: "bad handler choice", 45: "number too large", 46: "too many decimals", 49: "not an entry",
 }
 
 
 class Refused(Exception):
-    """By the refusal of this number."""
+    """By the refusal of this number, at a place of a source text."""
 
-    def __init__(self, number):
-        self.number = number
+    def __init__(self, number, place=None):
+        self.number, self.place = number, place
+
+    def line(self):
+        place = "{}:{} ".format(*self.place) if self.place else ""
+        return f"- E{self.number} {place}{REFUSALS[self.number]}"
 
 
 def look_at(line):
@@ -93,11 +104,25 @@ def requests(sent):
         yield request
 
 
+def checked(source):
+    """The program, unless it has a fault: the first in the text is told."""
+    try:
+        reader = Reader(source)
+        program = reader.program()
+    except Fault as fault:
+        raise Refused(fault.code, fault.place)
+    faults = checking.faults(program, reader.tokens)
+    if faults:
+        place, code = min(faults)
+        raise Refused(code, place)
+    return program
+
+
 class Session:
     """What is loaded, the requests of the journal and their bytes, and the units that they have cost."""
 
     def __init__(self):
-        self.machine, self.source = None, ""
+        self.machine = None
         self.kept, self.bytes, self.units = 0, 0, 0
 
     def answer(self, request):
@@ -127,11 +152,11 @@ class Session:
     def load(self, source):
         if len(source) > SOURCE:
             raise Refused(22)
-        self.machine, self.source = Machine(source), source
+        self.machine = Machine(checked(source))
         return [f"loaded {self.machine.program.name}"]
 
     def reset(self):
-        self.machine = Machine(self.source)
+        self.machine = Machine(self.machine.program)
         return []
 
     def run(self, count):
@@ -196,7 +221,7 @@ def answers(sent):
             lines = session.answer(request)
             told += [f"+ {len(lines)}", *lines]
         except Refused as refused:
-            told.append(f"- E{refused.number} {REFUSALS[refused.number]}")
+            told.append(refused.line())
         if request.word == "QUIT":
             break
     return "".join(line + "\n" for line in told)

@@ -1,37 +1,44 @@
 -- In a typed program tasks are declared by declarative parts alone.
 use Rattle.std.proofs.Common.{◌≡◌, ℕ, zero, suc, ◌+◌, List, [], ◌∷◌, ◌++◌, length, map, Bool, true, false, Option, Some, None, refl, ℤ}
-use Rattle.std.specs.Prelude.{pos, slice_set}
+use Rattle.std.specs.Prelude.{pos, slice_set, if◌then◌else◌}
 use Rattle.aud_text.specs.declared.place.Pos.{Pos}
 use Rattle.aud_syntax.specs.declared.tree.Ident.{Ident}
 use Rattle.aud_syntax.specs.declared.tree.Bound.{Bound}
 use Rattle.aud_syntax.specs.Plain as plain
-use Rattle.aud_syntax.specs.Plain.{MaybeExpression, no_expression, an_expression, Declaration, object, constant, array, exception, procedure, task, task_body, protected, protected_body, no_declarations, more_declarations, Statement, null, assign, call, if_then, loop, exit, block, return, raise, accepting, delaying, select_accept, select_call, abort, requeue, Arms, no_arms, more_arms, Iteration, forever, while, for, Statements, in_order, MoreStatements, no_statements, more_statements, Declarations, Body, body, Handlers, no_handlers, more_handlers}
+use Rattle.aud_syntax.specs.Plain.{EntryDeclaration, Accept, accept, Doing, without_do, with_do, Alternative, accept_alternative, delay_alternative, terminate_alternative, Alternatives, no_alternatives, more_alternatives, Otherwise, or_delay, or_else, MaybeExpression, no_expression, an_expression, Declaration, object, constant, array, exception, procedure, task, task_body, protected, protected_body, no_declarations, more_declarations, Statement, null, assign, call, if_then, loop, exit, block, return, raise, accepting, delaying, select_accept, select_call, abort, requeue, Arms, no_arms, more_arms, Iteration, forever, while, for, Statements, in_order, MoreStatements, no_statements, more_statements, Declarations, Body, body, Handlers, no_handlers, more_handlers}
 use Rattle.aud_typed.specs.declared.program.ArrayAt.{ArrayAt}
 use Rattle.aud_typed.specs.declared.program.Exception.{Exception}
 use Rattle.aud_typed.specs.declared.program.Subtype.{Subtype}
 use Rattle.aud_typed.specs.declared.program.Variable.{Variable}
 use Rattle.aud_typed.specs.Tree as tree
-use Rattle.aud_scoped.specs.Declares.{StatementDeclares, PartDeclares, HandlersDeclare, BodyDeclares, BodiesDeclare, DeclaresInParts}
+use Rattle.aud_scoped.specs.Declares.{StatementDeclares, PartDeclares, HandlersDeclare, BodyDeclares, DoingDeclares, OfferedDeclare, BodiesDeclare, DeclaresInParts}
 use Rattle.aud_names.specs.declared.names.Builtin.{Builtin}
 use Rattle.aud_names.specs.declared.names.Builtin.TheVariants.{Put, PutLine, NewLine}
 use Rattle.aud_names.specs.declared.names.Meaning.{Meaning}
 use Rattle.aud_names.specs.declared.names.Meaning.TheVariants as meaning
 use Rattle.aud_names.specs.declared.array.Kind.{Kind}
-use Rattle.aud_names.specs.Names.{Place, main_place, visible, in_frame, innermost, place_in, task_place}
+use Rattle.aud_names.specs.declared.awaited.Awaited.{Awaited}
+use Rattle.aud_names.specs.Names.{Region, Place, main_place, visible, in_frame, innermost, place_in, task_place, body_frame, is_declared}
 use Rattle.aud_names.specs.declared.resolution.Denoted.{Denoted}
 use Rattle.aud_names.specs.Arrays.{bound_value, or_zero, cells_of}
 use Rattle.aud_names.specs.Resolution.{resolved, name_ident, last_args}
 use Rattle.aud_typing.specs.Expressions.{Typed, string, Entity, no_entity, entity, element_of, task_of, checked_arguments, checked_expression}
+use Rattle.aud_check_bodies.specs.Accepts.{TypedAccept, accept_formals, accepted}
 use Rattle.aud_check_bodies.specs.Arguments.{all_passed}
 use Rattle.aud_check_bodies.specs.Assignments.{target_of, assigned_to, assigned_at, meaning_assigned, assigned}
-use Rattle.aud_check_bodies.specs.Calls.{unit_meant, put_out, procedure_called, called, called_as, typed_call}
+use Rattle.aud_check_bodies.specs.Calls.{EntryCalled, callee_meant, put_out, procedure_called, called, called_as, typed_call, entry_called, entry_call_of, selected_call}
+use Rattle.aud_check_bodies.specs.declared.call.Callee.{Callee}
+use Rattle.aud_check_bodies.specs.declared.call.Callee.TheVariants.{Procedure, Entry}
 use Rattle.aud_check_bodies.specs.Declarations.{Declared, objects_as, arrays_as, array_elaborations, task_elaborations, tasks_meant, task_type_meant, subtype_meant, arrays_kind, tasks_kind, marked}
+use Rattle.aud_check_bodies.specs.Entries.{Entries, no_entries, one_entry, entry_added, entry_formals, declared_entries, entries_of}
 use Rattle.aud_check_bodies.specs.Handlers.{raised_by, typed_raise, exception_meant}
 use Rattle.aud_check_bodies.specs.Programs as c
 use Rattle.aud_check_bodies.specs.Programs.{main_tables}
-use Rattle.aud_check_bodies.specs.Statements.{Around, TypedStatements, sequence_of, TypedArm, arms_then, TypedHandler, handlers_of, TypedBody, body_with, typed_return, looped, begin_at, loop_place, loop_tables, labelled, handling, nothing_around, task_around, procedure_place, procedure_formals, checked_statement, checked_arms, checked_statements, checked_others, checked_body, checked_handlers, checked_declarations, checked_declaration, entered, begin_of}
-use Rattle.aud_check_bodies.specs.Tables.{Tables, Outcome, no_body, next_region, next_task, next_unit, region_kept, region_named, unit_kept, profile_of}
-use Rattle.aud_check_bodies.specs.Tasks.{created_by, body_tables, body_unit, unit_awaited, place_behind, create_tasks, with_bodies, with_activation}
+use Rattle.aud_check_bodies.specs.Regions.{shown_names}
+use Rattle.aud_check_bodies.specs.Selects.{TypedAlternative, accepts, delays, terminates, alternatives_of, form_of}
+use Rattle.aud_check_bodies.specs.Statements.{in_accept, checked_accept, checked_doing, checked_alternative, checked_alternatives, checked_otherwise, Around, TypedStatements, sequence_of, TypedArm, arms_then, TypedHandler, handlers_of, TypedBody, body_with, typed_return, looped, begin_at, loop_place, loop_tables, labelled, handling, nothing_around, task_around, procedure_place, procedure_formals, checked_statement, checked_arms, checked_statements, checked_others, checked_body, checked_handlers, checked_declarations, checked_declaration, entered, begin_of}
+use Rattle.aud_check_bodies.specs.Tables.{Tables, Outcome, no_body, next_region, next_task, next_unit, region_kept, region_named, with_region, unit_kept, profile_of}
+use Rattle.aud_check_bodies.specs.Tasks.{created_by, place_named, task_entries, body_tables, body_task, body_unit, task_awaited, place_behind, create_tasks, with_bodies, with_activation}
 
 abbrev EachDeclares : Bool → List tree.Statement → Type 0
 EachDeclares declares [] = Unit {0}
@@ -83,12 +90,17 @@ in_procedure : (unit : ℕ) (at : Pos) (arguments : Option (List tree.Argument))
 in_procedure unit at None = tt
 in_procedure unit at (Some arguments) = tt
 
+in_entry_call : (at : Pos) (form : tree.CallForm) (behind otherwise : tree.Part) (c : Option EntryCalled) → PartDeclares false behind → PartDeclares false otherwise → StatementDeclares false (entry_call_of at form behind otherwise c)
+in_entry_call at form behind otherwise None h k = tt
+in_entry_call at form behind otherwise (Some c) h k = (h, k)
+
 in_typed_call : (n : plain.Name) (place : Place) (t : Tables) → StatementDeclares false (typed_call n place t)
-in_typed_call n place t = by (unit_meant (resolved n place).denoted.meaning)
+in_typed_call n place t = by (callee_meant (resolved n place).denoted.meaning)
   where
-    by : (unit : Option ℕ) → StatementDeclares false (called_as unit (resolved n place).denoted n place t)
+    by : (callee : Option Callee) → StatementDeclares false (called_as callee (resolved n place).denoted n place t)
     by None = in_called (resolved n place).denoted.meaning (name_ident n).at (checked_arguments n place).typed
-    by (Some unit) = in_procedure unit (name_ident n).at (all_passed (profile_of unit t) (last_args n) place)
+    by (Some (Procedure unit)) = in_procedure unit (name_ident n).at (all_passed (profile_of unit t) (last_args n) place)
+    by (Some (Entry e)) = in_entry_call (name_ident n).at tree.plainly tree.nothing tree.nothing (entry_called e n place t) tt tt
 
 in_raised : (at : Pos) (x : Option Exception) → StatementDeclares false (raised_by at x)
 in_raised at None = tt
@@ -137,6 +149,26 @@ BodyIs x = StatementDeclares false x.statements × HandlersDeclare x.handlers
 body_declares : (elaborations : List tree.Statement) (b : Body) (x : TypedBody) → EachDeclares true elaborations → BodyIs x → BodyDeclares (body_with elaborations b x)
 body_declares elaborations (body begin ss hs end name semicolon) x h k = (in_part true elaborations h, k)
 
+-- What is made of accepts and of the alternatives of selective accepts.
+
+abbrev AcceptIs : TypedAccept → Type 0
+AcceptIs a = DoingDeclares a.doing
+
+abbrev OneOffered : TypedAlternative → Type 0
+OneOffered (accepts guard a behind) = AcceptIs a × PartDeclares false behind
+OneOffered (delays guard e behind) = PartDeclares false behind
+OneOffered (terminates guard) = Unit {0}
+
+abbrev EachOffered : List TypedAlternative → Type 0
+EachOffered [] = Unit {0}
+EachOffered (x ∷ more) = OneOffered x × EachOffered more
+
+offered_declare : (xs : List TypedAlternative) → EachOffered xs → OfferedDeclare (alternatives_of xs)
+offered_declare [] h = tt
+offered_declare (accepts guard a behind ∷ more) h = (h.0.0, (h.0.1, offered_declare more h.1))
+offered_declare (delays guard e behind ∷ more) h = (h.0, offered_declare more h.1)
+offered_declare (terminates guard ∷ more) h = offered_declare more h.1
+
 -- Declarations.
 
 in_activation : (activates : Bool) (at : Pos) → EachDeclares true (tree.activation activates at)
@@ -161,7 +193,7 @@ in_objects (Some n) is at mark initial is_constant place = in_tasks is at n (pos
 
 in_rows : (m : Option ℕ) (is : List Ident) (at : Pos) (low high : Bound) (mark : Ident) (place : Place) → EachDeclares true (arrays_as m is at low high mark place).made.elaborations
 in_rows None is at low high mark place = let t = subtype_meant (marked mark is place) in in_arrays is at t (arrays_kind low high t)
-in_rows (Some n) is at low high mark place = in_tasks is at n (or_zero (bound_value low)) true (cells_of (tasks_kind low high))
+in_rows (Some n) is at low high mark place = in_tasks is at n (or_zero (bound_value low)) true (cells_of (tasks_kind low high n))
 
 in_task : (is_type : Bool) (i : Ident) (at : Pos) (n : ℕ) → EachDeclares true (created_by is_type i at n)
 in_task true i at n = tt
@@ -198,9 +230,18 @@ entered_good of_task b declared stated place t first second h =
     let x = second (with_bodies o).made.place (region_named (next_region t) _ (with_bodies o).tables) d.units in
     record { made = body_declares _ b _ (activated_behind of_task (begin_of b) o.made.elaborations d.made) x.made; units = x.units }
 
-none_awaited : (unit : Option ℕ) (t : Tables) → EachUnit t.units → EachUnit (body_tables unit t).units
+none_awaited : (found : Option Awaited) (t : Tables) → EachUnit t.units → EachUnit (body_tables found t).units
 none_awaited None t h = unit_more t.units h
-none_awaited (Some unit) t h = h
+none_awaited (Some a) t h = h
+
+-- entries are no units
+entries_units : (task_type : ℕ) (es : List EntryDeclaration) (outer : List Region) (x : Entries) → EachUnit x.tables.units → EachUnit (declared_entries task_type es outer x).tables.units
+entries_units task_type [] outer x h = h
+entries_units task_type (e ∷ es) outer x h = entries_units task_type es outer (one_entry task_type e outer x) (by (is_declared e.name.name x.own.symbols))
+  where
+    by : (twice : Bool) → EachUnit (if twice then x else entry_added task_type e.name.name (entry_formals e x.own outer).profile x).tables.units
+    by true = h
+    by false = h
 
 loop_units : (i : Iteration) (place : Place) (t : Tables) → EachUnit t.units → EachUnit (loop_tables i place t).units
 loop_units forever place t h = h
@@ -226,12 +267,62 @@ mutual
       record { made = x.made; units = x.units }
   statement_good (return at e) around place t h = record { made = in_return at e; units = h }
   statement_good (raise at name) around place t h = record { made = in_raise at name place; units = h }
-  statement_good (accepting x) around place t h = record { made = tt; units = h }
+  statement_good (accepting x) around place t h =
+      let a = accept_good x around place t h in
+      record { made = a.made; units = a.units }
   statement_good (delaying x) around place t h = record { made = tt; units = h }
-  statement_good (select_accept at e x xs otherwise) around place t h = record { made = tt; units = h }
-  statement_good (select_call at x behind otherwise) around place t h = record { made = tt; units = h }
+  statement_good (select_accept at e x xs otherwise) around place t h =
+      let o = checked_alternative x e around place t in
+      let os = checked_alternatives xs around place o.tables in
+      let first = alternative_good x e around place t h in
+      let more = alternatives_good xs around place o.tables first.units in
+      let rest = others_good otherwise around place os.tables more.units in
+      record { made = (offered_declare (o.made ∷ os.made) (first.made, more.made), in_part false _ rest.made); units = rest.units }
+  statement_good (select_call at n behind otherwise) around place t h =
+      let o = checked_others behind around place t in
+      let first = others_good behind around place t h in
+      let rest = otherwise_good otherwise around place o.tables first.units in
+      let instead = (checked_otherwise otherwise around place o.tables).made in
+      record {
+        made = in_entry_call at (form_of otherwise place) (tree.part_of o.made) (tree.part_of instead) (selected_call n place t) (in_part false o.made first.made) (in_part false instead rest.made);
+        units = rest.units;
+      }
   statement_good (abort at x xs) around place t h = record { made = tt; units = h }
   statement_good (requeue at x with_abort) around place t h = record { made = tt; units = h }
+
+  accept_good : (x : Accept) (around : Around) (place : Place) (t : Tables) → EachUnit t.units → Good AcceptIs (checked_accept x around place t)
+  accept_good (accept at i fs x) around place t h =
+      let done = doing_good x i (accept_formals fs place).region (in_accept (accepted i place) around) place t h in
+      record { made = done.made; units = done.units }
+
+  doing_good : (x : Doing) (i : Ident) (r : Region) (around : Around) (place : Place) (t : Tables) → EachUnit t.units → Good DoingDeclares (checked_doing x i r around place t)
+  doing_good without_do i r around place t h = record { made = tt; units = h }
+  doing_good (with_do b) i r around place t h =
+      let x = body_good b around (place_in r place.regions) (with_region (shown_names r.symbols) t) h in
+      record { made = body_declares [] b _ tt x.made; units = x.units }
+
+  alternative_good : (x : Alternative) (guard : MaybeExpression) (around : Around) (place : Place) (t : Tables) → EachUnit t.units → Good OneOffered (checked_alternative x guard around place t)
+  alternative_good (accept_alternative x ss) guard around place t h =
+      let first = accept_good x around place t h in
+      let more = others_good ss around place _ first.units in
+      record { made = (first.made, in_part false _ more.made); units = more.units }
+  alternative_good (delay_alternative d ss) guard around place t h =
+      let more = others_good ss around place t h in
+      record { made = in_part false _ more.made; units = more.units }
+  alternative_good terminate_alternative guard around place t h = record { made = tt; units = h }
+
+  alternatives_good : (xs : Alternatives) (around : Around) (place : Place) (t : Tables) → EachUnit t.units → Good EachOffered (checked_alternatives xs around place t)
+  alternatives_good no_alternatives around place t h = record { made = tt; units = h }
+  alternatives_good (more_alternatives guard x xs) around place t h =
+      let first = alternative_good x guard around place t h in
+      let more = alternatives_good xs around place _ first.units in
+      record { made = (first.made, more.made); units = more.units }
+
+  otherwise_good : (x : Otherwise) (around : Around) (place : Place) (t : Tables) → EachUnit t.units → Good (EachDeclares false) (checked_otherwise x around place t)
+  otherwise_good (or_delay d ss) around place t h = others_good ss around place t h
+  otherwise_good (or_else ss) around place t h =
+      let x = statements_good ss around place t h in
+      record { made = x.made; units = x.units }
 
   arms_good : (arms : Arms) (around : Around) (place : Place) (t : Tables) → EachUnit t.units → Good EachArm (checked_arms arms around place t)
   arms_good no_arms around place t h = record { made = tt; units = h }
@@ -289,12 +380,15 @@ mutual
       let inner = place_in formals.region here.regions in
       let x = entered_good false b (λ further t2. checked_declarations ds further t2) (λ further t2. checked_body b nothing_around further t2) inner kept (λ p u k. declarations_good ds p u k) (λ p u k. body_good b nothing_around p u k) (unit_more t.units h) in
       record { made = tt; units = unit_set _ (next_unit t) _ x.units x.made }
-  declaration_good (task at is_type i d) place t h = record { made = in_task is_type i at (next_task t); units = unit_more t.units h }
+  declaration_good (task at is_type i d) place t h =
+      let here = place_named is_type i place t in
+      let es = task_entries d here t in
+      record { made = in_task is_type i at (next_task t); units = unit_more es.tables.units (entries_units (next_task t) (entries_of d) here.regions (no_entries (body_frame here) t) h) }
   declaration_good (task_body at i ds b) place t h =
-      let unit = unit_awaited i place in
+      let found = task_awaited i place in
       let here = place_behind i place in
-      let x = entered_good true b (λ further t2. checked_declarations ds further t2) (λ further t2. checked_body b task_around further t2) (task_place i.name here) (body_tables unit t) (λ p u k. declarations_good ds p u k) (λ p u k. body_good b task_around p u k) (none_awaited unit t h) in
-      record { made = tt; units = unit_set _ (body_unit unit t) _ x.units x.made }
+      let x = entered_good true b (λ further t2. checked_declarations ds further t2) (λ further t2. checked_body b task_around further t2) (task_place i.name (body_task found t) here) (body_tables found t) (λ p u k. declarations_good ds p u k) (λ p u k. body_good b task_around p u k) (none_awaited found t h) in
+      record { made = tt; units = unit_set _ (body_unit found t) _ x.units x.made }
   declaration_good (protected at i operations hidden last) place t h = record { made = tt; units = h }
   declaration_good (protected_body at i inner last) place t h = record { made = tt; units = h }
 

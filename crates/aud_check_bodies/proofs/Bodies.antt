@@ -16,13 +16,14 @@ use Rattle.aud_typed.specs.Ties.View.{plain_statement, plain_body, plain_stateme
 use Rattle.aud_fault.specs.declared.fault.Fault.{Fault}
 use Rattle.aud_fault.specs.Least.{noted}
 use Rattle.aud_check_bodies.specs.declared.declaration.DeclarativePart.{DeclarativePart}
+use Rattle.aud_names.specs.declared.awaited.Awaited.{Awaited}
 use Rattle.aud_names.specs.declared.names.Region.{Region}
 use Rattle.aud_names.specs.Names.{Place, innermost, in_frame, place_in, task_place}
 use Rattle.aud_names.specs.Rules.{declared_once, right_name_at_end, right_label_at_end}
 use Rattle.aud_check_bodies.specs.Regions.{shown_names}
 use Rattle.aud_check_bodies.specs.Declarations.{Declared, nothing_declared}
 use Rattle.aud_check_bodies.specs.Formals.{Formals}
-use Rattle.aud_check_bodies.specs.Tasks.{with_bodies, matched_faults, body_unit, body_tables, unit_awaited, place_behind, with_activation}
+use Rattle.aud_check_bodies.specs.Tasks.{with_bodies, matched_faults, body_unit, body_task, body_tables, task_awaited, place_behind, with_activation}
 use Rattle.aud_check_bodies.specs.Tables.{Tables, Outcome, fine, after, and_then, next_region, region_kept, region_named, next_unit, unit_kept, with_unit}
 use Rattle.aud_check_bodies.specs.Statements.{Around, labelled, begin_at, iteration_faults, loop_place, loop_tables, looped, begin_of, end_name, end_semicolon, procedure_place, procedure_formals, body_with, TypedStatements, TypedHandler, TypedBody, sequence_of, handlers_of, checked_statement, checked_loop, checked_statements, checked_body, checked_declaration, checked_declarations, entered_body, body_behind, around_unit, checked_unit}
 use Rattle.aud_check_bodies.specs.Ties.Arms.{plain_handlers, plain_parts, plain_sequence}
@@ -160,22 +161,22 @@ procedure_left old named formed new outer first last t entry u end at i fs ds b 
 
 -- the body of a task, whose unit is found
 pub task_left : (old matched new : Option Fault) (outer : List (Bor Region)) (first last : DeclarativePart) (t entry u end : Tables) (at : Pos) (i : Ident) (ds : m.Declarations) (b : m.Body) (inner : Place) (x : tree.UnitBody)
-    → matched ≡ noted old (matched_faults (unit_awaited i (plain_place first.region outer)) i.at)
+    → matched ≡ noted old (matched_faults (task_awaited i (plain_place first.region outer)) i.at)
     → plain_place last.region outer ≡ place_behind i (plain_place first.region outer)
     → last.elaborations ≡ first.elaborations
-    → inner ≡ task_place i.name (place_behind i (plain_place first.region outer))
-    → entry ≡ body_tables (unit_awaited i (plain_place first.region outer)) t
+    → inner ≡ task_place i.name (body_task (task_awaited i (plain_place first.region outer)) t) (place_behind i (plain_place first.region outer))
+    → entry ≡ body_tables (task_awaited i (plain_place first.region outer)) t
     → Is matched new u x (checked_unit true at i.name ds b inner entry)
-    → end ≡ with_unit (body_unit (unit_awaited i (plain_place first.region outer)) t) x u
+    → end ≡ with_unit (body_unit (task_awaited i (plain_place first.region outer)) t) x u
     → Declares old new outer first last end (checked_declaration (m.task_body at i ds b) (plain_place first.region outer) t)
 task_left old matched new outer first last t entry u end at i ds b inner x p q l e k h g =
     let place : Place = plain_place first.region outer in
     let here : Place = place_behind i place in
-    let unit : Option ℕ = unit_awaited i place in
+    let found : Option Awaited = task_awaited i place in
     let own : Place → Tables → Outcome tree.UnitBody = λ z w. checked_unit true at i.name ds b z w in
-    let whole : Outcome tree.UnitBody = own (task_place i.name here) (body_tables unit t) in
-    let next : tree.UnitBody → Tables → Outcome Declared = λ v w. fine (nothing_declared here) (with_unit (body_unit unit t) v w) in
-    let checked : Is matched new u x whole = subst (λ z. Is matched new u x (own z (body_tables unit t))) e (subst (λ w. Is matched new u x (own inner w)) k h) in
+    let whole : Outcome tree.UnitBody = own (task_place i.name (body_task found t) here) (body_tables found t) in
+    let next : tree.UnitBody → Tables → Outcome Declared = λ v w. fine (nothing_declared here) (with_unit (body_unit found t) v w) in
+    let checked : Is matched new u x whole = subst (λ z. Is matched new u x (own z (body_tables found t))) e (subst (λ w. Is matched new u x (own inner w)) k h) in
     let declared : Is matched new end (nothing_declared here) (and_then whole next) = is_then matched new new u end x (nothing_declared here) whole next checked (refl, g, refl) in
-    let all : Is old new end (nothing_declared here) (checked_declaration (m.task_body at i ds b) place t) = is_after old matched new end (nothing_declared here) (matched_faults unit i.at) (and_then whole next) p declared in
+    let all : Is old new end (nothing_declared here) (checked_declaration (m.task_body at i ds b) place t) = is_after old matched new end (nothing_declared here) (matched_faults found i.at) (and_then whole next) p declared in
     (all.0, q, ap (λ z. plain_typed_statements z.items) l ∙ sym (append-nil _), all.1)

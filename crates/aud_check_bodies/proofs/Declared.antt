@@ -1,26 +1,32 @@
 -- Declarations that are still to be checked.
 use denote.Ref.{Bor}
-use Rattle.std.specs.Prelude.{ℕ, Bool, List, [], ◌∷◌, ◌++◌, Option, Vec, Result, Ok, Err, OnOk}
+use Rattle.std.specs.Prelude.{ℕ, Bool, List, [], ◌∷◌, ◌++◌, Option, Vec, Result, Ok, Err, IfOk, OnOk}
 use Rattle.std.specs.Global.{Global}
+use Rattle.std.specs.declared.alloc.AllocError.{AllocError}
 use Rattle.std.proofs.Common.{◌≡◌, refl, sym, ◌∙◌, ap, append_assoc, append-nil}
+use Rattle.aud_text.specs.declared.place.Pos.{Pos}
 use Rattle.aud_syntax.specs.declared.tree.Ident.{Ident}
+use Rattle.aud_syntax.specs.Plain.{TaskDefinition}
 use Rattle.aud_typed.specs.Ties.View.{plain_statements as plain_typed_statements}
 use Rattle.aud_syntax.specs.declared.tree.Declaration.{Declaration}
-use Rattle.aud_text.specs.declared.place.Pos.{Pos}
-use Rattle.aud_syntax.specs.Plain.{TaskDefinition}
 use Rattle.aud_syntax.specs.Ties.View.{plain_declarations, plain_declaration}
 use Rattle.aud_names.specs.Names.{Place, place_in}
+use Rattle.aud_names.specs.Rules.{declared_once, right_name_at_end}
+use Rattle.aud_names.specs.declared.names.NamedParameter.{NamedParameter}
 use Rattle.aud_names.specs.declared.names.Region.{Region}
 use Rattle.aud_names.specs.Ties.Regions.{plain_region, plain_regions, plain_place}
-use Rattle.aud_names.specs.Rules.{declared_once, right_name_at_end}
 use Rattle.aud_check_bodies.specs.declared.declaration.DeclarativePart.{DeclarativePart}
 use Rattle.aud_fault.specs.declared.fault.Fault.{Fault}
 use Rattle.aud_fault.specs.Least.{noted}
-use Rattle.aud_check_bodies.specs.Tables.{Tables, Outcome, no_tables, next_unit, next_task, task_kept}
+use Rattle.aud_check_bodies.specs.Tables.{Tables, Outcome, no_tables, next_task, next_unit, task_kept}
+use Rattle.aud_check_bodies.specs.Entries.{entry_numbers, naming}
+use Rattle.aud_check_bodies.specs.Tasks.{name_behind, with_task, created_by, place_named, task_entries, task_entries_faults, checked_task}
 use Rattle.aud_check_bodies.specs.Declarations.{Declared, Objects, leaving, Exceptions, declared_exceptions, exceptions_twice, checked_exceptions}
-use Rattle.aud_check_bodies.specs.Tasks.{name_behind, with_task, created_by, checked_task}
 use Rattle.aud_check_bodies.specs.Statements.{checked_declaration, checked_declarations}
-use Rattle.aud_check_bodies.specs.Ties.DeclarativePart.{Declares, plain_exceptions}
+use Rattle.aud_check_bodies.specs.Ties.DeclarativePart.{Declares, DeclaresFormals, plain_exceptions}
+use Rattle.aud_check_bodies.specs.Ties.Entries.{plain_formals}
+use Rattle.aud_check_bodies.specs.Formals.{Formals}
+use Rattle.aud_typing.specs.Ties.Typing.{Leaves}
 use Rattle.aud_typing.proofs.Notes.{noted_append}
 
 -- what is still to be declared, from some faults and a part on, amounts to what was asked
@@ -89,12 +95,19 @@ declares_exceptions (Ok x) old new outer first next names named t u identifiers 
     )
 declares_exceptions (Err e) old new outer first next names named t u identifiers same before behind h k = tt
 
--- the declaration of a task, or of a task type
+-- a task, behind its entries
 pub declares_task : {T E : Type 0} (r : Result T E) (old new : Option Fault) (outer : List (Bor Region)) (first next : DeclarativePart) (t u : Tables) (at : Pos) (is_type : Bool) (i : Ident) (d : Option TaskDefinition)
-    → OnOk r (plain_region next.region ≡ with_task is_type i (next_task t) (next_unit t) (plain_region first.region))
-    → OnOk r (plain_typed_statements next.elaborations.items ≡ plain_typed_statements first.elaborations.items ++ created_by is_type i at (next_task t))
-    → OnOk r (u ≡ task_kept t)
-    → OnOk r (new ≡ noted old (declared_once i.name i.at first.region.symbols.entries ++ right_name_at_end i.name (name_behind d)))
+    → new ≡ noted old (declared_once i.name i.at first.region.symbols.entries ++ (task_entries_faults d (place_named is_type i (plain_place first.region outer) t) t ++ right_name_at_end i.name (name_behind d)))
+    → plain_region next.region ≡ naming (task_entries d (place_named is_type i (plain_place first.region outer) t) t).names (with_task is_type i (next_task t) (next_unit t) (plain_region first.region))
+    → plain_typed_statements next.elaborations.items ≡ plain_typed_statements first.elaborations.items ++ created_by is_type i at (next_task t)
+    → OnOk r (u ≡ task_kept (entry_numbers (task_entries d (place_named is_type i (plain_place first.region outer) t) t).names) (task_entries d (place_named is_type i (plain_place first.region outer) t) t).tables)
     → OnOk r (Declares old new outer first next u (checked_task at is_type i d (plain_place first.region outer) t))
-declares_task (Ok x) old new outer first next t u at is_type i d p q k h = (h, ap (λ z. place_in z (plain_regions outer)) p, q, k)
-declares_task (Err e) old new outer first next t u at is_type i d p q k h = tt
+declares_task (Ok x) old new outer first next t u at is_type i d h p q k =
+    let all : List Fault = declared_once i.name i.at first.region.symbols.entries ++ (task_entries_faults d (place_named is_type i (plain_place first.region outer) t) t ++ right_name_at_end i.name (name_behind d)) in
+    (h ∙ ap (noted old) (sym (append-nil all)), ap (λ z. place_in z (plain_regions outer)) p, q, k)
+declares_task (Err e) old new outer first next t u at is_type i d h p q k = tt
+
+-- formals in a region of their own
+pub formals_left : (r : Result (Vec NamedParameter Global) AllocError) (old new : Option Fault) (region : Region) (f g : Formals) → f ≡ g → IfOk r (λ p. DeclaresFormals old new region [] p.items f) → Leaves plain_formals r old new g.faults g.profile
+formals_left (Ok p) old new region f g e h = (h.0 ∙ ap (λ (x : Formals). noted old x.faults) e, h.2 ∙ ap (λ (x : Formals). x.profile) e)
+formals_left (Err x) old new region f g e h = tt

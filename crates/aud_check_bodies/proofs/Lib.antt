@@ -4,6 +4,8 @@ mod FlowRows
 mod BlockRows
 mod ProcedureRows
 mod TaskRows
+mod EntryRows
+mod SelectRows
 pub mod Parts
 pub mod Shown
 pub mod Declared
@@ -13,4 +15,4 @@ pub mod Scoping
 pub mod Called
 pub mod Passing
 pub mod Kept
-pub mod Later
+pub mod Rendezvous

@@ -14,7 +14,7 @@ use Rattle.aud_syntax.specs.Ties.View.{plain_expressions, plain_simple, plain_te
 use Rattle.aud_syntax.proofs.Opened.{multiplied_list, added_list, term_open, simple_open}
 use Rattle.aud_typed.specs.Tree.{Argument}
 use Rattle.aud_fault.specs.declared.fault.Fault.{Fault}
-use Rattle.aud_names.specs.declared.names.Parameter.{Parameter}
+use Rattle.aud_names.specs.declared.names.NamedParameter.{NamedParameter}
 use Rattle.aud_fault.specs.Least.{noted}
 use Rattle.aud_names.specs.Names.{Region, Place}
 use Rattle.aud_check_bodies.specs.Arguments.{factor_name, term_name, unsigned_name, are_as_many, passed, passed_faults, with_passed, all_passed, all_passed_faults}
@@ -50,7 +50,7 @@ more_terms s xs x p e = ap unsigned_name (simple_open s) ∙ added_named s (out-
 
 -- as many as formals
 
-pub counted : (fs : List Parameter) (xs : List Expression) → are_as_many fs (plain_expressions xs) ≡ nat_eq (length fs) (length xs)
+pub counted : (fs : List NamedParameter) (xs : List Expression) → are_as_many fs (plain_expressions xs) ≡ nat_eq (length fs) (length xs)
 counted [] [] = refl
 counted [] (x ∷ xs) = sym (eqb-zero-suc (length xs))
 counted (f ∷ fs) [] = sym (eqb-suc-zero (length fs))
@@ -61,14 +61,14 @@ with_none None = refl
 with_none (Some a) = refl
 
 -- where there are more or fewer nothing is passed
-pub none_passed : (fs : List Parameter) (es : m.Args) (place : Place) → are_as_many fs es ≡ false → all_passed fs es place ≡ None
+pub none_passed : (fs : List NamedParameter) (es : m.Args) (place : Place) → are_as_many fs es ≡ false → all_passed fs es place ≡ None
 none_passed [] m.no_args place e = cc
 none_passed [] (m.more_args x xs) place e = refl
 none_passed (f ∷ fs) m.no_args place e = refl
-none_passed (f ∷ fs) (m.more_args x xs) place e = ap (with_passed (passed f x place)) (none_passed fs xs place e) ∙ with_none (passed f x place)
+none_passed (f ∷ fs) (m.more_args x xs) place e = ap (with_passed (passed f.parameter x place)) (none_passed fs xs place e) ∙ with_none (passed f.parameter x place)
 
 -- what a loop over formals has before it
-pub formals_dropped : (xs : List Parameter) (i : ℕ) (d : Parameter) → i < length xs → drop i xs ≡ get_or xs i d ∷ drop (i + 1) xs
+pub formals_dropped : (xs : List NamedParameter) (i : ℕ) (d : NamedParameter) → i < length xs → drop i xs ≡ get_or xs i d ∷ drop (i + 1) xs
 formals_dropped xs i d h = rw add-one (drop-cons xs i d h)
 
 -- arguments that are still to be checked, behind those that were
@@ -78,7 +78,7 @@ joined_passed (Some xs) (Some ys) = Some (xs ++ ys)
 joined_passed (Some xs) None = None
 joined_passed None _ = None
 
-pub record PassedAhead (now : Option Fault) (all : Option (List Argument)) (fs : List Parameter) (es : m.Args) (place : Place) (old : Option Fault) (fs0 : List Parameter) (es0 : m.Args) : Type 0 where
+pub record PassedAhead (now : Option Fault) (all : Option (List Argument)) (fs : List NamedParameter) (es : m.Args) (place : Place) (old : Option Fault) (fs0 : List NamedParameter) (es0 : m.Args) : Type 0 where
   pub faults : noted now (all_passed_faults fs es place) ≡ noted old (all_passed_faults fs0 es0 place)
   pub made : joined_passed all (all_passed fs es place) ≡ all_passed fs0 es0 place
 
@@ -86,7 +86,7 @@ none_before : (rest : Option (List Argument)) → joined_passed (Some []) rest �
 none_before None = refl
 none_before (Some ys) = refl
 
-pub passed_begins : (old : Option Fault) (fs : List Parameter) (es : m.Args) (place : Place) → PassedAhead old (Some []) fs es place old fs es
+pub passed_begins : (old : Option Fault) (fs : List NamedParameter) (es : m.Args) (place : Place) → PassedAhead old (Some []) fs es place old fs es
 passed_begins old fs es place = record { faults = refl; made = none_before (all_passed fs es place) }
 
 one_joined : (all : Option (List Argument)) (a : Option Argument) (rest : Option (List Argument)) → joined_passed (one_more_passed all a) rest ≡ joined_passed all (with_passed a rest)
@@ -96,14 +96,14 @@ one_joined (Some xs) (Some a) None = refl
 one_joined (Some xs) (Some a) (Some ys) = ap Some (append_assoc xs (a ∷ []) ys)
 
 -- one argument more is checked
-pub passed_ahead : (place : Place) (old mid new : Option Fault) (all next : Option (List Argument)) (f : Parameter) (fs gs fs0 : List Parameter) (x : m.Expression) (es : m.Args) (es0 : m.Args) → gs ≡ f ∷ fs
+pub passed_ahead : (place : Place) (old mid new : Option Fault) (all next : Option (List Argument)) (f : NamedParameter) (fs gs fs0 : List NamedParameter) (x : m.Expression) (es : m.Args) (es0 : m.Args) → gs ≡ f ∷ fs
     → PassedAhead mid all gs (m.more_args x es) place old fs0 es0
-    → new ≡ noted mid (passed_faults f x place)
-    → next ≡ one_more_passed all (passed f x place)
+    → new ≡ noted mid (passed_faults f.parameter x place)
+    → next ≡ one_more_passed all (passed f.parameter x place)
     → PassedAhead new next fs es place old fs0 es0
 passed_ahead place old mid new all next f fs gs fs0 x es es0 p a q e = record {
-  faults = ap (λ z. noted z (all_passed_faults fs es place)) q ∙ sym (noted_append mid (passed_faults f x place) (all_passed_faults fs es place)) ∙ sym (ap (λ l. noted mid (all_passed_faults l (m.more_args x es) place)) p) ∙ a.faults;
-  made = ap (λ z. joined_passed z (all_passed fs es place)) e ∙ one_joined all (passed f x place) (all_passed fs es place) ∙ sym (ap (λ l. joined_passed all (all_passed l (m.more_args x es) place)) p) ∙ a.made;
+  faults = ap (λ z. noted z (all_passed_faults fs es place)) q ∙ sym (noted_append mid (passed_faults f.parameter x place) (all_passed_faults fs es place)) ∙ sym (ap (λ l. noted mid (all_passed_faults l (m.more_args x es) place)) p) ∙ a.faults;
+  made = ap (λ z. joined_passed z (all_passed fs es place)) e ∙ one_joined all (passed f.parameter x place) (all_passed fs es place) ∙ sym (ap (λ l. joined_passed all (all_passed l (m.more_args x es) place)) p) ∙ a.made;
 }
 
 none_joined : (all : Option (List Argument)) → joined_passed all None ≡ None
@@ -111,13 +111,13 @@ none_joined None = refl
 none_joined (Some xs) = refl
 
 -- there are fewer arguments than formals, or more
-pub passed_short : (place : Place) (old now : Option Fault) (all : Option (List Argument)) (f : Parameter) (fs gs fs0 : List Parameter) (es0 : m.Args) → gs ≡ f ∷ fs → PassedAhead now all gs m.no_args place old fs0 es0 → (now ≡ noted old (all_passed_faults fs0 es0 place)) × (None ≡ all_passed fs0 es0 place)
+pub passed_short : (place : Place) (old now : Option Fault) (all : Option (List Argument)) (f : NamedParameter) (fs gs fs0 : List NamedParameter) (es0 : m.Args) → gs ≡ f ∷ fs → PassedAhead now all gs m.no_args place old fs0 es0 → (now ≡ noted old (all_passed_faults fs0 es0 place)) × (None ≡ all_passed fs0 es0 place)
 passed_short place old now all f fs gs fs0 es0 p a = (
   sym (ap (λ l. noted now (all_passed_faults l m.no_args place)) p) ∙ a.faults,
   sym (none_joined all) ∙ sym (ap (λ l. joined_passed all (all_passed l m.no_args place)) p) ∙ a.made,
 )
 
-pub passed_long : (place : Place) (old now : Option Fault) (all : Option (List Argument)) (fs fs0 : List Parameter) (x : m.Expression) (es es0 : m.Args) → fs ≡ [] → PassedAhead now all fs (m.more_args x es) place old fs0 es0 → (now ≡ noted old (all_passed_faults fs0 es0 place)) × (None ≡ all_passed fs0 es0 place)
+pub passed_long : (place : Place) (old now : Option Fault) (all : Option (List Argument)) (fs fs0 : List NamedParameter) (x : m.Expression) (es es0 : m.Args) → fs ≡ [] → PassedAhead now all fs (m.more_args x es) place old fs0 es0 → (now ≡ noted old (all_passed_faults fs0 es0 place)) × (None ≡ all_passed fs0 es0 place)
 passed_long place old now all fs fs0 x es es0 p a = (
   sym (ap (λ l. noted now (all_passed_faults l (m.more_args x es) place)) p) ∙ a.faults,
   sym (none_joined all) ∙ sym (ap (λ l. joined_passed all (all_passed l (m.more_args x es) place)) p) ∙ a.made,
@@ -128,7 +128,7 @@ all_joined None = refl
 all_joined (Some xs) = ap Some (append-nil xs)
 
 -- all are checked
-pub passed_ends : (place : Place) (old now : Option Fault) (all : Option (List Argument)) (fs fs0 : List Parameter) (es0 : m.Args) → fs ≡ [] → PassedAhead now all fs m.no_args place old fs0 es0 → (now ≡ noted old (all_passed_faults fs0 es0 place)) × (all ≡ all_passed fs0 es0 place)
+pub passed_ends : (place : Place) (old now : Option Fault) (all : Option (List Argument)) (fs fs0 : List NamedParameter) (es0 : m.Args) → fs ≡ [] → PassedAhead now all fs m.no_args place old fs0 es0 → (now ≡ noted old (all_passed_faults fs0 es0 place)) × (all ≡ all_passed fs0 es0 place)
 passed_ends place old now all fs fs0 es0 p a = (
   sym (ap (λ l. noted now (all_passed_faults l m.no_args place)) p) ∙ a.faults,
   sym (all_joined all) ∙ sym (ap (λ l. joined_passed all (all_passed l m.no_args place)) p) ∙ a.made,
@@ -136,16 +136,16 @@ passed_ends place old now all fs fs0 es0 p a = (
 
 -- formals that are still to be declared, behind those that were
 
-pub record FormalsAhead (now : Option Fault) (r : Region) (before : List Parameter) (own : Ident) (fs : List m.Formal) (outer : List Region) (old : Option Fault) (all : Formals) : Type 0 where
+pub record FormalsAhead (now : Option Fault) (r : Region) (before : List NamedParameter) (own : Option Ident) (fs : List m.Formal) (outer : List Region) (old : Option Fault) (all : Formals) : Type 0 where
   pub faults : noted now (checked_formals own fs r outer).faults ≡ noted old all.faults
   pub region : (checked_formals own fs r outer).region ≡ all.region
   pub profile : before ++ (checked_formals own fs r outer).profile ≡ all.profile
 
-pub formals_begin : (old : Option Fault) (r : Region) (profile : List Parameter) (own : Ident) (fs : List m.Formal) (outer : List Region) → profile ≡ [] → FormalsAhead old r profile own fs outer old (checked_formals own fs r outer)
+pub formals_begin : (old : Option Fault) (r : Region) (profile : List NamedParameter) (own : Option Ident) (fs : List m.Formal) (outer : List Region) → profile ≡ [] → FormalsAhead old r profile own fs outer old (checked_formals own fs r outer)
 formals_begin old r profile own fs outer e = record { faults = refl; region = refl; profile = ap (λ l. l ++ (checked_formals own fs r outer).profile) e }
 
 -- one more is declared
-pub formals_ahead : (own : Ident) (outer : List Region) (old mid new : Option Fault) (r s : Region) (before profile : List Parameter) (all : Formals) (f : m.Formal) (fs gs : List m.Formal) → gs ≡ f ∷ fs
+pub formals_ahead : (own : Option Ident) (outer : List Region) (old mid new : Option Fault) (r s : Region) (before profile : List NamedParameter) (all : Formals) (f : m.Formal) (fs gs : List m.Formal) → gs ≡ f ∷ fs
     → FormalsAhead mid r before own gs outer old all
     → (new ≡ noted mid (checked_formal own f r outer).faults) × (s ≡ (checked_formal own f r outer).region) × (profile ≡ before ++ (checked_formal own f r outer).profile)
     → FormalsAhead new s profile own fs outer old all
@@ -161,7 +161,7 @@ formals_ahead own outer old mid new r s before profile all f fs gs p a d =
     }
 
 -- all are declared
-pub formals_end : (own : Ident) (outer : List Region) (old now : Option Fault) (r : Region) (profile : List Parameter) (all : Formals) (fs : List m.Formal) → fs ≡ [] → FormalsAhead now r profile own fs outer old all → (now ≡ noted old all.faults) × (r ≡ all.region) × (profile ≡ [] ++ all.profile)
+pub formals_end : (own : Option Ident) (outer : List Region) (old now : Option Fault) (r : Region) (profile : List NamedParameter) (all : Formals) (fs : List m.Formal) → fs ≡ [] → FormalsAhead now r profile own fs outer old all → (now ≡ noted old all.faults) × (r ≡ all.region) × (profile ≡ [] ++ all.profile)
 formals_end own outer old now r profile all fs p a =
     let end : checked_formals own fs r outer ≡ checked_formals own [] r outer = ap (λ l. checked_formals own l r outer) p in (
       sym (ap (λ (z : Formals). noted now z.faults) end) ∙ a.faults,

@@ -86,6 +86,7 @@ sets_program = tree.program_of_units (record {
       ∷ (record { level = 1; region = 1; at = at 2 1; body = tree.body tree.nothing (at 3 1) (tree.assign (at 3 7) (scalar_at 1) (tree.whole Integer (tree.number (pos 1)))) tree.no_handlers (at 3 70) })
       ∷ [];
   tasks = [];
+  entries = [];
   regions = (shown_whole (codes "V") ∷ []) ∷ (shown_whole (codes "N") ∷ []) ∷ [];
   exceptions = [];
 })

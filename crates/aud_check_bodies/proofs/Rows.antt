@@ -64,8 +64,8 @@ program names declared s = record {
   plan = record {
     units = record { level = 0; region = 0; is_function = false; at = at 1 1; end = at 9 1 } ∷ [];
     tasks = [];
-    objects = [];
     entries = [];
+    objects = [];
     regions = map (λ n. record { name = n; shown = tree.as_whole }) names ∷ [];
     exceptions = [];
   };

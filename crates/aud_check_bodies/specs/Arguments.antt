@@ -10,6 +10,7 @@ use Rattle.aud_typed.specs.Tree as tree
 use Rattle.aud_fault.specs.declared.fault.Fault.{Fault}
 use Rattle.aud_names.specs.declared.names.Meaning.{Meaning}
 use Rattle.aud_names.specs.declared.names.Meaning.TheVariants.{Object}
+use Rattle.aud_names.specs.declared.names.NamedParameter.{NamedParameter}
 use Rattle.aud_names.specs.declared.names.Parameter.{Parameter}
 use Rattle.aud_names.specs.declared.rules.Base.{Base}
 use Rattle.aud_names.specs.Names.{Place}
@@ -105,13 +106,13 @@ abbrev pub passed : Parameter → Expression → Place → Option tree.Argument
 passed f e place = if is_in f.mode then Some (tree.by_value (given_value e f.subtype place)) else copied f (expression_name e) place
 
 -- as many arguments as formals
-abbrev pub are_as_many : List Parameter → Args → Bool
+abbrev pub are_as_many : List NamedParameter → Args → Bool
 are_as_many [] no_args = true
 are_as_many (f ∷ fs) (more_args e es) = are_as_many fs es
 are_as_many _ _ = false
 
-abbrev pub all_passed_faults : List Parameter → Args → Place → List Fault
-all_passed_faults (f ∷ fs) (more_args e es) place = passed_faults f e place ++ all_passed_faults fs es place
+abbrev pub all_passed_faults : List NamedParameter → Args → Place → List Fault
+all_passed_faults (f ∷ fs) (more_args e es) place = passed_faults f.parameter e place ++ all_passed_faults fs es place
 all_passed_faults _ _ place = []
 
 abbrev pub with_passed : Option tree.Argument → Option (List tree.Argument) → Option (List tree.Argument)
@@ -119,12 +120,12 @@ with_passed (Some a) (Some more) = Some (a ∷ more)
 with_passed _ _ = None
 
 -- none where one is faulty, or missing
-abbrev pub all_passed : List Parameter → Args → Place → Option (List tree.Argument)
+abbrev pub all_passed : List NamedParameter → Args → Place → Option (List tree.Argument)
 all_passed [] no_args place = Some []
-all_passed (f ∷ fs) (more_args e es) place = with_passed (passed f e place) (all_passed fs es place)
+all_passed (f ∷ fs) (more_args e es) place = with_passed (passed f.parameter e place) (all_passed fs es place)
 all_passed _ _ place = None
 
--- of a procedure with these formals; where there are more or fewer arguments, nothing is asked of them but that they are expressions
-abbrev pub arguments_faults : List Parameter → Name → Pos → Place → List Fault
+-- of a procedure or entry with these formals; where there are more or fewer arguments, nothing is asked of them but that they are expressions
+abbrev pub arguments_faults : List NamedParameter → Name → Pos → Place → List Fault
 arguments_faults fs n at place =
     if are_as_many fs (last_args n) then all_passed_faults fs (last_args n) place else wrong_number_of_arguments at ++ (checked_arguments n place).faults

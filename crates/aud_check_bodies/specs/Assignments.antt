@@ -8,7 +8,7 @@ use Rattle.aud_typed.specs.declared.program.Subtype.{Subtype}
 use Rattle.aud_typed.specs.Tree as tree
 use Rattle.aud_fault.specs.declared.fault.Fault.{Fault}
 use Rattle.aud_names.specs.declared.names.Meaning.{Meaning}
-use Rattle.aud_names.specs.declared.names.Meaning.TheVariants.{ScalarType, Literal, Object, Array, Exception, Builtin, Procedure, TaskType, Task, TaskArray}
+use Rattle.aud_names.specs.declared.names.Meaning.TheVariants.{ScalarType, Literal, Object, Array, Exception, Builtin, Procedure, TaskType, Task, TaskArray, Entry}
 use Rattle.aud_names.specs.declared.rules.Base.{Base}
 use Rattle.aud_names.specs.declared.rules.Base.TheVariants.{Truth}
 use Rattle.aud_names.specs.Names.{Place}
@@ -41,6 +41,7 @@ changed_faults (Procedure n) at = wrong_kind_of_name at
 changed_faults (TaskType n) at = wrong_kind_of_name at
 changed_faults (Task v) at = wrong_kind_of_name at
 changed_faults (TaskArray a) at = wrong_kind_of_name at
+changed_faults (Entry e) at = wrong_kind_of_name at
 
 abbrev pub target_faults : Entity → Pos → List Fault
 target_faults no_entity at = []

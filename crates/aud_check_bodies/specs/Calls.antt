@@ -1,4 +1,4 @@
--- Calls (RM 6.4).
+-- Calls of procedures and entries (RM 6.4, 9.5.3).
 use Rattle.std.specs.Prelude.{ℕ, List, [], ◌++◌, Option, Some, None, if◌then◌else◌}
 use Rattle.aud_text.specs.declared.place.Pos.{Pos}
 use Rattle.aud_syntax.specs.Plain.{Name, Expression, Args, no_args, more_args}
@@ -6,16 +6,22 @@ use Rattle.aud_typed.specs.Tree as tree
 use Rattle.aud_fault.specs.declared.fault.Fault.{Fault}
 use Rattle.aud_names.specs.declared.names.Meaning.{Meaning}
 use Rattle.aud_names.specs.declared.names.Meaning.TheVariants as meaning
+use Rattle.aud_names.specs.declared.names.Entry as entry
+use Rattle.aud_names.specs.declared.names.Owner.{Owner}
+use Rattle.aud_names.specs.declared.names.Owner.TheVariants.{Single, Element}
 use Rattle.aud_names.specs.declared.names.Builtin.{Builtin}
 use Rattle.aud_names.specs.declared.names.Builtin.TheVariants.{Put, PutLine, NewLine}
 use Rattle.aud_names.specs.declared.resolution.Denoted.{Denoted}
 use Rattle.aud_names.specs.declared.rules.Base.TheVariants.{Whole, Text}
 use Rattle.aud_names.specs.Names.{Place}
-use Rattle.aud_names.specs.Rules.{wrong_kind_of_name, wrong_number_of_arguments}
+use Rattle.aud_names.specs.Arrays.{task_array_at}
+use Rattle.aud_names.specs.Rules.{wrong_kind_of_name, wrong_number_of_arguments, not_an_entry}
 use Rattle.aud_names.specs.Resolution.{are_none, resolved, name_ident, last_args}
-use Rattle.aud_check_bodies.specs.Tables.{Tables, profile_of}
+use Rattle.aud_check_bodies.specs.declared.call.Callee.{Callee}
+use Rattle.aud_check_bodies.specs.declared.call.Callee.TheVariants.{Procedure, Entry}
+use Rattle.aud_check_bodies.specs.Tables.{Tables, profile_of, entry_profile_of}
 use Rattle.aud_check_bodies.specs.Arguments.{all_passed, arguments_faults}
-use Rattle.aud_typing.specs.Expressions.{Typed, number, string, wants, expression_at, checked_arguments}
+use Rattle.aud_typing.specs.Expressions.{Typed, number, string, unknown, Checked, fine, wants, expression_at, checked_arguments, checked_prefix}
 
 -- one argument, which is a text (RM 6.4.1(3))
 abbrev pub one_text : Args → Pos → Typed → List Fault
@@ -42,7 +48,7 @@ array_called no_args at last = wrong_kind_of_name at
 array_called (more_args e no_args) at last = element_called e at last
 array_called (more_args e (more_args f es)) at last = wrong_number_of_arguments at
 
--- what is called must be a procedure (RM 6.4(3)); of one of the program the arguments are checked by its formals
+-- what is called must be a procedure or an entry (RM 6.4(3), 9.5.3(2)); of one of the program the arguments are checked by its formals
 abbrev pub callee_faults : Option Meaning → Args → Pos → Typed → List Fault
 callee_faults None xs at last = []
 callee_faults (Some (meaning.Builtin b)) xs at last = put_faults b xs at last
@@ -50,17 +56,27 @@ callee_faults (Some (meaning.Array a)) xs at last = array_called xs at last
 callee_faults (Some (meaning.TaskArray a)) xs at last = array_called xs at last
 callee_faults (Some m) xs at last = wrong_kind_of_name at
 
--- the unit of a procedure of the program
-abbrev pub unit_meant : Option Meaning → Option ℕ
-unit_meant (Some (meaning.Procedure unit)) = Some unit
-unit_meant _ = None
+-- a procedure of the program, by its unit, or an entry
+abbrev pub callee_meant : Option Meaning → Option Callee
+callee_meant (Some (meaning.Procedure unit)) = Some (Procedure unit)
+callee_meant (Some (meaning.Entry e)) = Some (Entry e)
+callee_meant _ = None
 
-abbrev pub called_faults : Option ℕ → Denoted → Name → Place → Tables → List Fault
-called_faults (Some unit) d n place t = arguments_faults (profile_of unit t) n d.at place
+-- the index of the array of tasks before the point behind which an entry of one of them stands
+abbrev pub index_checked : Owner → Name → Place → Checked
+index_checked (Single v) n place = fine unknown
+index_checked (Element a) n place = checked_prefix n place
+
+abbrev pub entry_call_faults : entry.Entry → Name → Pos → Place → Tables → List Fault
+entry_call_faults e n at place t = (index_checked e.owner n place).faults ++ arguments_faults (entry_profile_of e.number t) n at place
+
+abbrev pub called_faults : Option Callee → Denoted → Name → Place → Tables → List Fault
+called_faults (Some (Procedure unit)) d n place t = arguments_faults (profile_of unit t) n d.at place
+called_faults (Some (Entry e)) d n place t = entry_call_faults e n d.at place t
 called_faults None d n place t = (checked_arguments n place).faults ++ callee_faults d.meaning (last_args n) d.at (checked_arguments n place).typed
 
 abbrev pub call_faults : Name → Place → Tables → List Fault
-call_faults n place t = (resolved n place).faults ++ called_faults (unit_meant (resolved n place).denoted.meaning) (resolved n place).denoted n place t
+call_faults n place t = (resolved n place).faults ++ called_faults (callee_meant (resolved n place).denoted.meaning) (resolved n place).denoted n place t
 
 -- Put_Line puts out its text and ends the line; a faulty call is left as a null statement
 abbrev pub put_out : Builtin → Pos → Typed → tree.Statement
@@ -77,9 +93,55 @@ abbrev pub called : Option Meaning → Pos → Typed → tree.Statement
 called (Some (meaning.Builtin b)) at last = put_out b at last
 called _ at last = tree.null at
 
-abbrev pub called_as : Option ℕ → Denoted → Name → Place → Tables → tree.Statement
-called_as (Some unit) d n place t = procedure_called unit (name_ident n).at (all_passed (profile_of unit t) (last_args n) place)
+-- Entry calls (RM 9.5.3).
+
+-- the task whose entry is called, none where its index is faulty
+abbrev pub called_task : Owner → Typed → Option tree.TaskName
+called_task (Single v) index = Some (tree.single v)
+called_task (Element a) (number e) = Some (tree.indexed (task_array_at a) e)
+called_task (Element a) _ = None
+
+-- which entry of which task is called, with what arguments
+pub record EntryCalled : Type 0 where
+  pub task : tree.TaskName
+  pub entry : ℕ
+  pub arguments : List tree.Argument
+
+abbrev pub called_with : ℕ → Option tree.TaskName → Option (List tree.Argument) → Option EntryCalled
+called_with e (Some task) (Some arguments) = Some (record { task = task; entry = e; arguments = arguments })
+called_with e _ _ = None
+
+abbrev pub entry_called : entry.Entry → Name → Place → Tables → Option EntryCalled
+entry_called e n place t = called_with e.number (called_task e.owner (index_checked e.owner n place).typed) (all_passed (entry_profile_of e.number t) (last_args n) place)
+
+-- with what follows the call, and what is done in place of it
+abbrev pub entry_call_of : Pos → tree.CallForm → tree.Part → tree.Part → Option EntryCalled → tree.Statement
+entry_call_of at form following otherwise None = tree.null at
+entry_call_of at form following otherwise (Some c) = tree.entry_call at (record { callee = tree.of_task c.task; entry = c.entry; arguments = c.arguments; form = form }) following otherwise
+
+abbrev pub called_as : Option Callee → Denoted → Name → Place → Tables → tree.Statement
+called_as (Some (Procedure unit)) d n place t = procedure_called unit (name_ident n).at (all_passed (profile_of unit t) (last_args n) place)
+called_as (Some (Entry e)) d n place t = entry_call_of (name_ident n).at tree.plainly tree.nothing tree.nothing (entry_called e n place t)
 called_as None d n place t = called d.meaning (name_ident n).at (checked_arguments n place).typed
 
 abbrev pub typed_call : Name → Place → Tables → tree.Statement
-typed_call n place t = called_as (unit_meant (resolved n place).denoted.meaning) (resolved n place).denoted n place t
+typed_call n place t = called_as (callee_meant (resolved n place).denoted.meaning) (resolved n place).denoted n place t
+
+-- Timed and conditional calls: what could be called by itself and is no entry is none for them (RM 9.7.2, 9.7.3).
+
+abbrev pub selected_faults : Option Meaning → Pos → List Fault
+selected_faults (Some (meaning.Builtin b)) at = not_an_entry at
+selected_faults (Some (meaning.Procedure unit)) at = not_an_entry at
+selected_faults _ at = []
+
+abbrev pub selected_call_faults : Name → Place → Tables → List Fault
+selected_call_faults n place t =
+    (resolved n place).faults ++ (selected_faults (resolved n place).denoted.meaning (resolved n place).denoted.at
+    ++ called_faults (callee_meant (resolved n place).denoted.meaning) (resolved n place).denoted n place t)
+
+abbrev pub selected_as : Option Callee → Name → Place → Tables → Option EntryCalled
+selected_as (Some (Entry e)) n place t = entry_called e n place t
+selected_as _ n place t = None
+
+abbrev pub selected_call : Name → Place → Tables → Option EntryCalled
+selected_call n place t = selected_as (callee_meant (resolved n place).denoted.meaning) n place t

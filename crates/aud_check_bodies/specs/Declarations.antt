@@ -47,6 +47,7 @@ subtype_faults (Some (Procedure n)) at = wrong_kind_of_name at
 subtype_faults (Some (TaskType n)) at = wrong_kind_of_name at
 subtype_faults (Some (meaning.Task v)) at = wrong_kind_of_name at
 subtype_faults (Some (meaning.TaskArray a)) at = wrong_kind_of_name at
+subtype_faults (Some (meaning.Entry e)) at = wrong_kind_of_name at
 
 abbrev pub subtype_meant : Option Meaning → Option Subtype
 subtype_meant (Some (ScalarType s)) = Some s
@@ -72,6 +73,11 @@ abbrev pub value_for : Subtype → Typed → tree.ValueExpression
 value_for s (number e) = tree.whole s e
 value_for s (boolean e) = tree.boolean e
 value_for s _ = default_value s
+
+-- an Integer; what stands for another value has no meaning
+abbrev pub integer_of : Typed → tree.IntegerExpression
+integer_of (number e) = e
+integer_of _ = tree.number (pos 0)
 
 abbrev pub known : Option Subtype → Subtype
 known None = Integer
@@ -173,19 +179,19 @@ task_elaborations identifiers at task_type low is_array count =
 
 abbrev pub checked_tasks : List Ident → Pos → ℕ → Place → Objects
 checked_tasks identifiers at task_type place = record {
-  faults = twice_faults identifiers Task (innermost place);
+  faults = twice_faults identifiers (Task task_type) (innermost place);
   made = record {
-    place = in_region (declared_names identifiers Task (innermost place)) place;
+    place = in_region (declared_names identifiers (Task task_type) (innermost place)) place;
     elaborations = task_elaborations identifiers at task_type (pos 0) false 1;
   };
 }
 
-abbrev pub tasks_kind : Bound → Bound → Kind
-tasks_kind low high = task_row_between (or_zero (bound_value low)) (or_zero (bound_value high))
+abbrev pub tasks_kind : Bound → Bound → ℕ → Kind
+tasks_kind low high task_type = task_row_between (or_zero (bound_value low)) (or_zero (bound_value high)) task_type
 
 abbrev pub checked_task_rows : List Ident → Pos → Bound → Bound → ℕ → Place → Objects
 checked_task_rows identifiers at low high task_type place =
-    let kind = tasks_kind low high in
+    let kind = tasks_kind low high task_type in
     record {
       faults = bound_faults low ++ (bound_faults high ++ twice_faults identifiers kind (innermost place));
       made = record {

@@ -1,5 +1,5 @@
--- Formal parameters of procedures (RM 6.1).
-use Rattle.std.specs.Prelude.{Bool, true, false, List, [], ◌∷◌, ◌++◌, map, Option}
+-- Formal parameters of procedures, entries and accepts (RM 6.1, 9.5.2).
+use Rattle.std.specs.Prelude.{Bool, true, false, List, [], ◌∷◌, ◌++◌, map, Option, Some, None}
 use Rattle.aud_syntax.specs.declared.tree.Ident.{Ident}
 use Rattle.aud_syntax.specs.declared.tree.Mode.{Mode}
 use Rattle.aud_syntax.specs.declared.tree.Mode.TheVariants.{Unstated, In, Out, InOut}
@@ -7,6 +7,7 @@ use Rattle.aud_syntax.specs.Plain.{Formal, formal}
 use Rattle.aud_typed.specs.declared.program.Subtype.{Subtype}
 use Rattle.aud_fault.specs.declared.fault.Fault.{Fault}
 use Rattle.aud_names.specs.declared.names.Meaning.{Meaning}
+use Rattle.aud_names.specs.declared.names.NamedParameter.{NamedParameter}
 use Rattle.aud_names.specs.declared.names.Parameter.{Parameter}
 use Rattle.aud_names.specs.declared.array.Kind.{Kind}
 use Rattle.aud_names.specs.Names.{Region, place_in, hiding, own_hidden, with_own, visible}
@@ -19,19 +20,24 @@ is_in (In at) = true
 is_in (Out at) = false
 is_in (InOut at) = false
 
--- the faults of formals, the region after them, and how calls see them
+-- the faults of formals, the region after them, and what calls and accepts see of them
 pub record Formals : Type 0 where
   pub faults : List Fault
   pub region : Region
-  pub profile : List Parameter
+  pub profile : List NamedParameter
+
+-- the name of the procedure or entry that they are formals of, where its declaration lasts still: that of an accept has ended
+abbrev pub own_name : Option Ident → Region → Option Ident
+own_name None r = None
+own_name (Some own) r = own_hidden own r
 
 -- what the mark of formals stands for, which are declared in a region within these
-abbrev pub mark_meant : Ident → List Ident → Ident → Region → List Region → Option Meaning
-mark_meant own names mark r outer = visible mark.name (hiding (with_own (own_hidden own r) names) (place_in r outer))
+abbrev pub mark_meant : Option Ident → List Ident → Ident → Region → List Region → Option Meaning
+mark_meant own names mark r outer = visible mark.name (hiding (with_own (own_name own r) names) (place_in r outer))
 
 -- one for each of the names
-abbrev pub parameters_of : List Ident → Parameter → List Parameter
-parameters_of names p = map (λ i. p) names
+abbrev pub parameters_of : List Ident → Parameter → List NamedParameter
+parameters_of names p = map (λ i. record { name = i.name; parameter = p }) names
 
 abbrev pub formal_kind : Mode → Option Subtype → Kind
 formal_kind mode s = scalar s (is_in mode)
@@ -43,13 +49,13 @@ formals_meant names mode mark m r = record {
   profile = parameters_of names (record { mode = mode; subtype = subtype_meant m });
 }
 
-abbrev pub checked_formal : Ident → Formal → Region → List Region → Formals
+abbrev pub checked_formal : Option Ident → Formal → Region → List Region → Formals
 checked_formal own (formal first others mode mark) r outer = formals_meant (first ∷ others) mode mark (mark_meant own (first ∷ others) mark r outer) r
 
 abbrev pub joined_formals : Formals → Formals → Formals
 joined_formals f g = record { faults = f.faults ++ g.faults; region = g.region; profile = f.profile ++ g.profile }
 
--- the formals of a procedure are declared one after the other in its region, which lies within these
-abbrev pub checked_formals : Ident → List Formal → Region → List Region → Formals
+-- formals are declared one after the other in a region, which lies within these
+abbrev pub checked_formals : Option Ident → List Formal → Region → List Region → Formals
 checked_formals own [] r outer = record { faults = []; region = r; profile = [] }
 checked_formals own (f ∷ fs) r outer = joined_formals (checked_formal own f r outer) (checked_formals own fs (checked_formal own f r outer).region outer)

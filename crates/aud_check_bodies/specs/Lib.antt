@@ -4,9 +4,13 @@ pub mod Formals
 pub mod Assignments
 pub mod Arguments
 pub mod Calls
+pub mod Delays
+pub mod Accepts
+pub mod Selects
 pub mod Labels
 pub mod Regions
 pub mod Handlers
+pub mod Entries
 pub mod Tasks
 pub mod Statements
 pub mod Programs

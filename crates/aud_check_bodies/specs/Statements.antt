@@ -1,46 +1,55 @@
 -- Statements, declarative parts and bodies (RM 3.11, 5, 6.3, 11.2).
-use Rattle.std.specs.Prelude.{ℕ, Bool, true, false, List, [], ◌∷◌, ◌++◌, Option, Some, None, is_some, pos, not}
+use Rattle.std.specs.Prelude.{ℕ, Bool, true, false, List, [], ◌∷◌, ◌++◌, Option, Some, None, is_some, not}
 use Rattle.aud_text.specs.declared.place.Pos.{Pos}
 use Rattle.aud_syntax.specs.declared.tree.Ident.{Ident}
-use Rattle.aud_syntax.specs.Plain.{Expression, MaybeExpression, no_expression, an_expression, Formal, Declaration, object, constant, array, exception, procedure, task, task_body, protected, protected_body, no_declarations, more_declarations, Statement, null, assign, call, if_then, loop, exit, block, return, raise, accepting, delaying, select_accept, select_call, abort, requeue, Arms, no_arms, more_arms, Iteration, forever, while, for, Statements, in_order, MoreStatements, no_statements, more_statements, Declarations, Body, body, Handlers, no_handlers, more_handlers, Choices, Simple}
+use Rattle.aud_syntax.specs.Plain.{Expression, MaybeExpression, no_expression, an_expression, Formal, Declaration, object, constant, array, exception, procedure, task, task_body, protected, protected_body, no_declarations, more_declarations, Statement, null, assign, call, if_then, loop, exit, block, return, raise, accepting, delaying, select_accept, select_call, abort, requeue, Arms, no_arms, more_arms, Iteration, forever, while, for, Statements, in_order, MoreStatements, no_statements, more_statements, Declarations, Body, body, Handlers, no_handlers, more_handlers, Choices, Simple, Accept, accept, Doing, without_do, with_do, Alternative, accept_alternative, delay_alternative, terminate_alternative, Alternatives, no_alternatives, more_alternatives, Otherwise, or_delay, or_else}
 use Rattle.aud_typed.specs.declared.program.Exception.{Exception}
 use Rattle.aud_typed.specs.Tree as tree
 use Rattle.aud_fault.specs.declared.fault.Fault.{Fault}
 use Rattle.aud_names.specs.declared.rules.Base.TheVariants.{Whole}
-use Rattle.aud_names.specs.Names.{Place, innermost, in_region, place_in, next_frame, in_frame, hiding}
+use Rattle.aud_names.specs.declared.names.Entry.{Entry}
+use Rattle.aud_names.specs.Names.{Region, Place, innermost, in_region, place_in, body_frame, in_frame, hiding}
 use Rattle.aud_check_bodies.specs.Labels.{Labels, exit_loop}
 use Rattle.aud_names.specs.Rules.{declared_once, right_name_at_end, right_label_at_end, exit_in_loop, return_in_place}
 use Rattle.aud_check_bodies.specs.Tables.{nowhere, Tables, Outcome, fine, after, and_then, next_region, with_region, region_kept, region_named, next_unit, unit_kept, with_unit}
-use Rattle.aud_typing.specs.Expressions.{Typed, number, checked_simple, checked_expression, simple_at, wants}
+use Rattle.aud_typing.specs.Expressions.{checked_simple, checked_expression, simple_at, wants}
 use Rattle.aud_typing.specs.Conditions.{condition_faults, condition, maybe_condition_faults, maybe_condition}
-use Rattle.aud_check_bodies.specs.Declarations.{Declared, leaving, checked_objects, checked_arrays, checked_exceptions, with_procedure, nothing_declared, joined_declared}
+use Rattle.aud_check_bodies.specs.Declarations.{integer_of, Declared, leaving, checked_objects, checked_arrays, checked_exceptions, with_procedure, nothing_declared, joined_declared}
 use Rattle.aud_check_bodies.specs.Formals.{Formals, checked_formals}
-use Rattle.aud_check_bodies.specs.Tasks.{checked_task, with_bodies, unit_awaited, place_behind, task_body_of, with_activation}
+use Rattle.aud_check_bodies.specs.Tasks.{checked_task, with_bodies, task_awaited, place_behind, task_body_of, with_activation}
 use Rattle.aud_check_bodies.specs.Regions.{loop_region, in_loop, shown_names}
 use Rattle.aud_check_bodies.specs.Assignments.{assign_faults, typed_assign}
-use Rattle.aud_check_bodies.specs.Calls.{call_faults, typed_call}
+use Rattle.aud_check_bodies.specs.Calls.{call_faults, typed_call, entry_call_of, selected_call_faults, selected_call}
+use Rattle.aud_check_bodies.specs.Delays.{delay_at, delay_faults, typed_delay}
+use Rattle.aud_check_bodies.specs.Accepts.{accept_formals, accept_faults, accepted, number_of, with_accepted, TypedAccept}
+use Rattle.aud_check_bodies.specs.Selects.{TypedAlternative, accepts, delays, terminates, alternatives_of, form_faults, form_of}
 use Rattle.aud_check_bodies.specs.Handlers.{raise_faults, typed_raise, none_chosen, all_choices_faults, choices_of, is_others}
 
--- what a statement knows of the constructs around it in its body: loops and blocks, whether a handler is among them, and whether the body is
--- a task's
+-- what a statement knows of the constructs around it in its body: loops and blocks, whether a handler is among them, whether a return would
+-- leave a task's body, and the entries of the accepts
 pub record Around : Type 0 where
   pub labels : Labels
   pub in_handler : Bool
   pub in_task : Bool
+  pub accepting : List ℕ
 
 -- nothing is around the statements of a procedure: labels and handlers end at its border (RM 5.7(4), 11.3(3))
 abbrev pub nothing_around : Around
-nothing_around = record { labels = []; in_handler = false; in_task = false }
+nothing_around = record { labels = []; in_handler = false; in_task = false; accepting = [] }
 
 -- nor around those of a task
 abbrev pub task_around : Around
-task_around = record { labels = []; in_handler = false; in_task = true }
+task_around = record { labels = []; in_handler = false; in_task = true; accepting = [] }
 
 abbrev pub labelled : Bool → Option Ident → Around → Around
 labelled is_loop label around = record around { labels = (record { is_loop = is_loop; name = label }) ∷ around.labels }
 
 abbrev pub handling : Around → Around
 handling around = record around { in_handler = true }
+
+-- within an accept of an entry: no exit leaves it (RM 5.7(4)), and a return leaves no more than it (RM 6.5(4))
+abbrev pub in_accept : Option Entry → Around → Around
+in_accept e around = record { labels = []; in_handler = around.in_handler; in_task = false; accepting = with_accepted e around.accepting }
 
 -- Loops.
 
@@ -52,10 +61,6 @@ begin_at (Some label) at = label.at
 -- a bound of a loop's parameter is an Integer (RM 5.5(4), profile)
 abbrev pub bound_faults : Simple → Place → List Fault
 bound_faults s place = (checked_simple s place).faults ++ wants Whole (simple_at s) (checked_simple s place).typed
-
-abbrev pub integer_of : Typed → tree.IntegerExpression
-integer_of (number e) = e
-integer_of _ = tree.number (pos 0)
 
 abbrev pub bound_of : Simple → Place → tree.IntegerExpression
 bound_of s place = integer_of (checked_simple s place).typed
@@ -151,7 +156,7 @@ end_name (body begin ss hs end name semicolon) = name
 abbrev pub end_semicolon : Body → Pos
 end_semicolon (body begin ss hs end name semicolon) = semicolon
 
--- Returns (RM 6.5): a task's body is not left by one, and as yet there is no function.
+-- Returns (RM 6.5): a task's body is not left by one, but an accept in it is; as yet there is no function.
 
 abbrev pub return_faults : Pos → MaybeExpression → Bool → Place → List Fault
 return_faults at no_expression in_task place = return_in_place (not in_task) at
@@ -182,7 +187,7 @@ procedure_place i place t = in_region (with_procedure i (next_unit t) (innermost
 
 -- formals are declared in the region of their body (RM 8.1)
 abbrev pub procedure_formals : Ident → List Formal → Place → Formals
-procedure_formals i fs here = checked_formals i fs (next_frame here) here.regions
+procedure_formals i fs here = checked_formals (Some i) fs (body_frame here) here.regions
 
 -- a procedure's declaration, of which these are the formals, and which stands behind its name
 abbrev pub procedure_of : Ident → Formals → (Place → Tables → Outcome tree.UnitBody) → Place → Place → Tables → Outcome Declared
@@ -214,13 +219,49 @@ abbrev mutual
       fine (tree.block (begin_at label at) (next_region t) x) t1))
   checked_statement (return at e) around place t = after (return_faults at e around.in_task place) (fine (typed_return at e) t)
   checked_statement (raise at name) around place t = after (raise_faults at name around.in_handler place) (fine (typed_raise at name place) t)
+  checked_statement (accepting x) around place t = and_then (checked_accept x around place t) (λ a t1. fine (tree.accept a.at a.entry a.doing) t1)
+  checked_statement (delaying d) around place t = after (delay_faults d place) (fine (tree.delay (delay_at d) (typed_delay d place)) t)
+  checked_statement (select_accept at guard x xs otherwise) around place t =
+      and_then (checked_alternative x guard around place t) (λ a t1. and_then (checked_alternatives xs around place t1) (λ more t2. and_then (checked_others otherwise around place t2) (λ rest t3.
+      fine (tree.select at (alternatives_of (a ∷ more)) (tree.part_of rest)) t3)))
+  checked_statement (select_call at n behind otherwise) around place t =
+      after (form_faults otherwise place ++ selected_call_faults n place t) (and_then (checked_others behind around place t) (λ xs t1. and_then (checked_otherwise otherwise around place t1) (λ rest t2.
+      fine (entry_call_of at (form_of otherwise place) (tree.part_of xs) (tree.part_of rest) (selected_call n place t)) t2)))
   -- no program has these yet
-  checked_statement (accepting x) around place t = fine (tree.null nowhere) t
-  checked_statement (delaying x) around place t = fine (tree.null nowhere) t
-  checked_statement (select_accept at e x xs otherwise) around place t = fine (tree.null nowhere) t
-  checked_statement (select_call at x behind otherwise) around place t = fine (tree.null nowhere) t
   checked_statement (abort at x xs) around place t = fine (tree.null nowhere) t
   checked_statement (requeue at x with_abort) around place t = fine (tree.null nowhere) t
+
+  -- RM 9.5.2
+  pub checked_accept : Accept → Around → Place → Tables → Outcome TypedAccept
+  checked_accept (accept at i fs doing) around place t =
+      after (accept_faults i fs around.accepting place t) (and_then (checked_doing doing i (accept_formals fs place).region (in_accept (accepted i place) around) place t) (λ x t1.
+      fine (record { at = at; entry = number_of (accepted i place); doing = x }) t1))
+
+  -- in the region of an accept's formals; the name after its end must be the entry's
+  pub checked_doing : Doing → Ident → Region → Around → Place → Tables → Outcome tree.Doing
+  checked_doing without_do i r around place t = fine tree.without_do t
+  checked_doing (with_do b) i r around place t =
+      and_then (checked_body b around (place_in r place.regions) (with_region (shown_names r.symbols) t)) (λ x t1.
+      after (right_name_at_end i.name (end_name b)) (fine (tree.with_do (next_region t) (body_with [] b x)) t1))
+
+  -- RM 9.7.1: behind its guard
+  pub checked_alternative : Alternative → MaybeExpression → Around → Place → Tables → Outcome TypedAlternative
+  checked_alternative (accept_alternative x ss) guard around place t =
+      after (maybe_condition_faults guard place) (and_then (checked_accept x around place t) (λ a t1. and_then (checked_others ss around place t1) (λ xs t2.
+      fine (accepts (maybe_condition guard place) a (tree.part_of xs)) t2)))
+  checked_alternative (delay_alternative d ss) guard around place t =
+      after (maybe_condition_faults guard place ++ delay_faults d place) (and_then (checked_others ss around place t) (λ xs t1.
+      fine (delays (maybe_condition guard place) (typed_delay d place) (tree.part_of xs)) t1))
+  checked_alternative terminate_alternative guard around place t = after (maybe_condition_faults guard place) (fine (terminates (maybe_condition guard place)) t)
+
+  pub checked_alternatives : Alternatives → Around → Place → Tables → Outcome (List TypedAlternative)
+  checked_alternatives no_alternatives around place t = fine [] t
+  checked_alternatives (more_alternatives guard x xs) around place t = and_then (checked_alternative x guard around place t) (λ a t1. and_then (checked_alternatives xs around place t1) (λ more t2. fine (a ∷ more) t2))
+
+  -- RM 9.7.2, 9.7.3
+  pub checked_otherwise : Otherwise → Around → Place → Tables → Outcome (List tree.Statement)
+  checked_otherwise (or_delay d ss) around place t = checked_others ss around place t
+  checked_otherwise (or_else ss) around place t = and_then (checked_statements ss around place t) (λ x t1. fine (x.first ∷ x.others) t1)
 
   -- RM 5.3
   pub checked_arms : Arms → Around → Place → Tables → Outcome (List TypedArm)
@@ -263,7 +304,7 @@ abbrev mutual
       unit_of at i.name (end_name b) inner (next_region t1) (entered false b (λ further t2. checked_declarations ds further t2) (λ further t2. checked_body b nothing_around further t2) inner t1)) place (procedure_place i place t) t
   checked_declaration (task at is_type i d) place t = checked_task at is_type i d place t
   checked_declaration (task_body at i ds b) place t =
-      task_body_of i (unit_awaited i place) (λ inner t1.
+      task_body_of i (task_awaited i place) (λ inner t1.
       unit_of at i.name (end_name b) inner (next_region t1) (entered true b (λ further t2. checked_declarations ds further t2) (λ further t2. checked_body b task_around further t2) inner t1)) (place_behind i place) t
   -- no program has these yet
   checked_declaration (protected at i operations hidden last) place t = fine (nothing_declared place) t

@@ -3,20 +3,22 @@ use Rattle.std.specs.Prelude.{ℕ, List, [], ◌∷◌, ◌++◌, length, slice_
 use Rattle.aud_text.specs.declared.place.Pos.{Pos}
 use Rattle.aud_typed.specs.Tree as tree
 use Rattle.aud_fault.specs.declared.fault.Fault.{Fault}
-use Rattle.aud_names.specs.declared.names.Parameter.{Parameter}
+use Rattle.aud_names.specs.declared.names.NamedParameter.{NamedParameter}
 
 -- the variables and constants of each region that has been entered, by the regions' numbers, and the names of the exceptions, by theirs;
--- of each procedure and task that has been declared its formals, as calls see them (RM 6.1), and its body, by the number of its unit; and
--- of each task type that unit, by the number of the type
+-- of each procedure and task that has been declared its formals (RM 6.1), and its body, by the number of its unit; the task types, by theirs;
+-- and of each entry its name and its formals, by theirs (RM 9.5.2)
 pub record Tables : Type 0 where
   pub regions : List (List tree.Named)
   pub exceptions : List (List ℕ)
-  pub profiles : List (List Parameter)
+  pub profiles : List (List NamedParameter)
   pub units : List tree.UnitBody
-  pub tasks : List ℕ
+  pub tasks : List tree.TaskPlan
+  pub entries : List (List ℕ)
+  pub entry_profiles : List (List NamedParameter)
 
 abbrev pub no_tables : Tables
-no_tables = record { regions = []; exceptions = []; profiles = []; units = []; tasks = [] }
+no_tables = record { regions = []; exceptions = []; profiles = []; units = []; tasks = []; entries = []; entry_profiles = [] }
 
 -- what checking a construct gives: its faults, the tables after it, and what is made of it
 pub record Outcome (A : Type 0) : Type 0 where
@@ -61,7 +63,7 @@ nowhere = record { line = 0; col = 0 }
 abbrev pub no_body : tree.UnitBody
 no_body = record { level = 0; region = 0; at = nowhere; body = tree.body tree.nothing nowhere (tree.null nowhere) tree.no_handlers nowhere }
 
-abbrev pub unit_kept : List Parameter → Tables → Tables
+abbrev pub unit_kept : List NamedParameter → Tables → Tables
 unit_kept profile t = record t { profiles = t.profiles ++ profile ∷ []; units = t.units ++ no_body ∷ [] }
 
 abbrev pub with_unit : ℕ → tree.UnitBody → Tables → Tables
@@ -72,9 +74,22 @@ with_unit number u t = record t { units = slice_set t.units number u }
 abbrev pub next_task : Tables → ℕ
 next_task t = length t.tasks
 
-abbrev pub task_kept : Tables → Tables
-task_kept t = record t { profiles = t.profiles ++ [] ∷ []; units = t.units ++ no_body ∷ []; tasks = t.tasks ++ next_unit t ∷ [] }
+-- with these entries, by their numbers
+abbrev pub task_kept : List ℕ → Tables → Tables
+task_kept entries t = record t { profiles = t.profiles ++ [] ∷ []; units = t.units ++ no_body ∷ []; tasks = t.tasks ++ (record { unit = next_unit t; entries = entries }) ∷ [] }
+
+-- Entries: one that is declared has the next number.
+
+abbrev pub next_entry : Tables → ℕ
+next_entry t = length t.entries
+
+abbrev pub entry_kept : List ℕ → List NamedParameter → Tables → Tables
+entry_kept name profile t = record t { entries = t.entries ++ name ∷ []; entry_profiles = t.entry_profiles ++ profile ∷ [] }
 
 -- the formals of a unit
-abbrev pub profile_of : ℕ → Tables → List Parameter
+abbrev pub profile_of : ℕ → Tables → List NamedParameter
 profile_of number t = slice_index_or t.profiles number []
+
+-- and of an entry
+abbrev pub entry_profile_of : ℕ → Tables → List NamedParameter
+entry_profile_of number t = slice_index_or t.entry_profiles number []

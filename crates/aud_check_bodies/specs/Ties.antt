@@ -1,5 +1,6 @@
 pub mod Arms
 pub mod DeclarativePart
+pub mod Entries
 pub mod Labels
 pub mod Loops
 pub mod Passed

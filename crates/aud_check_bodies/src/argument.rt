@@ -13,7 +13,7 @@ use crate::declaration::{given_value, known};
 use crate::formal::is_in;
 use aud_fault::fault::Least;
 use aud_names::behind::Made;
-use aud_names::names::{Meaning, Object, Parameter, Scope};
+use aud_names::names::{Meaning, NamedParameter, Object, Parameter, Scope};
 use aud_names::rules::{Base, base_asked, not_a_variable, right_type};
 use aud_syntax::tree::{Expression, Factor, Mode, Name, Primary, Relation, Simple, Term};
 use aud_text::place::Pos;
@@ -223,7 +223,7 @@ fn passed(
 }
 
 /// Whether there are as many arguments as formals.
-pub fn are_as_many(profile: &[Parameter], args: &[Expression]) -> bool
+pub fn are_as_many(profile: &[NamedParameter], args: &[Expression]) -> bool
     ensures { result ≡ are_as_many profile.now (plain_expressions args.now) }
 {
     profile.len() == args.len()
@@ -246,10 +246,10 @@ fn with_next(all: Option<Vec<Argument>>, next: Option<Argument>) -> Made<Option<
     }
 }
 
-/// The arguments of a call of a procedure with these formals: notes their faults, and answers what is passed, if
+/// The arguments of a call with these formals: notes their faults, and answers what is passed, if
 /// none has any.
 pub fn all_passed(
-    profile: &[Parameter],
+    profile: &[NamedParameter],
     args: &[Expression],
     scope: &Scope<'_>,
     faults: &mut Least,
@@ -260,11 +260,11 @@ pub fn all_passed(
 {
     let mut all = Some(Vec::with_capacity(scope.alloc(), args.len())?);
     let mut rest = args;
-    for parameter in profile {
+    for formal in profile {
         match rest.split_first() {
             None => return Ok(None),
             Some((next, others)) => {
-                all = with_next(all, passed(*parameter, next, scope, faults)?)?;
+                all = with_next(all, passed(formal.parameter, next, scope, faults)?)?;
                 rest = others;
             }
         }

@@ -68,7 +68,8 @@ fn check_changed(meaning: Meaning, at: Pos, faults: &mut Least)
         | Meaning::Procedure(_)
         | Meaning::TaskType(_)
         | Meaning::Task(_)
-        | Meaning::TaskArray(_) => wrong_kind_of_name(at, faults),
+        | Meaning::TaskArray(_)
+        | Meaning::Entry(_) => wrong_kind_of_name(at, faults),
     }
 }
 

@@ -8,7 +8,7 @@ ghost use Rattle.aud_names.specs.Rules.{wrong_number_of_arguments};
 ghost use Rattle.aud_names.specs.Resolution.{name_ident, last_args};
 ghost use Rattle.aud_typing.specs.Expressions.{checked_arguments};
 ghost use Rattle.aud_check_bodies.specs.Arguments.{all_passed, arguments_faults};
-ghost use Rattle.aud_check_bodies.specs.Calls.{one_text, no_argument, element_called, array_called, put_faults, callee_faults, unit_meant, called_faults, put_out, procedure_called, called, called_as, call_faults, typed_call};
+ghost use Rattle.aud_check_bodies.specs.Calls.{one_text, no_argument, element_called, array_called, put_faults, callee_faults, callee_meant, called_faults, put_out, procedure_called, called, called_as, call_faults, typed_call};
 ghost use Rattle.aud_check_bodies.specs.Ties.Passed.{plain_all_passed};
 ghost use Rattle.aud_check_bodies.specs.Ties.Tables.{plain_tables};
 ghost use Rattle.aud_typing.specs.Ties.Typing.{plain_typed, in_box, Leaves};
@@ -16,10 +16,11 @@ ghost use Rattle.aud_names.specs.declared.names.Builtin.TheVariants as builtin;
 
 use crate::argument::{all_passed, are_as_many};
 use crate::assignment::null_for;
+use crate::entry_call::entry_call;
 use crate::tables::Tables;
 use aud_fault::fault::Least;
 use aud_names::behind::{Left, Made, boxed};
-use aud_names::names::{Builtin, Meaning, Parameter, Scope};
+use aud_names::names::{Builtin, Entry, Meaning, NamedParameter, Scope};
 use aud_names::resolution::{Denoted, are_none, last_args, resolve};
 use aud_names::rules::{Base, wrong_kind_of_name, wrong_number_of_arguments};
 use aud_syntax::tree::{Expression, Name};
@@ -28,6 +29,13 @@ use aud_typed::program::{Argument, Statement as TypedStatement, TextExpression};
 use aud_typing::expression::{arguments, expression_at};
 use aud_typing::typed::{Typed, wants, with_text};
 use std::alloc::Global;
+
+/// What is called of the program: a procedure, by its unit, or an entry.
+#[derive(Clone, Copy, PartialEq, Eq)]
+pub enum Callee {
+    Procedure(usize),
+    Entry(Entry),
+}
 
 // Notes where there is not one argument, a text.
 fn one_text(args: &[Expression], at: Pos, last: &Typed, faults: &mut Least)
@@ -92,7 +100,8 @@ fn check_callee(denoted: Denoted, args: &[Expression], last: &Typed, faults: &mu
             | Meaning::Exception(_)
             | Meaning::Procedure(_)
             | Meaning::TaskType(_)
-            | Meaning::Task(_),
+            | Meaning::Task(_)
+            | Meaning::Entry(_),
         ) => {
             wrong_kind_of_name(at, faults);
         }
@@ -156,12 +165,13 @@ fn procedure_called(unit: usize, at: Pos, passed: Option<Vec<Argument>>) -> Type
     }
 }
 
-// The unit of a procedure of the program.
-fn unit_meant(meaning: Option<Meaning>) -> Option<usize>
-    ensures { result ≡ unit_meant meaning }
+/// A procedure of the program, or an entry.
+pub fn callee_meant(meaning: Option<Meaning>) -> Option<Callee>
+    ensures { result ≡ callee_meant meaning }
 {
     match meaning {
-        Some(Meaning::Procedure(unit)) => Some(unit),
+        Some(Meaning::Procedure(unit)) => Some(Callee::Procedure(unit)),
+        Some(Meaning::Entry(entry)) => Some(Callee::Entry(entry)),
         _ => None,
     }
 }
@@ -178,9 +188,9 @@ fn wrongly_called(name: &Name, at: Pos, scope: &Scope<'_>, faults: &mut Least) -
     Ok(())
 }
 
-// What is passed in a call of a procedure with these formals, whose name stands at a place.
-fn all_given(
-    profile: &[Parameter],
+/// What is passed in a call of a procedure or an entry with these formals, whose name stands at a place.
+pub fn all_given(
+    profile: &[NamedParameter],
     name: &Name,
     at: Pos,
     scope: &Scope<'_>,
@@ -201,7 +211,7 @@ fn all_given(
 // A call of a procedure of the program.
 fn procedure_call(
     unit: usize,
-    profile: &[Parameter],
+    profile: &[NamedParameter],
     name: &Name,
     at: Pos,
     scope: &Scope<'_>,
@@ -239,9 +249,9 @@ fn other_call(
     boxed(alloc, statement)
 }
 
-// A call of what a name denotes, which is a procedure of the program where there is a unit.
-fn call_of(
-    unit: Option<usize>,
+/// A call of what a name denotes, which is this of the program, if it is anything of it.
+pub fn call_of(
+    callee: Option<Callee>,
     denoted: Denoted,
     name: &Name,
     scope: &Scope<'_>,
@@ -249,19 +259,20 @@ fn call_of(
     faults: &mut Least,
 ) -> Left<TypedStatement>
     ensures { Leaves (in_box plain_typed_statement) result faults.old faults.new
-        (called_faults unit denoted (plain_name name.now) scope.now (plain_tables tables.now))
-        (called_as unit denoted (plain_name name.now) scope.now (plain_tables tables.now)) }
+        (called_faults callee denoted (plain_name name.now) scope.now (plain_tables tables.now))
+        (called_as callee denoted (plain_name name.now) scope.now (plain_tables tables.now)) }
 {
-    match unit {
-        Some(unit) => {
+    match callee {
+        Some(Callee::Procedure(unit)) => {
             let profile = tables.profile(unit);
             procedure_call(unit, profile, name, denoted.at, scope, faults)
         }
+        Some(Callee::Entry(entry)) => entry_call(entry, name, denoted.at, scope, tables, faults),
         None => other_call(denoted, name, scope, faults),
     }
 }
 
-/// Checks a call (RM 6.4): notes its faults, and answers what is left of it.
+/// Checks a call (RM 6.4, 9.5.3): notes its faults, and answers what is left of it.
 #[inline(never)]
 pub fn call(
     name: &Name,
@@ -274,6 +285,6 @@ pub fn call(
         (typed_call (plain_name name.now) scope.now (plain_tables tables.now)) }
 {
     let denoted = resolve(name, scope, faults);
-    let unit = unit_meant(denoted.meaning);
-    call_of(unit, denoted, name, scope, tables, faults)
+    let callee = callee_meant(denoted.meaning);
+    call_of(callee, denoted, name, scope, tables, faults)
 }

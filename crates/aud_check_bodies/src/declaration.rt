@@ -3,12 +3,12 @@
 ghost use Rattle.std.specs.Prelude.{◌≡◌, [], ◌∷◌, ◌++◌, map, false, IfOk, OnOk};
 ghost use Rattle.aud_typed.specs.Tree.{declare_array};
 ghost use Rattle.aud_syntax.specs.Ties.View.{plain_expression};
-ghost use Rattle.aud_typed.specs.Ties.View.{plain_value, plain_statements as plain_typed_statements};
+ghost use Rattle.aud_typed.specs.Ties.View.{plain_integer, plain_value, plain_statements as plain_typed_statements};
 ghost use Rattle.aud_fault.specs.Least.{noted};
 ghost use Rattle.aud_names.specs.Names.{visible, is_declared};
 ghost use Rattle.aud_check_bodies.specs.Tables.{no_tables};
 ghost use Rattle.aud_names.specs.Rules.{declared_once};
-ghost use Rattle.aud_check_bodies.specs.Declarations.{subtype_faults, subtype_meant, given_faults, given_value, initial_faults, initial_value, default_value, value_for, known, with_symbol, with_name, declared_names, twice_faults, elaboration, marked, leaving, checked_object, checked_array, task_type_meant, tasks_meant, checked_objects, checked_arrays, with_exception, declared_exceptions, exceptions_twice, with_procedure};
+ghost use Rattle.aud_check_bodies.specs.Declarations.{subtype_faults, subtype_meant, given_faults, given_value, initial_faults, initial_value, default_value, value_for, integer_of, known, with_symbol, with_name, declared_names, twice_faults, elaboration, marked, leaving, checked_object, checked_array, task_type_meant, tasks_meant, checked_objects, checked_arrays, with_exception, declared_exceptions, exceptions_twice, with_procedure};
 ghost use Rattle.aud_typing.specs.Ties.Typing.{plain_typed, Leaves};
 ghost use Rattle.aud_check_bodies.specs.Ties.DeclarativePart.{Declares, plain_initial, plain_exceptions};
 ghost use Rattle.aud_names.specs.Ties.Regions.{plain_region, plain_place, names_in};
@@ -95,6 +95,19 @@ pub fn value_for(subtype: Subtype, value: Typed) -> ValueExpression
         other => {
             drop(other);
             default_value(subtype)
+        }
+    }
+}
+
+/// An Integer; what stands for another value has no meaning.
+pub fn integer_of(typed: Typed) -> IntegerExpression
+    ensures { plain_integer result ≡ integer_of (plain_typed typed) }
+{
+    match typed {
+        Typed::Number(value) => value,
+        other => {
+            drop(other);
+            IntegerExpression::Number(Int32::new(0))
         }
     }
 }

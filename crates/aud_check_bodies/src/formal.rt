@@ -1,20 +1,23 @@
-// Formal parameters of procedures.
+// Formal parameters of procedures, entries and accepts.
 
-ghost use Rattle.std.specs.Prelude.{◌≡◌, [], ◌++◌, IfOk, OnOk, map};
+ghost use Rattle.std.specs.Prelude.{◌≡◌, [], ◌++◌, ◌∷◌, IfOk, OnOk, map};
+ghost use Rattle.std.specs.Option.{option_copied};
 ghost use Rattle.aud_syntax.specs.Ties.View.{plain_formal};
 ghost use Rattle.aud_fault.specs.Least.{noted};
 ghost use Rattle.aud_check_bodies.specs.Declarations.{subtype_faults, subtype_meant};
-ghost use Rattle.aud_check_bodies.specs.Formals.{is_in, mark_meant, parameters_of, checked_formal, checked_formals};
+ghost use Rattle.aud_check_bodies.specs.Formals.{is_in, own_name, mark_meant, parameters_of, checked_formal, checked_formals};
 ghost use Rattle.aud_check_bodies.specs.Ties.DeclarativePart.{DeclaresFormals};
-ghost use Rattle.aud_names.specs.Ties.Regions.{plain_region, plain_regions, names_in};
+ghost use Rattle.aud_names.specs.Names.{hiding, with_own};
+ghost use Rattle.aud_names.specs.Ties.Regions.{plain_region, plain_regions, plain_place, names_in};
 
 use crate::declaration::{declare, subtype_mark};
 use aud_fault::fault::Least;
 use aud_names::array::{Kind, Scalar};
 use aud_names::behind::Made;
-use aud_names::names::{Parameter, Region, Scope};
+use aud_names::names::{NamedParameter, Parameter, Region, Scope};
 use aud_syntax::tree::{Formal, Ident, Identifiers, Mode};
 use aud_typed::program::Subtype;
+use std::alloc::Global;
 
 /// Whether a formal is a constant, as one of mode in is (RM 3.3, 6.1).
 pub fn is_in(mode: Mode) -> bool
@@ -26,33 +29,70 @@ pub fn is_in(mode: Mode) -> bool
     }
 }
 
-// The subtype that the mark of formals of a procedure names.
+// The place within the declaration of these formals, and that of the procedure or entry of this name, if it lasts still.
+fn within_formal<'x>(
+    own: Option<&'x Ident>,
+    innermost: &'x Region,
+    outer: &'x [&'x Region],
+    names: &'x Identifiers,
+) -> Made<Scope<'x>>
+    ensures { IfOk result (λ scope. scope
+        ≡ hiding (with_own (own_name (option_copied own.entry) (plain_region innermost.now))
+        (names_in names.now)) (plain_place innermost.now outer.now)) }
+{
+    match own {
+        None => Scope::within(innermost, outer, names),
+        Some(own) => Scope::within_formal(own, innermost, outer, names),
+    }
+}
+
+// The subtype that the mark of formals names.
 fn marked<'x>(
-    own: &'x Ident,
+    own: Option<&'x Ident>,
     formal: &'x Formal,
     region: &'x Region,
     outer: &'x [&'x Region],
     faults: &mut Least,
 ) -> Made<Option<Subtype>>
     ensures subtype { IfOk result (λ subtype. subtype ≡ subtype_meant
-        (mark_meant own.now (names_in formal.now.names) formal.now.subtype
+        (mark_meant (option_copied own.entry) (names_in formal.now.names) formal.now.subtype
         (plain_region region.now) (plain_regions outer.now))) }
     ensures noted { OnOk result (faults.new ≡ noted faults.old (subtype_faults
-        (mark_meant own.now (names_in formal.now.names) formal.now.subtype
+        (mark_meant (option_copied own.entry) (names_in formal.now.names) formal.now.subtype
         (plain_region region.now) (plain_regions outer.now)) formal.now.subtype.at)) }
 {
-    let scope = Scope::within_formal(own, region, outer, &formal.names)?;
+    let scope = within_formal(own, region, outer, &formal.names)?;
     Ok(subtype_mark(&formal.subtype, &scope, faults))
 }
 
+// Adds a formal.
+fn add_one(
+    ident: &Ident,
+    parameter: Parameter,
+    alloc: Global,
+    profile: &mut Vec<NamedParameter>,
+) -> Made<()>
+    ensures { OnOk result (profile.new.items
+        ≡ profile.old.items ++ parameters_of (ident.now ∷ []) parameter) }
+{
+    let name = ident.name.try_clone(alloc)?;
+    profile.push(NamedParameter { name, parameter })?;
+    Ok(())
+}
+
 // Adds formals that are alike, one for each of the names.
-fn add(names: &Identifiers, parameter: Parameter, profile: &mut Vec<Parameter>) -> Made<()>
+fn add(
+    names: &Identifiers,
+    parameter: Parameter,
+    alloc: Global,
+    profile: &mut Vec<NamedParameter>,
+) -> Made<()>
     ensures { OnOk result (profile.new.items
         ≡ profile.old.items ++ parameters_of (names_in names.now) parameter) }
 {
-    profile.push(parameter)?;
-    for _ in &names.others {
-        profile.push(parameter)?;
+    add_one(&names.first, parameter, alloc, profile)?;
+    for other in &names.others {
+        add_one(other, parameter, alloc, profile)?;
     }
     Ok(())
 }
@@ -60,17 +100,17 @@ fn add(names: &Identifiers, parameter: Parameter, profile: &mut Vec<Parameter>) 
 // Declares formals of one mode and subtype.
 #[tactic(auto, using(aud_typing::proofs::Notes::noted_append))]
 fn formal(
-    own: &Ident,
+    own: Option<&Ident>,
     formal: &Formal,
     outer: &[&Region],
     region: &mut Region,
-    profile: &mut Vec<Parameter>,
+    profile: &mut Vec<NamedParameter>,
     faults: &mut Least,
 ) -> Made<()>
     ensures { OnOk result (DeclaresFormals faults.old faults.new region.new
         profile.old.items profile.new.items
-        (checked_formal own.now (plain_formal formal.now) (plain_region region.old)
-        (plain_regions outer.now))) }
+        (checked_formal (option_copied own.entry) (plain_formal formal.now)
+        (plain_region region.old) (plain_regions outer.now))) }
 {
     let subtype = marked(own, formal, &*region, &*outer, faults)?;
     let mode = formal.mode;
@@ -79,22 +119,23 @@ fn formal(
         constant: is_in(mode),
     });
     declare(&formal.names, kind, region, faults)?;
-    add(&formal.names, Parameter { mode, subtype }, profile)
+    let parameter = Parameter { mode, subtype };
+    add(&formal.names, parameter, region.alloc, profile)
 }
 
-/// Declares the formals of a procedure in its region, which lies within these (RM 6.1): notes their faults, and
-/// answers how calls see them.
+/// Declares formals in a region, which lies within these (RM 6.1): notes their faults, and answers what calls and accepts
+/// see of them. The declaration of the procedure or entry that they are formals of lasts still where it is named.
 pub fn formals(
-    own: &Ident,
+    own: Option<&Ident>,
     formals: &[Formal],
     outer: &[&Region],
     region: &mut Region,
     faults: &mut Least,
-) -> Made<Vec<Parameter>>
+) -> Made<Vec<NamedParameter>>
     ensures { IfOk result (λ profile. DeclaresFormals faults.old faults.new region.new
         [] profile.items
-        (checked_formals own.now (map plain_formal formals.now) (plain_region region.old)
-        (plain_regions outer.now))) }
+        (checked_formals (option_copied own.entry) (map plain_formal formals.now)
+        (plain_region region.old) (plain_regions outer.now))) }
 {
     let mut profile = Vec::with_capacity(region.alloc, formals.len())?;
     for next in formals {

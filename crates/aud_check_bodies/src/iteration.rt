@@ -5,39 +5,27 @@ ghost use Rattle.aud_syntax.specs.Ties.View.{plain_simple};
 ghost use Rattle.aud_typed.specs.Tree.{plain_loop, while_loop, for_loop};
 ghost use Rattle.aud_typed.specs.Ties.View.{plain_integer, plain_boolean, plain_statement, statements_in};
 ghost use Rattle.aud_names.specs.Names.{hiding};
-ghost use Rattle.aud_check_bodies.specs.Statements.{integer_of, bound_faults, bound_of};
+ghost use Rattle.aud_check_bodies.specs.Statements.{bound_faults, bound_of};
 ghost use Rattle.aud_check_bodies.specs.Ties.Loops.{plain_bounds, plain_for};
-ghost use Rattle.aud_typing.specs.Ties.Typing.{plain_typed, in_box, Leaves};
+ghost use Rattle.aud_typing.specs.Ties.Typing.{in_box, Leaves};
 
+use crate::declaration::integer_of;
 use aud_fault::fault::Least;
 use aud_names::behind::{Left, Made, both, boxed};
 use aud_names::names::Scope;
 use aud_names::rules::Base;
 use aud_syntax::tree::{LoopParameter, Simple};
-use aud_text::int32::Int32;
 use aud_text::place::Pos;
 use aud_typed::program::{
     BooleanExpression, ForStatement, IntegerExpression, Statement as TypedStatement,
     Statements as TypedStatements,
 };
 use aud_typing::expression::{simple, simple_at};
-use aud_typing::typed::{Typed, wants};
+use aud_typing::typed::wants;
 use std::alloc::Global;
 
 /// The bounds of a loop's parameter: the lower one and the upper one.
 pub type Bounds = (Box<IntegerExpression>, Box<IntegerExpression>);
-
-fn integer_of(typed: Typed) -> IntegerExpression
-    ensures { plain_integer result ≡ integer_of (plain_typed typed) }
-{
-    match typed {
-        Typed::Number(value) => value,
-        other => {
-            drop(other);
-            IntegerExpression::Number(Int32::new(0))
-        }
-    }
-}
 
 // A bound, which is an Integer.
 #[tactic(auto, using(aud_typing::proofs::Notes::noted_append))]

@@ -1,10 +1,14 @@
 // Declarations, statements and bodies: their faults, and what is left of a program.
 #![tactic(auto)]
 
+mod accept;
 mod argument;
 mod assignment;
 mod call;
 mod declaration;
+mod delay;
+mod entry;
+mod entry_call;
 mod formal;
 mod handler;
 mod iteration;
@@ -12,6 +16,7 @@ mod labels;
 pub mod laws;
 mod leaving;
 mod made;
+mod select;
 mod statement;
 mod tables;
 mod task;

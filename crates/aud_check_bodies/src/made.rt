@@ -1,20 +1,21 @@
 // What is left of statements and bodies, of their parts.
 
-ghost use Rattle.std.specs.Prelude.{◌≡◌, ◌++◌, IfOk};
+ghost use Rattle.std.specs.Prelude.{◌≡◌, ◌++◌, ◌∷◌, [], IfOk};
 ghost use Rattle.aud_syntax.specs.Ties.View.{plain_body as plain_source, plain_choices};
-ghost use Rattle.aud_typed.specs.Tree.{null, block, part_of, activation};
+ghost use Rattle.aud_typed.specs.Tree.{null, block, accept, without_do, with_do, part_of, activation};
 ghost use Rattle.aud_typed.specs.Ties.View.{plain_boolean, plain_statement, plain_body, plain_unit, statements_in};
 ghost use Rattle.aud_check_bodies.specs.Statements.{arm_then, arms_then, begin_of, body_with};
 ghost use Rattle.aud_check_bodies.specs.Handlers.{is_others, choices_of};
-ghost use Rattle.aud_check_bodies.specs.Ties.Arms.{plain_arm, plain_arms, plain_handler, plain_parts, plain_sequence, plain_items};
+ghost use Rattle.aud_check_bodies.specs.Ties.Arms.{plain_arm, plain_arms, plain_handler, plain_parts, plain_sequence, plain_items, plain_accepted};
 
 use crate::handler::{choices_of, is_others};
-use aud_names::behind::{Left, boxed};
+use aud_names::behind::{Left, Made, boxed};
 use aud_names::names::Scope;
 use aud_syntax::tree::{Body as SourceBody, Choices};
 use aud_text::place::Pos;
 use aud_typed::program::{
-    Arm, BlockStatement, Body, BooleanExpression, Handler, IfStatement, Statement, Statements, Unit,
+    AcceptStatement, Arm, BlockStatement, Body, BooleanExpression, Doing, Handler, IfStatement,
+    Statement, Statements, Unit,
 };
 use std::alloc::Global;
 
@@ -87,6 +88,18 @@ pub fn in_order(alloc: Global, first: Box<Statement>, others: Vec<Statement>) ->
     boxed(alloc, Statements { first, others })
 }
 
+/// All statements of a sequence.
+#[inline(never)]
+pub fn in_row(statements: Box<Statements>) -> Made<Vec<Statement>>
+    ensures { IfOk result (λ typed. plain_items typed
+        ≡ (plain_sequence statements.value).first ∷ (plain_sequence statements.value).others) }
+{
+    let Statements { first, others } = Box::into_inner(statements);
+    let mut row = others;
+    row.insert(0, first)?;
+    Ok(row)
+}
+
 /// A handler for these choices (RM 11.2).
 #[inline(never)]
 pub fn handler_of(
@@ -154,6 +167,49 @@ pub fn block_of(alloc: Global, at: Pos, region: usize, body: Box<Body>) -> Left<
     let body = Box::into_inner(body);
     let statement = boxed(alloc, BlockStatement { at, region, body })?;
     boxed(alloc, Statement::Block(statement))
+}
+
+/// An accept at a place of the entry of this number, which does nothing (RM 9.5.2).
+#[inline(never)]
+pub fn accept_of(alloc: Global, at: Pos, entry: usize) -> Left<AcceptStatement>
+    ensures { IfOk result (λ typed. plain_accepted typed.value
+        ≡ record { at = at; entry = entry; doing = without_do }) }
+{
+    let doing = None;
+    boxed(alloc, AcceptStatement { at, entry, doing })
+}
+
+/// An accept that does something, in the region of its formals, which has this number.
+#[inline(never)]
+pub fn accept_doing(
+    alloc: Global,
+    at: Pos,
+    entry: usize,
+    region: usize,
+    source: &SourceBody,
+    parts: Parts,
+) -> Left<AcceptStatement>
+    ensures { IfOk result (λ typed. plain_accepted typed.value
+        ≡ record {
+          at = at;
+          entry = entry;
+          doing = with_do region (body_with [] (plain_source source.now) (plain_parts parts));
+        }) }
+{
+    let body = body_of(alloc, source, Vec::new(alloc), false, parts)?;
+    let body = Box::into_inner(body);
+    let doing = Some(Doing { region, body });
+    boxed(alloc, AcceptStatement { at, entry, doing })
+}
+
+/// An accept as a statement.
+#[inline(never)]
+pub fn accepted(alloc: Global, statement: Box<AcceptStatement>) -> Left<Statement>
+    ensures { IfOk result (λ typed. plain_statement typed.value
+        ≡ accept (plain_accepted statement.value).at (plain_accepted statement.value).entry
+        (plain_accepted statement.value).doing) }
+{
+    boxed(alloc, Statement::Accept(statement))
 }
 
 /// A procedure's body, which begins at a place, with the level and the number of its region (RM 6.3).

@@ -2,48 +2,52 @@
 
 ghost use Rattle.std.specs.Prelude.{true, IfOk, OnOk};
 ghost use Rattle.aud_syntax.specs.declared.tree.TaskBody.{out-TaskBody};
-ghost use Rattle.aud_syntax.specs.Ties.View.{plain_expression, plain_statement, plain_others, plain_statements, plain_if_statement, arm_list, plain_loop_statement, plain_parameter, plain_block_statement, plain_body, handler_list, plain_declaration, plain_declarations, plain_procedure, plain_task_body};
+ghost use Rattle.aud_syntax.specs.Ties.View.{plain_expression, plain_maybe, plain_statement, plain_others, plain_statements, plain_if_statement, arm_list, plain_loop_statement, plain_parameter, plain_block_statement, plain_body, handler_list, plain_declaration, plain_declarations, plain_procedure, plain_task_body, plain_accept, plain_alternative as plain_source_alternative, guarded_list, plain_select_statement, plain_selected_call, plain_other};
 ghost use Rattle.aud_typed.specs.Ties.View.{plain_body as plain_typed_body, plain_statement as plain_typed_statement};
-ghost use Rattle.aud_check_bodies.specs.Statements.{labelled, arm_of, checked_loop, checked_statements, checked_others, checked_arms, checked_body, checked_handlers, checked_declaration, checked_declarations, body_behind};
+ghost use Rattle.aud_check_bodies.specs.Statements.{labelled, arm_of, checked_loop, checked_statements, checked_others, checked_arms, checked_body, checked_handlers, checked_accept, checked_alternative, checked_alternatives, checked_otherwise, checked_declaration, checked_declarations, body_behind};
 ghost use Rattle.aud_check_bodies.specs.Tables.{next_region, region_kept};
 ghost use Rattle.aud_check_bodies.specs.Tasks.{with_bodies};
-ghost use Rattle.aud_check_bodies.specs.Ties.Arms.{plain_arm, plain_arms as plain_typed_arms, plain_handlers, plain_parts, plain_sequence, plain_items};
+ghost use Rattle.aud_check_bodies.specs.Ties.Arms.{plain_arm, plain_arms as plain_typed_arms, plain_handlers, plain_parts, plain_sequence, plain_items, plain_accepted, plain_alternative, plain_alternatives};
 ghost use Rattle.aud_check_bodies.specs.Ties.DeclarativePart.{Declares, Enters};
 ghost use Rattle.aud_names.specs.Ties.Regions.{plain_place};
 ghost use Rattle.aud_check_bodies.specs.Ties.Tables.{plain_tables};
 ghost use Rattle.aud_typing.specs.Ties.Typing.{in_box};
 ghost use Rattle.aud_check_bodies.specs.Ties.Within.{around_of, around_entering, Checks, ChecksStatement};
 
+use crate::accept::{accept_head, number_of, with_accepted};
 use crate::assignment::assignment;
 use crate::call::call;
 use crate::declaration::{DeclarativePart, arrays, declare_procedure, exceptions, objects};
+use crate::delay::{delay, delay_statement};
+use crate::entry_call::entry_call_of;
 use crate::formal::formals;
 use crate::handler::{all_choices, raise};
 use crate::iteration::{For, bounds, for_of, forever, while_of};
 use crate::labels::{Label, begin_at, exit_loop, with_label};
 use crate::leaving::{exit, return_from};
 use crate::made::{
-    Parts, arm_of, block_of, body_of, handler_of, if_of, in_order, null_at, unit_of,
+    Parts, accept_doing, accept_of, accepted, arm_of, block_of, body_of, handler_of, if_of,
+    in_order, in_row, null_at, unit_of,
 };
+use crate::select::{accepting, call_head, delaying, select_of, terminating};
 use crate::tables::{Tables, loop_region};
-use crate::task::{body_unit, declare_task, running_within, with_activation, without_bodies};
+use crate::task::{body_numbers, declare_task, running_within, with_activation, without_bodies};
 use crate::within::{Entering, Within};
 use aud_fault::fault::Least;
 use aud_names::behind::{Left, Made, both, push};
 use aud_names::names::{Region, Scope, frame_within, task_within};
 use aud_names::rules::{right_label_at_end, right_name_at_end};
 use aud_syntax::tree::{
-    Arm, BlockStatement, Body, Declaration, Handler, IfStatement, Iteration, LoopParameter,
-    LoopStatement, ProcedureDeclaration, Statement, Statements, TaskBody,
+    AcceptStatement, Alternative, Arm, BlockStatement, Body, Declaration, Guarded, Handler,
+    IfStatement, Iteration, LoopParameter, LoopStatement, Otherwise, ProcedureDeclaration,
+    SelectStatement, SelectedCall, Statement, Statements, TaskBody,
 };
-use aud_text::place::Pos;
 use aud_typed::program::{
-    Arm as TypedArm, Body as TypedBody, Handler as TypedHandler, Statement as TypedStatement,
+    AcceptStatement as TypedAccept, Alternative as TypedAlternative, Arm as TypedArm,
+    Body as TypedBody, Handler as TypedHandler, Statement as TypedStatement,
     Statements as TypedStatements,
 };
-use aud_typing::condition::condition;
-
-const NOWHERE: Pos = Pos { line: 0, col: 0 };
+use aud_typing::condition::{condition, maybe_condition};
 
 // What is left of a statement.
 type Stated = Left<TypedStatement>;
@@ -74,11 +78,13 @@ fn statement<'a>(
         }
         Statement::Return(at, value) => return_from(*at, value, within.in_task, scope, faults),
         Statement::Raise(at, name) => raise(*at, name, within.in_handler, scope, faults),
-        // No program has these yet.
-        Statement::Accept(_) => null_at(scope.alloc(), NOWHERE),
-        Statement::Delay(_) => null_at(scope.alloc(), NOWHERE),
-        Statement::Select(_) => null_at(scope.alloc(), NOWHERE),
-        Statement::SelectCall(_) => null_at(scope.alloc(), NOWHERE),
+        Statement::Accept(source) => {
+            let typed = accept(source, within, tables, faults)?;
+            accepted(scope.alloc(), typed)
+        }
+        Statement::Delay(source) => delay_statement(source, scope, faults),
+        Statement::Select(node) => select(node, within, tables, faults),
+        Statement::SelectCall(node) => selected_call(node, within, tables, faults),
     }
 }
 
@@ -197,6 +203,7 @@ fn for_loop<'a>(
         labels: within.labels,
         in_handler: within.in_handler,
         in_task: within.in_task,
+        accepting: within.accepting,
     };
     let body = loop_body(node, inner, tables, faults);
     let (bounds, body) = both(bounds, body)?;
@@ -233,8 +240,161 @@ fn loop_body<'a>(
         labels: &labels,
         in_handler: within.in_handler,
         in_task: within.in_task,
+        accepting: within.accepting,
     };
     statements(&node.statements, inner, tables, faults)
+}
+
+// An accept (RM 9.5.2), whose statements see its formals.
+#[cycle(statement)]
+#[inline(never)]
+fn accept<'a>(
+    node: &'a AcceptStatement,
+    within: Within<'_, 'a>,
+    tables: &mut Tables,
+    faults: &mut Least,
+) -> Left<TypedAccept>
+    ensures { Checks (in_box plain_accepted) result faults.old faults.new
+        (plain_tables tables.new)
+        (checked_accept (plain_accept node.now) (around_of within.entry) within.entry.scope.now
+        (plain_tables tables.old)) }
+{
+    let scope = within.scope;
+    let alloc = scope.alloc();
+    let around = within.accepting;
+    let head = accept_head(&node.name, &node.formals, around, scope, &*tables, faults)?;
+    let entry = number_of(head.entry);
+    let Some(source) = &node.doing else {
+        return accept_of(alloc, node.at, entry);
+    };
+    let outer = scope.regions()?;
+    let region = tables.enter(&head.region)?;
+    let accepting = with_accepted(alloc, head.entry, around)?;
+    let inner = Within {
+        scope: &Scope::new(&head.region, &outer),
+        labels: &[],
+        in_handler: within.in_handler,
+        in_task: false,
+        accepting: &accepting,
+    };
+    let parts = body(source, inner, tables, faults)?;
+    right_name_at_end(&node.name.name, &source.name, faults);
+    accept_doing(alloc, node.at, entry, region, source, parts)
+}
+
+// A selective accept (RM 9.7.1).
+#[cycle(statement)]
+#[inline(never)]
+fn select<'a>(
+    node: &'a SelectStatement,
+    within: Within<'_, 'a>,
+    tables: &mut Tables,
+    faults: &mut Least,
+) -> Stated
+    ensures { ChecksStatement result faults.old faults.new
+        (plain_tables tables.old) (plain_tables tables.new)
+        (plain_select_statement node.now) within.entry }
+{
+    let first = alternative(&node.first, within, tables, faults)?;
+    let offered = both(first, alternatives(&node.others, within, tables, faults))?;
+    let otherwise = more_statements(&node.otherwise, within, tables, faults);
+    let (offered, otherwise) = both(offered, otherwise)?;
+    select_of(within.scope.alloc(), node.at, offered, otherwise)
+}
+
+// The alternatives behind the first.
+#[cycle(statement)]
+fn alternatives<'a>(
+    others: &'a [Guarded],
+    within: Within<'_, 'a>,
+    tables: &mut Tables,
+    faults: &mut Least,
+) -> Made<Vec<TypedAlternative>>
+    ensures { Checks plain_alternatives result faults.old faults.new (plain_tables tables.new)
+        (checked_alternatives (guarded_list others.now) (around_of within.entry)
+        within.entry.scope.now (plain_tables tables.old)) }
+{
+    let mut typed = Vec::with_capacity(within.scope.alloc(), others.len())?;
+    for next in others {
+        push(&mut typed, alternative(next, within, tables, faults)?)?;
+    }
+    Ok(typed)
+}
+
+// An alternative behind its guard.
+#[cycle(statement)]
+#[inline(never)]
+fn alternative<'a>(
+    node: &'a Guarded,
+    within: Within<'_, 'a>,
+    tables: &mut Tables,
+    faults: &mut Least,
+) -> Left<TypedAlternative>
+    ensures { Checks (in_box plain_alternative) result faults.old faults.new
+        (plain_tables tables.new)
+        (checked_alternative (plain_source_alternative node.now.alternative)
+        (plain_maybe node.now.guard) (around_of within.entry) within.entry.scope.now
+        (plain_tables tables.old)) }
+{
+    let scope = within.scope;
+    let alloc = scope.alloc();
+    let guard = maybe_condition(&node.guard, scope, faults)?;
+    match &node.alternative {
+        Alternative::Accept(source, behind) => {
+            let head = both(guard, accept(source, within, tables, faults))?;
+            let after = more_statements(behind, within, tables, faults);
+            let (head, after) = both(head, after)?;
+            accepting(alloc, head, after)
+        }
+        Alternative::Delay(source, behind) => {
+            let head = both(guard, delay(source, scope, faults))?;
+            let after = more_statements(behind, within, tables, faults);
+            let (head, after) = both(head, after)?;
+            delaying(alloc, head, after)
+        }
+        Alternative::Terminate => terminating(alloc, guard),
+    }
+}
+
+// A timed or a conditional call (RM 9.7.2, 9.7.3).
+#[cycle(statement)]
+#[inline(never)]
+fn selected_call<'a>(
+    node: &'a SelectedCall,
+    within: Within<'_, 'a>,
+    tables: &mut Tables,
+    faults: &mut Least,
+) -> Stated
+    ensures { ChecksStatement result faults.old faults.new
+        (plain_tables tables.old) (plain_tables tables.new)
+        (plain_selected_call node.now) within.entry }
+{
+    let scope = within.scope;
+    let head = call_head(&node.call, &node.otherwise, scope, &*tables, faults)?;
+    let behind = more_statements(&node.behind, within, tables, faults);
+    let (head, behind) = both(head, behind)?;
+    let rest = otherwise(&node.otherwise, within, tables, faults);
+    let ((form, called), parts) = both(head, both(behind, rest))?;
+    let form = Box::into_inner(form);
+    entry_call_of(scope.alloc(), node.at, form, called, parts)
+}
+
+// What is done in place of a timed or a conditional call.
+#[cycle(statement)]
+fn otherwise<'a>(
+    node: &'a Otherwise,
+    within: Within<'_, 'a>,
+    tables: &mut Tables,
+    faults: &mut Least,
+) -> Made<Vec<TypedStatement>>
+    ensures { Checks plain_items result faults.old faults.new (plain_tables tables.new)
+        (checked_otherwise (plain_other node.now) (around_of within.entry)
+        within.entry.scope.now (plain_tables tables.old)) }
+{
+    match node {
+        Otherwise::Delay(_, behind) => more_statements(behind, within, tables, faults),
+        Otherwise::Else(inner) => in_row(statements(inner, within, tables, faults)?),
+    }
 }
 
 // A block (RM 5.6), whose statements see its declarations and its label.
@@ -264,6 +424,7 @@ fn block_statement<'a>(
         labels: &labels,
         in_handler: within.in_handler,
         in_task: within.in_task,
+        accepting: within.accepting,
         of_task: false,
     };
     let number = tables.next_region();
@@ -327,6 +488,7 @@ pub fn body_behind<'a>(
         labels: entering.labels,
         in_handler: entering.in_handler,
         in_task: entering.in_task,
+        accepting: entering.accepting,
     };
     let parts = body(node, within, tables, faults);
     let (elaborations, parts) = both(elaborations, parts)?;
@@ -352,7 +514,8 @@ fn procedure<'a>(
     let number = tables.next_unit();
     declare_procedure(&node.name, number, &mut part.region, faults)?;
     let (regions, mut region) = frame_within(&part.region, &*outer)?;
-    let profile = formals(&node.name, &node.formals, &regions, &mut region, faults)?;
+    let named = Some(&node.name);
+    let profile = formals(named, &node.formals, &regions, &mut region, faults)?;
     tables.keep_unit(alloc, profile)?;
     let level = region.level;
     let own = tables.next_region();
@@ -362,6 +525,7 @@ fn procedure<'a>(
         labels: &[],
         in_handler: false,
         in_task: false,
+        accepting: &[],
         of_task: false,
     };
     let body = body_behind(inner, &node.body, entering, tables, faults)?;
@@ -406,11 +570,11 @@ fn task_body<'a>(
         (plain_tables tables.old))) }
 {
     let alloc = part.region.alloc;
-    let number = body_unit(&node.name, &mut part.region, tables, faults)?;
-    let running = running_within(&node.name.name, &part.region)?;
+    let numbers = body_numbers(&node.name, &mut part.region, tables, faults)?;
+    let running = running_within(&node.name.name, numbers.task_type, &part.region)?;
     let level = running.level;
+    let region = Region::of_task(alloc, level, numbers.task_type, &part.region.entries)?;
     let regions = task_within(&running, &part.region, &*outer)?;
-    let region = Region::of_task(alloc, level)?;
     let own = tables.next_region();
     let inner = task_part(node, region, &regions, tables, faults)?;
     let entering = Entering {
@@ -418,12 +582,13 @@ fn task_body<'a>(
         labels: &[],
         in_handler: false,
         in_task: true,
+        accepting: &[],
         of_task: true,
     };
     let body = body_behind(inner, &node.body, entering, tables, faults)?;
     right_name_at_end(&node.name.name, &node.body.name, faults);
     let unit = unit_of(alloc, level, own, node.at, body)?;
-    tables.put_unit(number, Box::into_inner(unit));
+    tables.put_unit(numbers.unit, Box::into_inner(unit));
     Ok(())
 }
 
@@ -455,7 +620,7 @@ fn declaration<'a>(
             exceptions(names, &mut part.region, &mut tables.exceptions, faults)
         }
         Declaration::Procedure(node) => procedure(node, outer, part, tables, faults),
-        Declaration::Task(task) => declare_task(task, part, tables, faults),
+        Declaration::Task(task) => declare_task(task, outer, part, tables, faults),
         Declaration::TaskBody(node) => task_body(node, outer, part, tables, faults),
     }
 }
@@ -500,6 +665,7 @@ fn body<'a>(
         labels: within.labels,
         in_handler: true,
         in_task: within.in_task,
+        accepting: within.accepting,
     };
     let handlers = handlers(&node.handlers, inner, tables, faults);
     both(statements, handlers)

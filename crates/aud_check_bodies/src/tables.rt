@@ -3,13 +3,13 @@
 ghost use Rattle.std.specs.Prelude.{◌≡◌, [], ◌++◌, option_map, IfOk, OnOk};
 ghost use Rattle.aud_typed.specs.Ties.View.{plain_shown, plain_region as plain_named_region, plain_unit};
 ghost use Rattle.aud_check_bodies.specs.Regions.{shown_of, shown_row, shown, shown_before, shown_names, loop_region};
-ghost use Rattle.aud_check_bodies.specs.Tables.{no_tables, next_region, with_region, region_kept, region_named, next_unit, no_body, unit_kept, with_unit, next_task, task_kept, profile_of};
+ghost use Rattle.aud_check_bodies.specs.Tables.{no_tables, next_region, with_region, region_kept, region_named, next_unit, no_body, unit_kept, with_unit, next_task, task_kept, next_entry, entry_kept, profile_of, entry_profile_of};
 ghost use Rattle.aud_names.specs.Ties.Regions.{plain_region};
 ghost use Rattle.aud_check_bodies.specs.Ties.Tables.{plain_tables};
 
 use aud_names::array::length_between;
 use aud_names::behind::Made;
-use aud_names::names::{Meaning, Object, Parameter, Region, Scope};
+use aud_names::names::{Meaning, NamedParameter, Object, Region, Scope};
 use aud_syntax::tree::Ident;
 use aud_text::name::Name;
 use aud_text::place::Pos;
@@ -21,14 +21,16 @@ use std::mem::replace;
 
 /// The variables and constants of each region that has been entered, by the regions' numbers, and the
 /// names of the exceptions, by theirs; of each procedure and task that has been declared its formals, and its body,
-/// by the number of its unit; and of each task type that unit, by the number of the type.
+/// by the number of its unit; the task types, by theirs; and of each entry its name and its formals, by theirs.
 #[derive(Drop)]
 pub struct Tables {
     pub regions: Vec<Vec<Named>>,
     pub exceptions: Vec<Name>,
-    pub profiles: Vec<Vec<Parameter>>,
+    pub profiles: Vec<Vec<NamedParameter>>,
     pub units: Vec<Unit>,
     pub tasks: Vec<TaskType>,
+    pub entries: Vec<Name>,
+    pub entry_profiles: Vec<Vec<NamedParameter>>,
 }
 
 impl Tables {
@@ -42,6 +44,8 @@ impl Tables {
             profiles: Vec::new(alloc),
             units: Vec::new(alloc),
             tasks: Vec::new(alloc),
+            entries: Vec::new(alloc),
+            entry_profiles: Vec::new(alloc),
         }
     }
 
@@ -94,7 +98,7 @@ impl Tables {
     }
 
     /// Keeps the place of a unit with these formals.
-    pub fn keep_unit(&mut self, alloc: Global, profile: Vec<Parameter>) -> Made<()>
+    pub fn keep_unit(&mut self, alloc: Global, profile: Vec<NamedParameter>) -> Made<()>
         ensures { OnOk result (plain_tables self.new
             ≡ unit_kept profile.items (plain_tables self.old)) }
     {
@@ -123,21 +127,49 @@ impl Tables {
         self.tasks.len()
     }
 
-    /// Keeps the place of the body of a task type, which has the next unit.
-    pub fn keep_task(&mut self, alloc: Global) -> Made<()>
-        ensures { OnOk result (plain_tables self.new ≡ task_kept (plain_tables self.old)) }
+    /// Keeps the place of the body of a task type with these entries, which has the next unit.
+    pub fn keep_task(&mut self, alloc: Global, entries: Vec<usize>) -> Made<()>
+        ensures { OnOk result (plain_tables self.new
+            ≡ task_kept entries.items (plain_tables self.old)) }
     {
         let unit = self.units.len();
         self.keep_unit(alloc, Vec::new(alloc))?;
-        self.tasks.push(TaskType { unit })?;
+        self.tasks.push(TaskType { unit, entries })?;
+        Ok(())
+    }
+
+    /// The number of the entry that is declared next.
+    pub fn next_entry(&self) -> usize
+        ensures { result ≡ next_entry (plain_tables self.now) }
+    {
+        self.entries.len()
+    }
+
+    /// Adds an entry of this name with these formals.
+    pub fn keep_entry(&mut self, name: Name, profile: Vec<NamedParameter>) -> Made<()>
+        ensures { OnOk result (plain_tables self.new
+            ≡ entry_kept name profile.items (plain_tables self.old)) }
+    {
+        self.entries.push(name)?;
+        self.entry_profiles.push(profile)?;
         Ok(())
     }
 
     /// The formals of a unit.
-    pub fn profile(&self, unit: usize) -> &[Parameter]
+    pub fn profile(&self, unit: usize) -> &[NamedParameter]
         ensures { result.now ≡ profile_of unit (plain_tables self.now) }
     {
         match self.profiles.get(unit) {
+            None => &[],
+            Some(profile) => profile,
+        }
+    }
+
+    /// The formals of an entry.
+    pub fn entry_profile(&self, entry: usize) -> &[NamedParameter]
+        ensures { result.now ≡ entry_profile_of entry (plain_tables self.now) }
+    {
+        match self.entry_profiles.get(entry) {
             None => &[],
             Some(profile) => profile,
         }

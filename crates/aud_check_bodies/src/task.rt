@@ -5,16 +5,17 @@ ghost use Rattle.aud_syntax.specs.Ties.View.{plain_definition};
 ghost use Rattle.aud_typed.specs.Tree.{activation};
 ghost use Rattle.aud_typed.specs.Ties.View.{plain_statement, plain_statements as plain_typed_statements};
 ghost use Rattle.aud_fault.specs.Least.{noted};
-ghost use Rattle.aud_names.specs.Names.{is_declared, awaited_unit, body_come, running};
+ghost use Rattle.aud_names.specs.Names.{is_declared, awaited_task, body_come, running};
 ghost use Rattle.aud_names.specs.Rules.{declared_once, right_name_at_end};
 ghost use Rattle.aud_names.specs.Ties.Regions.{plain_region, plain_place, names_in};
-ghost use Rattle.aud_check_bodies.specs.Tables.{no_tables, next_unit, next_task, task_kept};
+ghost use Rattle.aud_check_bodies.specs.Tables.{no_tables};
 ghost use Rattle.aud_check_bodies.specs.Declarations.{leaving, task_elaborations, checked_tasks, checked_task_rows};
-ghost use Rattle.aud_check_bodies.specs.Tasks.{name_behind, with_task_symbol, with_task, created_by, without_bodies, matched_faults, body_unit, body_tables, creates, create_tasks, with_activation};
+ghost use Rattle.aud_check_bodies.specs.Tasks.{name_behind, with_task_symbol, with_task, created_by, checked_task, without_bodies, matched_faults, body_unit, body_task, body_tables, creates, create_tasks, with_activation};
 ghost use Rattle.aud_check_bodies.specs.Ties.DeclarativePart.{Declares};
 ghost use Rattle.aud_check_bodies.specs.Ties.Tables.{plain_tables};
 
 use crate::declaration::{DeclarativePart, add_symbol, declare};
+use crate::entry::{entries_of, name_entries};
 use crate::tables::Tables;
 use aud_fault::fault::Least;
 use aud_names::array::{Kind, TaskRow, bound, cells_of, or_zero};
@@ -113,7 +114,7 @@ pub fn tasks(
         (leaving no_tables (checked_tasks (names_in names.now) names.now.first.at number
         (plain_place part.old.region outer.now)))) }
 {
-    declare(names, Kind::Task, &mut part.region, faults)?;
+    declare(names, Kind::Task(number), &mut part.region, faults)?;
     let alloc = part.region.alloc;
     create_all(names, one_task(number), alloc, &mut part.elaborations)
 }
@@ -134,7 +135,11 @@ pub fn task_rows(
 {
     let low = or_zero(bound(bounds.0, faults));
     let high = or_zero(bound(bounds.1, faults));
-    let kind = Kind::TaskRow(TaskRow { low, high });
+    let kind = Kind::TaskRow(TaskRow {
+        low,
+        high,
+        task_type: number,
+    });
     declare(names, kind, &mut part.region, faults)?;
     let length = cells_of(kind);
     let creation = Creation {
@@ -155,7 +160,7 @@ fn add_task_symbol(task: &TaskDeclaration, number: usize, region: &mut Region) -
 {
     let name = &task.name.name;
     if !task.is_type {
-        return add_symbol(name, Kind::Task, region);
+        return add_symbol(name, Kind::Task(number), region);
     }
     let name = name.try_clone(region.alloc)?;
     region.symbols.insert(name, Meaning::TaskType(number))?;
@@ -180,7 +185,12 @@ fn declare_name(
         add_task_symbol(task, number, region)?;
         let name = ident.name.try_clone(region.alloc)?;
         let at = ident.at;
-        region.awaited.push(Awaited { name, unit, at })?;
+        region.awaited.push(Awaited {
+            name,
+            task_type: number,
+            unit,
+            at,
+        })?;
     }
     Ok(())
 }
@@ -195,38 +205,47 @@ fn right_name_behind(ident: &Ident, definition: &Option<TaskDefinition>, faults:
     }
 }
 
-/// Declares a task or a task type (RM 9.1).
-#[tactic(auto, using(aud_typing::proofs::Notes::noted_append))]
+// Creates a single task; a type creates none (RM 9.1).
+fn create_single(
+    task: &TaskDeclaration,
+    number: usize,
+    alloc: Global,
+    elaborations: &mut Vec<Statement>,
+) -> Made<()>
+    ensures { OnOk result (plain_typed_statements elaborations.new.items
+        ≡ plain_typed_statements elaborations.old.items
+        ++ created_by task.now.is_type task.now.name task.now.at number) }
+{
+    if task.is_type {
+        return Ok(());
+    }
+    create(&task.name, task.at, one_task(number), alloc, elaborations)
+}
+
+/// Declares a task or a task type, and its entries (RM 9.1).
 pub fn declare_task(
     task: &TaskDeclaration,
+    outer: &[&Region],
     part: &mut DeclarativePart,
     tables: &mut Tables,
     faults: &mut Least,
 ) -> Made<()>
-    ensures region { OnOk result (plain_region part.new.region
-        ≡ with_task task.now.is_type task.now.name (next_task (plain_tables tables.old))
-        (next_unit (plain_tables tables.old)) (plain_region part.old.region)) }
-    ensures elaborations { OnOk result (plain_typed_statements part.new.elaborations.items
-        ≡ plain_typed_statements part.old.elaborations.items
-        ++ created_by task.now.is_type task.now.name task.now.at
-        (next_task (plain_tables tables.old))) }
-    ensures tables { OnOk result (plain_tables tables.new
-        ≡ task_kept (plain_tables tables.old)) }
-    ensures noted { OnOk result (faults.new ≡ noted faults.old
-        (declared_once task.now.name.name task.now.name.at part.old.region.symbols.entries
-        ++ right_name_at_end task.now.name.name
-        (name_behind (plain_definition task.now.definition)))) }
+    ensures { OnOk result (Declares faults.old faults.new outer.now part.old part.new
+        (plain_tables tables.new)
+        (checked_task task.now.at task.now.is_type task.now.name
+        (plain_definition task.now.definition) (plain_place part.old.region outer.now)
+        (plain_tables tables.old))) }
 {
     let number = tables.next_task();
     let unit = tables.next_unit();
-    declare_name(task, number, unit, &mut part.region, faults)?;
-    right_name_behind(&task.name, &task.definition, faults);
     let alloc = part.region.alloc;
-    if !task.is_type {
-        let creation = one_task(number);
-        create(&task.name, task.at, creation, alloc, &mut part.elaborations)?;
-    }
-    tables.keep_task(alloc)
+    declare_name(task, number, unit, &mut part.region, faults)?;
+    let definition = &task.definition;
+    let names = entries_of(number, definition, &part.region, &*outer, tables, faults)?;
+    right_name_behind(&task.name, definition, faults);
+    let entries = name_entries(names, &mut part.region)?;
+    create_single(task, number, alloc, &mut part.elaborations)?;
+    tables.keep_task(alloc, entries)
 }
 
 /// Notes what waits for a body still at the end of a declarative part (RM 3.11.1).
@@ -238,41 +257,55 @@ pub fn without_bodies(awaited: &[Awaited], faults: &mut Least)
     }
 }
 
-/// The unit of the task whose body has this name. A body of no task that waits for one is checked as a task of its own.
-pub fn body_unit(
+/// The numbers of a task's unit and of its type.
+#[derive(Clone, Copy, PartialEq, Eq)]
+pub struct Numbers {
+    pub unit: usize,
+    pub task_type: usize,
+}
+
+/// Those of the task whose body has this name. A body of no task that waits for one is checked as a task of its own.
+pub fn body_numbers(
     ident: &Ident,
     region: &mut Region,
     tables: &mut Tables,
     faults: &mut Least,
-) -> Made<usize>
-    ensures unit { IfOk result (λ unit. unit ≡ body_unit
-        (awaited_unit ident.now.name region.old.awaited.items) (plain_tables tables.old)) }
+) -> Made<Numbers>
+    ensures unit { IfOk result (λ numbers. numbers.unit ≡ body_unit
+        (awaited_task ident.now.name region.old.awaited.items) (plain_tables tables.old)) }
+    ensures task_type { IfOk result (λ numbers. numbers.task_type ≡ body_task
+        (awaited_task ident.now.name region.old.awaited.items) (plain_tables tables.old)) }
     ensures region { OnOk result (plain_region region.new
         ≡ body_come ident.now.name (plain_region region.old)) }
     ensures tables { OnOk result (plain_tables tables.new ≡ body_tables
-        (awaited_unit ident.now.name region.old.awaited.items) (plain_tables tables.old)) }
+        (awaited_task ident.now.name region.old.awaited.items) (plain_tables tables.old)) }
     ensures noted { OnOk result (faults.new ≡ noted faults.old (matched_faults
-        (awaited_unit ident.now.name region.old.awaited.items) ident.now.at)) }
+        (awaited_task ident.now.name region.old.awaited.items) ident.now.at)) }
 {
     match region.body_comes(&ident.name) {
-        Some(unit) => Ok(unit),
+        Some(found) => Ok(Numbers {
+            unit: found.unit,
+            task_type: found.task_type,
+        }),
         None => {
             no_matching_body(ident.at, faults);
             let unit = tables.next_unit();
-            tables.keep_task(region.alloc)?;
-            Ok(unit)
+            let task_type = tables.next_task();
+            let alloc = region.alloc;
+            tables.keep_task(alloc, Vec::new(alloc))?;
+            Ok(Numbers { unit, task_type })
         }
     }
 }
 
-/// The region around the body of a task of this name that is declared in this region: the task that runs it has the name.
-pub fn running_within(name: &Name, region: &Region) -> Made<Region>
+/// The region around the body of a task of this name and type that is declared in this region: the task that runs it has the name.
+pub fn running_within(name: &Name, task_type: usize, region: &Region) -> Made<Region>
     ensures region { IfOk result (λ around. plain_region around
-        ≡ running name.now (region.now.level + 1)) }
+        ≡ running name.now (region.now.level + 1) task_type) }
     ensures level { IfOk result (λ around. around.level ≡ region.now.level + 1) }
 {
     let level = region.level.checked_add(1).ok_or(AllocError)?;
-    Region::running(region.alloc, name, level)
+    Region::running(region.alloc, name, level, task_type)
 }
 
 // Whether a statement creates a task: an array without elements is none.

@@ -42,6 +42,7 @@ fn typed_within<'a>(
         labels: &[],
         in_handler: false,
         in_task: false,
+        accepting: &[],
         of_task: false,
     };
     let body = body_behind(part, &node.body, entering, &mut tables, faults)?;
@@ -55,11 +56,14 @@ fn typed_within<'a>(
         profiles: _,
         units,
         tasks,
+        entries,
+        entry_profiles: _,
     } = tables;
     Ok(Program {
         name,
         units,
         tasks,
+        entries,
         regions,
         exceptions,
     })

@@ -44,7 +44,7 @@ FirstTabled (l ∷ ls) (c ∷ cs) = LineTabled l c ls cs
 -- In memory.
 
 abbrev pub counts : InMemory → Counts
-counts c = record { integers = c.integers; booleans = c.booleans; targets = c.targets; names = 0; cells = false }
+counts c = record { integers = c.integers; booleans = c.booleans; targets = c.targets; names = c.names; cells = false }
 
 -- what is verified: both tables fit the code, and the code is sound
 pub record IsVerified (code : Code) : Type 0 where
@@ -58,12 +58,14 @@ changed e c = record c {
   integers = c.integers - e.takes.integers + e.leaves.integers;
   booleans = c.booleans - e.takes.booleans + e.leaves.booleans;
   targets = c.targets - e.takes.targets + e.leaves.targets;
+  names = c.names - e.takes.names + e.leaves.names;
 }
 
 -- where an instruction leads that passes others
 abbrev pub GoesOver : Instruction → AndThen → Counts → Type 0
 GoesOver (PassIfFalse n) go c = go n c
 GoesOver (PassIfTrue n) go c = go n c
+GoesOver (PassUnlessNext k n) go c = go n c
 GoesOver i go c = Unit {0}
 
 -- The table of code: the operands on the way from each line to the next one.

@@ -11,6 +11,7 @@ pub record IsEnough (need : InMemory) (c : Counts) : Type 0 where
   pub integers : need.integers ≤ c.integers
   pub booleans : need.booleans ≤ c.booleans
   pub targets : need.targets ≤ c.targets
+  pub names : need.names ≤ c.names
 
 -- what comes then is fine exactly with what is needed
 abbrev pub Needs : (Counts → Type 0) → InMemory → Type 0

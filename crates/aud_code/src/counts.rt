@@ -3,19 +3,20 @@
 ghost use Rattle.std.specs.Prelude.{◌≡◌, ◌↔◌, ◌+◌, ◌-◌, ◌≤◌, List, IsTrue};
 ghost use Rattle.aud_code.specs.Flat.{FlatLine};
 ghost use Rattle.aud_code.specs.Sound.{Counts as Standing, no_counts, EndingFine, InstructionFine, LastFine};
-ghost use Rattle.aud_code.specs.View.{plain_instruction, plain_ending, plain_last};
+ghost use Rattle.aud_code.specs.View.{plain_among, plain_instruction, plain_ending, plain_last};
 ghost use Rattle.aud_code.specs.Verified.{IsEnough, Needs};
 ghost use Rattle.aud_code.specs.Tabled.{behind, changed, counts, GoesOver, LeadsTo};
 
 use crate::instruction::Instruction;
-use crate::line::{Ending, Last};
+use crate::line::{Among, Ending, Last};
 
-/// How many Integers, truth values and targets.
+/// How many Integers, truth values, targets and tasks that are named.
 #[derive(Clone, Copy, PartialEq, Eq)]
 pub struct Counts {
     pub integers: usize,
     pub booleans: usize,
     pub targets: usize,
+    pub names: usize,
 }
 
 /// No operands.
@@ -23,6 +24,7 @@ pub const NOTHING: Counts = Counts {
     integers: 0,
     booleans: 0,
     targets: 0,
+    names: 0,
 };
 
 const INTEGER: Counts = Counts {
@@ -50,6 +52,11 @@ const TARGET: Counts = Counts {
     ..NOTHING
 };
 
+const NAME: Counts = Counts {
+    names: 1,
+    ..NOTHING
+};
+
 const TARGET_AND_INTEGER: Counts = Counts {
     integers: 1,
     ..TARGET
@@ -67,7 +74,17 @@ impl Counts {
     pub(crate) fn is_nothing(self) -> bool
         ensures { IsTrue result ↔ (counts self ≡ no_counts) }
     {
-        self.integers == 0 && self.booleans == 0 && self.targets == 0
+        self.integers == 0 && self.booleans == 0 && self.targets == 0 && self.names == 0
+    }
+
+    /// Whether the others are as many.
+    pub(crate) fn is_same(self, other: Counts) -> bool
+        ensures { IsTrue result ↔ (counts self ≡ counts other) }
+    {
+        self.integers == other.integers
+            && self.booleans == other.booleans
+            && self.targets == other.targets
+            && self.names == other.names
     }
 
     /// Whether these are found among all that there are.
@@ -77,6 +94,7 @@ impl Counts {
         self.integers <= all.integers
             && self.booleans <= all.booleans
             && self.targets <= all.targets
+            && self.names <= all.names
     }
 }
 
@@ -98,6 +116,7 @@ impl Effect {
             leaves.booleans,
             next.booleans,
         ) && is_changed(before.targets, takes.targets, leaves.targets, next.targets)
+            && is_changed(before.names, takes.names, leaves.names, next.names)
     }
 }
 
@@ -120,7 +139,9 @@ pub fn effect_of(instruction: &Instruction) -> Effect
         changed result c ≡ behind (plain_instruction instruction.now) c }
 {
     match instruction {
-        Instruction::Push(_) | Instruction::Load(_) => makes(NOTHING, INTEGER),
+        Instruction::Push(_) | Instruction::Load(_) | Instruction::Count(_, _) => {
+            makes(NOTHING, INTEGER)
+        }
         Instruction::LoadElement(_) | Instruction::OnOne(_) | Instruction::Check(_) => {
             makes(INTEGER, INTEGER)
         }
@@ -133,15 +154,26 @@ pub fn effect_of(instruction: &Instruction) -> Effect
         Instruction::Negate => makes(TRUTH, TRUTH),
         Instruction::Relate(_) => makes(INTEGERS, TRUTH),
         Instruction::Compare(_) | Instruction::Combine(_) => makes(TRUTHS, TRUTH),
-        Instruction::PassIfFalse(_) | Instruction::PassIfTrue(_) | Instruction::AppendTruth => {
-            makes(TRUTH, NOTHING)
-        }
+        Instruction::PassIfFalse(_)
+        | Instruction::PassIfTrue(_)
+        | Instruction::AppendTruth
+        | Instruction::OpensAccept(_)
+        | Instruction::OpensDelay(_)
+        | Instruction::OpensTerminate => makes(TRUTH, NOTHING),
         Instruction::Find(_, _) => makes(NOTHING, TARGET),
         Instruction::FindElement(_, _) => makes(INTEGER, TARGET),
         Instruction::LoadFound => makes(TARGET, TARGET_AND_INTEGER),
         Instruction::PassCopy(_) => makes(TARGET_AND_INTEGER, NOTHING),
-        Instruction::AppendText(_) | Instruction::AppendNewLine => makes(NOTHING, NOTHING),
-        Instruction::AppendImage | Instruction::Pass => makes(INTEGER, NOTHING),
+        Instruction::AppendText(_)
+        | Instruction::AppendNewLine
+        | Instruction::Milliseconds(_)
+        | Instruction::Mark
+        | Instruction::PassUnlessNext(_, _)
+        | Instruction::SetTime(_) => makes(NOTHING, NOTHING),
+        Instruction::AppendImage | Instruction::Pass | Instruction::Seconds => {
+            makes(INTEGER, NOTHING)
+        }
+        Instruction::Name => makes(INTEGER, NAME),
     }
 }
 
@@ -157,13 +189,24 @@ pub(crate) fn need_of_last(last: &Last) -> Counts
 {
     match last {
         Last::Does(ending, _) => need_of_ending(*ending),
-        Last::DeclaresTasks(_, _)
-        | Last::Activates(_)
-        | Last::EndsActivation(_)
-        | Last::Continues { .. }
-        | Last::Guards(_)
-        | Last::Ends(_, _)
-        | Last::Leaves { .. } => NOTHING,
+        Last::Concerns(among, _) => need_of_among(among),
+        Last::Continues { .. } | Last::Guards(_) | Last::Ends(_, _) | Last::Leaves { .. } =>
+            NOTHING,
+    }
+}
+
+// What the ending of a step needs that concerns others.
+fn need_of_among(among: &Among) -> Counts
+    ensures { Needs (EndingFine (plain_among among.now)) result }
+{
+    match among {
+        Among::Call { .. } => NAME,
+        Among::DeclareTasks(_)
+        | Among::Activate
+        | Among::Activated
+        | Among::Delay
+        | Among::Accept { .. }
+        | Among::Select { .. } => NOTHING,
     }
 }
 

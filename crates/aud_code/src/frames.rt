@@ -1,15 +1,17 @@
 // The frames that are open where steps stand.
 
-ghost use Rattle.std.specs.Prelude.{◌≡◌, ◌↔◌, List, [], ◌∷◌, map, None, Some};
+ghost use Rattle.std.specs.Prelude.{◌≡◌, ◌↔◌, ◌⊎◌, List, [], ◌∷◌, map, None, Some};
 ghost use Rattle.std.specs.Prelude.{IfNone, IfSome, IsTrue};
-ghost use Rattle.aud_code.specs.Frames.{found, frame_inside, opener, At, Behind, BlockAround};
+ghost use Rattle.aud_code.specs.Frames.{found, frame_inside, opener, AcceptAround, At, Behind, BlockAround};
+ghost use Rattle.aud_code.specs.Frames.{BodiesAt, OpensAccept};
 ghost use Rattle.aud_code.specs.Frames.{EachAt, GoTo, GuardsAt, IsEnd, LastFits, LoopAround};
 ghost use Rattle.aud_code.specs.Frames.{Found, OpensBlock, OpensLoop, OutFits, OutOf, OutOfLoops};
 ghost use Rattle.aud_code.specs.Frames.{StepFits, TakesExceptions, WayFits, WaysAt};
+ghost use Rattle.aud_code.specs.View.{behind_offers, beside, bodies_in, bodies_offered};
 ghost use Rattle.aud_code.specs.View.{inside_of, plain_end, plain_ending, plain_guard, plain_last};
 ghost use Rattle.aud_code.specs.View.{plain_line, way_of};
 
-use crate::line::{EndLine, Ending, Guard, Last, Line};
+use crate::line::{Among, EndLine, Ending, Guard, Last, Line, Offer};
 use aud_meaning::state::Construct;
 
 /// The ending of the step that begins at a place; none behind all lines.
@@ -59,8 +61,10 @@ fn fits(lines: &[Line], place: usize, end: &EndLine) -> bool
                 && ending_fits(lines, place, within, *ending)
                 && out_fits(lines, within, end.out)
         }
-        Last::DeclaresTasks(_, next) | Last::Activates(next) | Last::EndsActivation(next) => {
-            is_within(lines, *next, within) && out_fits(lines, within, end.out)
+        Last::Concerns(among, next) => {
+            is_within(lines, *next, within)
+                && among_fits(lines, place, within, among)
+                && out_fits(lines, within, end.out)
         }
         Last::Continues { behind, inside, .. } => continues_fit(lines, within, *behind, *inside),
         Last::Guards(guards) => {
@@ -68,8 +72,7 @@ fn fits(lines: &[Line], place: usize, end: &EndLine) -> bool
         }
         Last::Ends(Construct::Unit, _) => within.is_none(),
         Last::Ends(Construct::Block, next) => block_end_fits(lines, within, *next, end.out),
-        // No step in memory opens a rendezvous.
-        Last::Ends(Construct::Accept, _) => false,
+        Last::Ends(Construct::Accept, next) => accept_end_fits(lines, within, *next, end.out),
         Last::Leaves { loops, to } => leaving_fits(lines, within, *loops, *to),
     }
 }
@@ -101,6 +104,50 @@ fn ending_fits(lines: &[Line], place: usize, within: Option<usize>, ending: Endi
     }
 }
 
+// Where a step leads besides that concerns others, and to what its accepts do.
+fn among_fits(lines: &[Line], place: usize, within: Option<usize>, among: &Among) -> bool
+    ensures { IsTrue result ↔ (EachAt (map plain_line lines.now) (beside among.now) within
+        × BodiesAt (map plain_line lines.now) within place (bodies_in among.now)) }
+{
+    match among {
+        Among::Call { otherwise, .. } => is_within(lines, *otherwise, within),
+        Among::Accept { body, .. } => body_fits(lines, place, within, *body),
+        Among::Select { own, offers, .. } => {
+            body_fits(lines, place, within, *own) && offers_fit(lines, place, within, offers)
+        }
+        Among::DeclareTasks(_) | Among::Activate | Among::Activated | Among::Delay => true,
+    }
+}
+
+// Where alternatives lead, and to what their accepts do.
+fn offers_fit(lines: &[Line], place: usize, within: Option<usize>, offers: &[Offer]) -> bool
+    ensures { IsTrue result ↔ (EachAt (map plain_line lines.now) (behind_offers offers.now) within
+        × BodiesAt (map plain_line lines.now) within place (bodies_offered offers.now)) }
+{
+    for offer in offers {
+        if !offer_fits(lines, place, within, *offer) {
+            return false;
+        }
+    }
+    true
+}
+
+fn offer_fits(lines: &[Line], place: usize, within: Option<usize>, offer: Offer) -> bool
+    ensures { IsTrue result ↔ (At (map plain_line lines.now) offer.behind within
+        × (At (map plain_line lines.now) offer.body within
+        ⊎ At (map plain_line lines.now) offer.body (Some place))) }
+{
+    is_within(lines, offer.behind, within) && body_fits(lines, place, within, offer.body)
+}
+
+// What an accept does stands within its step; where it does nothing, the step leads on.
+fn body_fits(lines: &[Line], place: usize, within: Option<usize>, body: usize) -> bool
+    ensures { IsTrue result ↔ (At (map plain_line lines.now) body within
+        ⊎ At (map plain_line lines.now) body (Some place)) }
+{
+    is_within(lines, body, within) || is_within(lines, body, Some(place))
+}
+
 // The end of a loop's statements, in the loop's frame.
 fn continues_fit(lines: &[Line], within: Option<usize>, behind: usize, inside: usize) -> bool
     ensures { IsTrue result ↔ LoopAround (map plain_line lines.now) within
@@ -118,6 +165,17 @@ fn block_end_fits(lines: &[Line], within: Option<usize>, next: usize, out: usize
         (Behind (map plain_line lines.now) next out) }
 {
     match block_around(lines, within) {
+        Some(step) => is_within(lines, next, step.within) && out_fits(lines, step.within, out),
+        None => false,
+    }
+}
+
+// The end of what an accept does, in its frame; what is around the accept comes behind it.
+fn accept_end_fits(lines: &[Line], within: Option<usize>, next: usize, out: usize) -> bool
+    ensures { IsTrue result ↔ AcceptAround (map plain_line lines.now) within
+        (Behind (map plain_line lines.now) next out) }
+{
+    match accept_around(lines, within) {
         Some(step) => is_within(lines, next, step.within) && out_fits(lines, step.within, out),
         None => false,
     }
@@ -176,6 +234,22 @@ fn block_around(lines: &[Line], within: Option<usize>) -> Option<&EndLine>
 {
     let step = opener(lines, within)?;
     if opens_block(&step.last) {
+        Some(step)
+    } else {
+        None
+    }
+}
+
+// The step of the accept whose frame is the innermost one.
+fn accept_around(lines: &[Line], within: Option<usize>) -> Option<&EndLine>
+    ensures some { IfSome result (λ step.
+        (opener (map plain_line lines.now) within ≡ Some (plain_end step.now))
+        × OpensAccept (plain_last step.now.last)) }
+    ensures none { IfNone result
+        (Found (opener (map plain_line lines.now) within) (λ step. OpensAccept step.last) → ⊥) }
+{
+    let step = opener(lines, within)?;
+    if opens_accept(&step.last) {
         Some(step)
     } else {
         None
@@ -257,6 +331,15 @@ fn opens_block(last: &Last) -> bool
     ensures { IsTrue result ↔ OpensBlock (plain_last last.now) }
 {
     matches!(last, Last::Does(Ending::Block { .. }, _))
+}
+
+fn opens_accept(last: &Last) -> bool
+    ensures { IsTrue result ↔ OpensAccept (plain_last last.now) }
+{
+    matches!(
+        last,
+        Last::Concerns(Among::Accept { .. } | Among::Select { .. }, _)
+    )
 }
 
 fn takes_exceptions(last: &Last) -> bool

@@ -1,11 +1,13 @@
 // Instructions, which evaluate the expressions of a step.
 
+use aud_meaning::state::OpenAccept;
 use aud_text::int32::Int32;
 use aud_text::text::Text;
-use aud_typed::program::{ArrayAt, Binary, Logical, Relation, Subtype, Unary, Variable};
+use aud_typed::program::{ArrayAt, Binary, Duration, Logical, Relation, Subtype, Unary, Variable};
 
 /// An instruction. They work on the operands of a step: Integers, truth values and targets, of which the newest is taken
-/// first, the arguments of a call, and a text that grows at its end.
+/// first, the arguments of a call, the tasks that are named, a text that grows at its end, the time that is waited for, and
+/// the alternatives of a selective accept that are open.
 #[derive(Drop)]
 pub enum Instruction {
     /// One more Integer.
@@ -19,6 +21,8 @@ pub enum Instruction {
     OnOne(Unary),
     /// An operator in place of the two newest Integers; the newest is its right operand.
     OnTwo(Binary),
+    /// How many calls are queued on this entry of the task whose number the variable's cell holds, as one more Integer (RM 9.9(5)).
+    Count(Variable, usize),
     /// The newest Integer is in the subtype's range, or Constraint_Error is raised (RM 4.6(51)).
     Check(Subtype),
     /// Takes the newest truth value; one more Integer, which a cell holds for it.
@@ -61,4 +65,22 @@ pub enum Instruction {
     /// Takes the newest truth value, and puts its image at the text's end.
     AppendTruth,
     AppendNewLine,
+    /// Takes the newest Integer, a task's number, as that of one more task that is named.
+    Name,
+    /// The time that is waited for.
+    Milliseconds(Duration),
+    /// Takes the newest Integer: the time that is waited for, in seconds, and none where it is negative (RM 9.6).
+    Seconds,
+    /// Takes the newest truth value, that of a guard; where it is true, this accept is open (RM 9.7.1(14)).
+    OpensAccept(OpenAccept),
+    /// The same of the delay of the alternative of this number, whose time is not known yet.
+    OpensDelay(usize),
+    /// The same of a terminate alternative.
+    OpensTerminate,
+    /// What stands before it decides whether the step can be done.
+    Mark,
+    /// Unless the next open delay without a time is that of the alternative of the first number, this many instructions are passed.
+    PassUnlessNext(usize, usize),
+    /// The delay of the alternative of this number ends behind the time that is waited for.
+    SetTime(usize),
 }

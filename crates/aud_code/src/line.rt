@@ -65,17 +65,63 @@ pub struct Guard {
     pub to: usize,
 }
 
+/// How an entry is called (RM 9.5.3, 9.7.2, 9.7.3).
+#[derive(Clone, Copy, PartialEq, Eq)]
+pub enum CallKind {
+    Plain,
+    Conditional,
+    Timed,
+}
+
+/// Where a selective accept leads by one of its alternatives: behind the alternative, and to what its accept does, which is the
+/// same place where that does nothing.
+#[derive(Clone, Copy, PartialEq, Eq)]
+pub struct Offer {
+    pub behind: usize,
+    pub body: usize,
+}
+
+/// What a statement's step does that concerns other tasks or the clock.
+#[derive(Drop)]
+pub enum Among {
+    /// The next variable of the innermost frame is these tasks, which are created (RM 9.1).
+    DeclareTasks(Tasks),
+    /// The tasks are activated that the declarative part has created (RM 9.2(3)).
+    Activate,
+    /// The activation of the task ends (RM 9.2(5)).
+    Activated,
+    /// A call of this entry of the task that is named. The step leads to the place `otherwise` where the call is left
+    /// (RM 9.5.3, 9.7.2, 9.7.3).
+    Call {
+        entry: usize,
+        kind: CallKind,
+        otherwise: usize,
+    },
+    /// The task is blocked for the time that is waited for (RM 9.6).
+    Delay,
+    /// A call of this entry is accepted, with the table of its formals where something is done, which begins at the place `body`; else
+    /// the step leads there (RM 9.5.2).
+    Accept {
+        entry: usize,
+        region: Option<usize>,
+        body: usize,
+    },
+    /// An open alternative is done, or the else part, if there is one, with which the place of the next step begins (RM 9.7.1). The
+    /// step itself begins at the place `own`.
+    Select {
+        has_else: bool,
+        own: usize,
+        offers: Vec<Offer>,
+    },
+}
+
 /// How a step ends.
 #[derive(Drop)]
 pub enum Last {
-    /// A statement's step, and the place where the next one begins, unless it leads elsewhere.
+    /// A statement's step that concerns its task alone, and the place where the next one begins, unless it leads elsewhere.
     Does(Ending, usize),
-    /// The next variable of the innermost frame is these tasks, which are created (RM 9.1); and the place where the next step begins.
-    DeclaresTasks(Tasks, usize),
-    /// The tasks are activated that the declarative part has created (RM 9.2(3)); and the place where the next step begins.
-    Activates(usize),
-    /// The activation of the task ends (RM 9.2(5)); and the place where the next step begins.
-    EndsActivation(usize),
+    /// A statement's step that concerns others, and the place where the next one begins, unless it leads elsewhere.
+    Concerns(Among, usize),
     /// The parameter of a `for` loop has its next value, and the step leads inside, or the loop is left, and it leads behind it.
     Continues {
         control: ForLoop,

@@ -1,17 +1,17 @@
 // The table of frames that stands beside code: each line is checked against what is written before it and at each place that it
 // leads to.
 
-ghost use Rattle.std.specs.Prelude.{◌≡◌, ◌↔◌, ◌+◌, ◌<◌, ◌≤◌, ℕ, suc, map, length, Some, slice_get, slice_index_or, IsTrue};
+ghost use Rattle.std.specs.Prelude.{◌≡◌, ◌↔◌, ◌⊎◌, ◌+◌, ◌<◌, ◌≤◌, ℕ, suc, map, length, Some, slice_get, slice_index_or, IsTrue};
 ghost use Rattle.aud_code.specs.Flat.{start_at};
-ghost use Rattle.aud_code.specs.Seen.{inside, BehindSees, BodySees, EachSame, EndingSees, Fewer};
+ghost use Rattle.aud_code.specs.Seen.{inside, BehindSees, BodiesSee, BodySees, EachSame, EndingSees, Fewer};
 ghost use Rattle.aud_code.specs.Seen.{GuardsSee, IsSeen, IsWritten, LastSees, LineSees, NamesOpen};
 ghost use Rattle.aud_code.specs.Seen.{OutSees, PlaceSees, WaySees, WithinSees};
-ghost use Rattle.aud_code.specs.View.{inside_of, plain_code, plain_end, plain_ending, plain_guard};
+ghost use Rattle.aud_code.specs.View.{behind_offers, beside, bodies_in, bodies_offered, inside_of, plain_among, plain_code, plain_end, plain_ending, plain_guard};
 ghost use Rattle.aud_code.specs.View.{plain_instruction, plain_last, plain_line, way_of};
 
 use crate::frames::opener;
 use crate::instruction::Instruction;
-use crate::line::{Code, EndLine, Ending, Guard, Last, Line};
+use crate::line::{Among, Code, EndLine, Ending, Guard, Last, Line, Offer};
 use aud_meaning::state::Construct;
 
 /// Whether each line names variables of frames that are open alone, by the table of frames, and leads to where those are open that
@@ -65,7 +65,9 @@ fn names_open(instruction: &Instruction, frames: usize) -> bool
     ensures { IsTrue result ↔ NamesOpen (plain_instruction instruction.now) frames }
 {
     match instruction {
-        Instruction::Load(variable) | Instruction::Find(variable, _) => variable.level < frames,
+        Instruction::Load(variable)
+        | Instruction::Count(variable, _)
+        | Instruction::Find(variable, _) => variable.level < frames,
         Instruction::LoadElement(array) | Instruction::FindElement(array, _) => {
             array.length == 0 || array.first.level < frames
         }
@@ -84,13 +86,10 @@ fn last_sees(code: &Code, end: &EndLine, frames: usize) -> bool
                 && is_fewer(seen, 0, frames, *next)
                 && out_sees(seen, end.within, frames, end.out)
         }
-        Last::DeclaresTasks(tasks, next) => {
-            body_sees(seen, frames, start(code, body_of(code, tasks.task_type)))
+        Last::Concerns(among, next) => {
+            among_sees(code, among, frames)
                 && is_fewer(seen, 0, frames, *next)
                 && out_sees(seen, end.within, frames, end.out)
-        }
-        Last::Activates(next) | Last::EndsActivation(next) => {
-            is_fewer(seen, 0, frames, *next) && out_sees(seen, end.within, frames, end.out)
         }
         Last::Continues { behind, inside, .. } => {
             is_fewer(seen, 1, frames, *behind) && is_fewer(seen, 0, frames, *inside)
@@ -130,6 +129,55 @@ fn ending_sees(code: &Code, ending: Ending, frames: usize) -> bool
         | Ending::Raise(_)
         | Ending::RaiseAgain => true,
     }
+}
+
+// Where a step leads besides that concerns others, the bodies that it enters, and what its accepts do.
+fn among_sees(code: &Code, among: &Among, frames: usize) -> bool
+    ensures { IsTrue result ↔ (EndingSees (plain_code code.now) code.now.tasks.items code.now.seen.items
+        (plain_among among.now) frames
+        × (EachSame code.now.seen.items (inside (plain_among among.now) frames) (beside among.now)
+        × BodiesSee code.now.seen.items frames (bodies_in among.now))) }
+{
+    let seen = &code.seen;
+    match among {
+        Among::DeclareTasks(tasks) => {
+            body_sees(seen, frames, start(code, body_of(code, tasks.task_type)))
+        }
+        Among::Call { otherwise, .. } => is_fewer(seen, 0, frames, *otherwise),
+        Among::Accept { body, .. } => doing_sees(seen, frames, *body),
+        Among::Select { own, offers, .. } => {
+            doing_sees(seen, frames, *own) && offers_see(seen, frames, offers)
+        }
+        Among::Activate | Among::Activated | Among::Delay => true,
+    }
+}
+
+// Where alternatives lead, and to what their accepts do.
+fn offers_see(seen: &[usize], frames: usize, offers: &[Offer]) -> bool
+    ensures { IsTrue result ↔ (EachSame seen.now frames (behind_offers offers.now)
+        × BodiesSee seen.now frames (bodies_offered offers.now)) }
+{
+    for offer in offers {
+        if !offer_sees(seen, frames, *offer) {
+            return false;
+        }
+    }
+    true
+}
+
+fn offer_sees(seen: &[usize], frames: usize, offer: Offer) -> bool
+    ensures { IsTrue result ↔ (Fewer seen.now 0 frames offer.behind
+        × (Fewer seen.now 0 frames offer.body ⊎ Fewer seen.now 0 (suc frames) offer.body)) }
+{
+    is_fewer(seen, 0, frames, offer.behind) && doing_sees(seen, frames, offer.body)
+}
+
+// What an accept does has one more frame, or it is what follows.
+fn doing_sees(seen: &[usize], frames: usize, body: usize) -> bool
+    ensures { IsTrue result ↔
+        (Fewer seen.now 0 frames body ⊎ Fewer seen.now 0 (suc frames) body) }
+{
+    is_fewer(seen, 0, frames, body) || is_one_more(seen, frames, body)
 }
 
 // Behind the end of a construct, whose frame is left.

@@ -103,7 +103,9 @@ fn goes_over(instruction: &Instruction, before: Counts, behind: usize, next: &[C
         (counts before) }
 {
     match instruction {
-        Instruction::PassIfFalse(passed) | Instruction::PassIfTrue(passed) => {
+        Instruction::PassIfFalse(passed)
+        | Instruction::PassIfTrue(passed)
+        | Instruction::PassUnlessNext(_, passed) => {
             *passed <= behind && stands(before, next, *passed)
         }
         _ => true,
@@ -115,7 +117,7 @@ fn stands(before: Counts, next: &[Counts], passed: usize) -> bool
     ensures { IsTrue result ↔ (slice_get (map counts next.now) passed ≡ Some (counts before)) }
 {
     match next.get(passed) {
-        Some(there) => *there == before,
+        Some(there) => there.is_same(before),
         None => false,
     }
 }

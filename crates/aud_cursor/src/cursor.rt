@@ -2,7 +2,7 @@
 
 ghost use Rattle.std.specs.Prelude.{◌≡◌, ◌∷◌, ◌-◌, [], length, ◌≤◌};
 ghost use Rattle.aud_text.specs.Name.{capitals};
-ghost use Rattle.aud_grammar.specs.Grammar.{Word};
+ghost use Rattle.aud_grammar.specs.Grammar.{Word, Duration};
 ghost use Rattle.aud_grammar.specs.First.{next_in, next_spelled, same_text, spelling};
 ghost use Rattle.aud_cursor.specs.declared.cursor.Fault.TheVariants as fault;
 ghost use Rattle.aud_cursor.specs.Ties.Reads.{ReadsWord, ReadsToken, ReadsSpelled, Accepts, Chooses, Deepens};
@@ -144,6 +144,13 @@ pub(crate) fn spelled<'a>(start: Rest<'a>, wanted: &[u8]) -> Result<Rest<'a>, Fa
     }
     let (_, rest) = split(start);
     Ok(rest)
+}
+
+/// Passes the name of the predefined type Duration (RM 9.6).
+pub fn duration(start: Rest) -> Result<Rest, Fault>
+    ensures { ReadsSpelled Duration start.entry result }
+{
+    spelled(start, b"DURATION")
 }
 
 /// The levels that may be opened inside one more level, which the next token opens if it `begins`

@@ -1,16 +1,17 @@
-// Identifiers, string literals, and words of which only whether they are there is kept.
+// Identifiers, string literals, real numbers, and words of which only whether they are there is kept.
 
+ghost use Rattle.std.specs.Prelude.{◌≡◌};
 ghost use Rattle.aud_grammar.specs.Grammar as g;
 ghost use Rattle.aud_grammar.specs.Grammar.{Phrase, N, Opt, Rep};
-ghost use Rattle.aud_grammar.specs.Actions.{an_ident, a_literal};
+ghost use Rattle.aud_grammar.specs.Actions.{an_ident, a_literal, real_of, token};
 ghost use Rattle.aud_cursor.specs.Ties.Items.{vec_item, opt_item};
 ghost use Rattle.aud_cursor.specs.Ties.Parts.{IsBehind, IsMark, mark_item};
 ghost use Rattle.aud_cursor.specs.Ties.Reads.{ReadsFlat, MayReadFlat, TakesAny};
 
 use crate::cursor::{Read, Rest, accept, is, token};
-use crate::value::unquoted;
-use aud_lex::token::Kind;
-use aud_syntax::tree::{Ident, Literal};
+use crate::value::{real_value, unquoted};
+use aud_lex::token::{Kind, Token};
+use aud_syntax::tree::{Ident, Literal, Real};
 use aud_text::name::Name;
 use std::alloc::Global;
 
@@ -69,4 +70,17 @@ pub fn literal(alloc: Global, start: Rest) -> Read<Literal>
     let (t, rest) = token(start, Kind::Text)?;
     let text = unquoted(alloc, t.text())?;
     Ok((Literal { text, at: t.at() }, rest))
+}
+
+/// The real number that is written (RM 2.4).
+pub fn real_of(t: &Token) -> Real
+    ensures { result ≡ real_of (token t.now) }
+{
+    let (whole, thousandths) = real_value(t.text());
+    let at = t.at();
+    Real {
+        whole,
+        thousandths,
+        at,
+    }
 }

@@ -21,15 +21,15 @@ pub(crate) fn push_task(out: &mut Vec<u8>, state: &State, task: usize) -> Result
     Ok(())
 }
 
-// Its number.
-fn number_of(task: usize) -> Result<u64, AllocError>
+/// Its number, which counts from 1.
+pub(crate) fn number_of(task: usize) -> Result<u64, AllocError>
     ensures { IfOk result (λ number. number ≡ suc task) }
 {
     (task as u64).checked_add(1).ok_or(AllocError)
 }
 
-// Appends its name, that of an element of an array with its number.
-fn push_name(out: &mut Vec<u8>, state: &State, task: usize) -> Result<(), AllocError>
+/// Appends its name, that of an element of an array with its number.
+pub(crate) fn push_name(out: &mut Vec<u8>, state: &State, task: usize) -> Result<(), AllocError>
     ensures { Adds result out.old out.new (own_of task state.now).name }
 {
     let name = state.name(task);

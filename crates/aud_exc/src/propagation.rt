@@ -38,12 +38,9 @@ pub fn unwind(code: &SoundCode, place: usize) -> Option<usize>
     match &code.ending(end)?.last {
         Last::Ends(Construct::Unit, _) => None,
         Last::Ends(Construct::Block | Construct::Accept, _) | Last::Leaves { .. } => Some(end),
-        Last::Does(_, _)
-        | Last::DeclaresTasks(_, _)
-        | Last::Activates(_)
-        | Last::EndsActivation(_)
-        | Last::Continues { .. }
-        | Last::Guards(_) => Some(place),
+        Last::Does(_, _) | Last::Concerns(_, _) | Last::Continues { .. } | Last::Guards(_) => Some(
+            place,
+        ),
     }
 }
 

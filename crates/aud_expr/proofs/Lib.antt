@@ -2,3 +2,4 @@ pub mod Executed
 pub mod Instructions
 pub mod Closing
 pub mod Newest
+pub mod Marking

@@ -15,3 +15,4 @@ pub mod stack;
 mod texts;
 mod truths;
 mod variables;
+mod waiting;

@@ -1,17 +1,22 @@
-// What the instructions of a step work on: Integers, truth values, targets, arguments, and a text that grows.
+// What the instructions of a step work on: Integers, truth values, targets, arguments, tasks that are named, a text that grows, and
+// what is waited for.
 
-ghost use Rattle.std.specs.Prelude.{◌≡◌, ◌<◌, [], ◌∷◌, ◌++◌, None, reverse, length, OnOk};
+ghost use Rattle.std.specs.Prelude.{◌≡◌, ◌<◌, ◌≤◌, ◌+◌, [], ◌∷◌, ◌++◌, None, true, reverse, length, OnOk};
 ghost use Rattle.aud_text.specs.Integer.{image};
 ghost use Rattle.aud_meaning.specs.Evaluation.{image_of_truth};
-ghost use Rattle.aud_meaning.specs.Parts.{no_waits};
+ghost use Rattle.aud_typed.specs.Ties.View.{milliseconds_in};
 ghost use Rattle.aud_code.specs.Instruction.{Operands as Plain, no_operands};
-ghost use Rattle.aud_code.specs.Eval.{newest};
-ghost use Rattle.aud_expr.specs.Operands.{with_integer, with_truth, with_target};
+ghost use Rattle.aud_code.specs.Eval.{newest, is_next};
+ghost use Rattle.aud_expr.specs.Operands.{with_integer, with_truth, with_target, with_name, with_delay, with_waits, with_time, passed_next};
+ghost use Rattle.aud_text.specs.declared.limits.TheConstants.{CLOCK};
 
+use aud_meaning::state::{OpenAccept, OpenDelay};
 use aud_store::target::{Back, Target};
 use aud_text::int32::Int32;
+use aud_typed::program::Duration;
 use smallvec::SmallVec;
 use std::alloc::{AllocError, Global};
+use std::collections::VecDeque;
 use std::marker::Model;
 
 /// The operands of a step. Few steps have more than eight Integers or truth values at once.
@@ -23,9 +28,25 @@ pub struct Operands {
     text: Vec<u8>,
     values: Vec<Int32>,
     backs: Vec<Back>,
+    names: Vec<usize>,
+    delay: Duration,
+    accepts: Vec<OpenAccept>,
+    delays: VecDeque<OpenDelay>,
+    terminate: bool,
+    timed: Vec<OpenDelay>,
 }
 
+/// No time.
+const NOW: Duration = Duration {
+    seconds: 0,
+    thousandths: 0,
+};
+
 impl Model for Operands {
+    ghost use Rattle.std.specs.Prelude.{None, reverse};
+    ghost use Rattle.aud_code.specs.Instruction.{Operands as Plain};
+    ghost use Rattle.aud_typed.specs.Ties.View.{milliseconds_in};
+
     ghost Value = { Plain };
 
     ghost view = { λ o. record {
@@ -35,11 +56,11 @@ impl Model for Operands {
       text = o.text.items;
       values = o.values.items;
       backs = o.backs.items;
-      names = [];
-      delay = 0;
+      names = o.names.items;
+      delay = milliseconds_in o.delay;
       cells = None;
-      waits = no_waits;
-      timed = [];
+      waits = record { accepts = o.accepts.items; delays = o.delays.items; terminate = o.terminate };
+      timed = o.timed.items;
     } };
 }
 
@@ -55,6 +76,12 @@ impl Operands {
             text: Vec::new(alloc),
             values: Vec::new(alloc),
             backs: Vec::new(alloc),
+            names: Vec::new(alloc),
+            delay: NOW,
+            accepts: Vec::new(alloc),
+            delays: VecDeque::new(alloc),
+            terminate: false,
+            timed: Vec::new(alloc),
         }
     }
 
@@ -68,6 +95,12 @@ impl Operands {
         self.text.clear();
         self.values.clear();
         self.backs.clear();
+        self.names.clear();
+        self.delay = NOW;
+        self.accepts.clear();
+        self.delays.clear();
+        self.terminate = false;
+        self.timed.clear();
     }
 
     /// One more Integer. No object is being declared, as yet.
@@ -178,6 +211,130 @@ impl Operands {
         &self.backs
     }
 
+    /// One more task that is named, by its number.
+    pub fn name(&mut self, task: usize) -> Result<(), AllocError>
+        ensures { OnOk result (self.new ≡ with_name task self.old) }
+    {
+        self.names.push(task)?;
+        Ok(())
+    }
+
+    /// The tasks that are named so far.
+    pub fn names(&self) -> &[usize]
+        ensures { result.now ≡ self.now.names }
+    {
+        &self.names
+    }
+
+    /// The first of them.
+    pub fn callee(&self) -> Option<usize>
+        ensures { result ≡ newest self.now.names }
+    {
+        match &*self.names {
+            [callee, ..] => Some(*callee),
+            [] => None,
+        }
+    }
+
+    /// The time that is waited for.
+    pub fn set_delay(&mut self, delay: Duration)
+        ensures { self.new ≡ with_delay (milliseconds_in delay) self.old }
+    {
+        self.delay = delay;
+    }
+
+    /// The time that is waited for.
+    pub fn delay(&self) -> Duration
+        ensures { milliseconds_in result ≡ self.now.delay }
+    {
+        self.delay
+    }
+
+    /// One more accept that is open.
+    pub fn open_accept(&mut self, accept: OpenAccept) -> Result<(), AllocError>
+        ensures { OnOk result (self.new ≡ with_waits (record self.old.waits {
+          accepts = self.old.waits.accepts ++ accept ∷ [];
+        }) self.old) }
+    {
+        self.accepts.push(accept)?;
+        Ok(())
+    }
+
+    /// One more delay that is open, that of the alternative of this number, without a time.
+    pub fn open_delay(&mut self, alternative: usize) -> Result<(), AllocError>
+        ensures { OnOk result (self.new ≡ with_waits (record self.old.waits {
+          delays = self.old.waits.delays
+              ++ record { alternative = alternative; time = 0 } ∷ [];
+        }) self.old) }
+    {
+        self.delays.push_back(OpenDelay {
+            alternative,
+            time: 0,
+        })?;
+        Ok(())
+    }
+
+    /// A terminate alternative is open.
+    pub fn open_terminate(&mut self)
+        ensures { self.new ≡ with_waits (record self.old.waits { terminate = true }) self.old }
+    {
+        self.terminate = true;
+    }
+
+    /// Takes the next open delay without a time, if it is that of the alternative of this number. Whether it is.
+    pub fn take_next(&mut self, alternative: usize) -> bool
+        ensures next { result ≡ is_next alternative self.old.waits.delays }
+        ensures left { self.new ≡ passed_next alternative self.old }
+    {
+        let is_next = self.is_next(alternative);
+        if is_next {
+            let _ = self.delays.pop_front();
+        }
+        is_next
+    }
+
+    // Whether the next open delay without a time is that of the alternative of this number.
+    fn is_next(&self, alternative: usize) -> bool
+        ensures { result ≡ is_next alternative self.now.waits.delays }
+    {
+        match self.delays.front() {
+            Some(delay) => delay.alternative == alternative,
+            None => false,
+        }
+    }
+
+    /// The open delay of the alternative of this number ends when the time has passed that is waited for.
+    pub fn set_time(&mut self, alternative: usize, clock: u64) -> Result<(), AllocError>
+        requires { clock ≤ CLOCK }
+        ensures { OnOk result (self.new ≡ with_time alternative clock self.old) }
+    {
+        let time = time_behind(clock, self.delay);
+        self.timed.push(OpenDelay { alternative, time })?;
+        self.delay = NOW;
+        Ok(())
+    }
+
+    /// The accepts that are open.
+    pub fn accepts(&self) -> &[OpenAccept]
+        ensures { result.now ≡ self.now.waits.accepts }
+    {
+        &self.accepts
+    }
+
+    /// The open delays that have their times.
+    pub fn timed(&self) -> &[OpenDelay]
+        ensures { result.now ≡ self.now.timed }
+    {
+        &self.timed
+    }
+
+    /// Whether a terminate alternative is open.
+    pub fn is_terminating(&self) -> bool
+        ensures { result ≡ self.now.waits.terminate }
+    {
+        self.terminate
+    }
+
     /// Puts bytes at the end of the text.
     pub fn append(&mut self, bytes: &[u8]) -> Result<(), AllocError>
         ensures { OnOk result (self.new ≡ record self.old { text = self.old.text ++ bytes.now }) }
@@ -211,4 +368,12 @@ impl Operands {
     {
         &self.text
     }
+}
+
+// When a time ends that begins at another one.
+fn time_behind(clock: u64, delay: Duration) -> u64
+    requires { clock ≤ CLOCK }
+    ensures { result ≡ clock + milliseconds_in delay }
+{
+    clock + delay.milliseconds()
 }

@@ -1,16 +1,21 @@
 -- In a program in memory, declarative parts alone activate tasks.
 use Rattle.std.proofs.Common.{List, [], ◌∷◌, ◌++◌, map, Bool, true, false, refl}
 use Rattle.aud_text.specs.declared.place.Pos.{Pos}
-use Rattle.aud_typed.specs.declared.program.Statement.{Statement, Declare, DeclareArray, DeclareTasks, Activated, Null, Assign, Put, If', While', Loop', For', Exit, Raise, RaiseAgain, Block', Return, ProcedureCall, Row_of-Statement, end_of-Statement, more_of-Statement}
+use Rattle.aud_typed.specs.declared.program.Statement.{Statement, Declare, DeclareArray, DeclareTasks, Activated, Null, Assign, Put, If', While', Loop', For', Exit, Raise, RaiseAgain, Block', Return, ProcedureCall, EntryCall', Delay, Accept', Select', Row_of-Statement, end_of-Statement, more_of-Statement}
 use Rattle.aud_typed.specs.declared.program.IfStatement.{IfStatement, IfStatement', Row_of-Arm, end_of-Arm, more_of-Arm}
 use Rattle.aud_typed.specs.declared.program.BlockStatement.{BlockStatement, BlockStatement'}
+use Rattle.aud_typed.specs.declared.program.AcceptStatement.{AcceptStatement, AcceptStatement', Held-AcceptStatement-doing, None', Some'}
+use Rattle.aud_typed.specs.declared.program.Doing.{Doing, Doing'}
+use Rattle.aud_typed.specs.declared.program.SelectStatement.{Row_of-Alternative, end_of-Alternative, more_of-Alternative}
+use Rattle.aud_typed.specs.declared.program.Alternative as alternative
+use Rattle.aud_typed.specs.declared.program.Alternative.{Alternative}
 use Rattle.aud_typed.specs.declared.program.Body.{Body, Body', Row_of-Handler, end_of-Handler, more_of-Handler}
 use Rattle.aud_typed.specs.declared.program.Unit as declared
 use Rattle.aud_typed.specs.declared.program.Program.{Program}
 use Rattle.aud_typed.specs.Tree as tree
 use Rattle.aud_typed.specs.Tree.{before, part_of, activation, Part}
-use Rattle.aud_typed.specs.Ties.View.{plain_statement, plain_row, plain_if, plain_arms, plain_block, plain_handlers, plain_body, plain_unit, plain_program}
-use Rattle.aud_layout.specs.Activations.{StatementActivates, PartActivates, HandlersActivate, BodyActivates, BodiesActivate, ActivatesInParts}
+use Rattle.aud_typed.specs.Ties.View.{plain_statement, plain_row, plain_if, plain_arms, plain_block, plain_accept, plain_held, plain_doing, plain_alternatives, plain_alternative, plain_handlers, plain_body, plain_unit, plain_program}
+use Rattle.aud_layout.specs.Activations.{StatementActivates, PartActivates, HandlersActivate, BodyActivates, DoingActivates, OfferedActivates, BodiesActivate, ActivatesInParts}
 
 -- Of a list.
 
@@ -53,6 +58,10 @@ mutual
   statement_activates declares (Block' _ b) = block_activates declares b
   statement_activates declares (Return at) = tt
   statement_activates declares (ProcedureCall at unit arguments) = tt
+  statement_activates declares (EntryCall' _ at task entry arguments form _ after _ otherwise) = (part_activates false (plain_row after) (row_activates false after), part_activates false (plain_row otherwise) (row_activates false otherwise))
+  statement_activates declares (Delay at e) = tt
+  statement_activates declares (Accept' _ s) = accept_activates declares s
+  statement_activates declares (Select' _ at _ alternatives _ otherwise) = (alternatives_activate alternatives, part_activates false (plain_row otherwise) (row_activates false otherwise))
 
   row_activates : (declares : Bool) {n : _} (row : Row_of-Statement n) → ListActivates declares (plain_row row)
   row_activates declares end_of-Statement = tt
@@ -73,6 +82,25 @@ mutual
 
   block_activates : (declares : Bool) (s : BlockStatement) → StatementActivates declares (plain_block s)
   block_activates declares (BlockStatement' at region b) = body_activates b
+
+  accept_activates : (declares : Bool) (s : AcceptStatement) → StatementActivates declares (plain_accept s)
+  accept_activates declares (AcceptStatement' at entry doing) = held_activates doing
+
+  held_activates : (doing : Held-AcceptStatement-doing) → DoingActivates (plain_held doing)
+  held_activates None' = tt
+  held_activates (Some' d) = doing_activates d
+
+  doing_activates : (d : Doing) → DoingActivates (plain_doing d)
+  doing_activates (Doing' region b) = body_activates b
+
+  alternatives_activate : {n : _} (row : Row_of-Alternative n) → OfferedActivates (plain_alternatives row)
+  alternatives_activate end_of-Alternative = tt
+  alternatives_activate (more_of-Alternative a rest) = alternative_activates a (plain_alternatives rest) (alternatives_activate rest)
+
+  alternative_activates : (a : Alternative) (rest : tree.Alternatives) → OfferedActivates rest → OfferedActivates (plain_alternative a rest)
+  alternative_activates (alternative.Accept' guard (AcceptStatement' at entry doing) _ after) rest k = (held_activates doing, (part_activates false (plain_row after) (row_activates false after), k))
+  alternative_activates (alternative.Delay' guard e _ after) rest k = (part_activates false (plain_row after) (row_activates false after), k)
+  alternative_activates (alternative.Terminate guard) rest k = k
 
   handlers_activate : {n : _} (row : Row_of-Handler n) → HandlersActivate (plain_handlers row)
   handlers_activate end_of-Handler = tt

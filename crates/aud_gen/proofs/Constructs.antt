@@ -1,5 +1,5 @@
 -- The lines of `for` loops, blocks and bodies in memory.
-use Rattle.std.proofs.Common.{◌≡◌, ℕ, zero, suc, ◌+◌, ◌<◌, List, [], ◌∷◌, ◌++◌, length, drop, refl, ap, sym, ◌∙◌, arith, length-append}
+use Rattle.std.proofs.Common.{◌≡◌, ℕ, suc, ◌+◌, List, [], ◌∷◌, ◌++◌, length, refl, ap, sym, ◌∙◌, arith, length-append}
 use Rattle.std.specs.Prelude.{Option, Some, None, map, Result, Ok, Err}
 use Rattle.std.specs.declared.alloc.AllocError.{AllocError}
 use Rattle.aud_text.specs.declared.place.Pos.{Pos}
@@ -13,12 +13,10 @@ use Rattle.aud_meaning.specs.declared.state.Construct.TheVariants as construct
 use Rattle.aud_code.specs.Places.{Way, Guard}
 use Rattle.aud_code.specs.Instruction.{Instruction}
 use Rattle.aud_code.specs.Flat.{FlatLine, instructs}
-use Rattle.aud_code.specs.View.{plain_way}
-use Rattle.aud_code.specs.declared.line.Way.{Way as Away}
 use Rattle.aud_code.specs.declared.line.Last.TheVariants.{Does, Ends}
 use Rattle.aud_code.specs.declared.line.Ending.TheVariants.{Block}
 use Rattle.aud_layout.specs.Instructions.{integer_code}
-use Rattle.aud_layout.specs.Layout.{Line, Around, in_for, in_block, stub_ways, in_call, around_out, ways_count, continues, line, end_line, stubs, stubs_of, guard_line_by, body_size_by, end_place_by, main_size_by, statement_size_by, part_size_by, statement_code_by, part_code_by, handlers_code_by, body_code_by}
+use Rattle.aud_layout.specs.Layout.{Line, Around, in_for, in_block, in_call, around_out, ways_count, continues, line, end_line, stubs, stubs_of, guard_line_by, body_size_by, end_place_by, main_size_by, statement_size_by, part_size_by, statement_code_by, part_code_by, handlers_code_by, body_code_by}
 use Rattle.aud_layout.specs.Assembly.{end_line as moved_end, step_lines}
 use Rattle.aud_layout.specs.Written.{flat_step, written}
 use Rattle.aud_layout.proofs.Flat.Assembly.{assembled_append, its_length}

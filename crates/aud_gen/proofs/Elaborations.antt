@@ -6,7 +6,8 @@ use Rattle.aud_text.specs.declared.place.Pos.{Pos}
 use Rattle.aud_typed.specs.Tree as tree
 use Rattle.aud_typed.specs.Tree.{before, part_of, activate, sequence, activation}
 use Rattle.aud_code.specs.Flat.{FlatLine}
-use Rattle.aud_code.specs.declared.line.Last.TheVariants.{Activates}
+use Rattle.aud_code.specs.declared.line.Among.TheVariants.{Activate}
+use Rattle.aud_code.specs.declared.line.Last.TheVariants.{Concerns}
 use Rattle.aud_layout.specs.Layout.{Around, ways_count, statement_size_by, part_size_by, statement_code_by}
 use Rattle.aud_layout.specs.Written.{flat_step}
 use Rattle.aud_layout.proofs.Flat.Assembly.{assembled_append}
@@ -59,18 +60,18 @@ last_of s (u ∷ us) t place next a = one_before s (before u us) (before u (us +
 
 activated_lines : (xs : List tree.Statement) (at : Pos) (place next : ℕ) (a : Around) →
     let behind = place + sizes xs (ways_count a) in
-    part_lines (part_of xs) place behind a ++ ended (Activates next) at a.out a.within ≡ part_lines (part_of (xs ++ activation true at)) place next a
+    part_lines (part_of xs) place behind a ++ ended (Concerns Activate next) at a.out a.within ≡ part_lines (part_of (xs ++ activation true at)) place next a
 activated_lines [] at place next a = refl
 activated_lines (x ∷ xs) at place next a = sym (last_of x xs (activate at) place next a)
 
 -- by what is written of them
 pub whole_activated : {X : Type 0} (r : Result X AllocError) (xs : List tree.Statement) (at : Pos) (old mid new : List FlatLine) (behind next : ℕ) (a : Around) → behind ≡ length old + sizes xs (ways_count a) →
-    mid ≡ old ++ part_lines (part_of xs) (length old) behind a → Writes r mid new (ended (Activates next) at a.out a.within) →
+    mid ≡ old ++ part_lines (part_of xs) (length old) behind a → Writes r mid new (ended (Concerns Activate next) at a.out a.within) →
     Writes r old new (part_lines (part_of (xs ++ activation true at)) (length old) next a)
 whole_activated (Err x) xs at old mid new behind next a e h k = tt
 whole_activated (Ok x) xs at old mid new behind next a e h k =
     let A = part_lines (part_of xs) (length old) in
-    let L = ended (Activates next) at a.out a.within in
+    let L = ended (Concerns Activate next) at a.out a.within in
     k
     ∙ ap (λ ls. ls ++ L) h
     ∙ ap (λ n. (old ++ A n a) ++ L) e

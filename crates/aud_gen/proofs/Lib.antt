@@ -7,6 +7,7 @@ pub mod Activations
 pub mod Constructs
 pub mod Counted
 pub mod Arguments
+pub mod Entering
 pub mod Units
 pub mod Tables
 pub mod Openings

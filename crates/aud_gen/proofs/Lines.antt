@@ -30,7 +30,7 @@ pub passed_over : (b : Bool) (x y : ℕ) → IsFalse b → (if b then x else y) 
 passed_over b x y h = ap (λ m. if m then x else y) h
 
 -- lines count as many as they are
-written_length : (lines : List Line) → length (written lines) ≡ total flat_step adds lines
+pub written_length : (lines : List Line) → length (written lines) ≡ total flat_step adds lines
 written_length [] = refl
 written_length (l ∷ ls) = omega (arith, length-append (step_lines (λ n. n) l) (written ls), its_length (instructions_by l.what) (moved_end (λ n. n) l), written_length ls, total_more l ls)
 

@@ -5,7 +5,7 @@ use Rattle.std.proofs.lemmas.List.{drop_all, get_or_append_left}
 use Rattle.aud_typed.specs.declared.program.Unit as declared
 use Rattle.aud_typed.specs.declared.program.TaskType.{TaskType}
 use Rattle.aud_typed.specs.Tree as tree
-use Rattle.aud_typed.specs.Ties.View.{plain_unit}
+use Rattle.aud_typed.specs.Ties.View.{plain_task_type, plain_unit}
 use Rattle.aud_code.specs.Flat.{EndLine, FlatLine}
 use Rattle.aud_code.specs.Frames.{found}
 use Rattle.aud_layout.specs.Layout.{body_size_by, starts_from_by, spare_from_by}
@@ -128,7 +128,7 @@ pub levels_open : (us : List declared.Unit) → map level_in us ≡ map level_of
 levels_open [] = refl
 levels_open (u ∷ us) = ap (λ ns. u.level ∷ ns) (levels_open us)
 
-pub types_open : (ts : List TaskType) → map body_in_type ts ≡ map body_of (map tree.task_of_unit (map (λ (t : TaskType). t.unit) ts))
+pub types_open : (ts : List TaskType) → map body_in_type ts ≡ map body_of (map plain_task_type ts)
 types_open [] = refl
 types_open (t ∷ ts) = ap (λ ns. t.unit ∷ ns) (types_open ts)
 

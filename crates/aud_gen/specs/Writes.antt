@@ -3,23 +3,28 @@ use Rattle.std.specs.Prelude.{◌≡◌, ℕ, suc, ◌+◌, ◌-◌, ◌^◌, mi
 use Rattle.std.specs.declared.alloc.AllocError.{AllocError}
 use Rattle.aud_text.specs.declared.place.Pos.{Pos}
 use Rattle.aud_typed.specs.Tree as tree
-use Rattle.aud_typed.specs.Tree.{For, nothing, some, body, if_then, while_loop, for_loop}
+use Rattle.aud_typed.specs.Tree.{For, part_of, nothing, some, body, if_then, while_loop, for_loop}
 use Rattle.aud_typed.specs.declared.program.Connective.{Connective}
 use Rattle.aud_typed.specs.declared.program.Connective.TheVariants.{Logical, AndThen, OrElse}
 use Rattle.aud_typed.specs.declared.program.Arm.{Arm}
 use Rattle.aud_typed.specs.declared.program.ForStatement.{ForStatement, out-ForStatement}
+use Rattle.aud_typed.specs.declared.program.EntryCallStatement.{EntryCallStatement, out-EntryCallStatement}
+use Rattle.aud_typed.specs.declared.program.AcceptStatement.{AcceptStatement}
+use Rattle.aud_typed.specs.declared.program.SelectStatement.{SelectStatement, out-SelectStatement}
+use Rattle.aud_typed.specs.declared.program.Alternative.{Alternative}
 use Rattle.aud_typed.specs.declared.program.Unit as declared
-use Rattle.aud_typed.specs.Ties.View.{plain_integer, plain_boolean, statements_in, body_in}
+use Rattle.aud_typed.specs.Ties.View.{plain_integer, plain_boolean, plain_statements, statements_in, body_in, plain_alternative, alternatives_in, entry_call_in, accept_in, select_in}
 use Rattle.aud_meaning.specs.declared.state.Construct.{Construct}
 use Rattle.aud_meaning.specs.Items.{no_body}
 use Rattle.aud_code.specs.Places.{Way}
-use Rattle.aud_code.specs.Instruction.{Instruction, Combine, PassIfFalse, PassIfTrue}
+use Rattle.aud_code.specs.Instruction.{Instruction, Combine, Mark, PassIfFalse, PassIfTrue}
 use Rattle.aud_code.specs.Flat as flat
 use Rattle.aud_code.specs.Flat.{FlatLine, Flat}
-use Rattle.aud_code.specs.View.{plain_way, plain_end}
+use Rattle.aud_code.specs.View.{plain_end}
 use Rattle.aud_code.specs.declared.line.Last.{Last}
-use Rattle.aud_layout.specs.Instructions.{condition_code}
-use Rattle.aud_layout.specs.Layout.{Around, ways_count, around_out, in_call, continues, line, end_line, stubs, guard_line_by, statement_size_by, part_size_by, statement_code_by, part_code_by, handlers_code_by, unit_code_by}
+use Rattle.aud_code.specs.declared.line.Offer.{Offer}
+use Rattle.aud_layout.specs.Instructions.{condition_code, guards_code, delays_code}
+use Rattle.aud_layout.specs.Layout.{Around, ways_count, around_out, in_call, continues, line, end_line, part_place, stubs, guard_line_by, statement_size_by, part_size_by, offered_size_by, parts_from_by, bodies_from_by, statement_code_by, part_code_by, doing_code_by, offered_code_by, handlers_code_by, unit_code_by}
 use Rattle.aud_layout.specs.Assembly.{within_moved, step_lines}
 use Rattle.aud_layout.specs.Written.{flat_step, written, written_bodies}
 
@@ -32,6 +37,14 @@ counted n = min n (2 ^ 64 - 1)
 -- the condition of an arm, its step, its statements
 abbrev pub arm_length : Arm → ℕ → ℕ
 arm_length arm ways = suc (statement_size_by flat_step (statements_in arm.statements) ways + length (condition_code (plain_boolean arm.condition)))
+
+-- an alternative by itself
+abbrev pub alone : Alternative → tree.Alternatives
+alone a = plain_alternative a tree.no_alternatives
+
+-- what its accept does, and what stands behind that
+abbrev pub alternative_size : Alternative → ℕ → ℕ
+alternative_size a ways = offered_size_by flat_step (alone a) ways
 
 -- Lines.
 
@@ -90,6 +103,50 @@ for_lines s place again next out within =
     let o = out-ForStatement s in
     let f : For = record { at = o.at; next_at = o.next_at; region = o.region; backward = o.backward } in
     written (line (for_loop f (plain_integer o.first) (plain_integer o.last) (tree.null o.at)) (next ∷ suc again ∷ []) [] None (in_call within out) ∷ record { what = continues f; at = f.next_at; out = out; within = Some place; ways = next ∷ suc again ∷ []; bodies = []; exit = None } ∷ [])
+
+-- the step of an entry call, which leads to two places
+abbrev pub call_lines : EntryCallStatement → (next otherwise out : ℕ) → Option ℕ → List FlatLine
+call_lines s next otherwise out within = written (line (entry_call_in s) (next ∷ otherwise ∷ []) [] None (in_call within out) ∷ [])
+
+-- that step at a place, behind which stands what follows the call, and then what is done where it is left
+abbrev pub call_step : EntryCallStatement → (place next : ℕ) → Around → List FlatLine
+call_step s place next a =
+    let o = out-EntryCallStatement s in
+    let p = part_of (plain_statements o.after.items) in
+    let inside = flat_step (entry_call_in s) place in
+    let second = inside + part_size_by flat_step p (ways_count a) in
+    call_lines s (part_place p inside next) (part_place (part_of (plain_statements o.otherwise.items)) second next) a.out a.within
+
+-- the step of an accept, which leads to what it does
+abbrev pub accept_lines : AcceptStatement → (start next out : ℕ) → Option ℕ → List FlatLine
+accept_lines s start next out within = written (line (accept_in s) (next ∷ []) (start ∷ []) None (in_call within out) ∷ [])
+
+-- the instructions of a selective accept; its step, which stands at a place
+abbrev pub choice_code : tree.Alternatives → List Instruction
+choice_code offered = guards_code 1 offered ++ (Mark ∷ delays_code 1 offered)
+
+abbrev pub select_lines : SelectStatement → (own otherwise : ℕ) → (ways bodies : List ℕ) → (out : ℕ) → Option ℕ → List FlatLine
+select_lines s own otherwise ways bodies out within = written (line (select_in s) (otherwise ∷ ways) (own ∷ bodies) None (in_call within out) ∷ [])
+
+-- behind it stands what lies in the alternatives, and then the else part
+abbrev pub select_step : SelectStatement → (place next : ℕ) → Around → List FlatLine
+select_step s place next a =
+    let o = out-SelectStatement s in
+    let offered = alternatives_in o.alternatives.items in
+    let inside = flat_step (select_in s) place in
+    let second = inside + offered_size_by flat_step offered (ways_count a) in
+    select_lines s place (part_place (part_of (plain_statements o.otherwise.items)) second next) (parts_from_by flat_step offered inside next (ways_count a)) (bodies_from_by flat_step offered inside next (ways_count a)) a.out a.within
+
+-- where an alternative leads in which lies what stands from a place on, whatever leads out
+abbrev pub IsOffer : Offer → Alternative → (place next : ℕ) → Type 0
+IsOffer o a place next = (ways : ℕ) → (parts_from_by flat_step (alone a) place next ways ≡ o.behind ∷ []) × (bodies_from_by flat_step (alone a) place next ways ≡ o.body ∷ [])
+
+-- what an accept does whose step stands at the place opener; what lies in alternatives
+abbrev pub doing_lines : tree.Doing → (opener place next out : ℕ) → List FlatLine
+doing_lines d opener place next out = written (doing_code_by flat_step d opener place next out)
+
+abbrev pub offered_lines : tree.Alternatives → (opener place next : ℕ) → Around → List FlatLine
+offered_lines offered opener place next a = written (offered_code_by flat_step offered opener place next a)
 
 -- lines by which a block is left on these ways, the first of them at a place
 abbrev pub stub_lines : List Way → Pos → Option ℕ → ℕ → List FlatLine

@@ -1,10 +1,10 @@
 // The instructions of expressions and arguments.
 
 ghost use Rattle.std.specs.Prelude.{map};
-ghost use Rattle.aud_typed.specs.Ties.View.{plain_argument, plain_arguments};
+ghost use Rattle.aud_typed.specs.Ties.View.{plain_argument, plain_arguments, plain_delay, plain_form};
 ghost use Rattle.aud_typed.specs.Ties.View.{plain_integer, plain_task, plain_boolean, plain_value, plain_reference, plain_text};
 ghost use Rattle.aud_code.specs.Flat.{instructs};
-ghost use Rattle.aud_layout.specs.Instructions.{argument_code, arguments_code, copied_code};
+ghost use Rattle.aud_layout.specs.Instructions.{argument_code, arguments_code, copied_code, delay_code, form_code};
 ghost use Rattle.aud_layout.specs.Instructions.{integer_code, task_code, condition_code, value_code, reference_code, text_code};
 ghost use Rattle.aud_gen.specs.Writes.{right_code, Writes};
 
@@ -13,8 +13,8 @@ use crate::writer::{Writer, Written};
 use aud_code::instruction::Instruction;
 use aud_meaning::values::nearest_zero;
 use aud_typed::program::{
-    Argument, BooleanExpression, Connective, IntegerExpression, Reference, Subtype, TaskName,
-    TextExpression, ValueExpression,
+    Argument, BooleanExpression, CallForm, Connective, DelayExpression, IntegerExpression,
+    Reference, Subtype, TaskName, TextExpression, ValueExpression,
 };
 
 impl Writer {
@@ -26,6 +26,7 @@ impl Writer {
         match e {
             IntegerExpression::Number(value) => self.instruct(Instruction::Push(*value)),
             IntegerExpression::Variable(v) => self.instruct(Instruction::Load(*v)),
+            IntegerExpression::Count(v, entry) => self.instruct(Instruction::Count(*v, *entry)),
             IntegerExpression::Element(array, index) => {
                 self.write_integer(index)?;
                 self.instruct(Instruction::LoadElement(*array))
@@ -45,8 +46,8 @@ impl Writer {
         }
     }
 
-    // The number of a task.
-    fn write_task(&mut self, t: &TaskName) -> Written
+    /// The number of a task.
+    pub fn write_task(&mut self, t: &TaskName) -> Written
         ensures { Writes result self.old self.new (map instructs (task_code (plain_task t.now))) }
     {
         match t {
@@ -197,6 +198,30 @@ impl Writer {
             self.instruct(Instruction::Check(formal))
         } else {
             self.instruct(Instruction::Push(nearest_zero(formal)))
+        }
+    }
+
+    /// A delay.
+    pub fn write_delay(&mut self, e: &DelayExpression) -> Written
+        ensures { Writes result self.old self.new (map instructs (delay_code (plain_delay e.now))) }
+    {
+        match e {
+            DelayExpression::Fixed(time) => self.instruct(Instruction::Milliseconds(*time)),
+            DelayExpression::Seconds(x) => {
+                self.write_integer(x)?;
+                self.instruct(Instruction::Seconds)
+            }
+        }
+    }
+
+    /// The time that a call waits.
+    pub fn write_form(&mut self, form: &CallForm) -> Written
+        ensures { Writes result self.old self.new (map instructs (form_code (plain_form form.now))) }
+    {
+        match form {
+            CallForm::Plain => Ok(()),
+            CallForm::Conditional => Ok(()),
+            CallForm::Timed(e) => self.write_delay(e),
         }
     }
 

@@ -2,19 +2,22 @@
 
 ghost use Rattle.std.specs.Prelude.{◌≡◌, ◌+◌, ◌^◌, ◌-◌, ◌<◌, ℕ, length, IfOk};
 ghost use Rattle.aud_typed.specs.Tree.{part_of};
+ghost use Rattle.aud_typed.specs.Ties.View.{alternatives_in, doing_in, entry_call_in, select_in, plain_delay, plain_form};
 ghost use Rattle.aud_typed.specs.Ties.View.{plain_argument, plain_arguments};
 ghost use Rattle.aud_typed.specs.Ties.View.{plain_integer, plain_task, plain_boolean, plain_value, plain_reference, plain_text, plain_statement, plain_statements, statements_in, if_in, for_in, handlers_in, elaborations_in, body_in, block_in};
 ghost use Rattle.aud_typed.specs.declared.program.Subtype.{Subtype};
 ghost use Rattle.aud_layout.specs.Instructions.{argument_code, arguments_code, copied_code};
+ghost use Rattle.aud_layout.specs.Instructions.{delay_code, form_code, guards_code, delays_code, instructions_of};
 ghost use Rattle.aud_layout.specs.Instructions.{integer_code, task_code, condition_code, value_code, reference_code, text_code};
-ghost use Rattle.aud_layout.specs.Layout.{statement_size_by, part_size_by, handlers_size_by, body_size_by, end_place_by};
+ghost use Rattle.aud_layout.specs.Layout.{statement_size_by, part_size_by, handlers_size_by, body_size_by, end_place_by, doing_size_by, offered_size_by};
 ghost use Rattle.aud_layout.specs.Written.{flat_step};
-ghost use Rattle.aud_gen.specs.Writes.{arm_length, counted};
+ghost use Rattle.aud_gen.specs.Writes.{alone, alternative_size, arm_length, choice_code, counted};
 
 use aud_layout::sum::sum;
 use aud_typed::program::{
-    Argument, Arm, BlockStatement, Body, BooleanExpression, ForStatement, Handler, IfStatement,
-    IntegerExpression, Reference, Statement, Statements, TaskName, TextExpression, ValueExpression,
+    Alternative, Argument, Arm, BlockStatement, Body, BooleanExpression, CallForm, DelayExpression,
+    Doing, EntryCallStatement, ForStatement, Handler, IfStatement, IntegerExpression, Reference,
+    SelectStatement, Statement, Statements, TaskName, TextExpression, ValueExpression,
 };
 use std::alloc::AllocError;
 
@@ -25,6 +28,7 @@ pub fn integer_length(e: &IntegerExpression) -> usize
     match e {
         IntegerExpression::Number(_) => 1,
         IntegerExpression::Variable(_) => 1,
+        IntegerExpression::Count(..) => 1,
         IntegerExpression::Element(_, index) => integer_length(index).saturating_add(1),
         IntegerExpression::Unary(_, x) => integer_length(x).saturating_add(1),
         IntegerExpression::Chain(first, rest) => {
@@ -152,6 +156,90 @@ pub fn arguments_length(arguments: &[Argument]) -> usize
     total
 }
 
+/// Of a delay.
+pub fn delay_length(e: &DelayExpression) -> usize
+    ensures { result ≡ counted (length (delay_code (plain_delay e.now))) }
+{
+    match e {
+        DelayExpression::Fixed(_) => 1,
+        DelayExpression::Seconds(x) => integer_length(x).saturating_add(1),
+    }
+}
+
+// Of the time that a call waits.
+fn form_length(form: &CallForm) -> usize
+    ensures { result ≡ counted (length (form_code (plain_form form.now))) }
+{
+    match form {
+        CallForm::Plain => 0,
+        CallForm::Conditional => 0,
+        CallForm::Timed(e) => delay_length(e),
+    }
+}
+
+/// Of the instructions of an entry call.
+pub fn call_length(call: &EntryCallStatement) -> usize
+    ensures { result ≡ counted (length (instructions_of (entry_call_in call.now))) }
+{
+    task_length(&call.task)
+        .saturating_add(arguments_length(&call.arguments))
+        .saturating_add(form_length(&call.form))
+        .saturating_add(2)
+}
+
+/// Of the instructions of a selective accept: the guards of its alternatives, the mark, and their delays.
+pub fn choice_length(alternatives: &[Alternative]) -> usize
+    ensures { result ≡ counted (length (choice_code (alternatives_in alternatives.now))) }
+{
+    guards_length(alternatives)
+        .saturating_add(delays_length(alternatives))
+        .saturating_add(1)
+}
+
+fn guards_length(alternatives: &[Alternative]) -> usize
+    ensures { result ≡ counted (length (guards_code 1 (alternatives_in alternatives.now))) }
+{
+    let mut total: usize = 0;
+    for alternative in alternatives {
+        total = total.saturating_add(guard_length(alternative));
+    }
+    total
+}
+
+// Of the guard of an alternative, whatever its number.
+fn guard_length(alternative: &Alternative) -> usize
+    ensures { (number : ℕ) →
+        result ≡ counted (length (guards_code number (alone alternative.now))) }
+{
+    match alternative {
+        Alternative::Accept { guard, .. } => boolean_length(guard).saturating_add(1),
+        Alternative::Delay { guard, .. } => boolean_length(guard).saturating_add(1),
+        Alternative::Terminate { guard } => boolean_length(guard).saturating_add(1),
+    }
+}
+
+fn delays_length(alternatives: &[Alternative]) -> usize
+    ensures { result ≡ counted (length (delays_code 1 (alternatives_in alternatives.now))) }
+{
+    let mut total: usize = 0;
+    for alternative in alternatives {
+        total = total.saturating_add(time_length(alternative));
+    }
+    total
+}
+
+// Of the delay of an alternative, whatever its number.
+fn time_length(alternative: &Alternative) -> usize
+    ensures { (number : ℕ) →
+        result ≡ counted (length (delays_code number (alone alternative.now))) }
+{
+    match alternative {
+        Alternative::Accept { .. } => 0,
+        Alternative::Delay { delay, .. } => delay_length(delay).saturating_add(2),
+        Alternative::Terminate { .. } => 0,
+    }
+}
+
 /// A length that has not stopped at the largest number.
 ///
 /// # Errors
@@ -206,6 +294,78 @@ pub fn statement_length(s: &Statement, ways: usize) -> Result<usize, AllocError>
         }
         Statement::DeclareTasks(..) => Ok(1),
         Statement::Activated(_) => Ok(1),
+        Statement::EntryCall(call) => entry_call_length(call, ways),
+        Statement::Delay(_, e) => exact(delay_length(e).saturating_add(1)),
+        Statement::Accept(accept) => sum(doing_length(&accept.doing)?, 1),
+        Statement::Select(select) => select_length(select, ways),
+    }
+}
+
+// The step of the call, the statements behind it, and those behind its `else` or delay.
+#[cycle(lengths)]
+fn entry_call_length(call: &EntryCallStatement, ways: usize) -> Result<usize, AllocError>
+    ensures { IfOk result (λ n. n ≡ statement_size_by flat_step (entry_call_in call.now) ways) }
+{
+    let after = list_length(&call.after, ways)?;
+    let otherwise = list_length(&call.otherwise, ways)?;
+    exact(
+        call_length(call)
+            .saturating_add(after)
+            .saturating_add(otherwise)
+            .saturating_add(1),
+    )
+}
+
+/// Of what an accept does, if it does something.
+#[cycle(lengths)]
+pub fn doing_length(doing: &Option<Doing>) -> Result<usize, AllocError>
+    ensures { IfOk result (λ n. n ≡ doing_size_by flat_step (doing_in doing.now)) }
+{
+    match doing {
+        Some(doing) => body_length(&doing.body, 1),
+        None => Ok(0),
+    }
+}
+
+// The step of the selective accept, what lies in its alternatives, and the statements behind its `else`.
+#[cycle(lengths)]
+fn select_length(select: &SelectStatement, ways: usize) -> Result<usize, AllocError>
+    ensures { IfOk result (λ n. n ≡ statement_size_by flat_step (select_in select.now) ways) }
+{
+    let offered = alternatives_length(&select.alternatives, ways)?;
+    let otherwise = list_length(&select.otherwise, ways)?;
+    exact(
+        choice_length(&select.alternatives)
+            .saturating_add(offered)
+            .saturating_add(otherwise)
+            .saturating_add(1),
+    )
+}
+
+/// Of what lies in alternatives.
+#[cycle(lengths)]
+pub fn alternatives_length(alternatives: &[Alternative], ways: usize) -> Result<usize, AllocError>
+    ensures { IfOk result (λ n.
+        n ≡ offered_size_by flat_step (alternatives_in alternatives.now) ways) }
+{
+    let mut total = 0;
+    for alternative in alternatives {
+        total = sum(total, alternative_length(alternative, ways)?)?;
+    }
+    Ok(total)
+}
+
+/// Of what the accept of an alternative does, and the statements behind that.
+#[cycle(lengths)]
+pub fn alternative_length(alternative: &Alternative, ways: usize) -> Result<usize, AllocError>
+    ensures { IfOk result (λ n. n ≡ alternative_size alternative.now ways) }
+{
+    match alternative {
+        Alternative::Accept { accept, after, .. } => {
+            sum(doing_length(&accept.doing)?, list_length(after, ways)?)
+        }
+        Alternative::Delay { after, .. } => list_length(after, ways),
+        Alternative::Terminate { .. } => Ok(0),
     }
 }
 

@@ -2,6 +2,7 @@
 #![tactic(auto)]
 
 mod bodies;
+mod entries;
 mod expressions;
 mod frames;
 mod lengths;

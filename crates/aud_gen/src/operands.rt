@@ -40,5 +40,6 @@ fn after(effect: Effect, before: Counts) -> Result<Counts, AllocError>
             leaves.booleans,
         )?,
         targets: sum(before.targets.saturating_sub(takes.targets), leaves.targets)?,
+        names: sum(before.names.saturating_sub(takes.names), leaves.names)?,
     })
 }

@@ -28,7 +28,7 @@ impl Writer {
             (unit_lines (body_in body.now) (length self.old)) }
     {
         let last = place_of_end(body, self.place(), 1)?;
-        let ways = Ways::of_body(self.alloc(), last);
+        let ways = Ways::of_body(self.alloc(), None, last);
         self.write_body(body, Construct::Unit, &ways, last, 0, last)
     }
 }

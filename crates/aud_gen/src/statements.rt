@@ -4,23 +4,26 @@ ghost use Rattle.std.specs.Prelude.{◌≡◌, List, length};
 ghost use Rattle.aud_typed.specs.declared.program.Arm.{Arm as Arms};
 ghost use Rattle.aud_typed.specs.Tree.{part_of};
 ghost use Rattle.aud_typed.specs.Ties.View.{plain_boolean, plain_statement, plain_statements, statements_in, part_of_arms, if_in, for_in, handlers_in, elaborations_in, body_in, block_in};
+ghost use Rattle.aud_typed.specs.Ties.View.{accept_in, alternatives_in, doing_in, entry_call_in, select_in};
 ghost use Rattle.aud_layout.specs.Layout.{in_loop};
 ghost use Rattle.aud_layout.specs.Leading.{around};
 ghost use Rattle.aud_gen.specs.Writes.{statement_lines, part_lines, has_statements, listed_lines, arm_lines, while_lines, for_lines, handlers_lines, body_lines, Writes, WritesInside};
+ghost use Rattle.aud_gen.specs.Writes.{alone, doing_lines, offered_lines};
 
+use crate::entries::{doing_place, part_place};
 use crate::lengths::{
-    boolean_length, elaborations_length, exact, integer_length, list_length, place_of_end,
-    statement_length, statements_length,
+    boolean_length, doing_length, elaborations_length, exact, integer_length, list_length,
+    place_of_end, statement_length, statements_length,
 };
 use crate::writer::{Writer, Written};
-use aud_code::line::{Ending, ForLoop, Last};
+use aud_code::line::{Among, Ending, ForLoop, Last};
 use aud_layout::sum::sum;
 use aud_layout::ways::Ways;
 use aud_meaning::state::Construct;
 use aud_text::place::Pos;
 use aud_typed::program::{
-    Arm, BlockStatement, Body, BooleanExpression, ForStatement, Handler, IfStatement, Statement,
-    Statements,
+    AcceptStatement, Alternative, Arm, BlockStatement, Body, BooleanExpression, Doing,
+    EntryCallStatement, ForStatement, Handler, IfStatement, SelectStatement, Statement, Statements,
 };
 
 // These ways lead out of what is written. Exceptions of it go to the place `out`; behind it comes the step at the place `next`.
@@ -98,11 +101,18 @@ impl Writer {
             }
             Statement::DeclareTasks(at, tasks) => {
                 let tasks = tasks.try_clone(self.alloc())?;
-                self.end(Last::DeclaresTasks(tasks, next), *at, out, ways.within)
+                self.concern(Among::DeclareTasks(tasks), next, *at, out, ways.within)
             }
             Statement::Activated(at) => {
-                self.end(Last::EndsActivation(next), *at, out, ways.within)
+                self.concern(Among::Activated, next, *at, out, ways.within)
             }
+            Statement::EntryCall(call) => self.write_entry_call(call, ways, out, next),
+            Statement::Delay(at, e) => {
+                self.write_delay(e)?;
+                self.concern(Among::Delay, next, *at, out, ways.within)
+            }
+            Statement::Accept(accept) => self.write_accept_statement(accept, ways, out, next),
+            Statement::Select(select) => self.write_select(select, ways, out, next),
         }
     }
 
@@ -288,6 +298,125 @@ impl Writer {
         self.write_stubs(ways, block.body.end, Some(place))
     }
 
+    // The step of an entry call, the statements behind it, and those behind its `else` or delay.
+    #[cycle(statements)]
+    fn write_entry_call(
+        &mut self,
+        call: &EntryCallStatement,
+        ways: &Ways,
+        out: usize,
+        next: usize,
+    ) -> Written
+        ensures { WritesInside result self.old self.new (around out ways.now) (λ place a.
+            statement_lines (entry_call_in call.now) place next a) }
+    {
+        self.write_call_step(call, ways, out, next)?;
+        self.write_list(&call.after, ways, out, next)?;
+        self.write_list(&call.otherwise, ways, out, next)
+    }
+
+    // The step of an accept, and what it does.
+    #[cycle(statements)]
+    fn write_accept_statement(
+        &mut self,
+        accept: &AcceptStatement,
+        ways: &Ways,
+        out: usize,
+        next: usize,
+    ) -> Written
+        ensures { WritesInside result self.old self.new (around out ways.now) (λ place a.
+            statement_lines (accept_in accept.now) place next a) }
+    {
+        let own = self.place();
+        let body = doing_place(&accept.doing, sum(own, 1)?, next);
+        self.write_accept(accept, body, next, out, ways.within)?;
+        self.write_doing(&accept.doing, own, next, out)
+    }
+
+    // What an accept does, if it does something, whose step stands at the place `opener`.
+    #[cycle(statements)]
+    fn write_doing(
+        &mut self,
+        doing: &Option<Doing>,
+        opener: usize,
+        next: usize,
+        out: usize,
+    ) -> Written
+        ensures { Writes result self.old self.new
+            (doing_lines (doing_in doing.now) opener (length self.old) next out) }
+    {
+        match doing {
+            None => Ok(()),
+            Some(doing) => {
+                let last = place_of_end(&doing.body, self.place(), 1)?;
+                let ways = Ways::of_body(self.alloc(), Some(opener), last);
+                self.write_body(&doing.body, Construct::Accept, &ways, last, next, out)
+            }
+        }
+    }
+
+    // The step of a selective accept, what lies in its alternatives, and the statements behind its `else`.
+    #[cycle(statements)]
+    fn write_select(
+        &mut self,
+        select: &SelectStatement,
+        ways: &Ways,
+        out: usize,
+        next: usize,
+    ) -> Written
+        ensures { WritesInside result self.old self.new (around out ways.now) (λ place a.
+            statement_lines (select_in select.now) place next a) }
+    {
+        let own = self.place();
+        self.write_choice_step(select, ways, out, next)?;
+        self.write_alternatives(&select.alternatives, own, ways, out, next)?;
+        self.write_list(&select.otherwise, ways, out, next)
+    }
+
+    // What lies in the alternatives of the selective accept whose step stands at the place `opener`.
+    #[cycle(statements)]
+    fn write_alternatives(
+        &mut self,
+        alternatives: &[Alternative],
+        opener: usize,
+        ways: &Ways,
+        out: usize,
+        next: usize,
+    ) -> Written
+        ensures { WritesInside result self.old self.new (around out ways.now) (λ place a.
+            offered_lines (alternatives_in alternatives.now) opener place next a) }
+    {
+        for alternative in alternatives {
+            self.write_alternative(alternative, opener, ways, out, next)?;
+        }
+        Ok(())
+    }
+
+    // What the accept of an alternative does, and the statements behind that.
+    #[cycle(statements)]
+    fn write_alternative(
+        &mut self,
+        alternative: &Alternative,
+        opener: usize,
+        ways: &Ways,
+        out: usize,
+        next: usize,
+    ) -> Written
+        ensures { WritesInside result self.old self.new (around out ways.now) (λ place a.
+            offered_lines (alone alternative.now) opener place next a) }
+    {
+        match alternative {
+            Alternative::Accept { accept, after, .. } => {
+                let second = sum(self.place(), doing_length(&accept.doing)?)?;
+                let behind = part_place(after, second, next);
+                self.write_doing(&accept.doing, opener, behind, out)?;
+                self.write_list(after, ways, out, next)
+            }
+            Alternative::Delay { after, .. } => self.write_list(after, ways, out, next),
+            Alternative::Terminate { .. } => Ok(()),
+        }
+    }
+
     /// A body with its end at the place `last`: its declarations and their activation, its statements, the line that guards
     /// them, its handlers, and its end.
     #[cycle(statements)]
@@ -327,7 +456,7 @@ impl Writer {
             list_length(&body.declarations, ways.count()?)?,
         )?;
         self.write_list(&body.declarations, ways, out, activation)?;
-        self.end(Last::Activates(next), body.begin, out, ways.within)
+        self.concern(Among::Activate, next, body.begin, out, ways.within)
     }
 
     // The statements of handlers, behind which comes the end at the place `last`.

@@ -2,12 +2,12 @@
 
 ghost use Rattle.std.specs.Prelude.{◌≡◌, [], ◌∷◌, length, map};
 ghost use Rattle.aud_code.specs.Flat.{instructs};
-ghost use Rattle.aud_code.specs.declared.line.Last.TheVariants.{Does};
+ghost use Rattle.aud_code.specs.declared.line.Last.TheVariants.{Concerns, Does};
 ghost use Rattle.aud_code.specs.View.{plain_instruction, plain_line};
 ghost use Rattle.aud_gen.specs.Writes.{ended, Writes};
 
 use aud_code::instruction::Instruction;
-use aud_code::line::{EndLine, Ending, Last, Line};
+use aud_code::line::{Among, EndLine, Ending, Last, Line};
 use aud_text::place::Pos;
 use std::alloc::{AllocError, Global};
 use std::marker::Model;
@@ -101,5 +101,19 @@ impl Writer {
         ensures { Writes result self.old self.new (ended (Does ending next) at out within) }
     {
         self.end(Last::Does(ending, next), at, out, within)
+    }
+
+    /// The same of a step that concerns others.
+    pub fn concern(
+        &mut self,
+        among: Among,
+        next: usize,
+        at: Pos,
+        out: usize,
+        within: Option<usize>,
+    ) -> Written
+        ensures { Writes result self.old self.new (ended (Concerns among next) at out within) }
+    {
+        self.end(Last::Concerns(among, next), at, out, within)
     }
 }

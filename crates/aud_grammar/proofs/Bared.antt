@@ -597,7 +597,9 @@ bare_made g.OutMode e = made_1 (λ x. a.a_mode (mode.Out (a.place x))) (λ x. ap
 bare_made g.Task e = made_2 (λ x y. a.a_declaration (a.task_declared (a.place x) y)) (λ x y. cc (bare_place x, bare_task_declared (a.place x) y))
 bare_made g.TaskDeclaration e = made_3 (λ x y z. a.a_task (a.is_there x) (a.the_ident y) (a.opt_definition z)) (λ x y z. cc (bare_is_there x, bare_the_ident y, bare_opt_definition z))
 bare_made g.TaskType e = λ st. refl
-bare_made g.TaskDefinition e = made_1 (λ x. a.a_definition (record { entries = []; end_name = a.opt_ident x })) (λ x. ap (λ (z : Option Ident). a.a_definition (record { entries = []; end_name = z })) (bare_opt_ident x))
+bare_made g.TaskDefinition e =
+    made_2 (λ x y. a.a_definition (record { entries = a.the_entries x; end_name = a.opt_ident y }))
+    (λ x y. ap (λ (z : List m.EntryDeclaration). a.a_definition (record { entries = z; end_name = a.opt_ident (bare_item y) })) (bare_the_entries x) ∙ ap (λ (z : Option Ident). a.a_definition (record { entries = map bare_entry (a.the_entries x); end_name = z })) (bare_opt_ident y))
 bare_made g.TaskBody e = made_3 (λ x y z. a.a_task_body (a.the_ident x) (a.the_declarations y) (a.the_body z)) (λ x y z. cc (bare_the_ident x, bare_the_declarations y, bare_the_body z))
 bare_made g.Body e =
     made_6 (λ x y h z w s. a.a_body (m.body (a.place x) (a.the_statements y) (a.the_handlers h) (a.place z) (a.opt_ident w) (a.place s)))
@@ -676,9 +678,6 @@ bare_made g.DurationOf e = made_1 (λ x. a.duration_of (a.inside x)) (λ x. cc (
 bare_made g.EntryDeclaration e =
     made_2 (λ x y. a.an_entry (record { name = a.the_ident x; formals = a.the_formals y }))
     (λ x y. ap (λ (z : Ident). a.an_entry (record { name = z; formals = a.the_formals (bare_item y) })) (bare_the_ident x) ∙ ap (λ (z : List m.Formal). a.an_entry (record { name = bare_ident (a.the_ident x); formals = z })) (bare_the_formals y))
-bare_made g.DefinitionWithEntries e =
-    made_2 (λ x y. a.a_definition (record { entries = a.the_entries x; end_name = a.opt_ident y }))
-    (λ x y. ap (λ (z : List m.EntryDeclaration). a.a_definition (record { entries = z; end_name = a.opt_ident (bare_item y) })) (bare_the_entries x) ∙ ap (λ (z : Option Ident). a.a_definition (record { entries = map bare_entry (a.the_entries x); end_name = z })) (bare_opt_ident y))
 bare_made g.AcceptStatement e = made_1 (λ x. a.a_statement (m.accepting (a.the_accept x))) (λ x. cc (bare_the_accept x))
 bare_made g.Accept e = made_4 (λ x y z u. a.an_accept (m.accept (a.place x) (a.the_ident y) (a.the_formals z) (a.the_doing u))) (λ x y z u. cc (bare_place x, bare_the_ident y, bare_the_formals z, bare_the_doing u))
 bare_made g.Do e = made_6 (λ x y z u v w. a.a_doing (m.with_do (m.body (a.place x) (a.the_statements y) (a.the_handlers z) (a.place u) (a.opt_ident v) (a.place w)))) (λ x y z u v w. cc (bare_place x, bare_the_statements y, bare_the_handlers z, bare_place u, bare_opt_ident v, bare_place w))

@@ -29,4 +29,5 @@ pub mod Rows
 pub mod ControlRows
 pub mod ProcedureRows
 pub mod TaskRows
+pub mod RendezvousRows
 pub mod LaterRows

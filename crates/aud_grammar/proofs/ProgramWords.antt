@@ -159,10 +159,6 @@ task_declaration_told (t_none (t_part (says_ident i) (t_none (t_word s r)))) = t
 pub task_type_told : {k : List Symbol} {ds : List Item} {ws : List Word} → Told (rule g.TaskType ++ k) ds ws → Told (N g.TaskType ∷ k) (made g.TaskType ds) ws
 task_type_told (t_word c r) = t_part says_task_type r
 
-pub task_definition_told : {k : List Symbol} {ds : List Item} {ws : List Word} → Told (rule g.TaskDefinition ++ k) ds ws → Told (N g.TaskDefinition ∷ k) (made g.TaskDefinition ds) ws
-task_definition_told (t_word c (t_word e (t_some (says_ident i) r))) = t_part (says_definition (record { entries = []; end_name = Some i })) r
-task_definition_told (t_word c (t_word e (t_none r))) = t_part (says_definition (record { entries = []; end_name = None })) r
-
 pub task_body_told : {k : List Symbol} {ds : List Item} {ws : List Word} → Told (rule g.TaskBody ++ k) ds ws → Told (N g.TaskBody ∷ k) (made g.TaskBody ds) ws
 task_body_told (t_word c (t_part (says_ident i) (t_word y (t_some (says_declarations d es h) (t_part {ws = ws} (says_body b vs j) r))))) =
     so (t_part (task_body_says i (a.the_declarations d) b es vs h j) r) (task_body_on i es vs ws)

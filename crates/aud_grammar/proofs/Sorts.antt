@@ -162,7 +162,6 @@ sort g.DelayTime = s_time
 sort g.Seconds = s_time
 sort g.DurationOf = s_time
 sort g.EntryDeclaration = s_entry
-sort g.DefinitionWithEntries = s_definition
 sort g.AcceptStatement = s_statement
 sort g.Accept = s_accept
 sort g.AcceptRest = s_doing

@@ -1,6 +1,6 @@
 -- What the laws need to know of each phrase. Written by tools/grammar_tables.py, and checked in Reading and Ends.
 use Rattle.std.specs.Prelude.{ℕ, List, [], ◌∷◌}
-use Rattle.aud_grammar.specs.Grammar.{Phrase, Unit, Clause, WithClause, UseClause, Library, Declarations, DeclarationList, Declaration, NamedDeclaration, Identifiers, MoreIdentifiers, DeclarationRest, Variable, Constant, Initial, ArrayRest, Index, InIndex, Bound, Negated, ExceptionRest, Procedure, Formals, InFormals, MoreFormals, Formal, Mode, InMode, InOut, OutMode, Task, TaskRest, TaskDeclaration, TaskType, TaskDefinition, TaskBody, Body, Handlers, HandlerList, Handler, Choices, Others, NamedChoices, MoreChoices, Statements, StatementList, Statement, NullStatement, NameStatement, NameRest, Labelled, Labellable, NamedStatement, StatementRest, Assignment, Call, If, Elsif, ElsePart, Loop, Iteration, While, For, Reverse, Block, Declare, Exit, When, Return, Raise, Expression, Logic, AndLogic, AndRest, AndThen, AndOnly, MoreAndThen, MoreAnd, OrLogic, OrRest, OrElse, OrOnly, MoreOrElse, MoreOr, XorLogic, MoreXor, Relation, Compared, RelationalOperator, Equal, Unequal, Less, AtMost, Greater, AtLeast, Simple, Sign, Positive, Negative, Added, AddingOperator, Plus, Minus, Join, Term, Multiplied, MultiplyingOperator, Times, Divide, Modulo, Remainder, Factor, Operator, Magnitude, Not, Primary, Integer, String, Named, Attribute, Group, Parens, InParens, Name, NamePart, Selected, Args, InArgs, MoreArgs, Identifier, Number, Literal, Real, DelayStatement, Delay, DelayTime, Seconds, DurationOf, EntryDeclaration, DefinitionWithEntries, AcceptStatement, Accept, AcceptRest, Do, WithoutDo, Select, SelectRest, CallSelect, Otherwise, OrDelay, OrElsePart, AcceptSelect, Guard, FirstAlternative, AcceptsOnly, AfterAccept, SelectElse, OrAny, AnyAlternative, WithDelays, OrEither, Either, WithTerminate, OrAccept, DelaysFirst, NeedAccept, DelaysAccept, TerminateFirst, AcceptAlternative, DelayAlternative, TerminateAlternative, Protected, ProtectedRest, ProtectedDeclaration, PrivatePart, PrivateItem, PrivateOperation, Components, Operation, EntryOperation, ProcedureOperation, FunctionOperation, ProtectedBody, OperationBody, EntryBody, ProcedureBody, FunctionBody, Abort, MoreNames, Requeue, WithAbort}
+use Rattle.aud_grammar.specs.Grammar.{Phrase, Unit, Clause, WithClause, UseClause, Library, Declarations, DeclarationList, Declaration, NamedDeclaration, Identifiers, MoreIdentifiers, DeclarationRest, Variable, Constant, Initial, ArrayRest, Index, InIndex, Bound, Negated, ExceptionRest, Procedure, Formals, InFormals, MoreFormals, Formal, Mode, InMode, InOut, OutMode, Task, TaskRest, TaskDeclaration, TaskType, TaskDefinition, TaskBody, Body, Handlers, HandlerList, Handler, Choices, Others, NamedChoices, MoreChoices, Statements, StatementList, Statement, NullStatement, NameStatement, NameRest, Labelled, Labellable, NamedStatement, StatementRest, Assignment, Call, If, Elsif, ElsePart, Loop, Iteration, While, For, Reverse, Block, Declare, Exit, When, Return, Raise, Expression, Logic, AndLogic, AndRest, AndThen, AndOnly, MoreAndThen, MoreAnd, OrLogic, OrRest, OrElse, OrOnly, MoreOrElse, MoreOr, XorLogic, MoreXor, Relation, Compared, RelationalOperator, Equal, Unequal, Less, AtMost, Greater, AtLeast, Simple, Sign, Positive, Negative, Added, AddingOperator, Plus, Minus, Join, Term, Multiplied, MultiplyingOperator, Times, Divide, Modulo, Remainder, Factor, Operator, Magnitude, Not, Primary, Integer, String, Named, Attribute, Group, Parens, InParens, Name, NamePart, Selected, Args, InArgs, MoreArgs, Identifier, Number, Literal, Real, DelayStatement, Delay, DelayTime, Seconds, DurationOf, EntryDeclaration, AcceptStatement, Accept, AcceptRest, Do, WithoutDo, Select, SelectRest, CallSelect, Otherwise, OrDelay, OrElsePart, AcceptSelect, Guard, FirstAlternative, AcceptsOnly, AfterAccept, SelectElse, OrAny, AnyAlternative, WithDelays, OrEither, Either, WithTerminate, OrAccept, DelaysFirst, NeedAccept, DelaysAccept, TerminateFirst, AcceptAlternative, DelayAlternative, TerminateAlternative, Protected, ProtectedRest, ProtectedDeclaration, PrivatePart, PrivateItem, PrivateOperation, Components, Operation, EntryOperation, ProcedureOperation, FunctionOperation, ProtectedBody, OperationBody, EntryBody, ProcedureBody, FunctionBody, Abort, MoreNames, Requeue, WithAbort}
 
 -- the kinds that may come behind some phrases, as numbers; 999 is the end of the tokens
 abbrev behind_unit : List ℕ
@@ -43,7 +43,7 @@ abbrev behind_mode : List ℕ
 behind_mode = 100 ∷ []
 
 abbrev behind_body : List ℕ
-behind_body = 10 ∷ 14 ∷ 19 ∷ 20 ∷ 21 ∷ 22 ∷ 23 ∷ 24 ∷ 25 ∷ 26 ∷ 29 ∷ 34 ∷ 38 ∷ 40 ∷ 48 ∷ 50 ∷ 56 ∷ 64 ∷ 70 ∷ 71 ∷ 100 ∷ 999 ∷ []
+behind_body = 3 ∷ 10 ∷ 14 ∷ 15 ∷ 19 ∷ 20 ∷ 21 ∷ 22 ∷ 23 ∷ 24 ∷ 25 ∷ 26 ∷ 29 ∷ 34 ∷ 38 ∷ 40 ∷ 48 ∷ 50 ∷ 56 ∷ 58 ∷ 64 ∷ 70 ∷ 71 ∷ 100 ∷ 999 ∷ []
 
 abbrev behind_handlers : List ℕ
 behind_handlers = 21 ∷ []
@@ -61,7 +61,7 @@ abbrev behind_statements : List ℕ
 behind_statements = 19 ∷ 20 ∷ 21 ∷ 23 ∷ 40 ∷ 70 ∷ []
 
 abbrev behind_statement : List ℕ
-behind_statement = 10 ∷ 14 ∷ 19 ∷ 20 ∷ 21 ∷ 23 ∷ 24 ∷ 25 ∷ 29 ∷ 34 ∷ 38 ∷ 40 ∷ 50 ∷ 56 ∷ 70 ∷ 71 ∷ 100 ∷ []
+behind_statement = 3 ∷ 10 ∷ 14 ∷ 15 ∷ 19 ∷ 20 ∷ 21 ∷ 23 ∷ 24 ∷ 25 ∷ 29 ∷ 34 ∷ 38 ∷ 40 ∷ 50 ∷ 56 ∷ 58 ∷ 70 ∷ 71 ∷ 100 ∷ []
 
 abbrev behind_elsif : List ℕ
 behind_elsif = 19 ∷ 20 ∷ 21 ∷ []
@@ -114,17 +114,8 @@ behind_more_args = 77 ∷ 80 ∷ []
 abbrev behind_identifier : List ℕ
 behind_identifier = 7 ∷ 18 ∷ 30 ∷ 32 ∷ 34 ∷ 35 ∷ 40 ∷ 53 ∷ 56 ∷ 66 ∷ 70 ∷ 72 ∷ 73 ∷ 74 ∷ 75 ∷ 76 ∷ 77 ∷ 78 ∷ 79 ∷ 80 ∷ 81 ∷ 82 ∷ 83 ∷ 84 ∷ 85 ∷ 86 ∷ 87 ∷ 88 ∷ 89 ∷ 90 ∷ 91 ∷ 92 ∷ 93 ∷ 94 ∷ 95 ∷ 999 ∷ []
 
-abbrev behind_delay_statement : List ℕ
-behind_delay_statement = []
-
-abbrev behind_delay : List ℕ
-behind_delay = 10 ∷ 14 ∷ 21 ∷ 24 ∷ 25 ∷ 29 ∷ 34 ∷ 38 ∷ 40 ∷ 50 ∷ 56 ∷ 71 ∷ 100 ∷ []
-
 abbrev behind_entry_declaration : List ℕ
 behind_entry_declaration = 21 ∷ 22 ∷ 26 ∷ 47 ∷ 48 ∷ 100 ∷ []
-
-abbrev behind_accept : List ℕ
-behind_accept = 10 ∷ 14 ∷ 19 ∷ 21 ∷ 24 ∷ 25 ∷ 29 ∷ 34 ∷ 38 ∷ 40 ∷ 50 ∷ 56 ∷ 71 ∷ 100 ∷ []
 
 abbrev behind_guard : List ℕ
 behind_guard = 3 ∷ 15 ∷ 65 ∷ []
@@ -134,6 +125,9 @@ behind_or_either = 21 ∷ 40 ∷ []
 
 abbrev behind_accept_alternative : List ℕ
 behind_accept_alternative = 19 ∷ 21 ∷ 40 ∷ []
+
+abbrev behind_protected : List ℕ
+behind_protected = []
 
 abbrev behind_private_item : List ℕ
 behind_private_item = 21 ∷ 22 ∷ 26 ∷ 48 ∷ 100 ∷ []
@@ -278,19 +272,18 @@ known Identifier = (1, behind_identifier)
 known Number = (1, behind_multiplied)
 known Literal = (1, behind_multiplied)
 known Real = (1, behind_initial)
-known DelayStatement = (2, behind_delay_statement)
-known Delay = (1, behind_delay)
+known DelayStatement = (2, behind_statement)
+known Delay = (1, behind_statement)
 known DelayTime = (4, behind_initial)
 known Seconds = (2, behind_initial)
 known DurationOf = (1, behind_initial)
 known EntryDeclaration = (1, behind_entry_declaration)
-known DefinitionWithEntries = (1, behind_delay_statement)
-known AcceptStatement = (2, behind_delay_statement)
-known Accept = (1, behind_accept)
-known AcceptRest = (3, behind_accept)
-known Do = (1, behind_accept)
-known WithoutDo = (1, behind_accept)
-known Select = (1, behind_delay_statement)
+known AcceptStatement = (2, behind_statement)
+known Accept = (1, behind_statement)
+known AcceptRest = (3, behind_statement)
+known Do = (1, behind_statement)
+known WithoutDo = (1, behind_statement)
+known Select = (1, behind_statement)
 known SelectRest = (8, behind_handlers)
 known CallSelect = (4, behind_handlers)
 known Otherwise = (4, behind_handlers)
@@ -316,9 +309,9 @@ known TerminateFirst = (2, behind_handlers)
 known AcceptAlternative = (2, behind_accept_alternative)
 known DelayAlternative = (2, behind_or_either)
 known TerminateAlternative = (1, behind_or_either)
-known Protected = (1, behind_delay_statement)
-known ProtectedRest = (4, behind_delay_statement)
-known ProtectedDeclaration = (2, behind_delay_statement)
+known Protected = (1, behind_protected)
+known ProtectedRest = (4, behind_protected)
+known ProtectedDeclaration = (2, behind_protected)
 known PrivatePart = (1, behind_handlers)
 known PrivateItem = (7, behind_private_item)
 known PrivateOperation = (5, behind_private_item)
@@ -327,14 +320,14 @@ known Operation = (4, behind_entry_declaration)
 known EntryOperation = (2, behind_entry_declaration)
 known ProcedureOperation = (1, behind_entry_declaration)
 known FunctionOperation = (1, behind_entry_declaration)
-known ProtectedBody = (1, behind_delay_statement)
+known ProtectedBody = (1, behind_protected)
 known OperationBody = (3, behind_operation_body)
 known EntryBody = (1, behind_operation_body)
 known ProcedureBody = (1, behind_operation_body)
 known FunctionBody = (1, behind_operation_body)
-known Abort = (1, behind_delay_statement)
+known Abort = (1, behind_protected)
 known MoreNames = (1, behind_more_names)
-known Requeue = (1, behind_delay_statement)
+known Requeue = (1, behind_protected)
 known WithAbort = (1, behind_initial)
 
 -- how many rules may be entered before a token of the phrase is passed, its own among them

@@ -41,10 +41,10 @@ entry_declaration_told (t_word c (t_part (says_ident i) (t_some (says_formals f)
     so (t_part (says_entry (record { name = i; formals = a.the_formals f })) r) (one_on _ _ _ (one_on _ _ _ (append_assoc (w.formals_words (a.the_formals f)) (last_word (codes ";") ∷ []) ws)))
 entry_declaration_told (t_word c (t_part (says_ident i) (t_none (t_word s r)))) = t_part (says_entry (record { name = i; formals = [] })) r
 
-pub definition_with_entries_told : {k : List Symbol} {ds : List Item} {ws : List Word} → Told (rule g.DefinitionWithEntries ++ k) ds ws → Told (N g.DefinitionWithEntries ∷ k) (made g.DefinitionWithEntries ds) ws
-definition_with_entries_told (t_word c (t_row {x = x} {us = us} row (t_word e (t_some {ws = ws} (says_ident i) r)))) =
+pub task_definition_told : {k : List Symbol} {ds : List Item} {ws : List Word} → Told (rule g.TaskDefinition ++ k) ds ws → Told (N g.TaskDefinition ∷ k) (made g.TaskDefinition ds) ws
+task_definition_told (t_word c (t_row {x = x} {us = us} row (t_word e (t_some {ws = ws} (says_ident i) r)))) =
     so (t_part (says_definition (record { entries = a.the_entries x; end_name = Some i })) r) (one_on _ _ _ (list_first (w.entries_words (a.the_entries x)) (word (codes "end") ∷ w.ident_word i ∷ []) us ws (entries_row row)))
-definition_with_entries_told (t_word c (t_row {x = x} {us = us} row (t_word e (t_none {ws = ws} r)))) =
+task_definition_told (t_word c (t_row {x = x} {us = us} row (t_word e (t_none {ws = ws} r)))) =
     so (t_part (says_definition (record { entries = a.the_entries x; end_name = None })) r) (one_on _ _ _ (list_first (w.entries_words (a.the_entries x)) (word (codes "end") ∷ []) us ws (entries_row row)))
 
 pub accept_statement_told : {k : List Symbol} {ds : List Item} {ws : List Word} → Told (rule g.AcceptStatement ++ k) ds ws → Told (N g.AcceptStatement ∷ k) (made g.AcceptStatement ds) ws

@@ -21,10 +21,10 @@ use Rattle.aud_grammar.proofs.Places.{is_code}
 use Rattle.aud_grammar.proofs.Sorts.{sort}
 use Rattle.aud_grammar.proofs.Told.{Says, says_unit, row_end, row_more, Told, t_end, t_word, t_token, t_spelled, t_part, t_level, t_down, t_one, t_some, t_none, t_row, so, of_sort}
 use Rattle.aud_grammar.proofs.SameWords.{texts, Same}
-use Rattle.aud_grammar.proofs.ProgramWords.{unit_told, with_clause_told, use_clause_told, library_told, declarations_told, declaration_list_told, named_declaration_told, array_rest_told, index_told, in_index_told, bound_told, negated_told, exception_rest_told, variable_told, constant_told, identifiers_told, more_identifiers_told, initial_told, procedure_told, formals_told, in_formals_told, more_formals_told, formal_told, in_mode_told, in_out_told, out_mode_told, task_told, task_declaration_told, task_type_told, task_definition_told, task_body_told, body_told, handlers_told, handler_list_told, handler_told, others_told, named_choices_told, more_choices_told}
+use Rattle.aud_grammar.proofs.ProgramWords.{unit_told, with_clause_told, use_clause_told, library_told, declarations_told, declaration_list_told, named_declaration_told, array_rest_told, index_told, in_index_told, bound_told, negated_told, exception_rest_told, variable_told, constant_told, identifiers_told, more_identifiers_told, initial_told, procedure_told, formals_told, in_formals_told, more_formals_told, formal_told, in_mode_told, in_out_told, out_mode_told, task_told, task_declaration_told, task_type_told, task_body_told, body_told, handlers_told, handler_list_told, handler_told, others_told, named_choices_told, more_choices_told}
 use Rattle.aud_grammar.proofs.StatementWords.{statements_told, statement_list_told, statement_told, null_statement_told, name_statement_told, labelled_told, named_statement_told, assignment_told, call_told, if_told, elsif_told, else_part_told, loop_told, while_told, for_told, reverse_told, block_told, declare_told, return_told, raise_told, exit_told, when_told}
 use Rattle.aud_grammar.proofs.ExpressionWords.{expression_told, and_logic_told, and_then_told, and_only_told, more_and_then_told, more_and_told, or_logic_told, or_else_told, or_only_told, more_or_else_told, more_or_told, xor_logic_told, more_xor_told, relation_told, compared_told, equal_told, unequal_told, less_told, at_most_told, greater_told, at_least_told, simple_told, positive_told, negative_told, added_told, plus_told, minus_told, join_told, term_told, multiplied_told, times_told, divide_told, modulo_told, remainder_told, factor_told, magnitude_told, not_told, integer_told, string_told, named_told, attribute_told, group_told, parens_told, in_parens_told, name_told, name_part_told, selected_told, args_told, in_args_told, more_args_told, identifier_told, number_told, literal_told}
-use Rattle.aud_grammar.proofs.TaskWords.{real_told, delay_statement_told, delay_told, seconds_told, duration_of_told, entry_declaration_told, definition_with_entries_told, accept_statement_told, accept_told, do_told, without_do_told, select_told, call_select_told, or_delay_told, or_else_part_told, accept_select_told, guard_told, accepts_only_told, select_else_told, or_any_told, with_delays_told, or_either_told, with_terminate_told, or_accept_told, delays_first_told, delays_accept_told, terminate_first_told, accept_alternative_told, delay_alternative_told, terminate_alternative_told, abort_told, more_names_told, requeue_told, with_abort_told}
+use Rattle.aud_grammar.proofs.TaskWords.{real_told, delay_statement_told, delay_told, seconds_told, duration_of_told, entry_declaration_told, task_definition_told, accept_statement_told, accept_told, do_told, without_do_told, select_told, call_select_told, or_delay_told, or_else_part_told, accept_select_told, guard_told, accepts_only_told, select_else_told, or_any_told, with_delays_told, or_either_told, with_terminate_told, or_accept_told, delays_first_told, delays_accept_told, terminate_first_told, accept_alternative_told, delay_alternative_told, terminate_alternative_told, abort_told, more_names_told, requeue_told, with_abort_told}
 use Rattle.aud_grammar.proofs.ProtectedWords.{protected_told, protected_declaration_told, private_part_told, private_operation_told, components_told, entry_operation_told, procedure_operation_told, function_operation_told, protected_body_told, entry_body_told, procedure_body_told, function_body_told}
 
 -- one of several phrases of a sort
@@ -172,7 +172,6 @@ told_rule g.DelayTime t = choice_told refl t
 told_rule g.Seconds t = seconds_told t
 told_rule g.DurationOf t = duration_of_told t
 told_rule g.EntryDeclaration t = entry_declaration_told t
-told_rule g.DefinitionWithEntries t = definition_with_entries_told t
 told_rule g.AcceptStatement t = accept_statement_told t
 told_rule g.Accept t = accept_told t
 told_rule g.AcceptRest t = choice_told refl t

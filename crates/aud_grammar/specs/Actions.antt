@@ -499,7 +499,7 @@ task_declared at (a_task is_type i definition) = m.task at is_type i definition
 task_declared at (a_task_body i ds x) = m.task_body at i ds x
 task_declared at _ = no_declaration
 
--- what is not let in yet
+-- entries, accept, delay and select statements
 
 abbrev pub the_real : Item → Real
 the_real (a_real x) = x
@@ -569,6 +569,8 @@ abbrev pub selected : Pos → Item → m.Statement
 selected at (selects e x xs statements) = m.select_accept at e x xs statements
 selected at (selects_call x behind other) = m.select_call at x behind other
 selected at _ = no_statement
+
+-- what is not let in yet
 
 abbrev pub the_operation : Item → m.Operation
 the_operation (an_operation x) = x
@@ -654,7 +656,7 @@ made g.OutMode st = a_mode (mode.Out (place (top st))) ∷ pop st
 made g.Task st = a_declaration (task_declared (place (top st)) (top (pop st))) ∷ pop (pop st)
 made g.TaskDeclaration st = a_task (is_there (top st)) (the_ident (top (pop st))) (opt_definition (top (pop (pop st)))) ∷ pop (pop (pop st))
 made g.TaskType st = there ∷ st
-made g.TaskDefinition st = a_definition (record { entries = []; end_name = opt_ident (top st) }) ∷ pop st
+made g.TaskDefinition st = a_definition (record { entries = the_entries (top st); end_name = opt_ident (top (pop st)) }) ∷ pop (pop st)
 made g.TaskBody st = a_task_body (the_ident (top st)) (the_declarations (top (pop st))) (the_body (top (pop (pop st)))) ∷ pop (pop (pop st))
 made g.Body st = a_body (m.body (place (top st)) (the_statements (top (pop st))) (the_handlers (top (pop (pop st)))) (place (top (pop (pop (pop st))))) (opt_ident (top (pop (pop (pop (pop st)))))) (place (top (pop (pop (pop (pop (pop st)))))))) ∷ pop (pop (pop (pop (pop (pop st)))))
 made g.HandlerList st = listed st
@@ -726,7 +728,6 @@ made g.Delay st = a_delay (delayed (place (top st)) (top (pop st))) ∷ pop (pop
 made g.Seconds st = seconds (the_real (top st)) ∷ pop st
 made g.DurationOf st = duration_of (inside (top st)) ∷ pop st
 made g.EntryDeclaration st = an_entry (record { name = the_ident (top st); formals = the_formals (top (pop st)) }) ∷ pop (pop st)
-made g.DefinitionWithEntries st = a_definition (record { entries = the_entries (top st); end_name = opt_ident (top (pop st)) }) ∷ pop (pop st)
 made g.AcceptStatement st = a_statement (m.accepting (the_accept (top st))) ∷ pop st
 made g.Accept st = an_accept (m.accept (place (top st)) (the_ident (top (pop st))) (the_formals (top (pop (pop st)))) (the_doing (top (pop (pop (pop st)))))) ∷ pop (pop (pop (pop st)))
 made g.Do st = a_doing (m.with_do (m.body (place (top st)) (the_statements (top (pop st))) (the_handlers (top (pop (pop st)))) (place (top (pop (pop (pop st))))) (opt_ident (top (pop (pop (pop (pop st)))))) (place (top (pop (pop (pop (pop (pop st))))))))) ∷ pop (pop (pop (pop (pop (pop st)))))

@@ -23,13 +23,13 @@ pub data Phrase : Type 0 where
   Primary Integer String Named Attribute Group Parens InParens : Phrase
   Name NamePart Args InArgs : Phrase
   Identifier Number Literal : Phrase
-  -- no choice leads to these yet
   Real DelayStatement Delay DelayTime Seconds DurationOf : Phrase
-  EntryDeclaration DefinitionWithEntries AcceptStatement Accept AcceptRest Do WithoutDo : Phrase
+  EntryDeclaration AcceptStatement Accept AcceptRest Do WithoutDo : Phrase
   Select SelectRest CallSelect Otherwise OrDelay OrElsePart : Phrase
   AcceptSelect Guard FirstAlternative AcceptsOnly AfterAccept SelectElse OrAny AnyAlternative : Phrase
   WithDelays OrEither Either WithTerminate OrAccept DelaysFirst NeedAccept DelaysAccept TerminateFirst : Phrase
   AcceptAlternative DelayAlternative TerminateAlternative : Phrase
+  -- no choice leads to these yet
   Protected ProtectedRest ProtectedDeclaration PrivatePart PrivateItem PrivateOperation Components : Phrase
   Operation EntryOperation ProcedureOperation FunctionOperation : Phrase
   ProtectedBody OperationBody EntryBody ProcedureBody FunctionBody : Phrase
@@ -99,7 +99,7 @@ rule Task = P kind.Task ∷ N TaskRest ∷ []
 rule TaskRest = A (TaskBody ∷ TaskDeclaration ∷ []) ∷ []
 rule TaskDeclaration = Opt TaskType ∷ N Identifier ∷ Opt TaskDefinition ∷ T kind.Semicolon ∷ []
 rule TaskType = T kind.Type ∷ []
-rule TaskDefinition = T kind.Is ∷ T kind.End ∷ Opt Identifier ∷ []
+rule TaskDefinition = T kind.Is ∷ Rep EntryDeclaration ∷ T kind.End ∷ Opt Identifier ∷ []
 rule TaskBody = T kind.Body ∷ N Identifier ∷ T kind.Is ∷ Opt Declarations ∷ N Body ∷ []
 -- RM 6.3, 11.2
 rule Body = P kind.Begin ∷ N Statements ∷ Opt Handlers ∷ P kind.End ∷ Opt Identifier ∷ P kind.Semicolon ∷ []
@@ -113,7 +113,7 @@ rule MoreChoices = T kind.Bar ∷ N Identifier ∷ []
 -- statements lie one level deeper (RM 5.1)
 rule Statements = L StatementList ∷ Down ∷ []
 rule StatementList = N Statement ∷ Rep Statement ∷ []
-rule Statement = A (NullStatement ∷ NameStatement ∷ If ∷ Loop ∷ Block ∷ Exit ∷ Return ∷ Raise ∷ []) ∷ []
+rule Statement = A (NullStatement ∷ NameStatement ∷ If ∷ Loop ∷ Block ∷ Exit ∷ Return ∷ Raise ∷ AcceptStatement ∷ DelayStatement ∷ Select ∷ []) ∷ []
 rule NullStatement = P kind.Null ∷ T kind.Semicolon ∷ []
 -- a loop or a block behind its name, an assignment or a call (RM 5.5, 5.6, 5.2, 6.4)
 rule NameStatement = N Identifier ∷ N NameRest ∷ []
@@ -210,8 +210,6 @@ rule MoreArgs = T kind.Comma ∷ N Expression ∷ []
 rule Identifier = P kind.Identifier ∷ []
 rule Number = P kind.Integer ∷ []
 rule Literal = P kind.Text ∷ []
--- What follows is not let in. A statement may then be AcceptStatement, DelayStatement, Select, Abort or Requeue, a declaration Protected, and
--- the definition of a task DefinitionWithEntries.
 rule Real = P kind.Real ∷ []
 -- RM 9.6
 rule DelayStatement = N Delay ∷ []
@@ -219,9 +217,8 @@ rule Delay = P kind.Delay ∷ N DelayTime ∷ T kind.Semicolon ∷ []
 rule DelayTime = A (Seconds ∷ DurationOf ∷ []) ∷ []
 rule Seconds = N Real ∷ []
 rule DurationOf = W Duration ∷ N Parens ∷ []
--- RM 9.1(4), 9.5.2
+-- RM 9.5.2
 rule EntryDeclaration = T kind.Entry ∷ N Identifier ∷ Opt Formals ∷ T kind.Semicolon ∷ []
-rule DefinitionWithEntries = T kind.Is ∷ Rep EntryDeclaration ∷ T kind.End ∷ Opt Identifier ∷ []
 rule AcceptStatement = N Accept ∷ []
 rule Accept = P kind.Accept ∷ N Identifier ∷ Opt Formals ∷ N AcceptRest ∷ []
 rule AcceptRest = A (Do ∷ WithoutDo ∷ []) ∷ []
@@ -261,6 +258,7 @@ rule TerminateFirst = N TerminateAlternative ∷ N OrAccept ∷ Rep OrAccept ∷
 rule AcceptAlternative = N Accept ∷ Opt Statements ∷ []
 rule DelayAlternative = N Delay ∷ Opt Statements ∷ []
 rule TerminateAlternative = T kind.Terminate ∷ T kind.Semicolon ∷ []
+-- What follows is not let in. A statement may then be Abort or Requeue, a declaration Protected.
 -- RM 9.4
 rule Protected = P kind.Protected ∷ N ProtectedRest ∷ []
 rule ProtectedRest = A (ProtectedBody ∷ ProtectedDeclaration ∷ []) ∷ []

@@ -5,6 +5,7 @@ ghost use Rattle.aud_grammar.specs.Why.Rows as rows;
 ghost use Rattle.aud_grammar.specs.Why.ControlRows as control;
 ghost use Rattle.aud_grammar.specs.Why.ProcedureRows as procedures;
 ghost use Rattle.aud_grammar.specs.Why.TaskRows as tasks;
+ghost use Rattle.aud_grammar.specs.Why.RendezvousRows as rendezvous;
 ghost use Rattle.aud_grammar.specs.Why.LaterRows as later;
 
 /// The tree that is read is the tree that the tokens spell.
@@ -117,8 +118,23 @@ pub fn levels_of_tasks()
     ensures { tasks.LevelsOfTasks }
 {}
 
-/// The trees of small texts that are not let in yet, each as its phrase: entries, accept, delay,
-/// select, abort and requeue statements, protected objects.
+/// The trees of small texts with entries, accept, delay and select statements.
+pub fn trees_of_rendezvous()
+    ensures { rendezvous.TreesOfRendezvous }
+{}
+
+/// The token at which such texts go wrong.
+pub fn faults_of_rendezvous()
+    ensures { rendezvous.FaultsOfRendezvous }
+{}
+
+/// The token at which such texts open a level too many.
+pub fn levels_of_rendezvous()
+    ensures { rendezvous.LevelsOfRendezvous }
+{}
+
+/// The trees of small texts that are not let in yet, each as its phrase: abort and requeue
+/// statements, protected objects.
 pub fn trees_of_later()
     ensures { later.TreesOfLater }
 {}
@@ -126,9 +142,4 @@ pub fn trees_of_later()
 /// The token at which such texts go wrong.
 pub fn faults_of_later()
     ensures { later.FaultsOfLater }
-{}
-
-/// The token at which such texts open a level too many.
-pub fn levels_of_later()
-    ensures { later.LevelsOfLater }
 {}

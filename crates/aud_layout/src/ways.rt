@@ -1,6 +1,6 @@
 // The ways out of what is written.
 
-ghost use Rattle.std.specs.Prelude.{◌≡◌, ℕ, map, None, IfOk, slice_index_or};
+ghost use Rattle.std.specs.Prelude.{◌≡◌, ℕ, map, IfOk, slice_index_or};
 ghost use Rattle.aud_code.specs.View.{plain_way};
 ghost use Rattle.aud_layout.specs.Layout.{one_more, ways_count, in_call, in_loop, in_for, in_block};
 ghost use Rattle.aud_layout.specs.Leading.{around, way_to};
@@ -30,12 +30,12 @@ fn with_loop(way: Way) -> Result<Way, AllocError>
 }
 
 impl Ways {
-    /// Out of a body with its end at this place, in no loop.
-    pub fn of_body(alloc: Global, last: usize) -> Ways
-        ensures { (out : ℕ) → around out result ≡ record (in_call None last) { out = out } }
+    /// Out of a body with its end at the place `last`, in no loop. What an accept does is within the step that opens its frame.
+    pub fn of_body(alloc: Global, within: Option<usize>, last: usize) -> Ways
+        ensures { (out : ℕ) → around out result ≡ record (in_call within last) { out = out } }
     {
         Ways {
-            within: None,
+            within,
             exits: Vec::new(alloc),
             back: Way { to: last, loops: 0 },
         }

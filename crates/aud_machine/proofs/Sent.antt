@@ -12,7 +12,7 @@ use Rattle.aud_machine.specs.contracts.machine.Machine.TheInside as inside
 use Rattle.aud_typed.proofs.program.IntegerExpression.TheLaws.TheKnot.{crosses as integers}
 use Rattle.aud_typed.proofs.program.BooleanExpression.TheLaws.TheKnot.{crosses as booleans}
 use Rattle.aud_typed.proofs.program.TextExpression.TheLaws.TheKnot.{crosses as texts}
-use Rattle.aud_typed.proofs.program.Statement.TheLaws.TheKnot.{crosses as statements}
+use Rattle.aud_typed.proofs.program.Alternative.TheLaws.TheKnot.{crosses as statements}
 use Rattle.aud_code.proofs.sound_code.SoundCode.TheSendSync.{the_send as code_send}
 use Rattle.aud_state.proofs.state.State.TheSendSync.{the_send as state_send}
 

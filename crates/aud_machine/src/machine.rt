@@ -196,13 +196,14 @@ impl Machine {
         self.state.steps()
     }
 
-    /// All that it has: the frames, the tasks, the calls, the protected objects, the clock and the steps taken. Its
-    /// limits hold of them, if the machine isn't spent: so many tasks and objects, so many live frames of each task, and so much
-    /// output. Of frames and calls that are over, nothing need be left, and nothing of them is shown.
+    /// All that it has: the frames, the tasks, the calls, the protected objects, the clock and the steps taken. Each task stands where a
+    /// step begins, and its limits hold of them, if the machine isn't spent: so many tasks and objects, so many live frames of each task,
+    /// and so much output. Of frames and calls that are over, nothing need be left, and nothing of them is shown.
     pub fn parts(&self) -> &State
         ensures all { result.now ≡ self.now.all }
         ensures within { self.now.spent ≡ false → 1 ≤ self.now.limits.tasks →
             IsWithin Spot self.now.limits result.now }
+        ensures spots { self.now.spent ≡ false → AreSpots self.now.code.lines result.now.tasks }
         ensures tasks { IfShows self.now (λ c. owns result.now.tasks ≡ owns c.tasks) }
         ensures shared { IfShows self.now (λ c.
             (forgotten result.now).shared ≡ (forgotten c).shared) }

@@ -30,7 +30,7 @@ pub fn complete(
     ensures { OnOk result ((plan : Plan) → (barrier : ℕ → Sight → Result Bool RaiseOf) →
         state.new ≡ effect.completes (going code.now) plan barrier raised task state.old) }
 {
-    let accepts = state.accepts_under_way(alloc, task);
+    let accepts = state.accepts_under_way(alloc, task)?;
     let parts = state.frames(alloc, task)?;
     let created = state.created_in(alloc, &parts)?;
     state.complete_own(task, raised);

@@ -50,20 +50,20 @@ task_array_at a = record { first = a.first; low = a.low; length = length_between
 abbrev pub row_between : ℤ → ℤ → Option Subtype → Kind
 row_between low high s = Row (record { low = low; high = high; subtype = s })
 
--- arrays of tasks
-abbrev pub task_row_between : ℤ → ℤ → Kind
-task_row_between low high = TaskRow (record { low = low; high = high })
+-- arrays of tasks of a type
+abbrev pub task_row_between : ℤ → ℤ → ℕ → Kind
+task_row_between low high task_type = TaskRow (record { low = low; high = high; task_type = task_type })
 
 -- what is declared at a level from a cell on
 abbrev pub new_meaning : Kind → ℕ → ℕ → Meaning
 new_meaning (Scalar o) level index = meaning.Object (record { variable = record { level = level; index = index }; subtype = o.subtype; constant = o.constant })
 new_meaning (Row a) level index = meaning.Array (record { first = record { level = level; index = index }; low = a.low; high = a.high; subtype = a.subtype })
-new_meaning Task level index = meaning.Task (record { level = level; index = index })
-new_meaning (TaskRow a) level index = meaning.TaskArray (record { first = record { level = level; index = index }; low = a.low; high = a.high })
+new_meaning (Task task_type) level index = meaning.Task (record { variable = record { level = level; index = index }; task_type = task_type })
+new_meaning (TaskRow a) level index = meaning.TaskArray (record { first = record { level = level; index = index }; low = a.low; high = a.high; task_type = a.task_type })
 
 -- how many cells it takes
 abbrev pub cells_of : Kind → ℕ
 cells_of (Scalar o) = 1
 cells_of (Row a) = length_between a.low a.high
-cells_of Task = 1
+cells_of (Task task_type) = 1
 cells_of (TaskRow a) = length_between a.low a.high

@@ -1,5 +1,5 @@
 -- What names stand for, where they are visible, and what a construct knows of its place (RM 8.1, 8.2, 8.3).
-use Rattle.std.specs.Prelude.{ℕ, ◌+◌, Bool, true, false, not, ◌&&◌, ◌||◌, nat_lt, nat_eq, List, [], ◌∷◌, Option, Some, None, is_some, codes, if◌then◌else◌}
+use Rattle.std.specs.Prelude.{ℕ, ◌+◌, Bool, true, false, not, ◌&&◌, ◌||◌, nat_lt, nat_eq, List, [], ◌∷◌, ◌++◌, Option, Some, None, is_some, codes, if◌then◌else◌}
 use Rattle.std.specs.Str.{bytes_eq}
 use Rattle.std.specs.List.{list_any}
 use Rattle.std.specs.Map.{lookup}
@@ -7,8 +7,13 @@ use Rattle.aud_syntax.specs.declared.tree.Ident.{Ident}
 use Rattle.aud_text.specs.declared.raise.Raise.TheVariants.{Constraint, Program, Storage, Tasking}
 use Rattle.aud_typed.specs.declared.program.Exception.TheVariants.{Predefined}
 use Rattle.aud_names.specs.declared.awaited.Awaited.{Awaited}
+use Rattle.aud_names.specs.declared.entries.EntryName.{EntryName}
 use Rattle.aud_names.specs.declared.names.Meaning.{Meaning}
-use Rattle.aud_names.specs.declared.names.Meaning.TheVariants.{ScalarType, Literal, Exception, Builtin, Procedure, Task}
+use Rattle.aud_names.specs.declared.names.Meaning.TheVariants.{ScalarType, Literal, Exception, Builtin, Procedure, Task, Entry}
+use Rattle.aud_names.specs.declared.names.Task as named_task
+use Rattle.aud_names.specs.declared.names.Entry as named_entry
+use Rattle.aud_names.specs.declared.names.Owner.{Owner}
+use Rattle.aud_names.specs.declared.names.Owner.TheVariants.{Single}
 use Rattle.aud_names.specs.declared.names.Builtin.TheVariants.{Put, PutLine, NewLine}
 use Rattle.aud_typed.specs.declared.program.Variable.{Variable}
 use Rattle.aud_typed.specs.declared.program.Subtype.TheVariants.{Integer, Natural, Positive, Boolean}
@@ -18,24 +23,27 @@ abbrev pub Symbol : Type 0
 Symbol = List ℕ × Meaning
 
 -- a region of declarations (RM 8.1): its names in the order of their declarations, how many frames are further out than its own, the
--- cells and names of variables, constants and tasks in that, and the tasks whose bodies are still to come
+-- cells and names of variables, constants and tasks in that, the tasks whose bodies are still to come, the entries of the tasks that it
+-- declares, and where it is directly in a task's body the cell with that task's own number
 pub record Region : Type 0 where
   pub symbols : List Symbol
   pub level : ℕ
   pub cells : ℕ
   pub names : ℕ
   pub awaited : List Awaited
+  pub entries : List EntryName
+  pub own : Option Variable
 
--- a region with no names yet, at a level
+-- a region with no names yet, at a level, which is in no task's body
 abbrev pub empty_region : ℕ → Region
-empty_region level = record { symbols = []; level = level; cells = 0; names = 0; awaited = [] }
+empty_region level = record { symbols = []; level = level; cells = 0; names = 0; awaited = []; entries = []; own = None }
 
 -- what a region declares a name to be: the first symbol of that name decides
 abbrev pub named_in : List ℕ → List Symbol → Option Meaning
 named_in name symbols = lookup (bytes_eq name) symbols
 
-abbrev pub or_outside : Option Meaning → Option Meaning → Option Meaning
-or_outside (Some m) other = Some m
+abbrev pub or_outside : {A : Type 0} → Option A → Option A → Option A
+or_outside (Some x) other = Some x
 or_outside None other = other
 
 -- an inner declaration hides those of its name further out (RM 8.3(15))
@@ -67,9 +75,13 @@ in_region r place = record place { regions = r ∷ others_of place.regions }
 abbrev pub place_in : Region → List Region → Place
 place_in r rs = record { regions = r ∷ rs; hidden = [] }
 
--- the place in one more region, whose frame lies within the innermost one (RM 8.1)
+-- the region of a body of its own, whose frame lies within the innermost one (RM 8.1)
+abbrev pub body_frame : Place → Region
+body_frame place = empty_region ((innermost place).level + 1)
+
+-- the place in one more region of the same body
 abbrev pub next_frame : Place → Region
-next_frame place = empty_region ((innermost place).level + 1)
+next_frame place = record (body_frame place) { own = (innermost place).own }
 
 abbrev pub in_frame : Place → Place
 in_frame place = place_in (next_frame place) place.regions
@@ -112,11 +124,11 @@ predefined =
 
 -- the outermost region
 abbrev pub outermost : List Region
-outermost = (record { symbols = predefined; level = 0; cells = 0; names = 0; awaited = [] }) ∷ []
+outermost = record (empty_region 0) { symbols = predefined } ∷ []
 
 -- the library's region, in which the main procedure is declared, whose unit is the first (RM 10.1.1)
 abbrev pub library : List ℕ → Region
-library name = record { symbols = (name, Procedure 0) ∷ []; level = 0; cells = 0; names = 0; awaited = [] }
+library name = record (empty_region 0) { symbols = (name, Procedure 0) ∷ [] }
 
 -- the place of a main procedure's declarations: its body's region, that of the library, and the predefined one (RM 10.1.1)
 abbrev pub main_place : List ℕ → Place
@@ -124,10 +136,10 @@ main_place name = place_in (empty_region 0) (library name ∷ outermost)
 
 -- Tasks (RM 9.1).
 
--- the unit of the task of a name that waits for its body
-abbrev pub awaited_unit : List ℕ → List Awaited → Option ℕ
-awaited_unit name [] = None
-awaited_unit name (a ∷ others) = if bytes_eq name a.name then Some a.unit else awaited_unit name others
+-- the task of a name that waits for its body
+abbrev pub awaited_task : List ℕ → List Awaited → Option Awaited
+awaited_task name [] = None
+awaited_task name (a ∷ others) = if bytes_eq name a.name then Some a else awaited_task name others
 
 -- what waits still once that body has come
 abbrev pub still_awaited : List ℕ → List Awaited → List Awaited
@@ -137,17 +149,40 @@ still_awaited name (a ∷ others) = if bytes_eq name a.name then others else a �
 abbrev pub body_come : List ℕ → Region → Region
 body_come name r = record r { awaited = still_awaited name r.awaited }
 
--- the region of a task's body at a level: the first cell of its frame, which has no name, has the number of the task that runs it
-abbrev pub task_region : ℕ → Region
-task_region level = record { symbols = ([], Task (record { level = level; index = 0 })) ∷ []; level = level; cells = 1; names = 1; awaited = [] }
+-- the first cell of the frame of a task's body at a level has the number of the task that runs it
+abbrev pub own_cell : ℕ → Variable
+own_cell level = record { level = level; index = 0 }
+
+-- that task, whose type has a number
+abbrev pub own_task : ℕ → ℕ → named_task.Task
+own_task level task_type = record { variable = own_cell level; task_type = task_type }
+
+-- the region of a task's body at a level: the cell with its own number has no name
+abbrev pub own_region : ℕ → ℕ → Region
+own_region level task_type = record { symbols = ([], Task (own_task level task_type)) ∷ []; level = level; cells = 1; names = 1; awaited = []; entries = []; own = Some (own_cell level) }
+
+-- an entry in the region of its task's body (RM 8.1, 9.5.2); a name that this has already stays what it was
+abbrev pub with_entry : List ℕ → ℕ → Region → Region
+with_entry name number r = if is_declared name r.symbols then r else record r { symbols = r.symbols ++ (name, Entry (record { number = number; owner = Single (own_cell r.level) })) ∷ [] }
+
+-- of these entries those of one type
+abbrev pub with_entries : ℕ → List EntryName → Region → Region
+with_entries task_type [] r = r
+with_entries task_type (e ∷ es) r = with_entries task_type es (if nat_eq task_type e.task_type then with_entry e.name e.number r else r)
+
+-- a task's entries and what its body declares are one region (RM 8.1)
+abbrev pub task_region : ℕ → ℕ → List EntryName → Region
+task_region level task_type entries = with_entries task_type entries (own_region level task_type)
 
 -- around a task's body its name, or that of its type, means the task that runs it (RM 8.6(17))
-abbrev pub running : List ℕ → ℕ → Region
-running name level = record { symbols = (name, Task (record { level = level; index = 0 })) ∷ []; level = level; cells = 0; names = 0; awaited = [] }
+abbrev pub running : List ℕ → ℕ → ℕ → Region
+running name level task_type = record (empty_region level) { symbols = (name, Task (own_task level task_type)) ∷ [] }
 
 -- the place of the declarations in the body of a task that is declared at a place
-abbrev pub task_place : List ℕ → Place → Place
-task_place name place = place_in (task_region ((innermost place).level + 1)) (running name ((innermost place).level + 1) ∷ place.regions)
+abbrev pub task_place : List ℕ → ℕ → Place → Place
+task_place name task_type place =
+    let level = (innermost place).level + 1 in
+    place_in (task_region level task_type (innermost place).entries) (running name level task_type ∷ place.regions)
 
 -- whether a cell is in the frame of a region
 abbrev pub has_cell : Variable → Region → Bool
@@ -158,3 +193,27 @@ has_cell v r = nat_lt v.index r.cells && nat_eq r.level v.level
 abbrev pub is_in_own_body : List ℕ → Variable → List ℕ → List Region → Bool
 is_in_own_body task v name [] = false
 is_in_own_body task v name (r ∷ rs) = if has_cell v r then not (is_declared task r.symbols) && is_declared name r.symbols else is_in_own_body task v name rs
+
+-- Entries (RM 9.5.2).
+
+-- the number of an entry of a type of tasks: the first one of that name
+abbrev pub entry_in : List ℕ → ℕ → List EntryName → Option ℕ
+entry_in name task_type [] = None
+entry_in name task_type (e ∷ es) = if nat_eq task_type e.task_type && bytes_eq name e.name then Some e.number else entry_in name task_type es
+
+-- which is declared where the type is: where a task is visible its type's region is around
+abbrev pub entry_named : List ℕ → ℕ → List Region → Option ℕ
+entry_named name task_type [] = None
+entry_named name task_type (r ∷ rs) = or_outside (entry_in name task_type r.entries) (entry_named name task_type rs)
+
+abbrev pub same_cell : Variable → Variable → Bool
+same_cell v w = nat_eq v.level w.level && nat_eq v.index w.index
+
+abbrev pub is_cell_of : Owner → Option Variable → Bool
+is_cell_of (Single v) (Some own) = same_cell v own
+is_cell_of _ _ = false
+
+-- whether an entry is one of the task in whose body a place directly is (RM 9.5.2(14), 9.9(4)): no other task that is visible there has its
+-- number in that cell
+abbrev pub is_own : named_entry.Entry → Place → Bool
+is_own e place = is_cell_of e.owner (innermost place).own

@@ -6,9 +6,11 @@ use Rattle.aud_syntax.specs.declared.tree.Ident.{Ident}
 use Rattle.aud_syntax.specs.Plain.{Name, named, NamePart, part, Parts, no_parts, more_parts, Args, no_args, more_args}
 use Rattle.aud_fault.specs.declared.fault.Fault.{Fault}
 use Rattle.aud_names.specs.declared.names.Meaning.{Meaning}
-use Rattle.aud_names.specs.declared.names.Meaning.TheVariants.{ScalarType, Literal, Object, Array, Exception, Builtin, Procedure, TaskType, Task, TaskArray}
+use Rattle.aud_names.specs.declared.names.Meaning.TheVariants.{ScalarType, Literal, Object, Array, Exception, Builtin, Procedure, TaskType, Task, TaskArray, Entry}
+use Rattle.aud_names.specs.declared.names.Owner.{Owner}
+use Rattle.aud_names.specs.declared.names.Owner.TheVariants.{Single, Element}
 use Rattle.aud_names.specs.declared.resolution.Denoted.{Denoted}
-use Rattle.aud_names.specs.Names.{Place, visible, is_taken, is_in_own_body, named_in, predefined}
+use Rattle.aud_names.specs.Names.{Place, visible, is_taken, is_in_own_body, entry_named, named_in, predefined}
 use Rattle.aud_names.specs.Rules.{name_not_declared, wrong_kind_of_name}
 
 -- the faults in a name, and what it denotes with the place of the identifier that decides: nothing where it is faulty
@@ -45,7 +47,11 @@ last_of p (more_parts q qs) = last_of q qs
 abbrev pub last_args : Name → Args
 last_args (named p ps) = last_of p ps
 
--- procedures have arguments, and arrays an index (RM 4.1.1)
+-- the arguments of its first part, which behind an array of tasks are the index of the task whose entry is named
+abbrev pub first_args : Name → Args
+first_args (named p ps) = part_args p
+
+-- procedures and entries have arguments, and arrays an index (RM 4.1.1)
 abbrev pub takes_arguments : Meaning → Bool
 takes_arguments (Builtin b) = true
 takes_arguments (Procedure n) = true
@@ -57,6 +63,7 @@ takes_arguments (Object o) = false
 takes_arguments (TaskType n) = false
 takes_arguments (Task v) = false
 takes_arguments (TaskArray a) = true
+takes_arguments (Entry e) = true
 
 -- whether nothing stands behind a point
 abbrev pub is_last : Parts → Bool
@@ -76,12 +83,18 @@ of_wrong_kind p = denotes_nothing (wrong_kind_of_name (part_ident p).at) (part_i
 abbrev pub no_entry : Bool → NamePart → Resolved
 no_entry is_visible p = denotes_nothing (if is_visible then wrong_kind_of_name (part_ident p).at else name_not_declared (part_ident p).at) (part_ident p).at
 
--- behind a task, or an array of tasks with its index, and a point stands an entry (RM 4.1.3, 9.5.2), but as yet no task has one; what its
--- body declares is visible behind the task's name in that body (RM 8.6(17)); nothing else stands before a point, and an element not either:
--- that is a fault where its index is none
+-- behind an entry stands no further point
+abbrev pub entry_selected : Option ℕ → Owner → Bool → NamePart → Parts → Resolved
+entry_selected (Some number) owner is_visible p ps = if is_last ps then denotes (Entry (record { number = number; owner = owner })) (part_ident p).at else of_wrong_kind p
+entry_selected None owner is_visible p ps = no_entry is_visible p
+
+-- behind a task, or an array of tasks with its index, and a point stands an entry of it (RM 4.1.3, 9.5.2); what its body declares besides is
+-- visible behind the task's name in that body (RM 8.6(17)); nothing else stands before a point, and an element not either: that is a fault
+-- where its index is none
 abbrev pub selected : Meaning → NamePart → Parts → Place → Resolved
-selected (Task v) (part i no_args) (more_parts q qs) place = no_entry (is_in_own_body i.name v (part_ident q).name place.regions) q
-selected (TaskArray a) (part i (more_args e es)) (more_parts q qs) place = no_entry false q
+selected (Task t) (part i no_args) (more_parts q qs) place =
+    entry_selected (entry_named (part_ident q).name t.task_type place.regions) (Single t.variable) (is_in_own_body i.name t.variable (part_ident q).name place.regions) q qs
+selected (TaskArray a) (part i (more_args e es)) (more_parts q qs) place = entry_selected (entry_named (part_ident q).name a.task_type place.regions) (Element a) false q qs
 selected (Array a) (part i (more_args e es)) (more_parts q qs) place = denotes_nothing [] i.at
 selected m p ps place = of_wrong_kind p
 

@@ -1,10 +1,14 @@
 -- The rules of the language that a program may break, each with its refusal, and where a breach stands.
-use Rattle.std.specs.Prelude.{Bool, true, false, not, List, [], ◌∷◌, Option, Some, None, if◌then◌else◌, ℕ}
+use Rattle.std.specs.Prelude.{Bool, true, false, not, ◌&&◌, List, [], ◌∷◌, Option, Some, None, if◌then◌else◌, ℕ}
 use Rattle.std.specs.Str.{bytes_eq}
 use Rattle.aud_text.specs.declared.place.Pos.{Pos}
-use Rattle.aud_text.specs.declared.refusal.Refusal.TheVariants.{NameNotDeclared, DeclaredTwice, WrongKindOfName, WrongType, WrongNumberOfArguments, NotAVariable, WrongNameAtEnd, NoMatchingBody, ExitWithoutLoop, ReturnOutOfPlace, RaiseWithoutHandler, BadHandlerChoice, NumberTooLarge}
+use Rattle.aud_text.specs.declared.refusal.Refusal.TheVariants.{NameNotDeclared, DeclaredTwice, WrongKindOfName, WrongType, WrongNumberOfArguments, NotAVariable, WrongNameAtEnd, NoMatchingBody, AcceptOrCountOutOfPlace, FormalsDoNotConform, ExitWithoutLoop, ReturnOutOfPlace, RaiseWithoutHandler, BadHandlerChoice, NumberTooLarge, TooManyDecimals, NotAnEntry}
 use Rattle.aud_syntax.specs.declared.tree.Ident.{Ident}
+use Rattle.aud_syntax.specs.declared.tree.Mode.{Mode}
+use Rattle.aud_syntax.specs.declared.tree.Mode.TheVariants.{Unstated, In, Out, InOut}
 use Rattle.aud_fault.specs.declared.fault.Fault.{Fault}
+use Rattle.aud_names.specs.declared.names.Parameter.{Parameter}
+use Rattle.aud_names.specs.declared.names.NamedParameter.{NamedParameter}
 use Rattle.aud_names.specs.declared.rules.Base.{Base}
 use Rattle.aud_names.specs.declared.rules.Base.TheVariants.{Whole, Truth, Text}
 use Rattle.aud_names.specs.Names.{Symbol, is_declared}
@@ -75,6 +79,46 @@ right_label_at_end (Some label) (Some last) semicolon = right_name_at_end label.
 abbrev pub no_matching_body : Pos → List Fault
 no_matching_body at = record { at = at; refusal = NoMatchingBody } ∷ []
 
+-- an accept and a Count of an entry stand directly in the body of the task whose entry it is (RM 9.5.2(14), 9.9(4)), and an accept in no
+-- accept of the same entry (RM 9.5.2(15)); at the entry's name
+abbrev pub accept_or_count_in_place : Bool → Pos → List Fault
+accept_or_count_in_place good at = unless good (record { at = at; refusal = AcceptOrCountOutOfPlace })
+
+-- a mode that is not written is `in` (RM 6.1)
+abbrev pub same_mode : Mode → Mode → Bool
+same_mode Unstated Unstated = true
+same_mode Unstated (In at) = true
+same_mode (In at) Unstated = true
+same_mode (In at) (In other) = true
+same_mode (Out at) (Out other) = true
+same_mode (InOut at) (InOut other) = true
+same_mode _ _ = false
+
+abbrev pub same_subtype : Subtype → Subtype → Bool
+same_subtype Integer Integer = true
+same_subtype Natural Natural = true
+same_subtype Positive Positive = true
+same_subtype Boolean Boolean = true
+same_subtype _ _ = false
+
+-- nothing is said of a subtype that is not known
+abbrev pub agree : Option Subtype → Option Subtype → Bool
+agree (Some s) (Some t) = same_subtype s t
+agree _ _ = true
+
+abbrev pub same_parameter : Parameter → Parameter → Bool
+same_parameter p q = same_mode p.mode q.mode && agree p.subtype q.subtype
+
+-- the same names, modes and subtypes in order (RM 6.3.1)
+abbrev pub conform : List NamedParameter → List NamedParameter → Bool
+conform [] [] = true
+conform (p ∷ ps) (q ∷ qs) = (bytes_eq p.name q.name && same_parameter p.parameter q.parameter) && conform ps qs
+conform _ _ = false
+
+-- the formals of an accept conform to those of its entry (RM 9.5.2(14)); at its name
+abbrev pub formals_conform : Bool → Pos → List Fault
+formals_conform good at = unless good (record { at = at; refusal = FormalsDoNotConform })
+
 -- an exit leaves a loop that encloses it (RM 5.7(4)); at `exit`
 abbrev pub exit_in_loop : Bool → Pos → List Fault
 exit_in_loop good at = unless good (record { at = at; refusal = ExitWithoutLoop })
@@ -94,3 +138,11 @@ good_choice good at = unless good (record { at = at; refusal = BadHandlerChoice 
 -- a number is at most the last Integer (RM 3.5.4); at the number
 abbrev pub number_too_large : Pos → List Fault
 number_too_large at = record { at = at; refusal = NumberTooLarge } ∷ []
+
+-- a real number has at most three decimals (profile); at the number
+abbrev pub too_many_decimals : Pos → List Fault
+too_many_decimals at = record { at = at; refusal = TooManyDecimals } ∷ []
+
+-- what a timed or conditional call calls is an entry (RM 9.7.2, 9.7.3); at the name
+abbrev pub not_an_entry : Pos → List Fault
+not_an_entry at = record { at = at; refusal = NotAnEntry } ∷ []

@@ -4,7 +4,7 @@ ghost use Rattle.std.specs.Prelude.{◌≡◌};
 ghost use Rattle.aud_fault.specs.Least.{noted};
 ghost use Rattle.aud_names.specs.Arrays.{with_sign, bound_value, bound_faults, or_zero, length_between, array_at, task_array_at, row_between, new_meaning, cells_of};
 
-use crate::names::{Array, Meaning, Object, TaskArray};
+use crate::names::{Array, Meaning, Object, Task, TaskArray};
 use crate::rules::number_too_large;
 use aud_fault::fault::Least;
 use aud_syntax::tree::Bound;
@@ -26,11 +26,12 @@ pub struct Row {
     pub subtype: Option<Subtype>,
 }
 
-/// The bounds of arrays of tasks.
+/// The bounds of arrays of tasks, and the number of the tasks' type.
 #[derive(Clone, Copy, PartialEq, Eq)]
 pub struct TaskRow {
     pub low: i32,
     pub high: i32,
+    pub task_type: usize,
 }
 
 /// What the names of a declaration are declared to be.
@@ -40,8 +41,8 @@ pub enum Kind {
     Scalar(Scalar),
     /// Arrays.
     Row(Row),
-    /// Tasks (RM 9.1).
-    Task,
+    /// Tasks of the type of this number (RM 9.1).
+    Task(usize),
     /// Arrays of tasks.
     TaskRow(TaskRow),
 }
@@ -144,11 +145,15 @@ pub fn new_meaning(kind: Kind, level: usize, index: usize) -> Meaning
             high: row.high,
             subtype: row.subtype,
         }),
-        Kind::Task => Meaning::Task(variable),
+        Kind::Task(task_type) => Meaning::Task(Task {
+            variable,
+            task_type,
+        }),
         Kind::TaskRow(row) => Meaning::TaskArray(TaskArray {
             first: variable,
             low: row.low,
             high: row.high,
+            task_type: row.task_type,
         }),
     }
 }
@@ -158,7 +163,7 @@ pub fn cells_of(kind: Kind) -> usize
     ensures { result ≡ cells_of kind }
 {
     match kind {
-        Kind::Scalar(_) | Kind::Task => 1,
+        Kind::Scalar(_) | Kind::Task(_) => 1,
         Kind::Row(row) => length_between(row.low, row.high),
         Kind::TaskRow(row) => length_between(row.low, row.high),
     }

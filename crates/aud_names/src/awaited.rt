@@ -6,11 +6,12 @@ ghost use Rattle.std.specs.Str.{bytes_eq};
 use aud_text::name::Name;
 use aud_text::place::Pos;
 
-/// A task or task type whose body is still to come (RM 3.11.1): its name, the number of its unit, and where the name stands.
+/// A task or task type whose body is still to come (RM 3.11.1): its name, the numbers of its unit and of its type, and where the name stands.
 #[derive(Drop)]
 pub struct Awaited {
     pub name: Name,
     pub unit: usize,
+    pub task_type: usize,
     pub at: Pos,
 }
 

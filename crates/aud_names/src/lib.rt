@@ -4,6 +4,7 @@
 pub mod array;
 pub mod awaited;
 pub mod behind;
+pub mod entries;
 mod hidden;
 pub mod laws;
 pub mod names;

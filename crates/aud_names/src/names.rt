@@ -1,12 +1,13 @@
 // Names, and what they stand for.
 
-ghost use Rattle.std.specs.Prelude.{◌≡◌, ◌+◌, ◌∷◌, ◌&&◌, not, [], IfOk};
+ghost use Rattle.std.specs.Prelude.{◌≡◌, ◌∷◌, ◌&&◌, not, [], IfOk, OnOk};
 ghost use Rattle.std.specs.Option.{option_copied};
-ghost use Rattle.aud_names.specs.Names.{Place as Plain, empty_region, named_in, predefined, declared, hiding, is_hidden, is_taken, own_hidden, with_own, visible, library, outermost, innermost, next_frame, awaited_unit, body_come, task_region, running, has_cell, is_declared, is_in_own_body};
+ghost use Rattle.aud_names.specs.Names.{Place as Plain, empty_region, named_in, predefined, declared, hiding, is_hidden, is_taken, own_hidden, with_own, visible, library, outermost, innermost, body_frame, next_frame, awaited_task, body_come, own_task, own_region, with_entry, with_entries, task_region, running, has_cell, is_declared, is_in_own_body, entry_named, same_cell, is_cell_of, is_own};
 ghost use Rattle.aud_names.specs.Ties.Regions.{plain_region, plain_regions, plain_place, names_in, hidden_names};
 
 use crate::awaited::{Awaited, index_of};
 use crate::behind::{Made, both};
+use crate::entries::{EntryName, entry_in};
 use crate::hidden::Hidden;
 use crate::table::listed;
 use aud_syntax::tree::{Ident, Identifiers, Mode};
@@ -33,9 +34,9 @@ pub enum Meaning {
     Procedure(usize),
     /// A task type, by its number (RM 9.1).
     TaskType(usize),
-    /// A task, whose number is in a cell (RM 9.1).
-    Task(Variable),
+    Task(Task),
     TaskArray(TaskArray),
+    Entry(Entry),
 }
 
 /// A variable or constant (RM 3.3.1): its subtype, which is not known where its declaration is faulty.
@@ -56,12 +57,36 @@ pub struct Array {
     pub subtype: Option<Subtype>,
 }
 
-/// An array of tasks (RM 9.1, 3.6): the cell of its first element, and its bounds.
+/// A task (RM 9.1): the cell with its number, and the number of its type.
+#[derive(Clone, Copy, PartialEq, Eq)]
+pub struct Task {
+    pub variable: Variable,
+    pub task_type: usize,
+}
+
+/// An array of tasks (RM 9.1, 3.6): the cell of its first element, its bounds, and the number of the tasks' type.
 #[derive(Clone, Copy, PartialEq, Eq)]
 pub struct TaskArray {
     pub first: Variable,
     pub low: i32,
     pub high: i32,
+    pub task_type: usize,
+}
+
+/// An entry, by its number, and whose it is (RM 9.5.2).
+#[derive(Clone, Copy, PartialEq, Eq)]
+pub struct Entry {
+    pub number: usize,
+    pub owner: Owner,
+}
+
+/// The task of an entry: the one behind whose name and a point it stands, or the one that runs the body where it stands by itself.
+#[derive(Clone, Copy, PartialEq, Eq)]
+pub enum Owner {
+    /// The task with the number in this cell.
+    Single(Variable),
+    /// An element of an array; its index are the arguments of the name's first part.
+    Element(TaskArray),
 }
 
 /// A formal parameter as calls see it (RM 6.1): its subtype is not known where its declaration is faulty.
@@ -69,6 +94,13 @@ pub struct TaskArray {
 pub struct Parameter {
     pub mode: Mode,
     pub subtype: Option<Subtype>,
+}
+
+/// A formal parameter with its name.
+#[derive(Drop)]
+pub struct NamedParameter {
+    pub name: Name,
+    pub parameter: Parameter,
 }
 
 /// The procedures that put out texts (RM A.10).
@@ -84,7 +116,8 @@ pub type Symbols = IndexMap<Name, Meaning>;
 
 /// A region of declarations (RM 8.1): its names, how many frames are further out than its own, the cells
 /// and the names of variables, constants and tasks that its frame has so far, the tasks whose bodies are still
-/// to come, and what allocates them.
+/// to come, the entries of the tasks that it declares, where it is directly in a task's body the cell with that
+/// task's own number, and what allocates them.
 pub struct Region {
     pub alloc: Global,
     pub symbols: Symbols,
@@ -92,6 +125,8 @@ pub struct Region {
     pub cells: usize,
     pub names: usize,
     pub awaited: Vec<Awaited>,
+    pub entries: Vec<EntryName>,
+    pub own: Option<Variable>,
 }
 
 // One call wherever it is dropped.
@@ -104,14 +139,17 @@ impl Drop for Region {
             cells: _,
             names: _,
             awaited,
+            entries,
+            own: _,
         } = self;
         drop(symbols);
         drop(awaited);
+        drop(entries);
     }
 }
 
 impl Region {
-    /// A region with no names yet.
+    /// A region with no names yet, which is in no task's body.
     pub fn new(alloc: Global, level: usize) -> Self
         ensures { plain_region result ≡ empty_region level }
     {
@@ -122,6 +160,8 @@ impl Region {
             cells: 0,
             names: 0,
             awaited: Vec::new(alloc),
+            entries: Vec::new(alloc),
+            own: None,
         }
     }
 
@@ -135,39 +175,93 @@ impl Region {
         Ok(library)
     }
 
-    /// The region of a task's body at a level, whose first cell has the task's own number (RM 9.1).
-    pub fn of_task(alloc: Global, level: usize) -> Made<Self>
-        ensures { IfOk result (λ region. plain_region region ≡ task_region level) }
+    /// The region of the body at a level of a task of a type, whose first cell has the task's own number (RM 9.1):
+    /// as yet without the task's entries.
+    pub fn own(alloc: Global, level: usize, task_type: usize) -> Made<Self>
+        ensures { IfOk result (λ region. plain_region region ≡ own_region level task_type) }
     {
         let mut region = Region::new(alloc, level);
         let no_name = Name::from_source(alloc, &[])?;
-        let own = Variable { level, index: 0 };
+        let own = own_task(level, task_type);
         region.symbols.insert(no_name, Meaning::Task(own))?;
         region.cells = 1;
         region.names = 1;
+        region.own = Some(own.variable);
         Ok(region)
     }
 
-    /// The region around a task's body at a level, in which its name is the task that runs it (RM 8.6(17)).
-    pub fn running(alloc: Global, name: &Name, level: usize) -> Made<Self>
-        ensures { IfOk result (λ region. plain_region region ≡ running name.now level) }
+    /// Adds an entry to the region of its task's body; a name that this has already stays what it was.
+    pub fn add_entry(&mut self, name: &Name, number: usize) -> Made<()>
+        ensures { OnOk result (plain_region self.new
+            ≡ with_entry name.now number (plain_region self.old)) }
+    {
+        if self.symbols.contains_key(name) {
+            return Ok(());
+        }
+        let own = Variable {
+            level: self.level,
+            index: 0,
+        };
+        let entry = Entry {
+            number,
+            owner: Owner::Single(own),
+        };
+        let name = name.try_clone(self.alloc)?;
+        self.symbols.insert(name, Meaning::Entry(entry))?;
+        Ok(())
+    }
+
+    /// The region of the body at a level of a task of a type, which has some of these entries.
+    pub fn of_task(
+        alloc: Global,
+        level: usize,
+        task_type: usize,
+        entries: &[EntryName],
+    ) -> Made<Self>
+        ensures { IfOk result (λ region. plain_region region
+            ≡ task_region level task_type entries.now) }
+    {
+        let mut region = Region::own(alloc, level, task_type)?;
+        for entry in entries {
+            if task_type == entry.task_type {
+                region.add_entry(&entry.name, entry.number)?;
+            }
+        }
+        Ok(region)
+    }
+
+    /// The region around the body at a level of a task of a type, in which its name is the task that runs it (RM 8.6(17)).
+    pub fn running(alloc: Global, name: &Name, level: usize, task_type: usize) -> Made<Self>
+        ensures { IfOk result (λ region. plain_region region
+            ≡ running name.now level task_type) }
     {
         let mut region = Region::new(alloc, level);
         let name = name.try_clone(alloc)?;
-        let own = Variable { level, index: 0 };
+        let own = own_task(level, task_type);
         region.symbols.insert(name, Meaning::Task(own))?;
         Ok(region)
     }
 
-    /// The unit of the task of this name that waits for its body, if one does. From now on it waits no more.
-    pub fn body_comes(&mut self, name: &Name) -> Option<usize>
-        ensures unit { result ≡ awaited_unit name.now self.old.awaited.items }
+    /// The task of this name that waits for its body, if one does. From now on it waits no more.
+    pub fn body_comes(&mut self, name: &Name) -> Option<Awaited>
+        ensures task { result ≡ awaited_task name.now self.old.awaited.items }
         ensures region { plain_region self.new ≡ body_come name.now (plain_region self.old) }
     {
         match index_of(&self.awaited, name) {
             None => None,
-            Some(index) => Some(self.awaited.remove(index).unit),
+            Some(index) => Some(self.awaited.remove(index)),
         }
+    }
+}
+
+// The task of a type that runs the body at a level.
+fn own_task(level: usize, task_type: usize) -> Task
+    ensures { result ≡ own_task level task_type }
+{
+    let variable = Variable { level, index: 0 };
+    Task {
+        variable,
+        task_type,
     }
 }
 
@@ -258,10 +352,18 @@ impl<'a> Scope<'a> {
         })
     }
 
-    /// The region of a frame within the innermost one (RM 5.6, 8.1).
+    /// The region of a frame within the innermost one, in the same body (RM 5.6, 8.1).
     pub fn frame(&self) -> Made<Region>
-        ensures { IfOk result (λ region. plain_region region
-            ≡ empty_region ((innermost self.now).level + 1)) }
+        ensures { IfOk result (λ region. plain_region region ≡ next_frame self.now) }
+    {
+        let mut region = self.body_frame()?;
+        region.own = self.innermost.own;
+        Ok(region)
+    }
+
+    // That of a body of its own (RM 6.3).
+    fn body_frame(&self) -> Made<Region>
+        ensures { IfOk result (λ region. plain_region region ≡ body_frame self.now) }
     {
         let level = self.innermost.level.checked_add(1).ok_or(AllocError)?;
         Ok(Region::new(self.alloc(), level))
@@ -302,6 +404,23 @@ impl<'a> Scope<'a> {
         is_in_own_body(self.outer, task, own, name)
     }
 
+    /// The number of the entry of this name of a type of tasks, if it has one.
+    pub fn entry_named(&self, task_type: usize, name: &Name) -> Option<usize>
+        ensures { result ≡ entry_named name.now task_type self.now.regions }
+    {
+        match entry_in(&self.innermost.entries, task_type, name) {
+            Some(number) => Some(number),
+            None => entry_named(self.outer, task_type, name),
+        }
+    }
+
+    /// Whether an entry is one of the task in whose body the place directly is (RM 9.5.2(14), 9.9(4)).
+    pub fn is_own(&self, entry: Entry) -> bool
+        ensures { result ≡ is_own entry self.now }
+    {
+        is_cell_of(entry.owner, self.innermost.own)
+    }
+
     /// Whether a declaration around the place has taken a name, also the one that lasts there, or it is predefined.
     pub fn is_taken(&self, name: &Name) -> bool
         ensures { result ≡ is_taken name.now self.now }
@@ -320,7 +439,7 @@ impl<'a> Scope<'a> {
     }
 }
 
-/// The regions around a frame within this region, which lies in those, and the frame's own (RM 6.1, 8.1).
+/// The regions around the frame of a body within this region, which lies in those, and the frame's own (RM 6.1, 8.1).
 pub fn frame_within<'a>(
     innermost: &'a Region,
     outer: &'a [&'a Region],
@@ -328,10 +447,10 @@ pub fn frame_within<'a>(
     ensures regions { IfOk result (λ frame. plain_regions frame.0.items
         ≡ (plain_place innermost.now outer.now).regions) }
     ensures own { IfOk result (λ frame. plain_region frame.1
-        ≡ next_frame (plain_place innermost.now outer.now)) }
+        ≡ body_frame (plain_place innermost.now outer.now)) }
 {
     let scope = Scope::new(innermost, outer);
-    both(scope.regions()?, scope.frame())
+    both(scope.regions()?, scope.body_frame())
 }
 
 /// The regions around the body of a task that is declared in this region, which lies in those: first that in which its name
@@ -410,6 +529,34 @@ fn is_in_own_body(regions: &[&Region], task: &Name, own: Variable, name: &Name) 
                 is_in_own_body(further_out, task, own, name)
             }
         }
+    }
+}
+
+// The number of an entry of a type of tasks.
+fn entry_named(regions: &[&Region], task_type: usize, name: &Name) -> Option<usize>
+    ensures { result ≡ entry_named name.now task_type (plain_regions regions.now) }
+{
+    match regions.split_first() {
+        None => None,
+        Some((region, further_out)) => match entry_in(&region.entries, task_type, name) {
+            Some(number) => Some(number),
+            None => entry_named(further_out, task_type, name),
+        },
+    }
+}
+
+fn same_cell(left: Variable, right: Variable) -> bool
+    ensures { result ≡ same_cell left right }
+{
+    left.level == right.level && left.index == right.index
+}
+
+fn is_cell_of(owner: Owner, own: Option<Variable>) -> bool
+    ensures { result ≡ is_cell_of owner own }
+{
+    match (owner, own) {
+        (Owner::Single(cell), Some(own)) => same_cell(cell, own),
+        _ => false,
     }
 }
 

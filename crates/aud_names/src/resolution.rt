@@ -6,9 +6,9 @@ ghost use Rattle.aud_syntax.specs.Ties.View.{plain_name, plain_part, part_list, 
 ghost use Rattle.aud_fault.specs.Least.{noted};
 ghost use Rattle.aud_names.specs.Names.{named_in, predefined};
 ghost use Rattle.aud_names.specs.Rules.{name_not_declared};
-ghost use Rattle.aud_names.specs.Resolution.{resolved, or_in_library, in_library, in_text_io, no_entry, selected, denoted_by, takes_arguments, is_plainly, is_text_io, is_last, may_stand, are_none, last_of, last_args};
+ghost use Rattle.aud_names.specs.Resolution.{resolved, or_in_library, in_library, in_text_io, no_entry, entry_selected, selected, denoted_by, takes_arguments, is_plainly, is_text_io, is_last, may_stand, are_none, first_args, last_of, last_args};
 
-use crate::names::{Meaning, Scope, predefined};
+use crate::names::{Entry, Meaning, Owner, Scope, predefined};
 use crate::rules::{name_not_declared, wrong_kind_of_name};
 use aud_fault::fault::Least;
 use aud_syntax::tree::{Expression, Name, NamePart};
@@ -23,6 +23,13 @@ const TEXT_IO: &[u8] = b"TEXT_IO";
 pub struct Denoted {
     pub meaning: Option<Meaning>,
     pub at: Pos,
+}
+
+/// The arguments of a name's first part.
+pub fn first_args(name: &Name) -> &[Expression]
+    ensures { plain_expressions result.now ≡ first_args (plain_name name.now) }
+{
+    &name.first.args
 }
 
 /// The arguments of a name's last part.
@@ -65,8 +72,11 @@ fn takes_arguments(meaning: Meaning) -> bool
     ensures { result ≡ takes_arguments meaning }
 {
     match meaning {
-        Meaning::Array(_) | Meaning::Builtin(_) | Meaning::Procedure(_) | Meaning::TaskArray(_) =>
-            true,
+        Meaning::Array(_)
+        | Meaning::Builtin(_)
+        | Meaning::Procedure(_)
+        | Meaning::TaskArray(_)
+        | Meaning::Entry(_) => true,
         Meaning::ScalarType(_)
         | Meaning::Literal(_)
         | Meaning::Object(_)
@@ -97,7 +107,36 @@ fn no_entry(is_visible: bool, part: &NamePart, faults: &mut Least) -> Denoted
     Denoted { meaning: None, at }
 }
 
-// What a name denotes that has arguments or further parts which do not fit what its first identifier means: nothing.
+// What stands behind a point, where an entry of this number stands, if there is one.
+fn entry_selected(
+    number: Option<usize>,
+    owner: Owner,
+    is_visible: bool,
+    part: &NamePart,
+    others: &[NamePart],
+    faults: &mut Least,
+) -> Denoted
+    ensures denoted { result ≡ (entry_selected number owner is_visible
+        (plain_part part.now) (part_list others.now)).denoted }
+    ensures noted { faults.new ≡ noted faults.old (entry_selected number owner is_visible
+        (plain_part part.now) (part_list others.now)).faults }
+{
+    let at = part.ident.at;
+    let Some(number) = number else {
+        return no_entry(is_visible, part, faults);
+    };
+    if is_last(others) {
+        return Denoted {
+            meaning: Some(Meaning::Entry(Entry { number, owner })),
+            at,
+        };
+    }
+    wrong_kind_of_name(at, faults);
+    Denoted { meaning: None, at }
+}
+
+// What a name denotes that has further parts, or arguments which do not fit what its first identifier means: an entry of a
+// task, or nothing.
 fn selected(
     meaning: Meaning,
     first: &NamePart,
@@ -111,12 +150,32 @@ fn selected(
         (plain_part first.now) (part_list others.now) scope.now).faults }
 {
     let at = first.ident.at;
-    match (meaning, first.args.first(), others.first()) {
-        (Meaning::Task(task), None, Some(entry)) => {
-            let is_visible = scope.is_in_own_body(&first.ident.name, task, &entry.ident.name);
-            no_entry(is_visible, entry, faults)
+    match (meaning, first.args.first(), others.split_first()) {
+        (Meaning::Task(task), None, Some((second, further))) => {
+            let own = task.variable;
+            let name = &second.ident.name;
+            let number = scope.entry_named(task.task_type, name);
+            let is_visible = scope.is_in_own_body(&first.ident.name, own, name);
+            entry_selected(
+                number,
+                Owner::Single(own),
+                is_visible,
+                second,
+                further,
+                faults,
+            )
         }
-        (Meaning::TaskArray(_), Some(_), Some(entry)) => no_entry(false, entry, faults),
+        (Meaning::TaskArray(tasks), Some(_), Some((second, further))) => {
+            let number = scope.entry_named(tasks.task_type, &second.ident.name);
+            entry_selected(
+                number,
+                Owner::Element(tasks),
+                false,
+                second,
+                further,
+                faults,
+            )
+        }
         (Meaning::Array(_), Some(_), Some(_)) => Denoted { meaning: None, at },
         _ => {
             wrong_kind_of_name(at, faults);

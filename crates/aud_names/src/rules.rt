@@ -3,11 +3,11 @@
 ghost use Rattle.std.specs.Prelude.{◌≡◌, not};
 ghost use Rattle.aud_fault.specs.Least.{noted};
 ghost use Rattle.aud_names.specs.Names.{is_declared};
-ghost use Rattle.aud_names.specs.Rules.{base_of_subtype, base_asked, name_not_declared, declared_once, wrong_kind_of_name, fits, right_type, wrong_number_of_arguments, not_a_variable, right_name_at_end, right_label_at_end, no_matching_body, exit_in_loop, return_in_place, raise_in_handler, good_choice, number_too_large};
+ghost use Rattle.aud_names.specs.Rules.{base_of_subtype, base_asked, name_not_declared, declared_once, wrong_kind_of_name, fits, right_type, wrong_number_of_arguments, not_a_variable, right_name_at_end, right_label_at_end, no_matching_body, accept_or_count_in_place, same_mode, agree, same_parameter, conform, formals_conform, exit_in_loop, return_in_place, raise_in_handler, good_choice, number_too_large, too_many_decimals, not_an_entry};
 
-use crate::names::Symbols;
+use crate::names::{NamedParameter, Parameter, Symbols};
 use aud_fault::fault::Least;
-use aud_syntax::tree::Ident;
+use aud_syntax::tree::{Ident, Mode};
 use aud_text::name::Name;
 use aud_text::place::Pos;
 use aud_text::refusal::Refusal;
@@ -140,6 +140,73 @@ pub fn no_matching_body(at: Pos, faults: &mut Least)
     faults.note(at, Refusal::NoMatchingBody);
 }
 
+/// An accept and a Count of an entry stand directly in the body of the task whose entry it is (RM 9.5.2(14), 9.9(4)),
+/// and an accept in no accept of the same entry (RM 9.5.2(15)).
+pub fn accept_or_count_in_place(good: bool, at: Pos, faults: &mut Least)
+    ensures { faults.new ≡ noted faults.old (accept_or_count_in_place good at) }
+{
+    if !good {
+        faults.note(at, Refusal::AcceptOrCountOutOfPlace);
+    }
+}
+
+fn same_mode(left: Mode, right: Mode) -> bool
+    ensures { result ≡ same_mode left right }
+{
+    match (left, right) {
+        (Mode::Unstated | Mode::In(_), Mode::Unstated | Mode::In(_))
+        | (Mode::Out(_), Mode::Out(_))
+        | (Mode::InOut(_), Mode::InOut(_)) => true,
+        _ => false,
+    }
+}
+
+fn agree(left: Option<Subtype>, right: Option<Subtype>) -> bool
+    ensures { result ≡ agree left right }
+{
+    match (left, right) {
+        (Some(left), Some(right)) => left == right,
+        _ => true,
+    }
+}
+
+fn same_parameter(left: Parameter, right: Parameter) -> bool
+    ensures { result ≡ same_parameter left right }
+{
+    same_mode(left.mode, right.mode) && agree(left.subtype, right.subtype)
+}
+
+/// Whether formals have the same names, modes and subtypes in order as others (RM 6.3.1).
+pub fn conform(declared: &[NamedParameter], given: &[NamedParameter]) -> bool
+    ensures { result ≡ conform declared.now given.now }
+{
+    let mut left = declared;
+    let mut right = given;
+    while let Some((first, others)) = left.split_first() {
+        let Some((second, more)) = right.split_first() else {
+            return false;
+        };
+        if first.name != second.name || !same_parameter(first.parameter, second.parameter) {
+            return false;
+        }
+        left = others;
+        right = more;
+    }
+    match right.first() {
+        None => true,
+        Some(_) => false,
+    }
+}
+
+/// The formals of an accept conform to those of its entry (RM 9.5.2(14)).
+pub fn formals_conform(good: bool, at: Pos, faults: &mut Least)
+    ensures { faults.new ≡ noted faults.old (formals_conform good at) }
+{
+    if !good {
+        faults.note(at, Refusal::FormalsDoNotConform);
+    }
+}
+
 /// An exit leaves a loop that encloses it (RM 5.7(4)).
 pub fn exit_in_loop(good: bool, at: Pos, faults: &mut Least)
     ensures { faults.new ≡ noted faults.old (exit_in_loop good at) }
@@ -181,4 +248,18 @@ pub fn number_too_large(at: Pos, faults: &mut Least)
     ensures { faults.new ≡ noted faults.old (number_too_large at) }
 {
     faults.note(at, Refusal::NumberTooLarge);
+}
+
+/// A real number has at most three decimals.
+pub fn too_many_decimals(at: Pos, faults: &mut Least)
+    ensures { faults.new ≡ noted faults.old (too_many_decimals at) }
+{
+    faults.note(at, Refusal::TooManyDecimals);
+}
+
+/// What a timed or conditional call calls is an entry (RM 9.7.2, 9.7.3).
+pub fn not_an_entry(at: Pos, faults: &mut Least)
+    ensures { faults.new ≡ noted faults.old (not_an_entry at) }
+{
+    faults.note(at, Refusal::NotAnEntry);
 }

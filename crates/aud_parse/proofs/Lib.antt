@@ -1,2 +1,4 @@
 pub mod Completing
 pub mod Rolls
+pub mod Selects
+pub mod Alternating

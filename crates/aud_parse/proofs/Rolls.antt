@@ -71,7 +71,7 @@ opt_ident_is : (s : Option Ident) → opt_ident (opt_item an_ident s) ≡ s
 opt_ident_is None = refl
 opt_ident_is (Some x) = refl
 
-opt_expression_is : (e : Option Expression) → opt_expression (opt_item expression_item e) ≡ plain_maybe e
+pub opt_expression_is : (e : Option Expression) → opt_expression (opt_item expression_item e) ≡ plain_maybe e
 opt_expression_is None = refl
 opt_expression_is (Some e) = refl
 
@@ -109,7 +109,7 @@ arms_are : (xs : List Arm) → the_arms (list_item arm_item xs) ≡ arm_list xs
 arms_are [] = refl
 arms_are (x ∷ xs) = ap (λ z. m.more_arms x.at (plain_expression x.condition) (plain_statements x.statements) z) (arms_are xs)
 
-else_is : (x : Option (Box Statements Global)) → otherwise (opt_item boxed_statements_item x) ≡ plain_others (else_statements x)
+pub else_is : (x : Option (Box Statements Global)) → otherwise (opt_item boxed_statements_item x) ≡ plain_others (else_statements x)
 else_is None = refl
 else_is (Some b) = refl
 
@@ -243,8 +243,8 @@ entries_are : (xs : List EntryDeclaration) → the_entries (list_item entry_item
 entries_are [] = refl
 entries_are (x ∷ xs) = ap (λ z. plain_entry x ∷ z) (entries_are xs)
 
-pub defined_items : (v : Vec EntryDeclaration Global) (i : Option Ident) (ds : List Item) → made g.DefinitionWithEntries (list_item entry_item v.items ∷ opt_item an_ident i ∷ ds) ≡ definition_item (record { entries = v; end_name = i }) ∷ ds
-defined_items v i ds =
+pub definition_items : (v : Vec EntryDeclaration Global) (i : Option Ident) (ds : List Item) → made g.TaskDefinition (list_item entry_item v.items ∷ opt_item an_ident i ∷ ds) ≡ definition_item (record { entries = v; end_name = i }) ∷ ds
+definition_items v i ds =
     ap (λ (z : List m.EntryDeclaration). a_definition (record { entries = z; end_name = opt_ident (opt_item an_ident i) }) ∷ ds) (entries_are v.items)
     ∙ ap (λ (z : Option Ident). a_definition (record { entries = map plain_entry v.items; end_name = z }) ∷ ds) (opt_ident_is i)
 
@@ -265,9 +265,6 @@ pub accept_items : (b : Box AcceptStatement Global) (begin : Item) (p : Ident ×
 accept_items b begin p x ds h = ap (λ z. an_accept (m.accept (place begin) p.0 z (plain_done x)) ∷ ds) (formals_are p.1.items) ∙ ap (λ z. an_accept z ∷ ds) (sym h)
 
 -- tasks
-
-pub definition_items : (v : Vec EntryDeclaration Global) (i : Option Ident) (ds : List Item) → v.items ≡ [] → made g.TaskDefinition (opt_item an_ident i ∷ ds) ≡ definition_item (record { entries = v; end_name = i }) ∷ ds
-definition_items v i ds h = ap (λ (z : Option Ident). a_definition (record { entries = []; end_name = z }) ∷ ds) (opt_ident_is i) ∙ ap (λ (z : List m.EntryDeclaration). a_definition (record { entries = z; end_name = i }) ∷ ds) (sym (ap (map plain_entry) h))
 
 definition_is : (x : Option TaskDefinition) → opt_definition (opt_item definition_item x) ≡ plain_definition x
 definition_is None = refl

@@ -1,3 +1,4 @@
+pub mod Alternatives
 pub mod Gives
 pub mod Items
 pub mod Parts

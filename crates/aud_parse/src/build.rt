@@ -19,7 +19,7 @@ use aud_text::place::Pos;
 use std::alloc::{AllocError, Global};
 
 /// A condition, and the statements that are for it.
-pub type Guarded = (Box<Expression>, Box<Statements>);
+pub type Branch = (Box<Expression>, Box<Statements>);
 
 /// The name behind `end`, if there is one, and where the semicolon stands.
 pub type End = (Option<Ident>, Pos);
@@ -42,7 +42,7 @@ pub fn add<T: Drop>(all: Vec<T>, next: Box<T>) -> Result<Vec<T>, AllocError>
 
 /// A condition and its statements, as a branch of an if statement.
 #[inline(never)]
-pub fn arm_of(alloc: Global, at: Pos, parts: Guarded) -> Result<Box<Arm>, AllocError>
+pub fn arm_of(alloc: Global, at: Pos, parts: Branch) -> Result<Box<Arm>, AllocError>
     ensures { IfOk result (λ b. b.value ≡
         record { at = at; condition = parts.0.value; statements = parts.1.value }) }
 {
@@ -85,7 +85,7 @@ pub fn assign_or_call(
 }
 
 /// The statements of an else part, of which there are none where it is missing.
-fn else_part(
+pub fn else_part(
     alloc: Global,
     otherwise: Option<Box<Statements>>,
 ) -> Result<Vec<Statement>, AllocError>
@@ -104,7 +104,7 @@ fn else_part(
 pub fn made_if(
     alloc: Global,
     at: Pos,
-    first: Guarded,
+    first: Branch,
     others: Vec<Arm>,
     otherwise: Option<Box<Statements>>,
 ) -> Result<Box<Statement>, AllocError>

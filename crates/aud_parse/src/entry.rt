@@ -1,4 +1,4 @@
-// Entries of tasks (RM 9.5.2). No program has them yet.
+// Entries of tasks (RM 9.5.2).
 
 ghost use Rattle.aud_grammar.specs.Grammar as g;
 ghost use Rattle.aud_grammar.specs.Grammar.{N, Rep};

@@ -2,11 +2,14 @@
 #![tactic(auto)]
 
 mod build;
+mod build_select;
 mod declaration;
+mod delay;
 mod entry;
 mod formals;
 mod parser;
 mod scheme;
+mod select;
 mod statement;
 mod task;
 

@@ -5,39 +5,48 @@
 
 #![tactic(auto, using(aud_cursor::proofs::Passing::turns_over))]
 
-ghost use Rattle.std.specs.Prelude.{◌≡◌, ◌∷◌, [], ℕ};
+ghost use Rattle.std.specs.Prelude.{◌≡◌, ◌∷◌, [], ℕ, false};
 ghost use Rattle.aud_lex.specs.declared.token.Kind.TheVariants as kind;
 ghost use Rattle.aud_grammar.specs.Grammar as g;
 ghost use Rattle.aud_grammar.specs.Grammar.{N, T, P, Opt, Rep};
+ghost use Rattle.aud_grammar.specs.First.{next_in};
 ghost use Rattle.aud_grammar.specs.Actions.{an_ident, token, made};
 ghost use Rattle.aud_cursor.specs.Ties.Items.{vec_item, opt_item, boxed_item};
 ghost use Rattle.aud_parse_expr.specs.Ties.Items.{expression_item};
-ghost use Rattle.aud_parse.specs.Ties.Items.{assigned_item, rest_item, scheme_item, statement_item, boxed_statement_item, boxed_statements_item, arm_item, boxed_arm_item, handler_item, boxed_handler_item, boxed_body_item, guarded_items, declaration_item, boxed_declaration_item, declare_item};
+ghost use Rattle.aud_parse.specs.Ties.Items.{assigned_item, rest_item, scheme_item, statement_item, boxed_statement_item, boxed_statements_item, arm_item, boxed_arm_item, handler_item, boxed_handler_item, boxed_body_item, done_item, doing_item, boxed_accept_item, boxed_alternative_item, else_item, last_item, further_item, boxed_otherwise_item, guarded_items, declaration_item, boxed_declaration_item, declare_item};
+ghost use Rattle.aud_parse.specs.Ties.Alternatives.{alternative_of, remaining, followed, MayComplete};
 ghost use Rattle.aud_parse.specs.Ties.Parts.{behind_label};
 ghost use Rattle.aud_cursor.specs.Ties.Reads.{Reads, MayRead, ReadsFlat, MayReadFlat, Completes, ReadsAll};
 
 use crate::build::{
-    Declare, Guarded, add, arm_of, assign_or_call, handler_of, in_order, made_block, made_body,
-    made_if, made_loop, made_procedure, made_task_body,
+    Branch, Declare, add, arm_of, assign_or_call, handler_of, in_order, made_accept, made_block,
+    made_body, made_if, made_loop, made_procedure, made_task_body,
+};
+use crate::build_select::{
+    accept_alternative_of, accepting_of, delay_alternative_of, guarded_of, made_select,
+    made_select_call, or_delay_of, or_else_of,
 };
 use crate::declaration::named_declaration;
-use crate::formals::specification;
+use crate::delay::{delay, delay_statement};
+use crate::formals::{head, specification};
 use crate::scheme::{Scheme, opt_scheme};
+use crate::select::{Form, Seen, first_form, next_form, opt_guard, terminate_alternative};
 use crate::task::task_declaration;
 use aud_cursor::behind::{both, ended};
 use aud_cursor::choice_list::choices;
-use aud_cursor::cursor::{Read, Rest, accept, deeper, is, is_one_of, token, word};
+use aud_cursor::cursor::{Fault, Read, Rest, accept, deeper, is, is_one_of, token, word};
 use aud_cursor::leaf::{ident, opt_ident};
 use aud_lex::token::{Kind, Token};
-use aud_parse_expr::expression::{expression, opt_args, opt_expression, opt_value, selected};
+use aud_parse_expr::expression::{expression, name, opt_args, opt_expression, opt_value, selected};
 use aud_syntax::tree::{
-    Arm, Body, Declaration, Expression, Handler, Ident, Name, NamePart, Statement, Statements,
+    AcceptStatement, Alternative, Arm, Body, Declaration, Expression, Guarded, Handler, Ident,
+    Name, NamePart, Otherwise, Statement, Statements,
 };
 use std::alloc::Global;
 
 const DECLARATIONS: [Kind; 3] = [Kind::Identifier, Kind::Procedure, Kind::Task];
 
-const STATEMENTS: [Kind; 11] = [
+const STATEMENTS: [Kind; 14] = [
     Kind::Null,
     Kind::Identifier,
     Kind::If,
@@ -49,6 +58,9 @@ const STATEMENTS: [Kind; 11] = [
     Kind::Exit,
     Kind::Return,
     Kind::Raise,
+    Kind::Accept,
+    Kind::Delay,
+    Kind::Select,
 ];
 
 const LOOPS: [Kind; 3] = [Kind::While, Kind::For, Kind::Loop];
@@ -179,7 +191,7 @@ fn task(alloc: Global, start: Rest, room: u32) -> Read<Box<Declaration>>
     if is(rest, Kind::Body) {
         return task_body(alloc, begin, rest, room);
     }
-    task_declaration(alloc, begin, rest)
+    task_declaration(alloc, begin, rest, room)
 }
 
 /// A declaration (RM 3.1).
@@ -335,7 +347,7 @@ fn condition(alloc: Global, start: Rest, room: u32) -> Read<Box<Expression>>
 
 /// A condition, and the statements behind `then`.
 #[cycle(statement)]
-fn guarded(alloc: Global, start: Rest, room: u32) -> Read<Guarded>
+fn guarded(alloc: Global, start: Rest, room: u32) -> Read<Branch>
     ensures { ReadsAll guarded_items
         (N g.Expression ∷ T kind.Then ∷ N g.Statements ∷ []) room start.entry result }
 {
@@ -387,7 +399,7 @@ fn opt_else(alloc: Global, start: Rest, room: u32) -> Read<Option<Box<Statements
 #[inline(never)]
 fn end_if<'a>(
     alloc: Global,
-    parts: (Guarded, Vec<Arm>, Option<Box<Statements>>),
+    parts: (Branch, Vec<Arm>, Option<Box<Statements>>),
     begin: &Token,
     start: Rest<'a>,
 ) -> Read<'a, Box<Statement>>
@@ -419,6 +431,270 @@ fn if_statement(alloc: Global, start: Rest, room: u32) -> Read<Box<Statement>>
     end_if(alloc, (first, others, otherwise), begin, rest)
 }
 
+/// The same behind `do` in place of `begin` (RM 9.5.2(3)).
+#[cycle(statement)]
+#[inline(never)]
+fn do_body(alloc: Global, start: Rest, room: u32) -> Read<Box<Body>>
+    ensures { Reads done_item (N g.Do) room start.entry result }
+{
+    let (begin, rest) = token(start, Kind::Do)?;
+    in_body(alloc, begin, rest, room)
+}
+
+/// What is done in an accept statement, if anything is.
+#[cycle(statement)]
+fn opt_do(alloc: Global, start: Rest, room: u32) -> Read<Option<Box<Body>>>
+    ensures { Reads doing_item (N g.AcceptRest) room start.entry result }
+{
+    if is(start, Kind::Do) {
+        let (body, rest) = do_body(alloc, start, room)?;
+        return Ok((Some(body), rest));
+    }
+    let rest = word(start, Kind::Semicolon)?;
+    Ok((None, rest))
+}
+
+/// An accept statement.
+#[cycle(statement)]
+#[inline(never)]
+fn accept_statement(alloc: Global, start: Rest, room: u32) -> Read<Box<AcceptStatement>>
+    ensures { Reads boxed_accept_item (N g.Accept) room start.entry result }
+{
+    let (begin, rest) = token(start, Kind::Accept)?;
+    let (parts, rest) = head(alloc, rest, room)?;
+    let (doing, rest) = opt_do(alloc, rest, room)?;
+    let statement = made_accept(alloc, begin.at(), parts, doing)?;
+    Ok((statement, rest))
+}
+
+/// An accept statement, as a statement.
+#[cycle(statement)]
+fn accepting(alloc: Global, start: Rest, room: u32) -> Read<Box<Statement>>
+    ensures { Reads boxed_statement_item (N g.AcceptStatement) room start.entry result }
+{
+    let (accept, rest) = accept_statement(alloc, start, room)?;
+    let statement = accepting_of(alloc, accept)?;
+    Ok((statement, rest))
+}
+
+/// Statements, if there are any.
+#[cycle(statement)]
+#[inline(never)]
+fn opt_statements(alloc: Global, start: Rest, room: u32) -> Read<Option<Box<Statements>>>
+    ensures { MayRead (opt_item boxed_statements_item) (Opt g.Statements) room start.entry result }
+{
+    if is_one_of(start, &STATEMENTS) {
+        let (inner, rest) = statements(alloc, start, room)?;
+        return Ok((Some(inner), rest));
+    }
+    Ok((None, start))
+}
+
+/// An accept alternative (RM 9.7.1(5)).
+#[cycle(statement)]
+#[inline(never)]
+fn accept_alternative(alloc: Global, start: Rest, room: u32) -> Read<Box<Alternative>>
+    ensures { Reads boxed_alternative_item (N g.AcceptAlternative) room start.entry result }
+{
+    let (accept, rest) = accept_statement(alloc, start, room)?;
+    let (behind, rest) = opt_statements(alloc, rest, room)?;
+    let alternative = accept_alternative_of(alloc, accept, behind)?;
+    Ok((alternative, rest))
+}
+
+/// A delay alternative (RM 9.7.1(6)).
+#[cycle(statement)]
+#[inline(never)]
+fn delay_alternative(alloc: Global, start: Rest, room: u32) -> Read<Box<Alternative>>
+    ensures { Reads boxed_alternative_item (N g.DelayAlternative) room start.entry result }
+{
+    let (delay, rest) = delay(alloc, start, room)?;
+    let (behind, rest) = opt_statements(alloc, rest, room)?;
+    let alternative = delay_alternative_of(alloc, delay, behind)?;
+    Ok((alternative, rest))
+}
+
+/// An alternative that begins so.
+#[cycle(statement)]
+fn alternative(alloc: Global, form: Form, start: Rest, room: u32) -> Read<Box<Alternative>>
+    ensures { Reads boxed_alternative_item (N (alternative_of form)) room start.entry result }
+{
+    match form {
+        Form::Accept => accept_alternative(alloc, start, room),
+        Form::Delay => delay_alternative(alloc, start, room),
+        Form::Terminate => terminate_alternative(alloc, start),
+    }
+}
+
+/// The statements behind `else`.
+#[cycle(statement)]
+fn else_part(alloc: Global, start: Rest, room: u32) -> Read<Box<Statements>>
+    ensures { Reads boxed_statements_item (N g.ElsePart) room start.entry result }
+{
+    let rest = word(start, Kind::Else)?;
+    statements(alloc, rest, room)
+}
+
+/// The statements behind `else` that accepts may end with, if there are any.
+#[cycle(statement)]
+fn after_accepts(alloc: Global, start: Rest, room: u32) -> Read<Option<Box<Statements>>>
+    ensures { next_in (kind.Or ∷ []) start.entry.tokens.now ≡ false →
+        MayRead (opt_item else_item) (Opt g.AfterAccept) room start.entry result }
+{
+    if is(start, Kind::Else) {
+        let (inner, rest) = else_part(alloc, start, room)?;
+        return Ok((Some(inner), rest));
+    }
+    Ok((None, start))
+}
+
+/// What follows the last alternative: statements behind `else`, where there may be some.
+#[cycle(statement)]
+fn after_last(alloc: Global, seen: Seen, start: Rest, room: u32) -> Read<Option<Box<Statements>>>
+    ensures { next_in (kind.Or ∷ []) start.entry.tokens.now ≡ false →
+        MayComplete (followed seen) last_item (remaining seen) room start.entry result }
+{
+    match seen {
+        Seen::Accepts => after_accepts(alloc, start, room),
+        Seen::AcceptsAndDelays | Seen::AcceptsAndTerminate => Ok((None, start)),
+        Seen::Delays | Seen::Terminate => Err(Fault::Wrong(start)),
+    }
+}
+
+/// The alternatives behind the first, and the statements behind `else`, if there are any.
+#[cycle(statement)]
+#[inline(never)]
+fn more_alternatives(
+    alloc: Global,
+    seen: Seen,
+    start: Rest,
+    room: u32,
+) -> Read<(Vec<Guarded>, Option<Box<Statements>>)>
+    ensures { MayComplete (followed seen) further_item (remaining seen) room start.entry result }
+{
+    let mut all = Vec::new(alloc);
+    let mut so_far = seen;
+    let mut rest = start;
+    'turns: while let Some((_, behind)) = accept(rest, Kind::Or) {
+        let (guard, behind) = opt_guard(alloc, behind, room)?;
+        let (form, next) = next_form(so_far, behind);
+        let (one, after) = alternative(alloc, form, behind, room)?;
+        let one = guarded_of(alloc, guard, one)?;
+        all = add(all, one)?;
+        so_far = next;
+        rest = after;
+    }
+    let (otherwise, rest) = after_last(alloc, so_far, rest, room)?;
+    Ok(((all, otherwise), rest))
+}
+
+/// A selective accept, behind its first word (RM 9.7.1).
+#[cycle(statement)]
+#[inline(never)]
+fn select_accept<'a>(
+    alloc: Global,
+    begin: &Token,
+    start: Rest<'a>,
+    room: u32,
+) -> Read<'a, Box<Statement>>
+    ensures { Completes (λ es. made g.Select (token begin.now ∷ es)) boxed_statement_item
+        (N g.AcceptSelect ∷ []) room start.entry result }
+{
+    let (guard, rest) = opt_guard(alloc, start, room)?;
+    let (form, seen) = first_form(rest);
+    let (first, rest) = alternative(alloc, form, rest, room)?;
+    let first = guarded_of(alloc, guard, first)?;
+    let (parts, rest) = more_alternatives(alloc, seen, rest, room)?;
+    let (others, otherwise) = parts;
+    let statement = made_select(alloc, begin.at(), first, others, otherwise)?;
+    Ok((statement, rest))
+}
+
+/// What is done in place of an entry call when its time is over (RM 9.7.2).
+#[cycle(statement)]
+#[inline(never)]
+fn or_delay(alloc: Global, start: Rest, room: u32) -> Read<Box<Otherwise>>
+    ensures { Reads boxed_otherwise_item (N g.OrDelay) room start.entry result }
+{
+    let rest = word(start, Kind::Or)?;
+    let (delay, rest) = delay(alloc, rest, room)?;
+    let (behind, rest) = opt_statements(alloc, rest, room)?;
+    let otherwise = or_delay_of(alloc, delay, behind)?;
+    Ok((otherwise, rest))
+}
+
+/// What is done in place of an entry call that does not begin at once (RM 9.7.3).
+#[cycle(statement)]
+#[inline(never)]
+fn or_else(alloc: Global, start: Rest, room: u32) -> Read<Box<Otherwise>>
+    ensures { Reads boxed_otherwise_item (N g.OrElsePart) room start.entry result }
+{
+    let (inner, rest) = else_part(alloc, start, room)?;
+    let otherwise = or_else_of(alloc, inner)?;
+    Ok((otherwise, rest))
+}
+
+/// What is done in place of an entry call.
+#[cycle(statement)]
+fn otherwise(alloc: Global, start: Rest, room: u32) -> Read<Box<Otherwise>>
+    ensures { Reads boxed_otherwise_item (N g.Otherwise) room start.entry result }
+{
+    if is(start, Kind::Or) {
+        return or_delay(alloc, start, room);
+    }
+    or_else(alloc, start, room)
+}
+
+/// A timed or a conditional entry call, behind its first word (RM 9.7.2, 9.7.3).
+#[cycle(statement)]
+#[inline(never)]
+fn select_call<'a>(
+    alloc: Global,
+    begin: &Token,
+    start: Rest<'a>,
+    room: u32,
+) -> Read<'a, Box<Statement>>
+    ensures { Completes (λ es. made g.Select (token begin.now ∷ es)) boxed_statement_item
+        (N g.CallSelect ∷ []) room start.entry result }
+{
+    let (call, rest) = name(alloc, start, room)?;
+    let rest = word(rest, Kind::Semicolon)?;
+    let (behind, rest) = opt_statements(alloc, rest, room)?;
+    let (other, rest) = otherwise(alloc, rest, room)?;
+    let statement = made_select_call(alloc, begin.at(), call, behind, other)?;
+    Ok((statement, rest))
+}
+
+/// A select statement behind its first word, up to its `end`.
+#[cycle(statement)]
+fn select_rest<'a>(
+    alloc: Global,
+    begin: &Token,
+    start: Rest<'a>,
+    room: u32,
+) -> Read<'a, Box<Statement>>
+    ensures { Completes (λ es. made g.Select (token begin.now ∷ es)) boxed_statement_item
+        (N g.SelectRest ∷ []) room start.entry result }
+{
+    if is(start, Kind::Identifier) {
+        return select_call(alloc, begin, start, room);
+    }
+    select_accept(alloc, begin, start, room)
+}
+
+/// A select statement (RM 9.7).
+#[cycle(statement)]
+#[inline(never)]
+fn select(alloc: Global, start: Rest, room: u32) -> Read<Box<Statement>>
+    ensures { Reads boxed_statement_item (N g.Select) room start.entry result }
+{
+    let (begin, rest) = token(start, Kind::Select)?;
+    let (statement, rest) = select_rest(alloc, begin, rest, room)?;
+    let (statement, rest) = ended(statement, rest, Kind::End)?;
+    let (statement, rest) = ended(statement, rest, Kind::Select)?;
+    ended(statement, rest, Kind::Semicolon)
+}
+
 /// A statement.
 #[cycle(statement)]
 fn statement(alloc: Global, start: Rest, room: u32) -> Read<Box<Statement>>
@@ -445,7 +721,16 @@ fn statement(alloc: Global, start: Rest, room: u32) -> Read<Box<Statement>>
     if is(start, Kind::Return) {
         return return_statement(alloc, start, room);
     }
-    raise(alloc, start)
+    if is(start, Kind::Raise) {
+        return raise(alloc, start);
+    }
+    if is(start, Kind::Accept) {
+        return accepting(alloc, start, room);
+    }
+    if is(start, Kind::Delay) {
+        return delay_statement(alloc, start, room);
+    }
+    select(alloc, start, room)
 }
 
 /// The further statements.

@@ -43,7 +43,7 @@ const EXPRESSIONS: [Kind; 8] = [
 
 /// An expression in parentheses, which lies one level deeper, and where they open.
 #[cycle(expression)]
-fn parens(alloc: Global, start: Rest, room: u32) -> Read<(Pos, Box<Expression>)>
+pub fn parens(alloc: Global, start: Rest, room: u32) -> Read<(Pos, Box<Expression>)>
     ensures { Reads parens_item (N g.Parens) room start.entry result }
 {
     let inside = deeper(start, room, is(start, Kind::LeftParenthesis))?;
@@ -135,7 +135,7 @@ pub fn selected(alloc: Global, start: Rest, room: u32) -> Read<Vec<NamePart>>
 /// A name (RM 4.1).
 #[cycle(expression)]
 #[inline(never)]
-fn name(alloc: Global, start: Rest, room: u32) -> Read<Box<Name>>
+pub fn name(alloc: Global, start: Rest, room: u32) -> Read<Box<Name>>
     ensures { Reads name_item (N g.Name) room start.entry result }
 {
     let (first, rest) = part(alloc, start, room)?;

@@ -11,7 +11,8 @@ use Rattle.aud_meaning.specs.Ties.Stack.{out_of_loops}
 use Rattle.aud_code.specs.declared.line.EndLine.{EndLine}
 use Rattle.aud_code.specs.declared.line.Ending.TheVariants.{Declare, DeclareArray, Null, Assign, Put, If, While, Loop, Exit, Raise, RaiseAgain, Block, Return, Call}
 use Rattle.aud_code.specs.declared.line.Last.{Last}
-use Rattle.aud_code.specs.declared.line.Last.TheVariants.{Does, DeclaresTasks, Activates, EndsActivation, Continues, Guards, Ends, Leaves}
+use Rattle.aud_code.specs.declared.line.Among.TheVariants as among
+use Rattle.aud_code.specs.declared.line.Last.TheVariants.{Does, Concerns, Continues, Guards, Ends, Leaves}
 use Rattle.aud_code.specs.Places.{Spot, is_there}
 use Rattle.aud_code.specs.Instruction.{Ended, no_operands}
 use Rattle.aud_code.specs.Eval.{eval}
@@ -36,9 +37,13 @@ leaving plan (Does RaiseAgain next) s x = refl
 leaving plan (Does (Block region inside) next) s x = refl
 leaving plan (Does (Return w) next) s x = refl
 leaving plan (Does (Call unit) next) s x = refl
-leaving plan (DeclaresTasks ts next) s x = refl
-leaving plan (Activates next) s x = refl
-leaving plan (EndsActivation next) s x = refl
+leaving plan (Concerns (among.DeclareTasks ts) next) s x = refl
+leaving plan (Concerns among.Activate next) s x = refl
+leaving plan (Concerns among.Activated next) s x = refl
+leaving plan (Concerns (among.Call entry form otherwise) next) s x = refl
+leaving plan (Concerns among.Delay next) s x = refl
+leaving plan (Concerns (among.Accept entry region body) next) s x = refl
+leaving plan (Concerns (among.Select has_else own offers) next) s x = refl
 leaving plan (Continues f behind inside) s x = refl
 leaving plan (Guards gs) s x = refl
 leaving plan (Ends c next) s x = refl
@@ -76,8 +81,8 @@ module _ (code : Flat) (q : Part Spot) where
   none_by : (x : Coming) → IsLeaving false x → IsOfMaster q.stack None x
   none_by (simply w) h = refl
   none_by ending h = absurd cc
-  none_by (selecting ones) h = absurd h
-  none_by (calling task entry) h = absurd h
+  none_by (selecting ones) h = refl
+  none_by (calling task entry) h = refl
   none_by (starting object reading) h = absurd h
 
   pub none_left : LeavesIn code q false → LeavesMaster code q None
@@ -86,8 +91,8 @@ module _ (code : Flat) (q : Part Spot) where
   some_by : (master : Option ℕ) (x : Coming) → master ≡ master_left_by (out_of_loops q.stack).opened → IsLeaving true x → IsOfMaster q.stack master x
   some_by master (simply w) is h = absurd cc
   some_by master ending is h = is
-  some_by master (selecting ones) is h = absurd h
-  some_by master (calling task entry) is h = absurd h
+  some_by master (selecting ones) is h = absurd cc
+  some_by master (calling task entry) is h = absurd cc
   some_by master (starting object reading) is h = absurd h
 
   pub some_left : (master : Option ℕ) → master ≡ master_left_by (out_of_loops q.stack).opened → LeavesIn code q true → LeavesMaster code q master

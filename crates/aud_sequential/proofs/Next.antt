@@ -11,7 +11,8 @@ use Rattle.aud_meaning.specs.Ties.Stack.{Stack, out_of_loops}
 use Rattle.aud_code.specs.declared.line.EndLine.{EndLine}
 use Rattle.aud_code.specs.declared.line.Ending.TheVariants.{Declare, DeclareArray, Null, Assign, Put, If, While, Loop, Exit, Raise, RaiseAgain, Block, Return, Call}
 use Rattle.aud_code.specs.declared.line.Last.{Last}
-use Rattle.aud_code.specs.declared.line.Last.TheVariants.{Does, DeclaresTasks, Activates, EndsActivation, Continues, Guards, Ends, Leaves}
+use Rattle.aud_code.specs.declared.line.Among.TheVariants as among
+use Rattle.aud_code.specs.declared.line.Last.TheVariants.{Does, Concerns, Continues, Guards, Ends, Leaves}
 use Rattle.aud_code.specs.Places.{Spot, is_there}
 use Rattle.aud_code.specs.Instruction.{Ended, no_operands}
 use Rattle.aud_code.specs.Eval.{eval}
@@ -36,9 +37,13 @@ of_kind plan stack (Does RaiseAgain next) s x = refl
 of_kind plan stack (Does (Block region inside) next) s x = refl
 of_kind plan stack (Does (Return w) next) s x = refl
 of_kind plan stack (Does (Call unit) next) s x = refl
-of_kind plan stack (DeclaresTasks ts next) s x = refl
-of_kind plan stack (Activates next) s x = refl
-of_kind plan stack (EndsActivation next) s x = refl
+of_kind plan stack (Concerns (among.DeclareTasks ts) next) s x = refl
+of_kind plan stack (Concerns among.Activate next) s x = refl
+of_kind plan stack (Concerns among.Activated next) s x = refl
+of_kind plan stack (Concerns (among.Call entry form otherwise) next) s x = refl
+of_kind plan stack (Concerns among.Delay next) s x = refl
+of_kind plan stack (Concerns (among.Accept entry region body) next) s x = refl
+of_kind plan stack (Concerns (among.Select has_else own offers) next) s x = refl
 of_kind plan stack (Continues f behind inside) s x = refl
 of_kind plan stack (Guards gs) s x = refl
 of_kind plan stack (Ends c next) s x = refl

@@ -9,7 +9,7 @@ use Rattle.aud_typed.specs.Tree.{Plan, UnitPlan}
 use Rattle.aud_meaning.specs.Configuration.{Target, for_block, for_loop, for_procedure, Own, Shared, Acting}
 use Rattle.aud_meaning.specs.Control.{Scene, Asked, goes_on, assigns, enters_loop, next_of_loop, goes_out, enters_block, calls_procedure, declares as asks_declaration}
 use Rattle.aud_meaning.specs.Evaluation.{Sight, nearest_zero}
-use Rattle.aud_meaning.specs.Effects.{assigned, put_out, elaborated_in, innermost, live_frames}
+use Rattle.aud_meaning.specs.Effects.{put_out, elaborated_in, innermost, live_frames}
 use Rattle.aud_meaning.specs.Effects as own
 use Rattle.aud_meaning.specs.Orders.{Orders}
 use Rattle.aud_meaning.specs.Parts.{no_unit, unit_of}
@@ -23,14 +23,14 @@ use Rattle.aud_code.specs.declared.line.Ending.{Ending}
 use Rattle.aud_code.specs.declared.line.Ending.TheVariants.{Declare, DeclareArray, Null, Assign, Put, If, While, Loop, Exit, RaiseAgain, Block, Return, Call}
 use Rattle.aud_code.specs.declared.line.Ending.TheVariants as ending
 use Rattle.aud_code.specs.declared.line.Last.{Last}
-use Rattle.aud_code.specs.declared.line.Last.TheVariants.{Does, DeclaresTasks, Activates, EndsActivation, Continues, Guards, Ends, Leaves}
+use Rattle.aud_code.specs.declared.line.Last.TheVariants.{Does, Concerns, Continues, Guards, Ends, Leaves}
 use Rattle.aud_code.specs.declared.line.ForLoop.{ForLoop}
 use Rattle.aud_code.specs.declared.line.Way.{Way}
 use Rattle.aud_code.specs.Control.{going}
 use Rattle.aud_code.specs.Places.{Spot, goes, goes_there, goes_way, loops_of}
 use Rattle.aud_code.specs.Instruction.{Operands, Reached}
 use Rattle.aud_code.specs.Eval.{newest, with_one, with_two as asked_two, passed_in}
-use Rattle.aud_code.specs.Flat.{Flat, end_at, start_at, asked_last}
+use Rattle.aud_code.specs.Flat.{Flat, end_at, asked_last}
 use Rattle.aud_code.specs.Flat as flat
 use Rattle.aud_code.specs.Sound.{Takes, LastFine, counts_of}
 use Rattle.aud_code.specs.View.{plain_end, plain_last, plain_for, ways_of, exit_of}
@@ -216,9 +216,7 @@ module _ (units : List UnitPlan) (plain : ArePlain units) (code : Flat) (q : Par
 
   by_last : (last : Last) → IsOfOne last → ((e : Ending) (next : ℕ) → last ≡ Does e next → ⊥) → ((f : ForLoop) (behind inside : ℕ) → last ≡ Continues f behind inside → ⊥) → plain_end (record l { last = last }) ≡ end_at code q.control.place → (x : Operands) → Answers last q x
   by_last (Does e next) one no_statement no_loop there x = absurd (no_statement e next refl)
-  by_last (DeclaresTasks ts next) one no_statement no_loop there x = absurd one
-  by_last (Activates next) one no_statement no_loop there x = absurd one
-  by_last (EndsActivation next) one no_statement no_loop there x = absurd one
+  by_last (Concerns a next) one no_statement no_loop there x = absurd one
   by_last (Continues f behind inside) one no_statement no_loop there x = absurd (no_loop f behind inside refl)
   by_last (Guards gs) one no_statement no_loop there x = λ s plan has barrier o shared. goes_to code plan barrier o shared q (record l { last = Guards gs }) there (within o shared q) 0 q.control refl
   by_last (Ends c next) one no_statement no_loop there x = absurd one

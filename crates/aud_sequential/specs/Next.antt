@@ -15,7 +15,9 @@ use Rattle.aud_code.specs.Flat.{Flat, coming_at, end_at}
 use Rattle.aud_code.specs.declared.line.Ending.{Ending}
 use Rattle.aud_code.specs.declared.line.Ending.TheVariants.{Declare, DeclareArray, Null, Assign, Put, If, While, Loop, Exit, Raise, RaiseAgain, Block, Return, Call}
 use Rattle.aud_code.specs.declared.line.Last.{Last}
-use Rattle.aud_code.specs.declared.line.Last.TheVariants.{Does, DeclaresTasks, Activates, EndsActivation, Continues, Guards, Ends, Leaves}
+use Rattle.aud_code.specs.declared.line.Among.{Among}
+use Rattle.aud_code.specs.declared.line.Among.TheVariants as among
+use Rattle.aud_code.specs.declared.line.Last.TheVariants.{Does, Concerns, Continues, Guards, Ends, Leaves}
 
 -- the kind of a statement's step
 abbrev pub statement_kind : Ending → StepKind
@@ -34,23 +36,30 @@ statement_kind (Block region inside) = kind.Block
 statement_kind (Return w) = kind.Return
 statement_kind (Call unit) = kind.Proc
 
+abbrev pub among_kind : Among → StepKind
+among_kind (among.DeclareTasks ts) = kind.Declaration
+among_kind among.Activate = kind.Activate
+among_kind among.Activated = kind.Activated
+among_kind (among.Call entry form otherwise) = kind.Call
+among_kind among.Delay = kind.Delay
+among_kind (among.Accept entry region body) = kind.Accept
+among_kind (among.Select has_else own offers) = kind.Select
+
 -- the kind of a step, by how it ends, with that of the step which leaves the innermost construct
 abbrev pub step_kind : Last → StepKind → StepKind
 step_kind (Does e next) leaving = statement_kind e
-step_kind (DeclaresTasks ts next) leaving = kind.Declaration
-step_kind (Activates next) leaving = kind.Activate
-step_kind (EndsActivation next) leaving = kind.Activated
+step_kind (Concerns a next) leaving = among_kind a
 step_kind (Continues f behind inside) leaving = kind.Next
 step_kind (Guards gs) leaving = leaving
 step_kind (Ends c next) leaving = leaving
 step_kind (Leaves n to) leaving = leaving
 
--- what comes next is a step of this kind, and has a single move
+-- what comes next is a step of this kind
 abbrev pub IsOfKind : Stack → StepKind → Coming → Type 0
 IsOfKind s k (simply w) = k ≡ w
 IsOfKind s k ending = k ≡ end_kind_by (out_of_loops s).opened
-IsOfKind s k (selecting ones) = ⊥
-IsOfKind s k (calling task entry) = ⊥
+IsOfKind s k (selecting ones) = k ≡ kind.Select
+IsOfKind s k (calling task entry) = k ≡ kind.Call
 IsOfKind s k (starting object reading) = ⊥
 
 -- so it is, whatever the program's plan and what it sees

@@ -25,12 +25,12 @@ leaves_by (Ends c next) = true
 leaves_by (Leaves n to) = true
 leaves_by last = false
 
--- what comes next leaves the innermost construct, or does not, and has a single move
+-- what comes next leaves the innermost construct, or does not
 abbrev pub IsLeaving : Bool → Coming → Type 0
 IsLeaving leaves (simply w) = leaves ≡ false
 IsLeaving leaves ending = leaves ≡ true
-IsLeaving leaves (selecting ones) = ⊥
-IsLeaving leaves (calling task entry) = ⊥
+IsLeaving leaves (selecting ones) = leaves ≡ false
+IsLeaving leaves (calling task entry) = leaves ≡ false
 IsLeaving leaves (starting object reading) = ⊥
 
 -- so it is, whatever the program's plan and what it sees
@@ -41,8 +41,8 @@ LeavesIn code p leaves = (plan : Plan) (s : Sight) → IsLeaving leaves (coming_
 abbrev pub IsOfMaster : Stack → Option ℕ → Coming → Type 0
 IsOfMaster s master (simply w) = master ≡ None
 IsOfMaster s master ending = master ≡ master_left_by (out_of_loops s).opened
-IsOfMaster s master (selecting ones) = ⊥
-IsOfMaster s master (calling task entry) = ⊥
+IsOfMaster s master (selecting ones) = master ≡ None
+IsOfMaster s master (calling task entry) = master ≡ None
 IsOfMaster s master (starting object reading) = ⊥
 
 abbrev pub LeavesMaster : Flat → Part Spot → Option ℕ → Type 0

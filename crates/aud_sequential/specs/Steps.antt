@@ -19,7 +19,7 @@ use Rattle.aud_code.specs.declared.line.Ending.{Ending}
 use Rattle.aud_code.specs.declared.line.Ending.TheVariants.{Declare, DeclareArray, Null, Assign, Put, If, While, Loop, Exit, RaiseAgain, Block, Return, Call}
 use Rattle.aud_code.specs.declared.line.Ending.TheVariants as ending
 use Rattle.aud_code.specs.declared.line.Last.{Last}
-use Rattle.aud_code.specs.declared.line.Last.TheVariants.{Does, DeclaresTasks, Activates, EndsActivation, Continues, Guards, Ends, Leaves}
+use Rattle.aud_code.specs.declared.line.Last.TheVariants.{Does, Concerns, Continues, Guards, Ends, Leaves}
 use Rattle.aud_code.specs.declared.line.ForLoop.{ForLoop}
 use Rattle.aud_code.specs.declared.line.Way.{Way}
 use Rattle.aud_code.specs.Control.{going}
@@ -43,9 +43,7 @@ IsOfOneTask e = Unit {0}
 
 abbrev pub IsOfOne : Last → Type 0
 IsOfOne (Does e next) = IsOfOneTask e
-IsOfOne (DeclaresTasks ts next) = ⊥
-IsOfOne (Activates next) = ⊥
-IsOfOne (EndsActivation next) = ⊥
+IsOfOne (Concerns a next) = ⊥
 IsOfOne (Continues f behind inside) = Unit {0}
 IsOfOne (Guards gs) = Unit {0}
 IsOfOne (Ends c next) = ⊥

@@ -1,9 +1,9 @@
 // What kind of step comes next, by how it ends.
 
 ghost use Rattle.std.specs.Prelude.{◌≡◌};
-ghost use Rattle.aud_sequential.specs.Next.{statement_kind, step_kind};
+ghost use Rattle.aud_sequential.specs.Next.{among_kind, statement_kind, step_kind};
 
-use aud_code::line::{Ending, Last};
+use aud_code::line::{Among, Ending, Last};
 use aud_meaning::state::StepKind;
 
 // The kind of a step, by how it ends; `leaving` is that of the step that leaves the innermost construct.
@@ -12,11 +12,23 @@ pub(crate) fn step_kind(last: &Last, leaving: StepKind) -> StepKind
 {
     match last {
         Last::Does(ending, _) => statement_kind(*ending),
-        Last::DeclaresTasks(_, _) => StepKind::Declaration,
-        Last::Activates(_) => StepKind::Activate,
-        Last::EndsActivation(_) => StepKind::Activated,
+        Last::Concerns(among, _) => among_kind(among),
         Last::Continues { .. } => StepKind::Next,
         Last::Guards(_) | Last::Ends(_, _) | Last::Leaves { .. } => leaving,
+    }
+}
+
+fn among_kind(among: &Among) -> StepKind
+    ensures { result ≡ among_kind among.now }
+{
+    match among {
+        Among::DeclareTasks(_) => StepKind::Declaration,
+        Among::Activate => StepKind::Activate,
+        Among::Activated => StepKind::Activated,
+        Among::Call { .. } => StepKind::Call,
+        Among::Delay => StepKind::Delay,
+        Among::Accept { .. } => StepKind::Accept,
+        Among::Select { .. } => StepKind::Select,
     }
 }
 

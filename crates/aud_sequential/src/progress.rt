@@ -14,6 +14,7 @@ ghost use Rattle.aud_sequential.specs.Steps.{written, left_loops};
 ghost use Rattle.aud_sequential.specs.Parked.{no_part};
 ghost use Rattle.aud_sequential.specs.Fast.{RunsFast};
 
+mod accepts;
 mod calls;
 mod opening;
 pub mod parked;

@@ -94,7 +94,7 @@ impl Standing<'_> {
         match self.stack.construct() {
             Some(open) => match open.purpose {
                 Purpose::Block | Purpose::Procedure { .. } => Some(open.frame),
-                Purpose::Body | Purpose::Loop => None,
+                Purpose::Body | Purpose::Loop | Purpose::Accept { .. } => None,
             },
             None => None,
         }
@@ -108,6 +108,7 @@ impl Standing<'_> {
             Some(open) => match open.purpose {
                 Purpose::Block | Purpose::Procedure { .. } => StepKind::Leave,
                 Purpose::Body | Purpose::Loop => StepKind::Complete,
+                Purpose::Accept { .. } => StepKind::Endaccept,
             },
             None => StepKind::Complete,
         }
@@ -120,10 +121,6 @@ fn leaves(last: &Last) -> bool
 {
     match last {
         Last::Guards(_) | Last::Ends(_, _) | Last::Leaves { .. } => true,
-        Last::Does(_, _)
-        | Last::DeclaresTasks(_, _)
-        | Last::Activates(_)
-        | Last::EndsActivation(_)
-        | Last::Continues { .. } => false,
+        Last::Does(_, _) | Last::Concerns(_, _) | Last::Continues { .. } => false,
     }
 }

@@ -44,11 +44,7 @@ impl Progress {
                 inside,
             } => self.continue_loop(*control, *behind, *inside),
             Last::Guards(_) => {}
-            Last::DeclaresTasks(_, _)
-            | Last::Activates(_)
-            | Last::EndsActivation(_)
-            | Last::Ends(_, _)
-            | Last::Leaves { .. } => unreachable!(),
+            Last::Concerns(_, _) | Last::Ends(_, _) | Last::Leaves { .. } => unreachable!(),
         }
         Ok(())
     }

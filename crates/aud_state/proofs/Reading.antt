@@ -7,7 +7,7 @@ use Rattle.aud_meaning.specs.Effects as own
 use Rattle.aud_meaning.specs.Parts.{nobody, own_of}
 use Rattle.aud_meaning.specs.Run.{construct_left, end_kind_by, master_left_by}
 use Rattle.aud_meaning.specs.Ties.Part.{Part}
-use Rattle.aud_meaning.specs.Ties.Stack.{Stack, out_of_loops, out_of_loops_by}
+use Rattle.aud_meaning.specs.Ties.Stack.{out_of_loops, out_of_loops_by}
 use Rattle.aud_code.specs.Places.{Spot}
 use Rattle.aud_sequential.specs.Next.{IsOfKind}
 use Rattle.aud_sequential.specs.Standing.{IsOfMaster}
@@ -49,13 +49,13 @@ left_same o = loops_by o.opened o
 pub leaves_own : (o : Own) (m : Option ℕ) (x : Coming) → IsOfMaster (record { display = o.display; opened = o.opened }) m x → LeavesBy o m x
 leaves_own o m (simply w) h = h
 leaves_own o m ending h = h ∙ sym (ap master_left_by (left_same o))
-leaves_own o m (selecting ones) h = absurd h
-leaves_own o m (calling task entry) h = absurd h
+leaves_own o m (selecting ones) h = h
+leaves_own o m (calling task entry) h = h
 leaves_own o m (starting object reading) h = absurd h
 
 pub kind_own : (o : Own) (k : StepKind) (x : Coming) → IsOfKind (record { display = o.display; opened = o.opened }) k x → IsOfItsKind o k x
 kind_own o k (simply w) h = h
 kind_own o k ending h = h ∙ sym (ap end_kind_by (left_same o))
-kind_own o k (selecting ones) h = absurd h
-kind_own o k (calling task entry) h = absurd h
+kind_own o k (selecting ones) h = h
+kind_own o k (calling task entry) h = h
 kind_own o k (starting object reading) h = absurd h

@@ -8,6 +8,7 @@ use Rattle.aud_meaning.specs.declared.state.Owner.{Owner}
 use Rattle.aud_meaning.specs.declared.state.Owner.TheVariants as owner
 use Rattle.aud_meaning.specs.declared.state.Status.TheVariants.{Running}
 use Rattle.aud_meaning.specs.declared.state.StepKind.{StepKind}
+use Rattle.aud_meaning.specs.declared.state.StepKind.TheVariants as step
 use Rattle.aud_meaning.specs.Configuration.{Call, Own, TaskAt, All}
 use Rattle.aud_meaning.specs.Control.{Coming, simply, ending, selecting, calling, starting}
 use Rattle.aud_meaning.specs.Evaluation.{Sight}
@@ -32,16 +33,16 @@ coming_by code plan s (Some t) = coming_at code plan t.own.pending s t.control
 abbrev pub LeavesBy : Own → Option ℕ → Coming → Type 0
 LeavesBy own master (simply w) = master ≡ None
 LeavesBy own master ending = master ≡ master_left_by (construct_left own)
-LeavesBy own master (selecting ones) = ⊥
-LeavesBy own master (calling task entry) = ⊥
+LeavesBy own master (selecting ones) = master ≡ None
+LeavesBy own master (calling task entry) = master ≡ None
 LeavesBy own master (starting object reading) = ⊥
 
 -- it is a step of this kind
 abbrev pub IsOfItsKind : Own → StepKind → Coming → Type 0
 IsOfItsKind own kind (simply w) = kind ≡ w
 IsOfItsKind own kind ending = kind ≡ end_kind_by (construct_left own)
-IsOfItsKind own kind (selecting ones) = ⊥
-IsOfItsKind own kind (calling task entry) = ⊥
+IsOfItsKind own kind (selecting ones) = kind ≡ step.Select
+IsOfItsKind own kind (calling task entry) = kind ≡ step.Call
 IsOfItsKind own kind (starting object reading) = ⊥
 
 -- the place that is shown for its own statements

@@ -1,12 +1,11 @@
 // Accepts, and the calls that they take (RM 9.5.2).
 
-ghost use Rattle.std.specs.Prelude.{◌≡◌, ℕ, List, ◌&&◌, filter, find, length, nat_eq, not, OnOk};
+ghost use Rattle.std.specs.Prelude.{◌≡◌, ◌&&◌, filter, find, length, map, nat_eq, not, IfOk, OnOk};
 ghost use Rattle.aud_meaning.specs.Configuration.{for_accept, Shared};
 ghost use Rattle.aud_meaning.specs.Effects.{opens};
 ghost use Rattle.aud_meaning.specs.Parts.{acting, alone, is_accepting, is_callable, on_task, open_alternatives, own_of};
 ghost use Rattle.aud_meaning.specs.Ties.Part.{rest_of, shared_by};
 ghost use Rattle.aud_code.specs.Control.{going};
-ghost use Rattle.aud_code.specs.Places.{Spot};
 ghost use Rattle.aud_state.specs.Chosen.{chosen};
 ghost use Rattle.aud_state.specs.View.{begins_accept, plain_task};
 
@@ -32,6 +31,18 @@ impl Task {
         }
     }
 
+    // The numbers of its open alternatives for an entry.
+    fn open_alternatives(&self, alloc: Global, entry: usize) -> Result<Vec<usize>, AllocError>
+        ensures { IfOk result (λ numbers. numbers.items ≡
+            map (λ a. a.alternative) (open_alternatives (plain_task self.now).own entry)) }
+    {
+        if self.is_open() {
+            let numbers = numbers_for(alloc, &self.waits.accepts, entry)?;
+            return Ok(numbers);
+        }
+        Ok(Vec::new(alloc))
+    }
+
     // Whether it is blocked at accepts that may take a call.
     fn is_open(&self) -> bool
         ensures { result ≡ (is_accepting self.now.status && not self.now.abnormal) }
@@ -44,8 +55,7 @@ impl Task {
         ensures { plain_task self.new ≡
             begins_accept (going code.now) alternative (plain_task self.old) }
     {
-        let place = self.parked.standing().place;
-        stays_law(code, place, alternative);
+        self.parked.accept(code, alternative);
         self.go_on();
     }
 
@@ -65,16 +75,10 @@ impl Task {
             opens (for_accept call) region at t.own.display values.now (length values.now) t)) }
         ensures kept { OnOk result (rest_of progress.new ≡ rest_of progress.old) }
     {
-        let _ = (
-            alloc,
-            call,
-            region,
-            at,
-            values.len(),
-            progress.steps(),
-            self.status,
-        );
-        Err(AllocError)
+        progress.exchange(&mut self.parked);
+        progress.open_accept(alloc, call, region, at, values)?;
+        progress.exchange(&mut self.parked);
+        Ok(())
     }
 }
 
@@ -107,6 +111,27 @@ impl State {
             return found.open_alternative(entry, alternative);
         }
         None
+    }
+
+    /// The numbers of a task's open alternatives for an entry; none where the entry isn't open.
+    ///
+    /// # Errors
+    ///
+    /// Where memory is refused.
+    pub fn open_alternatives(
+        &self,
+        alloc: Global,
+        task: usize,
+        entry: usize,
+    ) -> Result<Vec<usize>, AllocError>
+        ensures { IfOk result (λ numbers. numbers.items ≡
+            map (λ a. a.alternative) (open_alternatives (own_of task self.now) entry)) }
+    {
+        if task < self.tasks.len() {
+            let found = &self.tasks[task];
+            return found.open_alternatives(alloc, entry);
+        }
+        Ok(Vec::new(alloc))
     }
 
     /// What the accept of this alternative does begins, at which a task stands.
@@ -142,16 +167,20 @@ impl State {
     }
 }
 
-// As yet no step has an accept: a task stays where it stands.
-fn stays_law(code: &SoundCode, place: usize, alternative: usize)
-    ensures { (returns : List ℕ) → (let s : Spot = record { place = place; returns = returns } in
-        s ≡ (going code.now).accepts alternative s) }
+// The numbers of those for an entry.
+fn numbers_for(
+    alloc: Global,
+    accepts: &[OpenAccept],
+    entry: usize,
+) -> Result<Vec<usize>, AllocError>
+    ensures { IfOk result (λ numbers. numbers.items ≡
+        map (λ a. a.alternative) (filter (λ a. nat_eq a.entry entry) accepts.now)) }
 {
-    let _ = alternative;
-    match code.ending(place) {
-        Some(_) => {}
-        None => {}
-    }
+    accepts
+        .iter()
+        .filter(|accept| accept.entry == entry)
+        .map(|accept| accept.alternative)
+        .collect(alloc)
 }
 
 // Of these alternatives for an entry the one of this number, or else the first.

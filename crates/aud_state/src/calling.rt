@@ -1,8 +1,8 @@
 // Entry calls on their way (RM 9.5.3).
 
-ghost use Rattle.std.specs.Prelude.{◌≡◌, IfOk, OnOk};
+ghost use Rattle.std.specs.Prelude.{◌≡◌, map, IfOk, OnOk};
 ghost use Rattle.aud_meaning.specs.declared.state.CallState.TheVariants.{Selected};
-ghost use Rattle.aud_meaning.specs.Parts.{arrives, call_number, cancels, new_call, on_call, queue};
+ghost use Rattle.aud_meaning.specs.Parts.{arrives, call_number, cancels, new_call, on_call, queue, Waiting};
 ghost use Rattle.aud_state.specs.Queues.{oldest};
 ghost use Rattle.aud_state.specs.View.{made_call};
 
@@ -55,5 +55,12 @@ impl State {
         ensures { result ≡ oldest (queue owner entry self.now.shared.calls) }
     {
         self.calls.first(owner, entry)
+    }
+
+    /// The calls that are queued on an entry, the one that waits for longest first.
+    pub fn queued(&self, owner: usize, entry: usize) -> &[usize]
+        ensures { result.now ≡ map (λ (w : Waiting). w.call) (queue owner entry self.now.shared.calls) }
+    {
+        self.calls.queued(owner, entry)
     }
 }

@@ -1,7 +1,7 @@
 // Entry calls (RM 9.5.3).
 
 ghost use Rattle.std.specs.Prelude.{◌≡◌, ℕ, suc, [], ◌∷◌, ◌++◌, false, ◌&&◌, if◌then◌else◌, IfOk, OnOk, length, map, slice_index_or};
-ghost use Rattle.aud_meaning.specs.Parts.{calls_on_task, changed, is_queued, is_task, no_call, owner_number, queue};
+ghost use Rattle.aud_meaning.specs.Parts.{calls_on_task, changed, is_queued, is_task, no_call, owner_number, queue, Waiting};
 ghost use Rattle.aud_state.specs.Queues.{is_at, oldest, waiting, without};
 ghost use Rattle.aud_state.specs.View.{made_call, plain_call};
 
@@ -233,6 +233,13 @@ impl Calls {
         ensures { result ≡ length (queue owner entry self.now.calls) }
     {
         self.queues.calls(owner, entry).len()
+    }
+
+    /// The calls that are queued on an entry, the one that waits for longest first.
+    pub(crate) fn queued(&self, owner: usize, entry: usize) -> &[usize]
+        ensures { result.now ≡ map (λ (w : Waiting). w.call) (queue owner entry self.now.calls) }
+    {
+        self.queues.calls(owner, entry)
     }
 
     /// Whose a call is.

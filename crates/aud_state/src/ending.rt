@@ -27,8 +27,8 @@ impl State {
         self.calls.finish(id);
     }
 
-    // Whose a call is.
-    fn caller(&self, id: usize) -> usize
+    /// Whose a call is.
+    pub fn caller(&self, id: usize) -> usize
         ensures { result ≡ (call_of id self.now).caller }
     {
         self.calls.caller(id)

@@ -101,15 +101,21 @@ impl State {
     }
 
     /// The calls whose accepts a task has under way, the innermost one first.
-    pub fn accepts_under_way(&self, alloc: Global, task: usize) -> Vec<usize>
-        ensures { (go : Orders Spot) → (plan : Plan) → (barrier : ℕ → Sight → Result Bool RaiseOf) →
-            result.items ≡ effect.accepts_under_way go plan barrier (own_of task self.now).opened }
+    ///
+    /// # Errors
+    ///
+    /// Where memory is refused.
+    pub fn accepts_under_way(&self, alloc: Global, task: usize) -> Result<Vec<usize>, AllocError>
+        ensures { IfOk result (λ calls. (go : Orders Spot) → (plan : Plan) →
+            (barrier : ℕ → Sight → Result Bool RaiseOf) → calls.items ≡
+            effect.accepts_under_way go plan barrier (own_of task self.now).opened) }
     {
         if task < self.tasks.len() {
             let found = &self.tasks[task];
-            return found.parked.stack().accepts(alloc);
+            let calls = found.parked.stack().accepts(alloc)?;
+            return Ok(calls);
         }
-        Vec::new(alloc)
+        Ok(Vec::new(alloc))
     }
 
     /// Whether a task services an object: it is about to, or an entry body is under way for another task's call.

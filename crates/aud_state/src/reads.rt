@@ -68,6 +68,18 @@ impl State {
         0
     }
 
+    /// The type of a task; none of the main one.
+    #[tactic(auto, using(crate::proofs::Changed::own_got, crate::proofs::Changed::own_past))]
+    pub fn task_type(&self, task: usize) -> Option<usize>
+        ensures { result ≡ (own_of task self.now).task_type }
+    {
+        if task < self.tasks.len() {
+            let found = &self.tasks[task];
+            return found.task_type;
+        }
+        None
+    }
+
     /// How far a task is.
     #[tactic(auto, using(crate::proofs::Changed::own_got, crate::proofs::Changed::own_past))]
     pub fn status(&self, task: usize) -> Status

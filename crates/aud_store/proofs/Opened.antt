@@ -1,7 +1,7 @@
 -- Open frames in memory, of which the innermost one is the last.
-use Rattle.std.proofs.Common.{◌≡◌, Option, Some, None, Result, Bool, cond, not, ℕ, zero, suc, ◌-◌, ◌<◌, ◌≤◌, true, false, List, [], ◌∷◌, ◌++◌, length, drop, reverse, slice_index_or, slice_set, refl, ap, sym, subst, ◌∙◌, arith, length-append}
+use Rattle.std.proofs.Common.{◌≡◌, if◌then◌else◌, filter, Option, Some, None, Result, Bool, cond, not, ℕ, zero, suc, ◌-◌, ◌<◌, ◌≤◌, true, false, List, [], ◌∷◌, ◌++◌, length, drop, reverse, slice_index_or, slice_set, refl, ap, sym, subst, ◌∙◌, arith, length-append}
 use Rattle.std.specs.Option.{is_some, option_and_then}
-use Rattle.std.specs.List.{find}
+use Rattle.std.specs.List.{cons_option, filter_map, find}
 use Rattle.std.proofs.lemmas.List.{drop_all, drop_at, length-reverse, length-take, reverse-append, take_at}
 use Rattle.aud_text.specs.declared.raise.Raise.{Raise}
 use Rattle.aud_typed.specs.declared.program.Exception.{Exception}
@@ -12,27 +12,47 @@ use Rattle.aud_meaning.specs.Evaluation.{Sight}
 use Rattle.aud_meaning.specs.Listings.{is_served}
 use Rattle.aud_meaning.specs.Parts.{any}
 use Rattle.aud_store.specs.declared.stack.Purpose.{Purpose}
-use Rattle.aud_store.specs.declared.stack.Purpose.TheVariants.{Body, Block, Loop, Procedure}
+use Rattle.aud_store.specs.declared.stack.Purpose.TheVariants.{Accept, Body, Block, Loop, Procedure}
 use Rattle.aud_store.specs.declared.display.Replaced.{Replaced}
 use Rattle.aud_store.specs.declared.stack.Open.{Open}
 use Rattle.aud_store.specs.Ties.Display.{Display, seen, placed, stands, put_back}
-use Rattle.aud_store.specs.Ties.Stored.{accepted_by, accepted_in, copies_of, kept_by, kept_of, purpose_backs, innermost_backs, own_backs, outer_backs, plain_open, plain_opened, plain_purpose, ArePlaced, IsPlaced, IsInnermost}
+use Rattle.aud_store.specs.Ties.Stored.{accepted_by, accepted_for, accepted_in, copies_of, kept_by, kept_of, purpose_backs, innermost_backs, own_backs, outer_backs, plain_open, plain_opened, plain_purpose, ArePlaced, IsPlaced, IsInnermost}
 use Rattle.aud_store.proofs.Placing.{back_again, seen_placed, within}
 use Rattle.aud_meaning.specs.Ties.Stack.{Stack, closed, out_of_loops_by}
 
--- all are counted
-counted : (p : Purpose) (bs : List Back) → is_counted (plain_purpose p bs) ≡ true
-counted Body bs = refl
-counted Block bs = refl
-counted Loop bs = refl
-counted (Procedure level n into) bs = refl
+-- whatever they copy back, those of accepts are not counted
+abbrev pub counts : Open → Bool
+counts o = is_counted (plain_purpose o.purpose [])
 
-pub live_plain : (d : Display) (os : List Open) (bs : List Back) → live_frames (plain_opened d os bs) ≡ length os
+same_counted : (p : Purpose) (bs : List Back) → is_counted (plain_purpose p bs) ≡ is_counted (plain_purpose p [])
+same_counted Body bs = refl
+same_counted Block bs = refl
+same_counted Loop bs = refl
+same_counted (Procedure level n into) bs = refl
+same_counted (Accept call) bs = refl
+
+one_more : (b : Bool) (n : ℕ) (o : Open) (os : List Open) → n ≡ length os → (if b then suc n else n) ≡ length (cond b (o ∷ os) os)
+one_more true n o os is = ap suc is
+one_more false n o os is = is
+
+pub live_plain : (d : Display) (os : List Open) (bs : List Back) → live_frames (plain_opened d os bs) ≡ length (filter counts os)
 live_plain d [] bs = refl
-live_plain d (o ∷ os) bs = rw (counted o.purpose (own_backs o.purpose bs)) (ap suc (live_plain (put_back o.replaced d) os (outer_backs o.purpose bs)))
+live_plain d (o ∷ os) bs =
+    let rest = plain_opened (put_back o.replaced d) os (outer_backs o.purpose bs) in
+    ap (λ b. if b then suc (live_frames rest) else live_frames rest) (same_counted o.purpose (own_backs o.purpose bs))
+    ∙ one_more (counts o) (live_frames rest) o (filter counts os) (live_plain (put_back o.replaced d) os (outer_backs o.purpose bs))
 
-pub live_reversed : (d : Display) (os : List Open) (bs : List Back) → live_frames (plain_opened d (reverse os) bs) ≡ length os
-live_reversed d os bs = live_plain d (reverse os) bs ∙ length-reverse os
+fewer_kept : (b : Bool) (n : ℕ) (o : Open) (os : List Open) → length os ≤ n → length (cond b (o ∷ os) os) ≤ suc n
+fewer_kept true n o os few = omega (arith, few)
+fewer_kept false n o os few = omega (arith, few)
+
+counted_few : (os : List Open) → length (filter counts os) ≤ length os
+counted_few [] = omega arith
+counted_few (o ∷ os) = fewer_kept (counts o) (length os) o (filter counts os) (counted_few os)
+
+-- no more than all are counted
+pub live_few : (d : Display) (os : List Open) (bs : List Back) → live_frames (plain_opened d (reverse os) bs) ≤ length os
+live_few d os bs = omega (arith, live_plain d (reverse os) bs, counted_few (reverse os), length-reverse os)
 
 -- xs with their last one, x, and with y in its place, innermost first
 record IsTurned (xs : List Open) (k : ℕ) (x y : Open) : Type 0 where
@@ -119,6 +139,7 @@ same_loop Body bs = refl
 same_loop Block bs = refl
 same_loop Loop bs = refl
 same_loop (Procedure level n into) bs = refl
+same_loop (Accept call) bs = refl
 
 -- as many as count
 seen_many : (d : Display) → d.count ≤ length d.numbers → d.count ≡ length (seen d)
@@ -132,18 +153,19 @@ held d (o ∷ os) are =
     let s = seen_placed o.purpose o.frame before (seen before) refl (seen_many before (held before os are.1)) in
     subst (λ (x : Display). x.count ≤ length x.numbers) (sym are.0.0) (within (placed (kept_of o.purpose before.count) o.frame before) (kept_by o.purpose (seen before) ++ o.frame ∷ []) s.0 s.1)
 
-accepts_none : (p : Purpose) (bs : List Back) → accepted_by (plain_purpose p bs) [] ≡ []
-accepts_none Body bs = refl
-accepts_none Block bs = refl
-accepts_none Loop bs = refl
-accepts_none (Procedure level n into) bs = refl
+-- the calls of accepts
+accepts_by : (p : Purpose) (bs : List Back) (ids : List ℕ) → accepted_by (plain_purpose p bs) ids ≡ cons_option (accepted_for p) ids
+accepts_by Body bs ids = refl
+accepts_by Block bs ids = refl
+accepts_by Loop bs ids = refl
+accepts_by (Procedure level n into) bs ids = refl
+accepts_by (Accept call) bs ids = refl
 
--- no accept is under way
-pub no_accepts : (d : Display) (os : List Open) (bs : List Back) → accepted_in (plain_opened d os bs) ≡ []
-no_accepts d [] bs = refl
-no_accepts d (o ∷ os) bs =
-    ap (accepted_by (plain_purpose o.purpose (own_backs o.purpose bs))) (no_accepts (put_back o.replaced d) os (outer_backs o.purpose bs))
-    ∙ accepts_none o.purpose (own_backs o.purpose bs)
+pub accepts_plain : (d : Display) (os : List Open) (bs : List Back) → accepted_in (plain_opened d os bs) ≡ filter_map (λ o. accepted_for o.purpose) os
+accepts_plain d [] bs = refl
+accepts_plain d (o ∷ os) bs =
+    accepts_by o.purpose (own_backs o.purpose bs) (accepted_in (plain_opened (put_back o.replaced d) os (outer_backs o.purpose bs)))
+    ∙ ap (cons_option (accepted_for o.purpose)) (accepts_plain (put_back o.replaced d) os (outer_backs o.purpose bs))
 
 -- no entry body is under way
 module _ (plan : Plan) (barrier : ℕ → Sight → Result Bool Raise) where
@@ -159,6 +181,7 @@ module _ (plan : Plan) (barrier : ℕ → Sight → Result Bool Raise) where
       by Block none = none
       by Loop none = none
       by (Procedure level n into) none = none
+      by (Accept call) none = none
 
 -- the first of them that is no loop's
 abbrev is_construct : Open → Bool
@@ -179,6 +202,7 @@ first_construct d (o ∷ os) bs display = by o.purpose (first_construct before o
     by Block outer = (seen before, (own_backs Block bs, (rest Block, refl)))
     by Loop outer = outer
     by (Procedure level n into) outer = (seen before, (own_backs (Procedure level n into) bs, (rest (Procedure level n into), refl)))
+    by (Accept call) outer = (seen before, (own_backs (Accept call) bs, (rest (Accept call), refl)))
 
 -- One more is opened, and the innermost one is left.
 
@@ -252,6 +276,7 @@ own_copies : (p : Purpose) (bs : List Back) → drop (length bs - copies_of p) b
 own_copies Body bs = drop_all (length bs - 0) bs (omega arith)
 own_copies Block bs = drop_all (length bs - 0) bs (omega arith)
 own_copies Loop bs = drop_all (length bs - 0) bs (omega arith)
+own_copies (Accept call) bs = drop_all (length bs - 0) bs (omega arith)
 own_copies (Procedure level n into) bs = refl
 
 -- those that the innermost one copies back

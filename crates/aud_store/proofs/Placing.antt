@@ -3,7 +3,7 @@ use Rattle.std.proofs.Common.{◌≡◌, Option, Some, None, ℕ, zero, suc, ◌
 use Rattle.std.specs.Prelude.{slice_get}
 use Rattle.std.proofs.lemmas.List.{length-append, length-take, take_at}
 use Rattle.aud_store.specs.declared.stack.Purpose.{Purpose}
-use Rattle.aud_store.specs.declared.stack.Purpose.TheVariants.{Body, Block, Loop, Procedure}
+use Rattle.aud_store.specs.declared.stack.Purpose.TheVariants.{Accept, Body, Block, Loop, Procedure}
 use Rattle.aud_store.specs.Ties.Display.{Display, seen, put_by, placed, stands, without_last, put_back}
 use Rattle.aud_store.specs.Ties.Stored.{kept_by, kept_of}
 
@@ -30,18 +30,21 @@ kept_so : (p : Purpose) (d : Display) (s : List ℕ) → seen d ≡ s → take (
 kept_so Body d s is = is
 kept_so Block d s is = is
 kept_so Loop d s is = is
+kept_so (Accept call) d s is = is
 kept_so (Procedure level n into) d s is = take_min d.numbers d.count level ∙ ap (take level) is
 
 pub kept_few : (p : Purpose) (n : ℕ) → kept_of p n ≤ n
 kept_few Body n = omega arith
 kept_few Block n = omega arith
 kept_few Loop n = omega arith
+kept_few (Accept call) n = omega arith
 kept_few (Procedure level k into) n = omega arith
 
 kept_many : (p : Purpose) (n : ℕ) (s : List ℕ) → n ≡ length s → kept_of p n ≡ length (kept_by p s)
 kept_many Body n s is = is
 kept_many Block n s is = is
 kept_many Loop n s is = is
+kept_many (Accept call) n s is = is
 kept_many (Procedure level k into) n s is = ap (min level) is ∙ sym (length-take level s)
 
 -- so many numbers are there

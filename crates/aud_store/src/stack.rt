@@ -1,21 +1,24 @@
 // The open frames, which lie in one another.
 
-ghost use Rattle.std.specs.Prelude.{◌≡◌, ℕ, [], ◌++◌, None, Bool, Result, filter, length, map, reverse, take, IfOk, OnOk, OnErr};
+ghost use Rattle.std.specs.Prelude.{◌≡◌, ℕ, suc, [], ◌++◌, None, Bool, Result, filter, length, map, nat_le, reverse, take, IfOk, OnOk, OnErr};
+ghost use Rattle.std.specs.List.{filter_map};
+ghost use Rattle.aud_text.specs.declared.limits.TheConstants.{FRAMES};
 ghost use Rattle.aud_text.specs.declared.raise.Raise.{Raise as RaiseOf};
 ghost use Rattle.aud_typed.specs.Tree.{Plan};
-ghost use Rattle.aud_meaning.specs.Effects.{elaborated_in, handled, innermost, is_loop, live_frames, outermost};
+ghost use Rattle.aud_meaning.specs.Effects.{elaborated_in, handled, innermost, is_counted, is_loop, live_frames, outermost};
 ghost use Rattle.aud_meaning.specs.Evaluation.{Sight};
 ghost use Rattle.aud_meaning.specs.Listings.{is_served};
 ghost use Rattle.aud_meaning.specs.Parts.{any, is_master};
 ghost use Rattle.aud_meaning.specs.Ties.Stack.{closed, closed_times, opens_after, out_of_loops};
 ghost use Rattle.aud_store.specs.Ties.Extents.{extent, extent_in};
 ghost use Rattle.aud_store.specs.Ties.Named.{names_of, NamesAll};
-ghost use Rattle.aud_store.specs.Ties.Stored.{accepted_in, copies_of, innermost_backs, is_in_loop, kept_by, kept_of};
+ghost use Rattle.aud_store.specs.Ties.Stored.{accepted_for, accepted_in, copies_of, innermost_backs, is_in_loop, kept_by, kept_of};
 ghost use Rattle.aud_store.specs.Ties.Stored.{plain_open, plain_purpose, with_handling, with_elaborated};
 ghost use Rattle.aud_store.specs.Ties.Stored.{IsInnermost};
 
 use crate::display::{Display, Replaced};
 use crate::target::{Back, Target};
+use aud_text::limits::FRAMES;
 use aud_text::place::Pos;
 use aud_typed::program::Exception;
 use std::alloc::{AllocError, Global};
@@ -34,6 +37,10 @@ pub enum Purpose {
         backs: usize,
         into: Option<Target>,
     },
+    /// What an accept does, for the call of this number.
+    Accept {
+        call: usize,
+    },
 }
 
 impl Purpose {
@@ -42,7 +49,8 @@ impl Purpose {
     {
         match self {
             Purpose::Loop => true,
-            Purpose::Body | Purpose::Block | Purpose::Procedure { .. } => false,
+            Purpose::Body | Purpose::Block | Purpose::Procedure { .. } | Purpose::Accept { .. } =>
+                false,
         }
     }
 
@@ -52,7 +60,7 @@ impl Purpose {
     {
         match self {
             Purpose::Procedure { backs, .. } => *backs,
-            Purpose::Body | Purpose::Block | Purpose::Loop => 0,
+            Purpose::Body | Purpose::Block | Purpose::Loop | Purpose::Accept { .. } => 0,
         }
     }
 
@@ -62,7 +70,27 @@ impl Purpose {
     {
         match self {
             Purpose::Procedure { level, .. } => (*level).min(seen),
-            Purpose::Body | Purpose::Block | Purpose::Loop => seen,
+            Purpose::Body | Purpose::Block | Purpose::Loop | Purpose::Accept { .. } => seen,
+        }
+    }
+
+    // Whether it is counted among the frames that a task may have.
+    fn is_counted(&self) -> bool
+        ensures { result ≡ is_counted (plain_purpose self.now []) }
+    {
+        match self {
+            Purpose::Body | Purpose::Block | Purpose::Loop | Purpose::Procedure { .. } => true,
+            Purpose::Accept { .. } => false,
+        }
+    }
+
+    // The call of an accept.
+    fn accepted(&self) -> Option<usize>
+        ensures { result ≡ accepted_for self.now }
+    {
+        match self {
+            Purpose::Accept { call } => Some(*call),
+            Purpose::Body | Purpose::Block | Purpose::Loop | Purpose::Procedure { .. } => None,
         }
     }
 }
@@ -87,7 +115,7 @@ impl Open {
     {
         match self.purpose {
             Purpose::Body | Purpose::Block | Purpose::Procedure { .. } => true,
-            Purpose::Loop => false,
+            Purpose::Loop | Purpose::Accept { .. } => false,
         }
     }
 
@@ -237,12 +265,12 @@ impl Stack {
         }
     }
 
-    /// The calls whose accepts are under way, the innermost one first; as yet no frame is opened for one.
-    pub fn accepts(&self, alloc: Global) -> Vec<usize>
-        ensures { result.items ≡ accepted_in self.now.opened }
+    /// The calls whose accepts are under way, the innermost one first.
+    pub fn accepts(&self, alloc: Global) -> Result<Vec<usize>, AllocError>
+        ensures { IfOk result (λ calls. calls.items ≡ accepted_in self.now.opened) }
     {
-        let _ = &self.opened;
-        Vec::new(alloc)
+        let calls = accepted_of(alloc, &self.opened)?;
+        Ok(calls)
     }
 
     /// Whether an entry body is under way for another task's call; as yet no frame is opened for one.
@@ -328,12 +356,22 @@ impl Stack {
         }
     }
 
-    /// How many frames are open.
-    #[tactic(auto, using(crate::proofs::Opened::live_reversed))]
-    pub(crate) fn live(&self) -> usize
+    /// Whether one frame more is allowed; those of accepts are not counted.
+    pub(crate) fn has_room(&self) -> bool
+        ensures { result ≡ nat_le (suc (live_frames self.now.opened)) FRAMES }
+    {
+        // Where so few are open, it does not matter which of them are counted.
+        if self.opened.len() < FRAMES as usize {
+            return true;
+        }
+        self.live() < FRAMES as usize
+    }
+
+    // How many open frames are counted.
+    fn live(&self) -> usize
         ensures { result ≡ live_frames self.now.opened }
     {
-        self.opened.len()
+        count_live(&self.opened)
     }
 
     /// The frames of the masters under way, the innermost one first (RM 9.3).
@@ -397,6 +435,29 @@ fn numbers_of(alloc: Global, opened: &[Open]) -> Result<Vec<usize>, AllocError>
     ensures { IfOk result (λ frames. frames.items ≡ map (λ o. o.frame) (reverse opened.now)) }
 {
     opened.iter().rev().map(|open| open.frame).collect(alloc)
+}
+
+// How many of these are counted.
+fn count_live(opened: &[Open]) -> usize
+    ensures { result ≡ length (filter (λ o. is_counted (plain_purpose o.purpose [])) (reverse opened.now)) }
+{
+    opened
+        .iter()
+        .rev()
+        .filter(|open| open.purpose.is_counted())
+        .count()
+}
+
+// The calls of those that are accepts', the last one first.
+fn accepted_of(alloc: Global, opened: &[Open]) -> Result<Vec<usize>, AllocError>
+    ensures { IfOk result (λ calls. calls.items ≡
+        filter_map (λ o. accepted_for o.purpose) (reverse opened.now)) }
+{
+    opened
+        .iter()
+        .rev()
+        .filter_map(|open| open.purpose.accepted())
+        .collect(alloc)
 }
 
 // Those of masters.

@@ -13,7 +13,6 @@ use crate::frames::Frames;
 use crate::stack::{Open, Purpose, Stack};
 use crate::target::Back;
 use aud_text::int32::Int32;
-use aud_text::limits::FRAMES;
 use aud_text::place::Pos;
 use aud_typed::program::{Exception, Variable};
 use std::alloc::{AllocError, Global};
@@ -88,7 +87,7 @@ impl Store {
     pub fn has_room(&self) -> bool
         ensures { result ≡ nat_le (suc (live_frames self.now.stack.opened)) FRAMES }
     {
-        self.stack.live() < FRAMES as usize
+        self.stack.has_room()
     }
 
     /// The innermost frame is left.

@@ -18,7 +18,8 @@ use Rattle.aud_code.specs.declared.line.Ending.{Ending}
 use Rattle.aud_code.specs.declared.line.Ending.TheVariants.{Declare, DeclareArray, Null, Assign, Put, If, While, Loop, Exit, RaiseAgain, Block, Return, Call}
 use Rattle.aud_code.specs.declared.line.Ending.TheVariants as ending
 use Rattle.aud_code.specs.declared.line.Last.{Last}
-use Rattle.aud_code.specs.declared.line.Last.TheVariants.{Does, DeclaresTasks, Activates, EndsActivation, Continues, Guards, Ends, Leaves}
+use Rattle.aud_code.specs.declared.line.Among.TheVariants as among
+use Rattle.aud_code.specs.declared.line.Last.TheVariants.{Does, Concerns, Continues, Guards, Ends, Leaves}
 use Rattle.aud_code.specs.Eval.{with_one, with_two}
 use Rattle.aud_code.specs.Flat.{Flat, asked_last}
 use Rattle.aud_code.specs.Instruction.{Ended, Operands, Raised, Reached}
@@ -64,9 +65,7 @@ alone_asked (Does RaiseAgain next) loops at s o of_one fine = tt
 alone_asked (Does (Block region inside) next) loops at s o of_one fine = tt
 alone_asked (Does (Return w) next) loops at s o of_one fine = tt
 alone_asked (Does (Call unit) next) loops at s o of_one fine = tt
-alone_asked (DeclaresTasks ts next) loops at s o of_one fine = absurd of_one
-alone_asked (Activates next) loops at s o of_one fine = absurd of_one
-alone_asked (EndsActivation next) loops at s o of_one fine = absurd of_one
+alone_asked (Concerns a next) loops at s o of_one fine = absurd of_one
 alone_asked (Continues f behind inside) loops at s o of_one fine = tt
 alone_asked (Guards gs) loops at s o of_one fine = tt
 alone_asked (Ends c next) loops at s o of_one fine = absurd of_one
@@ -117,9 +116,7 @@ module _ (plan : Plan) (code : Flat) (limits : Limits) (alternative : Option ℕ
   too_long_does (Does (Block region inside) next) is = cc
   too_long_does (Does (Return w) next) is = cc
   too_long_does (Does (Call unit) next) is = cc
-  too_long_does (DeclaresTasks ts next) is = cc
-  too_long_does (Activates next) is = cc
-  too_long_does (EndsActivation next) is = cc
+  too_long_does (Concerns a next) is = cc
   too_long_does (Continues f behind inside) is = cc
   too_long_does (Guards gs) is = cc
   too_long_does (Ends k next) is = cc
@@ -143,9 +140,7 @@ module _ (loops : ℕ) (at : Pos) (s : Scene) (raise : Raise) where
   raised_in_part (Does (Block region inside) next) is = cc
   raised_in_part (Does (Return w) next) is = cc
   raised_in_part (Does (Call unit) next) is = cc
-  raised_in_part (DeclaresTasks ts next) is = cc
-  raised_in_part (Activates next) is = cc
-  raised_in_part (EndsActivation next) is = cc
+  raised_in_part (Concerns a next) is = cc
   raised_in_part (Continues f behind inside) is = cc
   raised_in_part (Guards gs) is = cc
   raised_in_part (Ends k next) is = cc
@@ -166,9 +161,13 @@ module _ (loops : ℕ) (at : Pos) (s : Scene) (raise : Raise) where
   raised_here (Does (Block region inside) next) is other = refl
   raised_here (Does (Return w) next) is other = refl
   raised_here (Does (Call unit) next) is other = refl
-  raised_here (DeclaresTasks ts next) is other = refl
-  raised_here (Activates next) is other = refl
-  raised_here (EndsActivation next) is other = refl
+  raised_here (Concerns (among.DeclareTasks ts) next) is other = refl
+  raised_here (Concerns among.Activate next) is other = refl
+  raised_here (Concerns among.Activated next) is other = refl
+  raised_here (Concerns (among.Call entry form otherwise) next) is other = refl
+  raised_here (Concerns among.Delay next) is other = refl
+  raised_here (Concerns (among.Accept entry region body) next) is other = refl
+  raised_here (Concerns (among.Select has_else own offers) next) is other = refl
   raised_here (Continues f behind inside) is other = cc
   raised_here (Guards gs) is other = cc
   raised_here (Ends k next) is other = cc
@@ -177,9 +176,7 @@ module _ (loops : ℕ) (at : Pos) (s : Scene) (raise : Raise) where
   -- where nothing is evaluated
   pub flows_so : (o : Operands) (l : Last) → is_statement l ≡ false → asked_last (plain_last l) loops at s (Reached o) ≡ asked_last (plain_last l) loops at s (Raised raise)
   flows_so o (Does e next) is = cc
-  flows_so o (DeclaresTasks ts next) is = cc
-  flows_so o (Activates next) is = cc
-  flows_so o (EndsActivation next) is = cc
+  flows_so o (Concerns a next) is = cc
   flows_so o (Continues f behind inside) is = refl
   flows_so o (Guards gs) is = refl
   flows_so o (Ends k next) is = refl
@@ -187,15 +184,13 @@ module _ (loops : ℕ) (at : Pos) (s : Scene) (raise : Raise) where
 
 pub flow_fine : (c : Counts) (l : Last) → is_statement l ≡ false → LastFine (plain_last l) c
 flow_fine c (Does e next) is = cc
-flow_fine c (DeclaresTasks ts next) is = cc
-flow_fine c (Activates next) is = cc
-flow_fine c (EndsActivation next) is = cc
+flow_fine c (Concerns a next) is = cc
 flow_fine c (Continues f behind inside) is = tt
 flow_fine c (Guards gs) is = tt
 flow_fine c (Ends k next) is = tt
 flow_fine c (Leaves k to) is = tt
 
 -- what is done of an ending that is known
-pub as_last : {T E : Type 0} (r : Result T E) (plan : Plan) (code : Flat) (limits : Limits) (n : ℕ) (at : Pos) (x : Ended) (old new : All Spot) (l k : Last) → l ≡ k →
-    OnOk r (DoesAsked plan code limits n (asked_last (plain_last k) (loops_of (exit_of k)) at (scene n old) x) old new) → OnOk r (DoesAsked plan code limits n (asked_last (plain_last l) (loops_of (exit_of l)) at (scene n old) x) old new)
-as_last r plan code limits n at x old new l k is h = subst (λ (m : Last). OnOk r (DoesAsked plan code limits n (asked_last (plain_last m) (loops_of (exit_of m)) at (scene n old) x) old new)) (sym is) h
+pub as_last : {T E : Type 0} (r : Result T E) (plan : Plan) (code : Flat) (limits : Limits) (alternative : Option ℕ) (n : ℕ) (at : Pos) (x : Ended) (old new : All Spot) (l k : Last) → l ≡ k →
+    OnOk r (DoesAsked plan code limits alternative n (asked_last (plain_last k) (loops_of (exit_of k)) at (scene n old) x) old new) → OnOk r (DoesAsked plan code limits alternative n (asked_last (plain_last l) (loops_of (exit_of l)) at (scene n old) x) old new)
+as_last r plan code limits alternative n at x old new l k is h = subst (λ (m : Last). OnOk r (DoesAsked plan code limits alternative n (asked_last (plain_last m) (loops_of (exit_of m)) at (scene n old) x) old new)) (sym is) h

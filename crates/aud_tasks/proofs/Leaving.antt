@@ -14,7 +14,7 @@ use Rattle.aud_meaning.specs.Tasks as effect
 use Rattle.aud_meaning.specs.Ties.Stack.{returning}
 use Rattle.aud_store.specs.declared.stack.Open.{Open}
 use Rattle.aud_store.specs.declared.stack.Purpose.{Purpose}
-use Rattle.aud_store.specs.declared.stack.Purpose.TheVariants.{Body, Block, Loop, Procedure}
+use Rattle.aud_store.specs.declared.stack.Purpose.TheVariants.{Accept, Body, Block, Loop, Procedure}
 use Rattle.aud_store.specs.Ties.Stored.{innermost_backs, plain_open, plain_purpose, purpose_backs}
 use Rattle.aud_tasks.specs.Leaving.{closed_by}
 
@@ -62,6 +62,9 @@ module _ {C : Type 0} (go : Orders C) (plan : Plan) (barrier : ℕ → Sight →
 
     pub at_end_loop : o.purpose ≡ Loop → c ≡ effect.at_end go plan barrier p n c
     at_end_loop is = ends_so Loop is
+
+    pub at_end_accept : (call : ℕ) → o.purpose ≡ Accept call → effect.at_accept_end go plan barrier p call (plain_open o saved backs) n (on_own n out_of_loops c) ≡ effect.at_end go plan barrier p n c
+    at_end_accept call is = ends_so (Accept call) is
 
     pub at_end_procedure : (level copies : ℕ) (into : Option Target) → o.purpose ≡ Procedure level copies into →
         effect.at_procedure_end go plan barrier p (returning (innermost_backs (out_of_loops (own_of n c)).opened) into) (plain_open o saved backs) n (on_own n out_of_loops c) ≡ effect.at_end go plan barrier p n c

@@ -1,5 +1,10 @@
+pub mod Alternatives
 pub mod Asked
+pub mod Choosing
+pub mod Chosen
 pub mod Delays
+pub mod Entering
+pub mod Going
 pub mod Leaving
 pub mod Listed
 pub mod Moving

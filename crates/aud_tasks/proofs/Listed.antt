@@ -24,8 +24,8 @@ module _ (plan : Plan) (code : Flat) (n : ℕ) (c : All Spot) where
   pub kind_as : (own : Own) (k : StepKind) (x : Coming) → IsOfItsKind own k x → k ≡ coming_kind plan (barrier_at code) x own
   kind_as own k (simply w) h = h
   kind_as own k ending h = h
-  kind_as own k (selecting ones) h = absurd h
-  kind_as own k (calling task entry) h = absurd h
+  kind_as own k (selecting ones) h = h
+  kind_as own k (calling task entry) h = h
   kind_as own k (starting object reading) h = absurd h
 
   pub place_as : (servicing : Option Serving) (s : Status) → o.serving ≡ servicing → o.status ≡ s → usual_place_in plan code n c ≡ usual_at plan (barrier_at code) servicing s t

@@ -13,18 +13,30 @@ use Rattle.aud_meaning.specs.declared.state.State.{State}
 use Rattle.aud_meaning.specs.declared.state.State.TheVariants as state
 use Rattle.aud_meaning.specs.Configuration.{Call, Own, Shared, TaskAt, All}
 use Rattle.aud_meaning.specs.Control.{Coming, Seen, simply, ending, selecting, calling, starting}
-use Rattle.aud_meaning.specs.Parts.{any, body_master, depends, is_queued, is_terminated, may_terminate, nobody, object_of, own_of, owns, Closable}
-use Rattle.aud_meaning.specs.Run.{acting_moves, call_time, call_time_by, construct_left, end_moves, has_ended, master_left_by, moves, moves_at, moves_by, moves_from, only, own_move, owner_idle, seen, seen_from, serve_moves, some_move, state_at, state_by, times_from, turn_at, turn_moves, turn_times, waiting_by}
+use Rattle.aud_meaning.specs.Parts.{any, body_master, depends, in_the_way, is_queued, is_terminated, may_terminate, nobody, object_of, open_alternatives, own_of, owns, Closable}
+use Rattle.aud_meaning.specs.Run.{acting_moves, alternatives_of, call_time, call_time_by, construct_left, each_or_one, end_moves, has_ended, has_queue, master_left_by, moves, moves_at, moves_by, moves_from, only, own_move, owner_idle, seen, seen_from, serve_moves, some_move, state_at, state_by, times_from, turn_at, turn_moves, turn_times, waiting_by}
 use Rattle.aud_meaning.specs.Tasks.{eligible, eligible_from}
 use Rattle.aud_code.specs.Places.{Spot}
 use Rattle.aud_code.specs.Flat.{Flat, barrier_at, flat_controls}
 use Rattle.aud_state.specs.Reads.{cancelled_from, is_free, time_by, LeavesBy}
 use Rattle.aud_tasks.specs.declared.turn.Turn.{Turn}
-use Rattle.aud_tasks.specs.Moving.{alone_if, moves_of, times_of}
+use Rattle.aud_tasks.specs.Moving.{alone_if, has_some, moves_behind, moves_of, times_of, IsNextMover, IsSingle}
 use Rattle.aud_tasks.specs.Turning.{turn_in, turned}
 use Rattle.aud_tasks.proofs.Seen.{none_seen}
 
 -- Parts of lists.
+
+pub none_first : (ms : List Move) → has_some ms ≡ false → ms ≡ []
+none_first [] h = refl
+none_first (m ∷ ms) h = absurd cc
+
+some_before : (ms ns : List Move) → has_some ms ≡ true → has_some (ms ++ ns) ≡ true
+some_before [] ns h = absurd cc
+some_before (m ∷ ms) ns h = refl
+
+pub some_there : (ms : List Move) → has_some ms ≡ true → (m : Move) × (slice_get ms 0 ≡ Some m)
+some_there [] h = absurd cc
+some_there (m ∷ ms) h = (m, refl)
 
 pub get_within : {A : Type 0} (xs ys : List A) (n : ℕ) (x : A) → slice_get xs n ≡ Some x → slice_get (xs ++ ys) n ≡ Some x
 get_within [] ys n x is = absurd cc
@@ -197,14 +209,52 @@ module _ (plan : Plan) (code : Flat) where
         ∙ ap (λ b. only plan (barrier_at code) b n) (sym (closable_seen (body_master (own_of n c))))
         ∙ ap (λ (o : Own). only plan (barrier_at code) (Closable (body_master o) d) n) (sym (own_seen n))
 
-    pub acting_as : (n : ℕ) (m : Option ℕ) (x : Coming) → LeavesBy (own_of n c) m x → end_moves plan (barrier_at code) m n d ≡ acting_moves plan (barrier_at code) x n d
-    acting_as n m (simply w) h = ap (λ o. end_moves plan (barrier_at code) o n d) h
-    acting_as n m ending h =
+    -- of one that is at no choice
+    pub acting_as : (n : ℕ) (m : Option ℕ) (x : Coming) → LeavesBy (own_of n c) m x → IsSingle x → end_moves plan (barrier_at code) m n d ≡ acting_moves plan (barrier_at code) x n d
+    acting_as n m (simply w) h single = ap (λ o. end_moves plan (barrier_at code) o n d) h
+    acting_as n m ending h single =
         ap (λ o. end_moves plan (barrier_at code) o n d) h
         ∙ ap (λ (o : Own). end_moves plan (barrier_at code) (master_left_by (construct_left o)) n d) (sym (own_seen n))
-    acting_as n m (selecting ones) h = absurd h
-    acting_as n m (calling task entry) h = absurd h
-    acting_as n m (starting object reading) h = absurd h
+    acting_as n m (selecting ones) h single = absurd single
+    acting_as n m (calling task entry) h single = absurd single
+    acting_as n m (starting object reading) h single = absurd h
+
+    each_first : (numbers : List ℕ) (n : ℕ) → has_some (each_or_one plan (barrier_at code) numbers n) ≡ true
+    each_first [] n = refl
+    each_first (a ∷ more) n = refl
+
+    -- one at a choice always has some
+    pub acting_first : (n : ℕ) (m : Option ℕ) (x : Coming) → LeavesBy (own_of n c) m x → has_some (end_moves plan (barrier_at code) m n d) ≡ has_some (acting_moves plan (barrier_at code) x n d)
+    acting_first n m (simply w) h = ap has_some (acting_as n m (simply w) h tt)
+    acting_first n m ending h = ap has_some (acting_as n m ending h tt)
+    acting_first n m (selecting ones) h =
+        ap (λ o. has_some (end_moves plan (barrier_at code) o n d)) h
+        ∙ sym (each_first (alternatives_of plan (barrier_at code) (filter (has_queue plan (barrier_at code) n d) ones)) n)
+    acting_first n m (calling None entry) h = ap (λ o. has_some (end_moves plan (barrier_at code) o n d)) h
+    acting_first n m (calling (Some task) entry) h =
+        ap (λ o. has_some (end_moves plan (barrier_at code) o n d)) h
+        ∙ sym (each_first (alternatives_of plan (barrier_at code) (open_alternatives (own_of task d) entry)) n)
+    acting_first n m (starting object reading) h = absurd h
+
+    pub some_only : (b : Bool) (n : ℕ) → b ≡ has_some (alone_if b n)
+    some_only true n = refl
+    some_only false n = refl
+
+    only_single : (b : Bool) (n : ℕ) → alone_if (has_some (only plan (barrier_at code) b n)) n ≡ only plan (barrier_at code) b n
+    only_single true n = refl
+    only_single false n = refl
+
+    end_single : (m : Option ℕ) (n : ℕ) → alone_if (has_some (end_moves plan (barrier_at code) m n d)) n ≡ end_moves plan (barrier_at code) m n d
+    end_single None n = refl
+    end_single (Some master) n = only_single (Closable master d) n
+
+    -- one that is not has one at most
+    pub single_moves : (x : Coming) (n : ℕ) → IsSingle x → alone_if (has_some (acting_moves plan (barrier_at code) x n d)) n ≡ acting_moves plan (barrier_at code) x n d
+    single_moves (simply w) n single = refl
+    single_moves ending n single = end_single (master_left_by (construct_left (own_of n d))) n
+    single_moves (selecting ones) n single = absurd single
+    single_moves (calling task entry) n single = absurd single
+    single_moves (starting object reading) n single = only_single (not (in_the_way n reading (object_of object d))) n
 
     pub leaves_some : (n master : ℕ) → alone_if (Closable master c) n ≡ end_moves plan (barrier_at code) (Some master) n d
     leaves_some n master = only_if (Closable master c) n ∙ ap (λ b. only plan (barrier_at code) b n) (sym (closable_seen master))
@@ -239,3 +289,16 @@ module _ (plan : Plan) (code : Flat) where
 
     pub cancels_at : (n time : ℕ) → alone_if (nat_le time c.clock) n ≡ map (λ (t : ℕ). own_move n) (filter (λ (t : ℕ). nat_le t c.clock) (time ∷ []))
     cancels_at n time = one_time (nat_le time c.clock) n time
+
+    -- The first task that has a move.
+
+    neither : c.shared.cut ≡ false → ended ≡ false → not (ended || c.shared.cut) ≡ true
+    neither full is = ap (λ b. not (ended || b)) full ∙ ap (λ b. not (b || false)) is
+
+    pub mover_moves : (n : ℕ) → IsNextMover plan code 0 n c → ended ≡ false → c.shared.cut ≡ false → has_some (moves_at plan (flat_controls plan code) c) ≡ true
+    mover_moves n mover is full =
+        ap has_some (moves_all (neither full is) ∙ mover.behind ∙ moves_next n mover.within)
+        ∙ some_before (moves_of plan code n c) (from (n + 1)) mover.moves
+
+    pub no_mover : moves_behind plan code 0 c ≡ [] → ended ≡ false → c.shared.cut ≡ false → slice_get (moves_at plan (flat_controls plan code) c) 0 ≡ None
+    no_mover none is full = ap (λ ms. slice_get ms 0) (moves_all (neither full is) ∙ none)

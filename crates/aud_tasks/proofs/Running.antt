@@ -2,3 +2,4 @@ pub mod Moves
 pub mod Steps
 pub mod Still
 pub mod Taking
+pub mod Whose

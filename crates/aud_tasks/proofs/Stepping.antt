@@ -73,11 +73,11 @@ none_from (l ∷ ls) (suc n) past = none_from ls n (omega (arith, past))
 pub no_end_behind : (code : Flat) (place : ℕ) → length code.lines ≤ place → end_at code place ≡ no_end place
 no_end_behind code place past = ap (λ ls. end_from ls place) (none_from code.lines place past)
 
-own_there : (ts : List (TaskAt Spot)) (n : ℕ) (t : TaskAt Spot) → slice_get ts n ≡ Some t → slice_index_or (owns ts) n nobody ≡ t.own
+pub own_there : (ts : List (TaskAt Spot)) (n : ℕ) (t : TaskAt Spot) → slice_get ts n ≡ Some t → slice_index_or (owns ts) n nobody ≡ t.own
 own_there [] n t is = cc
 own_there (u ∷ ts) zero t is = ap (λ (v : TaskAt Spot). v.own) (same u t is)
 own_there (u ∷ ts) (suc n) t is = own_there ts n t is
 
 -- it has what is pending
-pub acts_so : (plan : Plan) (code : Flat) (limits : Limits) (n : ℕ) (p : Option Pending) (old new : All Spot) → p ≡ (own_of n old).pending → ActsPending plan code limits n p old new → ActsSo plan code limits n old new
-acts_so plan code limits n p old new is h = λ t there. subst (λ (q : Option Pending). DoesAsked plan code limits n (asked_at code q (scene n old) t.control) old new) (is ∙ ap (λ (o : Own). o.pending) (own_there old.tasks n t there)) (h t there)
+pub acts_so : (plan : Plan) (code : Flat) (limits : Limits) (alternative : Option ℕ) (n : ℕ) (p : Option Pending) (old new : All Spot) → p ≡ (own_of n old).pending → ActsPending plan code limits alternative n p old new → ActsSo plan code limits alternative n old new
+acts_so plan code limits alternative n p old new is h = λ t there. subst (λ (q : Option Pending). DoesAsked plan code limits alternative n (asked_at code q (scene n old) t.control) old new) (is ∙ ap (λ (o : Own). o.pending) (own_there old.tasks n t there)) (h t there)

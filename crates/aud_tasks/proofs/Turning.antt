@@ -30,8 +30,8 @@ leave_is o = by (master_left_by (construct_left o)) refl
 pub leaves_is : (o : Own) (m : Option ℕ) (x : Coming) → LeavesBy o m x → is_some m ≡ is_leave x o
 leaves_is o m (simply w) h = ap is_some h
 leaves_is o m ending h = ap is_some h ∙ leave_is o
-leaves_is o m (selecting ones) h = absurd h
-leaves_is o m (calling task entry) h = absurd h
+leaves_is o m (selecting ones) h = ap is_some h
+leaves_is o m (calling task entry) h = ap is_some h
 leaves_is o m (starting object reading) h = absurd h
 
 module _ (plan : Plan) (code : Flat) (n : ℕ) (c : All Spot) where

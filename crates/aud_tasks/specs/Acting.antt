@@ -18,27 +18,27 @@ use Rattle.aud_state.specs.Fast.{scene}
 use Rattle.aud_tasks.specs.declared.turn.Turn.{Turn}
 use Rattle.aud_tasks.specs.Turning.{turned}
 
--- the task of a number does what is asked for
-abbrev pub DoesAsked : Plan → Flat → Limits → ℕ → Asked → All Spot → All Spot → Type 0
-DoesAsked plan code limits n a old new =
-    (alternative : Option ℕ) (barrier : ℕ → Sight → Result Bool Raise) → new ≡ done (going code) plan barrier limits alternative a n old
+-- the task of a number does what is asked for, by the alternative that the move picks
+abbrev pub DoesAsked : Plan → Flat → Limits → Option ℕ → ℕ → Asked → All Spot → All Spot → Type 0
+DoesAsked plan code limits alternative n a old new =
+    (barrier : ℕ → Sight → Result Bool Raise) → new ≡ done (going code) plan barrier limits alternative a n old
 
 -- what an ending asks for, where the evaluation before it ended so
-abbrev pub DoesEnd : Plan → Flat → Limits → ℕ → EndLine → Ended → All Spot → All Spot → Type 0
-DoesEnd plan code limits n l x old new = DoesAsked plan code limits n (asked_last l.last (loops_of l.exit) l.at (scene n old) x) old new
+abbrev pub DoesEnd : Plan → Flat → Limits → Option ℕ → ℕ → EndLine → Ended → All Spot → All Spot → Type 0
+DoesEnd plan code limits alternative n l x old new = DoesAsked plan code limits alternative n (asked_last l.last (loops_of l.exit) l.at (scene n old) x) old new
 
 -- the same at the place where the task stands
-abbrev pub EndsThere : Plan → Flat → Limits → ℕ → Ended → All Spot → All Spot → Type 0
-EndsThere plan code limits n x old new = (t : TaskAt Spot) → slice_get old.tasks n ≡ Some t → DoesEnd plan code limits n (end_at code t.control.place) x old new
+abbrev pub EndsThere : Plan → Flat → Limits → Option ℕ → ℕ → Ended → All Spot → All Spot → Type 0
+EndsThere plan code limits alternative n x old new = (t : TaskAt Spot) → slice_get old.tasks n ≡ Some t → DoesEnd plan code limits alternative n (end_at code t.control.place) x old new
 
 -- the step of its own statements
-abbrev pub ActsSo : Plan → Flat → Limits → ℕ → All Spot → All Spot → Type 0
-ActsSo plan code limits n old new =
-    (t : TaskAt Spot) → slice_get old.tasks n ≡ Some t → DoesAsked plan code limits n (asked_at code t.own.pending (scene n old) t.control) old new
+abbrev pub ActsSo : Plan → Flat → Limits → Option ℕ → ℕ → All Spot → All Spot → Type 0
+ActsSo plan code limits alternative n old new =
+    (t : TaskAt Spot) → slice_get old.tasks n ≡ Some t → DoesAsked plan code limits alternative n (asked_at code t.own.pending (scene n old) t.control) old new
 
-abbrev pub ActsPending : Plan → Flat → Limits → ℕ → Option Pending → All Spot → All Spot → Type 0
-ActsPending plan code limits n p old new =
-    (t : TaskAt Spot) → slice_get old.tasks n ≡ Some t → DoesAsked plan code limits n (asked_at code p (scene n old) t.control) old new
+abbrev pub ActsPending : Plan → Flat → Limits → Option ℕ → ℕ → Option Pending → All Spot → All Spot → Type 0
+ActsPending plan code limits alternative n p old new =
+    (t : TaskAt Spot) → slice_get old.tasks n ≡ Some t → DoesAsked plan code limits alternative n (asked_at code p (scene n old) t.control) old new
 
 -- what it does at its turn, whose step is counted already
 abbrev pub TakesTurn : Plan → Flat → Limits → Move → Turn → All Spot → All Spot → Type 0

@@ -4,7 +4,7 @@ use Rattle.aud_text.specs.declared.limits.TheConstants.{ELEMENTS}
 use Rattle.aud_code.specs.declared.line.Ending.{Ending}
 use Rattle.aud_code.specs.declared.line.Ending.TheVariants.{Declare, DeclareArray}
 use Rattle.aud_code.specs.declared.line.Last.{Last}
-use Rattle.aud_code.specs.declared.line.Last.TheVariants.{Does, DeclaresTasks, Activates, EndsActivation}
+use Rattle.aud_code.specs.declared.line.Last.TheVariants.{Does, Concerns}
 
 -- an array of too many elements
 abbrev pub is_too_long : Last → Bool
@@ -27,7 +27,5 @@ is_declaration last = false
 -- what is evaluated before it may raise
 abbrev pub is_statement : Last → Bool
 is_statement (Does e next) = true
-is_statement (DeclaresTasks ts next) = true
-is_statement (Activates next) = true
-is_statement (EndsActivation next) = true
+is_statement (Concerns a next) = true
 is_statement last = false

@@ -1,3 +1,4 @@
+pub mod Choices
 pub mod Turning
 pub mod Moving
 pub mod Enabled

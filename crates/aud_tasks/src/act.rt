@@ -1,6 +1,6 @@
 // The step of a task's own statements.
 
-ghost use Rattle.std.specs.Prelude.{◌≡◌, ◌<◌, ◌≤◌, None, Some, IfOk, OnOk, length, slice_get};
+ghost use Rattle.std.specs.Prelude.{◌≡◌, ◌<◌, ◌≤◌, ℕ, None, Some, IfOk, OnOk, Option, length, slice_get};
 ghost use Rattle.aud_typed.specs.Ties.View.{plain_program};
 ghost use Rattle.aud_meaning.specs.Configuration.{TaskAt};
 ghost use Rattle.aud_code.specs.Flat.{end_at};
@@ -24,19 +24,20 @@ use aud_state::state::State;
 use aud_text::raise::Raise;
 use std::alloc::{AllocError, Global};
 
-/// A task goes on by itself: its next statement, or what an exception does that is pending. It gives the instructions that were
-/// executed.
+/// A task goes on by itself: its next statement, by the alternative that the move picks, or what an exception does that is pending. It
+/// gives the instructions that were executed.
 pub(crate) fn act(
     state: &mut State,
     alloc: Global,
     compiled: Compiled<'_>,
+    alternative: Option<usize>,
     n: usize,
     operands: &mut Operands,
 ) -> Result<u64, AllocError>
     requires within { n < length state.old.tasks }
     requires spots { AreSpots compiled.code.now.lines state.old.tasks }
     ensures does { IfOk result (λ _. ActsSo (plain_program compiled.entry.program.now).plan
-        compiled.entry.code.now compiled.entry.limits n state.old state.new) }
+        compiled.entry.code.now compiled.entry.limits alternative n state.old state.new) }
     ensures few { IfOk result (λ ticks. ticks ≤ size compiled.entry.code.now) }
 {
     match state.pending(n) {
@@ -44,7 +45,7 @@ pub(crate) fn act(
             propagate(state, alloc, compiled, n, pending)?;
             Ok(0)
         }
-        None => execute(state, alloc, compiled, n, operands),
+        None => execute(state, alloc, compiled, alternative, n, operands),
     }
 }
 
@@ -56,8 +57,9 @@ fn propagate(
     n: usize,
     pending: Pending,
 ) -> Result<(), AllocError>
-    ensures { OnOk result (ActsPending (plain_program compiled.entry.program.now).plan
-        compiled.entry.code.now compiled.entry.limits n (Some pending) state.old state.new) }
+    ensures { OnOk result ((alternative : Option ℕ) →
+        ActsPending (plain_program compiled.entry.program.now).plan compiled.entry.code.now
+        compiled.entry.limits alternative n (Some pending) state.old state.new) }
 {
     let place = state.place(n);
     match find_handler(compiled.code, place, pending.exception) {
@@ -75,13 +77,14 @@ fn execute(
     state: &mut State,
     alloc: Global,
     compiled: Compiled<'_>,
+    alternative: Option<usize>,
     n: usize,
     operands: &mut Operands,
 ) -> Result<u64, AllocError>
     requires within { n < length state.old.tasks }
     requires spots { AreSpots compiled.code.now.lines state.old.tasks }
     ensures does { IfOk result (λ _. ActsPending (plain_program compiled.entry.program.now).plan
-        compiled.entry.code.now compiled.entry.limits n None state.old state.new) }
+        compiled.entry.code.now compiled.entry.limits alternative n None state.old state.new) }
     ensures few { IfOk result (λ ticks. ticks ≤ size compiled.entry.code.now) }
 {
     let place = state.place(n);
@@ -90,7 +93,15 @@ fn execute(
         return Ok(0);
     }
     let evaluated = state.evaluate(compiled.code, n, operands)?;
-    follow(state, alloc, compiled, n, evaluated.outcome, operands)?;
+    follow(
+        state,
+        alloc,
+        compiled,
+        alternative,
+        n,
+        evaluated.outcome,
+        operands,
+    )?;
     Ok(evaluated.ticks)
 }
 
@@ -99,6 +110,7 @@ fn follow(
     state: &mut State,
     alloc: Global,
     compiled: Compiled<'_>,
+    alternative: Option<usize>,
     n: usize,
     outcome: Outcome,
     operands: &mut Operands,
@@ -109,11 +121,27 @@ fn follow(
     requires fits { (t : TaskAt Spot) → slice_get state.old.tasks n ≡ Some t →
         FitsEnd outcome compiled.code.now t.control.place operands.old }
     ensures { OnOk result (EndsThere (plain_program compiled.entry.program.now).plan
-        compiled.entry.code.now compiled.entry.limits n (ended outcome operands.old) state.old state.new) }
+        compiled.entry.code.now compiled.entry.limits alternative n (ended outcome operands.old) state.old state.new) }
 {
     match outcome {
-        Outcome::Reaches(reached) => reach(state, alloc, compiled, n, reached, operands),
-        Outcome::Fails(raise) => raise_there(state, alloc, compiled, n, raise, operands),
+        Outcome::Reaches(reached) => reach(
+            state,
+            alloc,
+            compiled,
+            alternative,
+            n,
+            reached,
+            operands,
+        ),
+        Outcome::Fails(raise) => raise_there(
+            state,
+            alloc,
+            compiled,
+            alternative,
+            n,
+            raise,
+            operands,
+        ),
     }
 }
 
@@ -122,6 +150,7 @@ fn reach(
     state: &mut State,
     alloc: Global,
     compiled: Compiled<'_>,
+    alternative: Option<usize>,
     n: usize,
     reached: usize,
     operands: &mut Operands,
@@ -132,10 +161,10 @@ fn reach(
     requires fine { (t : TaskAt Spot) → slice_get state.old.tasks n ≡ Some t →
         LastFine (end_at compiled.code.now t.control.place).last (counts_of operands.old) }
     ensures { OnOk result (EndsThere (plain_program compiled.entry.program.now).plan
-        compiled.entry.code.now compiled.entry.limits n (Reached operands.old) state.old state.new) }
+        compiled.entry.code.now compiled.entry.limits alternative n (Reached operands.old) state.old state.new) }
 {
     match compiled.code.ending(reached) {
-        Some(line) => finish(state, alloc, compiled, n, line, operands),
+        Some(line) => finish(state, alloc, compiled, alternative, n, line, operands),
         None => leave(state, alloc, compiled.code, n, 0),
     }
 }
@@ -145,15 +174,25 @@ fn raise_there(
     state: &mut State,
     alloc: Global,
     compiled: Compiled<'_>,
+    alternative: Option<usize>,
     n: usize,
     raise: Raise,
     operands: &mut Operands,
 ) -> Result<(), AllocError>
     ensures { OnOk result (EndsThere (plain_program compiled.entry.program.now).plan
-        compiled.entry.code.now compiled.entry.limits n (Raised raise) state.old state.new) }
+        compiled.entry.code.now compiled.entry.limits alternative n (Raised raise) state.old state.new) }
 {
     match compiled.code.ending(state.place(n)) {
-        Some(line) => fail(state, alloc, compiled, n, line, raise, operands),
+        Some(line) => fail(
+            state,
+            alloc,
+            compiled,
+            alternative,
+            n,
+            line,
+            raise,
+            operands,
+        ),
         None => leave(state, alloc, compiled.code, n, 0),
     }
 }

@@ -1,58 +1,56 @@
 // The moves of one task.
 
-ghost use Rattle.std.specs.Prelude.{◌≡◌, ◌++◌, length, nat_le, slice_get, OnOk};
+ghost use Rattle.std.specs.Prelude.{◌≡◌, ◌∷◌, ◌++◌, ℕ, [], length, nat_le, slice_get, OnOk};
 ghost use Rattle.aud_meaning.specs.Run.{own_move, picks};
-ghost use Rattle.aud_tasks.specs.Enabled.{enabled_moves};
+ghost use Rattle.aud_tasks.specs.Enabled.{each_or_one, enabled_moves};
 ghost use Rattle.aud_tasks.specs.Moving.{picked};
 
 use aud_meaning::state::{Move, OpenDelay};
 use std::alloc::AllocError;
 
-/// The moves that a task has: none; its next step alone; or one for each of these delays whose time has come.
-#[derive(Clone, Copy)]
+/// The moves that a task has: none; its next step alone; one for each of these alternatives, and its next step alone where there are
+/// none of them; or one for each of these delays whose time has come.
+#[derive(Drop)]
 pub(crate) enum Enabled<'a> {
     None,
     One,
+    Alternatives(Vec<usize>),
     Delays(&'a [OpenDelay]),
 }
 
 /// How many these are.
-pub(crate) fn count(enabled: Enabled<'_>, task: usize, clock: u64) -> usize
-    ensures { result ≡ length (enabled_moves task clock enabled.entry) }
+pub(crate) fn count(enabled: &Enabled<'_>, task: usize, clock: u64) -> usize
+    ensures { result ≡ length (enabled_moves task clock enabled.now) }
 {
     match enabled {
         Enabled::None => 0,
         Enabled::One => 1,
+        Enabled::Alternatives(numbers) => count_alternatives(numbers),
         Enabled::Delays(delays) => count_ended(delays, task, clock),
     }
 }
 
 /// The one of this index.
-pub(crate) fn nth(enabled: Enabled<'_>, task: usize, clock: u64, index: usize) -> Option<Move>
-    ensures { result ≡ slice_get (enabled_moves task clock enabled.entry) index }
+pub(crate) fn nth(enabled: &Enabled<'_>, task: usize, clock: u64, index: usize) -> Option<Move>
+    ensures { result ≡ slice_get (enabled_moves task clock enabled.now) index }
 {
     match enabled {
         Enabled::None => None,
-        Enabled::One => {
-            if index == 0 {
-                Some(only_move(task))
-            } else {
-                None
-            }
-        }
+        Enabled::One => nth_only(task, index),
+        Enabled::Alternatives(numbers) => nth_alternative(numbers, task, index),
         Enabled::Delays(delays) => nth_ended(delays, task, clock, index),
     }
 }
 
 /// All of them are put behind others.
 pub(crate) fn list(
-    enabled: Enabled<'_>,
+    enabled: &Enabled<'_>,
     task: usize,
     clock: u64,
     moves: &mut Vec<Move>,
 ) -> Result<(), AllocError>
     ensures { OnOk result (moves.new.items ≡
-        moves.old.items ++ enabled_moves task clock enabled.entry) }
+        moves.old.items ++ enabled_moves task clock enabled.now) }
 {
     match enabled {
         Enabled::None => Ok(()),
@@ -60,6 +58,7 @@ pub(crate) fn list(
             moves.push(only_move(task))?;
             Ok(())
         }
+        Enabled::Alternatives(numbers) => list_alternatives(numbers, task, moves),
         Enabled::Delays(delays) => list_ended(delays, task, clock, moves),
     }
 }
@@ -72,6 +71,55 @@ fn only_move(task: usize) -> Move
         task,
         alternative: None,
     }
+}
+
+// It, where its index is asked for.
+fn nth_only(task: usize, index: usize) -> Option<Move>
+    ensures { result ≡ slice_get (own_move task ∷ []) index }
+{
+    if index == 0 {
+        Some(only_move(task))
+    } else {
+        None
+    }
+}
+
+// How many there are for these alternatives.
+fn count_alternatives(numbers: &[usize]) -> usize
+    ensures { (task : ℕ) → result ≡ length (each_or_one task numbers.now) }
+{
+    if numbers.is_empty() { 1 } else { numbers.len() }
+}
+
+// The one of this index among those for these alternatives.
+fn nth_alternative(numbers: &[usize], task: usize, index: usize) -> Option<Move>
+    ensures { result ≡ slice_get (each_or_one task numbers.now) index }
+{
+    if numbers.is_empty() {
+        return nth_only(task, index);
+    }
+    match numbers.get(index) {
+        Some(number) => Some(pick(task, *number)),
+        None => None,
+    }
+}
+
+// Those for these alternatives are put behind others.
+fn list_alternatives(
+    numbers: &[usize],
+    task: usize,
+    moves: &mut Vec<Move>,
+) -> Result<(), AllocError>
+    ensures { OnOk result (moves.new.items ≡ moves.old.items ++ each_or_one task numbers.now) }
+{
+    if numbers.is_empty() {
+        moves.push(only_move(task))?;
+        return Ok(());
+    }
+    for number in numbers {
+        moves.push(pick(task, *number))?;
+    }
+    Ok(())
 }
 
 // Its move that takes the alternative of this number.

@@ -1,24 +1,28 @@
 // What the endings of steps do.
 
-ghost use Rattle.std.specs.Prelude.{◌≡◌, Some, OnOk, slice_get};
+ghost use Rattle.std.specs.Prelude.{◌≡◌, ℕ, Some, OnOk, Option, slice_get};
 ghost use Rattle.aud_typed.specs.Ties.View.{plain_program, plain_tasks};
 ghost use Rattle.aud_meaning.specs.Configuration.{TaskAt};
 ghost use Rattle.aud_meaning.specs.Control.{activates, declares_tasks, ends_activation};
 ghost use Rattle.aud_meaning.specs.Parts.{task_plan};
+ghost use Rattle.aud_code.specs.Eval.{asked_end};
 ghost use Rattle.aud_code.specs.Flat.{end_at};
 ghost use Rattle.aud_code.specs.Instruction.{Raised, Reached};
 ghost use Rattle.aud_code.specs.Places.{Spot};
-ghost use Rattle.aud_code.specs.Sound.{counts_of, LastFine};
-ghost use Rattle.aud_code.specs.View.{plain_end, plain_last};
+ghost use Rattle.aud_code.specs.Sound.{counts_of, EndingFine, LastFine};
+ghost use Rattle.aud_code.specs.View.{plain_among, plain_end, plain_last};
 ghost use Rattle.aud_sequential.specs.Steps.{IsOfOne};
+ghost use Rattle.aud_state.specs.Fast.{scene};
 ghost use Rattle.aud_tasks.specs.Acting.{DoesAsked, DoesEnd};
 ghost use Rattle.aud_tasks.specs.Endings.{is_declaration, is_statement, is_too_long};
 
 use crate::compiled::Compiled;
+use crate::entries;
 use crate::leave::leave;
-use aud_code::line::{EndLine, Ending, Last};
+use aud_code::line::{Among, EndLine, Ending, Last};
 use aud_expr::operands::Operands;
 use aud_masters::{activation, creation};
+use aud_meaning::state::OpenAccept;
 use aud_state::state::State;
 use aud_text::limits::ELEMENTS;
 use aud_text::place::Pos;
@@ -31,6 +35,7 @@ pub(crate) fn finish(
     state: &mut State,
     alloc: Global,
     compiled: Compiled<'_>,
+    alternative: Option<usize>,
     n: usize,
     end: &EndLine,
     operands: &mut Operands,
@@ -39,7 +44,7 @@ pub(crate) fn finish(
         plain_end end.now ≡ end_at compiled.code.now t.control.place }
     requires fine { LastFine (plain_last end.now.last) (counts_of operands.old) }
     ensures { OnOk result (DoesEnd (plain_program compiled.entry.program.now).plan
-        compiled.entry.code.now compiled.entry.limits n (plain_end end.now)
+        compiled.entry.code.now compiled.entry.limits alternative n (plain_end end.now)
         (Reached operands.old) state.old state.new) }
 {
     let code = compiled.code;
@@ -48,9 +53,16 @@ pub(crate) fn finish(
     }
     match &end.last {
         Last::Does(_, _) => step_alone(state, compiled, n, end, operands),
-        Last::DeclaresTasks(tasks, _) => declare(state, alloc, compiled, n, tasks, end.at),
-        Last::Activates(_) => activate(state, alloc, compiled, n, end.at),
-        Last::EndsActivation(_) => end_activation(state, compiled, n),
+        Last::Concerns(among, _) => concern(
+            state,
+            alloc,
+            compiled,
+            alternative,
+            n,
+            among,
+            end.at,
+            operands,
+        ),
         Last::Continues { .. } => step_alone(state, compiled, n, end, operands),
         Last::Guards(_) => step_alone(state, compiled, n, end, operands),
         Last::Ends(_, _) => leave(state, alloc, code, n, 0),
@@ -64,6 +76,7 @@ pub(crate) fn fail(
     state: &mut State,
     alloc: Global,
     compiled: Compiled<'_>,
+    alternative: Option<usize>,
     n: usize,
     end: &EndLine,
     raise: Raise,
@@ -72,7 +85,7 @@ pub(crate) fn fail(
     requires { (t : TaskAt Spot) → slice_get state.old.tasks n ≡ Some t →
         plain_end end.now ≡ end_at compiled.code.now t.control.place }
     ensures { OnOk result (DoesEnd (plain_program compiled.entry.program.now).plan
-        compiled.entry.code.now compiled.entry.limits n (plain_end end.now)
+        compiled.entry.code.now compiled.entry.limits alternative n (plain_end end.now)
         (Raised raise) state.old state.new) }
 {
     if is_declaration(&end.last) {
@@ -82,7 +95,62 @@ pub(crate) fn fail(
         state.raise(n, Exception::Predefined(raise), end.at);
         return Ok(());
     }
-    finish(state, alloc, compiled, n, end, operands)
+    finish(state, alloc, compiled, alternative, n, end, operands)
+}
+
+// What it does that concerns others.
+fn concern(
+    state: &mut State,
+    alloc: Global,
+    compiled: Compiled<'_>,
+    alternative: Option<usize>,
+    n: usize,
+    among: &Among,
+    at: Pos,
+    operands: &Operands,
+) -> Result<(), AllocError>
+    requires { EndingFine (plain_among among.now) (counts_of operands.now) }
+    ensures { OnOk result (DoesAsked (plain_program compiled.entry.program.now).plan
+        compiled.entry.code.now compiled.entry.limits alternative n
+        (asked_end (plain_among among.now) 0 at (scene n state.old) operands.now)
+        state.old state.new) }
+{
+    match among {
+        Among::DeclareTasks(tasks) => declare(state, alloc, compiled, n, tasks, at),
+        Among::Activate => activate(state, alloc, compiled, n, at),
+        Among::Activated => end_activation(state, compiled, n),
+        Among::Call { entry, kind, .. } => entries::call(
+            state,
+            alloc,
+            compiled,
+            alternative,
+            n,
+            *entry,
+            *kind,
+            at,
+            operands,
+        ),
+        Among::Delay => entries::delay(state, alloc, compiled, n, at, operands),
+        Among::Accept { entry, region, .. } => {
+            let accept = OpenAccept {
+                alternative: 0,
+                entry: *entry,
+                at,
+                region: *region,
+            };
+            entries::accept(state, alloc, compiled, n, accept)
+        }
+        Among::Select { has_else, .. } => entries::select(
+            state,
+            alloc,
+            compiled,
+            alternative,
+            n,
+            *has_else,
+            at,
+            operands,
+        ),
+    }
 }
 
 // What it does that concerns the task alone.
@@ -97,9 +165,9 @@ fn step_alone(
         plain_end end.now ≡ end_at compiled.code.now t.control.place }
     requires alone { IsOfOne end.now.last }
     requires fine { LastFine (plain_last end.now.last) (counts_of operands.old) }
-    ensures { OnOk result (DoesEnd (plain_program compiled.entry.program.now).plan
-        compiled.entry.code.now compiled.entry.limits n (plain_end end.now)
-        (Reached operands.old) state.old state.new) }
+    ensures { OnOk result ((alternative : Option ℕ) →
+        DoesEnd (plain_program compiled.entry.program.now).plan compiled.entry.code.now
+        compiled.entry.limits alternative n (plain_end end.now) (Reached operands.old) state.old state.new) }
 {
     state.step_alone(n, end, compiled.code, &compiled.program.units, operands)
 }
@@ -112,8 +180,9 @@ fn activate(
     n: usize,
     at: Pos,
 ) -> Result<(), AllocError>
-    ensures { OnOk result (DoesAsked (plain_program compiled.entry.program.now).plan
-        compiled.entry.code.now compiled.entry.limits n (activates at) state.old state.new) }
+    ensures { OnOk result ((alternative : Option ℕ) →
+        DoesAsked (plain_program compiled.entry.program.now).plan
+        compiled.entry.code.now compiled.entry.limits alternative n (activates at) state.old state.new) }
 {
     let units = &compiled.program.units;
     activation::begin_activation(state, alloc, compiled.code, units, n, at)
@@ -121,8 +190,9 @@ fn activate(
 
 // The activation of the task ends.
 fn end_activation(state: &mut State, compiled: Compiled<'_>, n: usize) -> Result<(), AllocError>
-    ensures { OnOk result (DoesAsked (plain_program compiled.entry.program.now).plan
-        compiled.entry.code.now compiled.entry.limits n ends_activation state.old state.new) }
+    ensures { OnOk result ((alternative : Option ℕ) →
+        DoesAsked (plain_program compiled.entry.program.now).plan
+        compiled.entry.code.now compiled.entry.limits alternative n ends_activation state.old state.new) }
 {
     activation::end_activation(state, compiled.code, n, false);
     state.take(compiled.code, n, 0);
@@ -138,8 +208,9 @@ fn declare(
     tasks: &Tasks,
     at: Pos,
 ) -> Result<(), AllocError>
-    ensures { OnOk result (DoesAsked (plain_program compiled.entry.program.now).plan
-        compiled.entry.code.now compiled.entry.limits n (declares_tasks at (plain_tasks tasks.now))
+    ensures { OnOk result ((alternative : Option ℕ) →
+        DoesAsked (plain_program compiled.entry.program.now).plan
+        compiled.entry.code.now compiled.entry.limits alternative n (declares_tasks at (plain_tasks tasks.now))
         state.old state.new) }
 {
     let unit = unit_of_type(compiled, tasks.task_type);
@@ -190,8 +261,5 @@ fn is_declaration(last: &Last) -> bool
 fn is_statement(last: &Last) -> bool
     ensures { result ≡ is_statement last.now }
 {
-    matches!(
-        last,
-        Last::Does(_, _) | Last::DeclaresTasks(_, _) | Last::Activates(_) | Last::EndsActivation(_)
-    )
+    matches!(last, Last::Does(_, _) | Last::Concerns(_, _))
 }

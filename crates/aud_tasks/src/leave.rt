@@ -19,6 +19,7 @@ ghost use Rattle.aud_tasks.specs.Leaving.{closed_by};
 use aud_code::sound_code::SoundCode;
 use aud_masters::{completion, ending};
 use aud_meaning::state::Pending;
+use aud_rendezvous::ending::finish;
 use aud_state::state::State;
 use aud_store::stack::{Open, Purpose};
 use aud_store::target::Back;
@@ -34,8 +35,8 @@ pub(crate) fn leave(
     n: usize,
     loops: usize,
 ) -> Result<(), AllocError>
-    ensures { OnOk result ((plan : Plan) → (limits : LimitsOf) →
-        DoesAsked plan code.now limits n (ends loops) state.old state.new) }
+    ensures { OnOk result ((plan : Plan) → (limits : LimitsOf) → (alternative : Option ℕ) →
+        DoesAsked plan code.now limits alternative n (ends loops) state.old state.new) }
 {
     state.pass_end(code, n);
     end_construct(state, alloc, code, n, None)?;
@@ -51,8 +52,8 @@ pub(crate) fn leave_by(
     n: usize,
     pending: Pending,
 ) -> Result<(), AllocError>
-    ensures { OnOk result ((plan : Plan) → (limits : LimitsOf) →
-        DoesAsked plan code.now limits n (is_left_by pending) state.old state.new) }
+    ensures { OnOk result ((plan : Plan) → (limits : LimitsOf) → (alternative : Option ℕ) →
+        DoesAsked plan code.now limits alternative n (is_left_by pending) state.old state.new) }
 {
     state.leave_by(code, n, pending.exception);
     end_construct(state, alloc, code, n, Some(pending))?;
@@ -94,6 +95,7 @@ fn end_inner(
         Purpose::Block => end_block(state, alloc, code, n, inner, pending),
         Purpose::Loop => Ok(()),
         Purpose::Procedure { .. } => end_procedure(state, alloc, code, n, inner, pending),
+        Purpose::Accept { call } => end_accept(state, alloc, code, n, call, inner, pending),
     }
 }
 
@@ -128,6 +130,25 @@ fn end_block(
     state.out_of_loops(n);
     close(state, n, inner.at, pending);
     ending::leave(state, alloc, code, inner.frame)
+}
+
+// What an accept does has ended, with the loops within it.
+fn end_accept(
+    state: &mut State,
+    alloc: Global,
+    code: &SoundCode,
+    n: usize,
+    call: usize,
+    inner: Open,
+    pending: Option<Pending>,
+) -> Result<(), AllocError>
+    ensures { OnOk result ((plan : Plan) → (barrier : ℕ → Sight → Result Bool RaiseOf) →
+        (saved : List ℕ) → (backs : List BackOf) →
+        state.new ≡ effect.at_accept_end (going code.now) plan barrier pending call
+        (plain_open inner saved backs) n (on_own n out_of_loops state.old)) }
+{
+    state.out_of_loops(n);
+    finish(state, alloc, code, pending, call, inner, n)
 }
 
 // The innermost frame is left; what was pending is pending behind it.

@@ -2,10 +2,12 @@
 #![tactic(auto)]
 
 mod act;
+mod choice;
 pub mod coming;
 pub mod compiled;
 mod enabled;
 mod endings;
+mod entries;
 mod leave;
 pub mod moves;
 pub mod run;

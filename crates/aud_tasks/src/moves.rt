@@ -1,21 +1,26 @@
 // What can happen next.
 
-ghost use Rattle.std.specs.Prelude.{◌≡◌, ℕ, [], not, ◌||◌, IfOk, OnOk, is_some, slice_get};
+ghost use Rattle.std.specs.Prelude.{◌≡◌, ◌<◌, ◌-◌, ◌^◌, ℕ, [], length, not, ◌||◌, IfNone, IfOk, IfSome, OnOk, slice_get};
 ghost use Rattle.aud_typed.specs.Tree.{Plan};
 ghost use Rattle.aud_typed.specs.Ties.View.{plain_program};
 ghost use Rattle.aud_meaning.specs.Parts.{is_terminated, own_of};
 ghost use Rattle.aud_meaning.specs.Run.{acting_moves, cancelling, moves_at, seen, state_at, turn_moves};
 ghost use Rattle.aud_code.specs.Flat.{barrier_at, flat_controls, Flat};
 ghost use Rattle.aud_tasks.specs.Enabled.{enabled_moves};
-ghost use Rattle.aud_tasks.specs.Moving.{alone_if, moves_of};
+ghost use Rattle.aud_code.specs.Starts.{AreSpots};
+ghost use Rattle.aud_tasks.specs.Choices.{ComesTo};
+ghost use Rattle.aud_tasks.specs.Moving.{alone_if, has_some, moves_behind, moves_of, picked, IsNextMover};
 ghost use Rattle.aud_tasks.specs.Turning.{coming_in};
 
+use crate::choice::{Choice, choice_at};
 use crate::compiled::Compiled;
 use crate::enabled::{Enabled, count, list, nth};
 use crate::times::soonest;
 use crate::turn::{Turn, turn_of};
 use aud_code::sound_code::SoundCode;
-use aud_meaning::state::{Move, State as Standing, Status};
+use aud_expr::operands::Operands;
+use aud_meaning::state::{Move, OpenDelay, State as Standing, Status};
+use aud_select::selecting::open_set;
 use aud_state::state::State;
 use std::alloc::{AllocError, Global};
 
@@ -26,11 +31,13 @@ use std::alloc::{AllocError, Global};
 ///
 /// Where memory is refused.
 pub fn moves(state: &State, alloc: Global, compiled: Compiled<'_>) -> Result<Vec<Move>, AllocError>
+    requires { AreSpots compiled.code.now.lines state.now.tasks }
     ensures { IfOk result (λ moves. let plan = (plain_program compiled.entry.program.now).plan in
         moves.items ≡ moves_at plan (flat_controls plan compiled.entry.code.now) state.now) }
 {
+    let mut operands = Operands::new(alloc);
     let mut moves = Vec::new(alloc);
-    list_moves(state, compiled, &mut moves)?;
+    list_moves(state, alloc, compiled, &mut operands, &mut moves)?;
     Ok(moves)
 }
 
@@ -41,9 +48,12 @@ pub fn moves(state: &State, alloc: Global, compiled: Compiled<'_>) -> Result<Vec
 /// Where memory is refused.
 pub(crate) fn list_moves(
     state: &State,
+    alloc: Global,
     compiled: Compiled<'_>,
+    operands: &mut Operands,
     moves: &mut Vec<Move>,
 ) -> Result<(), AllocError>
+    requires { AreSpots compiled.code.now.lines state.now.tasks }
     ensures { OnOk result (let plan = (plain_program compiled.entry.program.now).plan in
         moves.new.items ≡ moves_at plan (flat_controls plan compiled.entry.code.now) state.now) }
 {
@@ -53,28 +63,55 @@ pub(crate) fn list_moves(
     }
     let clock = state.clock();
     for task in 0..state.len() {
-        let enabled = enabled_of(state, compiled.code, task);
-        list(enabled, task, clock, moves)?;
+        let enabled = enabled_of(state, alloc, compiled.code, operands, task)?;
+        list(&enabled, task, clock, moves)?;
     }
     Ok(())
 }
 
 /// The move of this index, counted from 0.
-pub(crate) fn nth_move(state: &State, compiled: Compiled<'_>, index: usize) -> Option<Move>
-    ensures { let plan = (plain_program compiled.entry.program.now).plan in
-        result ≡ slice_get (moves_at plan (flat_controls plan compiled.entry.code.now) state.now) index }
+///
+/// # Errors
+///
+/// Where memory is refused.
+pub(crate) fn nth_move(
+    state: &State,
+    alloc: Global,
+    compiled: Compiled<'_>,
+    operands: &mut Operands,
+    index: usize,
+) -> Result<Option<Move>, AllocError>
+    requires { AreSpots compiled.code.now.lines state.now.tasks }
+    ensures { IfOk result (λ found. let plan = (plain_program compiled.entry.program.now).plan in
+        found ≡ slice_get (moves_at plan (flat_controls plan compiled.entry.code.now) state.now) index) }
 {
     if !may_move(state) {
-        return None;
+        return Ok(None);
     }
     let clock = state.clock();
     let mut left = index;
     for task in 0..state.len() {
-        let enabled = enabled_of(state, compiled.code, task);
-        if let Some(found) = nth(enabled, task, clock, left) {
-            return Some(found);
+        let enabled = enabled_of(state, alloc, compiled.code, operands, task)?;
+        if let Some(found) = nth(&enabled, task, clock, left) {
+            return Ok(Some(found));
         }
-        left -= count(enabled, task, clock);
+        left -= count(&enabled, task, clock);
+    }
+    Ok(None)
+}
+
+/// The first task from this number on that has a move.
+pub(crate) fn next_mover(state: &State, code: &SoundCode, from: usize) -> Option<usize>
+    ensures some { IfSome result (λ task. (plan : Plan) → plan.objects ≡ [] →
+        IsNextMover plan code.now from task state.now) }
+    ensures none { IfNone result ((plan : Plan) → plan.objects ≡ [] →
+        moves_behind plan code.now from state.now ≡ []) }
+    ensures few { IfSome result (λ task. task < 2 ^ 64 - 1) }
+{
+    for task in from..state.len() {
+        if has_move(state, code, task) {
+            return Some(task);
+        }
     }
     None
 }
@@ -90,7 +127,7 @@ pub fn state_of(state: &State, compiled: Compiled<'_>) -> Standing
     if state.is_cut() {
         return Standing::OutputFull;
     }
-    match nth_move(state, compiled, 0) {
+    match next_mover(state, compiled.code, 0) {
         Some(_) => Standing::More,
         None => match soonest(state, compiled.code) {
             Some(time) => Standing::Waiting(time),
@@ -106,8 +143,8 @@ fn has_ended(state: &State) -> bool
     matches!(state.status(0), Status::Terminated)
 }
 
-// Whether the program hasn't ended and its output isn't full.
-fn may_move(state: &State) -> bool
+/// Whether the program hasn't ended and its output isn't full.
+pub(crate) fn may_move(state: &State) -> bool
     ensures { result ≡ not (is_terminated (own_of 0 state.now).status || state.now.shared.cut) }
 {
     !(has_ended(state) || state.is_cut())
@@ -116,26 +153,104 @@ fn may_move(state: &State) -> bool
 /// Whether the task of this number has a move.
 pub(crate) fn has_move(state: &State, code: &SoundCode, task: usize) -> bool
     ensures { (plan : Plan) → plan.objects ≡ [] →
-        result ≡ is_some (slice_get (moves_of plan code.now task state.now) 0) }
+        result ≡ has_some (moves_of plan code.now task state.now) }
 {
-    let enabled = enabled_of(state, code, task);
-    nth(enabled, task, state.clock(), 0).is_some()
+    match turn_of(state, code, task) {
+        Turn::Resting => false,
+        Turn::Closing => state.closable(state.body_master(task)),
+        Turn::Completing => true,
+        Turn::Serving(_) => true,
+        Turn::Withdrawing(object) => state.is_idle(object),
+        Turn::Expiring => has_ended_delay(state.delays(task), task, state.clock()),
+        Turn::Cancelling => can_be_cancelled(state, task),
+        Turn::Acting => can_act(state, code, task),
+    }
+}
+
+// Whether the time of one of these delays has come.
+fn has_ended_delay(delays: &[OpenDelay], task: usize, clock: u64) -> bool
+    ensures { result ≡ has_some (picked task clock delays.now) }
+{
+    nth(&Enabled::Delays(delays), task, clock, 0).is_some()
 }
 
 // The moves of the task of this number.
-fn enabled_of<'a>(state: &'a State, code: &SoundCode, task: usize) -> Enabled<'a>
-    ensures { (plan : Plan) → plan.objects ≡ [] →
-        enabled_moves task state.now.clock result ≡ moves_of plan code.now task state.now }
+fn enabled_of<'a>(
+    state: &'a State,
+    alloc: Global,
+    code: &SoundCode,
+    operands: &mut Operands,
+    task: usize,
+) -> Result<Enabled<'a>, AllocError>
+    requires spots { AreSpots code.now.lines state.now.tasks }
+    requires within { task < length state.now.tasks }
+    ensures { IfOk result (λ enabled. (plan : Plan) → plan.objects ≡ [] →
+        enabled_moves task state.now.clock enabled ≡ moves_of plan code.now task state.now) }
 {
     match turn_of(state, code, task) {
-        Turn::Resting => Enabled::None,
-        Turn::Closing => one_if(state.closable(state.body_master(task))),
-        Turn::Completing => Enabled::One,
-        Turn::Serving(_) => Enabled::One,
-        Turn::Withdrawing(object) => one_if(state.is_idle(object)),
-        Turn::Expiring => Enabled::Delays(state.delays(task)),
-        Turn::Cancelling => one_if(can_be_cancelled(state, task)),
-        Turn::Acting => one_if(can_act(state, code, task)),
+        Turn::Resting => Ok(Enabled::None),
+        Turn::Closing => Ok(one_if(state.closable(state.body_master(task)))),
+        Turn::Completing => Ok(Enabled::One),
+        Turn::Serving(_) => Ok(Enabled::One),
+        Turn::Withdrawing(object) => Ok(one_if(state.is_idle(object))),
+        Turn::Expiring => Ok(Enabled::Delays(state.delays(task))),
+        Turn::Cancelling => Ok(one_if(can_be_cancelled(state, task))),
+        Turn::Acting => acting(state, alloc, code, operands, task),
+    }
+}
+
+// Those of one whose statements go on.
+fn acting<'a>(
+    state: &'a State,
+    alloc: Global,
+    code: &SoundCode,
+    operands: &mut Operands,
+    task: usize,
+) -> Result<Enabled<'a>, AllocError>
+    requires spots { AreSpots code.now.lines state.now.tasks }
+    requires within { task < length state.now.tasks }
+    ensures { IfOk result (λ enabled. (plan : Plan) → enabled_moves task state.now.clock enabled
+        ≡ acting_moves plan (barrier_at code.now) (coming_in plan code.now task state.now) task
+        (seen plan (flat_controls plan code.now) state.now)) }
+{
+    match choice_at(state, code, task) {
+        None => Ok(one_if(can_act(state, code, task))),
+        Some(choice) => choose(state, alloc, code, operands, task, choice),
+    }
+}
+
+// Those of one at such a choice: what is open, or who is called, is evaluated.
+fn choose<'a>(
+    state: &'a State,
+    alloc: Global,
+    code: &SoundCode,
+    operands: &mut Operands,
+    task: usize,
+    choice: Choice,
+) -> Result<Enabled<'a>, AllocError>
+    requires spots { AreSpots code.now.lines state.now.tasks }
+    requires within { task < length state.now.tasks }
+    requires comes { (plan : Plan) → ComesTo choice plan code.now task state.now }
+    ensures { IfOk result (λ enabled. (plan : Plan) → enabled_moves task state.now.clock enabled
+        ≡ acting_moves plan (barrier_at code.now) (coming_in plan code.now task state.now) task
+        (seen plan (flat_controls plan code.now) state.now)) }
+{
+    let is_marked = state.evaluate_to_mark(code, task, operands)?;
+    if !is_marked {
+        return Ok(Enabled::One);
+    }
+    match choice {
+        Choice::Select => {
+            let numbers = open_set(state, alloc, task, operands.accepts())?;
+            Ok(Enabled::Alternatives(numbers))
+        }
+        Choice::Call(entry) => match operands.callee() {
+            Some(callee) => {
+                let numbers = state.open_alternatives(alloc, callee, entry)?;
+                Ok(Enabled::Alternatives(numbers))
+            }
+            None => Ok(Enabled::One),
+        },
     }
 }
 
@@ -163,8 +278,8 @@ fn can_be_cancelled(state: &State, task: usize) -> bool
 
 // Whether its own next step is enabled: not where others keep the master that it leaves.
 fn can_act(state: &State, code: &SoundCode, task: usize) -> bool
-    ensures { (plan : Plan) → alone_if result task ≡ acting_moves plan (barrier_at code.now)
-        (coming_in plan code.now task state.now) task (seen plan (flat_controls plan code.now) state.now) }
+    ensures { (plan : Plan) → result ≡ has_some (acting_moves plan (barrier_at code.now)
+        (coming_in plan code.now task state.now) task (seen plan (flat_controls plan code.now) state.now)) }
 {
     match state.master_left(code, task) {
         Some(master) => state.closable(master),

@@ -16,6 +16,7 @@ use aud_code::sound_code::SoundCode;
 use aud_expr::operands::Operands;
 use aud_masters::{completion, ending};
 use aud_meaning::state::Move;
+use aud_select::expiring;
 use aud_state::state::State;
 use aud_text::limits::STEPS;
 use std::alloc::{AllocError, Global};
@@ -74,12 +75,16 @@ fn take_turn(
             Ok(0)
         }
         Turn::Expiring => {
-            state.resume(compiled.code, n, alternative(taken));
+            expiring::undelay(state, compiled.code, alternative(taken), n);
             Ok(0)
         }
-        Turn::Acting => act(state, alloc, compiled, n, operands),
-        // No program that is loaded comes to these: they want calls and protected objects.
-        Turn::Withdrawing(_) | Turn::Serving(_) | Turn::Cancelling => Err(AllocError),
+        Turn::Cancelling => {
+            expiring::timed(state, compiled.code, n)?;
+            Ok(0)
+        }
+        Turn::Acting => act(state, alloc, compiled, taken.alternative, n, operands),
+        // No program that is loaded comes to these: they want protected objects.
+        Turn::Withdrawing(_) | Turn::Serving(_) => Err(AllocError),
     }
 }
 

@@ -2,7 +2,7 @@
 // text is nested, however long it is.
 
 ghost use Rattle.std.specs.Prelude.{◌≡◌, IfOk};
-ghost use Rattle.aud_typed.specs.Ties.View.{plain_tasks};
+ghost use Rattle.aud_typed.specs.Ties.View.{milliseconds_in, plain_tasks};
 
 use aud_text::int32::Int32;
 use aud_text::name::Name;
@@ -90,6 +90,8 @@ pub enum IntegerExpression {
     Unary(Unary, Box<IntegerExpression>),
     /// An operand, and operations one after the other on what stands before them.
     Chain(Box<IntegerExpression>, Vec<Operation>),
+    /// How many calls are queued on an entry of the task whose number is in the variable (RM 9.9(5)).
+    Count(Variable, usize),
 }
 
 /// An operator and its right operand; the left one is all that stands before it in its chain.
@@ -173,6 +175,40 @@ pub enum TextExpression {
     NewLine,
 }
 
+/// So many seconds and thousandths of a second (RM 9.6).
+#[derive(Clone, Copy, PartialEq, Eq)]
+pub struct Duration {
+    pub seconds: u32,
+    pub thousandths: u16,
+}
+
+impl Duration {
+    /// The same in milliseconds.
+    pub fn milliseconds(self) -> u64
+        ensures { result ≡ milliseconds_in self }
+    {
+        u64::from(self.seconds) * 1000 + u64::from(self.thousandths)
+    }
+}
+
+/// How long is waited (RM 9.6).
+#[derive(Drop)]
+pub enum DelayExpression {
+    Fixed(Duration),
+    /// This number of seconds, and none where it is negative.
+    Seconds(IntegerExpression),
+}
+
+/// How an entry is called (RM 9.5.3).
+#[derive(Drop)]
+pub enum CallForm {
+    Plain,
+    /// It is left where it is not accepted at once (RM 9.7.3).
+    Conditional,
+    /// It is left after this time (RM 9.7.2).
+    Timed(DelayExpression),
+}
+
 /// The tasks of one name: a single one, or the elements of an array from its lower bound on (RM 9.1).
 #[derive(Drop)]
 pub struct Tasks {
@@ -233,6 +269,11 @@ pub enum Statement {
     Return(Pos),
     /// A call of the procedure whose unit has this number, with these arguments (RM 6.4).
     ProcedureCall(Pos, usize, Vec<Argument>),
+    EntryCall(Box<EntryCallStatement>),
+    /// RM 9.6.
+    Delay(Pos, DelayExpression),
+    Accept(Box<AcceptStatement>),
+    Select(Box<SelectStatement>),
 }
 
 /// The condition and statements behind `if`, those behind each `elsif`, and the statements behind `else`, which are none where
@@ -275,6 +316,67 @@ pub struct BlockStatement {
     pub at: Pos,
     pub region: usize,
     pub body: Body,
+}
+
+/// A call of the entry of this number, of a task (RM 9.5.3); the statements behind the call of a conditional or timed one, and
+/// those behind its `else` or its delay, which are done where the call is left (RM 9.7.2, 9.7.3).
+#[derive(Drop)]
+#[cycle(statement)]
+pub struct EntryCallStatement {
+    pub at: Pos,
+    pub task: TaskName,
+    pub entry: usize,
+    pub arguments: Vec<Argument>,
+    pub form: CallForm,
+    pub after: Vec<Statement>,
+    pub otherwise: Vec<Statement>,
+}
+
+/// An accept of a call of the entry of this number, and what it does then, if it does something (RM 9.5.2).
+#[derive(Drop)]
+#[cycle(statement)]
+pub struct AcceptStatement {
+    pub at: Pos,
+    pub entry: usize,
+    pub doing: Option<Doing>,
+}
+
+/// What is done in a rendezvous, with the number of the table of the entry's formals (RM 9.5.2).
+#[derive(Drop)]
+#[cycle(statement)]
+pub struct Doing {
+    pub region: usize,
+    pub body: Body,
+}
+
+/// A selective accept (RM 9.7.1): its alternatives, and the statements behind `else`, which are none where there is no `else`.
+#[derive(Drop)]
+#[cycle(statement)]
+pub struct SelectStatement {
+    pub at: Pos,
+    pub alternatives: Vec<Alternative>,
+    pub otherwise: Vec<Statement>,
+}
+
+/// An alternative of a selective accept, which is open where its guard is true (RM 9.7.1).
+#[derive(Drop)]
+#[cycle(statement)]
+pub enum Alternative {
+    /// An accept, and the statements behind it.
+    Accept {
+        guard: BooleanExpression,
+        accept: AcceptStatement,
+        after: Vec<Statement>,
+    },
+    /// A delay, and the statements behind it.
+    Delay {
+        guard: BooleanExpression,
+        delay: DelayExpression,
+        after: Vec<Statement>,
+    },
+    Terminate {
+        guard: BooleanExpression,
+    },
 }
 
 /// Declarations, a `begin`, statements and their handlers, and an `end` (RM 11.2).
@@ -336,10 +438,11 @@ pub struct Unit {
     pub body: Body,
 }
 
-/// A task type, or the type of a single task: the unit that is its body (RM 9.1).
-#[derive(Clone, Copy, PartialEq, Eq)]
+/// A task type, or the type of a single task: the unit that is its body, and its entries, by their numbers (RM 9.1).
+#[derive(Drop)]
 pub struct TaskType {
     pub unit: usize,
+    pub entries: Vec<usize>,
 }
 
 /// A typed program: its procedures and tasks, which have blocks and `for` loops.
@@ -349,6 +452,8 @@ pub struct Program {
     pub units: Vec<Unit>,
     /// The types of the tasks, in the order of their declarations.
     pub tasks: Vec<TaskType>,
+    /// The names of the tasks' entries, by their numbers.
+    pub entries: Vec<Name>,
     /// The formals, variables and constants of each frame, in the order of their declarations, by the frames' tables.
     pub regions: Vec<Vec<Named>>,
     /// The names of the exceptions that are declared, by their numbers.
@@ -362,6 +467,7 @@ impl Drop for Program {
             name: _,
             units: _,
             tasks: _,
+            entries: _,
             regions: _,
             exceptions: _,
         } = self;

@@ -1,5 +1,5 @@
 -- Trees by their parts.
-use Rattle.std.proofs.Common.{◌≡◌, List, ◌∷◌, ap, ◌∙◌}
+use Rattle.std.proofs.Common.{◌≡◌, List, ◌∷◌, refl, ap, ◌∙◌}
 use Rattle.std.specs.Prelude.{Option, Box}
 use Rattle.std.specs.Global.{Global}
 use Rattle.aud_syntax.specs.declared.tree.Ident.{Ident}
@@ -24,9 +24,9 @@ use Rattle.aud_fault.specs.declared.fault.Fault.{Fault}
 use Rattle.aud_typing.specs.declared.typed.Typed as memory
 use Rattle.aud_fault.specs.Least.{noted}
 use Rattle.aud_names.specs.Names.{Place}
-use Rattle.aud_typing.specs.Expressions.{primary_at, Typed, unknown, Checked, after, with, prefix_faults, checked_arguments, checked_parts, checked_part, checked_args, simple_at, term_at, signed_at, factor_at, relation_at, signed, further, checked_expression, checked_relations, checked_relation, checked_simple, checked_addeds, checked_added, checked_term, checked_multiplieds, checked_multiplied, checked_factor}
+use Rattle.aud_typing.specs.Expressions.{primary_at, Typed, unknown, Checked, after, with, prefix_faults, checked_arguments, checked_prefix, checked_parts, checked_part, checked_args, simple_at, term_at, signed_at, factor_at, relation_at, signed, further, checked_expression, checked_relations, checked_relation, checked_simple, checked_addeds, checked_added, checked_term, checked_multiplieds, checked_multiplied, checked_factor}
 use Rattle.aud_typing.specs.Ties.Typing.{plain_typed, Shows}
-use Rattle.aud_typing.proofs.Notes.{Ahead, ahead_all, ahead_after, ahead_with}
+use Rattle.aud_typing.proofs.Notes.{shows_with, Ahead, ahead_all, ahead_after, ahead_with}
 
 -- where they begin
 pub name_begins : (n : Name) → (name_ident (plain_name n)).at ≡ (out-Name n).first.ident.at
@@ -89,3 +89,10 @@ arguments_ahead n place old mid new x items p h k =
 pub part_ahead : (place : Place) (old mid new : Option Fault) (all : Checked) (x : NamePart) (xs ys : List NamePart) (last : Typed) (t : Box memory.Typed Global) → xs ≡ x ∷ ys → Ahead mid (checked_parts (part_list xs) place last) old all → Shows (Ok t) mid new (checked_part (plain_part x) place last) → Ahead new (checked_parts (part_list ys) place (plain_typed t.value)) old all
 part_ahead place old mid new all x xs ys last t p a h =
     ahead_with old mid new all (checked_part (plain_part x) place last) (λ z. checked_parts (part_list ys) place z) t (rw p at a) h
+
+-- the arguments before a point
+pub prefix_shows : (n : Name) (place : Place) (old mid new : Option Fault) (x : Box memory.Typed Global) → Shows (Ok x) old mid (checked_part (plain_part (out-Name n).first) place unknown) → new ≡ noted mid (prefix_faults (plain_part (out-Name n).first) (part_list (out-Name n).others.items) (plain_typed x.value) place) → Shows (Ok x) old new (checked_prefix (plain_name n) place)
+prefix_shows n place old mid new x h k =
+    let first : m.NamePart = plain_part (out-Name n).first in
+    let rest : m.Parts = part_list (out-Name n).others.items in
+    rw (name_open n) (shows_with old mid new (checked_part first place unknown) (λ last. record { faults = prefix_faults first rest last place; typed = last }) x (Ok x) h (k, refl))

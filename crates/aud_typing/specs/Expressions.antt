@@ -1,5 +1,5 @@
 -- Expressions: their faults, their types, and what is left of them once their names are resolved (RM 4).
-use Rattle.std.specs.Prelude.{ℕ, ℤ, Bool, true, false, pos, negsuc, nat_le, if◌then◌else◌, List, [], ◌∷◌, ◌++◌, Option, Some, None, codes}
+use Rattle.std.specs.Prelude.{ℕ, ℤ, Bool, true, false, ◌&&◌, pos, negsuc, nat_le, if◌then◌else◌, List, [], ◌∷◌, ◌++◌, Option, Some, None, codes}
 use Rattle.std.specs.Str.{bytes_eq}
 use Rattle.std.specs.Map.{lookup}
 use Rattle.aud_text.specs.declared.place.Pos.{Pos}
@@ -31,17 +31,20 @@ use Rattle.aud_typed.specs.declared.program.Logical.TheVariants as logical
 use Rattle.aud_typed.specs.Tree as tree
 use Rattle.aud_fault.specs.declared.fault.Fault.{Fault}
 use Rattle.aud_names.specs.declared.names.Meaning.{Meaning}
-use Rattle.aud_names.specs.declared.names.Meaning.TheVariants.{ScalarType, Literal, Object, Array, Exception, Builtin, Procedure, TaskType, Task, TaskArray}
+use Rattle.aud_names.specs.declared.names.Meaning.TheVariants.{ScalarType, Literal, Object, Array, Exception, Builtin, Procedure, TaskType, Task, TaskArray, Entry}
 use Rattle.aud_names.specs.declared.names.Array as array
 use Rattle.aud_names.specs.declared.names.TaskArray as task_array
+use Rattle.aud_names.specs.declared.names.Entry as named_entry
+use Rattle.aud_names.specs.declared.names.Owner.{Owner}
+use Rattle.aud_names.specs.declared.names.Owner.TheVariants.{Single, Element}
 use Rattle.aud_typing.specs.declared.attribute.Attribute.{Attribute}
-use Rattle.aud_typing.specs.declared.attribute.Attribute.TheVariants.{Image, First, Last, Length, Callable, Terminated, Other}
+use Rattle.aud_typing.specs.declared.attribute.Attribute.TheVariants.{Image, First, Last, Length, Callable, Terminated, Count}
 use Rattle.aud_names.specs.declared.rules.Base.{Base}
 use Rattle.aud_names.specs.declared.rules.Base.TheVariants.{Whole, Truth, Text}
-use Rattle.aud_names.specs.Names.{Place, visible}
+use Rattle.aud_names.specs.Names.{Place, visible, is_own}
 use Rattle.aud_names.specs.Arrays.{length_between, array_at, task_array_at}
-use Rattle.aud_names.specs.Resolution.{Resolved, resolved, name_ident, part_ident, part_args, last_args}
-use Rattle.aud_names.specs.Rules.{base_of_subtype, wrong_kind_of_name, right_type, wrong_number_of_arguments, number_too_large}
+use Rattle.aud_names.specs.Resolution.{Resolved, resolved, name_ident, part_ident, part_args, are_none, last_args}
+use Rattle.aud_names.specs.Rules.{base_of_subtype, wrong_kind_of_name, right_type, wrong_number_of_arguments, accept_or_count_in_place, number_too_large}
 
 -- an expression with its type, unknown where the expression is faulty
 pub data Typed : Type 0 where
@@ -302,6 +305,7 @@ read_faults (Procedure n) at = wrong_kind_of_name at
 read_faults (TaskType n) at = wrong_kind_of_name at
 read_faults (Task v) at = wrong_kind_of_name at
 read_faults (TaskArray a) at = wrong_kind_of_name at
+read_faults (Entry e) at = wrong_kind_of_name at
 
 abbrev pub name_faults : Entity → Pos → List Fault
 name_faults no_entity at = []
@@ -342,11 +346,10 @@ checked_name d = record { faults = d.faults ++ name_faults d.entity d.at; typed 
 
 -- Attributes (RM 4.1.4, K.2). The prefix and the designator stand at a place; the argument, if there is one, comes with that where it begins.
 
--- that of entries is known, but as yet there is nothing that has it
 abbrev pub attributes : List (List ℕ × Attribute)
 attributes =
     (codes "IMAGE", Image) ∷ (codes "FIRST", First) ∷ (codes "LAST", Last)
-    ∷ (codes "LENGTH", Length) ∷ (codes "COUNT", Other) ∷ (codes "CALLABLE", Callable) ∷ (codes "TERMINATED", Terminated) ∷ []
+    ∷ (codes "LENGTH", Length) ∷ (codes "COUNT", Count) ∷ (codes "CALLABLE", Callable) ∷ (codes "TERMINATED", Terminated) ∷ []
 
 abbrev pub without_argument : Pos → Option (Pos × Typed) → Typed → Checked
 without_argument designator None t = fine t
@@ -381,6 +384,7 @@ image (Procedure n) prefix designator argument = faulty (wrong_kind_of_name pref
 image (TaskType n) prefix designator argument = faulty (wrong_kind_of_name prefix)
 image (Task v) prefix designator argument = faulty (wrong_kind_of_name prefix)
 image (TaskArray a) prefix designator argument = faulty (wrong_kind_of_name prefix)
+image (Entry e) prefix designator argument = faulty (wrong_kind_of_name prefix)
 
 -- the bounds of Integer and its subtypes (RM 3.5(12, 13), 3.5.4(11, 12)), and of arrays (RM 3.6.2(3, 5)); those of Boolean are not in the profile
 abbrev pub first_of : Meaning → Option ℤ
@@ -415,30 +419,54 @@ bound (Some value) prefix designator argument = without_argument designator argu
 
 -- what is asked of a task (RM 9.9(2, 3))
 abbrev pub callable_of : Meaning → Option tree.BooleanExpression
-callable_of (Task v) = Some (tree.callable (tree.single v))
+callable_of (Task t) = Some (tree.callable (tree.single t.variable))
 callable_of _ = None
 
 abbrev pub terminated_of : Meaning → Option tree.BooleanExpression
-terminated_of (Task v) = Some (tree.terminated (tree.single v))
+terminated_of (Task t) = Some (tree.terminated (tree.single t.variable))
 terminated_of _ = None
 
 abbrev pub asked : Option tree.BooleanExpression → Pos → Pos → Option (Pos × Typed) → Checked
 asked None prefix designator argument = faulty (wrong_kind_of_name prefix)
 asked (Some e) prefix designator argument = without_argument designator argument (boolean e)
 
-abbrev pub attribute_of : Attribute → Meaning → Pos → Pos → Option (Pos × Typed) → Checked
-attribute_of Image m prefix designator argument = image m prefix designator argument
-attribute_of First m prefix designator argument = bound (first_of m) prefix designator argument
-attribute_of Last m prefix designator argument = bound (last_of m) prefix designator argument
-attribute_of Length m prefix designator argument = bound (length_of m) prefix designator argument
-attribute_of Callable m prefix designator argument = asked (callable_of m) prefix designator argument
-attribute_of Terminated m prefix designator argument = asked (terminated_of m) prefix designator argument
-attribute_of Other m prefix designator argument = faulty (wrong_kind_of_name prefix)
+-- how many calls are queued on an entry of the task that runs the body
+abbrev pub count_value : Owner → ℕ → Typed
+count_value (Single v) n = number (tree.count v n)
+count_value (Element a) n = unknown
+
+abbrev pub count_if : Bool → named_entry.Entry → Typed
+count_if good e = if good then count_value e.owner e.number else unknown
+
+-- an entry's name has no arguments there
+abbrev pub no_arguments : Args → Pos → List Fault
+no_arguments xs at = if are_none xs then [] else wrong_kind_of_name at
+
+abbrev pub counted : named_entry.Entry → Args → Pos → Place → Checked
+counted e xs at place = record {
+  faults = no_arguments xs at ++ accept_or_count_in_place (is_own e place) at;
+  typed = count_if (are_none xs && is_own e place) e;
+}
+
+-- RM 9.9(5)
+abbrev pub count : Meaning → Args → Pos → Pos → Option (Pos × Typed) → Place → Checked
+count (Entry e) xs prefix designator argument place = with (counted e xs prefix place) (λ t. without_argument designator argument t)
+count m xs prefix designator argument place = faulty (wrong_kind_of_name prefix)
+
+-- the prefix has these arguments
+abbrev pub attribute_of : Attribute → Meaning → Args → Pos → Pos → Option (Pos × Typed) → Place → Checked
+attribute_of Image m xs prefix designator argument place = image m prefix designator argument
+attribute_of First m xs prefix designator argument place = bound (first_of m) prefix designator argument
+attribute_of Last m xs prefix designator argument place = bound (last_of m) prefix designator argument
+attribute_of Length m xs prefix designator argument place = bound (length_of m) prefix designator argument
+attribute_of Callable m xs prefix designator argument place = asked (callable_of m) prefix designator argument
+attribute_of Terminated m xs prefix designator argument place = asked (terminated_of m) prefix designator argument
+attribute_of Count m xs prefix designator argument place = count m xs prefix designator argument place
 
 -- the designator must be an attribute's
-abbrev pub attribute_named : Option Attribute → Meaning → Pos → Pos → Option (Pos × Typed) → Checked
-attribute_named None m prefix designator argument = faulty (wrong_kind_of_name designator)
-attribute_named (Some a) m prefix designator argument = attribute_of a m prefix designator argument
+abbrev pub attribute_named : Option Attribute → Meaning → Args → Pos → Pos → Option (Pos × Typed) → Place → Checked
+attribute_named None m xs prefix designator argument place = faulty (wrong_kind_of_name designator)
+attribute_named (Some a) m xs prefix designator argument place = attribute_of a m xs prefix designator argument place
 
 -- an element has none but Image (RM 4.10(40))
 abbrev pub element_attribute : Option Attribute → Typed → Pos → Pos → Option (Pos × Typed) → Checked
@@ -453,14 +481,14 @@ task_attribute (Some Callable) task prefix designator argument = without_argumen
 task_attribute (Some Terminated) task prefix designator argument = without_argument designator argument (boolean (tree.terminated task))
 task_attribute (Some _) task prefix designator argument = faulty (wrong_kind_of_name prefix)
 
-abbrev pub attribute_if : Entity → Pos → Ident → Option (Pos × Typed) → Checked
-attribute_if no_entity prefix designator argument = fine unknown
-attribute_if (entity m) prefix designator argument = attribute_named (lookup (bytes_eq designator.name) attributes) m prefix designator.at argument
-attribute_if (element_of a index s) prefix designator argument = element_attribute (lookup (bytes_eq designator.name) attributes) (stored_at a index s) prefix designator.at argument
-attribute_if (task_of a index) prefix designator argument = task_attribute (lookup (bytes_eq designator.name) attributes) (tree.indexed a index) prefix designator.at argument
+abbrev pub attribute_if : Entity → Args → Pos → Ident → Option (Pos × Typed) → Place → Checked
+attribute_if no_entity xs prefix designator argument place = fine unknown
+attribute_if (entity m) xs prefix designator argument place = attribute_named (lookup (bytes_eq designator.name) attributes) m xs prefix designator.at argument place
+attribute_if (element_of a index s) xs prefix designator argument place = element_attribute (lookup (bytes_eq designator.name) attributes) (stored_at a index s) prefix designator.at argument
+attribute_if (task_of a index) xs prefix designator argument place = task_attribute (lookup (bytes_eq designator.name) attributes) (tree.indexed a index) prefix designator.at argument
 
-abbrev pub checked_attribute : Denoting → Ident → Option (Pos × Typed) → Checked
-checked_attribute d designator argument = after d.faults (attribute_if d.entity d.at designator argument)
+abbrev pub checked_attribute : Denoting → Args → Ident → Option (Pos × Typed) → Place → Checked
+checked_attribute d xs designator argument place = after d.faults (attribute_if d.entity xs d.at designator argument place)
 
 abbrev mutual
   -- RM 4.4(2)
@@ -511,12 +539,12 @@ abbrev mutual
   checked_primary (integer n) place = checked_number n.value n.at
   checked_primary (text l) place = fine (string (tree.literal l.text))
   checked_primary (name n) place = with (checked_arguments n place) (λ last. checked_name (denoting n last place))
-  checked_primary (attribute n designator argument) place = with (checked_arguments n place) (λ last. checked_image argument place (denoting n last place) designator)
+  checked_primary (attribute n designator argument) place = with (checked_arguments n place) (λ last. checked_image argument place (denoting n last place) (last_args n) designator)
   checked_primary (group at e) place = checked_expression e place
 
-  pub checked_image : MaybeExpression → Place → Denoting → Ident → Checked
-  checked_image no_expression place prefix designator = checked_attribute prefix designator None
-  checked_image (an_expression e) place prefix designator = with (checked_expression e place) (λ t. checked_attribute prefix designator (Some (expression_at e, t)))
+  pub checked_image : MaybeExpression → Place → Denoting → Args → Ident → Checked
+  checked_image no_expression place prefix xs designator = checked_attribute prefix xs designator None place
+  checked_image (an_expression e) place prefix xs designator = with (checked_expression e place) (λ t. checked_attribute prefix xs designator (Some (expression_at e, t)) place)
 
   -- the arguments of a name, also where none may stand: their faults, and what the last of them is
   pub checked_arguments : Name → Place → Checked
@@ -532,3 +560,7 @@ abbrev mutual
   pub checked_args : Args → Place → Typed → Checked
   checked_args no_args place last = fine last
   checked_args (more_args e es) place last = with (checked_expression e place) (λ t. checked_args es place t)
+
+-- the arguments before a name's first point, where an array of tasks has its index: their faults, and what the last of them is
+abbrev pub checked_prefix : Name → Place → Checked
+checked_prefix (named p ps) place = with (checked_part p place unknown) (λ last. record { faults = prefix_faults p ps last place; typed = last })

@@ -3,8 +3,10 @@
 ghost use Rattle.std.specs.Prelude.{◌≡◌, option_map};
 ghost use Rattle.std.specs.Str.{bytes_eq};
 ghost use Rattle.std.specs.Map.{lookup};
+ghost use Rattle.aud_names.specs.Resolution.{are_none};
 ghost use Rattle.aud_names.specs.Rules.{wrong_kind_of_name};
-ghost use Rattle.aud_typing.specs.Expressions.{unknown, attributes, without_argument, image_of, image_of_type, image_with, image, first_of, last_of, at_most_last, length_of, bound, callable_of, terminated_of, asked, attribute_of, entity, element_attribute, task_attribute, attribute_if};
+ghost use Rattle.aud_typing.specs.Expressions.{unknown, attributes, without_argument, image_of, image_of_type, image_with, image, first_of, last_of, at_most_last, length_of, bound, callable_of, terminated_of, asked, count_value, count_if, no_arguments, counted, count, attribute_of, entity, element_attribute, task_attribute, attribute_if};
+ghost use Rattle.aud_syntax.specs.Ties.View.{plain_expressions};
 ghost use Rattle.aud_typed.specs.Ties.View.{plain_boolean, plain_task};
 ghost use Rattle.aud_fault.specs.Least.{noted};
 ghost use Rattle.aud_typing.specs.Ties.Typing.{plain_typed, plain_argument, Leaves};
@@ -15,15 +17,17 @@ use crate::typed::{Operand, Typed, stored, unknown, wants};
 use aud_fault::fault::Least;
 use aud_names::array::length_between;
 use aud_names::behind::Made;
-use aud_names::names::Meaning;
-use aud_names::rules::{Base, base_of_subtype, wrong_kind_of_name, wrong_number_of_arguments};
+use aud_names::names::{Entry, Meaning, Owner, Scope};
+use aud_names::resolution::are_none;
+use aud_names::rules::{
+    Base, accept_or_count_in_place, base_of_subtype, wrong_kind_of_name, wrong_number_of_arguments,
+};
 use aud_names::table::listed;
-use aud_syntax::tree::Ident;
+use aud_syntax::tree::{Expression, Ident};
 use aud_text::int32::Int32;
 use aud_text::name::Name;
 use aud_text::place::Pos;
 use aud_typed::program::{BooleanExpression, IntegerExpression, Subtype, TaskName, TextExpression};
-use std::alloc::Global;
 
 /// An attribute of the language.
 #[derive(Clone, Copy, PartialEq, Eq)]
@@ -34,8 +38,7 @@ pub enum Attribute {
     Length,
     Callable,
     Terminated,
-    /// One of what no program has as yet: an entry.
-    Other,
+    Count,
 }
 
 /// Where an attribute's prefix and its designator stand.
@@ -50,7 +53,7 @@ const ATTRIBUTES: [(&[u8], Attribute); 7] = [
     (b"FIRST", Attribute::First),
     (b"LAST", Attribute::Last),
     (b"LENGTH", Attribute::Length),
-    (b"COUNT", Attribute::Other),
+    (b"COUNT", Attribute::Count),
     (b"CALLABLE", Attribute::Callable),
     (b"TERMINATED", Attribute::Terminated),
 ];
@@ -154,7 +157,8 @@ fn image(meaning: Meaning, at: Places, argument: Option<Operand>, faults: &mut L
         | Meaning::Procedure(_)
         | Meaning::TaskType(_)
         | Meaning::Task(_)
-        | Meaning::TaskArray(_) => wrong_kind(at.prefix, argument, faults),
+        | Meaning::TaskArray(_)
+        | Meaning::Entry(_) => wrong_kind(at.prefix, argument, faults),
     }
 }
 
@@ -224,7 +228,7 @@ fn callable_of(meaning: Meaning) -> Option<BooleanExpression>
     ensures { option_map plain_boolean result ≡ callable_of meaning }
 {
     match meaning {
-        Meaning::Task(task) => Some(BooleanExpression::Callable(TaskName::Single(task))),
+        Meaning::Task(task) => Some(BooleanExpression::Callable(TaskName::Single(task.variable))),
         _ => None,
     }
 }
@@ -233,7 +237,7 @@ fn terminated_of(meaning: Meaning) -> Option<BooleanExpression>
     ensures { option_map plain_boolean result ≡ terminated_of meaning }
 {
     match meaning {
-        Meaning::Task(task) => Some(BooleanExpression::Terminated(TaskName::Single(task))),
+        Meaning::Task(task) => Some(BooleanExpression::Terminated(TaskName::Single(task.variable))),
         _ => None,
     }
 }
@@ -256,17 +260,98 @@ fn asked(
     }
 }
 
+fn count_value(owner: Owner, number: usize) -> Typed
+    ensures { plain_typed result ≡ count_value owner number }
+{
+    match owner {
+        Owner::Single(cell) => Typed::Number(IntegerExpression::Count(cell, number)),
+        Owner::Element(_) => Typed::Unknown,
+    }
+}
+
+fn count_if(good: bool, entry: Entry) -> Typed
+    ensures { plain_typed result ≡ count_if good entry }
+{
+    if good {
+        count_value(entry.owner, entry.number)
+    } else {
+        Typed::Unknown
+    }
+}
+
+// Notes where there are arguments: whether there are none.
+fn no_arguments(args: &[Expression], at: Pos, faults: &mut Least) -> bool
+    ensures alone { result ≡ are_none (plain_expressions args.now) }
+    ensures noted { faults.new
+        ≡ noted faults.old (no_arguments (plain_expressions args.now) at) }
+{
+    let alone = are_none(args);
+    if !alone {
+        wrong_kind_of_name(at, faults);
+    }
+    alone
+}
+
+// How many calls are queued on an entry whose name has these arguments.
+#[tactic(auto, using(crate::proofs::Notes::noted_append))]
+fn counted(
+    entry: Entry,
+    args: &[Expression],
+    at: Pos,
+    scope: &Scope<'_>,
+    faults: &mut Least,
+) -> Typed
+    ensures typed { plain_typed result
+        ≡ (counted entry (plain_expressions args.now) at scope.now).typed }
+    ensures noted { faults.new ≡ noted faults.old
+        (counted entry (plain_expressions args.now) at scope.now).faults }
+{
+    let alone = no_arguments(args, at, faults);
+    let own = scope.is_own(entry);
+    accept_or_count_in_place(own, at, faults);
+    count_if(alone && own, entry)
+}
+
+// Count of what has a meaning and these arguments, if that is an entry (RM 9.9(5)).
+#[tactic(auto, using(crate::proofs::Notes::noted_append))]
+fn count(
+    meaning: Meaning,
+    args: &[Expression],
+    at: Places,
+    argument: Option<Operand>,
+    scope: &Scope<'_>,
+    faults: &mut Least,
+) -> Typed
+    ensures typed { plain_typed result ≡ (count meaning (plain_expressions args.now)
+        at.prefix at.designator (plain_argument argument) scope.now).typed }
+    ensures noted { faults.new ≡ noted faults.old (count meaning (plain_expressions args.now)
+        at.prefix at.designator (plain_argument argument) scope.now).faults }
+{
+    match meaning {
+        Meaning::Entry(entry) => {
+            let value = counted(entry, args, at.prefix, scope, faults);
+            without_argument(at.designator, argument, value, faults)
+        }
+        _ => wrong_kind(at.prefix, argument, faults),
+    }
+}
+
+// An attribute of what has a meaning and these arguments.
 fn attribute_of(
     attribute: Attribute,
     meaning: Meaning,
+    args: &[Expression],
     at: Places,
     argument: Option<Operand>,
+    scope: &Scope<'_>,
     faults: &mut Least,
 ) -> Typed
-    ensures typed { plain_typed result ≡ (attribute_of attribute meaning
-        at.prefix at.designator (plain_argument argument)).typed }
-    ensures noted { faults.new ≡ noted faults.old (attribute_of attribute meaning
-        at.prefix at.designator (plain_argument argument)).faults }
+    ensures typed { plain_typed result
+        ≡ (attribute_of attribute meaning (plain_expressions args.now)
+        at.prefix at.designator (plain_argument argument) scope.now).typed }
+    ensures noted { faults.new ≡ noted faults.old
+        (attribute_of attribute meaning (plain_expressions args.now)
+        at.prefix at.designator (plain_argument argument) scope.now).faults }
 {
     match attribute {
         Attribute::Image => image(meaning, at, argument, faults),
@@ -275,22 +360,26 @@ fn attribute_of(
         Attribute::Length => bound(length_of(meaning), at, argument, faults),
         Attribute::Callable => asked(callable_of(meaning), at, argument, faults),
         Attribute::Terminated => asked(terminated_of(meaning), at, argument, faults),
-        Attribute::Other => wrong_kind(at.prefix, argument, faults),
+        Attribute::Count => count(meaning, args, at, argument, scope, faults),
     }
 }
 
-// An attribute of this name of what has a meaning.
+// An attribute of this name of what has a meaning and these arguments.
 fn meaning_attribute(
     meaning: Meaning,
+    args: &[Expression],
     prefix: Pos,
     designator: &Ident,
     argument: Option<Operand>,
+    scope: &Scope<'_>,
     faults: &mut Least,
 ) -> Typed
-    ensures typed { plain_typed result ≡ (attribute_if (entity meaning) prefix
-        designator.now (plain_argument argument)).typed }
-    ensures noted { faults.new ≡ noted faults.old (attribute_if (entity meaning) prefix
-        designator.now (plain_argument argument)).faults }
+    ensures typed { plain_typed result
+        ≡ (attribute_if (entity meaning) (plain_expressions args.now) prefix
+        designator.now (plain_argument argument) scope.now).typed }
+    ensures noted { faults.new ≡ noted faults.old
+        (attribute_if (entity meaning) (plain_expressions args.now) prefix
+        designator.now (plain_argument argument) scope.now).faults }
 {
     match attribute_named(&designator.name) {
         None => wrong_kind(designator.at, argument, faults),
@@ -299,7 +388,7 @@ fn meaning_attribute(
                 prefix,
                 designator: designator.at,
             };
-            attribute_of(attribute, meaning, at, argument, faults)
+            attribute_of(attribute, meaning, args, at, argument, scope, faults)
         }
     }
 }
@@ -370,19 +459,20 @@ fn task_attribute(
     }
 }
 
-/// An attribute of what a name denotes, with its argument, if it has one.
+/// An attribute of what a name with these last arguments denotes, with its own argument, if it has one.
 pub fn attribute_value(
-    alloc: Global,
     prefix: Denoting,
+    args: &[Expression],
     designator: &Ident,
     argument: Option<Operand>,
+    scope: &Scope<'_>,
     faults: &mut Least,
 ) -> Made<Typed>
     ensures { Leaves plain_typed result faults.old faults.new
-        (attribute_if (plain_entity prefix.entity) prefix.at designator.now
-        (plain_argument argument)).faults
-        (attribute_if (plain_entity prefix.entity) prefix.at designator.now
-        (plain_argument argument)).typed }
+        (attribute_if (plain_entity prefix.entity) (plain_expressions args.now) prefix.at
+        designator.now (plain_argument argument) scope.now).faults
+        (attribute_if (plain_entity prefix.entity) (plain_expressions args.now) prefix.at
+        designator.now (plain_argument argument) scope.now).typed }
 {
     let at = prefix.at;
     match prefix.entity {
@@ -390,9 +480,12 @@ pub fn attribute_value(
             drop(argument);
             Ok(Typed::Unknown)
         }
-        Entity::Whole(meaning) => Ok(meaning_attribute(meaning, at, designator, argument, faults)),
+        Entity::Whole(meaning) => {
+            let value = meaning_attribute(meaning, args, at, designator, argument, scope, faults);
+            Ok(value)
+        }
         Entity::Element(element) => {
-            let value = stored_at(alloc, element)?;
+            let value = stored_at(scope.alloc(), element)?;
             Ok(element_attribute(value, at, designator, argument, faults))
         }
         Entity::Task(array, index) => {

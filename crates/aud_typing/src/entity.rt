@@ -274,7 +274,8 @@ fn check_read(meaning: Meaning, at: Pos, faults: &mut Least)
         | Meaning::Procedure(_)
         | Meaning::TaskType(_)
         | Meaning::Task(_)
-        | Meaning::TaskArray(_) => wrong_kind_of_name(at, faults),
+        | Meaning::TaskArray(_)
+        | Meaning::Entry(_) => wrong_kind_of_name(at, faults),
     }
 }
 

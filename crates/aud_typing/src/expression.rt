@@ -3,7 +3,8 @@
 ghost use Rattle.std.specs.Prelude.{◌≡◌, IfOk};
 ghost use Rattle.aud_typed.specs.Tree as tree;
 ghost use Rattle.aud_syntax.specs.Ties.View.{plain_expression, plain_chain, plain_relation, plain_comparison, plain_simple, plain_added, plain_term, plain_multiplied, plain_factor, plain_primary, plain_name, plain_part};
-ghost use Rattle.aud_typing.specs.Expressions.{expression_at, relation_at, simple_at, term_at, factor_at, primary_at, multiplying, adding_operator, checked_number, string, denoting, checked_name, checked_attribute, checked_expression, checked_relation, checked_simple, checked_added, checked_term, checked_multiplied, checked_factor, checked_primary, checked_arguments, checked_part, further};
+ghost use Rattle.aud_names.specs.Resolution.{last_args};
+ghost use Rattle.aud_typing.specs.Expressions.{expression_at, relation_at, simple_at, term_at, factor_at, primary_at, multiplying, adding_operator, checked_number, string, denoting, checked_name, checked_attribute, checked_expression, checked_relation, checked_simple, checked_added, checked_term, checked_multiplied, checked_factor, checked_primary, checked_arguments, checked_part, checked_prefix, further};
 ghost use Rattle.aud_fault.specs.Least.{noted};
 ghost use Rattle.aud_typing.specs.Ties.Typing.{plain_typed, plain_argument, operation, Shows};
 
@@ -13,6 +14,7 @@ use crate::typed::{Operand, Operator, Typed, highest, operation, signed};
 use aud_fault::fault::Least;
 use aud_names::behind::{Left, boxed};
 use aud_names::names::Scope;
+use aud_names::resolution::last_args;
 use aud_names::rules::number_too_large;
 use aud_syntax::tree::{
     Added, Adding, Chain, Comparison, Connective, Expression, Factor, Ident, Literal, Multiplied,
@@ -141,7 +143,7 @@ fn name_value(name: &Name, last: Box<Typed>, scope: &Scope<'_>, faults: &mut Lea
 #[tactic(auto, using(crate::proofs::Notes::noted_append))]
 #[inline(never)]
 fn name_attribute(
-    prefix: &Name,
+    name: &Name,
     last: Box<Typed>,
     designator: &Ident,
     argument: Option<Operand>,
@@ -149,11 +151,12 @@ fn name_attribute(
     faults: &mut Least,
 ) -> Left<Typed>
     ensures { Shows result faults.old faults.new (checked_attribute
-        (denoting (plain_name prefix.now) (plain_typed last.value) scope.now)
-        designator.now (plain_argument argument)) }
+        (denoting (plain_name name.now) (plain_typed last.value) scope.now)
+        (last_args (plain_name name.now)) designator.now (plain_argument argument) scope.now) }
 {
-    let prefix = name_denotes(prefix, last, scope, faults);
-    let typed = attribute_value(scope.alloc(), prefix, designator, argument, faults)?;
+    let prefix = name_denotes(name, last, scope, faults);
+    let args = last_args(name);
+    let typed = attribute_value(prefix, args, designator, argument, scope, faults)?;
     boxed(scope.alloc(), typed)
 }
 
@@ -188,6 +191,16 @@ pub fn arguments(name: &Name, scope: &Scope<'_>, faults: &mut Least) -> Left<Typ
     for part in &name.others {
         last = part_arguments(part, last, scope, faults)?;
     }
+    Ok(last)
+}
+
+/// Checks the arguments before a name's first point: notes their faults, and answers what the last of them is.
+pub fn prefix(name: &Name, scope: &Scope<'_>, faults: &mut Least) -> Left<Typed>
+    ensures { Shows result faults.old faults.new (checked_prefix (plain_name name.now) scope.now) }
+{
+    let nothing = boxed(scope.alloc(), Typed::Unknown)?;
+    let last = part_arguments(&name.first, nothing, scope, faults)?;
+    check_prefix(&name.first, &name.others, &last, scope, faults);
     Ok(last)
 }
 

@@ -8,6 +8,7 @@ use Rattle.aud_typed.specs.Tree as tree
 use Rattle.aud_typed.specs.Why.Scoped.{Scope, IsElaborated, ReferenceScoped, ArgumentScoped, ArgumentsScoped}
 use Rattle.aud_names.specs.declared.names.Meaning.{Meaning}
 use Rattle.aud_names.specs.declared.names.Meaning.TheVariants.{Object}
+use Rattle.aud_names.specs.declared.names.NamedParameter.{NamedParameter}
 use Rattle.aud_names.specs.declared.names.Parameter.{Parameter}
 use Rattle.aud_names.specs.Names.{Place}
 use Rattle.aud_typing.specs.Expressions as e
@@ -57,8 +58,8 @@ module _ (known : Known) (scope : Scope) (n : Place) (sees : Sees known scope n)
       (value_scoped known scope (d.known p.subtype) (e.checked_expression x n).typed (expression_scoped known scope n sees x))
       (named_scoped p (a.expression_name x))
 
-  pub all_passed_scoped : (ps : List Parameter) (xs : plain.Args) → IfSome (a.all_passed ps xs n) (λ ys. (length ys ≡ length ps) × ArgumentsScoped ys scope)
+  pub all_passed_scoped : (ps : List NamedParameter) (xs : plain.Args) → IfSome (a.all_passed ps xs n) (λ ys. (length ys ≡ length ps) × ArgumentsScoped ys scope)
   all_passed_scoped [] plain.no_args = (refl, tt)
   all_passed_scoped [] (plain.more_args x xs) = tt
   all_passed_scoped (p ∷ ps) plain.no_args = tt
-  all_passed_scoped (p ∷ ps) (plain.more_args x xs) = with_scoped known scope (a.passed p x n) (a.all_passed ps xs n) (length ps) (passed_scoped p x) (all_passed_scoped ps xs)
+  all_passed_scoped (p ∷ ps) (plain.more_args x xs) = with_scoped known scope (a.passed p.parameter x n) (a.all_passed ps xs n) (length ps) (passed_scoped p.parameter x) (all_passed_scoped ps xs)

@@ -1,5 +1,5 @@
 -- Declarations without faults elaborate the frame of their region.
-use Rattle.std.specs.Prelude.{map, pos}
+use Rattle.std.specs.Prelude.{map, nat_eq, pos, if◌then◌else◌}
 use Rattle.std.proofs.Common.{◌≡◌, ℕ, ℤ, suc, max, ◌+◌, ◌-◌, ◌<◌, ◌≤◌, Bool, true, false, List, [], ◌∷◌, ◌++◌, length, Option, Some, None, arith, not, refl, sym, ◌∙◌, ap, subst}
 use Rattle.std.proofs.lemmas.List.{length-map, length-append, length_push, get_or_push}
 use Rattle.std.proofs.lemmas.List.Elements.{All-from_recursion, All-nil, All-push}
@@ -7,16 +7,20 @@ use Rattle.aud_text.specs.declared.place.Pos.{Pos}
 use Rattle.aud_syntax.specs.declared.tree.Ident.{Ident}
 use Rattle.aud_syntax.specs.declared.tree.Bound.{Bound}
 use Rattle.aud_syntax.specs.Plain as plain
+use Rattle.aud_typed.specs.declared.program.Variable.{Variable}
 use Rattle.aud_typed.specs.declared.program.Subtype.{Subtype}
 use Rattle.aud_typed.specs.declared.program.Subtype.TheVariants.{Integer, Natural, Positive, Boolean}
 use Rattle.aud_typed.specs.declared.program.Exception.TheVariants as exception_of
 use Rattle.aud_typed.specs.Tree as tree
-use Rattle.aud_typed.specs.Why.Scoped.{Elaborated, Scope, none_yet, cells_at, in_innermost, declared_up_to, declared_with, scope_after, shown_cells, cells_of, all_of_table, StatementScoped}
+use Rattle.aud_typed.specs.Why.Scoped.{Elaborated, Scope, none_yet, cells_at, in_innermost, declared_up_to, declared_with, scope_after, shown_cells, cells_of, all_of_table, all_formals, StatementScoped}
 use Rattle.aud_fault.specs.declared.fault.Fault.{Fault}
+use Rattle.aud_names.specs.declared.names.NamedParameter.{NamedParameter}
 use Rattle.aud_names.specs.declared.names.Parameter.{Parameter}
 use Rattle.aud_names.specs.declared.awaited.Awaited.{Awaited}
+use Rattle.aud_names.specs.declared.entries.EntryName.{EntryName}
+use Rattle.aud_names.specs.declared.names.Owner.TheVariants.{Single}
 use Rattle.aud_names.specs.declared.names.Meaning.{Meaning}
-use Rattle.aud_names.specs.declared.names.Meaning.TheVariants.{Procedure, Exception, TaskType}
+use Rattle.aud_names.specs.declared.names.Meaning.TheVariants.{Procedure, Exception, TaskType, Entry}
 use Rattle.aud_names.specs.declared.array.Kind.{Kind}
 use Rattle.aud_names.specs.declared.array.Kind.TheVariants.{Scalar, Row, Task, TaskRow}
 use Rattle.aud_names.specs.Arrays as arrays
@@ -25,10 +29,11 @@ use Rattle.aud_names.specs.Names.{Symbol, Region, Place}
 use Rattle.aud_names.specs.Rules as rules
 use Rattle.aud_check_bodies.specs.Tables.{Tables}
 use Rattle.aud_check_bodies.specs.Declarations as d
+use Rattle.aud_check_bodies.specs.Entries as entries
 use Rattle.aud_check_bodies.specs.Formals as f
 use Rattle.aud_check_bodies.specs.Regions as regions
 use Rattle.aud_check_bodies.specs.Tasks as tasks
-use Rattle.aud_check_bodies.proofs.Scoping.Names.{Known, when, IsCallable, IsTaskType, MeaningScoped, VisibleScoped, SymbolsScoped, RegionsScoped, Fits, either, regions_more, regions_when, regions_scoped, regions_see, later, symbols_later, regions_later}
+use Rattle.aud_check_bodies.proofs.Scoping.Names.{Known, when, IsCallable, IsTaskType, IsEntry, EntriesThere, MeaningScoped, VisibleScoped, SymbolsScoped, RegionsScoped, Fits, either, regions_more, regions_when, regions_scoped, regions_see, later, symbols_later, regions_later}
 use Rattle.aud_check_bodies.proofs.Scoping.Elaborations.{Elaborates, AllCreated, none_created, one_created}
 use Rattle.aud_check_bodies.proofs.Scoping.Expressions.{initial_scoped}
 
@@ -60,7 +65,7 @@ cells_shown (x ∷ xs) ys = cells_before x.0 (regions.shown x.1) _ _ _ (cells_sh
 one_name : (name : List ℕ) (kind : Kind) (level index : ℕ) → length (regions.shown_names ((name, arrays.new_meaning kind level index) ∷ [])) ≡ 1
 one_name name (Scalar o) level index = refl
 one_name name (Row a) level index = refl
-one_name name Task level index = refl
+one_name name (Task number) level index = refl
 one_name name (TaskRow a) level index = refl
 
 scalar_cell : (t : Option Subtype) → shown_cells (regions.shown_of t) ≡ 1
@@ -80,7 +85,7 @@ row_cells (Some Boolean) n = refl
 its_cells : (name : List ℕ) (kind : Kind) (level index : ℕ) → cells_of (regions.shown_names ((name, arrays.new_meaning kind level index) ∷ [])) ≡ arrays.cells_of kind
 its_cells name (Scalar o) level index = omega (arith, scalar_cell o.subtype)
 its_cells name (Row a) level index = omega (arith, row_cells a.subtype (arrays.length_between a.low a.high))
-its_cells name Task level index = omega arith
+its_cells name (Task number) level index = omega arith
 its_cells name (TaskRow a) level index = omega arith
 
 -- of a region's frame
@@ -94,6 +99,8 @@ pub record RegionScoped (known : Known) (outer : Scope) (full : Elaborated) (r :
   pub symbols : (c : Bool) (e : Elaborated) → r.cells ≤ e.cells → (c ≡ true → full.cells ≤ e.cells) → SymbolsScoped (when c known) (outer ++ e ∷ []) r.symbols
   pub named : length (regions.shown_names r.symbols) ≡ r.names
   pub celled : cells_of (regions.shown_names r.symbols) ≡ r.cells
+  -- the entries of the tasks that it declares are there
+  pub entries : EntriesThere known r.entries
 
 pub empty_scoped : (known : Known) (outer : Scope) (full : Elaborated) (level : ℕ) → level ≡ length outer → RegionScoped known outer full (names.empty_region level)
 empty_scoped known outer full level h = record {
@@ -101,7 +108,12 @@ empty_scoped known outer full level h = record {
   symbols = λ c e _ _. All-nil (λ x. MeaningScoped (when c known) (outer ++ e ∷ []) x.1);
   named = refl;
   celled = refl;
+  entries = tt;
 }
+
+-- whatever task's body it is directly in
+pub owned_scoped : (known : Known) (outer : Scope) (full : Elaborated) (own : Option Variable) (r : Region) → RegionScoped known outer full r → RegionScoped known outer full (record r { own = own })
+owned_scoped known outer full own r h = record { level = h.level; symbols = h.symbols; named = h.named; celled = h.celled; entries = h.entries }
 
 -- all of it is elaborated
 pub all_elaborated : (known : Known) (outer : Scope) (full : Elaborated) (r : Region) → RegionScoped known outer full r → all_of_table (regions.shown_names r.symbols) ≡ elaborated r
@@ -126,7 +138,7 @@ module _ (known : Known) (outer : Scope) where
   new_scoped (Row a) level index e h more =
       let here : cells_at level (outer ++ e ∷ []) ≡ e.cells = ap (λ x. x.cells) (get_or_push outer e none_yet level (sym h)) in
       omega (arith, here, more)
-  new_scoped Task level index e h more =
+  new_scoped (Task number) level index e h more =
       let here : cells_at level (outer ++ e ∷ []) ≡ e.cells = ap (λ x. x.cells) (get_or_push outer e none_yet level (sym h)) in
       omega (arith, here, more)
   new_scoped (TaskRow a) level index e h more =
@@ -142,6 +154,7 @@ module _ (known : Known) (outer : Scope) (full : Elaborated) where
         symbols = λ c e more enough. All-push (λ x. MeaningScoped (when c known) (outer ++ e ∷ []) x.1) r.symbols s (h.symbols c e (omega (arith, more)) enough) (new_scoped (when c known) outer kind r.level r.cells e h.level more);
         named = omega (arith, names_shown r.symbols (s ∷ []), one_name name kind r.level r.cells, h.named);
         celled = omega (arith, cells_shown r.symbols (s ∷ []), its_cells name kind r.level r.cells, h.celled);
+        entries = h.entries;
       }
 
   -- a name that is not declared yet
@@ -196,6 +209,7 @@ module _ (known : Known) (outer : Scope) (full : Elaborated) where
         symbols = λ c e more all. All-push (λ x. MeaningScoped (when c known) (outer ++ e ∷ []) x.1) x.region.symbols s (h.symbols c e more all) (omega (arith, enough, length_push x.names name));
         named = omega (arith, names_shown x.region.symbols (s ∷ []), h.named);
         celled = omega (arith, cells_shown x.region.symbols (s ∷ []), h.celled);
+        entries = h.entries;
       }
 
 -- cells are only added
@@ -235,7 +249,7 @@ exceptions_awaited (i ∷ is) x = exceptions_awaited is (d.with_exception i x) �
 pub procedure_awaited : (i : Ident) (unit : ℕ) (r : Region) → (d.with_procedure i unit r).awaited ≡ r.awaited
 procedure_awaited i unit r = either (λ (z : Region). z.awaited ≡ r.awaited) (names.is_declared i.name r.symbols) r (record r { symbols = r.symbols ++ (i.name, Procedure unit) ∷ [] }) refl refl
 
-pub formals_awaited : (own : Ident) (fs : List plain.Formal) (r : Region) (around : List Region) → (f.checked_formals own fs r around).region.awaited ≡ r.awaited
+pub formals_awaited : (own : Option Ident) (fs : List plain.Formal) (r : Region) (around : List Region) → (f.checked_formals own fs r around).region.awaited ≡ r.awaited
 formals_awaited own [] r around = refl
 formals_awaited own (plain.formal first others mode mark ∷ fs) r around =
     let is : List Ident = first ∷ others in
@@ -244,14 +258,14 @@ formals_awaited own (plain.formal first others mode mark ∷ fs) r around =
 
 objects_as_awaited : (m : Option ℕ) (is : List Ident) (at : Pos) (mark : Ident) (initial : plain.MaybeExpression) (is_constant : Bool) (n : Place) → (names.innermost (d.objects_as m is at mark initial is_constant n).made.place).awaited ≡ (names.innermost n).awaited
 objects_as_awaited None is at mark initial is_constant n = names_awaited is (d.scalar (d.subtype_meant (d.marked mark is n)) is_constant) (names.innermost n)
-objects_as_awaited (Some number) is at mark initial is_constant n = names_awaited is Task (names.innermost n)
+objects_as_awaited (Some number) is at mark initial is_constant n = names_awaited is (Task number) (names.innermost n)
 
 pub objects_awaited : (is : List Ident) (at : Pos) (mark : Ident) (initial : plain.MaybeExpression) (is_constant : Bool) (n : Place) → (names.innermost (d.checked_objects is at mark initial is_constant n).made.place).awaited ≡ (names.innermost n).awaited
 objects_awaited is at mark initial is_constant n = objects_as_awaited (d.tasks_meant (d.marked mark is n) initial is_constant) is at mark initial is_constant n
 
 arrays_as_awaited : (m : Option ℕ) (is : List Ident) (at : Pos) (low high : Bound) (mark : Ident) (n : Place) → (names.innermost (d.arrays_as m is at low high mark n).made.place).awaited ≡ (names.innermost n).awaited
 arrays_as_awaited None is at low high mark n = names_awaited is (d.arrays_kind low high (d.subtype_meant (d.marked mark is n))) (names.innermost n)
-arrays_as_awaited (Some number) is at low high mark n = names_awaited is (d.tasks_kind low high) (names.innermost n)
+arrays_as_awaited (Some number) is at low high mark n = names_awaited is (d.tasks_kind low high number) (names.innermost n)
 
 pub arrays_awaited : (is : List Ident) (at : Pos) (low high : Bound) (mark : Ident) (n : Place) → (names.innermost (d.checked_arrays is at low high mark n).made.place).awaited ≡ (names.innermost n).awaited
 arrays_awaited is at low high mark n = arrays_as_awaited (d.task_type_meant (d.marked mark is n)) is at low high mark n
@@ -260,14 +274,14 @@ arrays_awaited is at low high mark n = arrays_as_awaited (d.task_type_meant (d.m
 
 objects_as_more : (m : Option ℕ) (is : List Ident) (at : Pos) (mark : Ident) (initial : plain.MaybeExpression) (is_constant : Bool) (n : Place) → (names.innermost n).cells ≤ (names.innermost (d.objects_as m is at mark initial is_constant n).made.place).cells
 objects_as_more None is at mark initial is_constant n = cells_more is (d.scalar (d.subtype_meant (d.marked mark is n)) is_constant) (names.innermost n)
-objects_as_more (Some number) is at mark initial is_constant n = cells_more is Task (names.innermost n)
+objects_as_more (Some number) is at mark initial is_constant n = cells_more is (Task number) (names.innermost n)
 
 pub objects_more : (is : List Ident) (at : Pos) (mark : Ident) (initial : plain.MaybeExpression) (is_constant : Bool) (n : Place) → (names.innermost n).cells ≤ (names.innermost (d.checked_objects is at mark initial is_constant n).made.place).cells
 objects_more is at mark initial is_constant n = objects_as_more (d.tasks_meant (d.marked mark is n) initial is_constant) is at mark initial is_constant n
 
 arrays_as_more : (m : Option ℕ) (is : List Ident) (at : Pos) (low high : Bound) (mark : Ident) (n : Place) → (names.innermost n).cells ≤ (names.innermost (d.arrays_as m is at low high mark n).made.place).cells
 arrays_as_more None is at low high mark n = cells_more is (d.arrays_kind low high (d.subtype_meant (d.marked mark is n))) (names.innermost n)
-arrays_as_more (Some number) is at low high mark n = cells_more is (d.tasks_kind low high) (names.innermost n)
+arrays_as_more (Some number) is at low high mark n = cells_more is (d.tasks_kind low high number) (names.innermost n)
 
 pub arrays_more : (is : List Ident) (at : Pos) (low high : Bound) (mark : Ident) (n : Place) → (names.innermost n).cells ≤ (names.innermost (d.checked_arrays is at low high mark n).made.place).cells
 arrays_more is at low high mark n = arrays_as_more (d.task_type_meant (d.marked mark is n)) is at low high mark n
@@ -287,10 +301,10 @@ task_symbol_more true name number r = omega arith
 task_symbol_more false name number r = omega arith
 
 pub task_more : (is_type : Bool) (i : Ident) (number unit : ℕ) (r : Region) → r.cells ≤ (tasks.with_task is_type i number unit r).cells
-task_more is_type i number unit r = either (λ (z : Region). r.cells ≤ z.cells) (names.is_declared i.name r.symbols) r (tasks.awaiting i unit (tasks.with_task_symbol is_type i.name number r)) (omega arith) (task_symbol_more is_type i.name number r)
+task_more is_type i number unit r = either (λ (z : Region). r.cells ≤ z.cells) (names.is_declared i.name r.symbols) r (tasks.awaiting i number unit (tasks.with_task_symbol is_type i.name number r)) (omega arith) (task_symbol_more is_type i.name number r)
 
 -- a task or a task type that is declared once
-new_task : (is_type : Bool) (i : Ident) (number unit : ℕ) (r : Region) → rules.declared_once i.name i.at r.symbols ≡ [] → tasks.with_task is_type i number unit r ≡ tasks.awaiting i unit (tasks.with_task_symbol is_type i.name number r)
+new_task : (is_type : Bool) (i : Ident) (number unit : ℕ) (r : Region) → rules.declared_once i.name i.at r.symbols ≡ [] → tasks.with_task is_type i number unit r ≡ tasks.awaiting i number unit (tasks.with_task_symbol is_type i.name number r)
 new_task is_type i number unit r q =
     let new : names.is_declared i.name r.symbols ≡ false = not_declared _ _ q in
     rw new
@@ -315,7 +329,7 @@ marked_tasks known scope m (plain.an_expression x) is_constant number p h = cc
 
 module _ (known : Known) (outer : Scope) (full : Elaborated) where
   pub body_regions : (c : Bool) (n : Place) (e : Elaborated) → InBody known outer full n → (names.innermost n).cells ≤ e.cells → (c ≡ true → full.cells ≤ e.cells) → RegionsScoped (when c known) (outer ++ e ∷ []) n.regions
-  body_regions c n e h more enough = regions_scoped (when c known) (outer ++ e ∷ []) n.regions (h.innermost.symbols c e more enough) (h.others c e more)
+  body_regions c n e h more enough = regions_scoped (when c known) (outer ++ e ∷ []) n.regions (h.innermost.symbols c e more enough) h.innermost.entries (h.others c e more)
 
   -- within its declarations no unit is entered
   partly : (n : Place) → InBody known outer full n → RegionsScoped (when false known) (outer ++ elaborated (names.innermost n) ∷ []) n.regions
@@ -394,7 +408,7 @@ module _ (known : Known) (outer : Scope) (full : Elaborated) where
 
   -- what is visible behind all declarations
   seen_behind : (n : Place) (is : List Ident) (name : List ℕ) → InBody known outer full n → (names.innermost n).cells ≤ full.cells → VisibleScoped (when true known) (outer ++ full ∷ []) (names.visible name (names.hiding is n))
-  seen_behind n is name h more = regions_see (when true known) (outer ++ full ∷ []) (names.hiding is n) (body_regions true n full h more (λ z. omega arith)) name
+  seen_behind n is name h more = (regions_see (when true known) (outer ++ full ∷ []) (names.hiding is n) (body_regions true n full h more (λ z. omega arith))).visible name
 
   pub objects_scoped : (first : Ident) (others : List Ident) (at : Pos) (mark : Ident) (initial : plain.MaybeExpression) (is_constant : Bool) (n : Place) → (d.checked_objects (first ∷ others) at mark initial is_constant n).faults ≡ [] → (names.innermost n).cells ≤ full.cells → InBody known outer full n → DeclaredScoped n (d.checked_objects (first ∷ others) at mark initial is_constant n).made
   objects_scoped first others at mark initial is_constant n q more h = by (d.tasks_meant (d.marked mark is n) initial is_constant) refl q
@@ -404,7 +418,7 @@ module _ (known : Known) (outer : Scope) (full : Elaborated) where
 
       by : (m : Option ℕ) → d.tasks_meant (d.marked mark is n) initial is_constant ≡ m → (d.objects_as m is at mark initial is_constant n).faults ≡ [] → DeclaredScoped n (d.objects_as m is at mark initial is_constant n).made
       by None p q = scalars_scoped first others at mark initial is_constant n q h
-      by (Some number) p q = begun_scoped is at number (pos 0) false Task n q h (marked_tasks (when true known) (outer ++ full ∷ []) (d.marked mark is n) initial is_constant number p (seen_behind n is mark.name h more))
+      by (Some number) p q = begun_scoped is at number (pos 0) false (Task number) n q h (marked_tasks (when true known) (outer ++ full ∷ []) (d.marked mark is n) initial is_constant number p (seen_behind n is mark.name h more))
 
   no_tasks : (is : List Ident) (at : Pos) (t : Option Subtype) (kind : Kind) → AllCreated known (outer ++ full ∷ []) (d.array_elaborations is at t kind)
   no_tasks [] at t kind = none_created known (outer ++ full ∷ [])
@@ -425,7 +439,7 @@ module _ (known : Known) (outer : Scope) (full : Elaborated) where
       by : (m : Option ℕ) → d.task_type_meant (d.marked mark is n) ≡ m → (d.arrays_as m is at low high mark n).faults ≡ [] → DeclaredScoped n (d.arrays_as m is at low high mark n).made
       by None p q = rows_scoped is at low high mark n q h
       by (Some number) p q =
-          begun_scoped is at number (arrays.or_zero (arrays.bound_value low)) true (d.tasks_kind low high) n (both_none _ _ (both_none (arrays.bound_faults low) _ q).1).1 h (marked_type (when true known) (outer ++ full ∷ []) (d.marked mark is n) number p (seen_behind n is mark.name h more))
+          begun_scoped is at number (arrays.or_zero (arrays.bound_value low)) true (d.tasks_kind low high number) n (both_none _ _ (both_none (arrays.bound_faults low) _ q).1).1 h (marked_type (when true known) (outer ++ full ∷ []) (d.marked mark is n) number p (seen_behind n is mark.name h more))
 
   pub exceptions_scoped : (is : List Ident) (n : Place) (t : Tables) → (d.checked_exceptions is n t).faults ≡ [] → length (d.checked_exceptions is n t).tables.exceptions ≤ length known.plan.exceptions → InBody known outer full n → DeclaredScoped n (d.checked_exceptions is n t).made
   exceptions_scoped is n t q enough h =
@@ -446,6 +460,7 @@ module _ (known : Known) (outer : Scope) (full : Elaborated) where
         symbols = λ c e more enough. All-push (λ x. MeaningScoped (when c known) (outer ++ e ∷ []) x.1) r.symbols s (h.symbols c e more enough) (callable c e enough);
         named = omega (arith, names_shown r.symbols (s ∷ []), h.named);
         celled = omega (arith, cells_shown r.symbols (s ∷ []), h.celled);
+        entries = h.entries;
       })
 
   -- a task type has none either, and a single task has one
@@ -458,32 +473,41 @@ module _ (known : Known) (outer : Scope) (full : Elaborated) where
         symbols = λ c e more enough. All-push (λ x. MeaningScoped (when c known) (outer ++ e ∷ []) x.1) r.symbols s (h.symbols c e more enough) (begins c e enough);
         named = omega (arith, names_shown r.symbols (s ∷ []), h.named);
         celled = omega (arith, cells_shown r.symbols (s ∷ []), h.celled);
+        entries = h.entries;
       }
 
   task_symbol_scoped : (is_type : Bool) (name : List ℕ) (number : ℕ) (r : Region) → ((c : Bool) (e : Elaborated) → (c ≡ true → full.cells ≤ e.cells) → IsTaskType (when c known) (outer ++ e ∷ []) number) → RegionScoped known outer full r → RegionScoped known outer full (tasks.with_task_symbol is_type name number r)
   task_symbol_scoped true name number r begins h = type_scoped name number r begins h
-  task_symbol_scoped false name number r begins h = symbol_scoped known outer full name Task r h
+  task_symbol_scoped false name number r begins h = symbol_scoped known outer full name (Task number) r h
 
-  awaiting_scoped : (i : Ident) (unit : ℕ) (r : Region) → RegionScoped known outer full r → RegionScoped known outer full (tasks.awaiting i unit r)
-  awaiting_scoped i unit r h = record { level = h.level; symbols = h.symbols; named = h.named; celled = h.celled }
+  awaiting_scoped : (i : Ident) (number unit : ℕ) (r : Region) → RegionScoped known outer full r → RegionScoped known outer full (tasks.awaiting i number unit r)
+  awaiting_scoped i number unit r h = record { level = h.level; symbols = h.symbols; named = h.named; celled = h.celled; entries = h.entries }
 
-  created_elaborates : (is_type : Bool) (i : Ident) (at : Pos) (number unit : ℕ) (r : Region) → Elaborates known (outer ++ elaborated r ∷ []) (tasks.created_by is_type i at number) (outer ++ elaborated (tasks.awaiting i unit (tasks.with_task_symbol is_type i.name number r)) ∷ [])
+  both_there : (xs ys : List EntryName) → EntriesThere known xs → EntriesThere known ys → EntriesThere known (xs ++ ys)
+  both_there [] ys h i = i
+  both_there (x ∷ xs) ys h i = (h.0, both_there xs ys h.1 i)
+
+  naming_scoped : (xs : List EntryName) (r : Region) → EntriesThere known xs → RegionScoped known outer full r → RegionScoped known outer full (entries.naming xs r)
+  naming_scoped xs r i h = record { level = h.level; symbols = h.symbols; named = h.named; celled = h.celled; entries = both_there r.entries xs h.entries i }
+
+  created_elaborates : (is_type : Bool) (i : Ident) (at : Pos) (number unit : ℕ) (r : Region) → Elaborates known (outer ++ elaborated r ∷ []) (tasks.created_by is_type i at number) (outer ++ elaborated (tasks.awaiting i number unit (tasks.with_task_symbol is_type i.name number r)) ∷ [])
   created_elaborates true i at number unit r = refl
-  created_elaborates false i at number unit r = (tt, one_elaborated known outer full i.name Task r)
+  created_elaborates false i at number unit r = (tt, one_elaborated known outer full i.name (Task number) r)
 
   created_begin : (is_type : Bool) (i : Ident) (at : Pos) (number : ℕ) → IsTaskType (when true known) (outer ++ full ∷ []) number → AllCreated known (outer ++ full ∷ []) (tasks.created_by is_type i at number)
   created_begin true i at number h = none_created known (outer ++ full ∷ [])
   created_begin false i at number h = all_begin (i ∷ []) at number (pos 0) false 1 h
 
-  pub task_scoped : (at : Pos) (is_type : Bool) (i : Ident) (number unit : ℕ) (n : Place) → ((c : Bool) (e : Elaborated) → (c ≡ true → full.cells ≤ e.cells) → IsTaskType (when c known) (outer ++ e ∷ []) number) → rules.declared_once i.name i.at (names.innermost n).symbols ≡ [] → InBody known outer full n
-      → DeclaredScoped n (record { place = names.in_region (tasks.with_task is_type i number unit (names.innermost n)) n; elaborations = tasks.created_by is_type i at number })
-  task_scoped at is_type i number unit n begins q h =
+  -- and its entries
+  pub task_scoped : (at : Pos) (is_type : Bool) (i : Ident) (number unit : ℕ) (xs : List EntryName) (n : Place) → ((c : Bool) (e : Elaborated) → (c ≡ true → full.cells ≤ e.cells) → IsTaskType (when c known) (outer ++ e ∷ []) number) → EntriesThere known xs → rules.declared_once i.name i.at (names.innermost n).symbols ≡ [] → InBody known outer full n
+      → DeclaredScoped n (record { place = names.in_region (entries.naming xs (tasks.with_task is_type i number unit (names.innermost n))) n; elaborations = tasks.created_by is_type i at number })
+  task_scoped at is_type i number unit xs n begins there q h =
       let r : Region = names.innermost n in
-      let new : Region = tasks.awaiting i unit (tasks.with_task_symbol is_type i.name number r) in
+      let new : Region = tasks.awaiting i number unit (tasks.with_task_symbol is_type i.name number r) in
       let grown = new_task is_type i number unit r q in
       let more = task_more is_type i number unit r in
-      let all : RegionScoped known outer full new = awaiting_scoped i unit _ (task_symbol_scoped is_type i.name number r begins h.innermost) in (
-        others_stay n _ more h (subst (RegionScoped known outer full) (sym grown) all),
+      let all : RegionScoped known outer full new = awaiting_scoped i number unit _ (task_symbol_scoped is_type i.name number r begins h.innermost) in (
+        others_stay n _ more h (naming_scoped xs _ there (subst (RegionScoped known outer full) (sym grown) all)),
         more,
         subst (λ z. Elaborates known (outer ++ elaborated r ∷ []) (tasks.created_by is_type i at number) (outer ++ elaborated z ∷ [])) (sym grown) (created_elaborates is_type i at number unit r),
         created_begin is_type i at number (begins true full (λ z. omega arith)),
@@ -491,7 +515,7 @@ module _ (known : Known) (outer : Scope) (full : Elaborated) where
 
   -- formals are the first names of their region, each with one cell
 
-  pub formals_scoped : (own : Ident) (fs : List plain.Formal) (r : Region) (around : List Region) → (f.checked_formals own fs r around).faults ≡ [] → RegionScoped known outer full r
+  pub formals_scoped : (own : Option Ident) (fs : List plain.Formal) (r : Region) (around : List Region) → (f.checked_formals own fs r around).faults ≡ [] → RegionScoped known outer full r
       → RegionScoped known outer full (f.checked_formals own fs r around).region
       × ((f.checked_formals own fs r around).region.names ≡ r.names + length (f.checked_formals own fs r around).profile)
       × ((f.checked_formals own fs r around).region.cells ≡ r.cells + length (f.checked_formals own fs r around).profile)
@@ -505,21 +529,24 @@ module _ (known : Known) (outer : Scope) (full : Elaborated) where
       let all = objects_declared known outer full is t (f.is_in mode) r (both_none (d.subtype_faults m mark.at) _ parts.0).1 h in
       let rest = formals_scoped own fs one.region around parts.1 all.0 in
       let parameter : Parameter = record { mode = mode; subtype = t } in
-      let own_count : length one.profile ≡ length is = length-map is (λ (i : Ident). parameter) in
+      let own_count : length one.profile ≡ length is = length-map is (λ (i : Ident). record { name = i.name; parameter = parameter }) in
       let count = length-append one.profile (f.checked_formals own fs one.region around).profile in
       (rest.0, omega (arith, rest.1, all.1, own_count, count), omega (arith, rest.2, all.2, own_count, count))
 
   -- the place of a block's declarations, that of a loop's statements, and that of a task's declarations
 
+  next_scoped : (n : Place) → Fits known outer n → RegionScoped known outer full (names.next_frame n)
+  next_scoped n h = owned_scoped known outer full (names.innermost n).own (names.body_frame n) (empty_scoped known outer full ((names.innermost n).level + 1) h.level)
+
   pub in_frame : (n : Place) → known.complete ≡ true → Fits known outer n → InBody known outer full (names.in_frame n)
   in_frame n whole h = record {
-    innermost = empty_scoped known outer full ((names.innermost n).level + 1) h.level;
+    innermost = next_scoped n h;
     others = λ c e more. regions_more (when c known) outer e n.regions (regions_when known outer whole c n.regions h.regions);
   }
 
   pub in_loop : (i : Ident) (n : Place) → known.complete ≡ true → Fits known outer n → InBody known outer full (regions.in_loop i n)
   in_loop i n whole h = record {
-    innermost = symbol_scoped known outer full i.name (d.scalar (Some Integer) true) (names.next_frame n) (empty_scoped known outer full ((names.innermost n).level + 1) h.level);
+    innermost = symbol_scoped known outer full i.name (d.scalar (Some Integer) true) (names.next_frame n) (next_scoped n h);
     others = λ c e more. regions_more (when c known) outer e n.regions (regions_when known outer whole c n.regions h.regions);
   }
 
@@ -528,25 +555,74 @@ module _ (known : Known) (outer : Scope) (full : Elaborated) where
       let here : cells_at level (outer ++ e ∷ []) ≡ e.cells = ap (λ x. x.cells) (get_or_push outer e none_yet level (sym h)) in
       omega (arith, here, more)
 
-  pub in_task : (name : List ℕ) (n : Place) → (names.innermost n).level + 1 ≡ length outer → ((c : Bool) → RegionsScoped (when c known) outer n.regions) → InBody known outer full (names.task_place name n)
-  in_task name n level around = record {
-    innermost = record {
-      level = level;
-      symbols = λ c e more enough. All-from_recursion (λ x. MeaningScoped (when c known) (outer ++ e ∷ []) x.1) (names.task_region ((names.innermost n).level + 1)).symbols (own_cell ((names.innermost n).level + 1) e level more, tt);
-      named = refl;
-      celled = refl;
-    };
-    others = λ c e more. (All-from_recursion (λ x. MeaningScoped (when c known) (outer ++ e ∷ []) x.1) (names.running name ((names.innermost n).level + 1)).symbols (own_cell ((names.innermost n).level + 1) e level more, tt), regions_more (when c known) outer e n.regions (around c));
+  -- a task's entries are declared with its body's declarations
+
+  entry_added : (name : List ℕ) (number : ℕ) (r : Region) → IsEntry known number → RegionScoped known outer full r → 1 ≤ r.cells → RegionScoped known outer full (record r { symbols = r.symbols ++ (name, Entry (record { number = number; owner = Single (names.own_cell r.level) })) ∷ [] })
+  entry_added name number r there h own =
+      let s : Symbol = (name, Entry (record { number = number; owner = Single (names.own_cell r.level) })) in
+      record {
+        level = h.level;
+        symbols = λ c e more enough. All-push (λ x. MeaningScoped (when c known) (outer ++ e ∷ []) x.1) r.symbols s (h.symbols c e more enough) (there, own_cell r.level e h.level (omega (arith, own, more)));
+        named = omega (arith, names_shown r.symbols (s ∷ []), h.named);
+        celled = omega (arith, cells_shown r.symbols (s ∷ []), h.celled);
+        entries = h.entries;
+      }
+
+  entry_scoped : (name : List ℕ) (number : ℕ) (r : Region) → IsEntry known number → RegionScoped known outer full r × (r.cells ≡ 1) × (r.names ≡ 1) → RegionScoped known outer full (names.with_entry name number r) × ((names.with_entry name number r).cells ≡ 1) × ((names.with_entry name number r).names ≡ 1)
+  entry_scoped name number r there h =
+      either (λ (z : Region). RegionScoped known outer full z × (z.cells ≡ 1) × (z.names ≡ 1)) (names.is_declared name r.symbols) r _ h (entry_added name number r there h.0 (omega (arith, h.1)), h.1, h.2)
+
+  entries_scoped : (number : ℕ) (xs : List EntryName) (r : Region) → EntriesThere known xs → RegionScoped known outer full r × (r.cells ≡ 1) × (r.names ≡ 1) → RegionScoped known outer full (names.with_entries number xs r) × ((names.with_entries number xs r).cells ≡ 1) × ((names.with_entries number xs r).names ≡ 1)
+  entries_scoped number [] r there h = h
+  entries_scoped number (x ∷ xs) r there h =
+      entries_scoped number xs _ there.1 (either (λ (z : Region). RegionScoped known outer full z × (z.cells ≡ 1) × (z.names ≡ 1)) (nat_eq number x.task_type) (names.with_entry x.name x.number r) r (entry_scoped x.name x.number r there.0 h) h)
+
+  own_scoped : (level number : ℕ) → level ≡ length outer → RegionScoped known outer full (names.own_region level number)
+  own_scoped level number h = record {
+    level = h;
+    symbols = λ c e more enough. All-from_recursion (λ x. MeaningScoped (when c known) (outer ++ e ∷ []) x.1) (names.own_region level number).symbols (own_cell level e h more, tt);
+    named = refl;
+    celled = refl;
+    entries = tt;
   }
+
+  pub in_task : (name : List ℕ) (number : ℕ) (n : Place) → (names.innermost n).level + 1 ≡ length outer → EntriesThere known (names.innermost n).entries → ((c : Bool) → RegionsScoped (when c known) outer n.regions) → InBody known outer full (names.task_place name number n)
+  in_task name number n level there around =
+      let all = entries_scoped number (names.innermost n).entries (names.own_region ((names.innermost n).level + 1) number) there (own_scoped ((names.innermost n).level + 1) number level, refl, refl) in
+      record {
+        innermost = all.0;
+        others = λ c e more. ((All-from_recursion (λ x. MeaningScoped (when c known) (outer ++ e ∷ []) x.1) (names.running name ((names.innermost n).level + 1) number).symbols (own_cell ((names.innermost n).level + 1) e level (omega (arith, all.1, more)), tt), tt), regions_more (when c known) outer e n.regions (around c));
+      }
+
+  -- its own number is all that is elaborated in its frame at first
+  pub task_frame : (name : List ℕ) (number : ℕ) (n : Place) → (names.innermost n).level + 1 ≡ length outer → EntriesThere known (names.innermost n).entries → elaborated (names.innermost (names.task_place name number n)) ≡ all_formals 1
+  task_frame name number n level there =
+      let r : Region = names.task_region ((names.innermost n).level + 1) number (names.innermost n).entries in
+      let all = entries_scoped number (names.innermost n).entries (names.own_region ((names.innermost n).level + 1) number) there (own_scoped ((names.innermost n).level + 1) number level, refl, refl) in
+      ap {B = Elaborated} (λ k. record { names = k; cells = r.cells }) all.2 ∙ ap {B = Elaborated} (λ k. record { names = 1; cells = k }) all.1
+
+-- in a task's body nothing waits at first
+
+entry_awaits : (name : List ℕ) (number : ℕ) (r : Region) → (names.with_entry name number r).awaited ≡ r.awaited
+entry_awaits name number r = either (λ (z : Region). z.awaited ≡ r.awaited) (names.is_declared name r.symbols) r (record r { symbols = r.symbols ++ (name, Entry (record { number = number; owner = Single (names.own_cell r.level) })) ∷ [] }) refl refl
+
+entries_await : (number : ℕ) (xs : List EntryName) (r : Region) → (names.with_entries number xs r).awaited ≡ r.awaited
+entries_await number [] r = refl
+entries_await number (x ∷ xs) r =
+    let one : Region = if nat_eq number x.task_type then names.with_entry x.name x.number r else r in
+    entries_await number xs one ∙ either (λ (z : Region). z.awaited ≡ r.awaited) (nat_eq number x.task_type) (names.with_entry x.name x.number r) r (entry_awaits x.name x.number r) refl
+
+pub task_begins : (name : List ℕ) (number : ℕ) (n : Place) → (names.innermost (names.task_place name number n)).awaited ≡ []
+task_begins name number n = entries_await number (names.innermost n).entries (names.own_region ((names.innermost n).level + 1) number)
 
 -- what waits behind the declaration of a task
 symbol_waits : (is_type : Bool) (name : List ℕ) (number : ℕ) (r : Region) → (tasks.with_task_symbol is_type name number r).awaited ≡ r.awaited
 symbol_waits true name number r = refl
 symbol_waits false name number r = refl
 
-pub task_waits : (is_type : Bool) (i : Ident) (number unit : ℕ) (r : Region) → rules.declared_once i.name i.at r.symbols ≡ [] → (tasks.with_task is_type i number unit r).awaited ≡ r.awaited ++ (record { name = i.name; unit = unit; at = i.at }) ∷ []
+pub task_waits : (is_type : Bool) (i : Ident) (number unit : ℕ) (r : Region) → rules.declared_once i.name i.at r.symbols ≡ [] → (tasks.with_task is_type i number unit r).awaited ≡ r.awaited ++ (record { name = i.name; task_type = number; unit = unit; at = i.at }) ∷ []
 task_waits is_type i number unit r q =
-    let a : Awaited = record { name = i.name; unit = unit; at = i.at } in
+    let a : Awaited = record { name = i.name; task_type = number; unit = unit; at = i.at } in
     ap (λ (z : Region). z.awaited) (new_task is_type i number unit r q) ∙ ap (λ l. l ++ a ∷ []) (symbol_waits is_type i.name number r)
 
 -- a procedure's name changes nothing of its region's frame
@@ -554,13 +630,14 @@ pub procedure_elaborates : (i : Ident) (unit : ℕ) (r : Region) → elaborated 
 procedure_elaborates i unit r = either (λ (z : Region). elaborated z ≡ elaborated r) (names.is_declared i.name r.symbols) r (record r { symbols = r.symbols ++ (i.name, Procedure unit) ∷ [] }) refl refl
 
 -- later tables know of more procedures
-pub body_later : (known : Known) (outer : Scope) (full : Elaborated) (more : List (List Parameter)) (n : Place) → InBody known outer full n → InBody (later more known) outer full n
+pub body_later : (known : Known) (outer : Scope) (full : Elaborated) (more : List (List NamedParameter)) (n : Place) → InBody known outer full n → InBody (later more known) outer full n
 body_later known outer full more n h = record {
   innermost = record {
     level = h.innermost.level;
     symbols = λ c e enough all. symbols_later (when c known) (outer ++ e ∷ []) more (names.innermost n).symbols (h.innermost.symbols c e enough all);
     named = h.innermost.named;
     celled = h.innermost.celled;
+    entries = h.innermost.entries;
   };
   others = λ c e enough. regions_later (when c known) (outer ++ e ∷ []) more (names.others_of n.regions) (h.others c e enough);
 }
@@ -571,5 +648,5 @@ in_main known full name main = record {
   innermost = empty_scoped known [] full 0 refl;
   others = λ c e more.
       let all = All-from_recursion (λ x. MeaningScoped (when c known) (e ∷ []) x.1) in
-      (all ((name, Procedure 0) ∷ []) (main c e, tt), (all names.predefined (tt, (tt, (tt, (tt, (tt, (tt, (tt, (tt, (tt, (tt, (tt, (tt, (tt, tt))))))))))))), tt));
+      ((all ((name, Procedure 0) ∷ []) (main c e, tt), tt), ((all names.predefined (tt, (tt, (tt, (tt, (tt, (tt, (tt, (tt, (tt, (tt, (tt, (tt, (tt, tt))))))))))))), tt), tt));
 }

@@ -4,7 +4,7 @@ use Rattle.std.proofs.Common.{◌≡◌, Bool, true, false, List, [], ◌∷◌,
 use Rattle.aud_text.specs.declared.place.Pos.{Pos}
 use Rattle.aud_typed.specs.Tree as tree
 use Rattle.aud_typed.specs.Why.Scoped.{Scope, scope_after, scope_behind, StatementScoped, PartScoped, CreatedScoped, AllCreatedScoped}
-use Rattle.aud_names.specs.declared.names.Parameter.{Parameter}
+use Rattle.aud_names.specs.declared.names.NamedParameter.{NamedParameter}
 use Rattle.aud_check_bodies.specs.Tasks as tasks
 use Rattle.aud_check_bodies.proofs.Scoping.Names.{Known}
 
@@ -45,7 +45,7 @@ created_append known scope [] ys h i = i
 created_append known scope (x ∷ xs) ys h i = (h.0, created_append known scope xs ys h.1 i)
 
 -- whatever procedures are known
-pub created_with : (known : Known) (profiles : List (List Parameter)) (scope : Scope) (xs : List tree.Statement) → AllCreated known scope xs → AllCreated (record known { profiles = profiles }) scope xs
+pub created_with : (known : Known) (profiles : List (List NamedParameter)) (scope : Scope) (xs : List tree.Statement) → AllCreated known scope xs → AllCreated (record known { profiles = profiles }) scope xs
 unfolding AllCreated
 created_with known profiles scope xs h = h
 

@@ -8,10 +8,13 @@ use Rattle.aud_syntax.specs.declared.tree.Ident.{Ident}
 use Rattle.aud_syntax.specs.Plain as plain
 use Rattle.aud_typed.specs.Tree as tree
 use Rattle.aud_typed.specs.Why.Scoped.{Scope, Entry, no_entry, entry_of, all_of_table}
-use Rattle.aud_names.specs.declared.names.Parameter.{Parameter}
+use Rattle.aud_names.specs.declared.names.NamedParameter.{NamedParameter}
+use Rattle.aud_names.specs.declared.awaited.Awaited.{Awaited}
 use Rattle.aud_names.specs.Names as names
-use Rattle.aud_names.specs.Names.{Place}
-use Rattle.aud_check_bodies.specs.Tables.{Tables, Outcome, no_body, region_kept, unit_kept, with_unit}
+use Rattle.aud_names.specs.Names.{Region, Place}
+use Rattle.aud_check_bodies.specs.Tables.{Tables, Outcome, no_body, with_region, region_kept, unit_kept, with_unit}
+use Rattle.aud_check_bodies.specs.Accepts as accepts
+use Rattle.aud_check_bodies.specs.Entries as declared
 use Rattle.aud_check_bodies.specs.Tasks as tasks
 use Rattle.aud_check_bodies.specs.Declarations as d
 use Rattle.aud_check_bodies.specs.Formals.{Formals}
@@ -19,7 +22,7 @@ use Rattle.aud_check_bodies.specs.Regions as regions
 use Rattle.aud_check_bodies.specs.Statements as s
 use Rattle.aud_check_bodies.specs.Statements.{Around, nothing_around, task_around}
 use Rattle.aud_check_bodies.proofs.Scoping.Declarations.{elaborated}
-use Rattle.aud_check_bodies.proofs.Scoping.Tables.{Grows, declared_tables}
+use Rattle.aud_check_bodies.proofs.Scoping.Tables.{Grows, declared_tables, entries_units}
 
 -- what is elaborated behind the declarations of a body
 abbrev pub behind : Outcome d.Declared → Scope → Scope
@@ -44,9 +47,13 @@ abbrev pub of_task : Scope → Entry
 of_task scope = record { formals = 1; outer = scope }
 
 -- a body of no task that waits for it is a task of its own
-abbrev pub of_body : Option ℕ → Scope → List Entry
+abbrev pub of_body : Option Awaited → Scope → List Entry
 of_body None scope = of_task scope ∷ []
-of_body (Some unit) scope = []
+of_body (Some a) scope = []
+
+-- within what an accept does, in the region of its formals
+abbrev pub accept_scope : Region → Scope → Scope
+accept_scope r scope = scope ++ all_of_table (regions.shown_names r.symbols) ∷ []
 
 -- of the units that constructs declare, in this scope; of declarations what is elaborated behind all of them
 abbrev mutual
@@ -58,7 +65,33 @@ abbrev mutual
   in_statement (plain.loop label at i ss last semicolon) around n t scope = in_statements ss (s.labelled true label around) (s.loop_place i n) (s.loop_tables i n t) (loop_scope i n scope)
   in_statement (plain.block label at declare ds b) around n t scope =
       of_entered (λ inner. in_declarations ds (names.in_frame n) (region_kept t) inner) (λ m u inner. in_body b (s.labelled false label around) m u inner) (s.checked_declarations ds (names.in_frame n) (region_kept t)) t scope
+  in_statement (plain.accepting x) around n t scope = in_accept x around n t scope
+  in_statement (plain.select_accept at guard x xs otherwise) around n t scope =
+      let first = s.checked_alternative x guard around n t in
+      let second = s.checked_alternatives xs around n first.tables in
+      in_alternative x guard around n t scope ++ (in_alternatives xs around n first.tables scope ++ in_others otherwise around n second.tables scope)
+  in_statement (plain.select_call at x behind otherwise) around n t scope = in_others behind around n t scope ++ in_otherwise otherwise around n (s.checked_others behind around n t).tables scope
   in_statement _ around n t scope = []
+
+  pub in_accept : plain.Accept → Around → Place → Tables → Scope → List Entry
+  in_accept (plain.accept at i fs x) around n t scope = in_doing x (accepts.accept_formals fs n).region (s.in_accept (accepts.accepted i n) around) n t scope
+
+  pub in_doing : plain.Doing → Region → Around → Place → Tables → Scope → List Entry
+  in_doing plain.without_do r around n t scope = []
+  in_doing (plain.with_do b) r around n t scope = in_body b around (names.place_in r n.regions) (with_region (regions.shown_names r.symbols) t) (accept_scope r scope)
+
+  pub in_alternative : plain.Alternative → plain.MaybeExpression → Around → Place → Tables → Scope → List Entry
+  in_alternative (plain.accept_alternative x ss) guard around n t scope = in_accept x around n t scope ++ in_others ss around n (s.checked_accept x around n t).tables scope
+  in_alternative (plain.delay_alternative x ss) guard around n t scope = in_others ss around n t scope
+  in_alternative plain.terminate_alternative guard around n t scope = []
+
+  pub in_alternatives : plain.Alternatives → Around → Place → Tables → Scope → List Entry
+  in_alternatives plain.no_alternatives around n t scope = []
+  in_alternatives (plain.more_alternatives guard x xs) around n t scope = in_alternative x guard around n t scope ++ in_alternatives xs around n (s.checked_alternative x guard around n t).tables scope
+
+  pub in_otherwise : plain.Otherwise → Around → Place → Tables → Scope → List Entry
+  in_otherwise (plain.or_delay x ss) around n t scope = in_others ss around n t scope
+  in_otherwise (plain.or_else ss) around n t scope = in_statements ss around n t scope
 
   pub in_arms : plain.Arms → Around → Place → Tables → Scope → List Entry
   in_arms plain.no_arms around n t scope = []
@@ -91,8 +124,8 @@ abbrev mutual
       of_procedure f scope (of_entered (λ own. in_declarations ds inner (region_kept kept) own) (λ m u within. in_body b nothing_around m u within) (s.checked_declarations ds inner (region_kept kept)) kept scope)
   in_declaration (plain.task at is_type i x) n t scope = of_task scope ∷ []
   in_declaration (plain.task_body at i ds b) n t scope =
-      let found : Option ℕ = tasks.unit_awaited i n in
-      let inner : Place = names.task_place i.name (tasks.place_behind i n) in
+      let found : Option Awaited = tasks.task_awaited i n in
+      let inner : Place = names.task_place i.name (tasks.body_task found t) (tasks.place_behind i n) in
       let kept : Tables = tasks.body_tables found t in
       of_body found scope ++ of_entered (λ own. in_declarations ds inner (region_kept kept) own) (λ m u within. in_body b task_around m u within) (s.checked_declarations ds inner (region_kept kept)) kept scope
   in_declaration _ n t scope = []
@@ -210,7 +243,7 @@ joined_counted x xs n t outer f g =
     both_counted (in_declaration x n t outer) (in_declarations xs o.made.place o.tables outer) (length t.units) (length o.tables.units) (length (s.checked_declarations xs o.made.place o.tables).tables.units) (f n t) (g o.made.place o.tables)
 
 -- one that is put where its place was kept, and those in it
-put_counted : (t : Tables) (profile : List Parameter) (units : List tree.UnitBody) (x : tree.UnitBody) (within : List Entry) → length units ≡ length (unit_kept profile t).units + length within → length (slice_set units (length t.units) x) ≡ length t.units + suc (length within)
+put_counted : (t : Tables) (profile : List NamedParameter) (units : List tree.UnitBody) (x : tree.UnitBody) (within : List Entry) → length units ≡ length (unit_kept profile t).units + length within → length (slice_set units (length t.units) x) ≡ length t.units + suc (length within)
 put_counted t profile units x within h = omega (arith, length-set units (length t.units) x, length_push t.units no_body, h)
 
 procedure_counted : (at : Pos) (i : Ident) (fs : List plain.Formal) (ds : plain.Declarations) (b : plain.Body) (n : Place) (t : Tables) (outer : Scope)
@@ -227,18 +260,21 @@ procedure_counted at i fs ds b n t outer f g =
 
 task_declaration_counted : (at : Pos) (is_type : Bool) (i : Ident) (x : Option plain.TaskDefinition) (n : Place) (t : Tables) (outer : Scope) → DeclarationCounted (plain.task at is_type i x) n t outer
 unfolding DeclarationCounted
-task_declaration_counted at is_type i x n t outer = omega (arith, length_push t.units no_body)
+task_declaration_counted at is_type i x n t outer =
+    let here : Place = tasks.place_named is_type i n t in
+    let es = tasks.task_entries x here t in
+    omega (arith, length_push es.tables.units no_body, ap length (entries_units (length t.tasks) (declared.entries_of x) here.regions (declared.no_entries (names.body_frame here) t)))
 
-own_counted : (found : Option ℕ) (t : Tables) (scope : Scope) → length (tasks.body_tables found t).units ≡ length t.units + length (of_body found scope)
+own_counted : (found : Option Awaited) (t : Tables) (scope : Scope) → length (tasks.body_tables found t).units ≡ length t.units + length (of_body found scope)
 own_counted None t scope = omega (arith, length_push t.units no_body)
-own_counted (Some unit) t scope = omega arith
+own_counted (Some a) t scope = omega arith
 
 task_body_counted : (at : Pos) (i : Ident) (ds : plain.Declarations) (b : plain.Body) (n : Place) (t : Tables) (outer : Scope)
     → ((m : Place) (u : Tables) (scope : Scope) → DeclarationsCounted ds m u scope) → ((within : Around) (m : Place) (u : Tables) (inner : Scope) → BodyCounted b within m u inner) → DeclarationCounted (plain.task_body at i ds b) n t outer
 unfolding DeclarationCounted
 task_body_counted at i ds b n t outer f g =
-    let found : Option ℕ = tasks.unit_awaited i n in
-    let inner : Place = names.task_place i.name (tasks.place_behind i n) in
+    let found : Option Awaited = tasks.task_awaited i n in
+    let inner : Place = names.task_place i.name (tasks.body_task found t) (tasks.place_behind i n) in
     let kept : Tables = tasks.body_tables found t in
     let own = s.checked_unit true at i.name ds b inner kept in
     let within = in_entered ds b task_around inner kept outer in
@@ -301,21 +337,93 @@ exception_counted : (first : Ident) (others : List Ident) (n : Place) (t : Table
 unfolding DeclarationCounted
 exception_counted first others n t outer = none_counted (length t.units)
 
-accepting_counted : (x : plain.Accept) (around : Around) (n : Place) (t : Tables) (scope : Scope) → StatementCounted (plain.accepting x) around n t scope
-unfolding StatementCounted
-accepting_counted x around n t scope = none_counted (length t.units)
+AcceptCounted : plain.Accept → Around → Place → Tables → Scope → Type 0
+AcceptCounted x around n t scope = length (s.checked_accept x around n t).tables.units ≡ length t.units + length (in_accept x around n t scope)
+
+DoingCounted : plain.Doing → Ident → Region → Around → Place → Tables → Scope → Type 0
+DoingCounted x i r around n t scope = length (s.checked_doing x i r around n t).tables.units ≡ length t.units + length (in_doing x r around n t scope)
+
+AlternativeCounted : plain.Alternative → plain.MaybeExpression → Around → Place → Tables → Scope → Type 0
+AlternativeCounted x guard around n t scope = length (s.checked_alternative x guard around n t).tables.units ≡ length t.units + length (in_alternative x guard around n t scope)
+
+AlternativesCounted : plain.Alternatives → Around → Place → Tables → Scope → Type 0
+AlternativesCounted x around n t scope = length (s.checked_alternatives x around n t).tables.units ≡ length t.units + length (in_alternatives x around n t scope)
+
+OtherwiseCounted : plain.Otherwise → Around → Place → Tables → Scope → Type 0
+OtherwiseCounted x around n t scope = length (s.checked_otherwise x around n t).tables.units ≡ length t.units + length (in_otherwise x around n t scope)
+
+accepting_counted : (x : plain.Accept) (around : Around) (n : Place) (t : Tables) (scope : Scope) → AcceptCounted x around n t scope → StatementCounted (plain.accepting x) around n t scope
+unfolding StatementCounted AcceptCounted
+accepting_counted x around n t scope f = f
+
+accept_counted : (at : Pos) (i : Ident) (fs : List plain.Formal) (x : plain.Doing) (around : Around) (n : Place) (t : Tables) (scope : Scope) → ((r : Region) (within : Around) → DoingCounted x i r within n t scope) → AcceptCounted (plain.accept at i fs x) around n t scope
+unfolding AcceptCounted DoingCounted
+accept_counted at i fs x around n t scope f = f (accepts.accept_formals fs n).region (s.in_accept (accepts.accepted i n) around)
+
+without_do_counted : (i : Ident) (r : Region) (around : Around) (n : Place) (t : Tables) (scope : Scope) → DoingCounted plain.without_do i r around n t scope
+unfolding DoingCounted
+without_do_counted i r around n t scope = none_counted (length t.units)
+
+with_do_counted : (b : plain.Body) (i : Ident) (r : Region) (around : Around) (n : Place) (t : Tables) (scope : Scope) → ((m : Place) (u : Tables) (inner : Scope) → BodyCounted b around m u inner) → DoingCounted (plain.with_do b) i r around n t scope
+unfolding DoingCounted BodyCounted
+with_do_counted b i r around n t scope f = f (names.place_in r n.regions) (with_region (regions.shown_names r.symbols) t) (accept_scope r scope)
 
 delaying_counted : (x : plain.Delay) (around : Around) (n : Place) (t : Tables) (scope : Scope) → StatementCounted (plain.delaying x) around n t scope
 unfolding StatementCounted
 delaying_counted x around n t scope = none_counted (length t.units)
 
-select_accept_counted : (at : Pos) (e : plain.MaybeExpression) (x : plain.Alternative) (xs : plain.Alternatives) (otherwise : plain.MoreStatements) (around : Around) (n : Place) (t : Tables) (scope : Scope) → StatementCounted (plain.select_accept at e x xs otherwise) around n t scope
-unfolding StatementCounted
-select_accept_counted at e x xs otherwise around n t scope = none_counted (length t.units)
+accept_alternative_counted : (x : plain.Accept) (ss : plain.MoreStatements) (guard : plain.MaybeExpression) (around : Around) (n : Place) (t : Tables) (scope : Scope)
+    → ((u : Tables) → AcceptCounted x around n u scope) → ((u : Tables) → OthersCounted ss around n u scope) → AlternativeCounted (plain.accept_alternative x ss) guard around n t scope
+unfolding AcceptCounted OthersCounted AlternativeCounted
+accept_alternative_counted x ss guard around n t scope f g =
+    let u = (s.checked_accept x around n t).tables in
+    both_counted (in_accept x around n t scope) (in_others ss around n u scope) (length t.units) (length u.units) (length (s.checked_others ss around n u).tables.units) (f t) (g u)
 
-select_call_counted : (at : Pos) (x : plain.Name) (behind : plain.MoreStatements) (otherwise : plain.Otherwise) (around : Around) (n : Place) (t : Tables) (scope : Scope) → StatementCounted (plain.select_call at x behind otherwise) around n t scope
-unfolding StatementCounted
-select_call_counted at x behind otherwise around n t scope = none_counted (length t.units)
+delay_alternative_counted : (x : plain.Delay) (ss : plain.MoreStatements) (guard : plain.MaybeExpression) (around : Around) (n : Place) (t : Tables) (scope : Scope) → OthersCounted ss around n t scope → AlternativeCounted (plain.delay_alternative x ss) guard around n t scope
+unfolding OthersCounted AlternativeCounted
+delay_alternative_counted x ss guard around n t scope f = f
+
+terminate_counted : (guard : plain.MaybeExpression) (around : Around) (n : Place) (t : Tables) (scope : Scope) → AlternativeCounted plain.terminate_alternative guard around n t scope
+unfolding AlternativeCounted
+terminate_counted guard around n t scope = none_counted (length t.units)
+
+no_alternatives_counted : (around : Around) (n : Place) (t : Tables) (scope : Scope) → AlternativesCounted plain.no_alternatives around n t scope
+unfolding AlternativesCounted
+no_alternatives_counted around n t scope = none_counted (length t.units)
+
+more_alternatives_counted : (guard : plain.MaybeExpression) (x : plain.Alternative) (xs : plain.Alternatives) (around : Around) (n : Place) (t : Tables) (scope : Scope)
+    → ((u : Tables) → AlternativeCounted x guard around n u scope) → ((u : Tables) → AlternativesCounted xs around n u scope) → AlternativesCounted (plain.more_alternatives guard x xs) around n t scope
+unfolding AlternativeCounted AlternativesCounted
+more_alternatives_counted guard x xs around n t scope f g =
+    let u = (s.checked_alternative x guard around n t).tables in
+    both_counted (in_alternative x guard around n t scope) (in_alternatives xs around n u scope) (length t.units) (length u.units) (length (s.checked_alternatives xs around n u).tables.units) (f t) (g u)
+
+select_accept_counted : (at : Pos) (guard : plain.MaybeExpression) (x : plain.Alternative) (xs : plain.Alternatives) (otherwise : plain.MoreStatements) (around : Around) (n : Place) (t : Tables) (scope : Scope)
+    → ((u : Tables) → AlternativeCounted x guard around n u scope) → ((u : Tables) → AlternativesCounted xs around n u scope) → ((u : Tables) → OthersCounted otherwise around n u scope) → StatementCounted (plain.select_accept at guard x xs otherwise) around n t scope
+unfolding StatementCounted AlternativeCounted AlternativesCounted OthersCounted
+select_accept_counted at guard x xs otherwise around n t scope f g h =
+    let first = (s.checked_alternative x guard around n t).tables in
+    let second = (s.checked_alternatives xs around n first).tables in
+    let third = (s.checked_others otherwise around n second).tables in
+    let e1 = in_alternative x guard around n t scope in
+    let e2 = in_alternatives xs around n first scope in
+    let e3 = in_others otherwise around n second scope in
+    both_counted e1 (e2 ++ e3) (length t.units) (length first.units) (length third.units) (f t) (both_counted e2 e3 (length first.units) (length second.units) (length third.units) (g first) (h second))
+
+or_delay_counted : (x : plain.Delay) (ss : plain.MoreStatements) (around : Around) (n : Place) (t : Tables) (scope : Scope) → OthersCounted ss around n t scope → OtherwiseCounted (plain.or_delay x ss) around n t scope
+unfolding OthersCounted OtherwiseCounted
+or_delay_counted x ss around n t scope f = f
+
+or_else_counted : (ss : plain.Statements) (around : Around) (n : Place) (t : Tables) (scope : Scope) → StatementsCounted ss around n t scope → OtherwiseCounted (plain.or_else ss) around n t scope
+unfolding StatementsCounted OtherwiseCounted
+or_else_counted ss around n t scope f = f
+
+select_call_counted : (at : Pos) (x : plain.Name) (behind : plain.MoreStatements) (otherwise : plain.Otherwise) (around : Around) (n : Place) (t : Tables) (scope : Scope)
+    → ((u : Tables) → OthersCounted behind around n u scope) → ((u : Tables) → OtherwiseCounted otherwise around n u scope) → StatementCounted (plain.select_call at x behind otherwise) around n t scope
+unfolding StatementCounted OthersCounted OtherwiseCounted
+select_call_counted at x behind otherwise around n t scope f g =
+    let u = (s.checked_others behind around n t).tables in
+    both_counted (in_others behind around n t scope) (in_otherwise otherwise around n u scope) (length t.units) (length u.units) (length (s.checked_otherwise otherwise around n u).tables.units) (f t) (g u)
 
 abort_counted : (at : Pos) (x : plain.Name) (xs : plain.Names) (around : Around) (n : Place) (t : Tables) (scope : Scope) → StatementCounted (plain.abort at x xs) around n t scope
 unfolding StatementCounted
@@ -344,12 +452,32 @@ mutual
   count_statement (plain.block label at declare ds b) around n t scope = block_counted label at declare ds b around n t scope (λ m u outer. count_declarations ds m u outer) (λ within m u inner. count_body b within m u inner)
   count_statement (plain.return at e) around n t scope = return_counted at e around n t scope
   count_statement (plain.raise at name) around n t scope = raise_counted at name around n t scope
-  count_statement (plain.accepting x) around n t scope = accepting_counted x around n t scope
+  count_statement (plain.accepting x) around n t scope = accepting_counted x around n t scope (count_accept x around n t scope)
   count_statement (plain.delaying x) around n t scope = delaying_counted x around n t scope
-  count_statement (plain.select_accept at e x xs otherwise) around n t scope = select_accept_counted at e x xs otherwise around n t scope
-  count_statement (plain.select_call at x behind otherwise) around n t scope = select_call_counted at x behind otherwise around n t scope
+  count_statement (plain.select_accept at guard x xs otherwise) around n t scope = select_accept_counted at guard x xs otherwise around n t scope (λ u. count_alternative x guard around n u scope) (λ u. count_alternatives xs around n u scope) (λ u. count_others otherwise around n u scope)
+  count_statement (plain.select_call at x behind otherwise) around n t scope = select_call_counted at x behind otherwise around n t scope (λ u. count_others behind around n u scope) (λ u. count_otherwise otherwise around n u scope)
   count_statement (plain.abort at x xs) around n t scope = abort_counted at x xs around n t scope
   count_statement (plain.requeue at x with_abort) around n t scope = requeue_counted at x with_abort around n t scope
+
+  count_accept : (x : plain.Accept) (around : Around) (n : Place) (t : Tables) (scope : Scope) → AcceptCounted x around n t scope
+  count_accept (plain.accept at i fs x) around n t scope = accept_counted at i fs x around n t scope (λ r within. count_doing x i r within n t scope)
+
+  count_doing : (x : plain.Doing) (i : Ident) (r : Region) (around : Around) (n : Place) (t : Tables) (scope : Scope) → DoingCounted x i r around n t scope
+  count_doing plain.without_do i r around n t scope = without_do_counted i r around n t scope
+  count_doing (plain.with_do b) i r around n t scope = with_do_counted b i r around n t scope (λ m u inner. count_body b around m u inner)
+
+  count_alternative : (x : plain.Alternative) (guard : plain.MaybeExpression) (around : Around) (n : Place) (t : Tables) (scope : Scope) → AlternativeCounted x guard around n t scope
+  count_alternative (plain.accept_alternative x ss) guard around n t scope = accept_alternative_counted x ss guard around n t scope (λ u. count_accept x around n u scope) (λ u. count_others ss around n u scope)
+  count_alternative (plain.delay_alternative x ss) guard around n t scope = delay_alternative_counted x ss guard around n t scope (count_others ss around n t scope)
+  count_alternative plain.terminate_alternative guard around n t scope = terminate_counted guard around n t scope
+
+  count_alternatives : (x : plain.Alternatives) (around : Around) (n : Place) (t : Tables) (scope : Scope) → AlternativesCounted x around n t scope
+  count_alternatives plain.no_alternatives around n t scope = no_alternatives_counted around n t scope
+  count_alternatives (plain.more_alternatives guard x xs) around n t scope = more_alternatives_counted guard x xs around n t scope (λ u. count_alternative x guard around n u scope) (λ u. count_alternatives xs around n u scope)
+
+  count_otherwise : (x : plain.Otherwise) (around : Around) (n : Place) (t : Tables) (scope : Scope) → OtherwiseCounted x around n t scope
+  count_otherwise (plain.or_delay x ss) around n t scope = or_delay_counted x ss around n t scope (count_others ss around n t scope)
+  count_otherwise (plain.or_else ss) around n t scope = or_else_counted ss around n t scope (count_statements ss around n t scope)
 
   count_arms : (x : plain.Arms) (around : Around) (n : Place) (t : Tables) (scope : Scope) → ArmsCounted x around n t scope
   count_arms plain.no_arms around n t scope = no_arms_counted around n t scope
@@ -387,6 +515,22 @@ mutual
 pub statement_counted : (x : plain.Statement) (around : Around) (n : Place) (t : Tables) (scope : Scope) → length (s.checked_statement x around n t).tables.units ≡ length t.units + length (in_statement x around n t scope)
 unfolding StatementCounted
 statement_counted x around n t scope = count_statement x around n t scope
+
+pub accept_is_counted : (x : plain.Accept) (around : Around) (n : Place) (t : Tables) (scope : Scope) → length (s.checked_accept x around n t).tables.units ≡ length t.units + length (in_accept x around n t scope)
+unfolding AcceptCounted
+accept_is_counted x around n t scope = count_accept x around n t scope
+
+pub alternative_counted : (x : plain.Alternative) (guard : plain.MaybeExpression) (around : Around) (n : Place) (t : Tables) (scope : Scope) → length (s.checked_alternative x guard around n t).tables.units ≡ length t.units + length (in_alternative x guard around n t scope)
+unfolding AlternativeCounted
+alternative_counted x guard around n t scope = count_alternative x guard around n t scope
+
+pub alternatives_counted : (x : plain.Alternatives) (around : Around) (n : Place) (t : Tables) (scope : Scope) → length (s.checked_alternatives x around n t).tables.units ≡ length t.units + length (in_alternatives x around n t scope)
+unfolding AlternativesCounted
+alternatives_counted x around n t scope = count_alternatives x around n t scope
+
+pub others_counted : (x : plain.MoreStatements) (around : Around) (n : Place) (t : Tables) (scope : Scope) → length (s.checked_others x around n t).tables.units ≡ length t.units + length (in_others x around n t scope)
+unfolding OthersCounted
+others_counted x around n t scope = count_others x around n t scope
 
 pub arms_counted : (x : plain.Arms) (around : Around) (n : Place) (t : Tables) (scope : Scope) → length (s.checked_arms x around n t).tables.units ≡ length t.units + length (in_arms x around n t scope)
 unfolding ArmsCounted

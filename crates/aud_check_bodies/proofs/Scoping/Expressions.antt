@@ -1,8 +1,8 @@
 -- What expressions read is elaborated.
-use Rattle.std.specs.Prelude.{IfSome}
+use Rattle.std.specs.Prelude.{IfSome, ◌&&◌}
 use Rattle.std.specs.Str.{bytes_eq}
 use Rattle.std.specs.Map.{lookup}
-use Rattle.std.proofs.Common.{ℤ, Option, Some, None}
+use Rattle.std.proofs.Common.{ℕ, ℤ, Option, Some, None}
 use Rattle.aud_text.specs.declared.place.Pos.{Pos}
 use Rattle.aud_syntax.specs.declared.tree.Ident.{Ident}
 use Rattle.aud_syntax.specs.declared.tree.Signed.{Signed}
@@ -28,21 +28,24 @@ use Rattle.aud_typed.specs.Why.Scoped.{Scope, IsElaborated, AreElaborated, Integ
 use Rattle.aud_names.specs.declared.names.Array as array
 use Rattle.aud_names.specs.declared.names.TaskArray as task_array
 use Rattle.aud_names.specs.declared.names.Meaning.{Meaning}
-use Rattle.aud_names.specs.declared.names.Meaning.TheVariants.{ScalarType, Literal, Object, Array, Task, TaskArray}
+use Rattle.aud_names.specs.declared.names.Entry as named_entry
+use Rattle.aud_names.specs.declared.names.Owner.{Owner}
+use Rattle.aud_names.specs.declared.names.Owner.TheVariants.{Single, Element}
+use Rattle.aud_names.specs.declared.names.Meaning.TheVariants.{ScalarType, Literal, Object, Array, Task, TaskArray, Entry}
 use Rattle.aud_typing.specs.declared.attribute.Attribute.{Attribute}
-use Rattle.aud_typing.specs.declared.attribute.Attribute.TheVariants.{Image, First, Last, Length, Callable, Terminated, Other}
+use Rattle.aud_typing.specs.declared.attribute.Attribute.TheVariants.{Image, First, Last, Length, Callable, Terminated, Count}
 use Rattle.aud_names.specs.declared.rules.Base.{Base}
 use Rattle.aud_names.specs.declared.rules.Base.TheVariants.{Whole, Truth}
 use Rattle.aud_names.specs.Arrays.{array_at, task_array_at}
 use Rattle.aud_names.specs.Resolution as resolution
-use Rattle.aud_names.specs.Names.{Place}
+use Rattle.aud_names.specs.Names.{Place, is_own}
 use Rattle.aud_names.specs.Rules as rules
 use Rattle.aud_typing.specs.Expressions as e
 use Rattle.aud_typing.specs.Expressions.{Typed, number, boolean, string, unknown, Entity, no_entity, entity, element_of, task_of, Denoting}
 use Rattle.aud_check_bodies.specs.Declarations as d
 use Rattle.aud_typing.specs.Conditions as q
 use Rattle.aud_check_bodies.specs.Statements as s
-use Rattle.aud_check_bodies.proofs.Scoping.Names.{Known, MeaningScoped, VisibleScoped, Sees, resolved_scoped}
+use Rattle.aud_check_bodies.proofs.Scoping.Names.{Known, OwnerScoped, MeaningScoped, VisibleScoped, Sees, either, resolved_scoped}
 
 -- nothing is said of an expression whose type is unknown
 abbrev pub TypedScoped : Scope → Typed → Type 0
@@ -203,22 +206,33 @@ module _ (known : Known) (scope : Scope) where
   asked_scoped (Some x) prefix designator a h = no_argument_scoped designator a _ h
 
   callable_scoped : (m : Meaning) → MeaningScoped known scope m → IfSome (e.callable_of m) (λ b. BooleanScoped b scope)
-  callable_scoped (Task v) h = h
+  callable_scoped (Task t) h = h
   callable_scoped _ h = tt
 
   terminated_scoped : (m : Meaning) → MeaningScoped known scope m → IfSome (e.terminated_of m) (λ b. BooleanScoped b scope)
-  terminated_scoped (Task v) h = h
+  terminated_scoped (Task t) h = h
   terminated_scoped _ h = tt
 
-  attribute_of_scoped : (x : Option Attribute) (m : Meaning) (prefix designator : Pos) (a : Option (Pos × Typed)) → MeaningScoped known scope m → IfSome a (λ x. TypedScoped scope x.1) → TypedScoped scope (e.attribute_named x m prefix designator a).typed
-  attribute_of_scoped None m prefix designator a h i = tt
-  attribute_of_scoped (Some Image) m prefix designator a h i = any_image_scoped m prefix designator a h i
-  attribute_of_scoped (Some First) m prefix designator a h i = bound_scoped (e.first_of m) prefix designator a
-  attribute_of_scoped (Some Last) m prefix designator a h i = bound_scoped (e.last_of m) prefix designator a
-  attribute_of_scoped (Some Length) m prefix designator a h i = bound_scoped (e.length_of m) prefix designator a
-  attribute_of_scoped (Some Callable) m prefix designator a h i = asked_scoped (e.callable_of m) prefix designator a (callable_scoped m h)
-  attribute_of_scoped (Some Terminated) m prefix designator a h i = asked_scoped (e.terminated_of m) prefix designator a (terminated_scoped m h)
-  attribute_of_scoped (Some Other) m prefix designator a h i = tt
+  count_value_scoped : (x : Owner) (k : ℕ) → OwnerScoped x scope → TypedScoped scope (e.count_value x k)
+  count_value_scoped (Single v) k h = h
+  count_value_scoped (Element a) k h = tt
+
+  counted_scoped : (x : named_entry.Entry) (xs : plain.Args) (at : Pos) (n : Place) → OwnerScoped x.owner scope → TypedScoped scope (e.counted x xs at n).typed
+  counted_scoped x xs at n h = either (TypedScoped scope) (resolution.are_none xs && is_own x n) (e.count_value x.owner x.number) unknown (count_value_scoped x.owner x.number h) tt
+
+  count_scoped : (m : Meaning) (xs : plain.Args) (prefix designator : Pos) (a : Option (Pos × Typed)) (n : Place) → MeaningScoped known scope m → TypedScoped scope (e.count m xs prefix designator a n).typed
+  count_scoped (Entry x) xs prefix designator a n h = no_argument_scoped designator a _ (counted_scoped x xs prefix n h.1)
+  count_scoped _ xs prefix designator a n h = tt
+
+  attribute_of_scoped : (x : Option Attribute) (m : Meaning) (xs : plain.Args) (prefix designator : Pos) (a : Option (Pos × Typed)) (n : Place) → MeaningScoped known scope m → IfSome a (λ x. TypedScoped scope x.1) → TypedScoped scope (e.attribute_named x m xs prefix designator a n).typed
+  attribute_of_scoped None m xs prefix designator a n h i = tt
+  attribute_of_scoped (Some Image) m xs prefix designator a n h i = any_image_scoped m prefix designator a h i
+  attribute_of_scoped (Some First) m xs prefix designator a n h i = bound_scoped (e.first_of m) prefix designator a
+  attribute_of_scoped (Some Last) m xs prefix designator a n h i = bound_scoped (e.last_of m) prefix designator a
+  attribute_of_scoped (Some Length) m xs prefix designator a n h i = bound_scoped (e.length_of m) prefix designator a
+  attribute_of_scoped (Some Callable) m xs prefix designator a n h i = asked_scoped (e.callable_of m) prefix designator a (callable_scoped m h)
+  attribute_of_scoped (Some Terminated) m xs prefix designator a n h i = asked_scoped (e.terminated_of m) prefix designator a (terminated_scoped m h)
+  attribute_of_scoped (Some Count) m xs prefix designator a n h i = count_scoped m xs prefix designator a n h
 
   element_attribute_scoped : (x : Option Attribute) (t : Typed) (prefix designator : Pos) (a : Option (Pos × Typed)) → TypedScoped scope t → TypedScoped scope (e.element_attribute x t prefix designator a).typed
   element_attribute_scoped None t prefix designator a h = tt
@@ -231,11 +245,11 @@ module _ (known : Known) (scope : Scope) where
   task_attribute_scoped (Some Terminated) task prefix designator a h = no_argument_scoped designator a _ h
   task_attribute_scoped (Some _) task prefix designator a h = tt
 
-  attribute_scoped : (x : Entity) (prefix : Pos) (designator : Ident) (a : Option (Pos × Typed)) → EntityScoped known scope x → IfSome a (λ x. TypedScoped scope x.1) → TypedScoped scope (e.attribute_if x prefix designator a).typed
-  attribute_scoped no_entity prefix designator a h i = tt
-  attribute_scoped (entity m) prefix designator a h i = attribute_of_scoped (lookup (bytes_eq designator.name) e.attributes) m prefix designator.at a h i
-  attribute_scoped (element_of v index t) prefix designator a h i = element_attribute_scoped (lookup (bytes_eq designator.name) e.attributes) (e.stored_at v index t) prefix designator.at a (element_scoped v index t h)
-  attribute_scoped (task_of v index) prefix designator a h i = task_attribute_scoped (lookup (bytes_eq designator.name) e.attributes) (tree.indexed v index) prefix designator.at a h
+  attribute_scoped : (x : Entity) (xs : plain.Args) (prefix : Pos) (designator : Ident) (a : Option (Pos × Typed)) (n : Place) → EntityScoped known scope x → IfSome a (λ x. TypedScoped scope x.1) → TypedScoped scope (e.attribute_if x xs prefix designator a n).typed
+  attribute_scoped no_entity xs prefix designator a n h i = tt
+  attribute_scoped (entity m) xs prefix designator a n h i = attribute_of_scoped (lookup (bytes_eq designator.name) e.attributes) m xs prefix designator.at a n h i
+  attribute_scoped (element_of v index t) xs prefix designator a n h i = element_attribute_scoped (lookup (bytes_eq designator.name) e.attributes) (e.stored_at v index t) prefix designator.at a (element_scoped v index t h)
+  attribute_scoped (task_of v index) xs prefix designator a n h i = task_attribute_scoped (lookup (bytes_eq designator.name) e.attributes) (tree.indexed v index) prefix designator.at a h
 
   -- values for places that ask for a subtype
 
@@ -255,7 +269,7 @@ module _ (known : Known) (scope : Scope) where
   truth_scoped (boolean x) h = h
   truth_scoped _ h = tt
 
-  whole_scoped : (t : Typed) → TypedScoped scope t → IntegerScoped (s.integer_of t) scope
+  pub whole_scoped : (t : Typed) → TypedScoped scope t → IntegerScoped (d.integer_of t) scope
   whole_scoped (number x) h = h
   whole_scoped _ h = tt
 
@@ -304,12 +318,12 @@ module _ (known : Known) (scope : Scope) (n : Place) (sees : Sees known scope n)
     primary_scoped (plain.integer x) = number_scoped known scope x.value x.at
     primary_scoped (plain.text x) = tt
     primary_scoped (plain.name x) = read_scoped known scope _ (denoting_scoped x _ (arguments_scoped x))
-    primary_scoped (plain.attribute x designator argument) = argument_scoped argument (e.denoting x (e.checked_arguments x n).typed n) designator (denoting_scoped x _ (arguments_scoped x))
+    primary_scoped (plain.attribute x designator argument) = argument_scoped argument (e.denoting x (e.checked_arguments x n).typed n) (resolution.last_args x) designator (denoting_scoped x _ (arguments_scoped x))
     primary_scoped (plain.group at x) = expression_scoped x
 
-    argument_scoped : (x : plain.MaybeExpression) (prefix : Denoting) (designator : Ident) → EntityScoped known scope prefix.entity → TypedScoped scope (e.checked_image x n prefix designator).typed
-    argument_scoped plain.no_expression prefix designator h = attribute_scoped known scope prefix.entity prefix.at designator None h tt
-    argument_scoped (plain.an_expression x) prefix designator h = attribute_scoped known scope prefix.entity prefix.at designator (Some (e.expression_at x, (e.checked_expression x n).typed)) h (expression_scoped x)
+    argument_scoped : (x : plain.MaybeExpression) (prefix : Denoting) (xs : plain.Args) (designator : Ident) → EntityScoped known scope prefix.entity → TypedScoped scope (e.checked_image x n prefix xs designator).typed
+    argument_scoped plain.no_expression prefix xs designator h = attribute_scoped known scope prefix.entity xs prefix.at designator None n h tt
+    argument_scoped (plain.an_expression x) prefix xs designator h = attribute_scoped known scope prefix.entity xs prefix.at designator (Some (e.expression_at x, (e.checked_expression x n).typed)) n h (expression_scoped x)
 
     pub arguments_scoped : (x : plain.Name) → TypedScoped scope (e.checked_arguments x n).typed
     arguments_scoped (plain.named p ps) = parts_scoped ps _ (part_scoped p unknown tt)
@@ -324,6 +338,10 @@ module _ (known : Known) (scope : Scope) (n : Place) (sees : Sees known scope n)
     parts_scoped : (x : plain.Parts) (last : Typed) → TypedScoped scope last → TypedScoped scope (e.checked_parts x n last).typed
     parts_scoped plain.no_parts last h = h
     parts_scoped (plain.more_parts p ps) last h = parts_scoped ps _ (part_scoped p last h)
+
+  -- the arguments before a point
+  pub prefix_scoped : (x : plain.Name) → TypedScoped scope (e.checked_prefix x n).typed
+  prefix_scoped (plain.named p ps) = part_scoped p unknown tt
 
   -- the initial value of a declaration
   pub initial_scoped : (x : plain.MaybeExpression) (t : Option Subtype) → ValueScoped (d.initial_value x t n) scope

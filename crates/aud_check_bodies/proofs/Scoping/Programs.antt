@@ -4,7 +4,7 @@ use Rattle.std.proofs.lemmas.List.{length-map, length-set, get_or-set_same, get_
 use Rattle.aud_syntax.specs.Plain as plain
 use Rattle.aud_typed.specs.Tree as tree
 use Rattle.aud_typed.specs.Tree.{Plan}
-use Rattle.aud_typed.specs.Why.Scoped.{Elaborated, no_task, Entry, no_entry, entry_of, UnitScoped, UnitsScoped, IsScoped}
+use Rattle.aud_typed.specs.Why.Scoped.{Elaborated, Entry, no_entry, entry_of, UnitScoped, UnitsScoped, IsScoped}
 use Rattle.aud_names.specs.Names.{Place, main_place}
 use Rattle.aud_names.specs.Rules.{right_name_at_end}
 use Rattle.aud_check_bodies.specs.Tables.{Tables, no_body, with_unit}
@@ -28,12 +28,6 @@ units_from plan entries [] (e ∷ es) long h = absurd (omega (arith, long))
 units_from plan entries (u ∷ us) [] long h = absurd (omega (arith, long))
 units_from plan entries (u ∷ us) (e ∷ es) long h = (h 0 (omega arith), units_from plan entries us es (omega (arith, long)) (λ n lt. h (suc n) (omega (arith, lt))))
 
--- the unit of each task type, by its number
-task_units : (xs : List ℕ) (n : ℕ) → (slice_index_or (map tree.task_of_unit xs) n no_task).unit ≡ slice_index_or xs n 0
-task_units [] n = refl
-task_units (x ∷ xs) zero = refl
-task_units (x ∷ xs) (suc n) = task_units xs n
-
 pub typed_scoped : (u : plain.Unit) → c.faults u ≡ [] → IsScoped (c.typed u)
 typed_scoped (plain.unit context at name declarations b) q =
     let place : Place = main_place name.name in
@@ -46,7 +40,7 @@ typed_scoped (plain.unit context at name declarations b) q =
     let stated = both_none o.faults (right_name_at_end name.name (end_name b) ++ []) q in
     let count = entered_counted false declarations b nothing_around place main_tables [] in
     let long = length-set o.tables.units 0 unit.made in
-    let in_plan : InPlan plan main_tables o.tables = record { regions = λ n after before. refl; exceptions = omega arith; tasks = λ n lt. (omega (arith, lt, length-map last.tasks tree.task_of_unit), task_units last.tasks n) } in
+    let in_plan : InPlan plan main_tables o.tables = record { regions = λ n after before. refl; exceptions = omega arith; entries = omega (arith, length-map o.tables.entries tree.task_entry); tasks = λ n lt. (lt, refl) } in
     let ready : Ready entries main_tables rest = record { even = refl; long = omega arith; each = λ k lt. let next : length main_tables.units + k ≡ suc k = omega arith in ap (entry_of entries) next } in
     let main : (c : Bool) (e : Elaborated) → IsCallable (when c (seen plan entries main_tables)) (e ∷ []) 0 = λ c e. record { declared = omega arith; entered = omega arith; formals = refl; outer = λ _. tt } in
     let inside : (full : Elaborated) → InBody (seen plan entries main_tables) [] full place = λ full. in_main (seen plan entries main_tables) full name.name main in

@@ -11,31 +11,38 @@ use Rattle.aud_typed.specs.declared.program.Subtype.{Subtype}
 use Rattle.aud_typed.specs.declared.program.Exception as exception
 use Rattle.aud_typed.specs.Tree as tree
 use Rattle.aud_typed.specs.Tree.{Plan}
-use Rattle.aud_typed.specs.Why.Scoped.{Scope, IsElaborated, AreElaborated, IntegerScoped, BooleanScoped, scope_after, AllThere, ArgumentsScoped, StatementScoped, PartScoped, HandlersScoped}
+use Rattle.aud_typed.specs.Why.Scoped.{Scope, IsElaborated, AreElaborated, IntegerScoped, BooleanScoped, TaskScoped, DelayScoped, FormScoped, scope_after, AllThere, ArgumentsScoped, StatementScoped, PartScoped, HandlersScoped, DoingScoped, AlternativesScoped}
 use Rattle.aud_names.specs.declared.names.Meaning.{Meaning}
 use Rattle.aud_names.specs.declared.names.Meaning.TheVariants.{Object, Exception, Builtin}
+use Rattle.aud_names.specs.declared.names.Entry as named_entry
+use Rattle.aud_names.specs.declared.names.Owner.{Owner}
+use Rattle.aud_names.specs.declared.names.Owner.TheVariants.{Single, Element}
+use Rattle.aud_names.specs.declared.names.Meaning.TheVariants as meaning
 use Rattle.aud_names.specs.declared.names.Builtin as names_in_memory
 use Rattle.aud_names.specs.declared.names.Builtin.TheVariants.{Put, PutLine, NewLine}
 use Rattle.aud_names.specs.Names as names
 use Rattle.aud_names.specs.Names.{Place}
-use Rattle.aud_typing.specs.Expressions.{Typed, string, Entity, no_entity, entity, element_of, task_of}
+use Rattle.aud_typing.specs.Expressions.{Typed, number, string, Entity, no_entity, entity, element_of, task_of}
 use Rattle.aud_check_bodies.specs.Assignments as assignments
+use Rattle.aud_check_bodies.specs.Accepts as accepts
 use Rattle.aud_check_bodies.specs.Calls as calls
+use Rattle.aud_check_bodies.specs.Delays as delays
+use Rattle.aud_check_bodies.specs.Selects as selects
 use Rattle.aud_check_bodies.specs.Handlers as handlers
 use Rattle.aud_check_bodies.specs.Statements as s
 use Rattle.aud_check_bodies.specs.Statements.{Around, nothing_around, TypedArm, TypedHandler}
-use Rattle.aud_check_bodies.proofs.Scoping.Names.{Known, IsCallable, MeaningScoped, VisibleScoped, Sees}
-use Rattle.aud_check_bodies.proofs.Scoping.Expressions.{TypedScoped, EntityScoped, value_scoped}
+use Rattle.aud_check_bodies.proofs.Scoping.Names.{Known, IsCallable, IsEntry, OwnerScoped, MeaningScoped, VisibleScoped, Sees}
+use Rattle.aud_check_bodies.proofs.Scoping.Expressions.{TypedScoped, EntityScoped, value_scoped, whole_scoped}
 use Rattle.std.proofs.Common.{◌≡◌, ℕ, true, List, [], ◌∷◌, ◌++◌, length, slice_index_or, Option, Some, None, refl, sym, ◌∙◌, subst}
 use Rattle.aud_typed.specs.Why.Scoped.{Scope, AllCreatedScoped, scope_behind, all_of_table, Elaborated, Entry, StatementScoped, PartScoped, HandlersScoped, BodyScoped}
 use Rattle.aud_names.specs.declared.names.Meaning.TheVariants.{ScalarType, Literal, Object, Array, Exception, Builtin, Procedure, TaskType, Task, TaskArray}
 use Rattle.aud_names.specs.Names.{Region, Place}
 use Rattle.aud_names.specs.Resolution as resolution
-use Rattle.aud_check_bodies.specs.Tables.{Tables, profile_of}
+use Rattle.aud_check_bodies.specs.Tables.{Tables, profile_of, entry_profile_of}
 use Rattle.aud_typing.specs.Expressions as e
 use Rattle.aud_check_bodies.specs.Statements.{Around, nothing_around, task_around}
 use Rattle.aud_check_bodies.proofs.Scoping.Names.{Known, IsCallable, VisibleScoped, Sees, Fits, regions_see, resolved_scoped}
-use Rattle.aud_check_bodies.proofs.Scoping.Expressions.{arguments_scoped}
+use Rattle.aud_check_bodies.proofs.Scoping.Expressions.{expression_scoped, arguments_scoped, prefix_scoped}
 use Rattle.aud_check_bodies.proofs.Scoping.Arguments.{all_passed_scoped}
 use Rattle.aud_check_bodies.proofs.Scoping.Units.{seen}
 
@@ -48,6 +55,14 @@ ArmScoped known scope a = BooleanScoped a.condition scope × StatementScoped kno
 
 abbrev pub HandlerScoped : Known → Scope → TypedHandler → Type 0
 HandlerScoped known scope h = AllThere known.plan h.choices × StatementScoped known.plan known.entries h.statements scope
+
+abbrev pub AcceptScoped : Known → Scope → accepts.TypedAccept → Type 0
+AcceptScoped known scope a = IsEntry known a.entry × DoingScoped known.plan known.entries a.doing scope
+
+abbrev pub AlternativeScoped : Known → Scope → selects.TypedAlternative → Type 0
+AlternativeScoped known scope (selects.accepts guard a behind) = BooleanScoped guard scope × AcceptScoped known scope a × PartScoped known.plan known.entries behind scope
+AlternativeScoped known scope (selects.delays guard e behind) = BooleanScoped guard scope × DelayScoped e scope × PartScoped known.plan known.entries behind scope
+AlternativeScoped known scope (selects.terminates guard) = BooleanScoped guard scope
 
 module _ (known : Known) (scope : Scope) where
   -- statements one after the other
@@ -105,6 +120,32 @@ module _ (known : Known) (scope : Scope) where
   procedure_called_scoped whole unit at None h i = (tt, refl)
   procedure_called_scoped whole unit at (Some xs) h i = ((h.entered, i.0 ∙ h.formals, h.outer whole, i.1, refl), refl)
 
+  -- of an entry
+
+  abbrev pub CalledScoped : calls.EntryCalled → Type 0
+  CalledScoped c = IsEntry known c.entry × TaskScoped c.task scope × ArgumentsScoped c.arguments scope
+
+  pub entry_call_scoped : (at : Pos) (form : tree.CallForm) (p q : tree.Part) (c : Option calls.EntryCalled) → FormScoped form scope → PartScoped known.plan known.entries p scope → PartScoped known.plan known.entries q scope → IfSome c CalledScoped → IsStatement known scope (calls.entry_call_of at form p q c)
+  entry_call_scoped at form p q None f h i c = (tt, refl)
+  entry_call_scoped at form p q (Some x) f h i c = (((c.0, c.1, c.2, f), h, i), refl)
+
+  task_scoped : (x : Owner) (t : Typed) → OwnerScoped x scope → TypedScoped scope t → IfSome (calls.called_task x t) (λ y. TaskScoped y scope)
+  task_scoped (Single v) t h i = h
+  task_scoped (Element a) (number k) h i = (h, i)
+  task_scoped (Element a) _ h i = tt
+
+  with_called : (n : ℕ) (t : Option tree.TaskName) (xs : Option (List tree.Argument)) (k : ℕ) → IsEntry known n → IfSome t (λ y. TaskScoped y scope) → IfSome xs (λ ys. (length ys ≡ k) × ArgumentsScoped ys scope) → IfSome (calls.called_with n t xs) CalledScoped
+  with_called n None xs k e h i = tt
+  with_called n (Some t) None k e h i = tt
+  with_called n (Some t) (Some xs) k e h i = (e, h, i.1)
+
+  -- alternatives
+  pub alternatives_scoped : (xs : List selects.TypedAlternative) → AllByRecursion (AlternativeScoped known scope) xs → AlternativesScoped known.plan known.entries (selects.alternatives_of xs) scope
+  alternatives_scoped [] h = tt
+  alternatives_scoped (selects.accepts guard a behind ∷ xs) h = (h.0.0, h.0.1.0, h.0.1.1, h.0.2, alternatives_scoped xs h.1)
+  alternatives_scoped (selects.delays guard e behind ∷ xs) h = (h.0.0, h.0.1, h.0.2, alternatives_scoped xs h.1)
+  alternatives_scoped (selects.terminates guard ∷ xs) h = (h.0, alternatives_scoped xs h.1)
+
   -- exceptions
 
   raised_scoped : (m : Option Meaning) (at : Pos) → VisibleScoped known scope m → IsStatement known scope (handlers.raised_by at (handlers.exception_meant m))
@@ -117,7 +158,7 @@ module _ (known : Known) (scope : Scope) where
 
   exceptions_there : (is : List Ident) (n : Place) → Sees known scope n → AllThere known.plan (handlers.exceptions_of is n)
   exceptions_there [] n sees = tt
-  exceptions_there (i ∷ is) n sees = meant_there (names.visible i.name n) _ (sees i.name) (exceptions_there is n sees)
+  exceptions_there (i ∷ is) n sees = meant_there (names.visible i.name n) _ (sees.visible i.name) (exceptions_there is n sees)
 
   pub choices_there : (x : plain.Choices) (n : Place) → Sees known scope n → AllThere known.plan (handlers.choices_of x n)
   choices_there (plain.exceptions first more) n sees = exceptions_there (first ∷ more) n sees
@@ -125,9 +166,18 @@ module _ (known : Known) (scope : Scope) where
 
   pub raise_scoped : (at : Pos) (x : Option Ident) (n : Place) → Sees known scope n → IsStatement known scope (handlers.typed_raise at x n)
   raise_scoped at None n sees = (tt, refl)
-  raise_scoped at (Some i) n sees = raised_scoped (names.visible i.name n) at (sees i.name)
+  raise_scoped at (Some i) n sees = raised_scoped (names.visible i.name n) at (sees.visible i.name)
 
 module _ (plan : Plan) (entries : List Entry) where
+  -- what a call of an entry calls
+  pub entry_called_scoped : (x : named_entry.Entry) (y : plain.Name) (n : Place) (t : Tables) (scope : Scope) → Sees (seen plan entries t) scope n → IsEntry (seen plan entries t) x.number × OwnerScoped x.owner scope → IfSome (calls.entry_called x y n t) (CalledScoped (seen plan entries t) scope)
+  entry_called_scoped x y n t scope sees h =
+      with_called (seen plan entries t) scope x.number _ _ _ h.0 (task_scoped (seen plan entries t) scope x.owner _ h.1 (index x.owner)) (all_passed_scoped (seen plan entries t) scope n sees (entry_profile_of x.number t) (resolution.last_args y))
+    where
+      index : (o : Owner) → TypedScoped scope (calls.index_checked o y n).typed
+      index (Single v) = tt
+      index (Element a) = prefix_scoped (seen plan entries t) scope n sees y
+
   -- a call
   pub call_scoped : (x : plain.Name) (n : Place) (t : Tables) (scope : Scope) → Fits (seen plan entries t) scope n → IsStatement (seen plan entries t) scope (calls.typed_call x n t)
   call_scoped x n t scope fits = by (resolution.resolved x n).denoted.meaning (resolved_scoped (seen plan entries t) scope n sees x)
@@ -141,8 +191,9 @@ module _ (plan : Plan) (entries : List Entry) where
       other : (m : Option Meaning) → IsStatement (seen plan entries t) scope (calls.called m at (e.checked_arguments x n).typed)
       other m = called_scoped (seen plan entries t) scope m at _ (arguments_scoped (seen plan entries t) scope n sees x)
 
-      by : (m : Option Meaning) → VisibleScoped (seen plan entries t) scope m → IsStatement (seen plan entries t) scope (calls.called_as (calls.unit_meant m) (record { meaning = m; at = (resolution.resolved x n).denoted.at }) x n t)
+      by : (m : Option Meaning) → VisibleScoped (seen plan entries t) scope m → IsStatement (seen plan entries t) scope (calls.called_as (calls.callee_meant m) (record { meaning = m; at = (resolution.resolved x n).denoted.at }) x n t)
       by (Some (Procedure unit)) h = procedure_called_scoped (seen plan entries t) scope refl unit at _ h (all_passed_scoped (seen plan entries t) scope n sees (profile_of unit t) (resolution.last_args x))
+      by (Some (meaning.Entry y)) h = entry_call_scoped (seen plan entries t) scope at tree.plainly tree.nothing tree.nothing (calls.entry_called y x n t) tt tt tt (entry_called_scoped y x n t scope sees h)
       by None h = other None
       by (Some (Builtin b)) h = other (Some (Builtin b))
       by (Some (ScalarType u)) h = other (Some (ScalarType u))
@@ -153,6 +204,23 @@ module _ (plan : Plan) (entries : List Entry) where
       by (Some (TaskType k)) h = other (Some (TaskType k))
       by (Some (Task v)) h = other (Some (Task v))
       by (Some (TaskArray a)) h = other (Some (TaskArray a))
+
+  -- a timed or a conditional call
+
+  selected_as_scoped : (m : Option Meaning) (x : plain.Name) (n : Place) (t : Tables) (scope : Scope) → Sees (seen plan entries t) scope n → VisibleScoped (seen plan entries t) scope m → IfSome (calls.selected_as (calls.callee_meant m) x n t) (CalledScoped (seen plan entries t) scope)
+  selected_as_scoped (Some (meaning.Entry y)) x n t scope sees h = entry_called_scoped y x n t scope sees h
+  selected_as_scoped _ x n t scope sees h = tt
+
+  pub selected_scoped : (x : plain.Name) (n : Place) (t : Tables) (scope : Scope) → Sees (seen plan entries t) scope n → IfSome (calls.selected_call x n t) (CalledScoped (seen plan entries t) scope)
+  selected_scoped x n t scope sees = selected_as_scoped (resolution.resolved x n).denoted.meaning x n t scope sees (resolved_scoped (seen plan entries t) scope n sees x)
+
+  pub delay_scoped : (x : plain.Delay) (n : Place) (t : Tables) (scope : Scope) → Sees (seen plan entries t) scope n → DelayScoped (delays.typed_delay x n) scope
+  delay_scoped (plain.delay_real at r) n t scope sees = tt
+  delay_scoped (plain.delay_duration at x) n t scope sees = whole_scoped (seen plan entries t) scope (e.checked_expression x n).typed (expression_scoped (seen plan entries t) scope n sees x)
+
+  pub form_scoped : (x : plain.Otherwise) (n : Place) (t : Tables) (scope : Scope) → Sees (seen plan entries t) scope n → FormScoped (selects.form_of x n) scope
+  form_scoped (plain.or_delay d ss) n t scope sees = delay_scoped d n t scope sees
+  form_scoped (plain.or_else ss) n t scope sees = tt
 
   -- a body whose region is entered
   pub body_with_scoped : (xs : List tree.Statement) (b : plain.Body) (x : s.TypedBody) (first : Elaborated) (shown : List tree.Named) (scope : Scope)

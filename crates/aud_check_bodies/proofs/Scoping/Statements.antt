@@ -8,14 +8,22 @@ use Rattle.aud_syntax.specs.declared.tree.Ident.{Ident}
 use Rattle.aud_syntax.specs.Plain as plain
 use Rattle.aud_typed.specs.Tree as tree
 use Rattle.aud_typed.specs.Tree.{Plan}
-use Rattle.aud_typed.specs.Why.Scoped.{Scope, none_yet, no_task, AllCreatedScoped, cells_of, all_of_table, table, Elaborated, Entry, entry_of, all_formals, AreOpen, StatementScoped, HandlersScoped, BodyScoped, UnitScoped}
-use Rattle.aud_names.specs.declared.names.Parameter.{Parameter}
+use Rattle.aud_typed.specs.Why.Scoped.{Scope, none_yet, no_task, AllCreatedScoped, cells_of, all_of_table, table, Elaborated, Entry, entry_of, all_formals, AreOpen, StatementScoped, PartScoped, HandlersScoped, BodyScoped, DoingScoped, UnitScoped}
+use Rattle.aud_names.specs.declared.names.NamedParameter.{NamedParameter}
 use Rattle.aud_names.specs.declared.awaited.Awaited.{Awaited}
+use Rattle.aud_names.specs.declared.entries.EntryName.{EntryName}
+use Rattle.aud_names.specs.declared.names.Meaning.{Meaning}
+use Rattle.aud_names.specs.declared.names.Meaning.TheVariants as meaning
 use Rattle.aud_names.specs.Names as names
 use Rattle.aud_names.specs.Names.{Region, Place}
 use Rattle.aud_names.specs.Resolution as resolution
 use Rattle.aud_names.specs.Rules as rules
-use Rattle.aud_check_bodies.specs.Tables.{Tables, Outcome, no_body, region_kept, unit_kept, with_unit, task_kept}
+use Rattle.aud_check_bodies.specs.Tables.{Tables, Outcome, no_body, with_region, region_kept, unit_kept, with_unit, task_kept}
+use Rattle.aud_check_bodies.specs.Accepts as accepts
+use Rattle.aud_check_bodies.specs.Calls as calls
+use Rattle.aud_check_bodies.specs.Delays as delays
+use Rattle.aud_check_bodies.specs.Entries as declared
+use Rattle.aud_check_bodies.specs.Selects as selects
 use Rattle.aud_check_bodies.specs.Declarations as d
 use Rattle.aud_check_bodies.specs.Tasks as tasks
 use Rattle.aud_typing.specs.Expressions as e
@@ -25,20 +33,20 @@ use Rattle.aud_check_bodies.specs.Assignments as assignments
 use Rattle.aud_check_bodies.specs.Handlers as handlers
 use Rattle.aud_check_bodies.specs.Statements as s
 use Rattle.aud_check_bodies.specs.Statements.{Around, nothing_around, task_around}
-use Rattle.aud_check_bodies.proofs.Scoping.Names.{Known, when, IsCallable, IsTaskType, RegionsScoped, Fits, regions_see, regions_more, open_further}
+use Rattle.aud_check_bodies.proofs.Scoping.Names.{Known, when, IsCallable, IsTaskType, IsEntry, EntriesThere, VisibleScoped, RegionsScoped, Fits, regions_see, regions_more, regions_when, open_further}
 use Rattle.aud_check_bodies.proofs.Scoping.Expressions.{denoting_scoped, expression_scoped, arguments_scoped, condition_scoped, maybe_condition_scoped, bound_of_scoped}
-use Rattle.aud_check_bodies.proofs.Scoping.Declarations.{elaborated, all_elaborated, both_none, RegionScoped, empty_scoped, InBody, DeclaredScoped, body_fits, body_regions, objects_scoped, objects_more, objects_awaited, arrays_scoped, arrays_more, arrays_awaited, exceptions_scoped, exceptions_cells, exceptions_awaited, procedure_scoped, procedure_elaborates, procedure_cells, procedure_awaited, formals_scoped, formals_awaited, task_scoped, task_more, task_waits, in_frame, in_loop, in_task}
-use Rattle.aud_check_bodies.proofs.Scoping.Tables.{further, region_grows, named_grows, unit_grows, task_grows, kept_grows, InPlan, declared_tables, first_in_plan, second_in_plan, named_table, kept_in_plan, entered_table, statement_grows, statements_grow, arms_grow, others_grow, body_grows, handlers_grow, entered_grows, declaration_grows, declarations_grow}
-use Rattle.aud_check_bodies.proofs.Scoping.Entries.{of_task, of_body, in_statement, in_arms, in_statements, in_others, in_body, in_handlers, in_entered, in_declaration, in_declarations, statement_counted, arms_counted, statements_counted, declaration_counted, declarations_counted, Ready, first_ready, second_ready}
+use Rattle.aud_check_bodies.proofs.Scoping.Declarations.{elaborated, all_elaborated, both_none, RegionScoped, empty_scoped, InBody, DeclaredScoped, body_fits, body_regions, objects_scoped, objects_more, objects_awaited, arrays_scoped, arrays_more, arrays_awaited, exceptions_scoped, exceptions_cells, exceptions_awaited, procedure_scoped, procedure_elaborates, procedure_cells, procedure_awaited, formals_scoped, formals_awaited, task_scoped, task_more, task_waits, in_frame, in_loop, in_task, task_frame, task_begins}
+use Rattle.aud_check_bodies.proofs.Scoping.Tables.{further, region_grows, named_grows, unit_grows, task_grows, kept_grows, entries_grow, entries_units, entries_tasks, entries_numbered, Numbered, InPlan, declared_tables, first_in_plan, second_in_plan, named_table, kept_in_plan, entered_table, statement_grows, statements_grow, accepts_grow, alternative_grows, alternatives_grow, otherwise_grows, arms_grow, others_grow, body_grows, handlers_grow, entered_grows, declaration_grows, declarations_grow}
+use Rattle.aud_check_bodies.proofs.Scoping.Entries.{of_task, of_body, in_statement, in_accept, in_doing, in_alternative, in_alternatives, in_otherwise, in_arms, in_statements, in_others, in_body, in_handlers, in_entered, in_declaration, in_declarations, statement_counted, accept_is_counted, alternative_counted, alternatives_counted, others_counted, arms_counted, statements_counted, declaration_counted, declarations_counted, Ready, first_ready, second_ready}
 use Rattle.aud_check_bodies.proofs.Scoping.Elaborations.{elaborates_append, part_elaborates, AllCreated, none_created, created_append, created_with, part_created, with_activation_elaborates, with_activation_creates}
 use Rattle.aud_check_bodies.proofs.Scoping.Units.{no_fault, found_unit, none_waits, Waits, Stay, seen, IsUnit, Units, none_between, units_join, fits_grown, body_grown, units_put, InPart, part_begins, part_ends, part_goes_on, part_with_task, part_with_body}
-use Rattle.aud_check_bodies.proofs.Scoping.Single.{call_scoped, body_with_scoped, IsStatement, ArmScoped, HandlerScoped, before_scoped, part_scoped, arms_then_scoped, handlers_of_scoped, assigned_scoped, choices_there, raise_scoped}
+use Rattle.aud_check_bodies.proofs.Scoping.Single.{call_scoped, entry_call_scoped, selected_scoped, delay_scoped, form_scoped, body_with_scoped, IsStatement, AcceptScoped, AlternativeScoped, ArmScoped, HandlerScoped, alternatives_scoped, before_scoped, part_scoped, arms_then_scoped, handlers_of_scoped, assigned_scoped, choices_there, raise_scoped}
 
 -- behind its declarations a body has all that its table names
 fits_table : (known : Known) (scope : Scope) (full : Elaborated) (n : Place) → InBody known scope full n → full.cells ≤ (names.innermost n).cells → Fits (when true known) (scope ++ all_of_table (regions.shown_names (names.innermost n).symbols) ∷ []) n
 fits_table known scope full n h all = subst (λ z. Fits (when true known) (scope ++ z ∷ []) n) (sym (all_elaborated known scope full (names.innermost n) h.innermost)) (body_fits known scope full n h all)
 
-names_of_profile : (t : Tables) (profile : List Parameter) → length t.profiles ≡ length t.units → slice_index_or (unit_kept profile t).profiles (length t.units) [] ≡ profile
+names_of_profile : (t : Tables) (profile : List NamedParameter) → length t.profiles ≡ length t.units → slice_index_or (unit_kept profile t).profiles (length t.units) [] ≡ profile
 names_of_profile t profile even = get_or_push t.profiles profile [] (length t.units) even
 
 counted_frame : (m k n : ℕ) → m ≡ 0 + n → k ≡ 0 + n → record { names = m; cells = k } ≡ all_formals n
@@ -353,7 +361,7 @@ module _ (plan : Plan) (entries : List Entry) where
   created_anywhere t u scope xs h = created_with (seen plan entries t) u.profiles scope xs h
 
   come_scoped : (t : Tables) (outer : Scope) (full : Elaborated) (name : List ℕ) (r : Region) → RegionScoped (seen plan entries t) outer full r → RegionScoped (seen plan entries t) outer full (names.body_come name r)
-  come_scoped t outer full name r h = record { level = h.level; symbols = h.symbols; named = h.named; celled = h.celled }
+  come_scoped t outer full name r h = record { level = h.level; symbols = h.symbols; named = h.named; celled = h.celled; entries = h.entries }
 
   joined_fine : (x : plain.Declaration) (xs : plain.Declarations) (n : Place) (t : Tables) (outer : Scope) (full : Elaborated) (base : ℕ)
       → ((m : Place) (u : Tables) → DeclarationFine x m u outer full base) → ((m : Place) (u : Tables) → DeclarationsFine xs m u outer full base) → DeclarationsFine (plain.more_declarations x xs) n t outer full base
@@ -445,12 +453,12 @@ module _ (plan : Plan) (entries : List Entry) where
       let behind_name : InBody (seen plan entries kept) outer full here = record { innermost = procedure_scoped (seen plan entries kept) outer full i number before callable heads.0 known_before.innermost; others = λ c e1 more. known_before.others c e1 (omega (arith, more, same_cells)) } in
       let around : (c : Bool) → RegionsScoped (when c (seen plan entries kept)) scope here.regions = λ c. body_regions (seen plan entries kept) outer full c here full behind_name enough (λ z. omega arith) in
       let level : (names.innermost here).level + 1 ≡ length scope = omega (arith, behind_name.innermost.level, length_push outer full) in
-      let formed = λ (all : Elaborated). formals_scoped (seen plan entries kept) scope all i fs (names.next_frame here) here.regions heads.1 (empty_scoped (seen plan entries kept) scope all _ level) in
+      let formed = λ (all : Elaborated). formals_scoped (seen plan entries kept) scope all (Some i) fs (names.body_frame here) here.regions heads.1 (empty_scoped (seen plan entries kept) scope all _ level) in
       let begun : elaborated formals.region ≡ all_formals (length formals.profile) = counted_frame formals.region.names formals.region.cells (length formals.profile) (formed full).1 (formed full).2 in
       let within : (all : Elaborated) → InBody (seen plan entries kept) scope all inner = λ all. record { innermost = (formed all).0; others = λ c e1 more. regions_more (when c (seen plan entries kept)) scope e1 here.regions (around c) } in
       let ready = second_ready entries t kept (own ∷ []) rest g0 (length_push t.units no_body) r in
-      let nothing_waits = formals_awaited i fs (names.next_frame here) here.regions in
-      let body = entering_fine false ds b nothing_around inner kept scope (f inner (region_kept kept) scope) (g nothing_around) within nothing_waits (record { regions = p.regions; exceptions = p.exceptions; tasks = p.tasks }) ready stated.0 in
+      let nothing_waits = formals_awaited (Some i) fs (names.body_frame here) here.regions in
+      let body = entering_fine false ds b nothing_around inner kept scope (f inner (region_kept kept) scope) (g nothing_around) within nothing_waits (record { regions = p.regions; exceptions = p.exceptions; entries = p.entries; tasks = p.tasks }) ready stated.0 in
       let whole : IsUnit plan entries unit.made number =
       subst (λ z. UnitScoped plan entries (tree.unit_plan unit.made) unit.made.body z) (sym first_entry) ((formed full).0.level, subst (λ z. BodyScoped plan entries o.made z (table plan (length t.regions)) scope) begun body.0) in
       let stays = part_goes_on plan entries base scope before.awaited (names.innermost here).awaited t (with_unit number unit.made o.tables) (procedure_awaited i number before) (units_put plan entries formals.profile t o.tables unit.made whole body.1) part in
@@ -458,36 +466,54 @@ module _ (plan : Plan) (entries : List Entry) where
 
   -- tasks
 
+  entries_in_plan : (t : Tables) (xs : List EntryName) (u : Tables) → length u.entries ≤ length plan.entries → Numbered xs u → EntriesThere (seen plan entries t) xs
+  entries_in_plan t [] u e h = tt
+  entries_in_plan t (x ∷ xs) u e h = (omega (arith, e, h.0), entries_in_plan t xs u e h.1)
+
   task_fine : (at : Pos) (is_type : Bool) (i : Ident) (x : Option plain.TaskDefinition) (n : Place) (t : Tables) (outer : Scope) (full : Elaborated) (base : ℕ) → DeclarationFine (plain.task at is_type i x) n t outer full base
   unfolding DeclarationFine
   task_fine at is_type i x n t outer full base = λ inside part enough p r q.
       let before = names.innermost n in
       let number = length t.tasks in
       let unit = length t.units in
+      let here : Place = tasks.place_named is_type i n t in
+      let xs = declared.entries_of x in
+      let start = declared.no_entries (names.body_frame here) t in
+      let es = declared.declared_entries number xs here.regions start in
+      let numbers = declared.entry_numbers es.names in
+      let u : Tables = task_kept numbers es.tables in
       let scope : Scope = outer ++ full ∷ [] in
-      let once = (both_none (rules.declared_once i.name i.at before.symbols) (rules.right_name_at_end i.name (tasks.name_behind x)) q).0 in
-      let planned = p.tasks number (omega (arith, length_push t.tasks unit)) in
-      let own_unit : (slice_index_or plan.tasks number no_task).unit ≡ unit = planned.1 ∙ get_or_push t.tasks unit 0 number refl in
+      let heads = both_none (rules.declared_once i.name i.at before.symbols ++ (tasks.task_entries_faults x here t ++ rules.right_name_at_end i.name (tasks.name_behind x))) [] q in
+      let once = (both_none (rules.declared_once i.name i.at before.symbols) (tasks.task_entries_faults x here t ++ rules.right_name_at_end i.name (tasks.name_behind x)) heads.0).0 in
+      let same_units : es.tables.units ≡ t.units = entries_units number xs here.regions start in
+      let same_tasks : es.tables.tasks ≡ t.tasks = entries_tasks number xs here.regions start in
+      let own_plan : ℕ → tree.TaskPlan = λ k. record { unit = k; entries = numbers } in
+      let listed : u.tasks ≡ t.tasks ++ own_plan (length es.tables.units) ∷ [] = ap (λ l. l ++ own_plan (length es.tables.units) ∷ []) same_tasks in
+      let planned = p.tasks number (omega (arith, ap length listed, length_push t.tasks (own_plan (length es.tables.units)))) in
+      let own_unit : (slice_index_or plan.tasks number no_task).unit ≡ unit =
+      ap (λ z. z.unit) (planned.1 ∙ ap (λ l. slice_index_or l number no_task) listed ∙ get_or_push t.tasks (own_plan (length es.tables.units)) no_task number refl) ∙ ap length same_units in
       let entry : entry_of entries unit ≡ of_task scope = ap (entry_of entries) (omega arith) ∙ r.each 0 (omega arith) in
       let there : unit < length entries = omega (arith, r.long) in
       let its_entry : entry_of entries (slice_index_or plan.tasks number no_task).unit ≡ of_task scope = ap (entry_of entries) own_unit ∙ entry in
-      let begins : (c : Bool) (e1 : Elaborated) → (c ≡ true → full.cells ≤ e1.cells) → IsTaskType (when c (seen plan entries (task_kept t))) (outer ++ e1 ∷ []) number = λ c e1 all. record {
+      let begins : (c : Bool) (e1 : Elaborated) → (c ≡ true → full.cells ≤ e1.cells) → IsTaskType (when c (seen plan entries u)) (outer ++ e1 ∷ []) number = λ c e1 all. record {
         declared = planned.0;
         entered = omega (arith, own_unit, there);
         alone = ap (λ z. z.formals) its_entry;
         outer = λ z. subst (λ y. AreOpen y.outer (outer ++ e1 ∷ [])) (sym its_entry) (open_further outer full e1 (all z));
       } in
-      let known_before = body_grown plan entries t (task_kept t) outer full n (task_grows t) inside in
-      let scoped = task_scoped (seen plan entries (task_kept t)) outer full at is_type i number unit n begins once known_before in
-      let a : Awaited = record { name = i.name; unit = unit; at = i.at } in
+      let grown = further {u = es.tables} (entries_grow number xs here.regions start) (task_grows numbers es.tables) in
+      let known_before = body_grown plan entries t u outer full n grown inside in
+      let all_there : EntriesThere (seen plan entries u) es.names = entries_in_plan t es.names es.tables p.entries (entries_numbered number xs here.regions start tt) in
+      let scoped = task_scoped (seen plan entries u) outer full at is_type i number unit es.names n begins all_there once known_before in
+      let a : Awaited = record { name = i.name; task_type = number; unit = unit; at = i.at } in
       let waits : (tasks.with_task is_type i number unit before).awaited ≡ before.awaited ++ a ∷ [] = task_waits is_type i number unit before once in
-      let stays = part_with_task plan entries base scope before.awaited a t refl there entry part in
-      (scoped, subst (λ l. InPart plan entries base scope l (task_kept t)) (sym waits) stays.0, stays.1)
+      let stays = part_with_task plan entries base scope before.awaited a t u (ap (λ l. l ++ no_body ∷ []) same_units) refl there entry part in
+      (scoped, subst (λ l. InPart plan entries base scope l u) (sym waits) stays.0, stays.1)
 
   task_body_fine : (at : Pos) (i : Ident) (ds : plain.Declarations) (b : plain.Body) (n : Place) (t : Tables) (outer : Scope) (full : Elaborated) (base : ℕ)
       → ((m : Place) (u : Tables) (scope : Scope) (all : Elaborated) (first : ℕ) → DeclarationsFine ds m u scope all first) → ((within : Around) (m : Place) (u : Tables) (inner : Scope) → BodyFine b within m u inner) → DeclarationFine (plain.task_body at i ds b) n t outer full base
   unfolding DeclarationFine
-  task_body_fine at i ds b n t outer full base f g = λ inside part enough p r q. by (tasks.unit_awaited i n) refl inside part enough p r q
+  task_body_fine at i ds b n t outer full base f g = λ inside part enough p r q. by (tasks.task_awaited i n) refl inside part enough p r q
     where
       scope : Scope
       scope = outer ++ full ∷ []
@@ -495,35 +521,38 @@ module _ (plan : Plan) (entries : List Entry) where
       here : Place
       here = tasks.place_behind i n
 
-      inner : Place
-      inner = names.task_place i.name here
+      inner : Option Awaited → Place
+      inner found = names.task_place i.name (tasks.body_task found t) here
 
       checked : Place → Tables → Outcome tree.UnitBody
       checked m u = s.checked_unit true at i.name ds b m u
 
-      whole : Option ℕ → Outcome d.Declared
+      whole : Option Awaited → Outcome d.Declared
       whole found = tasks.task_body_of i found checked here t
 
-      front : Option ℕ → List Entry
-      front found = of_body found scope ++ in_entered ds b task_around inner (tasks.body_tables found t) scope
+      front : Option Awaited → List Entry
+      front found = of_body found scope ++ in_entered ds b task_around (inner found) (tasks.body_tables found t) scope
 
-      by : (found : Option ℕ) → tasks.unit_awaited i n ≡ found → InBody (seen plan entries t) outer full n → InPart plan entries base scope (names.innermost n).awaited t → (names.innermost n).cells ≤ full.cells → InPlan plan t (whole found).tables → Ready entries t (front found) → (whole found).faults ≡ []
+      by : (found : Option Awaited) → tasks.task_awaited i n ≡ found → InBody (seen plan entries t) outer full n → InPart plan entries base scope (names.innermost n).awaited t → (names.innermost n).cells ≤ full.cells → InPlan plan t (whole found).tables → Ready entries t (front found) → (whole found).faults ≡ []
           → DeclaredScoped (seen plan entries (whole found).tables) outer full n (whole found).made × InPart plan entries base scope (names.innermost here).awaited (whole found).tables × Stay base t (whole found).tables
       by None e inside part enough p r q = absurd (no_fault _ _ q)
-      by (Some unit) e inside part enough p r q =
-          let own = found_unit (Waits plan entries base scope t) i.name (names.innermost n).awaited unit e part.2 in
-          let made = checked inner t in
-          let o = s.entered_body true ds b task_around inner t in
+      by (Some x) e inside part enough p r q =
+          let own = found_unit (Waits plan entries base scope t) i.name (names.innermost n).awaited x e part.2 in
+          let place : Place = inner (Some x) in
+          let made = checked place t in
+          let o = s.entered_body true ds b task_around place t in
           let stated = both_none o.faults (rules.right_name_at_end i.name (s.end_name b) ++ []) (both_none made.faults [] q).0 in
           let behind : InBody (seen plan entries t) outer full here = record { innermost = come_scoped t outer full i.name (names.innermost n) inside.innermost; others = inside.others } in
           let around : (c : Bool) → RegionsScoped (when c (seen plan entries t)) scope here.regions = λ c. body_regions (seen plan entries t) outer full c here full behind enough (λ z. omega arith) in
           let level : (names.innermost here).level + 1 ≡ length scope = omega (arith, behind.innermost.level, length_push outer full) in
-          let within : (all : Elaborated) → InBody (seen plan entries t) scope all inner = λ all. in_task (seen plan entries t) scope all i.name here level around in
-          let body = entering_fine true ds b task_around inner t scope (f inner (region_kept t) scope) (g task_around) within refl (record { regions = p.regions; exceptions = p.exceptions; tasks = p.tasks }) r stated.0 in
-          let unit_fine : IsUnit plan entries made.made unit =
-          subst (λ z. UnitScoped plan entries (tree.unit_plan made.made) made.made.body z) (sym own.3) (level, body.0) in
-          let stays = part_with_body plan entries base scope i.name (names.innermost n).awaited unit t o.tables made.made e body.1 unit_fine part in
-          ((body_grown plan entries t o.tables outer full here (entered_grows true ds b task_around inner t) behind, omega arith, refl, none_created (seen plan entries o.tables) scope), stays.0, stays.1)
+          let within : (all : Elaborated) → InBody (seen plan entries t) scope all place = λ all. in_task (seen plan entries t) scope all i.name x.task_type here level behind.innermost.entries around in
+          let body = entering_fine true ds b task_around place t scope (f place (region_kept t) scope) (g task_around) within (task_begins i.name x.task_type here) (record { regions = p.regions; exceptions = p.exceptions; entries = p.entries; tasks = p.tasks }) r stated.0 in
+          let begun = task_frame (seen plan entries t) scope full i.name x.task_type here level behind.innermost.entries in
+          let leveled : (names.innermost place).level ≡ length scope = (within full).innermost.level in
+          let unit_fine : IsUnit plan entries made.made x.unit =
+          subst (λ z. UnitScoped plan entries (tree.unit_plan made.made) made.made.body z) (sym own.3) (leveled, subst (λ z. BodyScoped plan entries o.made z (table plan (length t.regions)) scope) begun body.0) in
+          let stays = part_with_body plan entries base scope i.name (names.innermost n).awaited x t o.tables made.made e body.1 unit_fine part in
+          ((body_grown plan entries t o.tables outer full here (entered_grows true ds b task_around place t) behind, omega arith, refl, none_created (seen plan entries o.tables) scope), stays.0, stays.1)
 
   null_fine : (at : Pos) (around : Around) (n : Place) (t : Tables) (scope : Scope) → StatementFine (plain.null at) around n t scope
   unfolding StatementFine
@@ -545,21 +574,189 @@ module _ (plan : Plan) (entries : List Entry) where
   unfolding DeclarationsFine
   no_declarations_fine n t outer full base = λ inside part enough p r q. ((inside, omega arith, refl, none_created (seen plan entries t) (outer ++ full ∷ [])), part, λ k lt. refl)
 
-  accepting_fine : (x : plain.Accept) (around : Around) (n : Place) (t : Tables) (scope : Scope) → StatementFine (plain.accepting x) around n t scope
-  unfolding StatementFine
-  accepting_fine x around n t scope = λ fits p r q. ((tt, refl), none_between plan entries t)
+  AcceptFine : plain.Accept → Around → Place → Tables → Scope → Type 0
+  AcceptFine x around n t scope =
+      Fits (seen plan entries t) scope n → InPlan plan t (s.checked_accept x around n t).tables → Ready entries t (in_accept x around n t scope) → (s.checked_accept x around n t).faults ≡ []
+      → IsFine t (s.checked_accept x around n t).tables (AcceptScoped (seen plan entries t) scope (s.checked_accept x around n t).made)
+
+  -- in a region of formals, each with one cell
+  DoingFine : plain.Doing → Ident → Region → Around → Place → Tables → Scope → Type 0
+  DoingFine x i r around n t scope =
+      (k : ℕ) → RegionScoped (seen plan entries t) scope none_yet r → elaborated r ≡ all_formals k
+      → Fits (seen plan entries t) scope n → InPlan plan t (s.checked_doing x i r around n t).tables → Ready entries t (in_doing x r around n t scope) → (s.checked_doing x i r around n t).faults ≡ []
+      → IsFine t (s.checked_doing x i r around n t).tables (DoingScoped plan entries (s.checked_doing x i r around n t).made scope)
+
+  AlternativeFine : plain.Alternative → plain.MaybeExpression → Around → Place → Tables → Scope → Type 0
+  AlternativeFine x guard around n t scope =
+      Fits (seen plan entries t) scope n → InPlan plan t (s.checked_alternative x guard around n t).tables → Ready entries t (in_alternative x guard around n t scope) → (s.checked_alternative x guard around n t).faults ≡ []
+      → IsFine t (s.checked_alternative x guard around n t).tables (AlternativeScoped (seen plan entries t) scope (s.checked_alternative x guard around n t).made)
+
+  AlternativesFine : plain.Alternatives → Around → Place → Tables → Scope → Type 0
+  AlternativesFine x around n t scope =
+      Fits (seen plan entries t) scope n → InPlan plan t (s.checked_alternatives x around n t).tables → Ready entries t (in_alternatives x around n t scope) → (s.checked_alternatives x around n t).faults ≡ []
+      → IsFine t (s.checked_alternatives x around n t).tables (AllByRecursion (AlternativeScoped (seen plan entries t) scope) (s.checked_alternatives x around n t).made)
+
+  OtherwiseFine : plain.Otherwise → Around → Place → Tables → Scope → Type 0
+  OtherwiseFine x around n t scope =
+      Fits (seen plan entries t) scope n → InPlan plan t (s.checked_otherwise x around n t).tables → Ready entries t (in_otherwise x around n t scope) → (s.checked_otherwise x around n t).faults ≡ []
+      → IsFine t (s.checked_otherwise x around n t).tables (PartScoped plan entries (tree.part_of (s.checked_otherwise x around n t).made) scope)
+
+  accepting_fine : (x : plain.Accept) (around : Around) (n : Place) (t : Tables) (scope : Scope) → AcceptFine x around n t scope → StatementFine (plain.accepting x) around n t scope
+  unfolding StatementFine AcceptFine
+  accepting_fine x around n t scope f = λ fits p r q.
+      let one = f fits p r (both_none (s.checked_accept x around n t).faults [] q).0 in
+      ((one.0, refl), one.1)
+
+  -- an accept without faults is of an entry
+  accepted_there : (m : Option Meaning) (at : Pos) (given : List NamedParameter) (within : List ℕ) (n : Place) (t : Tables) (scope : Scope) → accepts.accepted_faults m at given within n t ≡ [] → VisibleScoped (seen plan entries t) scope m → IsEntry (seen plan entries t) (accepts.number_of (accepts.entry_meant m))
+  accepted_there None at given within n t scope q h = cc
+  accepted_there (Some (meaning.Entry x)) at given within n t scope q h = h.0
+  accepted_there (Some _) at given within n t scope q h = cc
+
+  accept_fine : (at : Pos) (i : Ident) (fs : List plain.Formal) (x : plain.Doing) (around : Around) (n : Place) (t : Tables) (scope : Scope) → ((r : Region) (within : Around) → DoingFine x i r within n t scope) → AcceptFine (plain.accept at i fs x) around n t scope
+  unfolding AcceptFine DoingFine
+  accept_fine at i fs x around n t scope f = λ fits p r q.
+      let known = seen plan entries t in
+      let sees = regions_see known scope n fits.regions in
+      let formals = accepts.accept_formals fs n in
+      let within = s.in_accept (accepts.accepted i n) around in
+      let o = s.checked_doing x i formals.region within n t in
+      let accepted = accepts.accepted_faults (names.visible i.name n) i.at formals.profile around.accepting n t in
+      let parts = both_none (formals.faults ++ accepted) (o.faults ++ []) q in
+      let heads = both_none formals.faults accepted parts.0 in
+      let formed = formals_scoped known scope none_yet None fs (names.next_frame n) n.regions heads.0 (in_frame known scope none_yet n refl fits).innermost in
+      let begun : elaborated formals.region ≡ all_formals (length formals.profile) = counted_frame formals.region.names formals.region.cells (length formals.profile) formed.1 formed.2 in
+      let doing = f formals.region within (length formals.profile) formed.0 begun fits p r (both_none o.faults [] parts.1).0 in
+      ((accepted_there (names.visible i.name n) i.at formals.profile around.accepting n t scope heads.1 (sees.visible i.name), doing.0), doing.1)
+
+  without_do_fine : (i : Ident) (region : Region) (around : Around) (n : Place) (t : Tables) (scope : Scope) → DoingFine plain.without_do i region around n t scope
+  unfolding DoingFine
+  without_do_fine i region around n t scope = λ k h e fits p r q. (tt, none_between plan entries t)
+
+  with_do_fine : (b : plain.Body) (i : Ident) (region : Region) (around : Around) (n : Place) (t : Tables) (scope : Scope) → ((m : Place) (u : Tables) (inner : Scope) → BodyFine b around m u inner) → DoingFine (plain.with_do b) i region around n t scope
+  unfolding DoingFine BodyFine
+  with_do_fine b i region around n t scope f = λ k h e fits p r q.
+      let known = seen plan entries t in
+      let place : Place = names.place_in region n.regions in
+      let shown = regions.shown_names region.symbols in
+      let tables : Tables = with_region shown t in
+      let o = s.checked_body b around place tables in
+      let q1 = (both_none o.faults (rules.right_name_at_end i.name (s.end_name b) ++ []) q).0 in
+      let grown = body_grows b around place tables in
+      let entered : table plan (length t.regions) ≡ shown = entered_table plan shown t o.tables grown p in
+      let inside : InBody known scope none_yet place = record { innermost = h; others = λ c e1 more. regions_more (when c known) scope e1 n.regions (regions_when known scope refl c n.regions fits.regions) } in
+      let fit = fits_table known scope none_yet place inside (omega arith) in
+      let inner : Scope = scope ++ all_of_table shown ∷ [] in
+      let body = f place tables inner fit (second_in_plan plan t tables o.tables (region_grows shown t) p) (record { even = r.even; long = r.long; each = r.each }) q1 in
+      let all : all_formals k ≡ all_of_table shown = sym e ∙ sym (all_elaborated known scope none_yet region h) in
+      let doing : BodyScoped plan entries (s.body_with [] b o.made) (all_formals k) (table plan (length t.regions)) scope =
+      subst (λ z. BodyScoped plan entries (s.body_with [] b o.made) (all_formals k) z scope) (sym entered) (body_with_scoped plan entries [] b o.made (all_formals k) shown scope tt (ap (λ z. scope ++ z ∷ []) all) tt body.0.0 body.0.1) in
+      ((k, doing), body.1)
 
   delaying_fine : (x : plain.Delay) (around : Around) (n : Place) (t : Tables) (scope : Scope) → StatementFine (plain.delaying x) around n t scope
   unfolding StatementFine
-  delaying_fine x around n t scope = λ fits p r q. ((tt, refl), none_between plan entries t)
+  delaying_fine x around n t scope = λ fits p r q. ((delay_scoped plan entries x n t scope (regions_see (seen plan entries t) scope n fits.regions), refl), none_between plan entries t)
 
-  select_accept_fine : (at : Pos) (e : plain.MaybeExpression) (x : plain.Alternative) (xs : plain.Alternatives) (otherwise : plain.MoreStatements) (around : Around) (n : Place) (t : Tables) (scope : Scope) → StatementFine (plain.select_accept at e x xs otherwise) around n t scope
-  unfolding StatementFine
-  select_accept_fine at e x xs otherwise around n t scope = λ fits p r q. ((tt, refl), none_between plan entries t)
+  accept_alternative_fine : (x : plain.Accept) (ss : plain.MoreStatements) (guard : plain.MaybeExpression) (around : Around) (n : Place) (t : Tables) (scope : Scope)
+      → ((u : Tables) → AcceptFine x around n u scope) → ((u : Tables) → OthersFine ss around n u scope) → AlternativeFine (plain.accept_alternative x ss) guard around n t scope
+  unfolding AcceptFine OthersFine AlternativeFine
+  accept_alternative_fine x ss guard around n t scope f g = λ fits p r q.
+      let first = s.checked_accept x around n t in
+      let second = s.checked_others ss around n first.tables in
+      let guarded = conditions.maybe_condition_faults guard n in
+      let parts = both_none first.faults (second.faults ++ []) (both_none guarded (first.faults ++ (second.faults ++ [])) q).1 in
+      let g1 = accepts_grow x around n t in
+      let g2 = others_grow ss around n first.tables in
+      let e1 = in_accept x around n t scope in
+      let e2 = in_others ss around n first.tables scope in
+      let one = f t fits (first_in_plan plan t first.tables second.tables g2 p) (first_ready entries t e1 e2 r) parts.0 in
+      let two = g first.tables (fits_grown plan entries t first.tables scope n g1 fits) (second_in_plan plan t first.tables second.tables g1 p) (second_ready entries t first.tables e1 e2 g1 (accept_is_counted x around n t scope) r) (both_none second.faults [] parts.1).0 in
+      ((maybe_condition_scoped (seen plan entries t) scope n (regions_see (seen plan entries t) scope n fits.regions) guard, one.0, part_scoped (seen plan entries t) scope second.made two.0), units_join plan entries t first.tables second.tables one.1 two.1)
 
-  select_call_fine : (at : Pos) (x : plain.Name) (behind : plain.MoreStatements) (otherwise : plain.Otherwise) (around : Around) (n : Place) (t : Tables) (scope : Scope) → StatementFine (plain.select_call at x behind otherwise) around n t scope
-  unfolding StatementFine
-  select_call_fine at x behind otherwise around n t scope = λ fits p r q. ((tt, refl), none_between plan entries t)
+  delay_alternative_fine : (x : plain.Delay) (ss : plain.MoreStatements) (guard : plain.MaybeExpression) (around : Around) (n : Place) (t : Tables) (scope : Scope) → OthersFine ss around n t scope → AlternativeFine (plain.delay_alternative x ss) guard around n t scope
+  unfolding OthersFine AlternativeFine
+  delay_alternative_fine x ss guard around n t scope f = λ fits p r q.
+      let sees = regions_see (seen plan entries t) scope n fits.regions in
+      let o = s.checked_others ss around n t in
+      let heads = conditions.maybe_condition_faults guard n ++ delays.delay_faults x n in
+      let one = f fits p r (both_none o.faults [] (both_none heads (o.faults ++ []) q).1).0 in
+      ((maybe_condition_scoped (seen plan entries t) scope n sees guard, delay_scoped plan entries x n t scope sees, part_scoped (seen plan entries t) scope o.made one.0), one.1)
+
+  terminate_fine : (guard : plain.MaybeExpression) (around : Around) (n : Place) (t : Tables) (scope : Scope) → AlternativeFine plain.terminate_alternative guard around n t scope
+  unfolding AlternativeFine
+  terminate_fine guard around n t scope = λ fits p r q. (maybe_condition_scoped (seen plan entries t) scope n (regions_see (seen plan entries t) scope n fits.regions) guard, none_between plan entries t)
+
+  no_alternatives_fine : (around : Around) (n : Place) (t : Tables) (scope : Scope) → AlternativesFine plain.no_alternatives around n t scope
+  unfolding AlternativesFine
+  no_alternatives_fine around n t scope = λ fits p r q. (tt, none_between plan entries t)
+
+  more_alternatives_fine : (guard : plain.MaybeExpression) (x : plain.Alternative) (xs : plain.Alternatives) (around : Around) (n : Place) (t : Tables) (scope : Scope)
+      → ((u : Tables) → AlternativeFine x guard around n u scope) → ((u : Tables) → AlternativesFine xs around n u scope) → AlternativesFine (plain.more_alternatives guard x xs) around n t scope
+  unfolding AlternativeFine AlternativesFine
+  more_alternatives_fine guard x xs around n t scope f g = λ fits p r q.
+      let first = s.checked_alternative x guard around n t in
+      let second = s.checked_alternatives xs around n first.tables in
+      let parts = both_none first.faults (second.faults ++ []) q in
+      let g1 = alternative_grows x guard around n t in
+      let g2 = alternatives_grow xs around n first.tables in
+      let e1 = in_alternative x guard around n t scope in
+      let e2 = in_alternatives xs around n first.tables scope in
+      let one = f t fits (first_in_plan plan t first.tables second.tables g2 p) (first_ready entries t e1 e2 r) parts.0 in
+      let two = g first.tables (fits_grown plan entries t first.tables scope n g1 fits) (second_in_plan plan t first.tables second.tables g1 p) (second_ready entries t first.tables e1 e2 g1 (alternative_counted x guard around n t scope) r) (both_none second.faults [] parts.1).0 in
+      ((one.0, two.0), units_join plan entries t first.tables second.tables one.1 two.1)
+
+  select_accept_fine : (at : Pos) (guard : plain.MaybeExpression) (x : plain.Alternative) (xs : plain.Alternatives) (otherwise : plain.MoreStatements) (around : Around) (n : Place) (t : Tables) (scope : Scope)
+      → ((u : Tables) → AlternativeFine x guard around n u scope) → ((u : Tables) → AlternativesFine xs around n u scope) → ((u : Tables) → OthersFine otherwise around n u scope) → StatementFine (plain.select_accept at guard x xs otherwise) around n t scope
+  unfolding StatementFine AlternativeFine AlternativesFine OthersFine
+  select_accept_fine at guard x xs otherwise around n t scope f g h = λ fits p r q.
+      let first = s.checked_alternative x guard around n t in
+      let second = s.checked_alternatives xs around n first.tables in
+      let third = s.checked_others otherwise around n second.tables in
+      let parts = both_none first.faults (second.faults ++ (third.faults ++ [])) q in
+      let behind_first = both_none second.faults (third.faults ++ []) parts.1 in
+      let q3 = (both_none third.faults [] behind_first.1).0 in
+      let g1 = alternative_grows x guard around n t in
+      let g2 = alternatives_grow xs around n first.tables in
+      let g3 = others_grow otherwise around n second.tables in
+      let e1 = in_alternative x guard around n t scope in
+      let e2 = in_alternatives xs around n first.tables scope in
+      let e3 = in_others otherwise around n second.tables scope in
+      let p2 = second_in_plan plan t first.tables third.tables g1 p in
+      let r2 = second_ready entries t first.tables e1 (e2 ++ e3) g1 (alternative_counted x guard around n t scope) r in
+      let fits2 = fits_grown plan entries t first.tables scope n g1 fits in
+      let one = f t fits (first_in_plan plan t first.tables third.tables (further {u = second.tables} g2 g3) p) (first_ready entries t e1 (e2 ++ e3) r) parts.0 in
+      let two = g first.tables fits2 (first_in_plan plan first.tables second.tables third.tables g3 p2) (first_ready entries first.tables e2 e3 r2) behind_first.0 in
+      let three = h second.tables (fits_grown plan entries first.tables second.tables scope n g2 fits2) (second_in_plan plan first.tables second.tables third.tables g2 p2) (second_ready entries first.tables second.tables e2 e3 g2 (alternatives_counted xs around n first.tables scope) r2) q3 in (
+        ((alternatives_scoped (seen plan entries t) scope (first.made ∷ second.made) (one.0, two.0), part_scoped (seen plan entries t) scope third.made three.0), refl),
+        units_join plan entries t first.tables third.tables one.1 (units_join plan entries first.tables second.tables third.tables two.1 three.1),
+      )
+
+  or_delay_fine : (x : plain.Delay) (ss : plain.MoreStatements) (around : Around) (n : Place) (t : Tables) (scope : Scope) → OthersFine ss around n t scope → OtherwiseFine (plain.or_delay x ss) around n t scope
+  unfolding OthersFine OtherwiseFine
+  or_delay_fine x ss around n t scope f = λ fits p r q. let one = f fits p r q in (part_scoped (seen plan entries t) scope (s.checked_others ss around n t).made one.0, one.1)
+
+  or_else_fine : (ss : plain.Statements) (around : Around) (n : Place) (t : Tables) (scope : Scope) → StatementsFine ss around n t scope → OtherwiseFine (plain.or_else ss) around n t scope
+  unfolding StatementsFine OtherwiseFine
+  or_else_fine ss around n t scope f = λ fits p r q. f fits p r (both_none (s.checked_statements ss around n t).faults [] q).0
+
+  select_call_fine : (at : Pos) (x : plain.Name) (behind : plain.MoreStatements) (otherwise : plain.Otherwise) (around : Around) (n : Place) (t : Tables) (scope : Scope)
+      → ((u : Tables) → OthersFine behind around n u scope) → ((u : Tables) → OtherwiseFine otherwise around n u scope) → StatementFine (plain.select_call at x behind otherwise) around n t scope
+  unfolding StatementFine OthersFine OtherwiseFine
+  select_call_fine at x behind otherwise around n t scope f g = λ fits p r q.
+      let sees = regions_see (seen plan entries t) scope n fits.regions in
+      let first = s.checked_others behind around n t in
+      let second = s.checked_otherwise otherwise around n first.tables in
+      let heads = selects.form_faults otherwise n ++ calls.selected_call_faults x n t in
+      let parts = both_none first.faults (second.faults ++ []) (both_none heads (first.faults ++ (second.faults ++ [])) q).1 in
+      let g1 = others_grow behind around n t in
+      let g2 = otherwise_grows otherwise around n first.tables in
+      let e1 = in_others behind around n t scope in
+      let e2 = in_otherwise otherwise around n first.tables scope in
+      let one = f t fits (first_in_plan plan t first.tables second.tables g2 p) (first_ready entries t e1 e2 r) parts.0 in
+      let two = g first.tables (fits_grown plan entries t first.tables scope n g1 fits) (second_in_plan plan t first.tables second.tables g1 p) (second_ready entries t first.tables e1 e2 g1 (others_counted behind around n t scope) r) (both_none second.faults [] parts.1).0 in (
+        entry_call_scoped (seen plan entries t) scope at (selects.form_of otherwise n) (tree.part_of first.made) (tree.part_of second.made) (calls.selected_call x n t) (form_scoped plan entries otherwise n t scope sees) (part_scoped (seen plan entries t) scope first.made one.0) two.0 (selected_scoped plan entries x n t scope sees),
+        units_join plan entries t first.tables second.tables one.1 two.1,
+      )
 
   abort_fine : (at : Pos) (x : plain.Name) (xs : plain.Names) (around : Around) (n : Place) (t : Tables) (scope : Scope) → StatementFine (plain.abort at x xs) around n t scope
   unfolding StatementFine
@@ -590,12 +787,32 @@ module _ (plan : Plan) (entries : List Entry) where
     fine_statement (plain.block label at declare ds b) around n t scope = block_fine label at declare ds b around n t scope (λ m u outer full base. fine_declarations ds m u outer full base) (λ within m u inner. fine_body b within m u inner)
     fine_statement (plain.return at x) around n t scope = return_fine at x around n t scope
     fine_statement (plain.raise at name) around n t scope = raise_fine at name around n t scope
-    fine_statement (plain.accepting x) around n t scope = accepting_fine x around n t scope
+    fine_statement (plain.accepting x) around n t scope = accepting_fine x around n t scope (fine_accept x around n t scope)
     fine_statement (plain.delaying x) around n t scope = delaying_fine x around n t scope
-    fine_statement (plain.select_accept at e x xs otherwise) around n t scope = select_accept_fine at e x xs otherwise around n t scope
-    fine_statement (plain.select_call at x behind otherwise) around n t scope = select_call_fine at x behind otherwise around n t scope
+    fine_statement (plain.select_accept at guard x xs otherwise) around n t scope = select_accept_fine at guard x xs otherwise around n t scope (λ u. fine_alternative x guard around n u scope) (λ u. fine_alternatives xs around n u scope) (λ u. fine_others otherwise around n u scope)
+    fine_statement (plain.select_call at x behind otherwise) around n t scope = select_call_fine at x behind otherwise around n t scope (λ u. fine_others behind around n u scope) (λ u. fine_otherwise otherwise around n u scope)
     fine_statement (plain.abort at x xs) around n t scope = abort_fine at x xs around n t scope
     fine_statement (plain.requeue at x with_abort) around n t scope = requeue_fine at x with_abort around n t scope
+
+    fine_accept : (x : plain.Accept) (around : Around) (n : Place) (t : Tables) (scope : Scope) → AcceptFine x around n t scope
+    fine_accept (plain.accept at i fs x) around n t scope = accept_fine at i fs x around n t scope (λ r within. fine_doing x i r within n t scope)
+
+    fine_doing : (x : plain.Doing) (i : Ident) (r : Region) (around : Around) (n : Place) (t : Tables) (scope : Scope) → DoingFine x i r around n t scope
+    fine_doing plain.without_do i r around n t scope = without_do_fine i r around n t scope
+    fine_doing (plain.with_do b) i r around n t scope = with_do_fine b i r around n t scope (λ m u inner. fine_body b around m u inner)
+
+    fine_alternative : (x : plain.Alternative) (guard : plain.MaybeExpression) (around : Around) (n : Place) (t : Tables) (scope : Scope) → AlternativeFine x guard around n t scope
+    fine_alternative (plain.accept_alternative x ss) guard around n t scope = accept_alternative_fine x ss guard around n t scope (λ u. fine_accept x around n u scope) (λ u. fine_others ss around n u scope)
+    fine_alternative (plain.delay_alternative x ss) guard around n t scope = delay_alternative_fine x ss guard around n t scope (fine_others ss around n t scope)
+    fine_alternative plain.terminate_alternative guard around n t scope = terminate_fine guard around n t scope
+
+    fine_alternatives : (x : plain.Alternatives) (around : Around) (n : Place) (t : Tables) (scope : Scope) → AlternativesFine x around n t scope
+    fine_alternatives plain.no_alternatives around n t scope = no_alternatives_fine around n t scope
+    fine_alternatives (plain.more_alternatives guard x xs) around n t scope = more_alternatives_fine guard x xs around n t scope (λ u. fine_alternative x guard around n u scope) (λ u. fine_alternatives xs around n u scope)
+
+    fine_otherwise : (x : plain.Otherwise) (around : Around) (n : Place) (t : Tables) (scope : Scope) → OtherwiseFine x around n t scope
+    fine_otherwise (plain.or_delay x ss) around n t scope = or_delay_fine x ss around n t scope (fine_others ss around n t scope)
+    fine_otherwise (plain.or_else ss) around n t scope = or_else_fine ss around n t scope (fine_statements ss around n t scope)
 
     fine_arms : (x : plain.Arms) (around : Around) (n : Place) (t : Tables) (scope : Scope) → ArmsFine x around n t scope
     fine_arms plain.no_arms around n t scope = no_arms_fine around n t scope

@@ -1,6 +1,7 @@
 -- Tables only grow: what stands there before a construct stays where it is, whatever that enters.
 use Rattle.std.proofs.Common.{◌≡◌, ◌+◌, ◌-◌, ◌<◌, ◌≤◌, ℕ, Bool, true, false, Option, Some, None, List, [], ◌∷◌, ◌++◌, length, slice_index_or, append_assoc, append-nil, arith, refl, sym, ◌∙◌, ap}
 use Rattle.std.specs.Prelude.{slice_set}
+use Rattle.std.specs.List.{AllByRecursion}
 use Rattle.std.proofs.lemmas.List.{length_push, length-append, length-set, get_or-set_same, get_or-set_other, get_or_append_left, get_or_push, set-append_right}
 use Rattle.aud_text.specs.declared.place.Pos.{Pos}
 use Rattle.aud_syntax.specs.declared.tree.Bound.{Bound}
@@ -9,30 +10,36 @@ use Rattle.aud_syntax.specs.Plain as plain
 use Rattle.aud_typed.specs.Tree as tree
 use Rattle.aud_typed.specs.Tree.{Plan}
 use Rattle.aud_typed.specs.Why.Scoped.{table, no_task}
-use Rattle.aud_names.specs.declared.names.Parameter.{Parameter}
+use Rattle.aud_names.specs.declared.names.NamedParameter.{NamedParameter}
+use Rattle.aud_names.specs.declared.awaited.Awaited.{Awaited}
+use Rattle.aud_names.specs.declared.entries.EntryName.{EntryName}
 use Rattle.aud_names.specs.Names as names
-use Rattle.aud_names.specs.Names.{Place}
-use Rattle.aud_check_bodies.specs.Tables.{Tables, Outcome, no_body, with_region, region_kept, region_named, unit_kept, with_unit, task_kept}
+use Rattle.aud_names.specs.Names.{Region, Place}
+use Rattle.aud_check_bodies.specs.Tables.{Tables, Outcome, no_body, with_region, region_kept, region_named, unit_kept, with_unit, task_kept, entry_kept}
+use Rattle.aud_check_bodies.specs.Accepts as accepts
+use Rattle.aud_check_bodies.specs.Entries as entries
 use Rattle.aud_check_bodies.specs.Tasks as tasks
 use Rattle.aud_check_bodies.specs.Declarations as d
 use Rattle.aud_check_bodies.specs.Regions as regions
 use Rattle.aud_check_bodies.specs.Statements as s
 use Rattle.aud_check_bodies.specs.Statements.{Around, nothing_around, task_around}
+use Rattle.aud_check_bodies.proofs.Scoping.Names.{either}
 use Rattle.aud_check_bodies.proofs.Scoping.Declarations.{exceptions_more}
 
 pub record Grows (t u : Tables) : Type 0 where
   pub more_regions : List (List tree.Named)
-  pub more_profiles : List (List Parameter)
-  pub more_tasks : List ℕ
+  pub more_profiles : List (List NamedParameter)
+  pub more_tasks : List tree.TaskPlan
   pub regions : u.regions ≡ t.regions ++ more_regions
   pub profiles : u.profiles ≡ t.profiles ++ more_profiles
   pub tasks : u.tasks ≡ t.tasks ++ more_tasks
   -- each unit has a profile
   pub even : length u.units ≡ length t.units + length more_profiles
   pub exceptions : length t.exceptions ≤ length u.exceptions
+  pub entries : length t.entries ≤ length u.entries
 
 pub same : (t : Tables) → Grows t t
-same t = record { more_regions = []; more_profiles = []; more_tasks = []; regions = sym (append-nil t.regions); profiles = sym (append-nil t.profiles); tasks = sym (append-nil t.tasks); even = omega arith; exceptions = omega arith }
+same t = record { more_regions = []; more_profiles = []; more_tasks = []; regions = sym (append-nil t.regions); profiles = sym (append-nil t.profiles); tasks = sym (append-nil t.tasks); even = omega arith; exceptions = omega arith; entries = omega arith }
 
 pub further : {t u v : Tables} → Grows t u → Grows u v → Grows t v
 further {t} {u} {v} g h = record {
@@ -44,10 +51,11 @@ further {t} {u} {v} g h = record {
   tasks = h.tasks ∙ ap (λ z. z ++ h.more_tasks) g.tasks ∙ append_assoc t.tasks g.more_tasks h.more_tasks;
   even = omega (arith, g.even, h.even, length-append g.more_profiles h.more_profiles);
   exceptions = omega (arith, g.exceptions, h.exceptions);
+  entries = omega (arith, g.entries, h.entries);
 }
 
 pub region_grows : (shown : List tree.Named) (t : Tables) → Grows t (with_region shown t)
-region_grows shown t = record { more_regions = shown ∷ []; more_profiles = []; more_tasks = []; regions = refl; profiles = sym (append-nil t.profiles); tasks = sym (append-nil t.tasks); even = omega arith; exceptions = omega arith }
+region_grows shown t = record { more_regions = shown ∷ []; more_profiles = []; more_tasks = []; regions = refl; profiles = sym (append-nil t.profiles); tasks = sym (append-nil t.tasks); even = omega arith; exceptions = omega arith; entries = omega arith }
 
 -- a place that was kept is behind what stood there
 set_behind : {X : Type 0} (xs : List X) (y : X) (ys zs : List X) (z : X) → zs ≡ (xs ++ y ∷ []) ++ ys → slice_set zs (length xs) z ≡ xs ++ slice_set (y ∷ ys) (length xs - length xs) z
@@ -63,6 +71,7 @@ named_grows shown t u g = record {
   tasks = g.tasks;
   even = g.even;
   exceptions = g.exceptions;
+  entries = g.entries;
 }
 
 -- wherever a unit is put
@@ -76,23 +85,80 @@ put_grows number unit t u g = record {
   tasks = g.tasks;
   even = omega (arith, g.even, length-set u.units number unit);
   exceptions = g.exceptions;
+  entries = g.entries;
 }
 
-pub unit_grows : (profile : List Parameter) (t : Tables) → Grows t (unit_kept profile t)
-unit_grows profile t = record { more_regions = []; more_profiles = profile ∷ []; more_tasks = []; regions = sym (append-nil t.regions); profiles = refl; tasks = sym (append-nil t.tasks); even = omega (arith, length_push t.units no_body); exceptions = omega arith }
+pub unit_grows : (profile : List NamedParameter) (t : Tables) → Grows t (unit_kept profile t)
+unit_grows profile t = record { more_regions = []; more_profiles = profile ∷ []; more_tasks = []; regions = sym (append-nil t.regions); profiles = refl; tasks = sym (append-nil t.tasks); even = omega (arith, length_push t.units no_body); exceptions = omega arith; entries = omega arith }
 
-pub task_grows : (t : Tables) → Grows t (task_kept t)
-task_grows t = record { more_regions = []; more_profiles = [] ∷ []; more_tasks = length t.units ∷ []; regions = sym (append-nil t.regions); profiles = refl; tasks = refl; even = omega (arith, length_push t.units no_body); exceptions = omega arith }
+pub task_grows : (numbers : List ℕ) (t : Tables) → Grows t (task_kept numbers t)
+task_grows numbers t = record { more_regions = []; more_profiles = [] ∷ []; more_tasks = (record { unit = length t.units; entries = numbers }) ∷ []; regions = sym (append-nil t.regions); profiles = refl; tasks = refl; even = omega (arith, length_push t.units no_body); exceptions = omega arith; entries = omega arith }
 
-pub own_grows : (unit : Option ℕ) (t : Tables) → Grows t (tasks.body_tables unit t)
-own_grows None t = task_grows t
-own_grows (Some unit) t = same t
+pub own_grows : (found : Option Awaited) (t : Tables) → Grows t (tasks.body_tables found t)
+own_grows None t = task_grows [] t
+own_grows (Some a) t = same t
+
+-- entries are entered with their names alone
+
+pub entry_grows : (name : List ℕ) (profile : List NamedParameter) (t : Tables) → Grows t (entry_kept name profile t)
+entry_grows name profile t = record { more_regions = []; more_profiles = []; more_tasks = []; regions = sym (append-nil t.regions); profiles = sym (append-nil t.profiles); tasks = sym (append-nil t.tasks); even = omega arith; exceptions = omega arith; entries = omega (arith, length_push t.entries name) }
+
+one_entry_grows : (number : ℕ) (x : plain.EntryDeclaration) (outer : List Region) (es : entries.Entries) → Grows es.tables (entries.one_entry number x outer es).tables
+one_entry_grows number x outer es =
+    let profile = (entries.entry_formals x es.own outer).profile in
+    either (λ (z : entries.Entries). Grows es.tables z.tables) (names.is_declared x.name.name es.own.symbols) es (entries.entry_added number x.name.name profile es) (same es.tables) (entry_grows x.name.name profile es.tables)
+
+pub entries_grow : (number : ℕ) (xs : List plain.EntryDeclaration) (outer : List Region) (es : entries.Entries) → Grows es.tables (entries.declared_entries number xs outer es).tables
+entries_grow number [] outer es = same es.tables
+entries_grow number (x ∷ xs) outer es = let one = entries.one_entry number x outer es in further {u = one.tables} (one_entry_grows number x outer es) (entries_grow number xs outer one)
+
+-- the units and tasks stay what they are
+
+one_entry_units : (number : ℕ) (x : plain.EntryDeclaration) (outer : List Region) (es : entries.Entries) → (entries.one_entry number x outer es).tables.units ≡ es.tables.units
+one_entry_units number x outer es =
+    either (λ (z : entries.Entries). z.tables.units ≡ es.tables.units) (names.is_declared x.name.name es.own.symbols) es (entries.entry_added number x.name.name (entries.entry_formals x es.own outer).profile es) refl refl
+
+pub entries_units : (number : ℕ) (xs : List plain.EntryDeclaration) (outer : List Region) (es : entries.Entries) → (entries.declared_entries number xs outer es).tables.units ≡ es.tables.units
+entries_units number [] outer es = refl
+entries_units number (x ∷ xs) outer es = entries_units number xs outer (entries.one_entry number x outer es) ∙ one_entry_units number x outer es
+
+one_entry_tasks : (number : ℕ) (x : plain.EntryDeclaration) (outer : List Region) (es : entries.Entries) → (entries.one_entry number x outer es).tables.tasks ≡ es.tables.tasks
+one_entry_tasks number x outer es =
+    either (λ (z : entries.Entries). z.tables.tasks ≡ es.tables.tasks) (names.is_declared x.name.name es.own.symbols) es (entries.entry_added number x.name.name (entries.entry_formals x es.own outer).profile es) refl refl
+
+pub entries_tasks : (number : ℕ) (xs : List plain.EntryDeclaration) (outer : List Region) (es : entries.Entries) → (entries.declared_entries number xs outer es).tables.tasks ≡ es.tables.tasks
+entries_tasks number [] outer es = refl
+entries_tasks number (x ∷ xs) outer es = entries_tasks number xs outer (entries.one_entry number x outer es) ∙ one_entry_tasks number x outer es
+
+-- each of them has a number in the tables
+
+abbrev pub Numbered : List EntryName → Tables → Type 0
+Numbered xs t = AllByRecursion (λ x. x.number < length t.entries) xs
+
+numbered_more : (xs : List EntryName) (t u : Tables) → length t.entries ≤ length u.entries → Numbered xs t → Numbered xs u
+numbered_more [] t u e h = tt
+numbered_more (x ∷ xs) t u e h = (omega (arith, e, h.0), numbered_more xs t u e h.1)
+
+numbered_last : (xs : List EntryName) (x : EntryName) (t : Tables) → Numbered xs t → x.number < length t.entries → Numbered (xs ++ x ∷ []) t
+numbered_last [] x t h i = (i, tt)
+numbered_last (y ∷ ys) x t h i = (h.0, numbered_last ys x t h.1 i)
+
+one_entry_numbered : (number : ℕ) (x : plain.EntryDeclaration) (outer : List Region) (es : entries.Entries) → Numbered es.names es.tables → Numbered (entries.one_entry number x outer es).names (entries.one_entry number x outer es).tables
+one_entry_numbered number x outer es h =
+    let profile = (entries.entry_formals x es.own outer).profile in
+    let made = entries.entry_added number x.name.name profile es in
+    let longer = length_push es.tables.entries x.name.name in
+    either (λ (z : entries.Entries). Numbered z.names z.tables) (names.is_declared x.name.name es.own.symbols) es made h (numbered_last es.names (record { task_type = number; name = x.name.name; number = length es.tables.entries }) made.tables (numbered_more es.names es.tables made.tables (omega (arith, longer)) h) (omega (arith, longer)))
+
+pub entries_numbered : (number : ℕ) (xs : List plain.EntryDeclaration) (outer : List Region) (es : entries.Entries) → Numbered es.names es.tables → Numbered (entries.declared_entries number xs outer es).names (entries.declared_entries number xs outer es).tables
+entries_numbered number [] outer es h = h
+entries_numbered number (x ∷ xs) outer es h = entries_numbered number xs outer (entries.one_entry number x outer es) (one_entry_numbered number x outer es h)
 
 pub kept_grows : (t : Tables) → Grows t (region_kept t)
 kept_grows t = region_grows [] t
 
 exceptions_grow : (is : List Ident) (n : Place) (t : Tables) → Grows t (d.checked_exceptions is n t).tables
-exceptions_grow is n t = record { more_regions = []; more_profiles = []; more_tasks = []; regions = sym (append-nil t.regions); profiles = sym (append-nil t.profiles); tasks = sym (append-nil t.tasks); even = omega arith; exceptions = exceptions_more is (d.exceptions_in n t.exceptions) }
+exceptions_grow is n t = record { more_regions = []; more_profiles = []; more_tasks = []; regions = sym (append-nil t.regions); profiles = sym (append-nil t.profiles); tasks = sym (append-nil t.tasks); even = omega arith; exceptions = exceptions_more is (d.exceptions_in n t.exceptions); entries = omega arith }
 
 loop_grows : (i : plain.Iteration) (n : Place) (t : Tables) → Grows t (s.loop_tables i n t)
 loop_grows plain.forever n t = same t
@@ -196,14 +262,16 @@ procedure_grows at i fs ds b n t f g =
 
 task_declaration_grows : (at : Pos) (is_type : Bool) (i : Ident) (x : Option plain.TaskDefinition) (n : Place) (t : Tables) → DeclarationGrows (plain.task at is_type i x) n t
 unfolding DeclarationGrows
-task_declaration_grows at is_type i x n t = task_grows t
+task_declaration_grows at is_type i x n t =
+    let es = tasks.task_entries x (tasks.place_named is_type i n t) t in
+    further {u = es.tables} (entries_grow (length t.tasks) (entries.entries_of x) (tasks.place_named is_type i n t).regions (entries.no_entries (names.body_frame (tasks.place_named is_type i n t)) t)) (task_grows (entries.entry_numbers es.names) es.tables)
 
 task_body_grows : (at : Pos) (i : Ident) (ds : plain.Declarations) (b : plain.Body) (n : Place) (t : Tables)
     → ((m : Place) (u : Tables) → DeclarationsGrow ds m u) → ((within : Around) (m : Place) (u : Tables) → BodyGrows b within m u) → DeclarationGrows (plain.task_body at i ds b) n t
 unfolding DeclarationGrows
 task_body_grows at i ds b n t f g =
-    let found = tasks.unit_awaited i n in
-    let inner : Place = names.task_place i.name (tasks.place_behind i n) in
+    let found = tasks.task_awaited i n in
+    let inner : Place = names.task_place i.name (tasks.body_task found t) (tasks.place_behind i n) in
     let own : Tables = tasks.body_tables found t in
     let unit = s.checked_unit true at i.name ds b inner own in
     put_grows (tasks.body_unit found t) unit.made t unit.tables (further {u = own} (own_grows found t) (entering_grows true ds b task_around inner own (f inner (region_kept own)) (g task_around)))
@@ -264,21 +332,85 @@ exception_grows : (first : Ident) (others : List Ident) (n : Place) (t : Tables)
 unfolding DeclarationGrows
 exception_grows first others n t = exceptions_grow (first ∷ others) n t
 
-accepting_grows : (x : plain.Accept) (around : Around) (n : Place) (t : Tables) → StatementGrows (plain.accepting x) around n t
-unfolding StatementGrows
-accepting_grows x around n t = same t
+AcceptGrows : plain.Accept → Around → Place → Tables → Type 0
+AcceptGrows x around n t = Grows t (s.checked_accept x around n t).tables
+
+DoingGrows : plain.Doing → Ident → Region → Around → Place → Tables → Type 0
+DoingGrows x i r around n t = Grows t (s.checked_doing x i r around n t).tables
+
+AlternativeGrows : plain.Alternative → plain.MaybeExpression → Around → Place → Tables → Type 0
+AlternativeGrows x guard around n t = Grows t (s.checked_alternative x guard around n t).tables
+
+AlternativesGrow : plain.Alternatives → Around → Place → Tables → Type 0
+AlternativesGrow x around n t = Grows t (s.checked_alternatives x around n t).tables
+
+OtherwiseGrows : plain.Otherwise → Around → Place → Tables → Type 0
+OtherwiseGrows x around n t = Grows t (s.checked_otherwise x around n t).tables
+
+accepting_grows : (x : plain.Accept) (around : Around) (n : Place) (t : Tables) → AcceptGrows x around n t → StatementGrows (plain.accepting x) around n t
+unfolding StatementGrows AcceptGrows
+accepting_grows x around n t f = f
+
+accept_grows : (at : Pos) (i : Ident) (fs : List plain.Formal) (x : plain.Doing) (around : Around) (n : Place) (t : Tables) → ((r : Region) (within : Around) → DoingGrows x i r within n t) → AcceptGrows (plain.accept at i fs x) around n t
+unfolding AcceptGrows DoingGrows
+accept_grows at i fs x around n t f = f (accepts.accept_formals fs n).region (s.in_accept (accepts.accepted i n) around)
+
+without_do_grows : (i : Ident) (r : Region) (around : Around) (n : Place) (t : Tables) → DoingGrows plain.without_do i r around n t
+unfolding DoingGrows
+without_do_grows i r around n t = same t
+
+with_do_grows : (b : plain.Body) (i : Ident) (r : Region) (around : Around) (n : Place) (t : Tables) → ((m : Place) (u : Tables) → BodyGrows b around m u) → DoingGrows (plain.with_do b) i r around n t
+unfolding DoingGrows BodyGrows
+with_do_grows b i r around n t f =
+    let shown = regions.shown_names r.symbols in
+    further {u = with_region shown t} (region_grows shown t) (f (names.place_in r n.regions) (with_region shown t))
 
 delaying_grows : (x : plain.Delay) (around : Around) (n : Place) (t : Tables) → StatementGrows (plain.delaying x) around n t
 unfolding StatementGrows
 delaying_grows x around n t = same t
 
-select_accept_grows : (at : Pos) (e : plain.MaybeExpression) (x : plain.Alternative) (xs : plain.Alternatives) (otherwise : plain.MoreStatements) (around : Around) (n : Place) (t : Tables) → StatementGrows (plain.select_accept at e x xs otherwise) around n t
-unfolding StatementGrows
-select_accept_grows at e x xs otherwise around n t = same t
+accept_alternative_grows : (x : plain.Accept) (ss : plain.MoreStatements) (guard : plain.MaybeExpression) (around : Around) (n : Place) (t : Tables)
+    → ((u : Tables) → AcceptGrows x around n u) → ((u : Tables) → OthersGrow ss around n u) → AlternativeGrows (plain.accept_alternative x ss) guard around n t
+unfolding AcceptGrows OthersGrow AlternativeGrows
+accept_alternative_grows x ss guard around n t f g = let first = (s.checked_accept x around n t).tables in further {u = first} (f t) (g first)
 
-select_call_grows : (at : Pos) (x : plain.Name) (behind : plain.MoreStatements) (otherwise : plain.Otherwise) (around : Around) (n : Place) (t : Tables) → StatementGrows (plain.select_call at x behind otherwise) around n t
-unfolding StatementGrows
-select_call_grows at x behind otherwise around n t = same t
+delay_alternative_grows : (x : plain.Delay) (ss : plain.MoreStatements) (guard : plain.MaybeExpression) (around : Around) (n : Place) (t : Tables) → OthersGrow ss around n t → AlternativeGrows (plain.delay_alternative x ss) guard around n t
+unfolding OthersGrow AlternativeGrows
+delay_alternative_grows x ss guard around n t f = f
+
+terminate_grows : (guard : plain.MaybeExpression) (around : Around) (n : Place) (t : Tables) → AlternativeGrows plain.terminate_alternative guard around n t
+unfolding AlternativeGrows
+terminate_grows guard around n t = same t
+
+no_alternatives_grow : (around : Around) (n : Place) (t : Tables) → AlternativesGrow plain.no_alternatives around n t
+unfolding AlternativesGrow
+no_alternatives_grow around n t = same t
+
+more_alternatives_grow : (guard : plain.MaybeExpression) (x : plain.Alternative) (xs : plain.Alternatives) (around : Around) (n : Place) (t : Tables)
+    → ((u : Tables) → AlternativeGrows x guard around n u) → ((u : Tables) → AlternativesGrow xs around n u) → AlternativesGrow (plain.more_alternatives guard x xs) around n t
+unfolding AlternativeGrows AlternativesGrow
+more_alternatives_grow guard x xs around n t f g = let first = (s.checked_alternative x guard around n t).tables in further {u = first} (f t) (g first)
+
+select_accept_grows : (at : Pos) (guard : plain.MaybeExpression) (x : plain.Alternative) (xs : plain.Alternatives) (otherwise : plain.MoreStatements) (around : Around) (n : Place) (t : Tables)
+    → ((u : Tables) → AlternativeGrows x guard around n u) → ((u : Tables) → AlternativesGrow xs around n u) → ((u : Tables) → OthersGrow otherwise around n u) → StatementGrows (plain.select_accept at guard x xs otherwise) around n t
+unfolding StatementGrows AlternativeGrows AlternativesGrow OthersGrow
+select_accept_grows at guard x xs otherwise around n t f g h =
+    let first = (s.checked_alternative x guard around n t).tables in
+    let second = (s.checked_alternatives xs around n first).tables in
+    further {u = first} (f t) (further {u = second} (g first) (h second))
+
+or_delay_grows : (x : plain.Delay) (ss : plain.MoreStatements) (around : Around) (n : Place) (t : Tables) → OthersGrow ss around n t → OtherwiseGrows (plain.or_delay x ss) around n t
+unfolding OthersGrow OtherwiseGrows
+or_delay_grows x ss around n t f = f
+
+or_else_grows : (ss : plain.Statements) (around : Around) (n : Place) (t : Tables) → StatementsGrow ss around n t → OtherwiseGrows (plain.or_else ss) around n t
+unfolding StatementsGrow OtherwiseGrows
+or_else_grows ss around n t f = f
+
+select_call_grows : (at : Pos) (x : plain.Name) (behind : plain.MoreStatements) (otherwise : plain.Otherwise) (around : Around) (n : Place) (t : Tables)
+    → ((u : Tables) → OthersGrow behind around n u) → ((u : Tables) → OtherwiseGrows otherwise around n u) → StatementGrows (plain.select_call at x behind otherwise) around n t
+unfolding StatementGrows OthersGrow OtherwiseGrows
+select_call_grows at x behind otherwise around n t f g = let first = (s.checked_others behind around n t).tables in further {u = first} (f t) (g first)
 
 abort_grows : (at : Pos) (x : plain.Name) (xs : plain.Names) (around : Around) (n : Place) (t : Tables) → StatementGrows (plain.abort at x xs) around n t
 unfolding StatementGrows
@@ -307,12 +439,32 @@ mutual
   statement_more (plain.block label at declare ds b) around n t = block_grows label at declare ds b around n t (λ m u. declarations_more ds m u) (λ within m u. body_more b within m u)
   statement_more (plain.return at e) around n t = return_grows at e around n t
   statement_more (plain.raise at name) around n t = raise_grows at name around n t
-  statement_more (plain.accepting x) around n t = accepting_grows x around n t
+  statement_more (plain.accepting x) around n t = accepting_grows x around n t (accept_more x around n t)
   statement_more (plain.delaying x) around n t = delaying_grows x around n t
-  statement_more (plain.select_accept at e x xs otherwise) around n t = select_accept_grows at e x xs otherwise around n t
-  statement_more (plain.select_call at x behind otherwise) around n t = select_call_grows at x behind otherwise around n t
+  statement_more (plain.select_accept at guard x xs otherwise) around n t = select_accept_grows at guard x xs otherwise around n t (λ u. alternative_more x guard around n u) (λ u. alternatives_more xs around n u) (λ u. others_more otherwise around n u)
+  statement_more (plain.select_call at x behind otherwise) around n t = select_call_grows at x behind otherwise around n t (λ u. others_more behind around n u) (λ u. otherwise_more otherwise around n u)
   statement_more (plain.abort at x xs) around n t = abort_grows at x xs around n t
   statement_more (plain.requeue at x with_abort) around n t = requeue_grows at x with_abort around n t
+
+  accept_more : (x : plain.Accept) (around : Around) (n : Place) (t : Tables) → AcceptGrows x around n t
+  accept_more (plain.accept at i fs x) around n t = accept_grows at i fs x around n t (λ r within. doing_more x i r within n t)
+
+  doing_more : (x : plain.Doing) (i : Ident) (r : Region) (around : Around) (n : Place) (t : Tables) → DoingGrows x i r around n t
+  doing_more plain.without_do i r around n t = without_do_grows i r around n t
+  doing_more (plain.with_do b) i r around n t = with_do_grows b i r around n t (λ m u. body_more b around m u)
+
+  alternative_more : (x : plain.Alternative) (guard : plain.MaybeExpression) (around : Around) (n : Place) (t : Tables) → AlternativeGrows x guard around n t
+  alternative_more (plain.accept_alternative x ss) guard around n t = accept_alternative_grows x ss guard around n t (λ u. accept_more x around n u) (λ u. others_more ss around n u)
+  alternative_more (plain.delay_alternative x ss) guard around n t = delay_alternative_grows x ss guard around n t (others_more ss around n t)
+  alternative_more plain.terminate_alternative guard around n t = terminate_grows guard around n t
+
+  alternatives_more : (x : plain.Alternatives) (around : Around) (n : Place) (t : Tables) → AlternativesGrow x around n t
+  alternatives_more plain.no_alternatives around n t = no_alternatives_grow around n t
+  alternatives_more (plain.more_alternatives guard x xs) around n t = more_alternatives_grow guard x xs around n t (λ u. alternative_more x guard around n u) (λ u. alternatives_more xs around n u)
+
+  otherwise_more : (x : plain.Otherwise) (around : Around) (n : Place) (t : Tables) → OtherwiseGrows x around n t
+  otherwise_more (plain.or_delay x ss) around n t = or_delay_grows x ss around n t (others_more ss around n t)
+  otherwise_more (plain.or_else ss) around n t = or_else_grows ss around n t (statements_more ss around n t)
 
   arms_more : (x : plain.Arms) (around : Around) (n : Place) (t : Tables) → ArmsGrow x around n t
   arms_more plain.no_arms around n t = no_arms_grow around n t
@@ -351,6 +503,22 @@ pub statement_grows : (x : plain.Statement) (around : Around) (n : Place) (t : T
 unfolding StatementGrows
 statement_grows x around n t = statement_more x around n t
 
+pub accepts_grow : (x : plain.Accept) (around : Around) (n : Place) (t : Tables) → Grows t (s.checked_accept x around n t).tables
+unfolding AcceptGrows
+accepts_grow x around n t = accept_more x around n t
+
+pub alternative_grows : (x : plain.Alternative) (guard : plain.MaybeExpression) (around : Around) (n : Place) (t : Tables) → Grows t (s.checked_alternative x guard around n t).tables
+unfolding AlternativeGrows
+alternative_grows x guard around n t = alternative_more x guard around n t
+
+pub alternatives_grow : (x : plain.Alternatives) (around : Around) (n : Place) (t : Tables) → Grows t (s.checked_alternatives x around n t).tables
+unfolding AlternativesGrow
+alternatives_grow x around n t = alternatives_more x around n t
+
+pub otherwise_grows : (x : plain.Otherwise) (around : Around) (n : Place) (t : Tables) → Grows t (s.checked_otherwise x around n t).tables
+unfolding OtherwiseGrows
+otherwise_grows x around n t = otherwise_more x around n t
+
 pub arms_grow : (x : plain.Arms) (around : Around) (n : Place) (t : Tables) → Grows t (s.checked_arms x around n t).tables
 unfolding ArmsGrow
 arms_grow x around n t = arms_more x around n t
@@ -388,7 +556,8 @@ entered_grows of_task ds b around n t = entering_grows of_task ds b around n t (
 pub record InPlan (plan : Plan) (t u : Tables) : Type 0 where
   pub regions : (n : ℕ) → length t.regions ≤ n → n < length u.regions → table plan n ≡ slice_index_or u.regions n []
   pub exceptions : length u.exceptions ≤ length plan.exceptions
-  pub tasks : (n : ℕ) → n < length u.tasks → (n < length plan.tasks) × ((slice_index_or plan.tasks n no_task).unit ≡ slice_index_or u.tasks n 0)
+  pub entries : length u.entries ≤ length plan.entries
+  pub tasks : (n : ℕ) → n < length u.tasks → (n < length plan.tasks) × (slice_index_or plan.tasks n no_task ≡ slice_index_or u.tasks n no_task)
 
 module _ (plan : Plan) where
   regions_longer : (t u : Tables) → Grows t u → length t.regions ≤ length u.regions
@@ -399,13 +568,14 @@ module _ (plan : Plan) where
   first_in_plan t u v g h = record {
     regions = λ n after before. h.regions n after (omega (arith, before, regions_longer u v g)) ∙ ap (λ z. slice_index_or z n []) g.regions ∙ get_or_append_left u.regions g.more_regions [] n before;
     exceptions = omega (arith, g.exceptions, h.exceptions);
+    entries = omega (arith, g.entries, h.entries);
     tasks = λ n lt.
         let there = h.tasks n (omega (arith, lt, ap length g.tasks, length-append u.tasks g.more_tasks)) in
-        (there.0, there.1 ∙ ap (λ z. slice_index_or z n 0) g.tasks ∙ get_or_append_left u.tasks g.more_tasks 0 n lt);
+        (there.0, there.1 ∙ ap (λ z. slice_index_or z n no_task) g.tasks ∙ get_or_append_left u.tasks g.more_tasks no_task n lt);
   }
 
   pub second_in_plan : (t u v : Tables) → Grows t u → InPlan plan t v → InPlan plan u v
-  second_in_plan t u v g h = record { regions = λ n after before. h.regions n (omega (arith, after, regions_longer t u g)) before; exceptions = h.exceptions; tasks = h.tasks }
+  second_in_plan t u v g h = record { regions = λ n after before. h.regions n (omega (arith, after, regions_longer t u g)) before; exceptions = h.exceptions; entries = h.entries; tasks = h.tasks }
 
   kept_longer : (t u : Tables) → Grows (region_kept t) u → length t.regions < length u.regions
   kept_longer t u g = omega (arith, regions_longer (region_kept t) u g, length_push t.regions [])
@@ -423,6 +593,7 @@ module _ (plan : Plan) where
         let one = length_push t.regions [] in
         h.regions n (omega (arith, after, one)) (omega (arith, before, long)) ∙ get_or-set_other u.regions (length t.regions) n shown [] (λ e. omega (arith, e, after, one));
     exceptions = h.exceptions;
+    entries = h.entries;
     tasks = h.tasks;
   }
 

@@ -7,11 +7,11 @@ use Rattle.std.proofs.lemmas.List.{length_push, length-set, get_or_append_left, 
 use Rattle.aud_typed.specs.Tree as tree
 use Rattle.aud_typed.specs.Tree.{Plan}
 use Rattle.aud_typed.specs.Why.Scoped.{Scope, Elaborated, Entry, entry_of, UnitScoped}
-use Rattle.aud_names.specs.declared.names.Parameter.{Parameter}
+use Rattle.aud_names.specs.declared.names.NamedParameter.{NamedParameter}
 use Rattle.aud_names.specs.declared.awaited.Awaited.{Awaited}
 use Rattle.aud_names.specs.Names as names
 use Rattle.aud_names.specs.Names.{Region, Place}
-use Rattle.aud_check_bodies.specs.Tables.{Tables, no_body, unit_kept, with_unit, task_kept}
+use Rattle.aud_check_bodies.specs.Tables.{Tables, no_body, unit_kept, with_unit}
 use Rattle.aud_check_bodies.specs.Tasks as tasks
 use Rattle.aud_check_bodies.proofs.Scoping.Names.{Known, Fits, either, fits_later}
 use Rattle.aud_check_bodies.proofs.Scoping.Declarations.{InBody, body_later}
@@ -60,33 +60,33 @@ all_awaited_push P (x ∷ xs) a h i = (h.0, all_awaited_push P xs a h.1 i)
 
 -- one of them comes
 
-pub found_unit : (P : ℕ → Type 0) (name : List ℕ) (xs : List Awaited) (unit : ℕ) → names.awaited_unit name xs ≡ Some unit → AllAwaited P xs → P unit
-found_unit P name [] unit p h = cc
-found_unit P name (x ∷ xs) unit p h = by (bytes_eq name x.name) p (λ q. found_unit P name xs unit q h.1)
+pub found_unit : (P : ℕ → Type 0) (name : List ℕ) (xs : List Awaited) (found : Awaited) → names.awaited_task name xs ≡ Some found → AllAwaited P xs → P found.unit
+found_unit P name [] found p h = cc
+found_unit P name (x ∷ xs) found p h = by (bytes_eq name x.name) p (λ q. found_unit P name xs found q h.1)
   where
-    by : (b : Bool) → (if b then Some x.unit else names.awaited_unit name xs) ≡ Some unit → (names.awaited_unit name xs ≡ Some unit → P unit) → P unit
+    by : (b : Bool) → (if b then Some x else names.awaited_task name xs) ≡ Some found → (names.awaited_task name xs ≡ Some found → P found.unit) → P found.unit
     by true q f =
-        let same : x.unit ≡ unit = cc in
-        subst P same h.0
+        let same : x ≡ found = cc in
+        subst (λ (a : Awaited). P a.unit) same h.0
     by false q f = f q
 
 still_all : (P : ℕ → Type 0) (name : List ℕ) (xs : List Awaited) → AllAwaited P xs → AllAwaited P (names.still_awaited name xs)
 still_all P name [] h = tt
 still_all P name (x ∷ xs) h = either (AllAwaited P) (bytes_eq name x.name) xs (x ∷ names.still_awaited name xs) h.1 (h.0, still_all P name xs h.1)
 
-still_waits : (name : List ℕ) (xs : List Awaited) (unit n : ℕ) → names.awaited_unit name xs ≡ Some unit → IsAwaited n xs → (unit ≡ n) ⊎ IsAwaited n (names.still_awaited name xs)
-still_waits name [] unit n p h = absurd h
-still_waits name (x ∷ xs) unit n p h = by (bytes_eq name x.name) p h (λ q i. still_waits name xs unit n q i)
+still_waits : (name : List ℕ) (xs : List Awaited) (found : Awaited) (n : ℕ) → names.awaited_task name xs ≡ Some found → IsAwaited n xs → (found.unit ≡ n) ⊎ IsAwaited n (names.still_awaited name xs)
+still_waits name [] found n p h = absurd h
+still_waits name (x ∷ xs) found n p h = by (bytes_eq name x.name) p h (λ q i. still_waits name xs found n q i)
   where
-    one : (unit ≡ n) ⊎ IsAwaited n (names.still_awaited name xs) → (unit ≡ n) ⊎ IsAwaited n (x ∷ names.still_awaited name xs)
+    one : (found.unit ≡ n) ⊎ IsAwaited n (names.still_awaited name xs) → (found.unit ≡ n) ⊎ IsAwaited n (x ∷ names.still_awaited name xs)
     one (inl e) = inl e
     one (inr i) = inr (inr i)
 
-    by : (b : Bool) → (if b then Some x.unit else names.awaited_unit name xs) ≡ Some unit → IsAwaited n (x ∷ xs) → (names.awaited_unit name xs ≡ Some unit → IsAwaited n xs → (unit ≡ n) ⊎ IsAwaited n (names.still_awaited name xs))
-        → (unit ≡ n) ⊎ IsAwaited n (if b then xs else x ∷ names.still_awaited name xs)
+    by : (b : Bool) → (if b then Some x else names.awaited_task name xs) ≡ Some found → IsAwaited n (x ∷ xs) → (names.awaited_task name xs ≡ Some found → IsAwaited n xs → (found.unit ≡ n) ⊎ IsAwaited n (names.still_awaited name xs))
+        → (found.unit ≡ n) ⊎ IsAwaited n (if b then xs else x ∷ names.still_awaited name xs)
     by true q (inl e) f =
-        let same : x.unit ≡ unit = cc in
-        inl (sym same ∙ e)
+        let same : x ≡ found = cc in
+        inl (sym (ap (λ (a : Awaited). a.unit) same) ∙ e)
     by true q (inr i) f = inr i
     by false q (inl e) f = inr (inl e)
     by false q (inr i) f = one (f q i)
@@ -137,7 +137,7 @@ module _ (plan : Plan) (entries : List Entry) where
   body_grown t u outer full n g h = subst (λ l. InBody (record { plan = plan; entries = entries; profiles = l; complete = true }) outer full n) (sym g.profiles) (body_later (seen t) outer full g.more_profiles n h)
 
   -- a procedure's unit, and those of its body
-  pub units_put : (profile : List Parameter) (t u : Tables) (x : tree.UnitBody) → IsUnit x (length t.units) → Units (unit_kept profile t) u → Units t (with_unit (length t.units) x u)
+  pub units_put : (profile : List NamedParameter) (t u : Tables) (x : tree.UnitBody) → IsUnit x (length t.units) → Units (unit_kept profile t) u → Units t (with_unit (length t.units) x u)
   units_put profile t u x h i =
       let one = length_push t.units no_body in
       let long = length-set u.units (length t.units) x in (
@@ -185,12 +185,12 @@ module _ (plan : Plan) (entries : List Entry) where
       (subst (λ l. InPart base scope l u) (sym p) here, λ n lt. h.2 n (omega (arith, lt, i.0)))
 
   -- a task is declared, whose unit is the next
-  pub part_with_task : (base : ℕ) (scope : Scope) (xs : List Awaited) (a : Awaited) (t : Tables) → a.unit ≡ length t.units → length t.units < length entries → entry_of entries (length t.units) ≡ of_task scope → InPart base scope xs t
-      → InPart base scope (xs ++ a ∷ []) (task_kept t) × Stay base t (task_kept t)
-  part_with_task base scope xs a t p there own h =
-      let one = length_push t.units no_body in
-      let same : (n : ℕ) → n < length t.units → unit_at n (task_kept t) ≡ unit_at n t = λ n lt. get_or_append_left t.units (no_body ∷ []) no_body n lt in
-      let here : InPart base scope (xs ++ a ∷ []) (task_kept t) = (
+  pub part_with_task : (base : ℕ) (scope : Scope) (xs : List Awaited) (a : Awaited) (t u : Tables) → u.units ≡ t.units ++ no_body ∷ [] → a.unit ≡ length t.units → length t.units < length entries → entry_of entries (length t.units) ≡ of_task scope → InPart base scope xs t
+      → InPart base scope (xs ++ a ∷ []) u × Stay base t u
+  part_with_task base scope xs a t u e p there own h =
+      let one : length u.units ≡ length t.units + 1 = omega (arith, ap length e, length_push t.units no_body) in
+      let same : (n : ℕ) → n < length t.units → unit_at n u ≡ unit_at n t = λ n lt. ap (λ l. slice_index_or l n no_body) e ∙ get_or_append_left t.units (no_body ∷ []) no_body n lt in
+      let here : InPart base scope (xs ++ a ∷ []) u = (
         omega (arith, h.0, one),
         λ n after before. elim (is_before n (length t.units)) [
           | inl within ↦ elim (subst (λ z. IsUnit z n ⊎ IsAwaited n xs) (sym (same n within)) (h.1 n after within)) [ inl i ↦ inl i | inr i ↦ inr (awaited_more n xs a i) ]
@@ -198,22 +198,23 @@ module _ (plan : Plan) (entries : List Entry) where
               let is : a.unit ≡ n = omega (arith, p, past, before, one) in
               inr (subst (λ k. IsAwaited k (xs ++ a ∷ [])) is (awaited_last xs a))
         ],
-        all_awaited_push (Waits base scope (task_kept t)) xs a (all_awaited_more (Waits base scope t) (Waits base scope (task_kept t)) xs (λ n f. (f.0, omega (arith, f.1, one), f.2, f.3)) h.2)
+        all_awaited_push (Waits base scope u) xs a (all_awaited_more (Waits base scope t) (Waits base scope u) xs (λ n f. (f.0, omega (arith, f.1, one), f.2, f.3)) h.2)
             (omega (arith, p, h.0), omega (arith, p, one), omega (arith, p, there), ap (entry_of entries) p ∙ own),
       ) in
       (here, λ n lt. same n (omega (arith, lt, h.0)))
 
   -- a body comes
-  pub part_with_body : (base : ℕ) (scope : Scope) (name : List ℕ) (xs : List Awaited) (unit : ℕ) (t u : Tables) (x : tree.UnitBody) → names.awaited_unit name xs ≡ Some unit → Units t u → IsUnit x unit → InPart base scope xs t
-      → InPart base scope (names.still_awaited name xs) (with_unit unit x u) × Stay base t (with_unit unit x u)
-  part_with_body base scope name xs unit t u x p h k i =
+  pub part_with_body : (base : ℕ) (scope : Scope) (name : List ℕ) (xs : List Awaited) (found : Awaited) (t u : Tables) (x : tree.UnitBody) → names.awaited_task name xs ≡ Some found → Units t u → IsUnit x found.unit → InPart base scope xs t
+      → InPart base scope (names.still_awaited name xs) (with_unit found.unit x u) × Stay base t (with_unit found.unit x u)
+  part_with_body base scope name xs found t u x p h k i =
+      let unit = found.unit in
       let v : Tables = with_unit unit x u in
-      let own = found_unit (Waits base scope t) name xs unit p i.2 in
+      let own = found_unit (Waits base scope t) name xs found p i.2 in
       let long = length-set u.units unit x in
       let other : (n : ℕ) → (n ≡ unit → ⊥) → unit_at n v ≡ unit_at n u = λ n ne. get_or-set_other u.units unit n x no_body ne in
       let waits : (n : ℕ) → n < length t.units → (n ≡ unit → ⊥) → IsUnit (unit_at n t) n ⊎ IsAwaited n xs → IsUnit (unit_at n v) n ⊎ IsAwaited n (names.still_awaited name xs) = λ n lt ne z. elim z [
         | inl y ↦ inl (subst (λ w. IsUnit w n) (sym (other n ne ∙ h.2 n lt)) y)
-        | inr y ↦ elim (still_waits name xs unit n p y) [ inl e ↦ absurd (ne (sym e)) | inr w ↦ inr w ]
+        | inr y ↦ elim (still_waits name xs found n p y) [ inl e ↦ absurd (ne (sym e)) | inr w ↦ inr w ]
       ] in
       let here : InPart base scope (names.still_awaited name xs) v = (
         omega (arith, i.0, h.0, long),

@@ -9,7 +9,7 @@ use Rattle.aud_syntax.specs.Ties.View.{plain_maybe}
 use Rattle.aud_typed.specs.Ties.View.{plain_statements}
 use Rattle.aud_check_bodies.specs.declared.declaration.DeclarativePart.{DeclarativePart}
 use Rattle.aud_names.specs.declared.names.Region.{Region}
-use Rattle.aud_names.specs.declared.names.Parameter.{Parameter}
+use Rattle.aud_names.specs.declared.names.NamedParameter.{NamedParameter}
 use Rattle.aud_fault.specs.declared.fault.Fault.{Fault}
 use Rattle.aud_fault.specs.Least.{noted}
 use Rattle.aud_names.specs.Names.{innermost}
@@ -36,5 +36,5 @@ abbrev pub Enters : Option Fault → Option Fault → List (Bor Region) → Decl
 Enters old new outer part number tables o = (new ≡ noted old o.faults) × (plain_place part.region outer ≡ o.made.place) × (plain_statements part.elaborations.items ≡ o.made.elaborations) × (tables ≡ region_named number (shown_names (innermost o.made.place).symbols) o.tables)
 
 -- the faults are noted, the region is that after the formals, and these are added to those that calls see
-abbrev pub DeclaresFormals : Option Fault → Option Fault → Region → List Parameter → List Parameter → Formals → Type 0
+abbrev pub DeclaresFormals : Option Fault → Option Fault → Region → List NamedParameter → List NamedParameter → Formals → Type 0
 DeclaresFormals old_faults new_faults new old_profile new_profile f = (new_faults ≡ noted old_faults f.faults) × (plain_region new ≡ f.region) × (new_profile ≡ old_profile ++ f.profile)

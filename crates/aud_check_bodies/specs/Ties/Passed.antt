@@ -1,5 +1,5 @@
 -- The plain data of arguments in memory.
-use Rattle.std.specs.Prelude.{List, [], ◌∷◌, ◌++◌, Option, Some, None, option_map, Vec}
+use Rattle.std.specs.Prelude.{List, [], ◌∷◌, ◌++◌, Option, Some, None, option_map, Box, Vec}
 use Rattle.std.specs.Global.{Global}
 use Rattle.std.specs.Borrow.{Bor}
 use Rattle.std.specs.Option.{option_copied}
@@ -8,8 +8,12 @@ use Rattle.aud_syntax.specs.Plain.{Name}
 use Rattle.aud_syntax.specs.Ties.View.{plain_name}
 use Rattle.aud_typed.specs.declared.program.Argument as memory
 use Rattle.aud_typed.specs.declared.program.Reference as reference
-use Rattle.aud_typed.specs.Tree.{Argument, Reference}
-use Rattle.aud_typed.specs.Ties.View.{plain_argument, plain_arguments, plain_reference}
+use Rattle.aud_typed.specs.declared.program.TaskName as task
+use Rattle.aud_typed.specs.declared.program.CallForm as form
+use Rattle.aud_typed.specs.Tree.{Argument, Reference, TaskName, CallForm}
+use Rattle.aud_typed.specs.Ties.View.{plain_argument, plain_arguments, plain_reference, plain_task, plain_form}
+use Rattle.aud_check_bodies.specs.declared.entry_call.EntryCalled as memory_call
+use Rattle.aud_check_bodies.specs.Calls.{EntryCalled}
 
 -- the name that an expression is, if it is one
 abbrev pub plain_found : Option (Bor source.Name) → Option Name
@@ -28,3 +32,18 @@ plain_all_passed all = option_map (λ v. plain_arguments v.items) all
 abbrev pub one_more_passed : Option (List Argument) → Option Argument → Option (List Argument)
 one_more_passed (Some xs) (Some x) = Some (xs ++ x ∷ [])
 one_more_passed _ _ = None
+
+-- Entry calls.
+
+abbrev pub plain_called_task : Option task.TaskName → Option TaskName
+plain_called_task t = option_map plain_task t
+
+abbrev pub plain_entry_called : memory_call.EntryCalled → EntryCalled
+plain_entry_called c = record { task = plain_task c.task; entry = c.entry; arguments = plain_arguments c.arguments.items }
+
+abbrev pub plain_maybe_called : Option memory_call.EntryCalled → Option EntryCalled
+plain_maybe_called c = option_map plain_entry_called c
+
+-- with the form of a call
+abbrev pub plain_head : Box form.CallForm Global × Option memory_call.EntryCalled → CallForm × Option EntryCalled
+plain_head h = (plain_form h.0.value, plain_maybe_called h.1)

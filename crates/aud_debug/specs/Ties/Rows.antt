@@ -1,11 +1,11 @@
 -- The lines of tasks and of moves, one by one.
-use Rattle.std.specs.Prelude.{ℕ, suc, List, [], ◌∷◌, ◌++◌}
+use Rattle.std.specs.Prelude.{ℕ, suc, List, [], ◌∷◌, ◌++◌, codes}
 use Rattle.std.specs.Fmt.{decimal}
 use Rattle.aud_typed.specs.Tree.{Plan}
 use Rattle.aud_meaning.specs.declared.state.Move.{Move}
 use Rattle.aud_meaning.specs.Configuration.{All}
-use Rattle.aud_meaning.specs.Listings.{abnormal_word, alternative_word, spaced, word}
-use Rattle.aud_meaning.specs.Parts.{own_of}
+use Rattle.aud_meaning.specs.Listings.{abnormal_word, alternative_word, queue_lines, spaced, word}
+use Rattle.aud_meaning.specs.Parts.{call_of, entry_plan, own_of}
 use Rattle.aud_code.specs.Places.{Spot}
 use Rattle.aud_code.specs.Flat.{Flat, barrier_at}
 use Rattle.aud_tasks.specs.Shown.{status_in, step_in}
@@ -30,3 +30,20 @@ move_line plan code i m c =
 abbrev pub each_line : Plan → Flat → ℕ → List Move → All Spot → List (List ℕ)
 each_line plan code i [] c = []
 each_line plan code i (m ∷ ms) c = move_line plan code i m c ∷ each_line plan code (suc i) ms c
+
+-- the task, with its number, and the entry, before the callers
+abbrev pub queue_head : Plan → ℕ → ℕ → All Spot → List ℕ
+queue_head plan n entry c = spaced (codes "task") (spaced (decimal (suc n)) ((own_of n c).name ++ 46 ∷ ((entry_plan plan entry).name ++ 58 ∷ [])))
+
+-- the callers of these calls
+abbrev pub calls_on : List ℕ → All Spot → List ℕ
+calls_on [] c = []
+calls_on (id ∷ ids) c = 32 ∷ (decimal (suc (call_of id c).caller) ++ calls_on ids c)
+
+-- the line of an entry, if a call is queued there
+abbrev pub queue_line : Plan → ℕ → ℕ → All Spot → List (List ℕ)
+queue_line plan n entry c = queue_lines plan (codes "task") (own_of n c).name n (entry ∷ []) c
+
+-- those of some entries of a task
+abbrev pub entry_lines : Plan → ℕ → List ℕ → All Spot → List (List ℕ)
+entry_lines plan n entries c = queue_lines plan (codes "task") (own_of n c).name n entries c

@@ -1,14 +1,13 @@
 -- Numbers of frames: what is written at places, and that the instructions of scoped expressions name variables of open frames.
-use Rattle.std.proofs.Common.{◌≡◌, ◌⊎◌, inl, inr, ℕ, zero, suc, ◌+◌, ◌≤◌, ◌<◌, List, [], ◌∷◌, ◌++◌, length, map, slice_get, slice_index_or, true, false, Option, Some, None, refl, sym, ap, ◌∙◌, subst, arith, length-append}
+use Rattle.std.proofs.Common.{◌≡◌, ◌⊎◌, inl, inr, ℕ, zero, suc, ◌+◌, ◌≤◌, ◌<◌, List, [], ◌∷◌, ◌++◌, length, slice_get, true, false, Option, Some, None, refl, sym, ap, ◌∙◌, subst, arith, length-append}
 use Rattle.std.proofs.lemmas.Bool.{cases_lt}
 use Rattle.aud_typed.specs.declared.program.Variable.{Variable}
 use Rattle.aud_typed.specs.declared.program.ArrayAt.{ArrayAt}
-use Rattle.aud_typed.specs.Tree as tree
-use Rattle.aud_typed.specs.Tree.{IntegerExpression, number, variable, element, unary, binary, count, Reference, scalar, component, TaskName, single, indexed, BooleanExpression, truth, stored, negation, relation, comparison, logical, and_then, or_else, callable, terminated, ValueExpression, whole, boolean, TextExpression, literal, image, image_truth, join, new_line, Argument, by_value, by_copy, Statement, sequence, declare, declare_array, declare_tasks, declare_object, activated, activate, null, assign, put, if_then, plain_loop, while_loop, for_loop, exit, return, return_value, raising, raising_again, block, procedure_call, own_entry_call, operation_call, entry_call, delay, accept, select, abort, Plan}
-use Rattle.aud_typed.specs.Why.Scoped.{Elaborated, Scope, cells_at, IsElaborated, AreElaborated, IntegerScoped, ReferenceScoped, TaskScoped, BooleanScoped, ValueScoped, ArgumentScoped, ArgumentsScoped, TextScoped, in_innermost, declared_up_to, declared_with, scope_after, Entry, AreOpen, StatementScoped}
-use Rattle.aud_code.specs.Instruction.{Instruction, PassIfFalse, PassIfTrue}
+use Rattle.aud_typed.specs.Tree.{IntegerExpression, number, variable, element, unary, binary, count, Reference, scalar, component, TaskName, single, indexed, BooleanExpression, truth, stored, negation, relation, comparison, logical, and_then, or_else, callable, terminated, ValueExpression, whole, boolean, TextExpression, literal, image, image_truth, join, new_line, DelayExpression, milliseconds, seconds, Argument, by_value, by_copy, CallForm, plainly, conditionally, timed, Callee, of_task, of_object, Statement, sequence, declare, declare_array, declare_tasks, declare_object, assign, put, if_then, while_loop, for_loop, exit, return_value, procedure_call, own_entry_call, operation_call, entry_call, delay, select, abort, Alternatives, no_alternatives, accepting, delaying, terminating, Plan}
+use Rattle.aud_typed.specs.Why.Scoped.{Elaborated, Scope, cells_at, IsElaborated, AreElaborated, IntegerScoped, ReferenceScoped, TaskScoped, BooleanScoped, ValueScoped, ArgumentScoped, ArgumentsScoped, TextScoped, DelayScoped, FormScoped, CalleeScoped, in_innermost, declared_up_to, declared_with, scope_after, Entry, AreOpen, StatementScoped, AlternativesScoped}
+use Rattle.aud_code.specs.Instruction.{Instruction}
 use Rattle.aud_code.specs.Seen.{IsWritten, ArrayOpen, NamesOpen, Fewer, OutSees}
-use Rattle.aud_layout.specs.Instructions.{integer_code, loaded_code, reference_code, task_code, condition_code, value_code, text_code, into_code, copied_code, argument_code, arguments_code, instructions_of}
+use Rattle.aud_layout.specs.Instructions.{integer_code, loaded_code, reference_code, task_code, condition_code, value_code, text_code, into_code, argument_code, arguments_code, delay_code, form_code, called_code, call_code, guards_code, timed_code, delays_code, instructions_of}
 
 pub is_written : (o : Option ℕ) (n : ℕ) (P : ℕ → Type 0) → o ≡ Some n → P n → IsWritten o P
 is_written o n P e p = subst (λ x. IsWritten x P) (sym e) p
@@ -92,7 +91,7 @@ module _ (scope : Scope) where
   integer_open (element a e) h = both N (integer_code e) _ (integer_open e h.1) (array_open a scope h.0, tt)
   integer_open (unary f x) h = both N (integer_code x) _ (integer_open x h) (tt, tt)
   integer_open (binary f x y) h = both N (integer_code x) _ (integer_open x h.0) (both N (integer_code y) _ (integer_open y h.1) (tt, tt))
-  integer_open (count v entry) h = absurd h
+  integer_open (count v entry) h = (variable_open v scope h, tt)
 
   loaded_open : (r : Reference) → ReferenceScoped r scope → AllOpen N (loaded_code r)
   loaded_open (scalar v t) h = (variable_open v scope h, tt)
@@ -138,7 +137,35 @@ module _ (scope : Scope) where
   arguments_open n [] h = tt
   arguments_open n (x ∷ xs) h = both N (argument_code n x) _ (argument_open n x h.0) (arguments_open (n + 1) xs h.1)
 
+  delay_open : (e : DelayExpression) → DelayScoped e scope → AllOpen N (delay_code e)
+  delay_open (milliseconds n) h = (tt, tt)
+  delay_open (seconds e) h = both N (integer_code e) _ (integer_open e h) (tt, tt)
+
+  form_open : (f : CallForm) → FormScoped f scope → AllOpen N (form_code f)
+  form_open plainly h = tt
+  form_open conditionally h = tt
+  form_open (timed e) h = delay_open e h
+
+  called_open : (xs : List Argument) (f : CallForm) → ArgumentsScoped xs scope → FormScoped f scope → AllOpen N (called_code xs f)
+  called_open xs f h k = both N (arguments_code 0 xs) _ (arguments_open 0 xs h) (form_open f k)
+
+  call_open : (c : Callee) (xs : List Argument) (f : CallForm) → CalleeScoped c scope → ArgumentsScoped xs scope → FormScoped f scope → AllOpen N (call_code c xs f)
+  call_open (of_task t) xs f h k l = both N (task_code t) _ (task_open t h) (tt, (tt, called_open xs f k l))
+  call_open (of_object v) xs f h k l = absurd h
+
   module _ (plan : Plan) (entries : List Entry) where
+    guards_open : (n : ℕ) (o : Alternatives) → AlternativesScoped plan entries o scope → AllOpen N (guards_code n o)
+    guards_open n no_alternatives h = tt
+    guards_open n (accepting g at e d p more) h = both N (condition_code g) _ (condition_open g h.0) (tt, guards_open (suc n) more h.4)
+    guards_open n (delaying g e p more) h = both N (condition_code g) _ (condition_open g h.0) (tt, guards_open (suc n) more h.3)
+    guards_open n (terminating g more) h = both N (condition_code g) _ (condition_open g h.0) (tt, guards_open (suc n) more h.1)
+
+    delays_open : (n : ℕ) (o : Alternatives) → AlternativesScoped plan entries o scope → AllOpen N (delays_code n o)
+    delays_open n no_alternatives h = tt
+    delays_open n (accepting g at e d p more) h = delays_open (suc n) more h.4
+    delays_open n (delaying g e p more) h = (tt, both N (timed_code n e) _ (both N (delay_code e) _ (delay_open e h.1) (tt, tt)) (delays_open (suc n) more h.3))
+    delays_open n (terminating g more) h = delays_open (suc n) more h.1
+
     -- of a statement's own step
     statement_open : (s : Statement) → StatementScoped plan entries s scope → AllOpen N (instructions_of s)
     statement_open (declare at up_to e) h = value_open e h
@@ -154,9 +181,9 @@ module _ (scope : Scope) where
     statement_open (return_value at e) h = absurd h
     statement_open (own_entry_call at es form) h = absurd h
     statement_open (operation_call at v c) h = absurd h
-    statement_open (entry_call at c p q) h = absurd h
-    statement_open (delay at e) h = absurd h
-    statement_open (select at offered p) h = absurd h
+    statement_open (entry_call at c p q) h = call_open c.callee c.arguments c.form h.0.1 h.0.2 h.0.3
+    statement_open (delay at e) h = delay_open e h
+    statement_open (select at offered p) h = both N (guards_code 1 offered) _ (guards_open 1 offered h.0) (tt, delays_open 1 offered h.0)
     statement_open (abort at ts) h = absurd h
     statement_open s h = tt
 

@@ -1,19 +1,18 @@
 -- Lines of the layout with what the table of frames has there, and where their parts begin.
-use Rattle.std.proofs.Common.{◌≡◌, ℕ, zero, suc, ◌+◌, ◌≤◌, ◌<◌, List, [], ◌∷◌, ◌++◌, length, drop, map, slice_get, slice_index_or, Option, Some, None, refl, sym, ap, ◌∙◌, subst, arith, append_assoc}
+use Rattle.std.proofs.Common.{◌≡◌, ◌⊎◌, inl, inr, ℕ, zero, suc, ◌+◌, ◌≤◌, ◌<◌, List, [], ◌∷◌, ◌++◌, length, map, slice_get, slice_index_or, Option, Some, None, refl, ap, subst, arith}
 use Rattle.std.proofs.lemmas.Option.{get_or_from_slice_get}
 use Rattle.aud_text.specs.declared.place.Pos.{Pos}
-use Rattle.aud_typed.specs.Tree.{Statement, sequence, plain_loop, Part, nothing, some, Handlers, no_handlers, handler, Body, body, Program}
+use Rattle.aud_typed.specs.Tree.{Statement, sequence, plain_loop, Part, nothing, some, Handlers, no_handlers, handler, Body, body, Doing, without_do, with_do, Alternatives, no_alternatives, accepting, delaying, terminating, Program}
 use Rattle.aud_meaning.specs.declared.state.Construct.{Construct}
+use Rattle.aud_meaning.specs.declared.state.Construct.TheVariants as construct
 use Rattle.aud_code.specs.Places.{Way}
-use Rattle.aud_code.specs.Flat.{Flat, FlatLine}
-use Rattle.aud_code.specs.Seen.{IsWritten, Fewer, WithinSees, OutSees, LastSees, GuardsSee}
-use Rattle.aud_layout.specs.Layout.{Line, Around, one_more, in_loop, in_for, in_block, around_out, ways_count, statement_size, part_size, handlers_size, main_size, end_place, stubs, stub_ways, guards_of, guard_line, end_line, part_place, statement_code, part_code, handlers_code, body_code, code_of}
-use Rattle.aud_layout.specs.Assembly as assembly
-use Rattle.aud_layout.specs.Assembly.{instructions_by, offset, guard_moved, last_by, within_moved, assembled_from, flat_program}
+use Rattle.aud_code.specs.Seen.{Fewer, EachSame, BodiesSee, WithinSees, OutSees, GuardsSee}
+use Rattle.aud_layout.specs.Layout.{Line, Around, one_more, in_loop, in_for, in_call, around_out, ways_count, statement_size, part_size, handlers_size, doing_size, main_size, end_place, stubs, stub_ways, guards_of, guard_line, end_line, part_place, doing_place, parts_from, bodies_from, statement_code, part_code, handlers_code, body_code, doing_code, offered_code, code_of}
+use Rattle.aud_layout.specs.Assembly.{instructions_by, offset, guard_moved, within_moved}
 use Rattle.aud_layout.specs.Opened.{opened_in, IsBefore}
 use Rattle.aud_layout.specs.Shows.{HasAt}
-use Rattle.aud_layout.proofs.Standing.Places.{has_front, has_back, has_tail, has_moved, length-statement, length-part, length-handlers}
-use Rattle.aud_layout.proofs.Flat.Numbers.{AllOpen, same_there, one_there, one_out, out_same, out_more}
+use Rattle.aud_layout.proofs.Standing.Places.{has_front, has_back, has_tail, length-statement, length-part, length-handlers, length-doing}
+use Rattle.aud_layout.proofs.Flat.Numbers.{same_there, one_there, one_out, out_same, out_more}
 
 pub before_later : (w : Option ℕ) (at to : ℕ) → at ≤ to → IsBefore w at → IsBefore w to
 before_later None at to h k = tt
@@ -154,6 +153,55 @@ module _ (program : Program) (tasks seen : List ℕ) (base : ℕ) where
   body_ends c (body d begin x hs end) at next out a n s here =
       let it = body_stands c d begin x hs end at next out a s in
       first_written _ _ _ n it.ended (here_on a.within at (end_place (body d begin x hs end) at (ways_count a)) n (omega arith) here)
+
+  -- What an accept does, whose step stands at the place opener, where n are open.
+
+  pub doing_begins : (d : Doing) (opener at next out n : ℕ) → Stands at (doing_code d opener at next out) → opener < at → slice_get seen (F opener) ≡ Some n → Fewer seen 0 n (F next) → Fewer seen 0 n (F (doing_place d at next)) ⊎ Fewer seen 0 (suc n) (F (doing_place d at next))
+  doing_begins without_do opener at next out n s before own k = inl k
+  doing_begins (with_do m b) opener at next out n s before own k =
+      inr (same_there seen (F at) (suc n) (body_begins construct.Accept b at next out (in_call (Some opener) (end_place b at 1)) (suc n) s (here_inside opener at n before own)))
+
+  -- of a select, what follows it, and the other alternatives
+  pub record OfferStands (d : Doing) (p : Part) (more : Alternatives) (opener at next : ℕ) (a : Around) : Type 0 where
+    pub doing : Stands at (doing_code d opener at (part_place p (at + doing_size d) next) a.out)
+    pub part : Stands (at + doing_size d) (part_code p (at + doing_size d) next a)
+    pub others : Stands (at + doing_size d + part_size p (ways_count a)) (offered_code more opener (at + doing_size d + part_size p (ways_count a)) next a)
+
+  pub offer_stands : (d : Doing) (p : Part) (more : Alternatives) (opener at next : ℕ) (a : Around) → let after = at + doing_size d in Stands at (doing_code d opener at (part_place p after next) a.out ++ (part_code p after next a ++ offered_code more opener (after + part_size p (ways_count a)) next a)) → OfferStands d p more opener at next a
+  offer_stands d p more opener at next a s =
+      let after = at + doing_size d in
+      let cd = doing_code d opener at (part_place p after next) a.out in
+      let cp = part_code p after next a in
+      let cm = offered_code more opener (after + part_size p (ways_count a)) next a in
+      let rest = back cd (cp ++ cm) at (doing_size d) (length-doing d opener at (part_place p after next) a.out) s in
+      record {
+        doing = front cd (cp ++ cm) at s;
+        part = front cp cm after rest;
+        others = back cp cm after (part_size p (ways_count a)) (length-part p after next a) rest;
+      }
+
+  -- what follows the alternatives of a select, and what their accepts do
+  pub record OffersBegin (o : Alternatives) (at next : ℕ) (a : Around) (n : ℕ) : Type 0 where
+    pub parts : EachSame seen n (map F (parts_from o at next (ways_count a)))
+    pub bodies : BodiesSee seen n (map F (bodies_from o at next (ways_count a)))
+
+  pub offers_begin : (o : Alternatives) (opener at next : ℕ) (a : Around) (n : ℕ) → Stands at (offered_code o opener at next a) → Here a.within at n → opener < at → slice_get seen (F opener) ≡ Some n → Fewer seen 0 n (F next) → OffersBegin o at next a n
+  offers_begin no_alternatives opener at next a n s here before own k = record { parts = tt; bodies = tt }
+  offers_begin (accepting g pos m d p more) opener at next a n s here before own k =
+      let after = at + doing_size d in
+      let later = after + part_size p (ways_count a) in
+      let it = offer_stands d p more opener at next a s in
+      let to = part_begins p after next a n it.part (here_on a.within at after n (omega arith) here) k in
+      let rest = offers_begin more opener later next a n it.others (here_on a.within at later n (omega arith) here) (omega (arith, before)) own k in
+      record { parts = (to, rest.parts); bodies = (doing_begins d opener at (part_place p after next) a.out n it.doing before own to, rest.bodies) }
+  offers_begin (delaying g x p more) opener at next a n s here before own k =
+      let later = at + part_size p (ways_count a) in
+      let to = part_begins p at next a n (front _ _ at s) here k in
+      let rest = offers_begin more opener later next a n (back _ _ at (part_size p (ways_count a)) (length-part p at next a) s) (here_on a.within at later n (omega arith) here) (omega (arith, before)) own k in
+      record { parts = (to, rest.parts); bodies = (inl to, rest.bodies) }
+  offers_begin (terminating g more) opener at next a n s here before own k =
+      let rest = offers_begin more opener at next a n s here before own k in
+      record { parts = (k, rest.parts); bodies = (inl k, rest.bodies) }
 
   -- What surrounds a statement: where ways lead out of it, and where exceptions go.
 

@@ -1,22 +1,22 @@
 -- The table that counts the frames of a scoped program's code fits it.
-use Rattle.std.proofs.Common.{◌≡◌, ◌⊎◌, inl, inr, ℕ, zero, suc, ◌+◌, ◌-◌, ◌≤◌, ◌<◌, List, [], ◌∷◌, ◌++◌, length, drop, map, get_or, slice_get, slice_index_or, true, Option, Some, None, refl, sym, ap, ◌∙◌, subst, arith, length-append}
+use Rattle.std.proofs.Common.{◌≡◌, ◌⊎◌, inl, inr, ℕ, zero, suc, ◌+◌, ◌-◌, ◌≤◌, ◌<◌, List, [], ◌∷◌, ◌++◌, length, drop, map, slice_get, slice_index_or, Option, Some, None, refl, sym, ap, ◌∙◌, subst, arith, length-append}
 use Rattle.std.proofs.lemmas.Bool.{cases_lt}
 use Rattle.std.proofs.lemmas.List.{drop-drop, length-drop}
 use Rattle.std.proofs.lemmas.Option.{slice_get_past}
 use Rattle.aud_typed.specs.Tree as tree
 use Rattle.aud_typed.specs.Tree.{Body, UnitPlan, Program}
-use Rattle.aud_typed.specs.Why.Scoped.{Elaborated, Scope, table, Entry, entry_of, no_entry, all_formals, none_yet, BodyScoped, UnitsScoped, MainEntry, IsScoped}
+use Rattle.aud_typed.specs.Why.Scoped.{Elaborated, Scope, table, Entry, entry_of, all_formals, none_yet, BodyScoped, UnitsScoped, MainEntry}
 use Rattle.aud_meaning.specs.declared.state.Construct.TheVariants as construct
 use Rattle.aud_meaning.specs.Items.{no_body}
 use Rattle.aud_code.specs.Instruction.{Instruction}
 use Rattle.aud_code.specs.Flat.{EndLine, FlatLine, instructs, end, start_at}
 use Rattle.aud_code.specs.Frames.{found_from, found}
-use Rattle.aud_code.specs.Seen.{IsWritten, NamesOpen, Fewer, BodySees, LineSees, PlaceSees, IsSeen}
-use Rattle.aud_scoped.specs.Declares.{BodyDeclares, BodiesDeclare, DeclaresInParts}
+use Rattle.aud_code.specs.Seen.{NamesOpen, Fewer, LineSees, PlaceSees}
+use Rattle.aud_scoped.specs.Declares.{BodyDeclares, BodiesDeclare}
 use Rattle.aud_layout.specs.Layout.{Line, in_call, body_size, end_place, unit_code, units_code, starts_from, spare_from, code_of}
 use Rattle.aud_layout.specs.Assembly.{instructions_by, line_size, offset, within_moved, end_line, step_lines, assembled_from, flat_program}
 use Rattle.aud_layout.specs.Law.{SeenTabledLaw}
-use Rattle.aud_layout.specs.Opened.{opened_in, IsBefore, next_start, BodyCounts, BodiesCount, level_of, task_bodies, CountsFrames}
+use Rattle.aud_layout.specs.Opened.{IsBefore, next_start, BodyCounts, BodiesCount, level_of, task_bodies}
 use Rattle.aud_layout.specs.Shows.{HasAt}
 use Rattle.aud_layout.proofs.Standing.Places.{has_front, has_back, has_tail, length-unit}
 use Rattle.aud_layout.proofs.Flat.Assembly.{from_step, its_length, length_assembled, offset_zero}

@@ -1,33 +1,37 @@
 -- The lines of each part of a scoped program see the frames that the table has there.
-use Rattle.std.proofs.Common.{◌≡◌, ℕ, zero, suc, ◌+◌, ◌≤◌, ◌<◌, List, [], ◌∷◌, ◌++◌, length, drop, map, slice_get, slice_index_or, Bool, true, false, Option, Some, None, refl, sym, ap, ◌∙◌, subst, arith, append_assoc}
+use Rattle.std.proofs.Common.{◌≡◌, inl, ℕ, zero, suc, ◌+◌, ◌≤◌, ◌<◌, List, [], ◌∷◌, ◌++◌, length, map, slice_get, slice_index_or, Bool, true, false, Option, Some, None, refl, sym, ap, ◌∙◌, subst, arith}
 use Rattle.aud_text.specs.declared.place.Pos.{Pos}
 use Rattle.aud_typed.specs.Tree as tree
-use Rattle.aud_typed.specs.Tree.{Statement, sequence, declare, declare_array, declare_tasks, declare_object, if_then, plain_loop, while_loop, for_loop, exit, return, return_value, block, procedure_call, own_entry_call, operation_call, entry_call, delay, accept, select, abort, Part, nothing, some, Handlers, no_handlers, handler, Body, body, TaskPlan, Program}
-use Rattle.aud_typed.specs.Why.Scoped.{Elaborated, Scope, scope_after, all_of_table, Entry, entry_of, no_task, task_of, table, CreatedScoped, AllCreatedScoped, StatementScoped, PartScoped, HandlersScoped, BodyScoped, none_yet}
+use Rattle.aud_typed.specs.Tree.{Statement, sequence, declare, declare_array, declare_tasks, declare_object, if_then, plain_loop, while_loop, for_loop, exit, return, return_value, block, procedure_call, own_entry_call, operation_call, entry_call, delay, accept, select, abort, Part, nothing, some, Handlers, no_handlers, handler, Body, body, Doing, without_do, with_do, Alternatives, no_alternatives, accepting, delaying, terminating, Callee, of_task, of_object, CallForm, TaskPlan, Program}
+use Rattle.aud_typed.specs.Why.Scoped.{Elaborated, Scope, scope_after, CalleeScoped, all_formals, all_of_table, Entry, entry_of, no_task, task_of, table, CreatedScoped, AllCreatedScoped, StatementScoped, PartScoped, DoingScoped, AlternativesScoped, HandlersScoped, BodyScoped, none_yet}
 use Rattle.aud_meaning.specs.declared.state.Construct.{Construct}
 use Rattle.aud_meaning.specs.declared.state.Construct.TheVariants as construct
 use Rattle.aud_code.specs.Places.{Way}
-use Rattle.aud_code.specs.Instruction.{Ending}
-use Rattle.aud_code.specs.Flat.{EndLine, FlatLine, start_at}
-use Rattle.aud_code.specs.Frames.{opener, Found}
-use Rattle.aud_code.specs.Seen.{IsWritten, inside, Fewer, WaysSee, WaySees, WithinSees, OutSees, BodySees, EndingSees, BehindSees, LastSees}
-use Rattle.aud_scoped.specs.Declares.{StatementDeclares, PartDeclares, HandlersDeclare, BodyDeclares}
-use Rattle.aud_layout.specs.Layout.{one_line, does, Line, Around, line, in_loop, in_for, in_block, around_out, ways_count, statement_size, part_size, handlers_size, body_size, main_size, end_place, stubs, stub_line, stubs_of, end_line, part_place, statement_code, part_code, handlers_code, body_code, code_of}
+use Rattle.aud_code.specs.Flat.{start_at}
+use Rattle.aud_code.specs.Frames.{found, opener, Found}
+use Rattle.aud_code.specs.Seen.{inside, Fewer, WaysSee, BodiesSee, WaySees, WithinSees, OutSees, BodySees, EndingSees, LastSees}
+use Rattle.aud_scoped.specs.Declares.{StatementDeclares, PartDeclares, HandlersDeclare, BodyDeclares, DoingDeclares, OfferedDeclare}
+use Rattle.aud_layout.specs.Layout.{one_line, Line, Around, line, in_loop, in_for, in_block, in_call, around_out, ways_count, statement_size, part_size, handlers_size, body_size, doing_size, offered_size, main_size, end_place, stubs, stubs_of, end_line, part_place, doing_place, parts_from, bodies_from, statement_code, part_code, handlers_code, body_code, doing_code, offered_code, code_of}
 use Rattle.aud_layout.specs.Assembly as assembly
 use Rattle.aud_layout.specs.Assembly.{instructions_by, offset, last_by, way_moved, within_moved, assembled_from, flat_program}
-use Rattle.aud_layout.specs.Instructions.{instructions_of, ending_of}
+use Rattle.aud_layout.specs.Instructions.{call_end, ending_of}
 use Rattle.aud_layout.specs.Opened.{body_of, task_bodies}
-use Rattle.aud_layout.proofs.Standing.Places.{length-statement, length-part, length-handlers, length-body}
+use Rattle.aud_layout.proofs.Standing.Places.{length-statement, length-part, length-handlers, length-body, length-doing, length-offered}
 use Rattle.aud_layout.proofs.Standing.Sizes.{count-block, last_is}
 use Rattle.aud_layout.proofs.Flat.Frames.{found_is}
-use Rattle.aud_layout.proofs.Flat.Numbers.{is_written, same_there, one_there, one_out, out_same, after_long, one_longer, open_long, AllOpen, names_open}
-use Rattle.aud_layout.proofs.Flat.Seeing.{F, M, lines, Written, Stands, front, back, tail, stands_moved, Here, here_on, here_inside, all_written, first_written, statement_begins, part_begins, guards_see, body_stands, body_begins, WaysOut, AroundSees, InsideSees, within_inside, exit_sees, loop_sees, for_sees, stubs_see}
+use Rattle.aud_layout.proofs.Flat.Numbers.{is_written, same_there, one_out, after_long, one_longer, open_long, AllOpen, names_open}
+use Rattle.aud_layout.proofs.Flat.Seeing.{lines, Stands, front, back, tail, stands_moved, Here, here_on, here_inside, all_written, first_written, statement_begins, part_begins, guards_see, body_stands, body_begins, body_ends, doing_begins, offer_stands, offers_begin, WaysOut, AroundSees, InsideSees, within_inside, exit_sees, loop_sees, for_sees, stubs_see}
 
 unit_of : (ts : List TaskPlan) (n : ℕ) → slice_index_or (map body_of ts) n 0 ≡ (slice_index_or ts n no_task).unit
 unit_of [] zero = refl
 unit_of [] (suc n) = refl
 unit_of (t ∷ ts) zero = refl
 unit_of (t ∷ ts) (suc n) = unit_of ts n
+
+-- a call of an entry opens no frame
+call_inside : (c : Callee) (entry : ℕ) (form : CallForm) (n : ℕ) → inside (call_end c entry form) n ≡ n
+call_inside (of_task t) entry form n = refl
+call_inside (of_object v) entry form n = refl
 
 module _ (program : Program) (seen : List ℕ) where
   -- a line with its number
@@ -83,6 +87,10 @@ module _ (program : Program) (seen : List ℕ) (base : ℕ) (entries : List Entr
       let m = length (entry_of entries u).outer in
       is_written (slice_get seen (start_at (flat_program program) u)) (suc m) (λ k. (1 ≤ k) × (k ≤ suc n)) (calls u there) (omega arith, omega (arith, long, e))
 
+  call_sees : (c : Callee) (entry : ℕ) (form : CallForm) (n : ℕ) (scope : Scope) → CalleeScoped c scope → EndingSees (flat_program program) T seen (call_end c entry form) n
+  call_sees (of_task t) entry form n scope h = tt
+  call_sees (of_object v) entry form n scope h = absurd h
+
   ending_sees : (s : Statement) (n : ℕ) (declares : Bool) (scope : Scope) → length scope ≡ n → Scoped s scope → StatementDeclares declares s → Creates declares s n → EndingSees (flat_program program) T seen (ending_of s) n
   ending_sees (declare_tasks at ts) n declares scope e sc dc cr =
       let c = cr dc in
@@ -93,22 +101,22 @@ module _ (program : Program) (seen : List ℕ) (base : ℕ) (entries : List Entr
   ending_sees (return_value at x) n declares scope e sc dc cr = absurd sc
   ending_sees (own_entry_call at es form) n declares scope e sc dc cr = absurd sc
   ending_sees (operation_call at v c) n declares scope e sc dc cr = absurd sc
-  ending_sees (entry_call at c p q) n declares scope e sc dc cr = absurd sc
-  ending_sees (delay at x) n declares scope e sc dc cr = absurd sc
-  ending_sees (accept at k d) n declares scope e sc dc cr = absurd sc
-  ending_sees (select at offered p) n declares scope e sc dc cr = absurd sc
+  ending_sees (entry_call at c p q) n declares scope e sc dc cr = call_sees c.callee c.entry c.form n scope sc.0.1
   ending_sees (abort at ts) n declares scope e sc dc cr = absurd sc
   ending_sees s n declares scope e sc dc cr = tt
 
-  -- a statement's own line, with its ways
-  own_line : (s : Statement) (ways : List ℕ) (leads : Option Way) (a : Around) (b : List Line) (at n : ℕ) (declares : Bool) (scope : Scope) → length scope ≡ n → Scoped s scope → StatementDeclares declares s → Creates declares s n → At at (line s ways [] leads a ∷ b) → Is a.within at n → WaysSee seen 0 n (inside (ending_of s) n) (map G ways) → WaySees seen n (way_moved G leads) → OutSees seen (K a.within) n (G a.out) → LineSeen program seen at (line s ways [] leads a)
-  own_line s ways leads a b at n declares scope e sc dc cr st here to out o = record {
+  -- a statement's own line, with its ways and what accepts do
+  line_with : (s : Statement) (ways bodies : List ℕ) (leads : Option Way) (a : Around) (b : List Line) (at n : ℕ) (declares : Bool) (scope : Scope) → length scope ≡ n → Scoped s scope → StatementDeclares declares s → Creates declares s n → At at (line s ways bodies leads a ∷ b) → Is a.within at n → WaysSee seen 0 n (inside (ending_of s) n) (map G ways) → BodiesSee seen n (map G bodies) → WaySees seen n (way_moved G leads) → OutSees seen (K a.within) n (G a.out) → LineSeen program seen at (line s ways bodies leads a)
+  line_with s ways bodies leads a b at n declares scope e sc dc cr st here to bs out o = record {
     frames = n;
     written = all_written program T seen base _ b at n st here;
     names = names_open scope program.plan entries n s e sc;
     within = here.within;
-    last = (ending_sees s n declares scope e sc dc cr, (to, (tt, (out, o))));
+    last = (ending_sees s n declares scope e sc dc cr, (to, (bs, (out, o))));
   }
+
+  own_line : (s : Statement) (ways : List ℕ) (leads : Option Way) (a : Around) (b : List Line) (at n : ℕ) (declares : Bool) (scope : Scope) → length scope ≡ n → Scoped s scope → StatementDeclares declares s → Creates declares s n → At at (line s ways [] leads a ∷ b) → Is a.within at n → WaysSee seen 0 n (inside (ending_of s) n) (map G ways) → WaySees seen n (way_moved G leads) → OutSees seen (K a.within) n (G a.out) → LineSeen program seen at (line s ways [] leads a)
+  own_line s ways leads a b at n declares scope e sc dc cr st here to out o = line_with s ways [] leads a b at n declares scope e sc dc cr st here to tt out o
 
   -- the ways out of a block
   stub_lines : (ws : List Way) (end : Pos) (w at place n : ℕ) → WaysOut program T seen base n ws → At at (stubs ws end (Some w) place) → Is (Some w) at (suc n) → EachSeen program seen at (stubs ws end (Some w) place)
@@ -132,6 +140,17 @@ module _ (program : Program) (seen : List ℕ) (base : ℕ) (entries : List Entr
   -- the end of a construct, wherever it stands
   abbrev EndSees : Construct → ℕ → ℕ → Option ℕ → ℕ → Type 0
   EndSees c next out w n = (pos : Pos) → LastSees (flat_program program) T seen (last_by G (end_line c pos next out w).what) n (assembly.end_line G (end_line c pos next out w))
+
+  -- the step of an accept or of a selective accept, of which exceptions go to out
+  record Opens (opener n out : ℕ) : Type 0 where
+    own : slice_get seen (G opener) ≡ Some n
+    behind : Found (found (flat_program program).lines (G opener)) (λ o. OutSees seen o.within n (G out))
+
+  opens : (s : Statement) (ways bodies : List ℕ) (leads : Option Way) (a : Around) (b : List Line) (at n : ℕ) → At at (line s ways bodies leads a ∷ b) → Is a.within at n → Around_ a n → Opens at n a.out
+  opens s ways bodies leads a b at n st here i = record {
+    own = first_written program T seen base _ b at n st here;
+    behind = found_is (lines program T seen base) at _ b (λ o. OutSees seen o.within n (G a.out)) st.has i.out;
+  }
 
   mutual
     pub statement_sees : (s : Statement) (at next : ℕ) (a : Around) (n : ℕ) (declares : Bool) (scope : Scope) → length scope ≡ n → Scoped s scope → StatementDeclares declares s → Creates declares s n → At at (statement_code s at next a) → Is a.within at n → Fewer seen 0 n (G next) → Around_ a n → EachSeen program seen at (statement_code s at next a)
@@ -211,9 +230,45 @@ module _ (program : Program) (seen : List ℕ) (base : ℕ) (entries : List Entr
     statement_sees (return pos) at next a n declares scope e sc dc cr st here k i =
         one_and (own_line (return pos) (next ∷ []) (Some a.back) a [] at n declares scope e sc dc cr st here (k, tt) i.back i.out) no_lines
     statement_sees (return_value pos x) at next a n declares scope e sc dc cr st here k i = absurd sc
-    statement_sees (entry_call pos c p q) at next a n declares scope e sc dc cr st here k i = absurd sc
-    statement_sees (accept pos m d) at next a n declares scope e sc dc cr st here k i = absurd sc
-    statement_sees (select pos offered p) at next a n declares scope e sc dc cr st here k i = absurd sc
+    statement_sees (entry_call pos c p q) at next a n declares scope e sc dc cr st here k i =
+        let size = part_size p (ways_count a) in
+        let second = suc at + size in
+        let long = length-part p (suc at) next a in
+        let rest = tail program T seen base _ _ at st in
+        let behind_call = front program T seen base _ _ (suc at) rest in
+        let otherwise = back program T seen base _ _ (suc at) size long rest in
+        let there = here_on program T seen base a.within at (suc at) n (omega arith) here in
+        let further = here_on program T seen base a.within at second n (omega arith) here in
+        let ways : List ℕ = part_place p (suc at) next ∷ part_place q second next ∷ [] in
+        let to : WaysSee seen 0 n n (map G ways) = (part_begins program T seen base p (suc at) next a n behind_call there k, (part_begins program T seen base q second next a n otherwise further k, tt)) in
+        one_and (own_line (entry_call pos c p q) ways None a _ at n declares scope e sc dc cr st here (subst (λ m. WaysSee seen 0 n m (map G ways)) (sym (call_inside c.callee c.entry c.form n)) to) tt i.out)
+        (joined program seen _ _ (suc at) size long
+        (part_sees p (suc at) next a n false scope e sc.1 dc.0 (λ t. absurd cc) behind_call there k i)
+        (part_sees q second next a n false scope e sc.2 dc.1 (λ t. absurd cc) otherwise further k i))
+    statement_sees (accept pos m d) at next a n declares scope e sc dc cr st here k i =
+        let rest = tail program T seen base _ _ at st in
+        let o = opens (accept pos m d) (next ∷ []) (doing_place d (suc at) next ∷ []) None a _ at n st here i in
+        let does = doing_begins program T seen base d at (suc at) next a.out n rest (omega arith) o.own k in
+        one_and (line_with (accept pos m d) (next ∷ []) (doing_place d (suc at) next ∷ []) None a _ at n declares scope e sc dc cr st here (k, tt) (does, tt) tt i.out)
+        (doing_sees d at (suc at) next a.out n scope e sc.1 dc (omega arith) rest k o)
+    statement_sees (select pos offered p) at next a n declares scope e sc dc cr st here k i =
+        let w = ways_count a in
+        let size = offered_size offered w in
+        let second = suc at + size in
+        let long = length-offered offered at (suc at) next a in
+        let rest = tail program T seen base _ _ at st in
+        let alternatives = front program T seen base _ _ (suc at) rest in
+        let else = back program T seen base _ _ (suc at) size long rest in
+        let there = here_on program T seen base a.within at (suc at) n (omega arith) here in
+        let further = here_on program T seen base a.within at second n (omega arith) here in
+        let ways : List ℕ = part_place p second next ∷ parts_from offered (suc at) next w in
+        let bodies : List ℕ = at ∷ bodies_from offered (suc at) next w in
+        let o = opens (select pos offered p) ways bodies None a _ at n st here i in
+        let places = offers_begin program T seen base offered at (suc at) next a n alternatives there (omega arith) o.own k in
+        one_and (line_with (select pos offered p) ways bodies None a _ at n declares scope e sc dc cr st here (part_begins program T seen base p second next a n else further k, places.parts) (inl (same_there seen (G at) n o.own), places.bodies) tt i.out)
+        (joined program seen _ _ (suc at) size long
+        (offered_see offered at (suc at) next a n scope e sc.0 dc.0 (omega arith) alternatives there k i o)
+        (part_sees p second next a n false scope e sc.1 dc.1 (λ t. absurd cc) else further k i))
     statement_sees s at next a n declares scope e sc dc cr st here k i =
         one_and (own_line s (next ∷ []) None a [] at n declares scope e sc dc cr st here (k, tt) tt i.out) no_lines
 
@@ -258,3 +313,37 @@ module _ (program : Program) (seen : List ℕ) (base : ℕ) (entries : List Entr
         (one_and (record { frames = m; written = all_written program T seen base _ _ guard m it.guarding here_guard; names = tt; within = here_guard.within; last = (guards_see program T seen base hs (suc guard) last (around_out last a) m it.handlers here_handlers, to_last) })
         (joined program seen _ _ (suc guard) _ (length-handlers hs (suc guard) last (around_out last a)) (handlers_see hs (suc guard) last (around_out last a) m (scope ++ all ∷ []) full sc.4 dc.1.1 it.handlers here_handlers to_last out_last)
         (one_and (record { frames = m; written = all_written program T seen base _ _ _ m ended here_end; names = tt; within = here_end.within; last = ends end }) no_lines))))
+
+    -- what an accept does, whose step stands at the place opener
+    doing_sees : (d : Doing) (opener at next out n : ℕ) (scope : Scope) → length scope ≡ n → DoingScoped program.plan entries d scope → DoingDeclares d → opener < at → At at (doing_code d opener at next out) → Fewer seen 0 n (G next) → Opens opener n out → EachSeen program seen at (doing_code d opener at next out)
+    doing_sees without_do opener at next out n scope e sc dc before st k o = no_lines
+    doing_sees (with_do m b) opener at next out n scope e sc dc before st k o =
+        let last = end_place b at 1 in
+        let inner = in_call (Some opener) last in
+        let here = here_inside program T seen base opener at n before o.own in
+        let around : InsideSees program T seen base inner (suc n) = record { exits = tt; back = same_there seen (G last) (suc n) (body_ends program T seen base construct.Accept b at next out inner (suc n) st here) } in
+        let ends : EndSees construct.Accept next out (Some opener) (suc n) = λ p. (k, o.behind) in
+        body_sees construct.Accept b at next out inner n (all_formals sc.0) (table program.plan m) scope e sc.1 dc st here around ends
+
+    offered_see : (x : Alternatives) (opener at next : ℕ) (a : Around) (n : ℕ) (scope : Scope) → length scope ≡ n → AlternativesScoped program.plan entries x scope → OfferedDeclare x → opener < at → At at (offered_code x opener at next a) → Is a.within at n → Fewer seen 0 n (G next) → Around_ a n → Opens opener n a.out → EachSeen program seen at (offered_code x opener at next a)
+    offered_see no_alternatives opener at next a n scope e sc dc before st here k i o = no_lines
+    offered_see (accepting g pos m d p more) opener at next a n scope e sc dc before st here k i o =
+        let after = at + doing_size d in
+        let later = after + part_size p (ways_count a) in
+        let it = offer_stands program T seen base d p more opener at next a st in
+        let there = here_on program T seen base a.within at after n (omega arith) here in
+        let further = here_on program T seen base a.within at later n (omega arith) here in
+        let to = part_begins program T seen base p after next a n it.part there k in
+        joined program seen _ _ at _ (length-doing d opener at (part_place p after next) a.out)
+        (doing_sees d opener at (part_place p after next) a.out n scope e sc.2 dc.0 before it.doing to o)
+        (joined program seen _ _ after _ (length-part p after next a)
+        (part_sees p after next a n false scope e sc.3 dc.1.0 (λ t. absurd cc) it.part there k i)
+        (offered_see more opener later next a n scope e sc.4 dc.1.1 (omega (arith, before)) it.others further k i o))
+    offered_see (delaying g x p more) opener at next a n scope e sc dc before st here k i o =
+        let size = part_size p (ways_count a) in
+        let long = length-part p at next a in
+        let further = here_on program T seen base a.within at (at + size) n (omega arith) here in
+        joined program seen _ _ at size long
+        (part_sees p at next a n false scope e sc.2 dc.0 (λ t. absurd cc) (front program T seen base _ _ at st) here k i)
+        (offered_see more opener (at + size) next a n scope e sc.3 dc.1 (omega (arith, before)) (back program T seen base _ _ at size long st) further k i o)
+    offered_see (terminating g more) opener at next a n scope e sc dc before st here k i o = offered_see more opener at next a n scope e sc.1 dc before st here k i o

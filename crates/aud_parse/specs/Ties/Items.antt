@@ -10,6 +10,10 @@ use Rattle.aud_syntax.specs.declared.tree.Formal.{Formal}
 use Rattle.aud_syntax.specs.declared.tree.EntryDeclaration.{EntryDeclaration}
 use Rattle.aud_syntax.specs.declared.tree.TaskDefinition.{TaskDefinition}
 use Rattle.aud_syntax.specs.declared.tree.AcceptStatement.{AcceptStatement}
+use Rattle.aud_syntax.specs.declared.tree.Delay.{Delay}
+use Rattle.aud_syntax.specs.declared.tree.Alternative.{Alternative}
+use Rattle.aud_syntax.specs.declared.tree.Guarded.{Guarded}
+use Rattle.aud_syntax.specs.declared.tree.Otherwise.{Otherwise}
 use Rattle.aud_syntax.specs.declared.tree.Declaration.{Declaration}
 use Rattle.aud_syntax.specs.declared.tree.Statement.{Statement}
 use Rattle.aud_syntax.specs.declared.tree.Statements.{Statements}
@@ -19,10 +23,12 @@ use Rattle.aud_syntax.specs.declared.tree.Bound.{Bound}
 use Rattle.aud_syntax.specs.declared.tree.Handler.{Handler}
 use Rattle.aud_syntax.specs.declared.tree.Body.{Body}
 use Rattle.aud_syntax.specs.declared.tree.Unit as declared
-use Rattle.aud_syntax.specs.Ties.View.{plain_expression, plain_maybe, plain_formal, plain_entry, plain_task_definition, plain_definition, plain_declaration, plain_declarations, plain_statement, plain_statements, plain_iteration, plain_choices, plain_body, plain_done, plain_accept, plain_unit}
-use Rattle.aud_grammar.specs.Actions.{Item, an_ident, assigned, called, some_names, a_variable, a_constant, a_declaration, a_statement, some_statements, a_body, a_unit, an_arm, an_iteration, a_bound, an_index, an_array, a_formal, a_definition, a_task, a_declare, a_handler, an_entry, a_doing, an_accept}
-use Rattle.aud_cursor.specs.Ties.Items.{vec_item, boxed_item}
+use Rattle.aud_syntax.specs.Plain as m
+use Rattle.aud_syntax.specs.Ties.View.{plain_expression, plain_maybe, plain_formal, plain_entry, plain_task_definition, plain_definition, plain_declaration, plain_declarations, plain_statement, plain_statements, plain_iteration, plain_choices, plain_body, plain_done, plain_accept, plain_others, plain_delay, plain_alternative, guarded_list, plain_other, plain_unit}
+use Rattle.aud_grammar.specs.Actions.{Item, an_ident, assigned, called, some_names, a_variable, a_constant, a_declaration, a_statement, some_statements, a_body, a_unit, an_arm, an_iteration, a_bound, an_index, an_array, a_formal, a_definition, a_task, a_declare, a_handler, an_entry, a_doing, an_accept, a_delay, an_alternative, further, an_otherwise}
+use Rattle.aud_cursor.specs.Ties.Items.{vec_item, opt_item, boxed_item}
 use Rattle.aud_parse_expr.specs.Ties.Items.{simple_item, expression_item}
+use Rattle.aud_parse.specs.Ties.Parts.{else_statements, unboxed}
 
 abbrev pub assigned_item : Expression → Item
 assigned_item x = assigned (plain_expression x)
@@ -127,6 +133,34 @@ done_item b = doing_item (Some b)
 
 abbrev pub boxed_accept_item : Box AcceptStatement Global → Item
 boxed_accept_item b = an_accept (plain_accept b.value)
+
+abbrev pub boxed_delay_item : Box Delay Global → Item
+boxed_delay_item b = a_delay (plain_delay b.value)
+
+-- the condition of a guard, if there is one
+abbrev pub guard_item : Option (Box Expression Global) → Item
+guard_item x = opt_item expression_item (unboxed x)
+
+abbrev pub alternative_item : Alternative → Item
+alternative_item x = an_alternative (plain_alternative x)
+
+abbrev pub boxed_alternative_item : Box Alternative Global → Item
+boxed_alternative_item b = alternative_item b.value
+
+-- the statements behind `else`, and no alternatives in front of them
+abbrev pub else_item : Box Statements Global → Item
+else_item b = further m.no_alternatives (plain_others (else_statements (Some b)))
+
+-- the same where there may be none
+abbrev pub last_item : Option (Box Statements Global) → Item
+last_item x = further m.no_alternatives (plain_others (else_statements x))
+
+-- the alternatives behind one, and the statements behind `else`
+abbrev pub further_item : Vec Guarded Global × Option (Box Statements Global) → Item
+further_item x = further (guarded_list x.0.items) (plain_others (else_statements x.1))
+
+abbrev pub boxed_otherwise_item : Box Otherwise Global → Item
+boxed_otherwise_item b = an_otherwise (plain_other b.value)
 
 abbrev pub unit_item : declared.Unit → Item
 unit_item x = a_unit (plain_unit x)

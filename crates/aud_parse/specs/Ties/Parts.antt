@@ -23,6 +23,11 @@ abbrev pub else_statements : Option (Box Statements Global) → List Statement
 else_statements None = []
 else_statements (Some b) = b.value.first ∷ b.value.others.items
 
+-- an expression out of its box
+abbrev pub unboxed : Option (Box Expression Global) → Option Expression
+unboxed None = None
+unboxed (Some b) = Some b.value
+
 -- how often a loop is gone through, and where it begins: at that, or at `loop`
 
 abbrev pub iteration_of : Option (Pos × Box Iteration Global) → m.Iteration

@@ -7,7 +7,7 @@ use Rattle.aud_meaning.specs.Configuration as meaning
 use Rattle.aud_meaning.specs.Effects.{innermost, is_loop, assigned}
 use Rattle.aud_meaning.specs.Ties.Stack.{Stack, on_innermost, opens_after, returning}
 use Rattle.aud_store.specs.declared.stack.Purpose.{Purpose}
-use Rattle.aud_store.specs.declared.stack.Purpose.TheVariants.{Body, Block, Loop, Procedure}
+use Rattle.aud_store.specs.declared.stack.Purpose.TheVariants.{Accept, Body, Block, Loop, Procedure}
 use Rattle.aud_store.specs.declared.stack.Open.{Open}
 use Rattle.aud_store.specs.Ties.Display.{Display, seen, placed, put_back, stands}
 use Rattle.aud_store.specs.Ties.Frames.{with_frame}
@@ -23,6 +23,7 @@ plain_purpose Body backs = for_body
 plain_purpose Block backs = for_block
 plain_purpose Loop backs = for_loop
 plain_purpose (Procedure level copies into) backs = for_procedure (returning backs into)
+plain_purpose (Accept call) backs = for_accept call
 
 -- how many it copies back
 abbrev pub copies_of : Purpose → ℕ
@@ -138,6 +139,11 @@ accepted_by (for_procedure r) rest = rest
 accepted_by (for_operation n r) rest = rest
 accepted_by (for_entry n i s b) rest = rest
 accepted_by (for_accept i) rest = i ∷ rest
+
+-- the call of an accept
+abbrev pub accepted_for : Purpose → Option ℕ
+accepted_for (Accept call) = Some call
+accepted_for purpose = None
 
 abbrev pub accepted_in : List Opened → List ℕ
 accepted_in [] = []

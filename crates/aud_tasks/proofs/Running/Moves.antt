@@ -1,8 +1,11 @@
--- Moves that stay, where what comes next of each task is of the same sort.
-use Rattle.std.proofs.Common.{◌≡◌, ℕ, zero, suc, List, [], ◌∷◌, ◌++◌, Option, Some, None, Bool, true, false, not, ◌&&◌, ◌||◌, if◌then◌else◌, map, refl, ap, sym, subst, ◌∙◌}
+-- Moves that stay, where what comes next of each task is of the same sort. Those of other tasks at a select or a call may differ, since
+-- guards and names depend on variables; then they have some moves all the same.
+use Rattle.std.proofs.Common.{◌≡◌, ◌+◌, ℕ, zero, suc, List, [], ◌∷◌, ◌++◌, drop, Option, Some, None, Bool, true, false, not, ◌&&◌, ◌||◌, if◌then◌else◌, map, refl, ap, sym, subst, ◌∙◌, arith}
+use Rattle.std.proofs.lemmas.Option.{same_Some}
 use Rattle.std.specs.Prelude.{Result, Ok, filter, nat_le, slice_get, slice_index_or}
 use Rattle.aud_text.specs.declared.raise.Raise.{Raise}
 use Rattle.aud_typed.specs.Tree.{Plan, ObjectPlan}
+use Rattle.aud_meaning.specs.declared.state.Move.{Move}
 use Rattle.aud_meaning.specs.declared.state.Status.{Status}
 use Rattle.aud_meaning.specs.declared.state.Status.TheVariants.{Created, Running, Activating, Accepting, Delaying, Calling, Completed, Terminated}
 use Rattle.aud_meaning.specs.declared.state.Owner.{Owner}
@@ -13,35 +16,79 @@ use Rattle.aud_meaning.specs.Evaluation.{Sight}
 use Rattle.aud_meaning.specs.Control.{Seen, Coming, simply, ending, selecting, calling, starting}
 use Rattle.aud_meaning.specs.Parts.{nobody, own_of, call_of, object_of, is_queued, owns, any, depends, may_terminate, Closable, body_master, in_action, open_alternatives}
 use Rattle.aud_meaning.specs.Tasks.{eligible, eligible_from}
-use Rattle.aud_meaning.specs.Run.{Turn, own_move, only, owner_idle, call_time_by, call_time, end_moves, each_or_one, alternatives_of, acting_moves, master_left_by, construct_left, is_leave, is_bound, Deferred, at_once, serve_moves, usual, under_way, turn_by, turn, turn_at, turn_moves, moves_from, has_ended, moves_by, moves}
+use Rattle.aud_meaning.specs.Run.{Turn, own_move, only, owner_idle, call_time_by, call_time, end_moves, each_or_one, alternatives_of, has_queue, acting_moves, master_left_by, construct_left, is_leave, is_bound, Deferred, at_once, serve_moves, usual, under_way, turn_by, turn, turn_at, turn_moves, moves_from, has_ended, moves_by, moves}
 use Rattle.aud_tasks.specs.Running.{is_acting}
+use Rattle.aud_tasks.proofs.Running.Whose.{AreOf, moves_of}
 
--- both leave a construct, or neither does
-abbrev pub AreAlike : Coming → Coming → Type 0
-AreAlike (simply w) (simply v) = Unit {0}
-AreAlike ending ending = Unit {0}
-AreAlike x y = x ≡ y
+-- the same in both, or of a task of which it may differ
+pub data SameOr (Other Same : Type 0) : Type 0 where
+  stays : Same → SameOr Other Same
+  differs : Other → SameOr Other Same
 
-pub alike_self : (x : Coming) → AreAlike x x
-alike_self (simply w) = tt
-alike_self ending = tt
-alike_self x = refl
+-- what comes next is of the same sort in both: both leave a construct, or neither does. What is open in a select, and who is called,
+-- may differ of some tasks
+abbrev pub AreAlike : Type 0 → Coming → Coming → Type 0
+AreAlike Other (simply w) (simply v) = Unit {0}
+AreAlike Other ending ending = Unit {0}
+AreAlike Other (selecting xs) (selecting ys) = SameOr Other (xs ≡ ys)
+AreAlike Other (calling t x) (calling u y) = SameOr Other ((t ≡ u) × (x ≡ y))
+AreAlike Other x y = x ≡ y
+
+pub alike_self : (Other : Type 0) (x : Coming) → AreAlike Other x x
+alike_self Other (simply w) = tt
+alike_self Other ending = tt
+alike_self Other (selecting xs) = stays refl
+alike_self Other (calling t x) = stays (refl, refl)
+alike_self Other (starting object reading) = refl
 
 -- the same task, elsewhere in its code
-pub record AlikeTask (t u : TaskAt Seen) : Type 0 where
+pub record AlikeTask (Other : Type 0) (t u : TaskAt Seen) : Type 0 where
   pub own : t.own ≡ u.own
-  pub coming : AreAlike t.control.coming u.control.coming
+  pub coming : AreAlike Other t.control.coming u.control.coming
 
-abbrev pub AlikeTasks : List (TaskAt Seen) → List (TaskAt Seen) → Type 0
-AlikeTasks [] [] = Unit {0}
-AlikeTasks (t ∷ ts) (u ∷ us) = AlikeTask t u × AlikeTasks ts us
-AlikeTasks ts us = ⊥
+-- from a number on
+abbrev pub AlikeTasks : (ℕ → Type 0) → ℕ → List (TaskAt Seen) → List (TaskAt Seen) → Type 0
+AlikeTasks Other n [] [] = Unit {0}
+AlikeTasks Other n (t ∷ ts) (u ∷ us) = AlikeTask (Other n) t u × AlikeTasks Other (suc n) ts us
+AlikeTasks Other n ts us = ⊥
 
-pub owns_alike : (ts us : List (TaskAt Seen)) → AlikeTasks ts us → owns ts ≡ owns us
-owns_alike [] [] h = refl
-owns_alike [] (u ∷ us) h = absurd h
-owns_alike (t ∷ ts) [] h = absurd h
-owns_alike (t ∷ ts) (u ∷ us) h = ap (λ o. o ∷ owns ts) h.0.own ∙ ap (λ os. u.own ∷ os) (owns_alike ts us h.1)
+-- Moves that are the same, or of which both have some.
+abbrev pub HasSome : List Move → Type 0
+HasSome [] = ⊥
+HasSome (m ∷ ms) = Unit {0}
+
+pub data AgreeMoves (Other : Type 0) (ms ns : List Move) : Type 0 where
+  same_moves : ms ≡ ns → AgreeMoves Other ms ns
+  some_moves : Other → HasSome ms → HasSome ns → AgreeMoves Other ms ns
+
+none_differ : {ms ns : List Move} → AgreeMoves ⊥ ms ns → ms ≡ ns
+none_differ (same_moves is) = is
+none_differ (some_moves other some there) = absurd other
+
+none_agree : {Other : Type 0} (ms ns : List Move) → AgreeMoves Other ms ns → ms ≡ [] → ns ≡ []
+none_agree ms ns (same_moves is) none = sym is ∙ none
+none_agree [] ns (some_moves other some there) none = absurd some
+none_agree (m ∷ ms) ns (some_moves other some there) none = absurd cc
+
+none_before : (ms ns : List Move) → ms ++ ns ≡ [] → ms ≡ []
+none_before [] ns h = refl
+none_before (m ∷ ms) ns h = absurd cc
+
+none_after : (ms ns : List Move) → ms ++ ns ≡ [] → ns ≡ []
+none_after [] ns h = h
+none_after (m ∷ ms) ns h = absurd cc
+
+head_of : (x y : Move) (xs ys : List Move) → x ∷ xs ≡ y ∷ ys → x ≡ y
+head_of x y xs ys h = same_Some x y (ap (λ l. slice_get l 0) h)
+
+tail_of : (x y : Move) (xs ys : List Move) → x ∷ xs ≡ y ∷ ys → xs ≡ ys
+tail_of x y xs ys h = ap (drop 1) h
+
+pub owns_alike : (Other : ℕ → Type 0) (n : ℕ) (ts us : List (TaskAt Seen)) → AlikeTasks Other n ts us → owns ts ≡ owns us
+owns_alike Other n [] [] h = refl
+owns_alike Other n [] (u ∷ us) h = absurd h
+owns_alike Other n (t ∷ ts) [] h = absurd h
+owns_alike Other n (t ∷ ts) (u ∷ us) h = ap (λ o. o ∷ owns ts) h.0.own ∙ ap (λ os. u.own ∷ os) (owns_alike Other (suc n) ts us h.1)
 
 any_owns : (f : Own → Bool) (ts : List (TaskAt Seen)) → any (λ (t : TaskAt Seen). f t.own) ts ≡ any f (owns ts)
 any_owns f [] = refl
@@ -74,10 +121,27 @@ module _ (plan : Plan) (barrier : ℕ → Sight → Result Bool Raise) (no_objec
   coming_there (calling (Some task) entry) n = ap (λ (o : Own). each_or_one plan barrier (alternatives_of plan barrier (open_alternatives o entry)) n) (own_there task)
   coming_there (starting object reading) n = refl
 
-  alike_there : (x y : Coming) (n : ℕ) → AreAlike x y → acting_moves plan barrier x n d ≡ acting_moves plan barrier y n e
-  alike_there (simply w) (simply v) n h = refl
-  alike_there ending ending n h = coming_there ending n
-  alike_there x y n h = ap (λ c. acting_moves plan barrier c n d) h ∙ coming_there y n
+  each_some : (picked : List ℕ) (n : ℕ) → HasSome (each_or_one plan barrier picked n)
+  each_some [] n = tt
+  each_some (a ∷ more) n = tt
+
+  call_some : (task : Option ℕ) (entry n : ℕ) (c : All Seen) → HasSome (acting_moves plan barrier (calling task entry) n c)
+  call_some None entry n c = tt
+  call_some (Some task) entry n c = each_some (alternatives_of plan barrier (open_alternatives (own_of task c) entry)) n
+
+  alike_there : (Other : Type 0) (x y : Coming) (n : ℕ) → AreAlike Other x y → AgreeMoves Other (acting_moves plan barrier x n d) (acting_moves plan barrier y n e)
+  alike_there Other (simply w) (simply v) n h = same_moves refl
+  alike_there Other ending ending n h = same_moves (coming_there ending n)
+  alike_there Other (selecting xs) (selecting ys) n (stays h) = same_moves (ap (λ zs. acting_moves plan barrier (selecting zs) n d) h ∙ coming_there (selecting ys) n)
+  alike_there Other (selecting xs) (selecting ys) n (differs other) =
+      some_moves other
+      (each_some (alternatives_of plan barrier (filter (has_queue plan barrier n d) xs)) n)
+      (each_some (alternatives_of plan barrier (filter (has_queue plan barrier n e) ys)) n)
+  alike_there Other (calling t x) (calling u y) n (stays h) =
+      same_moves
+      (ap (λ z. acting_moves plan barrier (calling z x) n d) h.0 ∙ ap (λ z. acting_moves plan barrier (calling u z) n d) h.1 ∙ coming_there (calling u y) n)
+  alike_there Other (calling t x) (calling u y) n (differs other) = some_moves other (call_some t x n d) (call_some u y n e)
+  alike_there Other x y n h = same_moves (ap (λ c. acting_moves plan barrier c n d) h ∙ coming_there y n)
 
   idle_there : (o : Owner) → owner_idle plan barrier o d ≡ owner_idle plan barrier o e
   idle_there (owner.Task m) = refl
@@ -92,15 +156,17 @@ module _ (plan : Plan) (barrier : ℕ → Sight → Result Bool Raise) (no_objec
   abbrev with_own : Seen → Own → TaskAt Seen
   with_own x own = record { control = x; own = own }
 
-  -- both give the same moves, and its own statements go on in both or in neither
-  record SameTurn (n : ℕ) (u v : Turn) : Type 0 where
-    moves : turn_moves plan barrier u n d ≡ turn_moves plan barrier v n e
+  -- both give the same moves, or some, and its own statements go on in both or in neither
+  record SameTurn (Other : Type 0) (n : ℕ) (u v : Turn) : Type 0 where
+    moves : AgreeMoves Other (turn_moves plan barrier u n d) (turn_moves plan barrier v n e)
     acts : is_acting u ≡ is_acting v
 
-  module _ (n : ℕ) (x y : Seen) (o : Own) (alike : AreAlike x.coming y.coming) where
-    leave_there : (a b : Coming) → AreAlike a b → is_leave a o ≡ is_leave b o
+  module _ (Other : Type 0) (n : ℕ) (x y : Seen) (o : Own) (alike : AreAlike Other x.coming y.coming) where
+    leave_there : (a b : Coming) → AreAlike Other a b → is_leave a o ≡ is_leave b o
     leave_there (simply w) (simply v) h = refl
     leave_there ending ending h = refl
+    leave_there (selecting xs) (selecting ys) h = refl
+    leave_there (calling t x) (calling u y) h = refl
     leave_there a b h = ap (λ c. is_leave c o) h
 
     bound_there : (status : Status) → is_bound plan barrier status n (with_own x o) d ≡ is_bound plan barrier status n (with_own y o) e
@@ -116,79 +182,158 @@ module _ (plan : Plan) (barrier : ℕ → Sight → Result Bool Raise) (no_objec
     deferred_there : Deferred plan barrier n (with_own x o) d ≡ Deferred plan barrier n (with_own y o) e
     deferred_there = ap (λ b. if in_action n d then true else b) (bound_there o.status)
 
-    usual_there : (serving : Option Serving) (status : Status) → SameTurn n (usual plan barrier serving status n (with_own x o) d) (usual plan barrier serving status n (with_own y o) e)
-    usual_there (Some s) status = record { moves = ap (λ r. serve_moves plan barrier r n) (serves_none s.object d ∙ sym (serves_none s.object e)); acts = refl }
-    usual_there None Created = record { moves = refl; acts = refl }
-    usual_there None Running = record { moves = alike_there x.coming y.coming n alike; acts = refl }
-    usual_there None Activating = record { moves = refl; acts = refl }
-    usual_there None Accepting = record { moves = refl; acts = refl }
-    usual_there None Delaying = record { moves = refl; acts = refl }
-    usual_there None Calling = record { moves = ap (λ times. map (λ time. own_move n) (filter (λ time. nat_le time d.clock) times)) (times_there (call_of o.call d)); acts = refl }
-    usual_there None Completed = record { moves = refl; acts = refl }
-    usual_there None Terminated = record { moves = refl; acts = refl }
+    usual_there : (serving : Option Serving) (status : Status) → SameTurn Other n (usual plan barrier serving status n (with_own x o) d) (usual plan barrier serving status n (with_own y o) e)
+    usual_there (Some s) status = record { moves = same_moves (ap (λ r. serve_moves plan barrier r n) (serves_none s.object d ∙ sym (serves_none s.object e))); acts = refl }
+    usual_there None Created = record { moves = same_moves refl; acts = refl }
+    usual_there None Running = record { moves = alike_there Other x.coming y.coming n alike; acts = refl }
+    usual_there None Activating = record { moves = same_moves refl; acts = refl }
+    usual_there None Accepting = record { moves = same_moves refl; acts = refl }
+    usual_there None Delaying = record { moves = same_moves refl; acts = refl }
+    usual_there None Calling = record { moves = same_moves (ap (λ times. map (λ time. own_move n) (filter (λ time. nat_le time d.clock) times)) (times_there (call_of o.call d))); acts = refl }
+    usual_there None Completed = record { moves = same_moves refl; acts = refl }
+    usual_there None Terminated = record { moves = same_moves refl; acts = refl }
 
-    once_there : (withdraw : Option ℕ) → SameTurn n (at_once plan barrier withdraw) (at_once plan barrier withdraw)
-    once_there None = record { moves = refl; acts = refl }
-    once_there (Some object) = record { moves = refl; acts = refl }
+    once_there : (withdraw : Option ℕ) → SameTurn Other n (at_once plan barrier withdraw) (at_once plan barrier withdraw)
+    once_there None = record { moves = same_moves refl; acts = refl }
+    once_there (Some object) = record { moves = same_moves refl; acts = refl }
 
-    under_there : (abnormal : Bool) → SameTurn n (under_way plan barrier abnormal n (with_own x o) d) (under_way plan barrier abnormal n (with_own y o) e)
+    under_there : (abnormal : Bool) → SameTurn Other n (under_way plan barrier abnormal n (with_own x o) d) (under_way plan barrier abnormal n (with_own y o) e)
     under_there false = usual_there o.serving o.status
     under_there true = by (Deferred plan barrier n (with_own x o) d) (Deferred plan barrier n (with_own y o) e) refl refl deferred_there
       where
-        by : (b c : Bool) → Deferred plan barrier n (with_own x o) d ≡ b → Deferred plan barrier n (with_own y o) e ≡ c → b ≡ c → SameTurn n (under_way plan barrier true n (with_own x o) d) (under_way plan barrier true n (with_own y o) e)
+        by : (b c : Bool) → Deferred plan barrier n (with_own x o) d ≡ b → Deferred plan barrier n (with_own y o) e ≡ c → b ≡ c → SameTurn Other n (under_way plan barrier true n (with_own x o) d) (under_way plan barrier true n (with_own y o) e)
         by true true f g h = rw (f, g) (usual_there o.serving o.status)
         by false false f g h = rw (f, g) (once_there o.withdraw)
         by true false f g h = absurd cc
         by false true f g h = absurd cc
 
-    turn_there : (status : Status) → SameTurn n (turn_by plan barrier status n (with_own x o) d) (turn_by plan barrier status n (with_own y o) e)
-    turn_there Created = record { moves = refl; acts = refl }
+    turn_there : (status : Status) → SameTurn Other n (turn_by plan barrier status n (with_own x o) d) (turn_by plan barrier status n (with_own y o) e)
+    turn_there Created = record { moves = same_moves refl; acts = refl }
     turn_there Running = under_there o.abnormal
     turn_there Activating = under_there o.abnormal
     turn_there Accepting = under_there o.abnormal
     turn_there Delaying = under_there o.abnormal
     turn_there Calling = under_there o.abnormal
-    turn_there Completed = record { moves = ap (λ (p : Own). only plan barrier (Closable (body_master p) d) n) (own_there n) ∙ ap (λ b. only plan barrier b n) (closable (body_master (own_of n e))); acts = refl }
-    turn_there Terminated = record { moves = refl; acts = refl }
+    turn_there Completed = record { moves = same_moves (ap (λ (p : Own). only plan barrier (Closable (body_master p) d) n) (own_there n) ∙ ap (λ b. only plan barrier b n) (closable (body_master (own_of n e)))); acts = refl }
+    turn_there Terminated = record { moves = same_moves refl; acts = refl }
 
-  task_there : (n : ℕ) (t u : TaskAt Seen) → AlikeTask t u → SameTurn n (turn plan barrier n t d) (turn plan barrier n u e)
-  task_there n t u h =
-      subst (λ (o : Own). SameTurn n (turn plan barrier n t d) (turn plan barrier n (with_own u.control o) e)) h.own
-      (turn_there n t.control u.control t.own h.coming t.own.status)
+  task_there : (Other : Type 0) (n : ℕ) (t u : TaskAt Seen) → AlikeTask Other t u → SameTurn Other n (turn plan barrier n t d) (turn plan barrier n u e)
+  task_there Other n t u h =
+      subst (λ (o : Own). SameTurn Other n (turn plan barrier n t d) (turn plan barrier n (with_own u.control o) e)) h.own
+      (turn_there Other n t.control u.control t.own h.coming t.own.status)
 
-  list_there : (n : ℕ) (ts vs : List (TaskAt Seen)) → AlikeTasks ts vs → moves_from plan barrier n ts d ≡ moves_from plan barrier n vs e
-  list_there n [] [] h = refl
-  list_there n [] (v ∷ vs) h = absurd h
-  list_there n (t ∷ ts) [] h = absurd h
-  list_there n (t ∷ ts) (v ∷ vs) h =
-      ap (λ ms. ms ++ moves_from plan barrier (suc n) ts d) (task_there n t v h.0).moves
-      ∙ ap (λ ms. turn_moves plan barrier (turn plan barrier n v e) n e ++ ms) (list_there (suc n) ts vs h.1)
+  acts_there : (Other : ℕ → Type 0) (n k i : ℕ) (ts vs : List (TaskAt Seen)) → k + i ≡ n → AlikeTasks Other k ts vs → is_acting (turn_at plan barrier (slice_get ts i) n d) ≡ is_acting (turn_at plan barrier (slice_get vs i) n e)
+  acts_there Other n k i [] [] at h = refl
+  acts_there Other n k i [] (v ∷ vs) at h = absurd h
+  acts_there Other n k i (t ∷ ts) [] at h = absurd h
+  acts_there Other n k zero (t ∷ ts) (v ∷ vs) at h = (task_there (Other k) n t v h.0).acts
+  acts_there Other n k (suc i) (t ∷ ts) (v ∷ vs) at h = acts_there Other n (suc k) i ts vs (omega (arith, at)) h.1
 
-  acts_there : (n i : ℕ) (ts vs : List (TaskAt Seen)) → AlikeTasks ts vs → is_acting (turn_at plan barrier (slice_get ts i) n d) ≡ is_acting (turn_at plan barrier (slice_get vs i) n e)
-  acts_there n i [] [] h = refl
-  acts_there n i [] (v ∷ vs) h = absurd h
-  acts_there n i (t ∷ ts) [] h = absurd h
-  acts_there n zero (t ∷ ts) (v ∷ vs) h = (task_there n t v h.0).acts
-  acts_there n (suc i) (t ∷ ts) (v ∷ vs) h = acts_there n i ts vs h.1
+  -- those of a task, in both
+  moves_of_task : (Other : ℕ → Type 0) (n : ℕ) (t v : TaskAt Seen) → AlikeTask (Other n) t v → AgreeMoves (Other n) (turn_moves plan barrier (turn plan barrier n t d) n d) (turn_moves plan barrier (turn plan barrier n v e) n e)
+  moves_of_task Other n t v h = (task_there (Other n) n t v h).moves
 
-module _ (plan : Plan) (barrier : ℕ → Sight → Result Bool Raise) (no_objects : plan.objects ≡ []) (d : All Seen) (us : List (TaskAt Seen)) (frames : List Frame) (choices : List ℕ) (steps : ℕ) (alike : AlikeTasks d.tasks us) where
+  -- where they differ of no task
+  all_there : (n : ℕ) (ts vs : List (TaskAt Seen)) → AlikeTasks (λ k. ⊥) n ts vs → moves_from plan barrier n ts d ≡ moves_from plan barrier n vs e
+  all_there n [] [] h = refl
+  all_there n [] (v ∷ vs) h = absurd h
+  all_there n (t ∷ ts) [] h = absurd h
+  all_there n (t ∷ ts) (v ∷ vs) h =
+      ap (λ ms. ms ++ moves_from plan barrier (suc n) ts d) (none_differ (moves_of_task (λ k. ⊥) n t v h.0))
+      ∙ ap (λ ms. turn_moves plan barrier (turn plan barrier n v e) n e ++ ms) (all_there (suc n) ts vs h.1)
+
+  -- none in both, where there is none in the one
+  none_there : (Other : ℕ → Type 0) (n : ℕ) (ts vs : List (TaskAt Seen)) → AlikeTasks Other n ts vs → moves_from plan barrier n ts d ≡ [] → moves_from plan barrier n vs e ≡ []
+  none_there Other n [] [] h none = refl
+  none_there Other n [] (v ∷ vs) h none = absurd h
+  none_there Other n (t ∷ ts) [] h none = absurd h
+  none_there Other n (t ∷ ts) (v ∷ vs) h none =
+      let ms = turn_moves plan barrier (turn plan barrier n t d) n d in
+      let ns = turn_moves plan barrier (turn plan barrier n v e) n e in
+      let here : ns ≡ [] = none_agree ms ns (moves_of_task Other n t v h.0) (none_before ms (moves_from plan barrier (suc n) ts d) none) in
+      ap (λ l. l ++ moves_from plan barrier (suc n) vs e) here
+      ∙ none_there Other (suc n) ts vs h.1 (none_after ms (moves_from plan barrier (suc n) ts d) none)
+
+  -- Of one task they do not differ. If its own move is the first one, it is so in both, and where it is alone, it is alone in both.
+  module _ (of : ℕ) where
+    abbrev Others : ℕ → Type 0
+    Others k = ¬ (k ≡ of)
+
+    abbrev Behind : List Move → List Move → Type 0
+    Behind others ms = (more : List Move) × (ms ≡ own_move of ∷ more) × (others ≡ [] → more ≡ [])
+
+    behind_here : (ms ns others rest left : List Move) → ms ≡ ns → ms ++ rest ≡ own_move of ∷ others → (ms ≡ [] → Behind others left) → (rest ≡ [] → left ≡ []) → Behind others (ns ++ left)
+    behind_here [] ns others rest left is first here none = subst (λ l. Behind others (l ++ left)) is (here refl)
+    behind_here (m ∷ ms) ns others rest left is first here none = subst (λ l. Behind others (l ++ left)) is (
+      ms ++ left,
+      ap (λ x. x ∷ (ms ++ left)) (head_of m (own_move of) (ms ++ rest) others first),
+      λ alone. let tail = tail_of m (own_move of) (ms ++ rest) others first ∙ alone in
+          ap (λ l. l ++ left) (none_before ms rest tail) ∙ none (none_after ms rest tail),
+    )
+
+    first_by : (n : ℕ) (ms ns rest left others : List Move) → AreOf n ms → AgreeMoves (Others n) ms ns → ms ++ rest ≡ own_move of ∷ others → (ms ≡ [] → Behind others left) → (rest ≡ [] → left ≡ []) → Behind others (ns ++ left)
+    first_by n ms ns rest left others theirs (same_moves is) first here none = behind_here ms ns others rest left is first here none
+    first_by n [] ns rest left others theirs (some_moves other some there) first here none = absurd some
+    first_by n (m ∷ ms) ns rest left others theirs (some_moves other some there) first here none =
+        absurd (other (sym theirs.0 ∙ ap (λ (x : Move). x.task) (head_of m (own_move of) (ms ++ rest) others first)))
+
+    first_there : (n : ℕ) (ts vs : List (TaskAt Seen)) (others : List Move) → AlikeTasks Others n ts vs → moves_from plan barrier n ts d ≡ own_move of ∷ others → Behind others (moves_from plan barrier n vs e)
+    first_there n [] [] others h first = absurd cc
+    first_there n [] (v ∷ vs) others h first = absurd h
+    first_there n (t ∷ ts) [] others h first = absurd h
+    first_there n (t ∷ ts) (v ∷ vs) others h first =
+        let ms = turn_moves plan barrier (turn plan barrier n t d) n d in
+        let ns = turn_moves plan barrier (turn plan barrier n v e) n e in
+        let rest = moves_from plan barrier (suc n) ts d in
+        first_by n ms ns rest (moves_from plan barrier (suc n) vs e) others
+        (moves_of plan barrier (turn plan barrier n t d) n d) (moves_of_task Others n t v h.0) first
+        (λ none. first_there (suc n) ts vs others h.1 (sym (ap (λ l. l ++ rest) none) ∙ first))
+        (none_there Others (suc n) ts vs h.1)
+
+module _ (plan : Plan) (barrier : ℕ → Sight → Result Bool Raise) (no_objects : plan.objects ≡ []) (Other : ℕ → Type 0) (d : All Seen) (us : List (TaskAt Seen)) (frames : List Frame) (choices : List ℕ) (steps : ℕ) (alike : AlikeTasks Other 0 d.tasks us) where
   abbrev there : All Seen
   there = record d { tasks = us; shared = record d.shared { frames = frames }; choices = choices; steps = steps }
 
-  ended_there : (ts vs : List (TaskAt Seen)) → AlikeTasks ts vs → has_ended plan barrier ts ≡ has_ended plan barrier vs
-  ended_there [] [] h = refl
-  ended_there [] (v ∷ vs) h = absurd h
-  ended_there (t ∷ ts) [] h = absurd h
-  ended_there (t ∷ ts) (v ∷ vs) h = ap (λ (o : Own). has_ended plan barrier (record t { own = o } ∷ ts)) h.0.own
+  ended_there : (n : ℕ) (ts vs : List (TaskAt Seen)) → AlikeTasks Other n ts vs → has_ended plan barrier ts ≡ has_ended plan barrier vs
+  ended_there n [] [] h = refl
+  ended_there n [] (v ∷ vs) h = absurd h
+  ended_there n (t ∷ ts) [] h = absurd h
+  ended_there n (t ∷ ts) (v ∷ vs) h = ap (λ (o : Own). has_ended plan barrier (record t { own = o } ∷ ts)) h.0.own
 
-  pub moves_there : moves plan barrier d ≡ moves plan barrier there
-  moves_there = ap (λ b. moves_by plan barrier b d.shared.cut d) (ended_there d.tasks us alike) ∙ by (has_ended plan barrier us) d.shared.cut
-    where
-      by : (ended cut : Bool) → moves_by plan barrier ended cut d ≡ moves_by plan barrier ended cut there
-      by true cut = refl
-      by false true = refl
-      by false false = list_there plan barrier no_objects d us frames choices steps (owns_alike d.tasks us alike) 0 d.tasks us alike
+  pub as_ended : has_ended plan barrier d.tasks ≡ has_ended plan barrier us
+  as_ended = ended_there 0 d.tasks us alike
 
   -- and its own statements go on at the next step of a task in both, or in neither
   pub acting_there : (n : ℕ) → is_acting (turn_at plan barrier (slice_get d.tasks n) n d) ≡ is_acting (turn_at plan barrier (slice_get us n) n there)
-  acting_there n = acts_there plan barrier no_objects d us frames choices steps (owns_alike d.tasks us alike) n n d.tasks us alike
+  acting_there n = acts_there plan barrier no_objects d us frames choices steps (owns_alike Other 0 d.tasks us alike) Other n 0 n d.tasks us (omega arith) alike
+
+-- nothing differs
+module _ (plan : Plan) (barrier : ℕ → Sight → Result Bool Raise) (no_objects : plan.objects ≡ []) (d : All Seen) (us : List (TaskAt Seen)) (frames : List Frame) (choices : List ℕ) (steps : ℕ) (alike : AlikeTasks (λ k. ⊥) 0 d.tasks us) where
+  abbrev same_there : All Seen
+  same_there = there plan barrier no_objects (λ k. ⊥) d us frames choices steps alike
+
+  pub moves_there : moves plan barrier d ≡ moves plan barrier same_there
+  moves_there = ap (λ b. moves_by plan barrier b d.shared.cut d) (as_ended plan barrier no_objects (λ k. ⊥) d us frames choices steps alike) ∙ by (has_ended plan barrier us) d.shared.cut
+    where
+      by : (ended cut : Bool) → moves_by plan barrier ended cut d ≡ moves_by plan barrier ended cut same_there
+      by true cut = refl
+      by false true = refl
+      by false false = all_there plan barrier no_objects d us frames choices steps (owns_alike (λ k. ⊥) 0 d.tasks us alike) 0 d.tasks us alike
+
+-- nothing differs of the task of a number
+module _ (plan : Plan) (barrier : ℕ → Sight → Result Bool Raise) (no_objects : plan.objects ≡ []) (of : ℕ) (d : All Seen) (us : List (TaskAt Seen)) (frames : List Frame) (choices : List ℕ) (steps : ℕ) (alike : AlikeTasks (λ k. ¬ (k ≡ of)) 0 d.tasks us) where
+  abbrev Different : ℕ → Type 0
+  Different k = ¬ (k ≡ of)
+
+  abbrev other_there : All Seen
+  other_there = there plan barrier no_objects Different d us frames choices steps alike
+
+  pub first_still : (others : List Move) → moves plan barrier d ≡ own_move of ∷ others → (more : List Move) × (moves plan barrier other_there ≡ own_move of ∷ more) × (others ≡ [] → more ≡ [])
+  first_still others first =
+      let is = as_ended plan barrier no_objects Different d us frames choices steps alike in
+      by (has_ended plan barrier us) d.shared.cut (sym (ap (λ b. moves_by plan barrier b d.shared.cut d) is) ∙ first)
+    where
+      by : (ended cut : Bool) → moves_by plan barrier ended cut d ≡ own_move of ∷ others → (more : List Move) × (moves_by plan barrier ended cut other_there ≡ own_move of ∷ more) × (others ≡ [] → more ≡ [])
+      by true cut h = absurd cc
+      by false true h = absurd cc
+      by false false h = first_there plan barrier no_objects d us frames choices steps (owns_alike Different 0 d.tasks us alike) of 0 d.tasks us others alike h

@@ -1,20 +1,18 @@
 -- Runs, one step after the other.
-use Rattle.std.proofs.Common.{◌≡◌, ◌<◌, ◌≤◌, ◌+◌, ◌-◌, ◌*◌, ℕ, zero, suc, List, [], ◌∷◌, ◌++◌, length, slice_get, Option, Some, None, Result, Ok, Err, Bool, true, false, not, map, refl, ap, sym, subst, ◌∙◌, arith}
-use Rattle.std.specs.Prelude.{◌%◌, drop, filter, nat_le}
-use Rattle.std.specs.Option.{is_some, unwrap_or}
+use Rattle.std.proofs.Common.{◌≡◌, ◌<◌, ◌≤◌, ◌+◌, ◌-◌, ◌*◌, ℕ, zero, suc, List, [], ◌∷◌, ◌++◌, length, slice_get, Option, Some, None, Result, Bool, true, false, refl, ap, sym, subst, ◌∙◌, arith}
+use Rattle.std.specs.Prelude.{◌%◌, drop}
+use Rattle.std.specs.Option.{unwrap_or}
 use Rattle.std.proofs.lemmas.Option.{get_or_from_slice_get, same_Some}
 use Rattle.std.proofs.Math.Nat.{mod-lt}
 use Rattle.aud_text.specs.declared.raise.Raise.{Raise}
 use Rattle.aud_text.specs.declared.limits.Limits.{Limits}
 use Rattle.aud_typed.specs.Tree.{Plan}
 use Rattle.aud_meaning.specs.declared.state.Move.{Move}
-use Rattle.aud_meaning.specs.declared.state.OpenDelay.{OpenDelay}
 use Rattle.aud_meaning.specs.Configuration.{Frame, Own, Shared, TaskAt, All}
 use Rattle.aud_meaning.specs.Evaluation.{Sight}
-use Rattle.aud_meaning.specs.Control.{Controls, Seen, Coming, simply, ending, selecting, calling, starting}
-use Rattle.aud_meaning.specs.Parts.{Closable, body_master, own_of, call_of, object_of, is_idle, in_the_way, open_alternatives, owns, with_frames}
-use Rattle.aud_meaning.specs.Tasks.{eligible}
-use Rattle.aud_meaning.specs.Run.{Turn, resting, closing, completing, withdrawing, serving, expiring, cancelling, acting, own_move, picks, only, each_or_one, serve_moves, end_moves, call_time, acting_moves, master_left_by, construct_left, alternatives_of, has_queue, turn, turn_moves, moves_from, moves_by, has_ended, moves_at, state_at, seen, seen_from, run_by, run_with, step_of, step_with, take_by, take_one}
+use Rattle.aud_meaning.specs.Control.{Controls, Seen}
+use Rattle.aud_meaning.specs.Parts.{owns, with_frames}
+use Rattle.aud_meaning.specs.Run.{turn, turn_moves, moves_from, moves_by, has_ended, moves_at, state_at, seen, seen_from, run_by, run_with, step_of, step_with, take_by, take_one}
 use Rattle.aud_meaning.specs.Why.Limits.{IsWithin}
 use Rattle.aud_meaning.proofs.Limits.Steps.{limits_law}
 use Rattle.aud_code.specs.Places.{Spot}
@@ -25,17 +23,14 @@ use Rattle.aud_over.proofs.Coding.{code_looks}
 use Rattle.aud_over.proofs.Left.{run_left}
 use Rattle.aud_tasks.specs.declared.run.Ran.{Ran}
 use Rattle.aud_expr.specs.Size.{size}
-use Rattle.aud_tasks.specs.Running.{acts_in, RunsLeaving, Takes, RunsOn, IsUnchosen, GoesOn, Picks, Chooses}
+use Rattle.aud_tasks.specs.Running.{RunsLeaving, Takes, RunsOn, IsUnchosen, Picks, Chooses}
 use Rattle.aud_tasks.proofs.Running.Still.{moves_unchosen}
+use Rattle.aud_tasks.proofs.Running.Whose.{AreOf, moves_of}
 
 -- the first of some
 headed : (ms : List Move) (m : Move) → slice_get ms 0 ≡ Some m → ms ≡ m ∷ drop 1 ms
 headed [] m h = absurd cc
 headed (x ∷ ms) m h = ap (λ o. unwrap_or o x ∷ ms) h
-
-pub some_of : (ms : List Move) (m : Move) → slice_get ms 0 ≡ Some m → 0 < length ms
-some_of [] m h = absurd cc
-some_of (x ∷ ms) m h = omega arith
 
 none_of : (ms : List Move) → slice_get ms 0 ≡ None → ms ≡ []
 none_of [] h = refl
@@ -55,24 +50,7 @@ few_behind (x ∷ y ∷ ms) few = absurd (omega (arith, few))
 not_alone : (ms : List Move) (m : Move) → ms ≡ m ∷ drop 1 ms → ¬ (length ms ≡ 1) → ¬ (drop 1 ms ≡ [])
 not_alone ms m is more none = let one = ap length is ∙ ap (λ l. length (m ∷ l)) none in more one
 
--- it picks nothing but its task
-pub is_own : (m : Move) → is_some m.alternative ≡ false → m ≡ own_move m.task
-is_own m h = by m.alternative h
-  where
-    by : (o : Option ℕ) → is_some o ≡ false → record m { alternative = o } ≡ own_move m.task
-    by None h = refl
-    by (Some n) h = absurd cc
-
 -- None waits, or there are no others.
-
-pub is_none_of : (m : Option Move) → is_some m ≡ false → m ≡ None
-is_none_of None h = refl
-is_none_of (Some m) h = absurd cc
-
-pub alone_at : (ms : List Move) → slice_get ms 1 ≡ None → length ms ≤ 1
-alone_at [] none = omega arith
-alone_at (x ∷ []) none = omega arith
-alone_at (x ∷ y ∷ ms) none = absurd cc
 
 pub nothing_chosen : (ms : List Move) → length ms ≤ 1 → (choices : List ℕ) → IsUnchosen (drop 1 ms) choices
 nothing_chosen ms few choices = subst (λ l. IsUnchosen l choices) (sym (few_behind ms few)) tt
@@ -82,23 +60,11 @@ nothing_waits [] choices none = tt
 nothing_waits (m ∷ ms) [] none = tt
 nothing_waits (m ∷ ms) (choice ∷ choices) none = absurd (omega (arith, none))
 
--- Whose move it is.
-
-abbrev pub AreOf : ℕ → List Move → Type 0
-AreOf n [] = Unit {0}
-AreOf n (m ∷ ms) = (m.task ≡ n) × AreOf n ms
+-- Below which number the tasks are.
 
 abbrev AreBelow : ℕ → List Move → Type 0
 AreBelow n [] = Unit {0}
 AreBelow n (m ∷ ms) = (m.task < n) × AreBelow n ms
-
-picks_of : (n a : ℕ) → (picks n a).task ≡ n
-picks_of n zero = refl
-picks_of n (suc a) = refl
-
-map_of : {A : Type 0} (n : ℕ) (f : A → Move) → ((x : A) → (f x).task ≡ n) → (xs : List A) → AreOf n (map f xs)
-map_of n f h [] = tt
-map_of n f h (x ∷ xs) = (h x, map_of n f h xs)
 
 below_of : (n bound : ℕ) → n < bound → (ms : List Move) → AreOf n ms → AreBelow bound ms
 below_of n bound within [] h = tt
@@ -114,45 +80,11 @@ below_at bound (x ∷ ms) zero m h at = subst (λ (y : Move). y.task < bound) (s
 below_at bound (x ∷ ms) (suc i) m h at = below_at bound ms i m h.1 at
 
 module _ (plan : Plan) (barrier : ℕ → Sight → Result Bool Raise) where
-  only_of : (b : Bool) (n : ℕ) → AreOf n (only plan barrier b n)
-  only_of true n = (refl, tt)
-  only_of false n = tt
-
-  each_of : (ns : List ℕ) (n : ℕ) → AreOf n (each_or_one plan barrier ns n)
-  each_of [] n = (refl, tt)
-  each_of (a ∷ more) n = map_of n (picks n) (picks_of n) (a ∷ more)
-
-  serve_of : (r : Result (List ℕ) Raise) (n : ℕ) → AreOf n (serve_moves plan barrier r n)
-  serve_of (Err x) n = (refl, tt)
-  serve_of (Ok places) n = each_of places n
-
-  end_of : (master : Option ℕ) (n : ℕ) (c : All Seen) → AreOf n (end_moves plan barrier master n c)
-  end_of None n c = (refl, tt)
-  end_of (Some master) n c = only_of (Closable master c) n
-
-  acting_of : (x : Coming) (n : ℕ) (c : All Seen) → AreOf n (acting_moves plan barrier x n c)
-  acting_of (simply w) n c = (refl, tt)
-  acting_of ending n c = end_of (master_left_by (construct_left (own_of n c))) n c
-  acting_of (selecting ones) n c = each_of (alternatives_of plan barrier (filter (has_queue plan barrier n c) ones)) n
-  acting_of (calling None entry) n c = (refl, tt)
-  acting_of (calling (Some task) entry) n c = each_of (alternatives_of plan barrier (open_alternatives (own_of task c) entry)) n
-  acting_of (starting object reading) n c = only_of (not (in_the_way n reading (object_of object c))) n
-
-  pub moves_of : (u : Turn) (n : ℕ) (c : All Seen) → AreOf n (turn_moves plan barrier u n c)
-  moves_of resting n c = tt
-  moves_of closing n c = only_of (Closable (body_master (own_of n c)) c) n
-  moves_of completing n c = (refl, tt)
-  moves_of (withdrawing object) n c = only_of (is_idle (object_of object c)) n
-  moves_of (serving s) n c = serve_of (eligible plan barrier s.object c) n
-  moves_of (expiring delays) n c = map_of n (λ (d : OpenDelay). picks n d.alternative) (λ d. picks_of n d.alternative) (filter (λ (d : OpenDelay). nat_le d.time c.clock) delays)
-  moves_of (cancelling id) n c = map_of n (λ (time : ℕ). own_move n) (λ time. refl) (filter (λ time. nat_le time c.clock) (call_time plan barrier (call_of id c) c))
-  moves_of (acting next) n c = acting_of next n c
-
   below_from : (bound n : ℕ) (ts : List (TaskAt Seen)) (c : All Seen) → n + length ts ≤ bound → AreBelow bound (moves_from plan barrier n ts c)
   below_from bound n [] c within = tt
   below_from bound n (t ∷ ts) c within =
       below_both bound (turn_moves plan barrier (turn plan barrier n t c) n c) (moves_from plan barrier (suc n) ts c)
-      (below_of n bound (omega (arith, within)) (turn_moves plan barrier (turn plan barrier n t c) n c) (moves_of (turn plan barrier n t c) n c))
+      (below_of n bound (omega (arith, within)) (turn_moves plan barrier (turn plan barrier n t c) n c) (moves_of plan barrier (turn plan barrier n t c) n c))
       (below_from bound (suc n) ts c (omega (arith, within)))
 
   below_by : (ended cut : Bool) (c : All Seen) → AreBelow (length c.tasks) (moves_by plan barrier ended cut c)
@@ -361,12 +293,3 @@ module _ (plan : Plan) (code : Flat) where
     pub chooses_by : (ms : List Move) → ms ≡ Moves old → 2 ≤ length ms → (chosen : Option Move) → chosen ≡ slice_get ms (choice % length ms) → Chooses plan code old new chosen
     chooses_by ms all several chosen at =
         chooses_from (Moves old) refl (subst (λ l. 2 ≤ length l) all several) chosen (at ∙ ap (λ l. slice_get l (choice % length l)) all)
-
-  -- the first one goes on
-  pub goes_first : (c : All Spot) (n : ℕ) (m : Move) → slice_get (Moves c) 0 ≡ Some m → m ≡ own_move n → IsUnchosen (drop 1 (Moves c)) c.choices → acts_in plan code n c ≡ true → GoesOn plan code n c
-  goes_first c n m at is unchosen acts = record {
-    others = drop 1 (Moves c);
-    moves = headed (Moves c) m at ∙ ap (λ (x : Move). x ∷ drop 1 (Moves c)) is;
-    unchosen = unchosen;
-    acts = acts;
-  }

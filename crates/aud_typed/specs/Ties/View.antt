@@ -1,7 +1,7 @@
--- The plain program of a program in memory. It has as yet nothing of entries and objects.
-use Rattle.std.specs.Prelude.{List, [], ◌∷◌, ◌++◌, map, None, Vec}
+-- The plain program of a program in memory. It has as yet no protected objects and functions, and nothing of abort.
+use Rattle.std.specs.Prelude.{ℕ, ◌+◌, ◌*◌, List, [], ◌∷◌, ◌++◌, map, Option, Some, None, Vec}
 use Rattle.std.specs.Global.{Global}
-use Rattle.aud_typed.specs.declared.program.IntegerExpression.{IntegerExpression, Number, Variable, Element', Unary', Chain', Row_of-Operation, end_of-Operation, more_of-Operation}
+use Rattle.aud_typed.specs.declared.program.IntegerExpression.{IntegerExpression, Number, Variable, Element', Unary', Chain', Count, Row_of-Operation, end_of-Operation, more_of-Operation}
 use Rattle.aud_typed.specs.declared.program.Connective.{Connective}
 use Rattle.aud_typed.specs.declared.program.Connective.TheVariants.{Logical, AndThen, OrElse}
 use Rattle.aud_typed.specs.declared.program.BooleanExpression as boolean
@@ -14,13 +14,24 @@ use Rattle.aud_typed.specs.declared.program.Reference.{Reference}
 use Rattle.aud_typed.specs.declared.program.Reference.TheVariants as reference
 use Rattle.aud_typed.specs.declared.program.Argument.{Argument}
 use Rattle.aud_typed.specs.declared.program.Argument.TheVariants.{ByValue, ByCopy}
+use Rattle.aud_typed.specs.declared.program.Duration.{Duration}
+use Rattle.aud_typed.specs.declared.program.DelayExpression.{DelayExpression}
+use Rattle.aud_typed.specs.declared.program.DelayExpression.TheVariants as delay
+use Rattle.aud_typed.specs.declared.program.CallForm.{CallForm}
+use Rattle.aud_typed.specs.declared.program.CallForm.TheVariants as form
 use Rattle.aud_typed.specs.declared.program.TextExpression.{TextExpression, Literal, Image, ImageTruth, Join', NewLine, Row_of-TextExpression, end_of-TextExpression, more_of-TextExpression}
-use Rattle.aud_typed.specs.declared.program.Statement.{Statement, Declare, DeclareArray, DeclareTasks, Activated, Null, Assign, Put, If', While', Loop', For', Exit, Raise, RaiseAgain, Block', Return, ProcedureCall, Row_of-Statement, end_of-Statement, more_of-Statement}
+use Rattle.aud_typed.specs.declared.program.Statement.{Statement, Declare, DeclareArray, DeclareTasks, Activated, Null, Assign, Put, If', While', Loop', For', Exit, Raise, RaiseAgain, Block', Return, ProcedureCall, EntryCall', Delay, Accept', Select', Row_of-Statement, end_of-Statement, more_of-Statement}
 use Rattle.aud_typed.specs.declared.program.Tasks.{Tasks}
 use Rattle.aud_typed.specs.declared.program.IfStatement.{IfStatement, IfStatement', out-IfStatement, Row_of-Arm, end_of-Arm, more_of-Arm}
 use Rattle.aud_typed.specs.declared.program.Arm.{Arm}
 use Rattle.aud_typed.specs.declared.program.ForStatement.{ForStatement, out-ForStatement}
 use Rattle.aud_typed.specs.declared.program.BlockStatement.{BlockStatement, BlockStatement', out-BlockStatement}
+use Rattle.aud_typed.specs.declared.program.EntryCallStatement.{EntryCallStatement, out-EntryCallStatement}
+use Rattle.aud_typed.specs.declared.program.AcceptStatement.{AcceptStatement, AcceptStatement', out-AcceptStatement, Held-AcceptStatement-doing, None', Some'}
+use Rattle.aud_typed.specs.declared.program.Doing.{Doing, Doing', out-Doing}
+use Rattle.aud_typed.specs.declared.program.SelectStatement.{SelectStatement, out-SelectStatement, Row_of-Alternative, end_of-Alternative, more_of-Alternative}
+use Rattle.aud_typed.specs.declared.program.Alternative as alternative
+use Rattle.aud_typed.specs.declared.program.Alternative.{Alternative}
 use Rattle.aud_typed.specs.declared.program.Body.{Body, Body', out-Body, Row_of-Handler, end_of-Handler, more_of-Handler}
 use Rattle.aud_typed.specs.declared.program.Handler.{Handler}
 use Rattle.aud_typed.specs.declared.program.Statements.{Statements}
@@ -41,6 +52,7 @@ abbrev mutual
   plain_integer (Element' a _ index) = tree.element a (plain_integer index)
   plain_integer (Unary' operator _ x) = tree.unary operator (plain_integer x)
   plain_integer (Chain' _ x _ rest) = tree.chained (plain_integer x) (plain_operations rest)
+  plain_integer (Count v entry) = tree.count v entry
 
   pub plain_operations : {n : _} → Row_of-Operation n → List tree.Operation
   plain_operations end_of-Operation = []
@@ -91,6 +103,21 @@ plain_argument (ByCopy is_in t r) = tree.by_copy is_in t (plain_reference r)
 abbrev pub plain_arguments : List Argument → List tree.Argument
 plain_arguments xs = map plain_argument xs
 
+abbrev pub milliseconds_in : Duration → ℕ
+milliseconds_in d = d.seconds * 1000 + d.thousandths
+
+abbrev pub plain_delay : DelayExpression → tree.DelayExpression
+plain_delay (delay.Fixed d) = tree.milliseconds (milliseconds_in d)
+plain_delay (delay.Seconds e) = tree.seconds (plain_integer e)
+
+abbrev pub plain_form : CallForm → tree.CallForm
+plain_form form.Plain = tree.plainly
+plain_form form.Conditional = tree.conditionally
+plain_form (form.Timed e) = tree.timed (plain_delay e)
+
+abbrev pub plain_call : TaskName → ℕ → List Argument → CallForm → tree.EntryCall
+plain_call task entry arguments form = record { callee = tree.of_task (plain_task task); entry = entry; arguments = plain_arguments arguments; form = plain_form form }
+
 abbrev mutual
   pub plain_text : TextExpression → tree.TextExpression
   plain_text (Literal text) = tree.literal text
@@ -126,6 +153,10 @@ abbrev mutual
   plain_statement (Block' _ b) = plain_block b
   plain_statement (Return at) = tree.return at
   plain_statement (ProcedureCall at unit arguments) = tree.procedure_call at (record { unit = unit; arguments = plain_arguments arguments.items; into = None })
+  plain_statement (EntryCall' _ at task entry arguments form _ after _ otherwise) = tree.entry_call at (plain_call task entry arguments.items form) (part_of (plain_row after)) (part_of (plain_row otherwise))
+  plain_statement (Delay at e) = tree.delay at (plain_delay e)
+  plain_statement (Accept' _ s) = plain_accept s
+  plain_statement (Select' _ at _ alternatives _ otherwise) = tree.select at (plain_alternatives alternatives) (part_of (plain_row otherwise))
 
   pub plain_row : {n : _} → Row_of-Statement n → List tree.Statement
   plain_row end_of-Statement = []
@@ -141,6 +172,29 @@ abbrev mutual
 
   pub plain_block : BlockStatement → tree.Statement
   plain_block (BlockStatement' at region b) = tree.block at region (plain_body b)
+
+  pub plain_accept : AcceptStatement → tree.Statement
+  plain_accept (AcceptStatement' at entry doing) = tree.accept at entry (plain_held doing)
+
+  pub plain_held : Held-AcceptStatement-doing → tree.Doing
+  plain_held None' = tree.without_do
+  plain_held (Some' doing) = plain_doing doing
+
+  pub plain_doing : Doing → tree.Doing
+  plain_doing (Doing' region b) = tree.with_do region (plain_body b)
+
+  pub plain_alternatives : {n : _} → Row_of-Alternative n → tree.Alternatives
+  plain_alternatives end_of-Alternative = tree.no_alternatives
+  plain_alternatives (more_of-Alternative a rest) = plain_alternative a (plain_alternatives rest)
+
+  -- an alternative, and those behind it
+  pub plain_alternative : Alternative → tree.Alternatives → tree.Alternatives
+  plain_alternative (alternative.Accept' guard accept _ after) rest = plain_accepting accept (plain_boolean guard) (part_of (plain_row after)) rest
+  plain_alternative (alternative.Delay' guard e _ after) rest = tree.delaying (plain_boolean guard) (plain_delay e) (part_of (plain_row after)) rest
+  plain_alternative (alternative.Terminate guard) rest = tree.terminating (plain_boolean guard) rest
+
+  pub plain_accepting : AcceptStatement → tree.BooleanExpression → Part → tree.Alternatives → tree.Alternatives
+  plain_accepting (AcceptStatement' at entry doing) guard after rest = tree.accepting guard at entry (plain_held doing) after rest
 
   pub plain_handlers : {n : _} → Row_of-Handler n → Handlers
   plain_handlers end_of-Handler = no_handlers
@@ -169,11 +223,15 @@ plain_region r = map plain_named r.items
 abbrev pub plain_unit : declared.Unit → tree.UnitBody
 plain_unit u = record { level = u.level; region = u.region; at = u.at; body = plain_body u.body }
 
+abbrev pub plain_task_type : TaskType → tree.TaskPlan
+plain_task_type t = record { unit = t.unit; entries = t.entries.items }
+
 abbrev pub plain_program : Program → tree.Program
 plain_program p = tree.program_of_units (record {
   name = p.name;
   units = map plain_unit p.units.items;
-  tasks = map (λ (t : TaskType). t.unit) p.tasks.items;
+  tasks = map plain_task_type p.tasks.items;
+  entries = p.entries.items;
   regions = map plain_region p.regions.items;
   exceptions = p.exceptions.items;
 })
@@ -217,3 +275,28 @@ body_in body =
 
 abbrev pub block_in : BlockStatement → tree.Statement
 block_in s = tree.block (out-BlockStatement s).at (out-BlockStatement s).region (body_in (out-BlockStatement s).body)
+
+abbrev pub entry_call_in : EntryCallStatement → tree.Statement
+entry_call_in s =
+    let o = out-EntryCallStatement s in
+    tree.entry_call o.at (plain_call o.task o.entry o.arguments.items o.form) (part_of (plain_statements o.after.items)) (part_of (plain_statements o.otherwise.items))
+
+abbrev pub doing_in : Option Doing → tree.Doing
+doing_in None = tree.without_do
+doing_in (Some doing) = tree.with_do (out-Doing doing).region (body_in (out-Doing doing).body)
+
+abbrev pub accept_in : AcceptStatement → tree.Statement
+accept_in s = let o = out-AcceptStatement s in tree.accept o.at o.entry (doing_in o.doing)
+
+-- an accept as an alternative, with its guard, what stands behind it, and the alternatives behind it
+abbrev pub accepting_in : AcceptStatement → tree.BooleanExpression → Part → tree.Alternatives → tree.Alternatives
+accepting_in s guard after rest = let o = out-AcceptStatement s in tree.accepting guard o.at o.entry (doing_in o.doing) after rest
+
+abbrev pub alternatives_in : List Alternative → tree.Alternatives
+alternatives_in [] = tree.no_alternatives
+alternatives_in (a ∷ rest) = plain_alternative a (alternatives_in rest)
+
+abbrev pub select_in : SelectStatement → tree.Statement
+select_in s =
+    let o = out-SelectStatement s in
+    tree.select o.at (alternatives_in o.alternatives.items) (part_of (plain_statements o.otherwise.items))

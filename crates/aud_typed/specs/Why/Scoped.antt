@@ -1,12 +1,12 @@
 -- Each variable that is read or assigned has been elaborated (RM 3.3.1, 8.3), and each table, exception and procedure is there: the
 -- items that a typed program names are there. As yet it is said of programs of procedures and tasks, with the statements below, and of
--- no others.
+-- no others; and not that a call of an entry has as many arguments as its accepts have formals.
 use Rattle.std.specs.Prelude.{◌≡◌, ℕ, suc, ◌+◌, ◌-◌, max, ◌<◌, ◌≤◌, List, [], ◌∷◌, ◌++◌, length, slice_index_or, None}
 use Rattle.aud_typed.specs.declared.program.Variable.{Variable}
 use Rattle.aud_typed.specs.declared.program.ArrayAt.{ArrayAt}
 use Rattle.aud_typed.specs.declared.program.Exception.{Exception}
 use Rattle.aud_typed.specs.declared.program.Exception.TheVariants.{Predefined, Declared}
-use Rattle.aud_typed.specs.Tree.{Argument, by_value, by_copy, Calling, UnitPlan, TaskPlan, IntegerExpression, number, variable, element, unary, binary, count, TaskName, single, indexed, BooleanExpression, truth, stored, negation, relation, comparison, logical, and_then, or_else, callable, terminated, ValueExpression, whole, boolean, Reference, scalar, component, TextExpression, literal, image, image_truth, join, new_line, Tasks, Statement, sequence, declare, declare_array, declare_tasks, activated, activate, null, assign, put, if_then, plain_loop, while_loop, for_loop, exit, return, raising, raising_again, block, procedure_call, Part, nothing, some, Handlers, no_handlers, handler, Body, body, Shown, as_whole, as_truth, as_wholes, as_truths, hidden, Named, Plan, Program}
+use Rattle.aud_typed.specs.Tree.{Argument, by_value, by_copy, Calling, UnitPlan, TaskPlan, IntegerExpression, number, variable, element, unary, binary, count, TaskName, single, indexed, DelayExpression, milliseconds, seconds, CallForm, plainly, conditionally, timed, Callee, of_task, of_object, EntryCall, BooleanExpression, truth, stored, negation, relation, comparison, logical, and_then, or_else, callable, terminated, ValueExpression, whole, boolean, Reference, scalar, component, TextExpression, literal, image, image_truth, join, new_line, Tasks, Statement, sequence, declare, declare_array, declare_tasks, activated, activate, null, assign, put, if_then, plain_loop, while_loop, for_loop, exit, return, raising, raising_again, block, procedure_call, entry_call, delay, accept, select, Doing, without_do, with_do, Alternatives, no_alternatives, accepting, delaying, terminating, Part, nothing, some, Handlers, no_handlers, handler, Body, body, Shown, as_whole, as_truth, as_wholes, as_truths, hidden, Named, Plan, Program}
 
 -- how many names of an open frame are elaborated, and how many cells they have
 pub record Elaborated : Type 0 where
@@ -38,7 +38,7 @@ IntegerScoped (variable v) scope = IsElaborated v scope
 IntegerScoped (element a index) scope = AreElaborated a scope × IntegerScoped index scope
 IntegerScoped (unary operator x) scope = IntegerScoped x scope
 IntegerScoped (binary operator x y) scope = IntegerScoped x scope × IntegerScoped y scope
-IntegerScoped (count v entry) scope = ⊥
+IntegerScoped (count v entry) scope = IsElaborated v scope
 
 abbrev pub ReferenceScoped : Reference → Scope → Type 0
 ReferenceScoped (scalar v subtype) scope = IsElaborated v scope
@@ -71,6 +71,19 @@ ArgumentScoped (by_copy is_in formal r) scope = ReferenceScoped r scope
 abbrev pub ArgumentsScoped : List Argument → Scope → Type 0
 ArgumentsScoped [] scope = Unit {0}
 ArgumentsScoped (x ∷ xs) scope = ArgumentScoped x scope × ArgumentsScoped xs scope
+
+abbrev pub DelayScoped : DelayExpression → Scope → Type 0
+DelayScoped (milliseconds n) scope = Unit {0}
+DelayScoped (seconds e) scope = IntegerScoped e scope
+
+abbrev pub FormScoped : CallForm → Scope → Type 0
+FormScoped plainly scope = Unit {0}
+FormScoped conditionally scope = Unit {0}
+FormScoped (timed e) scope = DelayScoped e scope
+
+abbrev pub CalleeScoped : Callee → Scope → Type 0
+CalleeScoped (of_task t) scope = TaskScoped t scope
+CalleeScoped (of_object v) scope = ⊥
 
 abbrev pub TextScoped : TextExpression → Scope → Type 0
 TextScoped (literal text) scope = Unit {0}
@@ -192,6 +205,10 @@ module _ (plan : Plan) (entries : List Entry) where
   AllCreatedScoped nothing scope = Unit {0}
   AllCreatedScoped (some s) scope = CreatedScoped s scope
 
+  -- of an entry that is there
+  abbrev pub EntryCallScoped : EntryCall → Scope → Type 0
+  EntryCallScoped c scope = (c.entry < length plan.entries) × CalleeScoped c.callee scope × ArgumentsScoped c.arguments scope × FormScoped c.form scope
+
   abbrev mutual
     pub StatementScoped : Statement → Scope → Type 0
     StatementScoped (sequence a b) scope = StatementScoped a scope × StatementScoped b (scope_after a scope)
@@ -215,11 +232,26 @@ module _ (plan : Plan) (entries : List Entry) where
     StatementScoped (return at) scope = Unit {0}
     StatementScoped (block at n b) scope = BodyScoped b none_yet (table plan n) scope
     StatementScoped (procedure_call at c) scope = CallScoped c scope
+    StatementScoped (entry_call at c p q) scope = EntryCallScoped c scope × PartScoped p scope × PartScoped q scope
+    StatementScoped (delay at e) scope = DelayScoped e scope
+    StatementScoped (accept at n d) scope = (n < length plan.entries) × DoingScoped d scope
+    StatementScoped (select at offered p) scope = AlternativesScoped offered scope × PartScoped p scope
     StatementScoped _ scope = ⊥
 
     pub PartScoped : Part → Scope → Type 0
     PartScoped nothing scope = Unit {0}
     PartScoped (some s) scope = StatementScoped s scope
+
+    -- formals are elaborated when a call is accepted
+    pub DoingScoped : Doing → Scope → Type 0
+    DoingScoped without_do scope = Unit {0}
+    DoingScoped (with_do n b) scope = (formals : ℕ) × BodyScoped b (all_formals formals) (table plan n) scope
+
+    pub AlternativesScoped : Alternatives → Scope → Type 0
+    AlternativesScoped no_alternatives scope = Unit {0}
+    AlternativesScoped (accepting g at n d p more) scope = BooleanScoped g scope × (n < length plan.entries) × DoingScoped d scope × PartScoped p scope × AlternativesScoped more scope
+    AlternativesScoped (delaying g e p more) scope = BooleanScoped g scope × DelayScoped e scope × PartScoped p scope × AlternativesScoped more scope
+    AlternativesScoped (terminating g more) scope = BooleanScoped g scope × AlternativesScoped more scope
 
     pub HandlersScoped : Handlers → Scope → Type 0
     HandlersScoped no_handlers scope = Unit {0}

@@ -1,30 +1,31 @@
-use Rattle.std.specs.Prelude.{None}
-use Rattle.std.proofs.Common.{◌+◌, drop, get_or, ap, subst, ◌∙◌}
+use Rattle.std.specs.Prelude.{None, []}
+use Rattle.std.proofs.Common.{◌+◌, drop, get_or, ap, subst, ◌∙◌, arith}
 use Rattle.std.proofs.lemmas.List.{nil_from_length}
 use Rattle.aud_syntax.specs.declared.tree.Mode.TheVariants.{Unstated}
 use Rattle.aud_syntax.specs.Ties.View.{plain_expression, plain_expressions}
-use Rattle.aud_names.specs.declared.names.Parameter.{Parameter}
+use Rattle.aud_syntax.proofs.Written.{dropped}
+use Rattle.aud_names.specs.declared.names.NamedParameter.{NamedParameter}
 use Rattle.aud_check_bodies.specs.Ties.Passed.{plain_all_passed, one_more_passed}
 use Rattle.aud_check_bodies.proofs.Passing.{formals_dropped, PassedAhead, passed_ahead, passed_short}
 use Rattle.aud_check_bodies.proofs.argument.all_passed.Goals as goal
 
-pub loop-parameter-preserved : goal.loop-parameter-preserved
-loop-parameter-preserved c =
+pub loop-formal-preserved : goal.loop-formal-preserved
+loop-formal-preserved c =
     let place = c.args.scope.now in
     let profile = c.args.profile.now in
-    let i = c.loop-parameter.parameter-index in
-    let d : Parameter = record { mode = Unstated; subtype = None } in
+    let i = c.loop-formal.formal-index in
+    let item = c.formal-item.result in
     let x = plain_expression c.in-Some.next.now in
     let others = plain_expressions c.in-Some.others.now in
-    let made = c.in_ok-all-in-Some.ensures ∙ ap (λ z. one_more_passed (plain_all_passed c.loop-parameter.all) z) c.in_ok-passed-in-Some.ensures.1 in
-    passed_ahead place c.args.faults.now c.loop-parameter.faults c.passed.new.faults (plain_all_passed c.loop-parameter.all) (plain_all_passed c.in_ok-all-in-Some.all) (get_or profile i d) (drop (i + 1) profile) (drop i profile) profile x others (plain_expressions c.args.args.now)
-    (formals_dropped profile i d c.loop-parameter-test.true) (subst (λ l. PassedAhead c.loop-parameter.faults (plain_all_passed c.loop-parameter.all) (drop i profile) (plain_expressions l) place c.args.faults.now profile (plain_expressions c.args.args.now)) c.in-Some.ensures.cases.0 c.loop-parameter.invariant) c.in_ok-passed-in-Some.ensures.0 made
+    let made = c.in_ok-all-in-Some.ensures ∙ ap (λ z. one_more_passed (plain_all_passed c.loop-formal.all) z) c.in_ok-passed-in-Some.ensures.1 in
+    passed_ahead place c.args.faults.now c.loop-formal.faults c.passed.new.faults (plain_all_passed c.loop-formal.all) (plain_all_passed c.in_ok-all-in-Some.all) item (drop (i + 1) profile) (drop i profile) profile x others (plain_expressions c.args.args.now)
+    (dropped profile i item (omega arith) c.formal-item.is) (subst (λ l. PassedAhead c.loop-formal.faults (plain_all_passed c.loop-formal.all) (drop i profile) (plain_expressions l) place c.args.faults.now profile (plain_expressions c.args.args.now)) c.in-Some.ensures.cases.0 c.loop-formal.invariant) c.in_ok-passed-in-Some.ensures.0 made
 
 -- fewer arguments than formals
 pub returns-in-None : goal.returns-in-None
 returns-in-None c =
     let profile = c.args.profile.now in
-    let i = c.loop-parameter.parameter-index in
-    let d : Parameter = record { mode = Unstated; subtype = None } in
-    passed_short c.args.scope.now c.args.faults.now c.loop-parameter.faults (plain_all_passed c.loop-parameter.all) (get_or profile i d) (drop (i + 1) profile) (drop i profile) profile (plain_expressions c.args.args.now) (formals_dropped profile i d c.loop-parameter-test.true)
-    (subst (λ l. PassedAhead c.loop-parameter.faults (plain_all_passed c.loop-parameter.all) (drop i profile) (plain_expressions l) c.args.scope.now c.args.faults.now profile (plain_expressions c.args.args.now)) (nil_from_length c.loop-parameter.rest.now c.in-None.ensures.cases) c.loop-parameter.invariant)
+    let i = c.loop-formal.formal-index in
+    let d : NamedParameter = record { name = []; parameter = record { mode = Unstated; subtype = None } } in
+    passed_short c.args.scope.now c.args.faults.now c.loop-formal.faults (plain_all_passed c.loop-formal.all) (get_or profile i d) (drop (i + 1) profile) (drop i profile) profile (plain_expressions c.args.args.now) (formals_dropped profile i d c.loop-formal-test.true)
+    (subst (λ l. PassedAhead c.loop-formal.faults (plain_all_passed c.loop-formal.all) (drop i profile) (plain_expressions l) c.args.scope.now c.args.faults.now profile (plain_expressions c.args.args.now)) (nil_from_length c.loop-formal.rest.now c.in-None.ensures.cases) c.loop-formal.invariant)

@@ -1,7 +1,9 @@
 use Rattle.std.proofs.Common.{IfOk, ◌≡◌, ◌+◌, ◌++◌, ◌∷◌, drop, map, sym, ap, subst, ◌∙◌, refl, arith, true, false}
 use Rattle.std.proofs.lemmas.List.{drop_all}
-use Rattle.std.specs.Prelude.{ℕ, List, Box, Vec, Ok, OnOk, is_some}
+use Rattle.std.specs.Prelude.{ℕ, List, [], Box, Vec, Option, Some, Ok, OnOk, is_some}
 use Rattle.std.specs.Global.{Global}
+use Rattle.aud_syntax.specs.declared.tree.AcceptStatement.{out-AcceptStatement}
+use Rattle.aud_syntax.specs.declared.tree.SelectStatement.{out-SelectStatement}
 use Rattle.aud_syntax.specs.declared.tree.IfStatement.{out-IfStatement}
 use Rattle.aud_syntax.specs.declared.tree.BlockStatement.{out-BlockStatement}
 use Rattle.aud_syntax.specs.declared.tree.ProcedureDeclaration.{out-ProcedureDeclaration}
@@ -10,19 +12,28 @@ use Rattle.aud_syntax.specs.declared.tree.Body.{out-Body}
 use Rattle.aud_text.specs.declared.place.Pos.{Pos}
 use Rattle.aud_syntax.specs.Plain as m
 use Rattle.aud_typed.specs.declared.program.Arm as memory
+use Rattle.aud_typed.specs.declared.program.Alternative as memory_alternative
+use Rattle.aud_typed.specs.declared.program.AcceptStatement as memory_accept
+use Rattle.aud_typed.specs.declared.program.BooleanExpression.{BooleanExpression}
+use Rattle.aud_typed.specs.declared.program.CallForm as memory_form
+use Rattle.aud_typed.specs.declared.program.DelayExpression.{DelayExpression}
 use Rattle.aud_typed.specs.Tree as tree
-use Rattle.aud_syntax.specs.Ties.View.{plain_expression, plain_name, plain_maybe, plain_parameter, plain_declarations, plain_statement, plain_statements, plain_others, arm_list, handler_list, plain_choices, plain_if_statement, plain_loop_statement, plain_block_statement, plain_body, plain_formal, plain_declaration, plain_procedure, plain_task_body, plain_definition}
-use Rattle.aud_syntax.proofs.Opened.{if_open, loop_open, block_open, body_open, procedure_open, task_body_open}
+use Rattle.aud_typed.specs.Tree.{CallForm}
+use Rattle.aud_syntax.specs.Ties.View.{plain_expression, plain_name, plain_maybe, plain_parameter, plain_declarations, plain_statement, plain_statements, plain_others, arm_list, guarded_list, handler_list, plain_choices, plain_delay, plain_done, plain_accept, plain_other, plain_alternative as plain_source_alternative, plain_select_statement, plain_selected_call, plain_if_statement, plain_loop_statement, plain_block_statement, plain_body, plain_formal, plain_declaration, plain_procedure, plain_task_body}
+use Rattle.aud_syntax.proofs.Opened.{accept_open, select_open, selected_call_open, accept_alternative_open, delay_alternative_open, or_delay_open, or_else_open, if_open, loop_open, block_open, body_open, procedure_open, task_body_open}
 use Rattle.aud_syntax.proofs.Written.{dropped}
-use Rattle.aud_typed.specs.Ties.View.{plain_statement as plain_typed_statement, plain_statements as plain_typed_statements, plain_body as plain_typed_body, plain_unit as plain_typed_unit, plain_integer, plain_boolean, statements_in}
+use Rattle.aud_typed.specs.Ties.View.{plain_statement as plain_typed_statement, plain_statements as plain_typed_statements, plain_body as plain_typed_body, plain_unit as plain_typed_unit, plain_integer, plain_boolean, plain_delay as plain_typed_delay, plain_form, statements_in}
 use Rattle.aud_fault.specs.declared.fault.Fault.{Fault}
 use Rattle.aud_fault.specs.Least.{noted}
-use Rattle.aud_names.specs.Names.{Region, Place, innermost, place_in, next_frame, in_frame, task_place, task_region, running, body_come}
+use Rattle.aud_names.specs.Names.{Region, Place, innermost, place_in, next_frame, body_frame, in_frame, task_place, own_region, task_region, running}
 use Rattle.aud_check_bodies.specs.Regions.{shown_names, loop_region, in_loop}
 use Rattle.aud_check_bodies.specs.declared.declaration.DeclarativePart.{DeclarativePart}
 use Rattle.aud_check_bodies.specs.Declarations.{Declared, checked_objects, checked_arrays, with_procedure}
-use Rattle.aud_check_bodies.specs.Tasks.{with_bodies, without_bodies, matched_faults, body_unit, body_tables, unit_awaited, place_behind, with_activation}
+use Rattle.aud_check_bodies.specs.Tasks.{with_bodies, without_bodies, body_unit, body_task, task_awaited, place_behind, with_activation}
 use Rattle.aud_check_bodies.specs.Formals.{Formals, checked_formals}
+use Rattle.aud_check_bodies.specs.Accepts.{TypedAccept, accept_formals, accept_faults, accepted, number_of, with_accepted}
+use Rattle.aud_check_bodies.specs.Delays.{delay_at, delay_faults, typed_delay}
+use Rattle.aud_check_bodies.specs.Selects.{TypedAlternative, accepts, delays, terminates, alternatives_of, form_of}
 use Rattle.aud_check_bodies.specs.Ties.DeclarativePart.{Declares, Enters}
 use Rattle.aud_names.specs.Ties.Regions.{plain_region, plain_regions, plain_place, names_in}
 use Rattle.aud_check_bodies.specs.Ties.Tables.{plain_tables}
@@ -31,18 +42,20 @@ use Rattle.aud_check_bodies.specs.Labels.{Labels}
 use Rattle.aud_check_bodies.specs.Ties.Labels.{plain_labels}
 use Rattle.aud_typing.specs.Conditions.{condition_faults, condition, maybe_condition_faults, maybe_condition}
 use Rattle.aud_check_bodies.specs.Assignments.{assign_faults, typed_assign}
-use Rattle.aud_check_bodies.specs.Calls.{call_faults, typed_call}
+use Rattle.aud_check_bodies.specs.Calls.{EntryCalled, call_faults, typed_call, entry_call_of, selected_call}
 use Rattle.aud_check_bodies.specs.Handlers.{raise_faults, typed_raise, none_chosen, all_choices_faults, is_others, choices_of}
-use Rattle.aud_check_bodies.specs.Tables.{Tables, Outcome, no_tables, fine, and_then, next_region, with_region, region_kept, region_named, next_unit, unit_kept, with_unit}
-use Rattle.aud_check_bodies.specs.Statements.{Around, nothing_around, task_around, begin_of, TypedStatements, TypedArm, TypedHandler, TypedBody, begin_at, return_faults, typed_return, end_name, end_semicolon, procedure_place, procedure_formals, body_with, labelled, handling, loop_number, arm_then, arms_then, arm_of, handler_of, sequence_of, checked_statement, checked_loop, checked_statements, checked_others, checked_arms, checked_body, checked_handlers, checked_declaration, checked_declarations, body_behind, checked_unit}
-use Rattle.aud_check_bodies.specs.Ties.Arms.{plain_arm, plain_arms, plain_handler, plain_handlers, plain_parts, plain_sequence, plain_items}
+use Rattle.aud_check_bodies.specs.Tables.{Tables, Outcome, fine, and_then, next_region, with_region, region_kept, region_named, next_unit, unit_kept, with_unit}
+use Rattle.aud_check_bodies.specs.Statements.{Around, nothing_around, task_around, begin_of, TypedStatements, TypedArm, TypedHandler, TypedBody, begin_at, return_faults, typed_return, end_name, end_semicolon, procedure_place, procedure_formals, body_with, labelled, handling, loop_number, arm_then, arms_then, arm_of, handler_of, sequence_of, in_accept, checked_accept, checked_alternative, checked_alternatives, checked_otherwise, checked_statement, checked_loop, checked_statements, checked_others, checked_arms, checked_body, checked_handlers, checked_declaration, checked_declarations, body_behind, checked_unit}
+use Rattle.aud_check_bodies.specs.Ties.Arms.{plain_arm, plain_arms, plain_handler, plain_handlers, plain_parts, plain_sequence, plain_items, plain_accepted, plain_alternative, plain_alternatives}
+use Rattle.aud_check_bodies.specs.declared.entry_call.EntryCalled as memory_call
+use Rattle.aud_check_bodies.specs.Ties.Passed.{plain_maybe_called}
 use Rattle.aud_check_bodies.specs.Ties.Within.{around_of, around_entering, Checks}
-use Rattle.aud_typing.specs.Ties.Typing.{in_box}
+use Rattle.aud_typing.specs.Ties.Typing.{in_box, Leaves}
 use Rattle.aud_check_bodies.proofs.Walked.{Is, is_fine, is_after, is_then, checks, checks_after, checks_leaf, none_left, one_left, end_left}
 use Rattle.aud_check_bodies.proofs.Bodies.{body_left, iterated_left, loop_left, behind_left, entered_left, block_left, unit_left, procedure_left, task_left}
-use Rattle.aud_check_bodies.proofs.Declared.{declares_all, declarations_ahead, all_declared, keeps_tables, declares_exceptions, declares_task}
+use Rattle.aud_check_bodies.proofs.Rendezvous.{accepting_left, accept_alone_left, accept_doing_left, accept_alternative_left, delay_alternative_left, terminate_left, select_left, selected_call_left, or_else_left, entries_level}
+use Rattle.aud_check_bodies.proofs.Declared.{declares_all, declarations_ahead, all_declared, keeps_tables, declares_exceptions}
 use Rattle.aud_typing.proofs.Notes.{noted_append}
-use Rattle.aud_check_bodies.proofs.Later.{left_null, accept_left, delay_left, select_left, is_selected_call, selected_call_left}
 use Rattle.aud_check_bodies.proofs.statement.+statement.Goals as goal
 
 pub arms-loop-next-init : goal.arms-loop-next-init
@@ -172,21 +185,296 @@ statement-returns-in-Exit t c =
     let whole = checks_leaf (in_box plain_typed_statement) c.exit.result c.args.faults.now c.exit.new.faults (plain_tables c.args.tables.now) (exit_in_loop (is_some found) e.at ++ maybe_condition_faults (plain_maybe e.condition) place) (tree.exit e.at (loop_number found) (maybe_condition (plain_maybe e.condition) place)) c.exit.ensures in
     rw (e.is, sym c.exit_loop-found.ensures) whole
 
-pub statement-returns-in-Accept : goal.statement-returns-in-Accept
-statement-returns-in-Accept t c =
-    left_null c.null_at-in-Accept.result c.args.faults.now (plain_tables c.args.tables.now) (accept_left (around_of c.args.within) c.args.within.scope.now (plain_tables c.args.tables.now) c.in-Accept.is) c.null_at-in-Accept.ensures
+pub statement-returns-in_ok-typed-in-Accept : goal.statement-returns-in_ok-typed-in-Accept
+statement-returns-in_ok-typed-in-Accept t c =
+    let around = around_of c.args.within in
+    let place = c.args.within.scope.now in
+    let tables = plain_tables c.args.tables.now in
+    let u = plain_tables c.accept.new.tables in
+    let made = plain_accepted c.in_ok-typed-in-Accept.typed.value in
+    let x = plain_accept c.deref-in-Accept.result.now in
+    let opened : plain_statement c.args.statement.now ≡ m.accepting x = ap plain_statement c.in-Accept.is ∙ ap (λ z. m.accepting (plain_accept z)) (sym c.deref-in-Accept.ensures) in
+    subst (λ z. Checks (in_box plain_typed_statement) c.accepted.result c.args.faults.now c.accept.new.faults u (checked_statement z around place tables)) (sym opened)
+    (accepting_left c.accepted.result c.args.faults.now c.accept.new.faults tables u x around place made c.in_ok-typed-in-Accept.ensures c.accepted.ensures)
 
 pub statement-returns-in-Delay : goal.statement-returns-in-Delay
 statement-returns-in-Delay t c =
-    left_null c.null_at-in-Delay.result c.args.faults.now (plain_tables c.args.tables.now) (delay_left (around_of c.args.within) c.args.within.scope.now (plain_tables c.args.tables.now) c.in-Delay.is) c.null_at-in-Delay.ensures
+    let around = around_of c.args.within in
+    let place = c.args.within.scope.now in
+    let tables = plain_tables c.args.tables.now in
+    let x = plain_delay c.deref-in-Delay.result.now in
+    let opened : plain_statement c.args.statement.now ≡ m.delaying x = ap plain_statement c.in-Delay.is ∙ ap (λ z. m.delaying (plain_delay z)) (sym c.deref-in-Delay.ensures) in
+    subst (λ z. Checks (in_box plain_typed_statement) c.delay_statement.result c.args.faults.now c.delay_statement.new.faults tables (checked_statement z around place tables)) (sym opened)
+    (checks_leaf (in_box plain_typed_statement) c.delay_statement.result c.args.faults.now c.delay_statement.new.faults tables (delay_faults x place) (tree.delay (delay_at x) (typed_delay x place)) c.delay_statement.ensures)
 
 pub statement-returns-in-Select : goal.statement-returns-in-Select
 statement-returns-in-Select t c =
-    left_null c.null_at-in-Select.result c.args.faults.now (plain_tables c.args.tables.now) (select_left (around_of c.args.within) c.args.within.scope.now (plain_tables c.args.tables.now) c.in-Select.is) c.null_at-in-Select.ensures
+    let around = around_of c.args.within in
+    let place = c.args.within.scope.now in
+    let opened : plain_statement c.args.statement.now ≡ plain_select_statement c.deref-in-Select.result.now = ap plain_statement c.in-Select.is ∙ select_open c.in-Select.node.value ∙ ap plain_select_statement (sym c.deref-in-Select.ensures) in
+    subst (λ z. Checks (in_box plain_typed_statement) c.select.result c.args.faults.now c.select.new.faults (plain_tables c.select.new.tables) (checked_statement z around place (plain_tables c.args.tables.now))) (sym opened) c.select.ensures
 
 pub statement-returns-in-SelectCall : goal.statement-returns-in-SelectCall
 statement-returns-in-SelectCall t c =
-    left_null c.null_at-in-SelectCall.result c.args.faults.now (plain_tables c.args.tables.now) (selected_call_left c.args.statement.now (around_of c.args.within) c.args.within.scope.now (plain_tables c.args.tables.now) (ap is_selected_call c.in-SelectCall.is)) c.null_at-in-SelectCall.ensures
+    let around = around_of c.args.within in
+    let place = c.args.within.scope.now in
+    let opened : plain_statement c.args.statement.now ≡ plain_selected_call c.deref-in-SelectCall.result.now = ap plain_statement c.in-SelectCall.is ∙ selected_call_open c.in-SelectCall.node ∙ ap plain_selected_call (sym c.deref-in-SelectCall.ensures) in
+    subst (λ z. Checks (in_box plain_typed_statement) c.selected_call.result c.args.faults.now c.selected_call.new.faults (plain_tables c.selected_call.new.tables) (checked_statement z around place (plain_tables c.args.tables.now))) (sym opened) c.selected_call.ensures
+
+-- accepts
+
+pub accept-returns-in_default : goal.accept-returns-in_default
+accept-returns-in_default t c =
+    let x = out-AcceptStatement c.args.node.now in
+    let around = around_of c.args.within in
+    let place = c.args.within.scope.now in
+    let tables = plain_tables c.args.tables.now in
+    let fs = map plain_formal x.formals.items in
+    let h = c.in_ok-head.ensures in
+    let old = c.args.faults.now in
+    let new = c.accept_head.new.faults in
+    let made : ℕ → TypedAccept = λ n. record { at = x.at; entry = n; doing = tree.without_do } in
+    let same : made c.number_of-entry.result ≡ made (number_of (accepted x.name place)) = ap made (c.number_of-entry.ensures ∙ ap number_of h.entry) in
+    let noted_head : new ≡ noted old (accept_faults x.name fs around.accepting place tables) =
+    subst (λ l. new ≡ noted old (accept_faults x.name (map plain_formal l) around.accepting place tables)) c.deref.ensures.value h.noted in
+    let opened : plain_accept c.args.node.now ≡ m.accept x.at x.name fs m.without_do = accept_open c.args.node.now ∙ ap (λ d. m.accept x.at x.name fs (plain_done d)) c.in_default.is in
+    subst (λ z. Checks (in_box plain_accepted) c.accept_of.result old new tables (checked_accept z around place tables)) (sym opened)
+    (accept_alone_left c.accept_of.result old new tables x.at x.name fs around place (made c.number_of-entry.result) noted_head same c.accept_of.ensures)
+
+pub accept-returns : goal.accept-returns
+accept-returns t c =
+    let x = out-AcceptStatement c.args.node.now in
+    let around = around_of c.args.within in
+    let place = c.args.within.scope.now in
+    let tables = plain_tables c.args.tables.now in
+    let fs = map plain_formal x.formals.items in
+    let h = c.in_ok-head.ensures in
+    let e = accepted x.name place in
+    let old = c.args.faults.now in
+    let headed = c.accept_head.new.faults in
+    let stated = c.body.new.faults in
+    let new = c.right_name_at_end.new.faults in
+    let entry = plain_tables c.enter.new.self in
+    let u = plain_tables c.body.new.tables in
+    let outer = c.in_ok-outer.outer in
+    let own = c.in_ok-head.head.region in
+    let region : Region = (accept_formals fs place).region in
+    let source = plain_body c.in-Some.source.value in
+    let parts = plain_parts c.in_ok-parts.parts in
+    let inner_around : Around = record { labels = []; in_handler = c.args.within.in_handler; in_task = false; accepting = c.deref-3.result.now } in
+    let inner_place : Place = c.new.result in
+    let same_region : plain_region own ≡ region = h.region ∙ ap (λ l. (accept_formals (map plain_formal l) place).region) c.deref.ensures.value in
+    let noted_head : headed ≡ noted old (accept_faults x.name fs around.accepting place tables) =
+    subst (λ l. headed ≡ noted old (accept_faults x.name (map plain_formal l) around.accepting place tables)) c.deref.ensures.value h.noted in
+    let within : inner_around ≡ in_accept e around =
+    ap (λ l. record { labels = []; in_handler = c.args.within.in_handler; in_task = false; accepting = l }) (c.deref-3.ensures.value ∙ c.in_ok-accepting.ensures ∙ ap (λ z. with_accepted z around.accepting) h.entry) in
+    let inner : inner_place ≡ place_in region place.regions =
+    c.new.ensures ∙ ap (λ rs. plain_place own rs) c.deref-2.ensures.value ∙ ap (λ r. place_in r (plain_regions outer.items)) same_region ∙ ap (place_in region) c.in_ok-outer.ensures in
+    let entered : entry ≡ with_region (shown_names region.symbols) tables =
+    c.in_ok-region.ensures.tables ∙ ap (λ (r : Region). with_region (shown_names r.symbols) tables) same_region in
+    let ends : new ≡ noted stated (right_name_at_end x.name.name (end_name source)) =
+    c.right_name_at_end.ensures ∙ ap (λ b. noted stated (right_name_at_end x.name.name (out-Body b).name)) c.deref-5.ensures
+    ∙ ap (λ z. noted stated (right_name_at_end x.name.name (end_name z))) (sym (body_open c.in-Some.source.value)) in
+    let made : ℕ → ℕ → TypedAccept = λ n k. record { at = x.at; entry = n; doing = tree.with_do k (body_with [] source parts) } in
+    let same : made c.number_of-entry.result c.in_ok-region.region ≡ made (number_of e) (next_region tables) =
+    ap (λ n. made n c.in_ok-region.region) (c.number_of-entry.ensures ∙ ap number_of h.entry) ∙ ap (made (number_of e)) c.in_ok-region.ensures.number in
+    let done : plain_done x.doing ≡ m.with_do source = ap plain_done c.in-Some.is in
+    let in_body : Is headed stated u parts (checked_body source inner_around inner_place entry) =
+    subst (λ z. Is headed stated u parts (checked_body (plain_body z) inner_around inner_place entry)) c.deref-4.ensures c.in_ok-parts.ensures in
+    let all_made : IfOk c.accept_doing.result (λ a. plain_accepted a.value ≡ made c.number_of-entry.result c.in_ok-region.region) =
+    subst (λ z. IfOk c.accept_doing.result (λ a. plain_accepted a.value ≡ record { at = x.at; entry = c.number_of-entry.result; doing = tree.with_do c.in_ok-region.region (body_with [] (plain_body z) parts) })) c.deref-6.ensures c.accept_doing.ensures in
+    let opened : plain_accept c.args.node.now ≡ m.accept x.at x.name fs (m.with_do source) = accept_open c.args.node.now ∙ ap (m.accept x.at x.name fs) done in
+    subst (λ z. Checks (in_box plain_accepted) c.accept_doing.result old new u (checked_accept z around place tables)) (sym opened)
+    (accept_doing_left c.accept_doing.result old headed stated new tables entry u x.at x.name fs source around inner_around place inner_place parts (made c.number_of-entry.result c.in_ok-region.region)
+    noted_head within inner entered in_body ends same all_made)
+
+-- selective accepts
+
+pub select-returns : goal.select-returns
+select-returns t c =
+    let x = out-SelectStatement c.args.node.now in
+    let around = around_of c.args.within in
+    let place = c.args.within.scope.now in
+    let tables = plain_tables c.args.tables.now in
+    let f1 = c.alternative.new.faults in
+    let t1 = plain_tables c.alternative.new.tables in
+    let f2 = c.alternatives.new.faults in
+    let t2 = plain_tables c.alternatives.new.tables in
+    let f3 = c.more_statements-otherwise.new.faults in
+    let t3 = plain_tables c.more_statements-otherwise.new.tables in
+    let first : TypedAlternative = plain_alternative c.in_ok-first.first.value in
+    let o2 = checked_alternatives (guarded_list x.others.items) around place t1 in
+    let o3 = checked_others (plain_others x.otherwise.items) around place t2 in
+    let more : Checks plain_alternatives (Ok c.in_ok-offered.offered.1) f1 f2 t2 o2 =
+    subst (λ r. Checks plain_alternatives r f1 f2 t2 o2) c.in_ok-offered.ensures.next (subst (λ l. Checks plain_alternatives c.alternatives.result f1 f2 t2 (checked_alternatives (guarded_list l) around place t1)) c.deref.ensures.value c.alternatives.ensures) in
+    let rest : Checks plain_items (Ok c.in_ok-offered-2.otherwise) f2 f3 t3 o3 =
+    subst (λ r. Checks plain_items r f2 f3 t3 o3) c.in_ok-offered-2.ensures.next (subst (λ l. Checks plain_items c.more_statements-otherwise.result f2 f3 t3 (checked_others (plain_others l) around place t2)) c.deref-2.ensures.value c.more_statements-otherwise.ensures) in
+    let behind : tree.Part = tree.part_of (plain_items c.in_ok-offered-2.otherwise) in
+    let made : (a : Box memory_alternative.Alternative Global × Vec memory_alternative.Alternative Global) → tree.Statement = λ a. tree.select x.at (alternatives_of (plain_alternative a.0.value ∷ plain_alternatives a.1)) behind in
+    let same : made c.in_ok-offered-2.offered ≡ tree.select x.at (alternatives_of (first ∷ plain_alternatives c.in_ok-offered.offered.1)) behind =
+    ap made c.in_ok-offered-2.ensures.first ∙ ap (λ a. tree.select x.at (alternatives_of (plain_alternative a.value ∷ plain_alternatives c.in_ok-offered.offered.1)) behind) c.in_ok-offered.ensures.first in
+    select_left c.select_of.result c.args.faults.now f1 f2 f3 tables t1 t2 t3 x.at (plain_maybe x.first.guard) (plain_source_alternative x.first.alternative) (guarded_list x.others.items) (plain_others x.otherwise.items) around place
+    first (plain_alternatives c.in_ok-offered.offered.1) (plain_items c.in_ok-offered-2.otherwise) (made c.in_ok-offered-2.offered)
+    c.in_ok-first.ensures more rest same c.select_of.ensures
+
+-- an alternative
+
+pub alternative-returns-in_ok-head-in-Accept-2 : goal.alternative-returns-in_ok-head-in-Accept-2
+alternative-returns-in_ok-head-in-Accept-2 t c =
+    let x = c.args.node.now in
+    let around = around_of c.args.within in
+    let place = c.args.within.scope.now in
+    let tables = plain_tables c.args.tables.now in
+    let old = c.args.faults.now in
+    let guarded = c.maybe_condition.new.faults in
+    let headed = c.accept.new.faults in
+    let new = c.more_statements-after.new.faults in
+    let v = plain_tables c.accept.new.tables in
+    let u = plain_tables c.more_statements-after.new.tables in
+    let guard = plain_maybe x.guard in
+    let one = c.in_ok-head-in-Accept in
+    let two = c.in_ok-head-in-Accept-2 in
+    let source = plain_accept c.in-Accept.source in
+    let ss = plain_others c.in-Accept.behind.items in
+    let made : TypedAccept = plain_accepted one.head.1.value in
+    let first : Checks (in_box plain_accepted) (Ok one.head.1) guarded headed v (checked_accept source around place tables) =
+    subst (λ r. Checks (in_box plain_accepted) r guarded headed v (checked_accept source around place tables)) one.ensures.next c.accept.ensures in
+    let rest : Checks plain_items (Ok two.after) headed new u (checked_others ss around place v) =
+    subst (λ r. Checks plain_items r headed new u (checked_others ss around place v)) two.ensures.next
+    (subst (λ l. Checks plain_items c.more_statements-after.result headed new u (checked_others (plain_others l) around place v)) c.deref.ensures.value c.more_statements-after.ensures) in
+    let behind : tree.Part = tree.part_of (plain_items two.after) in
+    let y : (h : Box BooleanExpression Global × Box memory_accept.AcceptStatement Global) → TypedAlternative = λ h. accepts (plain_boolean h.0.value) (plain_accepted h.1.value) behind in
+    let same : y two.head ≡ accepts (maybe_condition guard place) made behind =
+    ap y two.ensures.first ∙ ap (λ g. accepts (plain_boolean g.value) made behind) one.ensures.first ∙ ap (λ g. accepts g made behind) c.in_ok-guard.ensures.1 in
+    let opened : plain_source_alternative x.alternative ≡ m.accept_alternative source ss = ap plain_source_alternative c.in-Accept.is ∙ accept_alternative_open c.in-Accept.source c.in-Accept.behind in
+    subst (λ z. Checks (in_box plain_alternative) c.accepting.result old new u (checked_alternative z guard around place tables)) (sym opened)
+    (accept_alternative_left c.accepting.result old guarded headed new tables v u guard source ss around place made (plain_items two.after) (y two.head) c.in_ok-guard.ensures.0 first rest same c.accepting.ensures)
+
+pub alternative-returns-in_ok-head-in-Delay-2 : goal.alternative-returns-in_ok-head-in-Delay-2
+alternative-returns-in_ok-head-in-Delay-2 t c =
+    let x = c.args.node.now in
+    let around = around_of c.args.within in
+    let place = c.args.within.scope.now in
+    let tables = plain_tables c.args.tables.now in
+    let old = c.args.faults.now in
+    let guarded = c.maybe_condition.new.faults in
+    let waited = c.delay.new.faults in
+    let new = c.more_statements-after-in-Delay.new.faults in
+    let u = plain_tables c.more_statements-after-in-Delay.new.tables in
+    let guard = plain_maybe x.guard in
+    let one = c.in_ok-head-in-Delay in
+    let two = c.in_ok-head-in-Delay-2 in
+    let source = plain_delay c.in-Delay.source in
+    let ss = plain_others c.in-Delay.behind.items in
+    let first : Leaves (in_box plain_typed_delay) (Ok one.head.1) guarded waited (delay_faults source place) (typed_delay source place) =
+    subst (λ r. Leaves (in_box plain_typed_delay) r guarded waited (delay_faults source place) (typed_delay source place)) one.ensures.next c.delay.ensures in
+    let rest : Checks plain_items (Ok two.after) waited new u (checked_others ss around place tables) =
+    subst (λ r. Checks plain_items r waited new u (checked_others ss around place tables)) two.ensures.next
+    (subst (λ l. Checks plain_items c.more_statements-after-in-Delay.result waited new u (checked_others (plain_others l) around place tables)) c.deref-in-Delay.ensures.value c.more_statements-after-in-Delay.ensures) in
+    let behind : tree.Part = tree.part_of (plain_items two.after) in
+    let y : (h : Box BooleanExpression Global × Box DelayExpression Global) → TypedAlternative = λ h. delays (plain_boolean h.0.value) (plain_typed_delay h.1.value) behind in
+    let same : y two.head ≡ delays (maybe_condition guard place) (typed_delay source place) behind =
+    ap y two.ensures.first ∙ ap (λ g. delays (plain_boolean g.value) (plain_typed_delay one.head.1.value) behind) one.ensures.first ∙ ap (λ g. delays g (plain_typed_delay one.head.1.value) behind) c.in_ok-guard.ensures.1 ∙ ap (λ d. delays (maybe_condition guard place) d behind) first.1 in
+    let opened : plain_source_alternative x.alternative ≡ m.delay_alternative source ss = ap plain_source_alternative c.in-Delay.is ∙ delay_alternative_open c.in-Delay.source c.in-Delay.behind in
+    subst (λ z. Checks (in_box plain_alternative) c.delaying.result old new u (checked_alternative z guard around place tables)) (sym opened)
+    (delay_alternative_left c.delaying.result old guarded waited new tables u guard source ss around place (plain_items two.after) (y two.head) c.in_ok-guard.ensures.0 first.0 rest same c.delaying.ensures)
+
+pub alternative-returns-in-Terminate : goal.alternative-returns-in-Terminate
+alternative-returns-in-Terminate t c =
+    let x = c.args.node.now in
+    let guard = plain_maybe x.guard in
+    let place = c.args.within.scope.now in
+    rw c.in-Terminate.is (terminate_left c.terminating.result c.args.faults.now c.maybe_condition.new.faults (plain_tables c.args.tables.now) guard (around_of c.args.within) place (terminates (plain_boolean c.in_ok-guard.guard.value))
+    c.in_ok-guard.ensures.0 (ap terminates c.in_ok-guard.ensures.1) c.terminating.ensures)
+
+-- timed and conditional calls
+
+pub selected_call-returns : goal.selected_call-returns
+selected_call-returns t c =
+    let x = c.args.node.now in
+    let around = around_of c.args.within in
+    let place = c.args.within.scope.now in
+    let tables = plain_tables c.args.tables.now in
+    let old = c.args.faults.now in
+    let headed = c.call_head.new.faults in
+    let done = c.more_statements-behind.new.faults in
+    let new = c.otherwise-rest.new.faults in
+    let v = plain_tables c.more_statements-behind.new.tables in
+    let u = plain_tables c.otherwise-rest.new.tables in
+    let call = plain_name x.call in
+    let ss = plain_others x.behind.items in
+    let waiting = plain_other x.otherwise in
+    let one = c.in_ok-head-2 in
+    let last = c.in_ok-form in
+    let first : Checks plain_items (Ok one.behind) headed done v (checked_others ss around place tables) =
+    subst (λ r. Checks plain_items r headed done v (checked_others ss around place tables)) one.ensures.next
+    (subst (λ l. Checks plain_items c.more_statements-behind.result headed done v (checked_others (plain_others l) around place tables)) c.deref.ensures.value c.more_statements-behind.ensures) in
+    let both_parts : c.both-2.result ≡ Ok last.parts = last.ensures.next in
+    let kept : last.parts.0 ≡ one.behind = subst (λ r. IfOk r (λ p. p.0 ≡ one.behind)) both_parts c.both-2.ensures.first in
+    let instead : c.otherwise-rest.result ≡ Ok last.parts.1 = subst (λ r. IfOk r (λ p. c.otherwise-rest.result ≡ Ok p.1)) both_parts c.both-2.ensures.next in
+    let rest : Checks plain_items (Ok last.parts.1) done new u (checked_otherwise waiting around place v) =
+    subst (λ r. Checks plain_items r done new u (checked_otherwise waiting around place v)) instead c.otherwise-rest.ensures in
+    let made : CallForm → Option EntryCalled → List tree.Statement → tree.Statement = λ form called l. entry_call_of x.at form (tree.part_of l) (tree.part_of (plain_items last.parts.1)) called in
+    let heads : Box memory_form.CallForm Global × Option memory_call.EntryCalled → tree.Statement = λ h. made (plain_form h.0.value) (plain_maybe_called h.1) (plain_items last.parts.0) in
+    let y = made (plain_form c.into_inner-form.result) (plain_maybe_called last.called) (plain_items last.parts.0) in
+    let same : y ≡ made (form_of waiting place) (selected_call call place tables) (plain_items one.behind) =
+    ap (λ f. made (plain_form f) (plain_maybe_called last.called) (plain_items last.parts.0)) c.into_inner-form.ensures
+    ∙ ap heads last.ensures.first ∙ ap heads one.ensures.first
+    ∙ ap (λ (h : CallForm × Option EntryCalled). made h.0 h.1 (plain_items last.parts.0)) c.in_ok-head.ensures.1
+    ∙ ap (λ b. made (form_of waiting place) (selected_call call place tables) (plain_items b)) kept in
+    selected_call_left c.entry_call_of.result old headed done new tables v u x.at call ss waiting around place (plain_items one.behind) (plain_items last.parts.1) y
+    c.in_ok-head.ensures.0 first rest same c.entry_call_of.ensures
+
+pub otherwise-returns-in-Delay : goal.otherwise-returns-in-Delay
+otherwise-returns-in-Delay t c =
+    let around = around_of c.args.within in
+    let place = c.args.within.scope.now in
+    let tables = plain_tables c.args.tables.now in
+    let e = c.in-Delay in
+    let opened : plain_other c.args.node.now ≡ m.or_delay (plain_delay e.field-0) (plain_others e.behind.items) = ap plain_other e.is ∙ or_delay_open e.field-0 e.behind in
+    let r = c.more_statements.result in
+    let u = plain_tables c.more_statements.new.tables in
+    subst (λ z. Checks plain_items r c.args.faults.now c.more_statements.new.faults u (checked_otherwise z around place tables)) (sym opened)
+    (subst (λ l. Checks plain_items r c.args.faults.now c.more_statements.new.faults u (checked_others (plain_others l) around place tables)) c.deref.ensures.value c.more_statements.ensures)
+
+pub otherwise-returns-in_ok-statements-in-Else : goal.otherwise-returns-in_ok-statements-in-Else
+otherwise-returns-in_ok-statements-in-Else t c =
+    let around = around_of c.args.within in
+    let place = c.args.within.scope.now in
+    let tables = plain_tables c.args.tables.now in
+    let e = c.in-Else in
+    let old = c.args.faults.now in
+    let new = c.statements.new.faults in
+    let u = plain_tables c.statements.new.tables in
+    let ss = plain_statements e.inner in
+    let typed : TypedStatements = plain_sequence c.in_ok-statements-in-Else.field-0.value in
+    let opened : plain_other c.args.node.now ≡ m.or_else ss = ap plain_other e.is ∙ or_else_open e.inner in
+    subst (λ z. Checks plain_items c.in_row.result old new u (checked_otherwise z around place tables)) (sym opened)
+    (checks plain_items c.in_row.result old new u (typed.first ∷ typed.others) (checked_otherwise (m.or_else ss) around place tables) (or_else_left old new tables u ss around place typed c.in_ok-statements-in-Else.ensures) c.in_row.ensures)
+
+-- alternatives behind the first
+
+pub alternatives-loop-next-init : goal.alternatives-loop-next-init
+alternatives-loop-next-init t c = none_left plain_alternative c.in_ok-typed.typed.items c.args.faults.now (checked_alternatives (guarded_list c.args.others.now) (around_of c.args.within) c.args.within.scope.now (plain_tables c.args.tables.now)) c.in_ok-typed.ensures.items
+
+pub alternatives-loop-next-preserved : goal.alternatives-loop-next-preserved
+alternatives-loop-next-preserved t c =
+    let around = around_of c.args.within in
+    let place = c.args.within.scope.now in
+    let x = c.next-item.result in
+    let i = c.loop-next.next-index in
+    one_left plain_alternative c.loop-next.typed.items c.push.new.all.items c.in_ok-alternative.field-0.value c.loop-next.faults c.alternative.new.faults (plain_tables c.alternative.new.tables)
+    (checked_alternative (plain_source_alternative x.alternative) (plain_maybe x.guard) around place (plain_tables c.loop-next.tables))
+    (λ u. checked_alternatives (guarded_list (drop (i + 1) c.args.others.now)) around place u)
+    (checked_alternatives (guarded_list (drop i c.args.others.now)) around place (plain_tables c.loop-next.tables)) c.args.faults.now (checked_alternatives (guarded_list c.args.others.now) around place (plain_tables c.args.tables.now))
+    (ap (λ l. checked_alternatives (guarded_list l) around place (plain_tables c.loop-next.tables)) (dropped c.args.others.now i x (omega arith) c.next-item.is)) c.loop-next.invariant c.in_ok-push.ensures c.in_ok-alternative.ensures
+
+pub alternatives-returns : goal.alternatives-returns
+alternatives-returns t c =
+    let around = around_of c.args.within in
+    let place = c.args.within.scope.now in
+    end_left (map plain_alternative c.loop-next.typed.items) c.loop-next.faults c.args.faults.now (plain_tables c.loop-next.tables) (checked_alternatives (guarded_list (drop c.loop-next.next-index c.args.others.now)) around place (plain_tables c.loop-next.tables)) (checked_alternatives (guarded_list c.args.others.now) around place (plain_tables c.args.tables.now))
+    (ap (λ l. checked_alternatives (guarded_list l) around place (plain_tables c.loop-next.tables)) (drop_all c.loop-next.next-index c.args.others.now c.loop-next-test.false)) c.loop-next.invariant
 
 pub arm-returns : goal.arm-returns
 arm-returns t c =
@@ -233,7 +521,7 @@ pub loop_body-returns : goal.loop_body-returns
 loop_body-returns t c =
     let x = c.args.node.now in
     let place = c.args.within.scope.now in
-    let among : Labels → Type 0 = λ ls. Checks (in_box plain_sequence) c.statements.result c.args.faults.now c.statements.new.faults (plain_tables c.statements.new.tables) (checked_statements (plain_statements x.statements) (record { labels = ls; in_handler = c.args.within.in_handler; in_task = c.args.within.in_task }) place (plain_tables c.args.tables.now)) in
+    let among : Labels → Type 0 = λ ls. Checks (in_box plain_sequence) c.statements.result c.args.faults.now c.statements.new.faults (plain_tables c.statements.new.tables) (checked_statements (plain_statements x.statements) (record { labels = ls; in_handler = c.args.within.in_handler; in_task = c.args.within.in_task; accepting = c.args.within.accepting.now }) place (plain_tables c.args.tables.now)) in
     subst among c.in_ok-labels.ensures (subst (λ l. among (plain_labels l)) c.deref.ensures.value c.statements.ensures)
 
 pub loop_statement-returns-in_ok-body-in-Forever : goal.loop_statement-returns-in_ok-body-in-Forever
@@ -369,7 +657,7 @@ block_statement-returns t c =
     (subst (λ rs. Enters named declared rs part (next_region tables) entry (own (plain_declarations c.deref-3.result.now) (plain_place region rs))) c.deref-4.ensures.value c.in_ok-part.ensures) in
     let stated : Is declared new u body (body_behind false (plain_items part.elaborations) source behind (plain_place part.region outer.items) entry) =
     subst (λ rs. Is declared new u body (body_behind false (plain_items part.elaborations) source behind (plain_place part.region rs) entry)) c.deref.ensures.value
-    (subst (λ ls. Is declared new u body (body_behind false (plain_items part.elaborations) source (record { labels = ls; in_handler = c.args.within.in_handler; in_task = c.args.within.in_task }) (plain_place part.region c.deref.result.now) entry)) labels c.in_ok-body.ensures) in
+    (subst (λ ls. Is declared new u body (body_behind false (plain_items part.elaborations) source (record { labels = ls; in_handler = c.args.within.in_handler; in_task = c.args.within.in_task; accepting = c.args.within.accepting.now }) (plain_place part.region c.deref.result.now) entry)) labels c.in_ok-body.ensures) in
     let whole = entered_left named declared new tables entry u false ds source behind (in_frame place) (plain_place part.region outer.items) (plain_items part.elaborations) body enters.0 enters.1 enters.2 enters.3 stated in
     let named_all : named ≡ noted old (right_label_at_end x.label (end_name source) (end_semicolon source)) =
     c.right_label_at_end.ensures ∙ ap (λ z. noted old (right_label_at_end x.label (end_name z) (end_semicolon z))) (sym (body_open x.body)) in
@@ -454,9 +742,9 @@ procedure-returns t c =
     ap (λ r. place_in r (plain_regions seen)) c.in_ok-declare_procedure.ensures.region ∙ ap (λ n. place_in (with_procedure x.name n (plain_region first.region)) (plain_regions seen)) c.next_unit-number.ensures in
     let regions = c.in_ok-regions.regions in
     let around : plain_regions regions.items ≡ here.regions = c.in_ok-regions.ensures.regions ∙ ap (λ (z : Place). z.regions) behind in
-    let frame : plain_region c.in_ok-regions.region ≡ next_frame here = c.in_ok-regions.ensures.own ∙ ap next_frame behind in
+    let frame : plain_region c.in_ok-regions.region ≡ body_frame here = c.in_ok-regions.ensures.own ∙ ap body_frame behind in
     let formals : Formals = procedure_formals x.name fs here in
-    let given : List m.Formal → List Region → Region → Formals = λ l rs r. checked_formals x.name l r rs in
+    let given : List m.Formal → List Region → Region → Formals = λ l rs r. checked_formals (Some x.name) l r rs in
     let shown : given (map plain_formal c.deref.result.now) (plain_regions c.deref-2.result.now) (plain_region c.in_ok-regions.region) ≡ formals =
     ap (λ l. given (map plain_formal l) (plain_regions c.deref-2.result.now) (plain_region c.in_ok-regions.region)) c.deref.ensures.value
     ∙ ap (λ rs. given fs (plain_regions rs) (plain_region c.in_ok-regions.region)) c.deref-2.ensures.value
@@ -520,11 +808,7 @@ declaration-returns-in-Procedure t c =
     subst (λ z. OnOk c.procedure.result (Declares c.args.faults.now c.procedure.new.faults c.args.outer.now c.args.part.now c.procedure.new.part (plain_tables c.procedure.new.tables) (checked_declaration z place (plain_tables c.args.tables.now)))) (sym opened) c.procedure.ensures
 
 pub declaration-returns-in-Task : goal.declaration-returns-in-Task
-declaration-returns-in-Task t c =
-    let x = c.in-Task.task in
-    let now = plain_tables c.args.tables.now in
-    let u = plain_tables c.declare_task.new.tables in
-    rw c.in-Task.is (declares_task c.declare_task.result c.args.faults.now c.declare_task.new.faults c.args.outer.now c.args.part.now c.declare_task.new.part now u x.at x.is_type x.name (plain_definition x.definition) c.declare_task.ensures.region c.declare_task.ensures.elaborations c.declare_task.ensures.tables c.declare_task.ensures.noted)
+declaration-returns-in-Task t c = rw c.in-Task.is c.declare_task.ensures
 
 pub declaration-returns-in-TaskBody : goal.declaration-returns-in-TaskBody
 declaration-returns-in-TaskBody t c =
@@ -544,51 +828,57 @@ task_body-returns t c =
     let place : Place = plain_place first.region seen in
     let tables = plain_tables c.args.tables.now in
     let old = c.args.faults.now in
-    let matched = c.body_unit.new.faults in
+    let matched = c.body_numbers.new.faults in
     let shown_faults = c.task_part.new.faults in
     let stated_faults = c.body_behind.new.faults in
     let new = c.right_name_at_end.new.faults in
-    let entry = plain_tables c.body_unit.new.tables in
+    let entry = plain_tables c.body_numbers.new.tables in
     let shown_tables = plain_tables c.task_part.new.tables in
     let u = plain_tables c.body_behind.new.tables in
-    let come = c.body_unit.new.region in
+    let come = c.body_numbers.new.region in
     let last : DeclarativePart = record { region = come; elaborations = first.elaborations } in
     let ds = plain_declarations x.declarations.items in
     let source = plain_body x.body in
     let here : Place = place_behind x.name place in
-    let behind : plain_place come seen ≡ here = ap (λ r. place_in r (plain_regions seen)) c.in_ok-number.ensures.region in
+    let found = task_awaited x.name place in
+    let task_type = body_task found tables in
+    let given = c.in_ok-numbers.numbers.task_type in
+    let same_type : given ≡ task_type = c.in_ok-numbers.ensures.task_type in
+    let behind : plain_place come seen ≡ here = ap (λ r. place_in r (plain_regions seen)) c.in_ok-numbers.ensures.region in
     let regions = c.in_ok-regions.regions in
     let level = c.in_ok-running.running.level in
-    let named = running x.name.name level in
-    let own_name : plain_region c.in_ok-running.running ≡ named = c.in_ok-running.ensures.region ∙ ap (running x.name.name) (sym c.in_ok-running.ensures.level) in
+    let named = running x.name.name level given in
+    let own_name : plain_region c.in_ok-running.running ≡ named = c.in_ok-running.ensures.region ∙ ap (λ k. running x.name.name k given) (sym c.in_ok-running.ensures.level) in
     let around : plain_regions regions.items ≡ named ∷ here.regions =
     c.in_ok-regions.ensures ∙ ap (λ r. r ∷ (plain_place come seen).regions) own_name ∙ ap (λ (z : Place). named ∷ z.regions) behind in
     let own = plain_place c.in_ok-region.region regions.items in
-    let one_further : level ≡ (innermost here).level + 1 = c.in_ok-running.ensures.level ∙ ap (λ (r : Region). r.level + 1) c.in_ok-number.ensures.region in
-    let inner : own ≡ task_place x.name.name here =
-    ap (λ r. place_in r (plain_regions regions.items)) c.in_ok-region.ensures ∙ ap (place_in (task_region level)) around ∙ ap (λ k. place_in (task_region k) (running x.name.name k ∷ here.regions)) one_further in
+    let one_further : level ≡ (innermost here).level + 1 = c.in_ok-running.ensures.level ∙ ap (λ (r : Region). r.level + 1) c.in_ok-numbers.ensures.region in
+    let listed : c.deref.result.now ≡ (innermost here).entries = c.deref.ensures.value ∙ ap (λ (r : Region). r.entries) c.in_ok-numbers.ensures.region in
+    let inner : own ≡ task_place x.name.name task_type here =
+    ap (λ r. place_in r (plain_regions regions.items)) c.in_ok-region.ensures ∙ ap (place_in (task_region level given c.deref.result.now)) around ∙ ap (λ l. place_in (task_region level given l) (named ∷ here.regions)) listed
+    ∙ ap (λ k. place_in (task_region k given (innermost here).entries) (running x.name.name k given ∷ here.regions)) one_further ∙ ap (λ n. task_place x.name.name n here) same_type in
     let part = c.in_ok-inner.inner in
     let body = plain_typed_body c.in_ok-body.body.value in
     let made = plain_typed_unit c.in_ok-unit.unit.value in
     let in_it : m.Declarations → Place → Outcome Declared = λ l z. with_bodies (checked_declarations l z (region_kept entry)) in
     let enters : Enters matched shown_faults regions.items part (next_region entry) shown_tables (in_it ds own) =
-    subst (λ rs. Enters matched shown_faults rs part (next_region entry) shown_tables (in_it ds (plain_place c.in_ok-region.region rs))) c.deref.ensures.value c.in_ok-inner.ensures in
+    subst (λ rs. Enters matched shown_faults rs part (next_region entry) shown_tables (in_it ds (plain_place c.in_ok-region.region rs))) c.deref-2.ensures.value c.in_ok-inner.ensures in
     let stated : Is shown_faults stated_faults u body (body_behind true (plain_items part.elaborations) source task_around (plain_place part.region regions.items) shown_tables) =
-    subst (λ rs. Is shown_faults stated_faults u body (body_behind true (plain_items part.elaborations) source task_around (plain_place part.region rs) shown_tables)) c.deref-2.ensures.value c.in_ok-body.ensures in
+    subst (λ rs. Is shown_faults stated_faults u body (body_behind true (plain_items part.elaborations) source task_around (plain_place part.region rs) shown_tables)) c.deref-3.ensures.value c.in_ok-body.ensures in
     let whole = entered_left matched shown_faults stated_faults entry shown_tables u true ds source task_around own (plain_place part.region regions.items) (plain_items part.elaborations) body enters.0 enters.1 enters.2 enters.3 stated in
     let ends : new ≡ noted stated_faults (right_name_at_end x.name.name (end_name source)) =
     c.right_name_at_end.ensures ∙ ap (λ z. noted stated_faults (right_name_at_end x.name.name (end_name z))) (sym (body_open x.body)) in
     let unit : ℕ → tree.UnitBody = λ n. record { level = level; region = n; at = x.at; body = body } in
-    let found : ℕ → tree.UnitBody = λ k. record { level = k; region = next_region entry; at = x.at; body = body } in
-    let leveled : (innermost own).level ≡ level = ap (λ (r : Region). r.level) c.in_ok-region.ensures in
+    let leveled_unit : ℕ → tree.UnitBody = λ k. record { level = k; region = next_region entry; at = x.at; body = body } in
+    let leveled : (innermost own).level ≡ level = ap (λ (r : Region). r.level) c.in_ok-region.ensures ∙ entries_level given c.deref.result.now (own_region level given) in
     let checked : Is matched new u made (checked_unit true x.at x.name.name ds source own entry) =
-    unit_left matched stated_faults new entry u true x.at x.name.name ds source own body made whole ends (c.in_ok-unit.ensures ∙ ap unit c.next_region-own.ensures ∙ ap found (sym leveled)) in
-    let number : c.in_ok-number.number ≡ body_unit (unit_awaited x.name place) tables = c.in_ok-number.ensures.unit in
+    unit_left matched stated_faults new entry u true x.at x.name.name ds source own body made whole ends (c.in_ok-unit.ensures ∙ ap unit c.next_region-own.ensures ∙ ap leveled_unit (sym leveled)) in
+    let number : c.in_ok-numbers.numbers.unit ≡ body_unit found tables = c.in_ok-numbers.ensures.unit in
     let end = plain_tables c.put_unit.new.self in
-    let put : end ≡ with_unit (body_unit (unit_awaited x.name place) tables) made u =
-    c.put_unit.ensures ∙ ap (λ n. with_unit n (plain_typed_unit c.into_inner.result) u) number ∙ ap (λ v. with_unit (body_unit (unit_awaited x.name place) tables) (plain_typed_unit v) u) c.into_inner.ensures in
+    let put : end ≡ with_unit (body_unit found tables) made u =
+    c.put_unit.ensures ∙ ap (λ n. with_unit n (plain_typed_unit c.into_inner.result) u) number ∙ ap (λ v. with_unit (body_unit found tables) (plain_typed_unit v) u) c.into_inner.ensures in
     subst (λ z. Declares old new seen first last end (checked_declaration z place tables)) (sym (task_body_open c.args.node.now))
-    (task_left old matched new seen first last tables entry u end x.at x.name ds source own made c.in_ok-number.ensures.noted behind refl inner c.in_ok-number.ensures.tables checked put)
+    (task_left old matched new seen first last tables entry u end x.at x.name ds source own made c.in_ok-numbers.ensures.noted behind refl inner c.in_ok-numbers.ensures.tables checked put)
 
 pub declarations-loop-next-init : goal.declarations-loop-next-init
 declarations-loop-next-init t c = declares_all c.args.faults.now c.args.part.now (checked_declarations (plain_declarations c.args.declarations.now) (plain_place c.args.part.now.region c.args.outer.now) (plain_tables c.args.tables.now))

@@ -1,8 +1,8 @@
 use Rattle.std.proofs.Common.{drop, map}
-use Rattle.aud_syntax.specs.Ties.View.{plain_others, arm_list, handler_list, plain_declarations}
+use Rattle.aud_syntax.specs.Ties.View.{plain_others, arm_list, guarded_list, handler_list, plain_declarations}
 use Rattle.aud_typed.specs.Ties.View.{plain_statement}
-use Rattle.aud_check_bodies.specs.Statements.{checked_others, checked_arms, checked_handlers, checked_declarations}
-use Rattle.aud_check_bodies.specs.Ties.Arms.{plain_arm, plain_handler}
+use Rattle.aud_check_bodies.specs.Statements.{checked_others, checked_arms, checked_alternatives, checked_handlers, checked_declarations}
+use Rattle.aud_check_bodies.specs.Ties.Arms.{plain_arm, plain_handler, plain_alternative}
 use Rattle.aud_names.specs.Ties.Regions.{plain_place}
 use Rattle.aud_check_bodies.specs.Ties.Tables.{plain_tables}
 use Rattle.aud_check_bodies.specs.Ties.Within.{around_of}
@@ -18,6 +18,9 @@ invariant-more_statements-loop-next l = Left (map plain_statement l.typed.items)
 
 abbrev pub invariant-handlers-loop-next : goal.invariant-handlers-loop-next
 invariant-handlers-loop-next l = Left (map plain_handler l.typed.items) l.faults (checked_handlers (handler_list (drop l.next-index l.handlers)) (around_of l.within) l.within.scope.now (plain_tables l.tables)) l.fn.faults (checked_handlers (handler_list l.handlers) (around_of l.within) l.within.scope.now (plain_tables l.fn.tables))
+
+abbrev pub invariant-alternatives-loop-next : goal.invariant-alternatives-loop-next
+invariant-alternatives-loop-next l = Left (map plain_alternative l.typed.items) l.faults (checked_alternatives (guarded_list (drop l.next-index l.others)) (around_of l.within) l.within.scope.now (plain_tables l.tables)) l.fn.faults (checked_alternatives (guarded_list l.others) (around_of l.within) l.within.scope.now (plain_tables l.fn.tables))
 
 abbrev pub invariant-declarations-loop-next : goal.invariant-declarations-loop-next
 invariant-declarations-loop-next l = DeclaresAhead l.faults l.part (checked_declarations (plain_declarations (drop l.next-index l.declarations)) (plain_place l.part.region l.outer) (plain_tables l.tables)) l.fn.faults l.fn.part (checked_declarations (plain_declarations l.fn.declarations) (plain_place l.fn.part.region l.fn.outer) (plain_tables l.fn.tables))

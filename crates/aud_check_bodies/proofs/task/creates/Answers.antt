@@ -1,9 +1,9 @@
 use Rattle.std.proofs.Common.{◌≡◌, false, refl, ap, sym}
 use Rattle.aud_text.specs.declared.place.Pos.{Pos}
 use Rattle.aud_typed.specs.declared.program.Tasks.{Tasks}
-use Rattle.aud_typed.specs.declared.program.Statement.{Statement, Declare, DeclareArray, DeclareTasks, Activated, Null, Assign, Put, If', While', Loop', For', Exit, Raise, RaiseAgain, Block', Return, ProcedureCall}
+use Rattle.aud_typed.specs.declared.program.Statement.{Statement, Declare, DeclareArray, DeclareTasks, Activated, Null, Assign, Put, If', While', Loop', For', Exit, Raise, RaiseAgain, Block', Return, ProcedureCall, EntryCall', Delay, Accept', Select'}
 use Rattle.aud_typed.specs.Ties.View.{plain_statement}
-use Rattle.aud_typed.proofs.Opened.{if_open, block_open}
+use Rattle.aud_typed.proofs.Opened.{if_open, block_open, accept_open}
 use Rattle.aud_check_bodies.specs.Tasks.{creates}
 use Rattle.aud_check_bodies.proofs.task.creates.Goals as goal
 
@@ -25,6 +25,10 @@ creates_none (RaiseAgain at) other = refl
 creates_none (Block' _ b) other = ap creates (block_open b)
 creates_none (Return at) other = refl
 creates_none (ProcedureCall at unit arguments) other = refl
+creates_none (EntryCall' _ at task entry arguments form _ after _ otherwise) other = refl
+creates_none (Delay at e) other = refl
+creates_none (Accept' _ s) other = ap creates (accept_open s)
+creates_none (Select' _ at _ alternatives _ otherwise) other = refl
 
 pub returns-in_default : goal.returns-in_default
 returns-in_default c = sym (creates_none c.args.statement.now c.in_default.not-DeclareTasks)

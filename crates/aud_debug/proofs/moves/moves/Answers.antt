@@ -1,7 +1,13 @@
-use Rattle.std.proofs.Common.{◌∙◌}
+use Rattle.std.proofs.Common.{sym, subst, ◌∙◌}
 use Rattle.aud_meaning.specs.Listings.{View}
+use Rattle.aud_code.specs.Flat.{Flat}
+use Rattle.aud_code.specs.Starts.{AreSpots}
 use Rattle.aud_debug.proofs.Ended.{page_shown, viewed}
 use Rattle.aud_debug.proofs.moves.moves.Goals as goal
+
+pub moves-requires : goal.moves-requires
+moves-requires c =
+    subst (λ (code : Flat). AreSpots code.lines c.parts-state.result.now.tasks) (sym c.compiled-compiled.ensures.code) (c.parts-state.ensures.spots c.requires)
 
 pub returns : goal.returns
 returns c = λ shown h.

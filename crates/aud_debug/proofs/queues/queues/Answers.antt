@@ -1,8 +1,10 @@
 use Rattle.std.proofs.Common.{◌∙◌}
-use Rattle.aud_debug.proofs.Ended.{nothing_shown}
-use Rattle.aud_debug.proofs.Queued.{none_queued}
+use Rattle.aud_meaning.specs.Listings.{View}
+use Rattle.aud_debug.proofs.Ended.{page_shown, viewed}
 use Rattle.aud_debug.proofs.queues.queues.Goals as goal
 
 pub returns : goal.returns
 returns c = λ shown h.
-    c.into_lines.ensures ∙ nothing_shown _ _ _ c.new.ensures.bytes c.new.ensures.count (none_queued c.args.machine.now.program shown)
+    c.into_lines.ensures
+    ∙ page_shown _ _ _ _ _ _ c.new-page.ensures.bytes c.new-page.ensures.count c.in_ok-push_queues.ensures
+    (viewed (λ (v : View). v.queues) c.args.machine.now shown _ _ _ c.compiled.ensures.program c.compiled.ensures.code (c.parts.ensures.view shown h))

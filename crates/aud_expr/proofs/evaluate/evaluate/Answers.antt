@@ -1,74 +1,18 @@
-use Rattle.std.proofs.Common.{◌≡◌, ◌≤◌, length, refl, sym, ap, ◌∙◌, arith}
-use Rattle.std.proofs.lemmas.List.{drop_all}
-use Rattle.aud_code.specs.Frames.{found_from}
-use Rattle.aud_code.specs.View.{plain_end}
-use Rattle.aud_expr.proofs.Executed.{executed}
-use Rattle.aud_expr.proofs.Instructions.{scene_of, needed, passes_on, goes_on, raised, raised_ticks, at_end, fits_end, end_ticks, none_met, last_ticks}
+use Rattle.std.proofs.Common.{refl}
+use Rattle.aud_expr.proofs.Instructions.{scene_of}
+use Rattle.aud_expr.proofs.Marking.{not_marked}
 use Rattle.aud_expr.proofs.evaluate.evaluate.Goals as goal
 
-pub returns-in-End-clause-ends : goal.returns-in-End-clause-ends
-returns-in-End-clause-ends g c = at_end _ _ _ _ _ _ _ _ _ c.loop-place.invariant.stands (plain_end c.in-End.field-0) (rw c.in-End.is at c.line.ensures)
+pub unreachable-requires : goal.unreachable-requires
+unreachable-requires g c =
+    let s = scene_of (g.F.Facts.facts c.args.facts.now) c.args.clock c.args.display.now c.args.frames.now in
+    not_marked c.args.code.now c.args.first s c.evaluate_until.new.operands ((rw c.in-Marks.is at c.in_ok-halt.ensures.ends) s refl refl refl refl)
 
-pub returns-in-End-clause-reaches : goal.returns-in-End-clause-reaches
-returns-in-End-clause-reaches g c = c.loop-place.invariant.stands.meets
-
-pub returns-in-End-clause-fits : goal.returns-in-End-clause-fits
-returns-in-End-clause-fits g c = fits_end _ _ _ _ _ _ _ _ _ c.loop-place.invariant.stands (plain_end c.in-End.field-0) (rw c.in-End.is at c.line.ensures)
-
-pub returns-in-End-clause-ticks : goal.returns-in-End-clause-ticks
-returns-in-End-clause-ticks g c = end_ticks _ _ _ _ _ _ _ _ _ c.loop-place.invariant.stands (plain_end c.in-End.field-0) (rw c.in-End.is at c.line.ensures)
-
-pub loop-place-preserved-then-passed-gt0 : goal.loop-place-preserved-then-passed-gt0
-loop-place-preserved-then-passed-gt0 g c = record {
-  stands = passes_on _ _ _ _ _ _ _ c.in-Instruction.instruction (rw c.in-Instruction.is at c.line.ensures) _ _ c.if-passed-gt0.true c.loop-place.invariant.stands;
-  few = omega (arith, c.loop-place.invariant.few);
-}
-
-pub eval_step-requires-clause-finds : goal.eval_step-requires-clause-finds
-eval_step-requires-clause-finds g c =
-    let none : c.loop-place.passed ≡ 0 = omega (arith, c.if-passed-gt0.false) in
-    needed _ _ _ _ _ _ _ c.in-Instruction.instruction (rw c.in-Instruction.is at c.line.ensures) _ (rw none at c.loop-place.invariant.stands)
-
-pub returns-in-Raises-clause-ends : goal.returns-in-Raises-clause-ends
-returns-in-Raises-clause-ends g c =
-    let none : c.loop-place.passed ≡ 0 = omega (arith, c.if-passed-gt0.false) in
-    raised _ _ _ _ _ _ _ c.in-Instruction.instruction (rw c.in-Instruction.is at c.line.ensures) _ (rw none at c.loop-place.invariant.stands) c.eval_step.new.operands c.in-Raises.raise (rw c.in-Raises.is at c.in_ok-count.ensures.acts)
-
-pub returns-in-Raises-clause-ticks : goal.returns-in-Raises-clause-ticks
-returns-in-Raises-clause-ticks g c =
-    let none : c.loop-place.passed ≡ 0 = omega (arith, c.if-passed-gt0.false) in
-    rw c.eval_step.ensures.tick (raised_ticks _ _ _ _ _ _ _ c.in-Instruction.instruction (rw c.in-Instruction.is at c.line.ensures) _ (rw none at c.loop-place.invariant.stands) c.eval_step.new.operands c.in-Raises.raise (rw c.in-Raises.is at c.in_ok-count.ensures.acts))
-
-pub loop-place-preserved : goal.loop-place-preserved
-loop-place-preserved g c =
-    let none : c.loop-place.passed ≡ 0 = omega (arith, c.if-passed-gt0.false) in
-    record {
-      stands = rw c.eval_step.ensures.tick (goes_on _ _ _ _ _ _ _ c.in-Instruction.instruction (rw c.in-Instruction.is at c.line.ensures) _ (rw none at c.loop-place.invariant.stands) c.in-Passes.count c.eval_step.new.operands (rw c.in-Passes.is at c.in_ok-count.ensures.acts));
-      few = omega (arith, c.eval_step.ensures.tick, c.loop-place.invariant.few);
-    }
+pub returns-clause-ends : goal.returns-clause-ends
+returns-clause-ends g c = rw c.in-Ends.is at c.in_ok-halt.ensures.ends
 
 pub returns-clause-reaches : goal.returns-clause-reaches
-returns-clause-reaches g c =
-    let behind : length c.args.code.now.lines ≤ c.loop-place.place = omega (arith, c.len-place-end.ensures.lines) in
-    let none = drop_all c.len.result c.args.code.now.lines (omega (arith, c.len.ensures.lines)) in
-    ap found_from none ∙ sym (none_met _ _ _ _ _ _ _ _ _ c.loop-place.invariant.stands behind)
+returns-clause-reaches g c = rw c.in-Ends.is at c.in_ok-halt.ensures.reaches
 
-pub returns-clause-few : goal.returns-clause-few
-returns-clause-few g c =
-    let behind : length c.args.code.now.lines ≤ c.loop-place.place = omega (arith, c.len-place-end.ensures.lines) in
-    let s = scene_of (g.F.Facts.facts c.args.facts.now) c.args.display.now c.args.frames.now in
-    let all = last_ticks _ _ _ _ _ _ _ _ _ c.loop-place.invariant.stands behind s refl refl refl in
-    omega (arith, all, executed c.args.code.now.lines c.args.first s)
-
-pub returns-in-End-clause-few : goal.returns-in-End-clause-few
-returns-in-End-clause-few g c =
-    let s = scene_of (g.F.Facts.facts c.args.facts.now) c.args.display.now c.args.frames.now in
-    let all = end_ticks _ _ _ _ _ _ _ _ _ c.loop-place.invariant.stands (plain_end c.in-End.field-0) (rw c.in-End.is at c.line.ensures) s refl refl refl in
-    omega (arith, all, executed c.args.code.now.lines c.args.first s)
-
-pub returns-in-Raises-clause-few : goal.returns-in-Raises-clause-few
-returns-in-Raises-clause-few g c =
-    let none : c.loop-place.passed ≡ 0 = omega (arith, c.if-passed-gt0.false) in
-    let s = scene_of (g.F.Facts.facts c.args.facts.now) c.args.display.now c.args.frames.now in
-    let all = raised_ticks _ _ _ _ _ _ _ c.in-Instruction.instruction (rw c.in-Instruction.is at c.line.ensures) _ (rw none at c.loop-place.invariant.stands) c.eval_step.new.operands c.in-Raises.raise (rw c.in-Raises.is at c.in_ok-count.ensures.acts) s refl refl refl in
-    omega (arith, c.eval_step.ensures.tick, all, executed c.args.code.now.lines c.args.first s)
+pub returns-clause-fits : goal.returns-clause-fits
+returns-clause-fits g c = rw c.in-Ends.is at c.in_ok-halt.ensures.fits

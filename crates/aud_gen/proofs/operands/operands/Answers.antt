@@ -7,7 +7,7 @@ use Rattle.aud_gen.proofs.operands.operands.Goals.{in-Instruction+in_ok-before-i
 use Rattle.aud_gen.proofs.operands.operands.Goals as goal
 
 abbrev NOTHING : Counts
-NOTHING = record { integers = 0; booleans = 0; targets = 0 }
+NOTHING = record { integers = 0; booleans = 0; targets = 0; names = 0 }
 
 pub loop-line-preserved : goal.loop-line-preserved
 loop-line-preserved c =

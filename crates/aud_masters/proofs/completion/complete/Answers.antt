@@ -17,7 +17,7 @@ returns c = λ plan barrier.
     let n = c.args.task in
     let opened : List Opened = (own_of n old).opened in
     let done : All Spot = on_own n (λ own. record own { status = Completed; pending = None; raised = c.args.raised; waits = no_waits }) old in
-    let accepts : c.deref-2.result.now ≡ effect.accepts_under_way go plan barrier opened = c.deref-2.ensures.value ∙ c.accepts_under_way-accepts.ensures go plan barrier in
+    let accepts : c.deref-2.result.now ≡ effect.accepts_under_way go plan barrier opened = c.deref-2.ensures.value ∙ c.in_ok-accepts.ensures go plan barrier in
     let parts : c.deref.result.now ≡ map (λ (o : Opened). o.frame) opened = c.deref.ensures.value ∙ c.in_ok-parts.ensures in
     let created : c.deref-3.result.now ≡ numbers (effect.created_in go plan barrier opened) 0 old.tasks =
     c.deref-3.ensures.value ∙ c.in_ok-created.ensures

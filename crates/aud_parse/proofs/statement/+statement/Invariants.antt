@@ -2,85 +2,86 @@ use Rattle.std.proofs.Common.{◌+◌, ◌*◌, ◌≤◌, length}
 use Rattle.aud_grammar.specs.Grammar as g
 use Rattle.aud_parse.specs.Ties.Items.{arm_item, handler_item, statement_item, declaration_item}
 use Rattle.aud_cursor.proofs.Passing.{Turns, Heads}
+use Rattle.aud_parse.proofs.Alternating.{Chain}
 use Rattle.aud_parse.proofs.statement.+statement.Given as goal
 
 abbrev pub decreases-statements : goal.decreases-statements
-decreases-statements l = 16 * l.room + 0
+decreases-statements l = 32 * l.room + 0
 
 abbrev pub decreases-declarations : goal.decreases-declarations
-decreases-declarations l = 16 * l.room + 0
+decreases-declarations l = 32 * l.room + 0
 
 abbrev pub decreases-opt_declarations : goal.decreases-opt_declarations
-decreases-opt_declarations l = 16 * l.room + 1
+decreases-opt_declarations l = 32 * l.room + 1
 
 abbrev pub decreases-opt_declare : goal.decreases-opt_declare
-decreases-opt_declare l = 16 * l.room + 2
+decreases-opt_declare l = 32 * l.room + 2
 
 abbrev pub decreases-guarded : goal.decreases-guarded
-decreases-guarded l = 16 * l.room + 1
+decreases-guarded l = 32 * l.room + 1
 
 abbrev pub decreases-opt_else : goal.decreases-opt_else
-decreases-opt_else l = 16 * l.room + 1
+decreases-opt_else l = 32 * l.room + 1
 
 abbrev pub decreases-loop_statement : goal.decreases-loop_statement
-decreases-loop_statement l = 16 * l.room + 1
+decreases-loop_statement l = 32 * l.room + 1
 
 abbrev pub decreases-handler : goal.decreases-handler
-decreases-handler l = 16 * l.room + 1
+decreases-handler l = 32 * l.room + 1
 
 abbrev pub decreases-handler_list : goal.decreases-handler_list
-decreases-handler_list l = 16 * l.room + 2
+decreases-handler_list l = 32 * l.room + 2
 
 abbrev pub decreases-elsif : goal.decreases-elsif
-decreases-elsif l = 16 * l.room + 2
+decreases-elsif l = 32 * l.room + 2
 
 abbrev pub decreases-opt_handlers : goal.decreases-opt_handlers
-decreases-opt_handlers l = 16 * l.room + 3
+decreases-opt_handlers l = 32 * l.room + 3
 
 abbrev pub decreases-elsifs : goal.decreases-elsifs
-decreases-elsifs l = 16 * l.room + 3
+decreases-elsifs l = 32 * l.room + 3
 
 abbrev pub decreases-if_statement : goal.decreases-if_statement
-decreases-if_statement l = 16 * l.room + 4
+decreases-if_statement l = 32 * l.room + 4
 
 abbrev pub decreases-in_body : goal.decreases-in_body
-decreases-in_body l = 16 * l.room + 4
+decreases-in_body l = 32 * l.room + 4
 
 abbrev pub decreases-body : goal.decreases-body
-decreases-body l = 16 * l.room + 5
+decreases-body l = 32 * l.room + 5
 
 abbrev pub decreases-block : goal.decreases-block
-decreases-block l = 16 * l.room + 6
+decreases-block l = 32 * l.room + 6
 
 abbrev pub decreases-procedure : goal.decreases-procedure
-decreases-procedure l = 16 * l.room + 6
+decreases-procedure l = 32 * l.room + 6
 
 abbrev pub decreases-task_body : goal.decreases-task_body
-decreases-task_body l = 16 * l.room + 6
+decreases-task_body l = 32 * l.room + 6
 
 abbrev pub decreases-task : goal.decreases-task
-decreases-task l = 16 * l.room + 7
+decreases-task l = 32 * l.room + 7
 
 abbrev pub decreases-declaration : goal.decreases-declaration
-decreases-declaration l = 16 * l.room + 8
+decreases-declaration l = 32 * l.room + 8
 
 abbrev pub decreases-declaration_list : goal.decreases-declaration_list
-decreases-declaration_list l = 16 * l.room + 9
+decreases-declaration_list l = 32 * l.room + 9
 
 abbrev pub decreases-labelled : goal.decreases-labelled
-decreases-labelled l = 16 * l.room + 7
+decreases-labelled l = 32 * l.room + 7
 
 abbrev pub decreases-name_statement : goal.decreases-name_statement
-decreases-name_statement l = 16 * l.room + 8
+decreases-name_statement l = 32 * l.room + 8
 
 abbrev pub decreases-statement : goal.decreases-statement
-decreases-statement l = 16 * l.room + 9
+decreases-statement l = 32 * l.room + 14
 
 abbrev pub decreases-more_statements : goal.decreases-more_statements
-decreases-more_statements l = 16 * l.room + 10
+decreases-more_statements l = 32 * l.room + 15
 
 abbrev pub decreases-statement_list : goal.decreases-statement_list
-decreases-statement_list l = 16 * l.room + 11
+decreases-statement_list l = 32 * l.room + 16
 
 abbrev pub invariant-elsifs-turns : goal.invariant-elsifs-turns
 invariant-elsifs-turns l = record { turns : Turns arm_item g.Elsif l.room l.start.tokens.now l.all.items l.rest.tokens.now; shorter : length l.rest.tokens.now ≤ length l.start.tokens.now }
@@ -105,3 +106,66 @@ invariant-declaration_list-turns l = record { turns : Heads declaration_item g.D
 
 abbrev pub decreases-declaration_list-turns : goal.decreases-declaration_list-turns
 decreases-declaration_list-turns l = length l.rest.tokens.now
+
+abbrev pub invariant-more_alternatives-turns : goal.invariant-more_alternatives-turns
+invariant-more_alternatives-turns l = record { turns : Chain l.fn.seen l.room l.start.tokens.now l.all.items l.so_far l.rest.tokens.now; shorter : length l.rest.tokens.now ≤ length l.start.tokens.now }
+
+abbrev pub decreases-more_alternatives-turns : goal.decreases-more_alternatives-turns
+decreases-more_alternatives-turns l = length l.rest.tokens.now
+
+abbrev pub decreases-opt_statements : goal.decreases-opt_statements
+decreases-opt_statements l = 32 * l.room + 1
+
+abbrev pub decreases-else_part : goal.decreases-else_part
+decreases-else_part l = 32 * l.room + 1
+
+abbrev pub decreases-after_accepts : goal.decreases-after_accepts
+decreases-after_accepts l = 32 * l.room + 2
+
+abbrev pub decreases-after_last : goal.decreases-after_last
+decreases-after_last l = 32 * l.room + 3
+
+abbrev pub decreases-do_body : goal.decreases-do_body
+decreases-do_body l = 32 * l.room + 5
+
+abbrev pub decreases-opt_do : goal.decreases-opt_do
+decreases-opt_do l = 32 * l.room + 6
+
+abbrev pub decreases-accept_statement : goal.decreases-accept_statement
+decreases-accept_statement l = 32 * l.room + 7
+
+abbrev pub decreases-accepting : goal.decreases-accepting
+decreases-accepting l = 32 * l.room + 8
+
+abbrev pub decreases-accept_alternative : goal.decreases-accept_alternative
+decreases-accept_alternative l = 32 * l.room + 8
+
+abbrev pub decreases-delay_alternative : goal.decreases-delay_alternative
+decreases-delay_alternative l = 32 * l.room + 2
+
+abbrev pub decreases-alternative : goal.decreases-alternative
+decreases-alternative l = 32 * l.room + 9
+
+abbrev pub decreases-more_alternatives : goal.decreases-more_alternatives
+decreases-more_alternatives l = 32 * l.room + 10
+
+abbrev pub decreases-select_accept : goal.decreases-select_accept
+decreases-select_accept l = 32 * l.room + 11
+
+abbrev pub decreases-or_delay : goal.decreases-or_delay
+decreases-or_delay l = 32 * l.room + 2
+
+abbrev pub decreases-or_else : goal.decreases-or_else
+decreases-or_else l = 32 * l.room + 2
+
+abbrev pub decreases-otherwise : goal.decreases-otherwise
+decreases-otherwise l = 32 * l.room + 3
+
+abbrev pub decreases-select_call : goal.decreases-select_call
+decreases-select_call l = 32 * l.room + 4
+
+abbrev pub decreases-select_rest : goal.decreases-select_rest
+decreases-select_rest l = 32 * l.room + 12
+
+abbrev pub decreases-select : goal.decreases-select
+decreases-select l = 32 * l.room + 13

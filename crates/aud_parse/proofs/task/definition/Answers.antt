@@ -9,7 +9,7 @@ use Rattle.aud_cursor.specs.Ties.Items.{vec_item, opt_item}
 use Rattle.aud_parse.specs.Ties.Items.{entry_item}
 use Rattle.aud_cursor.proofs.Passing.{to, exit}
 use Rattle.aud_parse_expr.proofs.Joined.{at_room, joined, not_joined}
-use Rattle.aud_parse.proofs.Rolls.{defined_items}
+use Rattle.aud_parse.proofs.Rolls.{definition_items}
 use Rattle.aud_parse.proofs.task.definition.Goals as goal
 
 pub returns-in_err-rest : goal.returns-in_err-rest
@@ -32,7 +32,7 @@ returns c =
     record {
       reads = λ k ds v o.
           to (o_rule (c.in_ok-rest.ensures.reads _ _ _ _ (c.in_ok-entries.ensures.reads _ _ _ (c.in_ok-entries-2.ensures.reads.1 _ _ _ _ (j.reads _ _ _ o)))))
-          (ap (λ (z : Vec EntryDeclaration Global). made g.DefinitionWithEntries (vec_item entry_item z ∷ opt_item an_ident c.in_ok-entries-3.end_name ∷ ds)) (sym (j.first ∙ c.in_ok-entries-2.ensures.reads.0))
-          ∙ defined_items c.in_ok-entries-3.entries c.in_ok-entries-3.end_name ds);
+          (ap (λ (z : Vec EntryDeclaration Global). made g.TaskDefinition (vec_item entry_item z ∷ opt_item an_ident c.in_ok-entries-3.end_name ∷ ds)) (sym (j.first ∙ c.in_ok-entries-2.ensures.reads.0))
+          ∙ definition_items c.in_ok-entries-3.entries c.in_ok-entries-3.end_name ds);
       shorter = omega (arith, c.in_ok-rest.ensures.shorter, c.in_ok-entries.ensures.shorter, c.in_ok-entries-2.ensures.shorter, j.shorter);
     }

@@ -1,17 +1,13 @@
-use Rattle.std.proofs.Common.{arith}
-use Rattle.aud_grammar.specs.Ties.Outcome.{o_rule, o_yes, o_no}
-use Rattle.aud_cursor.proofs.Passing.{to, exit_flat, word_passes}
-use Rattle.aud_parse.proofs.Rolls.{definition_items}
+use Rattle.std.proofs.Common.{sym, ◌∙◌, arith}
+use Rattle.aud_grammar.specs.Ties.Outcome.{o_yes, o_no}
+use Rattle.aud_cursor.proofs.Passing.{exit}
 use Rattle.aud_parse.proofs.task.opt_definition.Goals as goal
 
-pub returns-in_err-rest : goal.returns-in_err-rest
-returns-in_err-rest c = exit_flat _ _ _ c.from_residual.ensures.1 (λ room. c.in_err-rest.ensures.reads room) (λ room k ds v o. o_yes c.in-Some.ensures.reads.0 (o_rule (word_passes c.in-Some.ensures.reads _ _ _ o)))
+pub returns-in_err-defined : goal.returns-in_err-defined
+returns-in_err-defined c = exit _ _ _ c.from_residual.ensures.1 c.in_err-defined.ensures.reads (λ k ds v o. o_yes (sym c.is.ensures ∙ c.if-is.true) o)
 
-pub returns-in_err-end_name : goal.returns-in_err-end_name
-returns-in_err-end_name c = exit_flat _ _ _ c.from_residual-in_err-end_name.ensures.1 (λ room. c.in_err-end_name.ensures.reads room) (λ room k ds v o. o_yes c.in-Some.ensures.reads.0 (o_rule (word_passes c.in-Some.ensures.reads _ _ _ (c.in_ok-rest.ensures.reads _ _ _ _ o))))
-
-pub returns-in-Some : goal.returns-in-Some
-returns-in-Some c = record { reads = λ room k ds v o. to (o_yes c.in-Some.ensures.reads.0 (o_rule (word_passes c.in-Some.ensures.reads _ _ _ (c.in_ok-rest.ensures.reads _ _ _ _ (c.in_ok-end_name.ensures.reads _ _ _ _ o))))) (definition_items c.new-entries.result c.in_ok-end_name.end_name ds c.new-entries.ensures.items); shorter = omega (arith, c.in-Some.ensures.shorter, c.in_ok-rest.ensures.shorter, c.in_ok-end_name.ensures.shorter) }
+pub returns-then-is : goal.returns-then-is
+returns-then-is c = record { reads = λ k ds v o. o_yes (sym c.is.ensures ∙ c.if-is.true) (c.in_ok-defined.ensures.reads _ _ _ o); shorter = omega (arith, c.in_ok-defined.ensures.shorter) }
 
 pub returns : goal.returns
-returns c = record { reads = λ room k ds v o. o_no c.in_default.ensures.reads o; shorter = omega arith }
+returns c = record { reads = λ k ds v o. o_no (sym c.is.ensures ∙ c.if-is.false) o; shorter = omega arith }

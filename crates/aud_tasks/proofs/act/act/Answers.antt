@@ -5,7 +5,7 @@ use Rattle.aud_tasks.proofs.Stepping.{acts_so}
 use Rattle.aud_tasks.proofs.act.act.Goals as goal
 
 pub returns-in_ok-propagate-in-Some-clause-does : goal.returns-in_ok-propagate-in-Some-clause-does
-returns-in_ok-propagate-in-Some-clause-does c = acts_so (plain_program c.args.compiled.program.now).plan c.args.compiled.code.now c.args.compiled.limits c.args.n (Some c.in-Some.pending) c.args.state.now _ (sym c.in-Some.is ∙ c.pending.ensures) c.in_ok-propagate-in-Some.ensures
+returns-in_ok-propagate-in-Some-clause-does c = acts_so (plain_program c.args.compiled.program.now).plan c.args.compiled.code.now c.args.compiled.limits c.args.alternative c.args.n (Some c.in-Some.pending) c.args.state.now _ (sym c.in-Some.is ∙ c.pending.ensures) (c.in_ok-propagate-in-Some.ensures c.args.alternative)
 
 pub returns-in-None-clause-does : goal.returns-in-None-clause-does
-returns-in-None-clause-does c = if_ok c.execute.result _ _ c.execute.ensures.does (λ ticks h. acts_so (plain_program c.args.compiled.program.now).plan c.args.compiled.code.now c.args.compiled.limits c.args.n None c.args.state.now _ (sym c.in-None.is ∙ c.pending.ensures) h)
+returns-in-None-clause-does c = if_ok c.execute.result _ _ c.execute.ensures.does (λ ticks h. acts_so (plain_program c.args.compiled.program.now).plan c.args.compiled.code.now c.args.compiled.limits c.args.alternative c.args.n None c.args.state.now _ (sym c.in-None.is ∙ c.pending.ensures) h)

@@ -16,8 +16,8 @@ evaluate-requires-clause-begins c = λ t there.
 pub returns-then-place-len-clause-does : goal.returns-then-place-len-clause-does
 returns-then-place-len-clause-does c = λ t there.
     let e = c.place-place.ensures t there in
-    subst (λ (l : EndLine). DoesEnd (plain_program c.args.compiled.program.now).plan c.args.compiled.code.now c.args.compiled.limits c.args.n l (evaluated_at c.args.compiled.code.now t.control.place (scene c.args.n c.args.state.now)) c.args.state.now c.leave.new.state) (sym (no_end_behind c.args.compiled.code.now t.control.place (omega (arith, e)))) (c.in_ok-leave.ensures (plain_program c.args.compiled.program.now).plan c.args.compiled.limits)
+    subst (λ (l : EndLine). DoesEnd (plain_program c.args.compiled.program.now).plan c.args.compiled.code.now c.args.compiled.limits c.args.alternative c.args.n l (evaluated_at c.args.compiled.code.now t.control.place (scene c.args.n c.args.state.now)) c.args.state.now c.leave.new.state) (sym (no_end_behind c.args.compiled.code.now t.control.place (omega (arith, e)))) (c.in_ok-leave.ensures (plain_program c.args.compiled.program.now).plan c.args.compiled.limits c.args.alternative)
 
 pub returns-clause-does : goal.returns-clause-does
 returns-clause-does c = λ t there.
-    subst (λ (x : Ended). DoesEnd (plain_program c.args.compiled.program.now).plan c.args.compiled.code.now c.args.compiled.limits c.args.n (end_at c.args.compiled.code.now t.control.place) x c.args.state.now c.follow.new.state) (c.in_ok-evaluated.ensures.ends t there) (c.in_ok-follow.ensures t there)
+    subst (λ (x : Ended). DoesEnd (plain_program c.args.compiled.program.now).plan c.args.compiled.code.now c.args.compiled.limits c.args.alternative c.args.n (end_at c.args.compiled.code.now t.control.place) x c.args.state.now c.follow.new.state) (c.in_ok-evaluated.ensures.ends t there) (c.in_ok-follow.ensures t there)

@@ -12,22 +12,22 @@ use Rattle.aud_tasks.proofs.Results.{on_ok}
 use Rattle.aud_tasks.proofs.endings.fail.Goals as goal
 
 pub returns-then-is_declaration : goal.returns-then-is_declaration
-returns-then-is_declaration c = on_ok c.raise_in_part.result _ _ c.raise_in_part.ensures (λ h alternative barrier.
+returns-then-is_declaration c = on_ok c.raise_in_part.result _ _ c.raise_in_part.ensures (λ h barrier.
     let plan = (plain_program c.args.compiled.program.now).plan in
     let last = c.args.end.now.last in
-    h plan barrier ∙ ap (λ (a : Asked). done (going c.args.compiled.code.now) plan barrier c.args.compiled.limits alternative a c.args.n c.args.state.now) (raised_in_part (loops_of (exit_of last)) c.args.end.now.at (scene c.args.n c.args.state.now) c.args.raise last (sym c.is_declaration.ensures ∙ c.if-is_declaration.true)))
+    h plan barrier ∙ ap (λ (a : Asked). done (going c.args.compiled.code.now) plan barrier c.args.compiled.limits c.args.alternative a c.args.n c.args.state.now) (raised_in_part (loops_of (exit_of last)) c.args.end.now.at (scene c.args.n c.args.state.now) c.args.raise last (sym c.is_declaration.ensures ∙ c.if-is_declaration.true)))
 
 pub returns-then-is_statement : goal.returns-then-is_statement
-returns-then-is_statement c = λ alternative barrier.
+returns-then-is_statement c = λ barrier.
     let plan = (plain_program c.args.compiled.program.now).plan in
     let last = c.args.end.now.last in
-    c.raise.ensures ∙ ap (λ (a : Asked). done (going c.args.compiled.code.now) plan barrier c.args.compiled.limits alternative a c.args.n c.args.state.now) (raised_here (loops_of (exit_of last)) c.args.end.now.at (scene c.args.n c.args.state.now) c.args.raise last (sym c.is_statement.ensures ∙ c.if-is_statement.true) (sym c.is_declaration.ensures ∙ c.if-is_declaration.false))
+    c.raise.ensures ∙ ap (λ (a : Asked). done (going c.args.compiled.code.now) plan barrier c.args.compiled.limits c.args.alternative a c.args.n c.args.state.now) (raised_here (loops_of (exit_of last)) c.args.end.now.at (scene c.args.n c.args.state.now) c.args.raise last (sym c.is_statement.ensures ∙ c.if-is_statement.true) (sym c.is_declaration.ensures ∙ c.if-is_declaration.false))
 
 pub returns : goal.returns
-returns c = on_ok c.finish.result _ _ c.finish.ensures (λ h alternative barrier.
+returns c = on_ok c.finish.result _ _ c.finish.ensures (λ h barrier.
     let plan = (plain_program c.args.compiled.program.now).plan in
     let last = c.args.end.now.last in
-    h alternative barrier ∙ ap (λ (a : Asked). done (going c.args.compiled.code.now) plan barrier c.args.compiled.limits alternative a c.args.n c.args.state.now) (flows_so (loops_of (exit_of last)) c.args.end.now.at (scene c.args.n c.args.state.now) c.args.raise c.args.operands.now last (sym c.is_statement.ensures ∙ c.if-is_statement.false)))
+    h barrier ∙ ap (λ (a : Asked). done (going c.args.compiled.code.now) plan barrier c.args.compiled.limits c.args.alternative a c.args.n c.args.state.now) (flows_so (loops_of (exit_of last)) c.args.end.now.at (scene c.args.n c.args.state.now) c.args.raise c.args.operands.now last (sym c.is_statement.ensures ∙ c.if-is_statement.false)))
 
 pub finish-requires-clause-fine : goal.finish-requires-clause-fine
 finish-requires-clause-fine c = flow_fine (counts_of c.args.operands.now) c.args.end.now.last (sym c.is_statement.ensures ∙ c.if-is_statement.false)

@@ -5,6 +5,7 @@ use Rattle.aud_code.specs.Flat.{flat_controls}
 use Rattle.aud_tasks.specs.declared.turn.Turn.TheVariants.{Acting, Cancelling, Closing, Completing, Expiring, Resting, Serving, Withdrawing}
 use Rattle.aud_tasks.specs.Moving.{alone_if, picked}
 use Rattle.aud_tasks.proofs.Moving.{closes, only_if, serve_one, turn_told}
+use Rattle.aud_tasks.proofs.Results.{if_ok}
 use Rattle.aud_tasks.proofs.moves.enabled_of.Goals as goal
 
 pub returns-in-Resting : goal.returns-in-Resting
@@ -49,13 +50,8 @@ returns-in-Cancelling c = λ plan none.
     ∙ sym (turn_told plan code s n c.turn_of.result Cancelling (c.turn_of.ensures plan) c.in-Cancelling.is)
 
 pub returns-in-Acting : goal.returns-in-Acting
-returns-in-Acting c = λ plan none.
-    let code = c.args.code.now in
-    let s = c.args.state.now in
-    let n = c.args.task in
-    c.one_if-in-Acting.ensures n s.clock
-    ∙ c.can_act.ensures plan
-    ∙ sym (turn_told plan code s n c.turn_of.result Acting (c.turn_of.ensures plan) c.in-Acting.is)
+returns-in-Acting c = if_ok c.acting.result _ _ c.acting.ensures (λ enabled h plan none.
+    h plan ∙ sym (turn_told plan c.args.code.now c.args.state.now c.args.task c.turn_of.result Acting (c.turn_of.ensures plan) c.in-Acting.is))
 
 pub returns-in-Completing : goal.returns-in-Completing
 returns-in-Completing c = λ plan none.

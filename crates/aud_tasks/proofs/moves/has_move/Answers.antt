@@ -1,12 +1,76 @@
-use Rattle.std.proofs.Common.{slice_get, ap, ◌∙◌}
-use Rattle.std.specs.Option.{is_some}
-use Rattle.aud_tasks.specs.Enabled.{enabled_moves}
+use Rattle.std.proofs.Common.{ap, sym, ◌∙◌}
+use Rattle.aud_meaning.specs.Parts.{is_idle, object_of, Closable}
+use Rattle.aud_meaning.specs.Run.{seen}
+use Rattle.aud_code.specs.Flat.{flat_controls}
+use Rattle.aud_tasks.specs.declared.turn.Turn.TheVariants.{Acting, Cancelling, Closing, Completing, Expiring, Resting, Serving, Withdrawing}
+use Rattle.aud_tasks.specs.Moving.{alone_if, has_some, picked}
+use Rattle.aud_tasks.proofs.Moving.{closes, only_if, serve_one, some_only, turn_told}
 use Rattle.aud_tasks.proofs.moves.has_move.Goals as goal
 
-pub returns : goal.returns
-returns c = λ plan none.
+pub returns-in-Resting : goal.returns-in-Resting
+returns-in-Resting c = λ plan none.
+    sym (ap has_some (turn_told plan c.args.code.now c.args.state.now c.args.task c.turn_of.result Resting (c.turn_of.ensures plan) c.in-Resting.is))
+
+pub returns-in-Completing : goal.returns-in-Completing
+returns-in-Completing c = λ plan none.
+    sym (ap has_some (turn_told plan c.args.code.now c.args.state.now c.args.task c.turn_of.result Completing (c.turn_of.ensures plan) c.in-Completing.is))
+
+pub returns-in-Serving : goal.returns-in-Serving
+returns-in-Serving c = λ plan none.
+    let code = c.args.code.now in
+    let s = c.args.state.now in
     let n = c.args.task in
-    let e = c.enabled_of-enabled.result in
-    c.is_some.ensures
-    ∙ ap is_some c.nth.ensures
-    ∙ ap (λ ms. is_some (slice_get ms 0)) (ap (λ k. enabled_moves n k e) c.clock.ensures.value ∙ c.enabled_of-enabled.ensures plan none)
+    sym (ap has_some
+    (turn_told plan code s n c.turn_of.result (Serving c.in-Serving.field-0) (c.turn_of.ensures plan) c.in-Serving.is
+    ∙ serve_one plan code c.in-Serving.field-0.object n (seen plan (flat_controls plan code) s) none))
+
+pub returns-in-Closing : goal.returns-in-Closing
+returns-in-Closing c = λ plan none.
+    let code = c.args.code.now in
+    let s = c.args.state.now in
+    let n = c.args.task in
+    some_only plan code s c.closable.result n
+    ∙ ap has_some
+    (ap (λ b. alone_if b n) (c.closable.ensures ∙ ap (λ m. Closable m s) c.body_master.ensures)
+    ∙ closes plan code s n
+    ∙ sym (turn_told plan code s n c.turn_of.result Closing (c.turn_of.ensures plan) c.in-Closing.is))
+
+pub returns-in-Withdrawing : goal.returns-in-Withdrawing
+returns-in-Withdrawing c = λ plan none.
+    let code = c.args.code.now in
+    let s = c.args.state.now in
+    let n = c.args.task in
+    some_only plan code s c.is_idle.result n
+    ∙ ap has_some
+    (ap (λ b. alone_if b n) c.is_idle.ensures
+    ∙ only_if plan code (is_idle (object_of c.in-Withdrawing.object s)) n
+    ∙ sym (turn_told plan code s n c.turn_of.result (Withdrawing c.in-Withdrawing.object) (c.turn_of.ensures plan) c.in-Withdrawing.is))
+
+pub returns-in-Expiring : goal.returns-in-Expiring
+returns-in-Expiring c = λ plan none.
+    let code = c.args.code.now in
+    let s = c.args.state.now in
+    let n = c.args.task in
+    c.has_ended_delay.ensures
+    ∙ ap (λ k. has_some (picked n k c.delays.result.now)) c.clock.ensures.value
+    ∙ ap has_some
+    (ap (picked n s.clock) c.delays.ensures
+    ∙ sym (turn_told plan code s n c.turn_of.result Expiring (c.turn_of.ensures plan) c.in-Expiring.is))
+
+pub returns-in-Cancelling : goal.returns-in-Cancelling
+returns-in-Cancelling c = λ plan none.
+    let code = c.args.code.now in
+    let s = c.args.state.now in
+    let n = c.args.task in
+    some_only plan code s c.can_be_cancelled.result n
+    ∙ ap has_some
+    (c.can_be_cancelled.ensures plan code
+    ∙ sym (turn_told plan code s n c.turn_of.result Cancelling (c.turn_of.ensures plan) c.in-Cancelling.is))
+
+pub returns-in-Acting : goal.returns-in-Acting
+returns-in-Acting c = λ plan none.
+    let code = c.args.code.now in
+    let s = c.args.state.now in
+    let n = c.args.task in
+    c.can_act.ensures plan
+    ∙ ap has_some (sym (turn_told plan code s n c.turn_of.result Acting (c.turn_of.ensures plan) c.in-Acting.is))

@@ -17,8 +17,8 @@ loop-task-preserved c = λ plan none.
     let code = c.args.compiled.code.now in
     let s = c.args.state.now in
     let n = c.loop-task.task in
-    let e = c.enabled_of-enabled.result in
-    listed_more plan code s n c.loop-task.moves.items _ (enabled_moves n c.clock-clock.result e) (omega arith) c.in_ok-list.ensures (ap (λ k. enabled_moves n k e) c.clock-clock.ensures.value ∙ c.enabled_of-enabled.ensures plan none)
+    let e = c.in_ok-enabled.enabled in
+    listed_more plan code s n c.loop-task.moves.items _ (enabled_moves n c.clock-clock.result e) (omega arith) c.in_ok-list.ensures (ap (λ k. enabled_moves n k e) c.clock-clock.ensures.value ∙ c.in_ok-enabled.ensures plan none)
     ∙ c.loop-task.invariant plan none
 
 pub returns : goal.returns

@@ -24,15 +24,15 @@ returns-in-Some c =
     let code = c.args.compiled.code.now in
     let s = c.args.state.now in
     let n = c.loop-task.task in
-    let e = c.enabled_of-enabled.result in
+    let e = c.in_ok-enabled.enabled in
     let k = c.clock-clock.result in
     sym (ap (λ ms. slice_get ms c.args.index) (moves_all plan code s (sym c.may_move.ensures ∙ c.if-not-may_move.false))
     ∙ c.loop-task.invariant plan refl
-    ∙ nth_here plan code s n c.loop-task.left (enabled_moves n k e) c.in-Some.found (omega arith) (ap (λ t. enabled_moves n t e) c.clock-clock.ensures.value ∙ c.enabled_of-enabled.ensures plan refl) (sym c.nth.ensures ∙ c.in-Some.is))
+    ∙ nth_here plan code s n c.loop-task.left (enabled_moves n k e) c.in-Some.found (omega arith) (ap (λ t. enabled_moves n t e) c.clock-clock.ensures.value ∙ c.in_ok-enabled.ensures plan refl) (sym c.nth.ensures ∙ c.in-Some.is))
 
 pub overflow_sub-left : goal.overflow_sub-left
 overflow_sub-left c =
-    let few = get_none (enabled_moves c.loop-task.task c.clock-clock.result c.enabled_of-enabled.result) c.loop-task.left (sym c.nth.ensures ∙ c.in_default.is) in
+    let few = get_none (enabled_moves c.loop-task.task c.clock-clock.result c.in_ok-enabled.enabled) c.loop-task.left (sym c.nth.ensures ∙ c.in_default.is) in
     omega (arith, few, c.count-left.ensures)
 
 pub loop-task-preserved : goal.loop-task-preserved
@@ -40,9 +40,9 @@ loop-task-preserved c = λ plan none.
     let code = c.args.compiled.code.now in
     let s = c.args.state.now in
     let n = c.loop-task.task in
-    let e = c.enabled_of-enabled.result in
+    let e = c.in_ok-enabled.enabled in
     let k = c.clock-clock.result in
     let is_none = sym c.nth.ensures ∙ c.in_default.is in
     let few = get_none (enabled_moves n k e) c.loop-task.left is_none in
     c.loop-task.invariant plan none
-    ∙ nth_behind plan code s n c.loop-task.left (c.loop-task.left - c.count-left.result) (enabled_moves n k e) (omega arith) (ap (λ t. enabled_moves n t e) c.clock-clock.ensures.value ∙ c.enabled_of-enabled.ensures plan none) is_none (omega (arith, few, c.count-left.ensures))
+    ∙ nth_behind plan code s n c.loop-task.left (c.loop-task.left - c.count-left.result) (enabled_moves n k e) (omega arith) (ap (λ t. enabled_moves n t e) c.clock-clock.ensures.value ∙ c.in_ok-enabled.ensures plan none) is_none (omega (arith, few, c.count-left.ensures))

@@ -1,6 +1,8 @@
 use Rattle.std.proofs.Common.{false, true, refl, ap, sym, ◌∙◌}
 use Rattle.aud_typed.specs.Ties.View.{plain_program}
-use Rattle.aud_tasks.proofs.Moving.{state_as, state_more, state_waits, times}
+use Rattle.aud_meaning.specs.Run.{moves_at}
+use Rattle.aud_code.specs.Flat.{flat_controls}
+use Rattle.aud_tasks.proofs.Moving.{mover_moves, no_mover, some_there, state_as, state_more, state_waits, times}
 use Rattle.aud_tasks.proofs.Soonest.{waiting_law, waits_for}
 use Rattle.aud_tasks.proofs.moves.state_of.Goals as goal
 
@@ -18,14 +20,19 @@ returns-then-is_cut c =
 pub returns-in-Some : goal.returns-in-Some
 returns-in-Some c =
     let plan = (plain_program c.args.compiled.program.now).plan in
-    sym (state_more plan c.args.compiled.code.now c.args.state.now c.in-Some.field-0 (sym c.has_ended.ensures ∙ c.if-has_ended.false) (sym c.is_cut.ensures ∙ c.if-is_cut.false) (sym c.nth_move.ensures ∙ c.in-Some.is))
+    let code = c.args.compiled.code.now in
+    let s = c.args.state.now in
+    let runs = sym c.has_ended.ensures ∙ c.if-has_ended.false in
+    let room = sym c.is_cut.ensures ∙ c.if-is_cut.false in
+    let first = some_there (moves_at plan (flat_controls plan code) s) (mover_moves plan code s c.in-Some.field-0 (c.in-Some.ensures.some plan refl) runs room) in
+    sym (state_more plan code s first.0 runs room first.1)
 
 pub returns-in-Some-soonest : goal.returns-in-Some-soonest
 returns-in-Some-soonest c =
     let plan = (plain_program c.args.compiled.program.now).plan in
     let code = c.args.compiled.code.now in
     let s = c.args.state.now in
-    sym (state_waits plan code s (sym c.has_ended.ensures ∙ c.if-has_ended.false) (sym c.is_cut.ensures ∙ c.if-is_cut.false) (sym c.nth_move.ensures ∙ c.in-None.is)
+    sym (state_waits plan code s (sym c.has_ended.ensures ∙ c.if-has_ended.false) (sym c.is_cut.ensures ∙ c.if-is_cut.false) (no_mover plan code s (c.in-None.ensures.none plan refl) (sym c.has_ended.ensures ∙ c.if-has_ended.false) (sym c.is_cut.ensures ∙ c.if-is_cut.false))
     ∙ sym (waiting_law plan code (times plan code s 0))
     ∙ ap waits_for (sym (c.soonest.ensures plan) ∙ c.in-Some-soonest.is))
 
@@ -34,6 +41,6 @@ returns-in-None-soonest c =
     let plan = (plain_program c.args.compiled.program.now).plan in
     let code = c.args.compiled.code.now in
     let s = c.args.state.now in
-    sym (state_waits plan code s (sym c.has_ended.ensures ∙ c.if-has_ended.false) (sym c.is_cut.ensures ∙ c.if-is_cut.false) (sym c.nth_move.ensures ∙ c.in-None.is)
+    sym (state_waits plan code s (sym c.has_ended.ensures ∙ c.if-has_ended.false) (sym c.is_cut.ensures ∙ c.if-is_cut.false) (no_mover plan code s (c.in-None.ensures.none plan refl) (sym c.has_ended.ensures ∙ c.if-has_ended.false) (sym c.is_cut.ensures ∙ c.if-is_cut.false))
     ∙ sym (waiting_law plan code (times plan code s 0))
     ∙ ap waits_for (sym (c.soonest.ensures plan) ∙ c.in-None-soonest.is))

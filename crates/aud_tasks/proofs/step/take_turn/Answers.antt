@@ -1,12 +1,11 @@
 use Rattle.std.proofs.Common.{ap, sym, ◌∙◌}
 use Rattle.aud_meaning.specs.Configuration.{All}
-use Rattle.aud_meaning.specs.Parts.{on_task}
+use Rattle.aud_meaning.specs.Tasks.{delay_expires}
 use Rattle.aud_typed.specs.Ties.View.{plain_program}
 use Rattle.aud_meaning.specs.Run.{turn_taken}
 use Rattle.aud_code.specs.Control.{going}
 use Rattle.aud_code.specs.Flat.{asked_at, barrier_at}
 use Rattle.aud_state.specs.Fast.{scene}
-use Rattle.aud_state.specs.View.{resumes}
 use Rattle.aud_tasks.specs.declared.turn.Turn.{Turn}
 use Rattle.aud_tasks.specs.Turning.{turned}
 use Rattle.aud_tasks.proofs.Results.{if_ok}
@@ -23,9 +22,13 @@ returns-in_ok-complete-in-Completing-clause-takes c = λ t there. c.in_ok-comple
 
 pub returns-in-Expiring-clause-takes : goal.returns-in-Expiring-clause-takes
 returns-in-Expiring-clause-takes c = λ t there.
-    c.resume.ensures
-    ∙ ap (λ a. on_task c.args.taken.task (resumes (going c.args.compiled.code.now) a) c.args.state.now) c.alternative.ensures
+    let plan = (plain_program c.args.compiled.program.now).plan in
+    c.undelay.ensures plan (barrier_at c.args.compiled.code.now)
+    ∙ ap (λ a. delay_expires (going c.args.compiled.code.now) plan (barrier_at c.args.compiled.code.now) a c.args.taken.task c.args.state.now) c.alternative.ensures
     ∙ ap (λ (u : Turn). turn_taken (going c.args.compiled.code.now) (plain_program c.args.compiled.program.now).plan (barrier_at c.args.compiled.code.now) c.args.compiled.limits (turned (plain_program c.args.compiled.program.now).plan c.args.compiled.code.now c.args.taken.task c.args.state.now u) (asked_at c.args.compiled.code.now t.own.pending (scene c.args.taken.task c.args.state.now) t.control) c.args.taken c.args.state.now) (sym c.in-Expiring.is)
 
+pub returns-in_ok-timed-in-Cancelling-clause-takes : goal.returns-in_ok-timed-in-Cancelling-clause-takes
+returns-in_ok-timed-in-Cancelling-clause-takes c = λ t there. c.in_ok-timed-in-Cancelling.ensures (plain_program c.args.compiled.program.now).plan (barrier_at c.args.compiled.code.now) ∙ ap (λ (u : Turn). turn_taken (going c.args.compiled.code.now) (plain_program c.args.compiled.program.now).plan (barrier_at c.args.compiled.code.now) c.args.compiled.limits (turned (plain_program c.args.compiled.program.now).plan c.args.compiled.code.now c.args.taken.task c.args.state.now u) (asked_at c.args.compiled.code.now t.own.pending (scene c.args.taken.task c.args.state.now) t.control) c.args.taken c.args.state.now) (sym c.in-Cancelling.is)
+
 pub returns-in-Acting-clause-takes : goal.returns-in-Acting-clause-takes
-returns-in-Acting-clause-takes c = if_ok c.act.result _ _ c.act.ensures.does (λ ticks h t there. h t there c.args.taken.alternative (barrier_at c.args.compiled.code.now) ∙ ap (λ (u : Turn). turn_taken (going c.args.compiled.code.now) (plain_program c.args.compiled.program.now).plan (barrier_at c.args.compiled.code.now) c.args.compiled.limits (turned (plain_program c.args.compiled.program.now).plan c.args.compiled.code.now c.args.taken.task c.args.state.now u) (asked_at c.args.compiled.code.now t.own.pending (scene c.args.taken.task c.args.state.now) t.control) c.args.taken c.args.state.now) (sym c.in-Acting.is))
+returns-in-Acting-clause-takes c = if_ok c.act.result _ _ c.act.ensures.does (λ ticks h t there. h t there (barrier_at c.args.compiled.code.now) ∙ ap (λ (u : Turn). turn_taken (going c.args.compiled.code.now) (plain_program c.args.compiled.program.now).plan (barrier_at c.args.compiled.code.now) c.args.compiled.limits (turned (plain_program c.args.compiled.program.now).plan c.args.compiled.code.now c.args.taken.task c.args.state.now u) (asked_at c.args.compiled.code.now t.own.pending (scene c.args.taken.task c.args.state.now) t.control) c.args.taken c.args.state.now) (sym c.in-Acting.is))

@@ -3,6 +3,7 @@ use Rattle.std.specs.Prelude.{Some, None}
 use Rattle.aud_syntax.specs.declared.tree.Comparison.{out-Comparison}
 use Rattle.aud_syntax.specs.declared.tree.Added.{out-Added}
 use Rattle.aud_syntax.specs.Ties.View.{plain_expression, plain_chain, plain_relation, plain_simple, plain_term, plain_primary, plain_factor, plain_name, plain_part}
+use Rattle.aud_names.specs.Resolution.{last_args}
 use Rattle.aud_typing.specs.Expressions.{Typed, Checked, denoting, with, checked_name, checked_part, checked_arguments, checked_expression, expression_at, checked_relation, relation_at, simple_at, relating, connecting, checked_simple, checked_term, checked_factor, checked_primary, adding_operator, arithmetic, multiplying, highest, checked_attribute, term_at, factor_at, primary_at}
 use Rattle.aud_typing.specs.Ties.Typing.{plain_typed, Shows}
 use Rattle.aud_syntax.proofs.Opened.{chain_open, comparison_open, added_open}
@@ -68,12 +69,12 @@ primary-returns-in_ok-last-in-Name t c =
 pub primary-returns-in-None : goal.primary-returns-in-None
 primary-returns-in-None t c =
     let name = plain_name c.in-Attribute.prefix.value in
-    rw (c.in-Attribute.is, c.in-None.is) (shows_with c.args.faults.now c.arguments-in-Attribute.new.faults c.name_attribute.new.faults (checked_arguments name c.args.scope.now) (λ last. checked_attribute (denoting name last c.args.scope.now) c.in-Attribute.designator None) c.in_ok-last-in-Attribute.last c.name_attribute.result (rw c.deref-in-Attribute.ensures at c.in_ok-last-in-Attribute.ensures) (rw c.deref-in-None.ensures at c.name_attribute.ensures))
+    rw (c.in-Attribute.is, c.in-None.is) (shows_with c.args.faults.now c.arguments-in-Attribute.new.faults c.name_attribute.new.faults (checked_arguments name c.args.scope.now) (λ last. checked_attribute (denoting name last c.args.scope.now) (last_args name) c.in-Attribute.designator None c.args.scope.now) c.in_ok-last-in-Attribute.last c.name_attribute.result (rw c.deref-in-Attribute.ensures at c.in_ok-last-in-Attribute.ensures) (rw c.deref-in-None.ensures at c.name_attribute.ensures))
 
 pub primary-returns-in_ok-typed-in-Some : goal.primary-returns-in_ok-typed-in-Some
 primary-returns-in_ok-typed-in-Some t c =
     let name = plain_name c.in-Attribute.prefix.value in
     let argument = plain_expression c.in-Some.e.value in
-    let rest : Typed → Typed → Checked = λ last x. checked_attribute (denoting name last c.args.scope.now) c.in-Attribute.designator (Some (expression_at argument, x)) in
+    let rest : Typed → Typed → Checked = λ last x. checked_attribute (denoting name last c.args.scope.now) (last_args name) c.in-Attribute.designator (Some (expression_at argument, x)) c.args.scope.now in
     rw (c.in-Attribute.is, c.in-Some.is) (shows_with c.args.faults.now c.arguments-in-Attribute.new.faults c.name_attribute-in-Some.new.faults (checked_arguments name c.args.scope.now) (λ last. with (checked_expression argument c.args.scope.now) (λ x. rest last x)) c.in_ok-last-in-Attribute.last c.name_attribute-in-Some.result (rw c.deref-in-Attribute.ensures at c.in_ok-last-in-Attribute.ensures)
     (shows_with c.arguments-in-Attribute.new.faults c.expression.new.faults c.name_attribute-in-Some.new.faults (checked_expression argument c.args.scope.now) (λ x. rest (plain_typed c.in_ok-last-in-Attribute.last.value) x) c.in_ok-typed-in-Some.typed c.name_attribute-in-Some.result (rw c.deref-in-Some.ensures at c.in_ok-typed-in-Some.ensures) (rw (c.expression_at-at.ensures, c.deref-in-Some-2.ensures, c.deref-in-Some-3.ensures) at c.name_attribute-in-Some.ensures)))

@@ -1,18 +1,23 @@
-use Rattle.std.proofs.Common.{◌≡◌, ℕ, refl, suc, ◌+◌, ◌-◌, ◌++◌, length, drop, ap, sym, ◌∙◌, subst, arith}
+use Rattle.std.proofs.Common.{◌≡◌, ℕ, refl, suc, ◌+◌, ◌-◌, ◌++◌, length, drop, ap, sym, ◌∙◌, subst, arith, append-nil}
 use Rattle.std.specs.Prelude.{if◌then◌else◌, vec_len}
-use Rattle.std.proofs.lemmas.List.{length-drop}
+use Rattle.std.proofs.lemmas.List.{drop_all, length-drop}
 use Rattle.aud_typed.specs.declared.program.IfStatement.{out-IfStatement}
 use Rattle.aud_typed.specs.declared.program.BlockStatement.{out-BlockStatement}
 use Rattle.aud_typed.specs.declared.program.Body.{out-Body}
-use Rattle.aud_typed.proofs.Opened.{loop_open, while_open, if_open, for_open, block_open}
-use Rattle.aud_typed.specs.Tree.{part_of, activation, while_loop, plain_loop}
-use Rattle.aud_typed.specs.Ties.View.{plain_boolean, plain_statement, plain_statements, statements_in, part_of_arms, if_in, for_in, handlers_in, elaborations_in, body_in, block_in}
+use Rattle.aud_typed.specs.declared.program.EntryCallStatement.{out-EntryCallStatement}
+use Rattle.aud_typed.specs.declared.program.AcceptStatement.{out-AcceptStatement}
+use Rattle.aud_typed.specs.declared.program.Doing.{out-Doing}
+use Rattle.aud_typed.specs.declared.program.SelectStatement.{out-SelectStatement}
+use Rattle.aud_typed.proofs.Opened.{loop_open, while_open, if_open, for_open, block_open, entry_call_open, accept_open, accept_alternative_open, delay_alternative_open, select_open}
+use Rattle.aud_typed.specs.Tree.{part_of, activation, while_loop, plain_loop, no_alternatives}
+use Rattle.aud_typed.specs.Ties.View.{plain_boolean, plain_statement, plain_statements, statements_in, part_of_arms, if_in, for_in, handlers_in, elaborations_in, body_in, block_in, accept_in, alternatives_in, doing_in, entry_call_in, plain_call, plain_delay, select_in}
 use Rattle.aud_layout.specs.Instructions.{condition_code}
-use Rattle.aud_layout.specs.Layout.{statement_size_by, part_size_by, end_place_by, ways_count, in_loop}
+use Rattle.aud_layout.specs.Layout.{statement_size_by, part_size_by, doing_size_by, part_place, doing_place, end_place_by, ways_count, in_loop}
 use Rattle.aud_layout.specs.Written.{flat_step}
 use Rattle.aud_layout.specs.Leading.{around}
-use Rattle.aud_gen.specs.Writes.{has_statements, statement_lines, part_lines, guard_lines, handlers_lines, Writes}
+use Rattle.aud_gen.specs.Writes.{alone, doing_lines, has_statements, offered_lines, statement_lines, part_lines, guard_lines, handlers_lines, Writes}
 use Rattle.aud_gen.proofs.Elaborations.{whole_activated}
+use Rattle.aud_gen.proofs.Entering.{list_read, list_writes, offered_read, one_offered, whole_accept, whole_alternative, whole_call, whole_doing, whole_select, whole_waiting, with_offered}
 use Rattle.aud_gen.proofs.Loops.{dropped}
 use Rattle.aud_gen.proofs.Lines.{chosen, passed_over, none_left, with_part, one_listed, one_arm, same_lines, same_around, same_loop, whole_while, whole_list, whole_arm, if_by}
 use Rattle.aud_gen.proofs.Constructs.{bounds, whole_for, whole_body, whole_block, with_handlers, one_handler}
@@ -150,5 +155,107 @@ write_elaborations-returns t c =
     let listed = c.in_ok-list_length.ensures ∙ ap (λ z. part_size_by flat_step (part_of (plain_statements z)) c.in_ok-count.field-0) c.deref-2.ensures.value ∙ ap (part_size_by flat_step (part_of xs)) c.in_ok-count.ensures in
     let behind_is : c.in_ok-activation.activation ≡ length old + part_size_by flat_step (part_of xs) (ways_count a) = omega (arith, c.in_ok-activation.ensures, c.place.ensures, listed) in
     let declared = c.in_ok-write_list.ensures ∙ ap (λ z. old ++ part_lines (part_of (plain_statements z)) (length old) c.in_ok-activation.activation a) c.deref-3.ensures.value in
-    let whole = whole_activated c.end.result xs b.begin old c.write_list-2.new.self c.end.new.self c.in_ok-activation.activation c.args.next a behind_is declared c.end.ensures in
-    subst (λ x. Writes c.end.result old c.end.new.self (part_lines (part_of (xs ++ activation x b.begin)) (length old) c.args.next a)) (sym c.if-not-body.false) whole
+    let whole = whole_activated c.concern.result xs b.begin old c.write_list-2.new.self c.concern.new.self c.in_ok-activation.activation c.args.next a behind_is declared c.concern.ensures in
+    subst (λ x. Writes c.concern.result old c.concern.new.self (part_lines (part_of (xs ++ activation x b.begin)) (length old) c.args.next a)) (sym c.if-not-body.false) whole
+
+pub write_statement-returns-in-EntryCall : goal.write_statement-returns-in-EntryCall
+write_statement-returns-in-EntryCall t c =
+    let is : entry_call_in c.deref-in-EntryCall.result.now ≡ plain_statement c.args.s.now = ap entry_call_in c.deref-in-EntryCall.ensures ∙ sym (ap plain_statement c.in-EntryCall.is ∙ entry_call_open c.in-EntryCall.call) in
+    same_lines c.write_entry_call.result c.args.self.now c.write_entry_call.new.self (entry_call_in c.deref-in-EntryCall.result.now) (plain_statement c.args.s.now) c.args.next (around c.args.out c.args.ways.now) is c.write_entry_call.ensures
+
+pub write_statement-returns-in-Accept : goal.write_statement-returns-in-Accept
+write_statement-returns-in-Accept t c =
+    let is : accept_in c.deref-in-Accept.result.now ≡ plain_statement c.args.s.now = ap accept_in c.deref-in-Accept.ensures ∙ sym (ap plain_statement c.in-Accept.is ∙ accept_open c.in-Accept.accept.value) in
+    same_lines c.write_accept_statement.result c.args.self.now c.write_accept_statement.new.self (accept_in c.deref-in-Accept.result.now) (plain_statement c.args.s.now) c.args.next (around c.args.out c.args.ways.now) is c.write_accept_statement.ensures
+
+pub write_statement-returns-in-Select : goal.write_statement-returns-in-Select
+write_statement-returns-in-Select t c =
+    let is : select_in c.deref-in-Select.result.now ≡ plain_statement c.args.s.now = ap select_in c.deref-in-Select.ensures ∙ sym (ap plain_statement c.in-Select.is ∙ select_open c.in-Select.select) in
+    same_lines c.write_select.result c.args.self.now c.write_select.new.self (select_in c.deref-in-Select.result.now) (plain_statement c.args.s.now) c.args.next (around c.args.out c.args.ways.now) is c.write_select.ensures
+
+pub write_entry_call-returns : goal.write_entry_call-returns
+write_entry_call-returns t c =
+    let s = out-EntryCallStatement c.args.call.now in
+    let a = around c.args.out c.args.ways.now in
+    let next = c.args.next in
+    let p = part_of (plain_statements s.after.items) in
+    let q = part_of (plain_statements s.otherwise.items) in
+    let n1 = c.write_call_step.new.self in
+    let n2 = c.write_list.new.self in
+    whole_call c.write_list-2.result s.at (plain_call s.task s.entry s.arguments.items s.form) p q c.args.self.now n1 n2 c.write_list-2.new.self _ _ next a refl refl c.in_ok-write_call_step.ensures
+    (list_read n1 n2 c.deref.result.now s.after.items next a c.deref.ensures.value c.in_ok-write_list.ensures)
+    (list_writes c.write_list-2.result n2 c.write_list-2.new.self c.deref-2.result.now s.otherwise.items next a c.deref-2.ensures.value c.write_list-2.ensures)
+
+pub write_accept_statement-returns : goal.write_accept_statement-returns
+write_accept_statement-returns t c =
+    let s = out-AcceptStatement c.args.accept.now in
+    let a = around c.args.out c.args.ways.now in
+    let d = doing_in s.doing in
+    let body = c.doing_place-body.ensures ∙ ap (λ (n : ℕ). doing_place d n c.args.next) c.in_ok-sum.ensures in
+    whole_accept c.write_doing.result s.at s.entry d c.args.self.now c.write_accept.new.self c.write_doing.new.self c.place-own.result c.doing_place-body.result c.args.next a c.place-own.ensures body c.in_ok-write_accept.ensures c.write_doing.ensures
+
+pub write_doing-returns-in_ok-last-in-Some : goal.write_doing-returns-in_ok-last-in-Some
+write_doing-returns-in_ok-last-in-Some t c =
+    let d = out-Doing c.in-Some.doing in
+    let last = c.in_ok-last-in-Some.last in
+    whole_doing c.write_body.result (doing_in c.args.doing.now) d.region (body_in d.body) c.args.opener last c.args.next c.args.out c.args.self.now c.write_body.new.self (around last c.of_body-ways.result) (ap doing_in c.in-Some.is) (c.in_ok-last-in-Some.ensures ∙ ap (λ (n : ℕ). end_place_by flat_step (body_in d.body) n 1) c.place.ensures) (c.of_body-ways.ensures last) c.write_body.ensures
+
+pub write_doing-returns-in-None : goal.write_doing-returns-in-None
+write_doing-returns-in-None t c =
+    sym (append-nil c.args.self.now) ∙ ap (λ d. c.args.self.now ++ doing_lines (doing_in d) c.args.opener (length c.args.self.now) c.args.next c.args.out) (sym c.in-None.is)
+
+pub write_select-returns : goal.write_select-returns
+write_select-returns t c =
+    let s = out-SelectStatement c.args.select.now in
+    let a = around c.args.out c.args.ways.now in
+    let next = c.args.next in
+    let offered = alternatives_in s.alternatives.items in
+    let p = part_of (plain_statements s.otherwise.items) in
+    let n1 = c.write_choice_step.new.self in
+    let n2 = c.write_alternatives.new.self in
+    whole_select c.write_list.result s.at offered p c.args.self.now n1 n2 c.write_list.new.self (length c.args.self.now) _ next _ _ a refl refl refl refl c.in_ok-write_choice_step.ensures
+    (offered_read n1 n2 c.deref.result.now s.alternatives.items c.place-own.result (length c.args.self.now) next a c.deref.ensures.value c.place-own.ensures c.in_ok-write_alternatives.ensures)
+    (list_writes c.write_list.result n2 c.write_list.new.self c.deref-2.result.now s.otherwise.items next a c.deref-2.ensures.value c.write_list.ensures)
+
+pub write_alternatives-loop-alternative-preserved : goal.write_alternatives-loop-alternative-preserved
+write_alternatives-loop-alternative-preserved t c =
+    let xs = c.args.alternatives.now in
+    let i = c.loop-alternative.alternative-index in
+    let x = c.alternative-item.result in
+    let a = around c.args.out c.args.ways.now in
+    one_offered x (drop (i + 1) xs) c.loop-alternative.self c.write_alternative.new.self _ c.args.opener c.args.next a c.in_ok-write_alternative.ensures
+    (ap (λ z. with_offered c.loop-alternative.self z c.args.opener c.args.next a) (sym (dropped xs i x (omega arith) c.alternative-item.is)) ∙ c.loop-alternative.invariant)
+
+pub write_alternatives-returns : goal.write_alternatives-returns
+write_alternatives-returns t c =
+    let a = around c.args.out c.args.ways.now in
+    let none = ap (λ z. with_offered c.loop-alternative.self z c.args.opener c.args.next a) (drop_all c.loop-alternative.alternative-index c.args.alternatives.now (omega (arith, c.loop-alternative-test.false))) in
+    sym (append-nil c.loop-alternative.self) ∙ sym none ∙ c.loop-alternative.invariant
+
+pub write_alternative-returns-in_ok-write_doing-in-Accept : goal.write_alternative-returns-in_ok-write_doing-in-Accept
+write_alternative-returns-in_ok-write_doing-in-Accept t c =
+    let s = out-AcceptStatement c.in-Accept.accept in
+    let a = around c.args.out c.args.ways.now in
+    let next = c.args.next in
+    let d = doing_in s.doing in
+    let p = part_of (plain_statements c.in-Accept.after.items) in
+    let alternatives = ap alone c.in-Accept.is ∙ accept_alternative_open c.in-Accept.guard c.in-Accept.accept c.in-Accept.after no_alternatives in
+    let second : c.in_ok-second-in-Accept.second ≡ length c.args.self.now + doing_size_by flat_step d = omega (arith, c.in_ok-second-in-Accept.ensures, c.place.ensures, c.in_ok-doing_length-in-Accept.ensures) in
+    let behind = c.part_place-behind.ensures ∙ ap (λ xs. part_place (part_of (plain_statements xs)) c.in_ok-second-in-Accept.second next) c.deref.ensures.value in
+    let mid = c.write_doing.new.self in
+    whole_alternative c.write_list.result (alone c.args.alternative.now) (plain_boolean c.in-Accept.guard) s.at s.entry d p c.args.self.now mid c.write_list.new.self c.args.opener c.in_ok-second-in-Accept.second c.part_place-behind.result next a alternatives second behind c.in_ok-write_doing-in-Accept.ensures
+    (list_writes c.write_list.result mid c.write_list.new.self c.deref-in-Accept.result.now c.in-Accept.after.items next a c.deref-in-Accept.ensures.value c.write_list.ensures)
+
+pub write_alternative-returns-in-Delay : goal.write_alternative-returns-in-Delay
+write_alternative-returns-in-Delay t c =
+    let a = around c.args.out c.args.ways.now in
+    let old = c.args.self.now in
+    let p = part_of (plain_statements c.in-Delay.after.items) in
+    let alternatives = ap alone c.in-Delay.is ∙ delay_alternative_open c.in-Delay.guard c.in-Delay.delay c.in-Delay.after no_alternatives in
+    whole_waiting c.write_list-in-Delay.result (alone c.args.alternative.now) (plain_boolean c.in-Delay.guard) (plain_delay c.in-Delay.delay) p old c.write_list-in-Delay.new.self c.args.opener c.args.next a alternatives
+    (list_writes c.write_list-in-Delay.result old c.write_list-in-Delay.new.self c.deref-in-Delay.result.now c.in-Delay.after.items c.args.next a c.deref-in-Delay.ensures.value c.write_list-in-Delay.ensures)
+
+pub write_alternative-returns-in-Terminate : goal.write_alternative-returns-in-Terminate
+write_alternative-returns-in-Terminate t c =
+    let a = around c.args.out c.args.ways.now in
+    sym (append-nil c.args.self.now) ∙ ap (λ x. c.args.self.now ++ offered_lines (alone x) c.args.opener (length c.args.self.now) c.args.next a) (sym c.in-Terminate.is)

@@ -2,6 +2,7 @@ use Rattle.std.proofs.Common.{◌≡◌, ◌+◌, length, drop}
 use Rattle.aud_typed.specs.declared.program.IfStatement.{out-IfStatement}
 use Rattle.aud_typed.specs.Tree.{part_of, some}
 use Rattle.aud_typed.specs.Ties.View.{plain_statements, part_of_arms, if_in}
+use Rattle.aud_gen.proofs.Entering.{with_offered}
 use Rattle.aud_layout.specs.Leading.{around}
 use Rattle.aud_gen.proofs.Lines.{with_part}
 use Rattle.aud_gen.proofs.Constructs.{with_handlers}
@@ -18,3 +19,7 @@ invariant-write_list-loop-s l =
 abbrev pub invariant-write_handlers-loop-handler : goal.invariant-write_handlers-loop-handler
 invariant-write_handlers-loop-handler l =
     with_handlers l.self (drop l.handler-index l.handlers) l.last (around l.last l.ways) ≡ with_handlers l.fn.self l.handlers l.last (around l.last l.ways)
+
+abbrev pub invariant-write_alternatives-loop-alternative : goal.invariant-write_alternatives-loop-alternative
+invariant-write_alternatives-loop-alternative l =
+    with_offered l.self (drop l.alternative-index l.alternatives) l.opener l.next (around l.out l.ways) ≡ with_offered l.fn.self l.alternatives l.opener l.next (around l.out l.ways)

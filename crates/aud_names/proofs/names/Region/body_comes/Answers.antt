@@ -1,12 +1,11 @@
 use Rattle.std.proofs.Common.{◌≡◌, ◌∙◌, ap, sym, subst, Option, Some, None, arith}
-use Rattle.std.specs.Prelude.{option_map}
 use Rattle.std.proofs.lemmas.Option.{slice_get-get_or}
 use Rattle.aud_names.specs.Ties.Regions.{plain_region}
-use Rattle.aud_names.proofs.Waiting.{Answers, found_answers, unit_of}
+use Rattle.aud_names.proofs.Waiting.{Answers, found_answers}
 use Rattle.aud_names.proofs.names.Region.body_comes.Goals as goal
 
-pub returns-in-None-clause-unit : goal.returns-in-None-clause-unit
-returns-in-None-clause-unit c =
+pub returns-in-None-clause-task : goal.returns-in-None-clause-task
+returns-in-None-clause-task c =
     let name = c.args.name.now in
     let xs = c.args.self.now.awaited.items in
     let same : c.deref.result.now ≡ xs = c.deref.ensures.value in
@@ -29,13 +28,13 @@ remove-requires c =
     let h : Answers name xs (Some c.in-Some.index) = subst (λ l. Answers name l (Some c.in-Some.index)) same (found_answers name c.deref.result.now (Some c.in-Some.index) (sym c.in-Some.is ∙ c.index_of.ensures)) in
     omega (arith, h.0, c.args.self.now.awaited.ok.0)
 
-pub returns-in-Some-clause-unit : goal.returns-in-Some-clause-unit
-returns-in-Some-clause-unit c =
+pub returns-in-Some-clause-task : goal.returns-in-Some-clause-task
+returns-in-Some-clause-task c =
     let name = c.args.name.now in
     let xs = c.args.self.now.awaited.items in
     let same : c.deref.result.now ≡ xs = c.deref.ensures.value in
     let h : Answers name xs (Some c.in-Some.index) = subst (λ l. Answers name l (Some c.in-Some.index)) same (found_answers name c.deref.result.now (Some c.in-Some.index) (sym c.in-Some.is ∙ c.index_of.ensures)) in
-    sym (h.2 ∙ ap (option_map unit_of) (slice_get-get_or xs c.in-Some.index c.remove.result h.0 ∙ ap (λ a. Some a) (sym c.remove.ensures.value)))
+    sym (h.2 ∙ slice_get-get_or xs c.in-Some.index c.remove.result h.0 ∙ ap (λ a. Some a) (sym c.remove.ensures.value))
 
 pub returns-in-Some-clause-region : goal.returns-in-Some-clause-region
 returns-in-Some-clause-region c =

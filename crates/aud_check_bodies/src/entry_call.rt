@@ -1,0 +1,167 @@
+// Calls of entries.
+
+ghost use Rattle.std.specs.Prelude.{◌≡◌, IfOk};
+ghost use Rattle.aud_syntax.specs.Ties.View.{plain_name};
+ghost use Rattle.aud_typed.specs.Ties.View.{plain_form, plain_statement as plain_typed_statement};
+ghost use Rattle.aud_typed.specs.Tree.{plainly, nothing, part_of};
+ghost use Rattle.aud_names.specs.Resolution.{name_ident};
+ghost use Rattle.aud_typing.specs.Ties.Typing.{plain_typed, in_box, Leaves};
+ghost use Rattle.aud_check_bodies.specs.Calls.{index_checked, called_task, called_with, entry_call_faults, entry_called, entry_call_of};
+ghost use Rattle.aud_check_bodies.specs.Ties.Arms.{plain_items};
+ghost use Rattle.aud_check_bodies.specs.Ties.Passed.{plain_all_passed, plain_called_task, plain_maybe_called};
+ghost use Rattle.aud_check_bodies.specs.Ties.Tables.{plain_tables};
+
+use crate::call::all_given;
+use crate::tables::Tables;
+use aud_fault::fault::Least;
+use aud_names::array::task_array_at;
+use aud_names::behind::{Left, Made, both, boxed};
+use aud_names::names::{Entry, Owner, Scope};
+use aud_syntax::tree::Name;
+use aud_text::place::Pos;
+use aud_typed::program::{Argument, CallForm, EntryCallStatement, Statement, TaskName};
+use aud_typing::expression::prefix;
+use aud_typing::typed::Typed;
+use std::alloc::Global;
+
+/// Which entry of which task is called, with what arguments (RM 9.5.3).
+#[derive(Drop)]
+pub struct EntryCalled {
+    pub task: TaskName,
+    pub entry: usize,
+    pub arguments: Vec<Argument>,
+}
+
+// The index of the array of tasks before the point behind which an entry of one of them stands.
+fn index(owner: Owner, name: &Name, scope: &Scope<'_>, faults: &mut Least) -> Left<Typed>
+    ensures { Leaves (in_box plain_typed) result faults.old faults.new
+        (index_checked owner (plain_name name.now) scope.now).faults
+        (index_checked owner (plain_name name.now) scope.now).typed }
+{
+    match owner {
+        Owner::Single(_) => boxed(scope.alloc(), Typed::Unknown),
+        Owner::Element(_) => prefix(name, scope, faults),
+    }
+}
+
+// The task whose entry is called, if its index is a number.
+fn called_task(owner: Owner, index: Typed) -> Option<TaskName>
+    ensures { plain_called_task result ≡ called_task owner (plain_typed index) }
+{
+    match owner {
+        Owner::Single(cell) => {
+            drop(index);
+            Some(TaskName::Single(cell))
+        }
+        Owner::Element(array) => match index {
+            Typed::Number(index) => Some(TaskName::Element(task_array_at(array), index)),
+            other => {
+                drop(other);
+                None
+            }
+        },
+    }
+}
+
+// An entry of a task with what is passed, if neither has a fault.
+fn called_with(
+    entry: usize,
+    task: Option<TaskName>,
+    passed: Option<Vec<Argument>>,
+) -> Option<EntryCalled>
+    ensures { plain_maybe_called result
+        ≡ called_with entry (plain_called_task task) (plain_all_passed passed) }
+{
+    let Some(task) = task else {
+        drop(passed);
+        return None;
+    };
+    let Some(arguments) = passed else {
+        drop(task);
+        return None;
+    };
+    Some(EntryCalled {
+        task,
+        entry,
+        arguments,
+    })
+}
+
+/// Checks what a call of an entry calls, whose name stands at a place: notes its faults, and answers what is left of it, if it has none.
+#[tactic(auto, using(aud_typing::proofs::Notes::noted_append))]
+pub fn entry_called(
+    entry: Entry,
+    name: &Name,
+    at: Pos,
+    scope: &Scope<'_>,
+    tables: &Tables,
+    faults: &mut Least,
+) -> Made<Option<EntryCalled>>
+    ensures { Leaves plain_maybe_called result faults.old faults.new
+        (entry_call_faults entry (plain_name name.now) at scope.now (plain_tables tables.now))
+        (entry_called entry (plain_name name.now) scope.now (plain_tables tables.now)) }
+{
+    let index = index(entry.owner, name, scope, faults)?;
+    let task = called_task(entry.owner, Box::into_inner(index));
+    let profile = tables.entry_profile(entry.number);
+    let (task, passed) = both(task, all_given(profile, name, at, scope, faults))?;
+    Ok(called_with(entry.number, task, passed))
+}
+
+/// A call of an entry at a place, with what follows it, and what is done in place of it; a faulty one is left as a null statement.
+#[inline(never)]
+pub fn entry_call_of(
+    alloc: Global,
+    at: Pos,
+    form: CallForm,
+    called: Option<EntryCalled>,
+    parts: (Vec<Statement>, Vec<Statement>),
+) -> Left<Statement>
+    ensures { IfOk result (λ typed. plain_typed_statement typed.value
+        ≡ entry_call_of at (plain_form form) (part_of (plain_items parts.0))
+        (part_of (plain_items parts.1)) (plain_maybe_called called)) }
+{
+    let Some(called) = called else {
+        drop((form, parts));
+        return boxed(alloc, Statement::Null(at));
+    };
+    let EntryCalled {
+        task,
+        entry,
+        arguments,
+    } = called;
+    let (after, otherwise) = parts;
+    let statement = boxed(
+        alloc,
+        EntryCallStatement {
+            at,
+            task,
+            entry,
+            arguments,
+            form,
+            after,
+            otherwise,
+        },
+    )?;
+    boxed(alloc, Statement::EntryCall(statement))
+}
+
+/// A call of an entry by itself.
+pub fn entry_call(
+    entry: Entry,
+    name: &Name,
+    at: Pos,
+    scope: &Scope<'_>,
+    tables: &Tables,
+    faults: &mut Least,
+) -> Left<Statement>
+    ensures { Leaves (in_box plain_typed_statement) result faults.old faults.new
+        (entry_call_faults entry (plain_name name.now) at scope.now (plain_tables tables.now))
+        (entry_call_of (name_ident (plain_name name.now)).at plainly nothing nothing
+        (entry_called entry (plain_name name.now) scope.now (plain_tables tables.now))) }
+{
+    let called = entry_called(entry, name, at, scope, tables, faults)?;
+    let alloc = scope.alloc();
+    let parts = (Vec::new(alloc), Vec::new(alloc));
+    entry_call_of(alloc, name.first.ident.at, CallForm::Plain, called, parts)
+}

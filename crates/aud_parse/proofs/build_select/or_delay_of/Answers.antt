@@ -1,0 +1,13 @@
+use Rattle.std.proofs.Common.{ap, ◌∙◌}
+use Rattle.aud_syntax.specs.declared.tree.Delay.{Delay}
+use Rattle.aud_syntax.specs.Plain as m
+use Rattle.aud_syntax.specs.Ties.View.{plain_others, plain_delay, plain_other}
+use Rattle.aud_syntax.proofs.Opened.{or_delay_open}
+use Rattle.aud_parse.proofs.build_select.or_delay_of.Goals as goal
+
+pub returns : goal.returns
+returns c =
+    ap plain_other c.in_ok-boxed.ensures.ok
+    ∙ or_delay_open c.into_inner-delay.result c.in_ok-behind.behind
+    ∙ ap (λ (z : Delay). m.or_delay (plain_delay z) (plain_others c.in_ok-behind.behind.items)) c.into_inner-delay.ensures
+    ∙ ap (λ l. m.or_delay (plain_delay c.args.delay.value) (plain_others l)) c.in_ok-behind.ensures

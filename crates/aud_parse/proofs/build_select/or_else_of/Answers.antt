@@ -1,0 +1,12 @@
+use Rattle.std.proofs.Common.{ap, ◌∙◌}
+use Rattle.aud_syntax.specs.declared.tree.Statements.{Statements}
+use Rattle.aud_syntax.specs.Plain as m
+use Rattle.aud_syntax.specs.Ties.View.{plain_statements, plain_other}
+use Rattle.aud_syntax.proofs.Opened.{or_else_open}
+use Rattle.aud_parse.proofs.build_select.or_else_of.Goals as goal
+
+pub returns : goal.returns
+returns c =
+    ap plain_other c.in_ok-boxed.ensures.ok
+    ∙ or_else_open c.into_inner-statements.result
+    ∙ ap (λ (z : Statements). m.or_else (plain_statements z)) c.into_inner-statements.ensures

@@ -1,0 +1,17 @@
+use Rattle.std.proofs.Common.{ap, ◌∙◌}
+use Rattle.aud_tasks.specs.Moving.{alone_if}
+use Rattle.aud_tasks.specs.Turning.{coming_in}
+use Rattle.aud_tasks.proofs.Moving.{single_moves}
+use Rattle.aud_tasks.proofs.moves.acting.Goals as goal
+
+pub returns-in-None : goal.returns-in-None
+returns-in-None c = λ plan.
+    let code = c.args.code.now in
+    let s = c.args.state.now in
+    let n = c.args.task in
+    c.one_if.ensures n s.clock
+    ∙ ap (λ b. alone_if b n) (c.can_act.ensures plan)
+    ∙ single_moves plan code s (coming_in plan code n s) n (c.in-None.ensures.none plan)
+
+pub choose-requires-clause-comes : goal.choose-requires-clause-comes
+choose-requires-clause-comes c = c.in-Some.ensures.some

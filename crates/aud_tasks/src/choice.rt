@@ -1,0 +1,49 @@
+// What decides on the moves of a task beside its own part.
+
+ghost use Rattle.std.specs.Prelude.{◌≡◌, IfNone, IfSome};
+ghost use Rattle.aud_typed.specs.Tree.{Plan};
+ghost use Rattle.aud_tasks.specs.Choices.{choice_of, ComesTo};
+ghost use Rattle.aud_tasks.specs.Moving.{IsSingle};
+ghost use Rattle.aud_tasks.specs.Turning.{coming_in};
+
+use aud_code::line::{Among, Last};
+use aud_code::sound_code::SoundCode;
+use aud_state::state::State;
+
+/// A step that may have several moves: a selective accept, or a call of this entry.
+#[derive(Clone, Copy, PartialEq, Eq)]
+pub(crate) enum Choice {
+    Select,
+    Call(usize),
+}
+
+/// Whether a task stands at such a step.
+pub(crate) fn choice_at(state: &State, code: &SoundCode, task: usize) -> Option<Choice>
+    ensures some { IfSome result (λ choice. (plan : Plan) →
+        ComesTo choice plan code.now task state.now) }
+    ensures none { IfNone result ((plan : Plan) →
+        IsSingle (coming_in plan code.now task state.now)) }
+{
+    if state.pending(task).is_some() {
+        return None;
+    }
+    let place = state.place(task);
+    if code.len() <= place {
+        return None;
+    }
+    match code.ending(place) {
+        Some(end) => choice_of(&end.last),
+        None => None,
+    }
+}
+
+// Whether the step with this ending is one.
+fn choice_of(last: &Last) -> Option<Choice>
+    ensures { result ≡ choice_of last.now }
+{
+    match last {
+        Last::Concerns(Among::Select { .. }, _) => Some(Choice::Select),
+        Last::Concerns(Among::Call { entry, .. }, _) => Some(Choice::Call(*entry)),
+        _ => None,
+    }
+}

@@ -1,0 +1,234 @@
+"""What a program under way is made of: values, frames, tasks, their calls and their steps."""
+from dataclasses import dataclass, field
+
+from trees import Entry, Procedure, TaskBody
+
+LOWEST, HIGHEST = -(2**31), 2**31 - 1
+FIRST = {"INTEGER": LOWEST, "NATURAL": 0, "POSITIVE": 1}
+NEAREST_ZERO = {"INTEGER": 0, "NATURAL": 0, "POSITIVE": 1, "BOOLEAN": False}
+OUTPUT, TASKS, FRAMES, ELEMENTS = 65_536, 64, 128, 1_024
+
+
+class AdaException(Exception):
+    """A predefined exception by its name, or a declared one by its declaration and its name; the line that is shown while it is
+    pending, where that is another than of the step that raises it."""
+
+    def __init__(self, identity):
+        self.identity, self.line = identity, None
+
+
+class Leaving(Exception):
+    """Out of the loop with a label, or the innermost one."""
+
+    def __init__(self, label):
+        self.label = label
+
+
+class Returning(Exception):
+    """To the end of a procedure."""
+
+
+def constraint_error():
+    return AdaException("CONSTRAINT_ERROR")
+
+
+def storage_error():
+    return AdaException("STORAGE_ERROR")
+
+
+def tasking_error():
+    return AdaException("TASKING_ERROR")
+
+
+def within(low, value, high):
+    if not low <= value <= high:
+        raise constraint_error()
+    return value
+
+
+def checked(subtype, value):
+    return value if subtype == "BOOLEAN" else within(FIRST[subtype], value, HIGHEST)
+
+
+def quotient(left, right):
+    size = abs(left) // abs(right)
+    return size if (left < 0) == (right < 0) else -size
+
+
+def image(value):
+    if isinstance(value, bool):
+        return "TRUE" if value else "FALSE"
+    return f" {value}" if value >= 0 else str(value)
+
+
+@dataclass
+class Variable:
+    value: object
+    subtype: str
+
+
+@dataclass
+class Array:
+    low: int
+    high: int
+    values: list
+    subtype: str = None
+
+    def place(self, index):
+        return within(self.low, index, self.high) - self.low
+
+
+@dataclass
+class Element:
+    array: Array
+    place: int
+
+    @property
+    def value(self):
+        return self.array.values[self.place]
+
+    @value.setter
+    def value(self, value):
+        self.array.values[self.place] = value
+
+    @property
+    def subtype(self):
+        return self.array.subtype
+
+
+def copy_back(formals, copies):
+    for formal, target in copies:
+        target.value = checked(target.subtype, formals[formal].value)
+
+
+@dataclass
+class TaskType:
+    scope: "Scope"
+    body: TaskBody
+    entries: list = field(default_factory=list)
+
+
+@dataclass
+class Callee:
+    procedure: Procedure
+    scope: "Scope"
+
+
+@dataclass
+class TaskEntry:
+    """As the body of its own task sees it."""
+
+    task: "Running"
+    entry: Entry
+
+
+@dataclass
+class Declared:
+    """An exception."""
+
+    identity: tuple
+
+
+class Scope:
+    def __init__(self, outer):
+        self.outer, self.names = outer, {}
+
+    def find(self, name):
+        scope = self
+        while scope:
+            if name in scope.names:
+                return scope.names[name]
+            scope = scope.outer
+        return None
+
+
+@dataclass(eq=False)
+class Frame:
+    """Of a body, block, procedure, loop or accept; its variables so far, each with its name."""
+
+    kind: str
+    variables: list = field(default_factory=list)
+
+    @property
+    def is_master(self):
+        return self.kind not in ("loop", "accept")
+
+
+@dataclass
+class Waits:
+    """What a blocked task waits for: entries and times, each with the number of its alternative, if it is one; or its end."""
+
+    accepts: list = field(default_factory=list)
+    delays: list = field(default_factory=list)
+    terminates: bool = False
+
+    def is_open(self):
+        return self.accepts or self.delays or self.terminates
+
+
+@dataclass(eq=False)
+class EntryCall:
+    """Its formals by their names, the variables that some are copied back to, and the queue of its entry. It is over, or cancelled,
+    or neither; an exception may have ended it."""
+
+    caller: "Running"
+    formals: dict
+    copies: list
+    queue: list
+    is_over: bool = False
+    is_cancelled: bool = False
+    exception: AdaException = None
+
+
+@dataclass(eq=False)
+class Running:
+    """A task: its open frames, the masters that it depends on, the declarative part that created it, who waits for its activation and
+    whether an activation that it waits for has failed; its steps and the next one; what it waits for where it is blocked; the calls
+    queued on its entries, oldest first; its own call."""
+
+    name: str
+    status: str
+    task_type: TaskType
+    masters: list = field(default_factory=list)
+    part: Frame = None
+    frames: list = field(default_factory=list)
+    activator: "Running" = None
+    failed: bool = False
+    raised: object = None
+    steps: object = None
+    next: object = None
+    waits: Waits = None
+    queues: dict = field(default_factory=dict)
+    call: EntryCall = None
+
+    def __post_init__(self):
+        self.queues = {entry.name: [] for entry in self.task_type.entries}
+
+    def open_for(self, entry):
+        """The numbers of the open alternatives that accept the entry."""
+        return [alternative for alternative, name in self.waits.accepts if name == entry] if self.waits else []
+
+    @property
+    def is_terminated(self):
+        return self.status == "terminated"
+
+    @property
+    def is_callable(self):
+        return self.status not in ("completed", "terminated")
+
+
+@dataclass
+class Step:
+    """The master that it leaves, if it leaves one; what tells the alternatives among which it has a move for each."""
+
+    kind: str
+    line: int
+    master: Frame = None
+    alternatives: object = None
+
+
+@dataclass
+class Move:
+    task: Running
+    kind: str
+    alternative: int = None
