@@ -557,7 +557,7 @@ def loads_in_bytes(program, folder):
 
 @dataclass
 class Frames:
-    """A program that enters and leaves frames for ever, and one for python3 that does so as often as it is told."""
+    """A program that enters and leaves frames for ever, or makes entry calls, and one for python3 that does so as often as it is told."""
 
     name: str
     ada: str
@@ -566,6 +566,7 @@ class Frames:
 
 CALLED = "   procedure P is Cells : array (1 .. 1024) of Integer; begin Cells (1) := 1; end P;\n"
 CALLS = "def p():\n    cells = [0] * 1024\n    cells[0] = 1\n"
+FORMALS = ", ".join(f"F{i}" for i in range(200))
 FRAMES = (
     Frames("calls", f"procedure M is\n{CALLED}begin loop P; end loop; end M;\n", f"{CALLS}for _ in range(COUNT):\n    p()\n"),
     Frames(
@@ -580,13 +581,19 @@ FRAMES = (
         f"{CALLS}def calls():\n    while True:\n        p()\n        yield\nall = [calls() for _ in range(60)]\n"
         "for i in range(COUNT):\n    next(all[i % 60])\n",
     ),
+    Frames(
+        "entry calls of 200 formals",
+        f"procedure M is\ntask T is entry E ({FORMALS} : in out Integer); end T;\nX : Integer;\ntask body T is begin loop accept E ({FORMALS} : in out Integer); end loop; end T;\n"
+        f"begin loop T.E ({', '.join(['X'] * 200)}); end loop; end M;\n",
+        "def e(*formals):\n    return formals\nfor _ in range(COUNT):\n    e(*[0] * 200)\n",
+    ),
 )
 ITS_PEAK = "\nimport resource\nprint(resource.getrusage(resource.RUSAGE_SELF).ru_maxrss * 1024)\n"
 
 
 def frames(program):
-    """Of all steps of a LOAD, four make one of these frames and leave it."""
-    print("Memory, at most, where 250,000 frames with 1,024 cells are entered and left:")
+    """Of all steps of a LOAD, four make one of these frames and leave it, or make a call that is accepted."""
+    print("Memory, at most, where 250,000 frames with 1,024 cells are entered and left, or as many entry calls made:")
     for it in FRAMES:
         most = max(peak(program, (load_of(it.ada) + "RUN 100000\n" * 10).encode()) for _ in range(TIMES))
         there = max(int(measure([sys.executable, "-c", it.python.replace("COUNT", "250000") + ITS_PEAK])[1]) for _ in range(TIMES))

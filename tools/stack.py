@@ -133,6 +133,30 @@ def nested_tasks():
     yield "one chain of tests of a task", text, None
 
 
+def nested_rendezvous():
+    """Accepts, selects and calls at the limit of levels, and long lists of their parts."""
+    inner = DEEP - 1
+    entries = "".join(f"entry {name(i)};\n" for i in range(inner))
+    accepts = "".join(f"accept {name(i)} do\n" for i in range(inner))
+    calls = "".join(f"task {name(i)}x;task body {name(i)}x is begin T.{name(i)};end;\n" for i in range(60))
+    yield "accepts in one another", f"procedure M is task T is {entries}end T;\n{calls}task body T is begin\n{accepts}null;\n{'end;' * inner}\nend T;\nbegin null;end M;\n", "+ 1\nloaded M\n+ 1\nran "
+    head = "procedure M is task T is entry E(N:in out Integer);end T;X:Integer;task body T is begin"
+    selects = "select accept E(N:in out Integer);\n" * inner + "null;\n" + "or delay 0.0;end select;\n" * inner
+    yield "selects in one another", f"{head}\n{selects}end T;begin null;end M;\n", "+ 1\nloaded M\n+ 1\nran "
+    others = "select accept E(N:in out Integer);or delay 0.0;\n" * inner + "null;\n" + "end select;\n" * inner
+    yield "selects behind delays in one another", f"{head}\n{others}end T;begin null;end M;\n", "+ 1\nloaded M\n+ 1\nran "
+    timed = "select T.E(X);or delay 0.0;\n" * inner + "null;\n" + "end select;\n" * inner
+    yield "timed calls in one another", f"{head} null;end T;begin\n{timed}end M;\n", None
+    text, _ = source("procedure M is task T is", lambda i: f"entry {name(i)};", "end T;task body T is begin null;end T;begin null;end M;")
+    yield "one list of entries", text, 9
+    text, _ = source(f"{head} select accept E(N:in out Integer);", lambda i: "or when 1=2=>accept E(N:in out Integer);", "or delay 0.0;end select;end T;begin null;end M;")
+    yield "one list of alternatives", text, None
+    text, _ = source(f"{head}", lambda i: "delay 0.0;", "end T;begin null;end M;")
+    yield "one list of delays", text, None
+    text, _ = source(f"{head} null;end T;begin", lambda i: "T.E(X);", "end M;")
+    yield "one list of entry calls", text, "+ 1\nloaded M\n+ 2\nran 10 ended\n"
+
+
 def nested_indexes():
     """Elements at the limit of levels, each the index of another."""
     nest = "A(" * DEEP + "1" + ")" * DEEP
@@ -222,6 +246,7 @@ def shapes():
     yield from nested_bodies()
     yield from nested_procedures()
     yield from nested_tasks()
+    yield from nested_rendezvous()
     yield from nested_indexes()
     yield from nested_arguments()
     yield "one parenthesis too many", wrapped(

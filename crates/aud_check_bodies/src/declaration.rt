@@ -359,6 +359,7 @@ fn rows(
 }
 
 /// Declares arrays, of tasks too (RM 3.6, 9.1).
+#[inline(never)]
 pub fn arrays(
     names: &Identifiers,
     bounds: (Bound, Bound),
@@ -401,6 +402,7 @@ fn declare_exception(
 }
 
 /// Declares exceptions (RM 11.1).
+#[inline(never)]
 pub fn exceptions(
     names: &Identifiers,
     region: &mut Region,

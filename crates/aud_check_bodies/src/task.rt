@@ -223,6 +223,7 @@ fn create_single(
 }
 
 /// Declares a task or a task type, and its entries (RM 9.1).
+#[inline(never)]
 pub fn declare_task(
     task: &TaskDeclaration,
     outer: &[&Region],
@@ -265,6 +266,7 @@ pub struct Numbers {
 }
 
 /// Those of the task whose body has this name. A body of no task that waits for one is checked as a task of its own.
+#[inline(never)]
 pub fn body_numbers(
     ident: &Ident,
     region: &mut Region,
@@ -299,6 +301,7 @@ pub fn body_numbers(
 }
 
 /// The region around the body of a task of this name and type that is declared in this region: the task that runs it has the name.
+#[inline(never)]
 pub fn running_within(name: &Name, task_type: usize, region: &Region) -> Made<Region>
     ensures region { IfOk result (λ around. plain_region around
         ≡ running name.now (region.now.level + 1) task_type) }

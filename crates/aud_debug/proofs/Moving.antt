@@ -10,9 +10,9 @@ use Rattle.aud_meaning.specs.Run.{Turn, has_ended, moves, moves_at, moves_by, mo
 use Rattle.aud_code.specs.Places.{Spot}
 use Rattle.aud_code.specs.Flat.{Flat, barrier_at, flat_controls}
 use Rattle.aud_tasks.specs.Turning.{seen_in}
-use Rattle.aud_tasks.proofs.Moving.{many}
+use Rattle.aud_tasks.proofs.MoveLaws.Moving.{many}
 use Rattle.aud_tasks.proofs.Running.Whose.{AreOf, moves_of}
-use Rattle.aud_tasks.proofs.Seen.{none_seen}
+use Rattle.aud_tasks.proofs.ViewLaws.Seen.{none_seen}
 use Rattle.aud_debug.specs.Ties.Rows.{each_line, move_line}
 use Rattle.aud_debug.proofs.Tasked.{one_seen}
 

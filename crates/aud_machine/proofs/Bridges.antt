@@ -13,7 +13,7 @@ use Rattle.aud_meaning.specs.declared.state.Move.{Move}
 use Rattle.aud_meaning.specs.Configuration.{Own, Shared, TaskAt, All, Configuration}
 use Rattle.aud_meaning.specs.Control.{Controls, Seen}
 use Rattle.aud_meaning.specs.Statements.{controls}
-use Rattle.aud_meaning.specs.Parts.{owns, with_frames}
+use Rattle.aud_meaning.specs.Parts.{owns}
 use Rattle.aud_meaning.specs.Run.{seen, seen_from, moves_at, state_at, step_with, run_with, moves_in, state_in, step, run, opening, opening_with, main_raised, supplied, advanced}
 use Rattle.aud_meaning.specs.Why.Limits.{IsWithin, KeepsLimits}
 use Rattle.aud_meaning.proofs.Limits.Steps.{limits_law}
@@ -26,14 +26,14 @@ use Rattle.aud_layout.specs.Assembly.{flat_program}
 use Rattle.aud_layout.specs.Law.{flat}
 use Rattle.aud_layout.specs.Law as code
 use Rattle.aud_layout.proofs.Flat.Laws.{agreement_law, seen_law, moves_law, state_law, step_law, run_law, supply_law, advance_law, opening_law, raised_law}
-use Rattle.aud_over.specs.Over.{is_named, is_served, frames_left, calls_left, forgotten}
+use Rattle.aud_over.specs.Over.{is_named, is_served, frames_left, calls_left, forgotten, with_kept}
 use Rattle.aud_over.specs.Looks.{Looks}
 use Rattle.aud_over.specs.Law.{IsOneOf}
 use Rattle.aud_over.proofs.Coding.{code_looks}
 use Rattle.aud_over.proofs.Left.{moves_left, state_left, step_left, run_left}
 use Rattle.aud_tasks.specs.declared.run.Ran.{Ran}
 use Rattle.aud_tasks.specs.Running.{RunsLeaving, Takes, Took}
-use Rattle.aud_tasks.proofs.Running.Taking.{within_frames}
+use Rattle.aud_tasks.proofs.Running.Taking.{within_kept}
 use Rattle.aud_machine.specs.Shown.{Shown}
 use Rattle.aud_machine.specs.Shows.{Shows, Did, RunsFrom}
 use Rattle.aud_machine.specs.Shows as shown
@@ -53,13 +53,13 @@ one_of nth [] m at = absurd cc
 one_of zero (x ∷ ms) m at = inl (sym (same_Some x m at))
 one_of (suc nth) (x ∷ ms) m at = inr (one_of nth ms m at)
 
--- behind a move that was taken frames may have been forgotten
+-- behind a move that was taken frames and calls may have been forgotten
 pub record Forgets (taken : Option Ran) (old new : All Spot) : Type 0 where
   pub left : forgotten new ≡ forgotten old
-  pub others : new ≡ with_frames new.shared.frames old
+  pub others : new ≡ with_kept new.shared.frames new.shared.calls old
   pub none : taken ≡ None → new ≡ old
 
-pub forgot : (taken : Option Ran) (old new : All Spot) → is_some taken ≡ true → forgotten new ≡ forgotten old → new ≡ with_frames new.shared.frames old → Forgets taken old new
+pub forgot : (taken : Option Ran) (old new : All Spot) → is_some taken ≡ true → forgotten new ≡ forgotten old → new ≡ with_kept new.shared.frames new.shared.calls old → Forgets taken old new
 forgot None old new some left others = absurd cc
 forgot (Some ran) old new some left others = record { left = left; others = others; none = λ none. absurd cc }
 
@@ -221,7 +221,7 @@ module _ (plan : tree.Plan) (lines : Flat) (limits : Limits) where
 
   pub within_taken : (o : Option Move) (old mid new : All Spot) (taken : Option Ran) → Takes plan lines limits o old mid taken → Forgets taken mid new → IsWithin Spot limits old → IsWithin Spot limits new
   within_taken o old mid new taken told forgets h =
-      subst (IsWithin Spot limits) (sym forgets.others) (within_frames plan lines limits new.shared.frames mid (within_step o old mid taken told h))
+      subst (IsWithin Spot limits) (sym forgets.others) (within_kept plan lines limits new.shared.frames new.shared.calls mid (within_step o old mid taken told h))
 
   pub within_supplied : (choices : List ℕ) (old new : All Spot) → new ≡ supplied choices old → IsWithin Spot limits old → IsWithin Spot limits new
   within_supplied choices old new told h = subst (IsWithin Spot limits) (sym told) (keeps.supply choices old h)
@@ -229,7 +229,7 @@ module _ (plan : tree.Plan) (lines : Flat) (limits : Limits) where
   pub within_advanced : (milliseconds : ℕ) (old new : All Spot) → new ≡ advanced milliseconds old → IsWithin Spot limits old → IsWithin Spot limits new
   within_advanced milliseconds old new told h = subst (IsWithin Spot limits) (sym told) (keeps.wait milliseconds old h)
 
--- where frames were forgotten, tasks stand where they stood
+-- where frames and calls were forgotten, tasks stand where they stood
 pub spots_stay : (code : Flat) (taken : Option Ran) (old new : All Spot) → Forgets taken old new → AreSpots code.lines old.tasks → AreSpots code.lines new.tasks
 spots_stay code taken old new forgets spots = subst (λ (a : All Spot). AreSpots code.lines a.tasks) (sym forgets.others) spots
 

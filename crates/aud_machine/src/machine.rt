@@ -265,7 +265,7 @@ impl Machine {
         Ok(())
     }
 
-    /// Takes n steps, or those until no move is enabled. Frames that are over are given back on the way.
+    /// Takes n steps, or those until no move is enabled. Frames and calls that are over are given back on the way.
     ///
     /// # Errors
     ///
@@ -294,7 +294,8 @@ impl Machine {
         Ok(ran)
     }
 
-    /// Takes the enabled move of this index, or nothing where there is none. Frames that are over are given back after it.
+    /// Takes the enabled move of this index, or nothing where there is none. Frames and calls that are over are given
+    /// back after it.
     ///
     /// # Errors
     ///

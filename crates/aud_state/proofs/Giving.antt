@@ -1,10 +1,10 @@
 -- What is given back is over.
-use Rattle.std.proofs.Common.{◌≡◌, ◌+◌, ◌<◌, ℕ, zero, suc, ℤ, List, [], ◌∷◌, ◌++◌, length, drop, map, get_or, slice_index_or, Bool, true, false, if◌then◌else◌, refl, ap, sym, ◌∙◌, inl, inr, arith}
+use Rattle.std.proofs.Common.{◌≡◌, ◌+◌, ◌<◌, ℕ, zero, suc, List, [], ◌∷◌, ◌++◌, length, drop, get_or, slice_index_or, Bool, true, false, if◌then◌else◌, refl, ap, sym, ◌∙◌, inl, arith}
 use Rattle.std.proofs.lemmas.Bool.{or_left, or_right}
 use Rattle.std.proofs.lemmas.List.{at_drop_all, at_drop_more}
 use Rattle.std.specs.Prelude.{◌||◌, ◌&&◌, nat_eq, not}
-use Rattle.aud_meaning.specs.Configuration.{Frame, Object, Own, TaskAt, All}
-use Rattle.aud_meaning.specs.Parts.{any, contains, depends, no_call, owns}
+use Rattle.aud_meaning.specs.Configuration.{Frame, TaskAt, All}
+use Rattle.aud_meaning.specs.Parts.{any, contains, depends, owns}
 use Rattle.aud_code.specs.Places.{Spot}
 use Rattle.aud_store.specs.Ties.Frames.{named_from, only_named}
 use Rattle.aud_over.specs.Law.{LikeCalls, LikeFrames}

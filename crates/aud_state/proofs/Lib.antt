@@ -1,13 +1,4 @@
-pub mod Beside
-pub mod Changed
-pub mod Choosing
-pub mod Creating
-pub mod Evaluating
+pub mod CallLaws
 pub mod Giving
-pub mod InLine
-pub mod Lines
 pub mod Numbered
-pub mod Queueing
-pub mod Reading
-pub mod Running
-pub mod Started
+pub mod TaskLaws

@@ -4,7 +4,10 @@ use Rattle.std.proofs.lemmas.List.{at_drop_more}
 use Rattle.std.proofs.lemmas.Cmp.{nat_eq_equiv}
 use Rattle.std.specs.List.{list_any}
 use Rattle.std.specs.Prelude.{◌||◌, nat_eq}
-use Rattle.aud_meaning.specs.Parts.{any, contains, numbers}
+use Rattle.aud_meaning.specs.Configuration.{Own}
+use Rattle.aud_meaning.specs.Parts.{any, contains, numbers, owns}
+use Rattle.aud_state.specs.declared.task.Task.{Task}
+use Rattle.aud_state.specs.View.{plain_task}
 
 pub numbers_map : {A B : Type 0} (view : A → B) (p : B → Bool) (k : ℕ) (xs : List A) → numbers p k (map view xs) ≡ numbers (λ x. p (view x)) k xs
 numbers_map view p k [] = refl
@@ -35,6 +38,10 @@ any_same p (x ∷ xs) = ap (λ b. p x || b) (any_same p xs)
 pub any_map : {A B : Type 0} (view : A → B) (p : B → Bool) (xs : List A) → any p (map view xs) ≡ any (λ x. p (view x)) xs
 any_map view p [] = refl
 any_map view p (x ∷ xs) = ap (λ b. p (view x) || b) (any_map view p xs)
+
+pub any_own : (p : Own → Bool) (ts : List Task) → any p (owns (map plain_task ts)) ≡ any (λ (t : Task). p (plain_task t).own) ts
+any_own p [] = refl
+any_own p (t ∷ ts) = ap (λ b. p (plain_task t).own || b) (any_own p ts)
 
 pub numbers_same : {A : Type 0} (p q : A → Bool) (k : ℕ) (xs : List A) → ((x : A) → p x ≡ q x) → numbers p k xs ≡ numbers q k xs
 numbers_same p q k [] same = refl

@@ -8,12 +8,14 @@ use Rattle.aud_meaning.specs.Effects.{handles, pends}
 use Rattle.aud_meaning.specs.Configuration.{TaskAt, All, Own}
 use Rattle.aud_meaning.specs.Configuration as meaning
 use Rattle.aud_meaning.specs.Orders.{Orders}
-use Rattle.aud_meaning.specs.Parts.{nobody, number_name, runs}
+use Rattle.aud_meaning.specs.Parts.{no_call, nobody, number_name, runs}
 use Rattle.aud_meaning.specs.Ties.Part.{Part, within_own}
 use Rattle.aud_code.specs.Places.{Spot}
 use Rattle.aud_state.specs.declared.calls.Call.{Call}
 use Rattle.aud_state.specs.declared.calls.NewCall.{NewCall}
 use Rattle.aud_state.specs.declared.object.Object.{Object}
+use Rattle.aud_state.specs.declared.slot.Slot.{Slot}
+use Rattle.aud_state.specs.declared.slot.Slot.TheVariants.{GivenBack, Kept as IsInBox}
 use Rattle.aud_state.specs.declared.task.Task.{Task}
 use Rattle.aud_state.specs.declared.task.Waits.{Waits}
 
@@ -55,6 +57,15 @@ plain_task t = record { control = t.parked.control; own = within_own (plain_own 
 
 abbrev pub plain_call : Call → meaning.Call
 plain_call c = record { caller = c.caller; owner = c.owner; entry = c.entry; arrival = c.arrival; values = c.values.items; backs = c.backs.items; form = c.form; at = c.at; state = c.state }
+
+-- of one that is given back only that is known
+abbrev pub plain_slot : Slot → meaning.Call
+plain_slot (IsInBox c) = plain_call c.value
+plain_slot (GivenBack state) = record no_call { state = state }
+
+abbrev pub IsKept : Slot → Type 0
+IsKept (IsInBox c) = Unit {0}
+IsKept (GivenBack state) = ⊥
 
 -- one that is made just now
 abbrev pub made_call : NewCall → meaning.Call

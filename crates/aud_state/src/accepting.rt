@@ -84,7 +84,7 @@ impl Task {
 
 impl State {
     /// Whether a task's entries may be called (RM 9.5.3(21)).
-    #[tactic(auto, using(crate::proofs::Changed::own_got, crate::proofs::Changed::own_past))]
+    #[tactic(auto, using(crate::proofs::TaskLaws::Changed::own_got, crate::proofs::TaskLaws::Changed::own_past))]
     pub fn is_callable(&self, task: usize) -> bool
         ensures { result ≡ is_callable (own_of task self.now) }
     {

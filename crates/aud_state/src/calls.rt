@@ -1,17 +1,27 @@
 // Entry calls (RM 9.5.3).
 
-ghost use Rattle.std.specs.Prelude.{◌≡◌, ℕ, suc, [], ◌∷◌, ◌++◌, false, ◌&&◌, if◌then◌else◌, IfOk, OnOk, length, map, slice_index_or};
-ghost use Rattle.aud_meaning.specs.Parts.{calls_on_task, changed, is_queued, is_task, no_call, owner_number, queue, Waiting};
+ghost use Rattle.std.specs.Prelude.{◌≡◌, ℕ, suc, [], ◌∷◌, ◌++◌, false, if◌then◌else◌, IfNone, IfOk, IfSome, OnOk, length, map, slice_index_or};
+ghost use Rattle.aud_meaning.specs.Parts.{calls_on_task, changed, contains, is_queued, no_call, owner_number, queue, Waiting};
+ghost use Rattle.aud_over.specs.Over.{calls_left};
 ghost use Rattle.aud_state.specs.Queues.{is_at, oldest, waiting, without};
-ghost use Rattle.aud_state.specs.View.{made_call, plain_call};
+ghost use Rattle.aud_state.specs.View.{made_call, plain_call, plain_slot};
 
 use crate::queues::Queues;
+use crate::slot::Slot;
 use aud_meaning::state::{CallState, Form, Owner};
 use aud_store::target::Back;
 use aud_text::int32::Int32;
 use aud_text::place::Pos;
 use std::alloc::{AllocError, Global};
 use std::marker::Model;
+
+// So many cells may be kept for calls before it is worth a look which are over.
+const DUE: usize = 8_192;
+
+// A call takes as much memory besides its values as so many cells do, and each formal that is copied back as so many.
+const CALL: usize = 40;
+
+const BACK: usize = 8;
 
 /// An entry call: whose it is, the entry that it is queued on now, the number of its arrival there, the formals' values, what is
 /// copied back, where it stands, and how far it is.
@@ -41,9 +51,17 @@ pub struct NewCall {
     pub at: Pos,
 }
 
+impl NewCall {
+    // How much memory it takes, in cells.
+    fn cells(&self) -> usize {
+        let backs = self.backs.len().saturating_mul(BACK);
+        self.values.len().saturating_add(backs).saturating_add(CALL)
+    }
+}
+
 impl Call {
-    // One that was made just now.
-    fn of_new(call: NewCall) -> Self
+    /// One that was made just now.
+    pub(crate) fn of_new(call: NewCall) -> Self
         ensures { plain_call result ≡ made_call call }
     {
         let NewCall {
@@ -68,42 +86,45 @@ impl Call {
         }
     }
 
-    /// Whether it is queued.
-    pub(crate) fn is_queued(&self) -> bool
-        ensures { result ≡ is_queued self.now.state }
+    /// One of which nothing is known but how far it is.
+    pub(crate) fn bare(alloc: Global, state: CallState) -> Self
+        ensures { plain_call result ≡ record no_call { state = state } }
     {
-        matches!(self.state, CallState::Queued)
-    }
-
-    /// Whether it is queued on an entry of this task.
-    pub(crate) fn is_queued_on(&self, task: usize) -> bool
-        ensures { result ≡ (is_queued self.now.state && is_task task self.now.owner) }
-    {
-        match (self.state, self.owner) {
-            (CallState::Queued, Owner::Task(owner)) => owner == task,
-            _ => false,
+        Call {
+            caller: 0,
+            owner: Owner::Task(0),
+            entry: 0,
+            arrival: 0,
+            values: Vec::new(alloc),
+            backs: Vec::new(alloc),
+            form: Form::Plain,
+            at: Pos { line: 0, col: 0 },
+            state,
         }
     }
 }
 
-/// All entry calls ever made, by their numbers, and those that are queued, by their entries.
+/// All entry calls ever made, by their numbers, and those that are queued, by their entries. Of those that are given back nothing is
+/// kept but that they are over.
+// What is fresh came since calls were last given back.
 #[derive(Drop)]
 pub struct Calls {
-    calls: Vec<Call>,
+    calls: Vec<Slot>,
     arrivals: usize,
     queues: Queues,
+    fresh: usize,
 }
 
 impl Model for Calls {
     ghost use Rattle.std.specs.Prelude.{map};
     ghost use Rattle.aud_state.specs.Queues.{AreInLine};
-    ghost use Rattle.aud_state.specs.View.{plain_call, Kept};
+    ghost use Rattle.aud_state.specs.View.{plain_slot, Kept};
 
     ghost Value = { Kept };
 
-    ghost view = { λ c. record { calls = map plain_call c.calls.items; arrivals = c.arrivals } };
+    ghost view = { λ c. record { calls = map plain_slot c.calls.items; arrivals = c.arrivals } };
 
-    ghost invariant = { λ c. AreInLine (map plain_call c.calls.items) c.arrivals c.queues };
+    ghost invariant = { λ c. AreInLine (map plain_slot c.calls.items) c.arrivals c.queues };
 }
 
 impl Calls {
@@ -115,6 +136,7 @@ impl Calls {
             calls: Vec::new(alloc),
             arrivals: 0,
             queues: Queues::new(alloc),
+            fresh: 0,
         }
     }
 
@@ -130,7 +152,10 @@ impl Calls {
         ensures number { IfOk result (λ id. id ≡ length self.old.calls) }
     {
         let id = self.calls.len();
-        self.calls.push(Call::of_new(call))?;
+        let fresh = self.fresh.saturating_add(call.cells());
+        let slot = Slot::of_new(*self.calls.allocator(), call)?;
+        self.calls.push(slot)?;
+        self.fresh = fresh;
         Ok(id)
     }
 
@@ -189,7 +214,7 @@ impl Calls {
     {
         if id < self.calls.len() {
             leave(&mut self.queues, &self.calls[id], id);
-            self.calls[id].state = state;
+            self.calls[id].set_state(state);
         }
     }
 
@@ -209,13 +234,29 @@ impl Calls {
             self.arrivals = arrivals;
             return Ok(());
         }
-        let call = &self.calls[id];
-        self.queues.join(number_of(call.owner), call.entry, id)?;
-        let call = &mut self.calls[id];
-        call.state = CallState::Queued;
-        call.arrival = self.arrivals;
+        let alloc = *self.calls.allocator();
+        self.calls[id].keep(alloc)?;
+        let slot = &self.calls[id];
+        self.queues.join(number_of(slot.owner()), slot.entry(), id)?;
+        self.calls[id].queue(self.arrivals);
         self.arrivals = arrivals;
         Ok(())
+    }
+
+    /// Whether so much was kept for calls since some were last given back that it is worth the time to look for more; so that all
+    /// looks together take no longer than the calls did. Any answer is right.
+    pub(crate) fn is_due(&self) -> bool {
+        DUE.max(self.calls.len()) <= self.fresh
+    }
+
+    /// Gives back the calls that are over, but for these. Their numbers stay.
+    pub(crate) fn forget(&mut self, served: &[usize])
+        ensures { self.new ≡ record self.old {
+          calls = calls_left (λ id. contains id served.now) 0 self.old.calls;
+        } }
+    {
+        give_back(&mut self.calls, served);
+        self.fresh = 0;
     }
 
     /// The number of the call that waits for longest on an entry, whose owner is a task or an object.
@@ -246,7 +287,7 @@ impl Calls {
     pub(crate) fn caller(&self, id: usize) -> usize
         ensures { result ≡ (slice_index_or self.now.calls id no_call).caller }
     {
-        match self.calls.get(id) {
+        match self.kept(id) {
             Some(call) => call.caller,
             None => 0,
         }
@@ -256,7 +297,7 @@ impl Calls {
     pub(crate) fn at(&self, id: usize) -> Pos
         ensures { result ≡ (slice_index_or self.now.calls id no_call).at }
     {
-        match self.calls.get(id) {
+        match self.kept(id) {
             Some(call) => call.at,
             None => Pos { line: 0, col: 0 },
         }
@@ -267,7 +308,7 @@ impl Calls {
         ensures { result ≡ (slice_index_or self.now.calls id no_call).state }
     {
         match self.calls.get(id) {
-            Some(call) => call.state,
+            Some(slot) => slot.state(),
             None => CallState::Done,
         }
     }
@@ -276,7 +317,7 @@ impl Calls {
     pub(crate) fn owner(&self, id: usize) -> Owner
         ensures { result ≡ (slice_index_or self.now.calls id no_call).owner }
     {
-        match self.calls.get(id) {
+        match self.kept(id) {
             Some(call) => call.owner,
             None => Owner::Task(0),
         }
@@ -286,7 +327,7 @@ impl Calls {
     pub(crate) fn form(&self, id: usize) -> Form
         ensures { result ≡ (slice_index_or self.now.calls id no_call).form }
     {
-        match self.calls.get(id) {
+        match self.kept(id) {
             Some(call) => call.form,
             None => Form::Plain,
         }
@@ -296,7 +337,7 @@ impl Calls {
     pub(crate) fn values(&self, id: usize) -> &[Int32]
         ensures { result.now ≡ (slice_index_or self.now.calls id no_call).values }
     {
-        match self.calls.get(id) {
+        match self.kept(id) {
             Some(call) => &call.values,
             None => &[],
         }
@@ -306,9 +347,22 @@ impl Calls {
     pub(crate) fn backs(&self, id: usize) -> &[Back]
         ensures { result.now ≡ (slice_index_or self.now.calls id no_call).backs }
     {
-        match self.calls.get(id) {
+        match self.kept(id) {
             Some(call) => &call.backs,
             None => &[],
+        }
+    }
+
+    // A call, if it is kept. Of any other nothing is known but how far it is.
+    fn kept(&self, id: usize) -> Option<&Call>
+        ensures some { IfSome result (λ call. slice_index_or self.now.calls id no_call ≡ plain_call call.now) }
+        ensures none { IfNone result (slice_index_or self.now.calls id no_call ≡ record no_call {
+          state = (slice_index_or self.now.calls id no_call).state;
+        }) }
+    {
+        match self.calls.get(id) {
+            Some(slot) => slot.kept(),
+            None => None,
         }
     }
 
@@ -324,13 +378,25 @@ impl Calls {
     }
 }
 
+// Those of these calls that are over, but for the ones of these numbers, are given back.
+fn give_back(calls: &mut Vec<Slot>, served: &[usize])
+    ensures { map plain_slot calls.new.items
+        ≡ calls_left (λ id. contains id served.now) 0 (map plain_slot calls.old.items) }
+{
+    for id in 0..calls.len() {
+        if !served.contains(&id) {
+            calls[id].give_back();
+        }
+    }
+}
+
 // Of these calls those that are queued on a task's entries.
-fn queued_among(alloc: Global, calls: &[Call], task: usize) -> Result<Vec<usize>, AllocError>
-    ensures { IfOk result (λ ids. ids.items ≡ calls_on_task task (map plain_call calls.now)) }
+fn queued_among(alloc: Global, calls: &[Slot], task: usize) -> Result<Vec<usize>, AllocError>
+    ensures { IfOk result (λ ids. ids.items ≡ calls_on_task task (map plain_slot calls.now)) }
 {
     let mut found = Vec::new(alloc);
-    for (n, call) in calls.iter().enumerate() {
-        if call.is_queued_on(task) {
+    for (n, slot) in calls.iter().enumerate() {
+        if slot.is_queued_on(task) {
             found.push(n)?;
         }
     }
@@ -338,13 +404,13 @@ fn queued_among(alloc: Global, calls: &[Call], task: usize) -> Result<Vec<usize>
 }
 
 // A call leaves its queue, if it is in one.
-fn leave(queues: &mut Queues, call: &Call, id: usize)
+fn leave(queues: &mut Queues, slot: &Slot, id: usize)
     ensures { (owner entry : ℕ) → waiting owner entry queues.new
-        ≡ (if is_at owner entry (plain_call call.now)
+        ≡ (if is_at owner entry (plain_slot slot.now)
         then without id (waiting owner entry queues.old) else waiting owner entry queues.old) }
 {
-    if call.is_queued() {
-        queues.leave(number_of(call.owner), call.entry, id);
+    if slot.is_queued() {
+        queues.leave(number_of(slot.owner()), slot.entry(), id);
     }
 }
 

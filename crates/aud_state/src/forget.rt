@@ -1,9 +1,9 @@
-// Frames that are over are given back.
+// Frames and calls that are over are given back.
 
 ghost use Rattle.std.specs.Prelude.{◌≡◌, ◌||◌, ℕ, [], true, if◌then◌else◌, map, slice_index_or, IfOk, OnOk, OnErr};
-ghost use Rattle.aud_meaning.specs.Parts.{any, contains, is_terminated, with_frames};
-ghost use Rattle.aud_over.specs.Over.{forgotten, object_names};
-ghost use Rattle.aud_state.specs.Held.{given_back, is_held, keeps};
+ghost use Rattle.aud_meaning.specs.Parts.{any, contains, is_terminated, owns, with_frames};
+ghost use Rattle.aud_over.specs.Over.{forgotten, is_served, object_names, own_serves};
+ghost use Rattle.aud_state.specs.Held.{calls_given_back, given_back, is_held, keeps};
 ghost use Rattle.aud_state.specs.View.{plain_object, plain_task};
 
 use crate::object::Object;
@@ -14,7 +14,7 @@ use std::alloc::{AllocError, Global};
 impl State {
     /// Whether so many frames were made since frames were last given back that looking for some is worth its time. Any answer is
     /// right.
-    pub fn is_due(&self) -> bool {
+    pub fn are_frames_due(&self) -> bool {
         self.progress.is_due()
     }
 
@@ -24,7 +24,7 @@ impl State {
     /// # Errors
     ///
     /// Where memory is refused. Nothing has changed then.
-    pub fn forget(&mut self, alloc: Global) -> Result<(), AllocError>
+    pub fn forget_frames(&mut self, alloc: Global) -> Result<(), AllocError>
         ensures given_back { OnOk result (self.new ≡ given_back self.old) }
         ensures left { OnOk result (forgotten self.new ≡ forgotten self.old) }
         ensures others { self.new ≡ with_frames self.new.shared.frames self.old }
@@ -38,6 +38,27 @@ impl State {
         self.progress.forget(&mut kept);
         Ok(())
     }
+
+    /// Whether so many calls were made since calls were last given back that looking for some is worth its time. Any answer is right.
+    pub fn are_calls_due(&self) -> bool {
+        self.calls.is_due()
+    }
+
+    /// Gives back the calls that are over and for which no frame is open. Nothing depends on them any more. All others stay as they
+    /// are, and all keep their numbers.
+    ///
+    /// # Errors
+    ///
+    /// Where memory is refused. Nothing has changed then.
+    pub fn forget_calls(&mut self, alloc: Global) -> Result<(), AllocError>
+        ensures given_back { OnOk result (self.new ≡ calls_given_back self.old) }
+        ensures left { OnOk result (forgotten self.new ≡ forgotten self.old) }
+        ensures refused { OnErr result (self.new ≡ self.old) }
+    {
+        let served = served_by_tasks(alloc, &self.tasks)?;
+        self.calls.forget(&served);
+        Ok(())
+    }
 }
 
 impl Task {
@@ -49,6 +70,16 @@ impl Task {
     {
         self.parked.stack().names(kept)?;
         kept.extend_from_slice(self.masters_held())?;
+        Ok(())
+    }
+
+    // Puts the calls for which it has frames open after others.
+    fn put_served(&self, alloc: Global, served: &mut Vec<usize>) -> Result<(), AllocError>
+        ensures { OnOk result ((id : ℕ) → contains id served.new.items ≡
+            (contains id served.old.items || own_serves id (plain_task self.now).own)) }
+    {
+        let accepted = self.parked.stack().accepts(alloc)?;
+        served.extend_from_slice(&accepted)?;
         Ok(())
     }
 
@@ -74,6 +105,18 @@ fn kept_by_tasks(alloc: Global, tasks: &[Task]) -> Result<Vec<usize>, AllocError
         task.put_kept(&mut kept)?;
     }
     Ok(kept)
+}
+
+// The calls for which these tasks have frames open.
+fn served_by_tasks(alloc: Global, tasks: &[Task]) -> Result<Vec<usize>, AllocError>
+    ensures { IfOk result (λ served. (id : ℕ) →
+        contains id served.items ≡ is_served (owns (map plain_task tasks.now)) id) }
+{
+    let mut served = Vec::new(alloc);
+    for task in tasks {
+        task.put_served(alloc, &mut served)?;
+    }
+    Ok(served)
 }
 
 // Puts the frames around these objects after others.

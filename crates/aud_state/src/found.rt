@@ -119,7 +119,7 @@ impl State {
     }
 
     /// Whether a task services an object: it is about to, or an entry body is under way for another task's call.
-    #[tactic(auto, using(crate::proofs::Changed::own_got, crate::proofs::Changed::own_past))]
+    #[tactic(auto, using(crate::proofs::TaskLaws::Changed::own_got, crate::proofs::TaskLaws::Changed::own_past))]
     pub fn is_servicing(&self, task: usize) -> bool
         ensures { (plan : Plan) → (barrier : ℕ → Sight → Result Bool RaiseOf) → result ≡ serves_now plan barrier
             (own_of task self.now).serving (own_of task self.now).opened }
@@ -132,7 +132,7 @@ impl State {
     }
 
     /// The innermost of a task's open frames.
-    #[tactic(auto, using(crate::proofs::Changed::own_got, crate::proofs::Changed::own_past))]
+    #[tactic(auto, using(crate::proofs::TaskLaws::Changed::own_got, crate::proofs::TaskLaws::Changed::own_past))]
     pub fn innermost(&self, task: usize) -> usize
         ensures { result ≡ innermost (own_of task self.now).opened }
     {
@@ -144,7 +144,7 @@ impl State {
     }
 
     /// The outermost of a task's open frames, its body's.
-    #[tactic(auto, using(crate::proofs::Changed::own_got, crate::proofs::Changed::own_past))]
+    #[tactic(auto, using(crate::proofs::TaskLaws::Changed::own_got, crate::proofs::TaskLaws::Changed::own_past))]
     pub fn body_master(&self, task: usize) -> usize
         ensures { result ≡ body_master (own_of task self.now) }
     {
@@ -156,7 +156,7 @@ impl State {
     }
 
     /// The body of a task.
-    #[tactic(auto, using(crate::proofs::Changed::own_got, crate::proofs::Changed::own_past))]
+    #[tactic(auto, using(crate::proofs::TaskLaws::Changed::own_got, crate::proofs::TaskLaws::Changed::own_past))]
     pub fn unit(&self, task: usize) -> usize
         ensures { result ≡ (own_of task self.now).unit }
     {
@@ -168,7 +168,7 @@ impl State {
     }
 
     /// The task that waits for its activation.
-    #[tactic(auto, using(crate::proofs::Changed::own_got, crate::proofs::Changed::own_past))]
+    #[tactic(auto, using(crate::proofs::TaskLaws::Changed::own_got, crate::proofs::TaskLaws::Changed::own_past))]
     pub fn activator(&self, task: usize) -> Option<usize>
         ensures { result ≡ (own_of task self.now).activator }
     {
@@ -180,7 +180,7 @@ impl State {
     }
 
     /// Whether it waits for activations.
-    #[tactic(auto, using(crate::proofs::Changed::own_got, crate::proofs::Changed::own_past))]
+    #[tactic(auto, using(crate::proofs::TaskLaws::Changed::own_got, crate::proofs::TaskLaws::Changed::own_past))]
     pub fn is_activating(&self, task: usize) -> bool
         ensures { (go : Orders Spot) → (plan : Plan) → (barrier : ℕ → Sight → Result Bool RaiseOf) →
             result ≡ effect.is_activating go plan barrier (own_of task self.now).status }

@@ -27,7 +27,7 @@ pub struct TaskName<'a> {
 
 impl State {
     /// Its name, which is empty where there is no such task.
-    #[tactic(auto, using(crate::proofs::Changed::own_got, crate::proofs::Changed::own_past))]
+    #[tactic(auto, using(crate::proofs::TaskLaws::Changed::own_got, crate::proofs::TaskLaws::Changed::own_past))]
     pub fn name(&self, task: usize) -> TaskName<'_>
         ensures { element_name result.name.now result.element ≡ (own_of task self.now).name }
     {
@@ -45,7 +45,7 @@ impl State {
     }
 
     /// The exception that is pending in a task.
-    #[tactic(auto, using(crate::proofs::Changed::own_got, crate::proofs::Changed::own_past))]
+    #[tactic(auto, using(crate::proofs::TaskLaws::Changed::own_got, crate::proofs::TaskLaws::Changed::own_past))]
     pub fn pending(&self, task: usize) -> Option<Pending>
         ensures { result ≡ (own_of task self.now).pending }
     {
@@ -69,7 +69,7 @@ impl State {
     }
 
     /// The type of a task; none of the main one.
-    #[tactic(auto, using(crate::proofs::Changed::own_got, crate::proofs::Changed::own_past))]
+    #[tactic(auto, using(crate::proofs::TaskLaws::Changed::own_got, crate::proofs::TaskLaws::Changed::own_past))]
     pub fn task_type(&self, task: usize) -> Option<usize>
         ensures { result ≡ (own_of task self.now).task_type }
     {
@@ -81,7 +81,7 @@ impl State {
     }
 
     /// How far a task is.
-    #[tactic(auto, using(crate::proofs::Changed::own_got, crate::proofs::Changed::own_past))]
+    #[tactic(auto, using(crate::proofs::TaskLaws::Changed::own_got, crate::proofs::TaskLaws::Changed::own_past))]
     pub fn status(&self, task: usize) -> Status
         ensures { result ≡ (own_of task self.now).status }
     {
@@ -93,7 +93,7 @@ impl State {
     }
 
     /// Where it is blocked.
-    #[tactic(auto, using(crate::proofs::Changed::own_got, crate::proofs::Changed::own_past))]
+    #[tactic(auto, using(crate::proofs::TaskLaws::Changed::own_got, crate::proofs::TaskLaws::Changed::own_past))]
     pub fn blocked_at(&self, task: usize) -> Pos
         ensures { result ≡ (own_of task self.now).at }
     {
@@ -105,7 +105,7 @@ impl State {
     }
 
     /// The delays that it waits for.
-    #[tactic(auto, using(crate::proofs::Changed::own_got, crate::proofs::Changed::own_past))]
+    #[tactic(auto, using(crate::proofs::TaskLaws::Changed::own_got, crate::proofs::TaskLaws::Changed::own_past))]
     pub fn delays(&self, task: usize) -> &[OpenDelay]
         ensures { result.now ≡ (own_of task self.now).waits.delays }
     {
@@ -117,7 +117,7 @@ impl State {
     }
 
     /// Its open frames, the outermost one first.
-    #[tactic(auto, using(crate::proofs::Changed::own_got, crate::proofs::Changed::own_past))]
+    #[tactic(auto, using(crate::proofs::TaskLaws::Changed::own_got, crate::proofs::TaskLaws::Changed::own_past))]
     pub fn opened(&self, task: usize) -> &[Open]
         ensures { map extent_in result.now ≡ map extent (reverse (own_of task self.now).opened) }
     {
@@ -136,7 +136,7 @@ impl State {
     }
 
     /// Its entry call.
-    #[tactic(auto, using(crate::proofs::Changed::own_got, crate::proofs::Changed::own_past))]
+    #[tactic(auto, using(crate::proofs::TaskLaws::Changed::own_got, crate::proofs::TaskLaws::Changed::own_past))]
     pub fn call(&self, task: usize) -> usize
         ensures { result ≡ (own_of task self.now).call }
     {
@@ -148,7 +148,7 @@ impl State {
     }
 
     /// The object that it services.
-    #[tactic(auto, using(crate::proofs::Changed::own_got, crate::proofs::Changed::own_past))]
+    #[tactic(auto, using(crate::proofs::TaskLaws::Changed::own_got, crate::proofs::TaskLaws::Changed::own_past))]
     pub fn serving(&self, task: usize) -> Option<Serving>
         ensures { result ≡ (own_of task self.now).serving }
     {
@@ -160,7 +160,7 @@ impl State {
     }
 
     /// Whether it is abnormal (RM 9.8).
-    #[tactic(auto, using(crate::proofs::Changed::own_got, crate::proofs::Changed::own_past))]
+    #[tactic(auto, using(crate::proofs::TaskLaws::Changed::own_got, crate::proofs::TaskLaws::Changed::own_past))]
     pub fn is_abnormal(&self, task: usize) -> bool
         ensures { result ≡ (own_of task self.now).abnormal }
     {
@@ -172,7 +172,7 @@ impl State {
     }
 
     /// Whether it runs, is not abnormal and services no object, as most tasks do at most steps.
-    #[tactic(auto, using(crate::proofs::Changed::own_got, crate::proofs::Changed::own_past))]
+    #[tactic(auto, using(crate::proofs::TaskLaws::Changed::own_got, crate::proofs::TaskLaws::Changed::own_past))]
     pub fn is_plain(&self, task: usize) -> bool
         ensures { IsTrue result → IsPlain (own_of task self.now) }
     {
@@ -184,7 +184,7 @@ impl State {
     }
 
     /// The object from which it withdraws.
-    #[tactic(auto, using(crate::proofs::Changed::own_got, crate::proofs::Changed::own_past))]
+    #[tactic(auto, using(crate::proofs::TaskLaws::Changed::own_got, crate::proofs::TaskLaws::Changed::own_past))]
     pub fn withdraw(&self, task: usize) -> Option<usize>
         ensures { result ≡ (own_of task self.now).withdraw }
     {
@@ -323,8 +323,8 @@ impl Task {
     }
 }
 
-// The time that a call of this form waits for.
-fn cancel_time(form: Form) -> Option<u64>
+/// The time that a call of this form waits for.
+pub(crate) fn cancel_time(form: Form) -> Option<u64>
     ensures { result ≡ time_by form }
 {
     match form {

@@ -22,7 +22,7 @@ impl Facts for Seen<'_> {
         self.calls.count(owner, entry)
     }
 
-    #[tactic(auto, using(crate::proofs::Changed::own_got, crate::proofs::Changed::own_past))]
+    #[tactic(auto, using(crate::proofs::TaskLaws::Changed::own_got, crate::proofs::TaskLaws::Changed::own_past))]
     fn is_callable(&self, task: usize) -> bool {
         if task < self.tasks.len() {
             let found = &self.tasks[task];
@@ -32,7 +32,7 @@ impl Facts for Seen<'_> {
         }
     }
 
-    #[tactic(auto, using(crate::proofs::Changed::own_got, crate::proofs::Changed::own_past))]
+    #[tactic(auto, using(crate::proofs::TaskLaws::Changed::own_got, crate::proofs::TaskLaws::Changed::own_past))]
     fn is_terminated(&self, task: usize) -> bool {
         if task < self.tasks.len() {
             let found = &self.tasks[task];

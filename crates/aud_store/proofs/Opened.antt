@@ -16,7 +16,7 @@ use Rattle.aud_store.specs.declared.stack.Purpose.TheVariants.{Accept, Body, Blo
 use Rattle.aud_store.specs.declared.display.Replaced.{Replaced}
 use Rattle.aud_store.specs.declared.stack.Open.{Open}
 use Rattle.aud_store.specs.Ties.Display.{Display, seen, placed, stands, put_back}
-use Rattle.aud_store.specs.Ties.Stored.{accepted_by, accepted_for, accepted_in, copies_of, kept_by, kept_of, purpose_backs, innermost_backs, own_backs, outer_backs, plain_open, plain_opened, plain_purpose, ArePlaced, IsPlaced, IsInnermost}
+use Rattle.aud_store.specs.Ties.Stored.{accepted_by, accepted_for, accepted_in, copies_of, kept_by, kept_of, purpose_backs, innermost_backs, own_backs, outer_backs, plain_open, plain_opened, plain_purpose, served_by, served_in, ArePlaced, IsPlaced, IsInnermost}
 use Rattle.aud_store.proofs.Placing.{back_again, seen_placed, within}
 use Rattle.aud_meaning.specs.Ties.Stack.{Stack, closed, out_of_loops_by}
 
@@ -166,6 +166,21 @@ accepts_plain d [] bs = refl
 accepts_plain d (o ∷ os) bs =
     accepts_by o.purpose (own_backs o.purpose bs) (accepted_in (plain_opened (put_back o.replaced d) os (outer_backs o.purpose bs)))
     ∙ ap (cons_option (accepted_for o.purpose)) (accepts_plain (put_back o.replaced d) os (outer_backs o.purpose bs))
+
+-- and no others
+served_as : (p : Purpose) (bs : List Back) (ids : List ℕ) → served_by (plain_purpose p bs) ids ≡ accepted_by (plain_purpose p bs) ids
+served_as Body bs ids = refl
+served_as Block bs ids = refl
+served_as Loop bs ids = refl
+served_as (Procedure level n into) bs ids = refl
+served_as (Accept call) bs ids = refl
+
+pub served_plain : (d : Display) (os : List Open) (bs : List Back) → served_in (plain_opened d os bs) ≡ accepted_in (plain_opened d os bs)
+served_plain d [] bs = refl
+served_plain d (o ∷ os) bs =
+    let more = plain_opened (put_back o.replaced d) os (outer_backs o.purpose bs) in
+    served_as o.purpose (own_backs o.purpose bs) (served_in more)
+    ∙ ap (accepted_by (plain_purpose o.purpose (own_backs o.purpose bs))) (served_plain (put_back o.replaced d) os (outer_backs o.purpose bs))
 
 -- no entry body is under way
 module _ (plan : Plan) (barrier : ℕ → Sight → Result Bool Raise) where

@@ -13,7 +13,7 @@ ghost use Rattle.aud_meaning.specs.Ties.Stack.{closed, closed_times, opens_after
 ghost use Rattle.aud_store.specs.Ties.Extents.{extent, extent_in};
 ghost use Rattle.aud_store.specs.Ties.Named.{names_of, NamesAll};
 ghost use Rattle.aud_store.specs.Ties.Stored.{accepted_for, accepted_in, copies_of, innermost_backs, is_in_loop, kept_by, kept_of};
-ghost use Rattle.aud_store.specs.Ties.Stored.{plain_open, plain_purpose, with_handling, with_elaborated};
+ghost use Rattle.aud_store.specs.Ties.Stored.{plain_open, plain_purpose, served_in, with_handling, with_elaborated};
 ghost use Rattle.aud_store.specs.Ties.Stored.{IsInnermost};
 
 use crate::display::{Display, Replaced};
@@ -265,9 +265,10 @@ impl Stack {
         }
     }
 
-    /// The calls whose accepts are under way, the innermost one first.
+    /// The calls whose accepts are under way, the innermost one first. For no other call a frame is opened as yet.
     pub fn accepts(&self, alloc: Global) -> Result<Vec<usize>, AllocError>
-        ensures { IfOk result (λ calls. calls.items ≡ accepted_in self.now.opened) }
+        ensures accepted { IfOk result (λ calls. calls.items ≡ accepted_in self.now.opened) }
+        ensures served { IfOk result (λ calls. calls.items ≡ served_in self.now.opened) }
     {
         let calls = accepted_of(alloc, &self.opened)?;
         Ok(calls)

@@ -1,5 +1,5 @@
 -- What decides on the moves of a task beside its own part.
-use Rattle.std.specs.Prelude.{◌≡◌, ◌<◌, ℕ, length, Option, Some, None, true, slice_get}
+use Rattle.std.specs.Prelude.{◌≡◌, ◌<◌, ℕ, length, Option, Some, None, Bool, true, false, slice_get}
 use Rattle.aud_typed.specs.Tree.{Plan}
 use Rattle.aud_meaning.specs.Configuration.{TaskAt, All}
 use Rattle.aud_meaning.specs.Control.{Coming, selecting, calling}
@@ -7,7 +7,7 @@ use Rattle.aud_meaning.specs.Parts.{sight_of}
 use Rattle.aud_code.specs.declared.line.Among.{Among}
 use Rattle.aud_code.specs.declared.line.Among.TheVariants as among
 use Rattle.aud_code.specs.declared.line.Last.{Last}
-use Rattle.aud_code.specs.declared.line.Last.TheVariants.{Concerns}
+use Rattle.aud_code.specs.declared.line.Last.TheVariants.{Concerns, Does}
 use Rattle.aud_code.specs.Eval.{accepts_in, named_in}
 use Rattle.aud_code.specs.Flat.{Flat, no_scene}
 use Rattle.aud_code.specs.Instruction.{Ended}
@@ -38,3 +38,8 @@ choice_of (Concerns a next) = by a
     by (among.Call entry kind otherwise) = Some (Call entry)
     by other = None
 choice_of last = None
+
+-- whether it is a statement's that concerns its task alone
+abbrev pub is_alone : Last → Bool
+is_alone (Does e next) = true
+is_alone last = false

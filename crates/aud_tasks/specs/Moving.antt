@@ -4,7 +4,7 @@ use Rattle.aud_typed.specs.Tree.{Plan}
 use Rattle.aud_meaning.specs.declared.state.Move.{Move}
 use Rattle.aud_meaning.specs.declared.state.OpenDelay.{OpenDelay}
 use Rattle.aud_meaning.specs.Configuration.{All}
-use Rattle.aud_meaning.specs.Control.{Coming, selecting, calling}
+use Rattle.aud_meaning.specs.Control.{Coming, simply, selecting, calling}
 use Rattle.aud_meaning.specs.Run.{moves_from, own_move, picks, seen, turn_moves, turn_times}
 use Rattle.aud_code.specs.Places.{Spot}
 use Rattle.aud_code.specs.Flat.{Flat, barrier_at, flat_controls}
@@ -41,6 +41,11 @@ abbrev pub IsSingle : Coming → Type 0
 IsSingle (selecting ones) = ⊥
 IsSingle (calling task entry) = ⊥
 IsSingle next = Unit {0}
+
+-- what comes next of a task that has its own move whatever others do
+abbrev pub IsSimple : Coming → Type 0
+IsSimple (simply w) = Unit {0}
+IsSimple next = ⊥
 
 -- the times that it waits for
 abbrev pub times_of : Plan → Flat → ℕ → All Spot → List ℕ

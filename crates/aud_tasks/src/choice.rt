@@ -1,9 +1,9 @@
 // What decides on the moves of a task beside its own part.
 
-ghost use Rattle.std.specs.Prelude.{◌≡◌, IfNone, IfSome};
+ghost use Rattle.std.specs.Prelude.{◌≡◌, ◌<◌, length, IfNone, IfSome, IsTrue};
 ghost use Rattle.aud_typed.specs.Tree.{Plan};
-ghost use Rattle.aud_tasks.specs.Choices.{choice_of, ComesTo};
-ghost use Rattle.aud_tasks.specs.Moving.{IsSingle};
+ghost use Rattle.aud_tasks.specs.Choices.{choice_of, is_alone, ComesTo};
+ghost use Rattle.aud_tasks.specs.Moving.{IsSimple, IsSingle};
 ghost use Rattle.aud_tasks.specs.Turning.{coming_in};
 
 use aud_code::line::{Among, Last};
@@ -37,7 +37,28 @@ pub(crate) fn choice_at(state: &State, code: &SoundCode, task: usize) -> Option<
     }
 }
 
-// Whether the step with this ending is one.
+/// Whether the next step of a task is a statement's that concerns the task alone, as far as one look tells.
+pub(crate) fn is_simple(state: &State, code: &SoundCode, task: usize) -> bool
+    requires { task < length state.now.tasks }
+    ensures { IsTrue result → (plan : Plan) → IsSimple (coming_in plan code.now task state.now) }
+{
+    if state.pending(task).is_some() {
+        return false;
+    }
+    match code.ending(state.place(task)) {
+        Some(end) => is_alone(&end.last),
+        None => false,
+    }
+}
+
+// Whether the step with this ending is.
+fn is_alone(last: &Last) -> bool
+    ensures { result ≡ is_alone last.now }
+{
+    matches!(last, Last::Does(_, _))
+}
+
+// Whether the step with this ending is a choice.
 fn choice_of(last: &Last) -> Option<Choice>
     ensures { result ≡ choice_of last.now }
 {

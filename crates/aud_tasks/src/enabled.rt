@@ -63,8 +63,8 @@ pub(crate) fn list(
     }
 }
 
-// The only move of a task.
-fn only_move(task: usize) -> Move
+/// The only move of a task.
+pub(crate) fn only_move(task: usize) -> Move
     ensures { result ≡ own_move task }
 {
     Move {

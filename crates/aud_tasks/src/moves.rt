@@ -1,6 +1,6 @@
 // What can happen next.
 
-ghost use Rattle.std.specs.Prelude.{◌≡◌, ◌<◌, ◌-◌, ◌^◌, ℕ, [], length, not, ◌||◌, IfNone, IfOk, IfSome, OnOk, slice_get};
+ghost use Rattle.std.specs.Prelude.{◌≡◌, ◌<◌, ◌-◌, ◌^◌, ℕ, [], length, not, ◌||◌, IfNone, IfOk, IfSome, IsTrue, OnOk, slice_get, true};
 ghost use Rattle.aud_typed.specs.Tree.{Plan};
 ghost use Rattle.aud_typed.specs.Ties.View.{plain_program};
 ghost use Rattle.aud_meaning.specs.Parts.{is_terminated, own_of};
@@ -12,9 +12,9 @@ ghost use Rattle.aud_tasks.specs.Choices.{ComesTo};
 ghost use Rattle.aud_tasks.specs.Moving.{alone_if, has_some, moves_behind, moves_of, picked, IsNextMover};
 ghost use Rattle.aud_tasks.specs.Turning.{coming_in};
 
-use crate::choice::{Choice, choice_at};
+use crate::choice::{Choice, choice_at, is_simple};
 use crate::compiled::Compiled;
-use crate::enabled::{Enabled, count, list, nth};
+use crate::enabled::{Enabled, count, list, nth, only_move};
 use crate::times::soonest;
 use crate::turn::{Turn, turn_of};
 use aud_code::sound_code::SoundCode;
@@ -63,6 +63,9 @@ pub(crate) fn list_moves(
     }
     let clock = state.clock();
     for task in 0..state.len() {
+        if state.rests(task) {
+            continue;
+        }
         let enabled = enabled_of(state, alloc, compiled.code, operands, task)?;
         list(&enabled, task, clock, moves)?;
     }
@@ -91,6 +94,12 @@ pub(crate) fn nth_move(
     let clock = state.clock();
     let mut left = index;
     for task in 0..state.len() {
+        if state.rests(task) {
+            continue;
+        }
+        if left == 0 && acts_simply(state, compiled.code, task) {
+            return Ok(Some(only_move(task)));
+        }
         let enabled = enabled_of(state, alloc, compiled.code, operands, task)?;
         if let Some(found) = nth(&enabled, task, clock, left) {
             return Ok(Some(found));
@@ -155,6 +164,9 @@ pub(crate) fn has_move(state: &State, code: &SoundCode, task: usize) -> bool
     ensures { (plan : Plan) → plan.objects ≡ [] →
         result ≡ has_some (moves_of plan code.now task state.now) }
 {
+    if state.rests(task) {
+        return false;
+    }
     match turn_of(state, code, task) {
         Turn::Resting => false,
         Turn::Closing => state.closable(state.body_master(task)),
@@ -172,6 +184,17 @@ fn has_ended_delay(delays: &[OpenDelay], task: usize, clock: u64) -> bool
     ensures { result ≡ has_some (picked task clock delays.now) }
 {
     nth(&Enabled::Delays(delays), task, clock, 0).is_some()
+}
+
+// Whether a task's own next step is its only move, as far as one look tells.
+fn acts_simply(state: &State, code: &SoundCode, task: usize) -> bool
+    requires { task < length state.now.tasks }
+    ensures { IsTrue result → (plan : Plan) → moves_of plan code.now task state.now ≡ alone_if true task }
+{
+    if state.is_plain(task) {
+        return is_simple(state, code, task);
+    }
+    false
 }
 
 // The moves of the task of this number.
@@ -213,6 +236,9 @@ fn acting<'a>(
         ≡ acting_moves plan (barrier_at code.now) (coming_in plan code.now task state.now) task
         (seen plan (flat_controls plan code.now) state.now)) }
 {
+    if is_simple(state, code, task) {
+        return Ok(Enabled::One);
+    }
     match choice_at(state, code, task) {
         None => Ok(one_if(can_act(state, code, task))),
         Some(choice) => choose(state, alloc, code, operands, task, choice),

@@ -148,3 +148,17 @@ accepted_for purpose = None
 abbrev pub accepted_in : List Opened → List ℕ
 accepted_in [] = []
 accepted_in (o ∷ os) = accepted_by o.purpose (accepted_in os)
+
+-- the calls for which a frame is open
+abbrev pub served_by : meaning.Purpose → List ℕ → List ℕ
+served_by for_body rest = rest
+served_by for_block rest = rest
+served_by for_loop rest = rest
+served_by (for_procedure r) rest = rest
+served_by (for_operation n r) rest = rest
+served_by (for_entry n i s b) rest = i ∷ rest
+served_by (for_accept i) rest = i ∷ rest
+
+abbrev pub served_in : List Opened → List ℕ
+served_in [] = []
+served_in (o ∷ os) = served_by o.purpose (served_in os)

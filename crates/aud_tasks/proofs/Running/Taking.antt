@@ -8,17 +8,17 @@ use Rattle.aud_text.specs.declared.raise.Raise.{Raise}
 use Rattle.aud_text.specs.declared.limits.Limits.{Limits}
 use Rattle.aud_typed.specs.Tree.{Plan}
 use Rattle.aud_meaning.specs.declared.state.Move.{Move}
-use Rattle.aud_meaning.specs.Configuration.{Frame, Own, Shared, TaskAt, All}
+use Rattle.aud_meaning.specs.Configuration.{Call, Frame, Own, Shared, TaskAt, All}
 use Rattle.aud_meaning.specs.Evaluation.{Sight}
 use Rattle.aud_meaning.specs.Control.{Controls, Seen}
-use Rattle.aud_meaning.specs.Parts.{owns, with_frames}
+use Rattle.aud_meaning.specs.Parts.{owns}
 use Rattle.aud_meaning.specs.Run.{turn, turn_moves, moves_from, moves_by, has_ended, moves_at, state_at, seen, seen_from, run_by, run_with, step_of, step_with, take_by, take_one}
 use Rattle.aud_meaning.specs.Why.Limits.{IsWithin}
 use Rattle.aud_meaning.proofs.Limits.Steps.{limits_law}
 use Rattle.aud_code.specs.Places.{Spot}
 use Rattle.aud_code.specs.Flat.{Flat, flat_controls}
 use Rattle.aud_code.specs.Starts.{AreSpots}
-use Rattle.aud_over.specs.Over.{forgotten}
+use Rattle.aud_over.specs.Over.{forgotten, with_kept}
 use Rattle.aud_over.proofs.Coding.{code_looks}
 use Rattle.aud_over.proofs.Left.{run_left}
 use Rattle.aud_tasks.specs.declared.run.Ran.{Ran}
@@ -184,11 +184,11 @@ module _ (plan : Plan) (code : Flat) (limits : Limits) where
   pub on_within : (k : ℕ) (old new : All Spot) → RunsOn plan code limits k old new → IsWithin Spot limits old → IsWithin Spot limits new
   on_within k old new on h = subst (IsWithin Spot limits) (on 0) ((limits_law plan C limits).run (k + 0) old h)
 
-  pub within_frames : (frames : List Frame) (c : All Spot) → IsWithin Spot limits c → IsWithin Spot limits (with_frames frames c)
-  within_frames frames c h = record { tasks = h.tasks; objects = h.objects; output = h.output; frames = h.frames }
+  pub within_kept : (frames : List Frame) (calls : List Call) (c : All Spot) → IsWithin Spot limits c → IsWithin Spot limits (with_kept frames calls c)
+  within_kept frames calls c h = record { tasks = h.tasks; objects = h.objects; output = h.output; frames = h.frames }
 
-  -- frames are given back after some steps more
-  pub runs_more : (n steps more ticks all : ℕ) (old here mid new : All Spot) → RunsSoFar n old here steps ticks → RunsOn plan code limits more here mid → more + here.steps ≡ mid.steps → steps + more ≤ n → AreSpots code.lines mid.tasks → forgotten new ≡ forgotten mid → new ≡ with_frames new.shared.frames mid → all ≤ (steps + more) * (2 * size code) → RunsSoFar n old new (steps + more) all
+  -- frames and calls are given back after some steps more
+  pub runs_more : (n steps more ticks all : ℕ) (old here mid new : All Spot) → RunsSoFar n old here steps ticks → RunsOn plan code limits more here mid → more + here.steps ≡ mid.steps → steps + more ≤ n → AreSpots code.lines mid.tasks → forgotten new ≡ forgotten mid → new ≡ with_kept new.shared.frames new.shared.calls mid → all ≤ (steps + more) * (2 * size code) → RunsSoFar n old new (steps + more) all
   runs_more n steps more ticks all old here mid new so_far on counted within spots same others few =
       let still = ap (λ (c : All Spot). c.steps) others in
       record {
@@ -202,7 +202,7 @@ module _ (plan : Plan) (code : Flat) (limits : Limits) where
         spots = subst (λ (c : All Spot). AreSpots code.lines c.tasks) (sym others) spots;
         steps_taken = omega (arith, so_far.steps_taken, counted, still);
         few = few;
-        kept = λ h. subst (IsWithin Spot limits) (sym others) (within_frames new.shared.frames mid (on_within more here mid on (so_far.kept h)));
+        kept = λ h. subst (IsWithin Spot limits) (sym others) (within_kept new.shared.frames new.shared.calls mid (on_within more here mid on (so_far.kept h)));
       }
 
   -- it has ended, where nothing has changed since

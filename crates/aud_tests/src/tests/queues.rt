@@ -1,4 +1,4 @@
-// Entry calls that arrive in a queue, and leave it.
+// Entry calls that arrive in a queue, leave it, and are given back.
 
 use crate::tests::loaded;
 use aud_gen::generate;
@@ -37,13 +37,20 @@ const ROWS: [(Act, Option<usize>); 7] = [
     (Act::Select(0), None),
 ];
 
-#[test]
-fn the_oldest_call_comes_first(rt: HostRuntime) -> Result<(), Fail> {
-    let alloc = rt.alloc();
+// So many are made and cancelled before some are given back.
+const CANCELLED: usize = 300;
+
+fn opened(alloc: Global) -> Result<State, Fail> {
     let program = loaded(alloc, IDLE)?;
     let code = generate(alloc, &program)?;
     let program = program.into_program();
-    let mut state = State::new(alloc, &code, &program.units, &program.name)?;
+    Ok(State::new(alloc, &code, &program.units, &program.name)?)
+}
+
+#[test]
+fn the_oldest_call_comes_first(rt: HostRuntime) -> Result<(), Fail> {
+    let alloc = rt.alloc();
+    let mut state = opened(alloc)?;
     for number in 0..CALLS {
         let id = state.make_call(call_of(alloc, number))?;
         assert!(rt; id == number);
@@ -53,6 +60,23 @@ fn the_oldest_call_comes_first(rt: HostRuntime) -> Result<(), Fail> {
         assert!(rt; state.first_queued(OWNER, ENTRY) == oldest);
         assert!(rt; state.first_queued(OWNER, ENTRY + 1).is_none());
     }
+    Ok(())
+}
+
+#[test]
+fn calls_that_are_over_are_given_back(rt: HostRuntime) -> Result<(), Fail> {
+    let alloc = rt.alloc();
+    let mut state = opened(alloc)?;
+    for number in 0..CANCELLED {
+        let id = state.make_call(call_of(alloc, number))?;
+        state.cancel_call(id);
+    }
+    let last = state.make_call(call_of(alloc, CANCELLED))?;
+    state.arrive(last)?;
+    assert!(rt; state.are_calls_due() && state.caller(CANCELLED - 1) == CANCELLED - 1);
+    state.forget_calls(alloc)?;
+    assert!(rt; !state.are_calls_due() && state.caller(CANCELLED - 1) == 0);
+    assert!(rt; state.caller(last) == CANCELLED && state.first_queued(OWNER, ENTRY) == Some(last));
     Ok(())
 }
 

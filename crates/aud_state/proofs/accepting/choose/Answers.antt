@@ -3,7 +3,7 @@ use Rattle.std.specs.Prelude.{nat_eq}
 use Rattle.std.specs.Option.{option_or}
 use Rattle.aud_meaning.specs.declared.state.OpenAccept.{OpenAccept}
 use Rattle.aud_state.specs.Chosen.{chosen}
-use Rattle.aud_state.proofs.Choosing.{chosen_first, chosen_numbered}
+use Rattle.aud_state.proofs.TaskLaws.Choosing.{chosen_first, chosen_numbered}
 use Rattle.aud_state.proofs.accepting.choose.Goals as goal
 
 pub returns-in-None : goal.returns-in-None

@@ -4,15 +4,15 @@ use Rattle.std.specs.Prelude.{◌&&◌}
 use Rattle.aud_meaning.specs.Configuration as meaning
 use Rattle.aud_meaning.specs.Parts.{is_queued, is_task}
 use Rattle.aud_meaning.specs.Parts.{numbers}
-use Rattle.aud_state.specs.declared.calls.Call.{Call}
-use Rattle.aud_state.specs.View.{plain_call}
+use Rattle.aud_state.specs.declared.slot.Slot.{Slot}
+use Rattle.aud_state.specs.View.{plain_slot}
 use Rattle.aud_state.proofs.Numbered.{found_more, numbers_map}
 use Rattle.aud_state.proofs.calls.queued_among.Goals.{then-is_queued_on+in_ok-push, else-is_queued_on}
 use Rattle.aud_state.proofs.calls.queued_among.Goals as goal
 
 pub loop-n-preserved : goal.loop-n-preserved
 loop-n-preserved c =
-    let passes : Call → Bool = λ z. (λ (x : meaning.Call). is_queued x.state && is_task c.args.task x.owner) (plain_call z) in
+    let passes : Slot → Bool = λ z. (λ (x : meaning.Call). is_queued x.state && is_task c.args.task x.owner) (plain_slot z) in
     let x = c.index-calls-n.result in
     let found = c.loop-n.found.items in
     let rest = numbers passes (c.loop-n.n + 1) (drop (c.loop-n.n + 1) c.args.calls.now) in
@@ -25,8 +25,8 @@ loop-n-preserved c =
 
 pub returns : goal.returns
 returns c =
-    let passes : Call → Bool = λ z. (λ (x : meaning.Call). is_queued x.state && is_task c.args.task x.owner) (plain_call z) in
+    let passes : Slot → Bool = λ z. (λ (x : meaning.Call). is_queued x.state && is_task c.args.task x.owner) (plain_slot z) in
     let found = c.loop-n.found.items in
     sym (append-nil found)
     ∙ sym (at_drop_all (λ xs. found ++ numbers passes c.loop-n.n xs) c.args.calls.now c.loop-n.n (omega arith))
-    ∙ c.loop-n.invariant ∙ sym (numbers_map plain_call (λ (x : meaning.Call). is_queued x.state && is_task c.args.task x.owner) 0 c.args.calls.now)
+    ∙ c.loop-n.invariant ∙ sym (numbers_map plain_slot (λ (x : meaning.Call). is_queued x.state && is_task c.args.task x.owner) 0 c.args.calls.now)

@@ -3,7 +3,7 @@ use Rattle.aud_typed.specs.Ties.View.{plain_tasks}
 use Rattle.aud_meaning.specs.Tasks as effect
 use Rattle.aud_code.specs.Control.{going}
 use Rattle.aud_state.specs.View.{plain_task}
-use Rattle.aud_state.proofs.Creating.{created_more, created_all}
+use Rattle.aud_state.proofs.TaskLaws.Creating.{created_more, created_all}
 use Rattle.aud_state.proofs.creation.all_created.Goals as goal
 
 pub loop-index-preserved : goal.loop-index-preserved

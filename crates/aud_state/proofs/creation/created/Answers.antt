@@ -1,15 +1,14 @@
-use Rattle.std.proofs.Common.{◌≡◌, ◌++◌, ℕ, List, filter, map, take, ap, sym, ◌∙◌}
+use Rattle.std.proofs.Common.{◌≡◌, ◌++◌, List, filter, map, ap, sym, ◌∙◌}
 use Rattle.aud_typed.specs.Tree.{UnitPlan}
 use Rattle.aud_typed.specs.Ties.View.{plain_tasks}
-use Rattle.aud_meaning.specs.Configuration.{Opened, Own, TaskAt, Waits}
+use Rattle.aud_meaning.specs.Configuration.{Opened, Own, Waits}
 use Rattle.aud_meaning.specs.Effects.{innermost}
 use Rattle.aud_meaning.specs.Parts.{is_master, masters_under_way, no_waits, task_name}
 use Rattle.aud_meaning.specs.Ties.Stack.{Stack}
-use Rattle.aud_code.specs.Places.{Spot}
 use Rattle.aud_sequential.specs.Parked.{Parked, created}
 use Rattle.aud_sequential.specs.Shown.{plans_of}
 use Rattle.aud_state.specs.View.{element_name, plain_task, plain_waits}
-use Rattle.aud_state.proofs.Creating.{made}
+use Rattle.aud_state.proofs.TaskLaws.Creating.{made}
 use Rattle.aud_state.proofs.creation.created.Goals as goal
 
 pub returns : goal.returns

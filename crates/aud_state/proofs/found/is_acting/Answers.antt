@@ -1,9 +1,9 @@
-use Rattle.std.proofs.Common.{Bool, [], drop, sym, ◌∙◌, arith}
+use Rattle.std.proofs.Common.{Bool, sym, ◌∙◌, arith}
 use Rattle.std.proofs.lemmas.List.{at_drop_all}
 use Rattle.aud_meaning.specs.Parts.{acts_on, any}
 use Rattle.aud_state.specs.declared.object.Object.{Object}
 use Rattle.aud_state.specs.View.{plain_object}
-use Rattle.aud_state.proofs.Numbered.{any_here, any_map, any_more}
+use Rattle.aud_state.proofs.Numbered.{any_here, any_map}
 use Rattle.aud_state.proofs.found.is_acting.Goals as goal
 
 pub returns-then-acts_on : goal.returns-then-acts_on

@@ -7,7 +7,7 @@ use Rattle.aud_store.specs.Ties.Stored.{entered}
 use Rattle.aud_sequential.specs.Parked.{acting, no_part, parked, Parked}
 use Rattle.aud_sequential.specs.Shown.{plans_of, unit_in}
 use Rattle.aud_sequential.specs.Steps.{on_stored}
-use Rattle.aud_state.proofs.Started.{main_opened}
+use Rattle.aud_state.proofs.TaskLaws.Started.{main_opened}
 use Rattle.aud_state.proofs.opening.main_part.Goals as goal
 
 pub returns : goal.returns

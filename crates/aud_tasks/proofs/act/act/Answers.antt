@@ -1,7 +1,7 @@
 use Rattle.std.proofs.Common.{Some, None, sym, ◌∙◌}
 use Rattle.aud_typed.specs.Ties.View.{plain_program}
 use Rattle.aud_tasks.proofs.Results.{if_ok}
-use Rattle.aud_tasks.proofs.Stepping.{acts_so}
+use Rattle.aud_tasks.proofs.StepLaws.Stepping.{acts_so}
 use Rattle.aud_tasks.proofs.act.act.Goals as goal
 
 pub returns-in_ok-propagate-in-Some-clause-does : goal.returns-in_ok-propagate-in-Some-clause-does

@@ -1,11 +1,11 @@
-use Rattle.std.proofs.Common.{sym, ap, ◌∙◌, subst, arith}
+use Rattle.std.proofs.Common.{sym, subst, arith}
 use Rattle.aud_typed.specs.Ties.View.{plain_program}
 use Rattle.aud_code.specs.Flat.{EndLine, end_at}
 use Rattle.aud_code.specs.Instruction.{Ended}
 use Rattle.aud_expr.specs.Flow.{evaluated_at}
 use Rattle.aud_state.specs.Fast.{scene}
 use Rattle.aud_tasks.specs.Acting.{DoesEnd}
-use Rattle.aud_tasks.proofs.Stepping.{no_end_behind, spot_at, starts}
+use Rattle.aud_tasks.proofs.StepLaws.Stepping.{no_end_behind, spot_at, starts}
 use Rattle.aud_tasks.proofs.act.execute.Goals as goal
 
 pub evaluate-requires-clause-begins : goal.evaluate-requires-clause-begins

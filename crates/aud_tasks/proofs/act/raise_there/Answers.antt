@@ -1,6 +1,6 @@
 use Rattle.std.proofs.Common.{ap, sym, ◌∙◌, subst}
 use Rattle.aud_typed.specs.Ties.View.{plain_program}
-use Rattle.aud_code.specs.Flat.{EndLine, end_at, no_end}
+use Rattle.aud_code.specs.Flat.{EndLine, end_at}
 use Rattle.aud_code.specs.Instruction.{Raised}
 use Rattle.aud_tasks.specs.Acting.{DoesEnd}
 use Rattle.aud_tasks.proofs.Results.{on_ok}

@@ -6,7 +6,7 @@ use Rattle.aud_code.specs.Sound.{counts_of, LastFine}
 use Rattle.aud_code.specs.View.{plain_end}
 use Rattle.aud_tasks.specs.Acting.{DoesEnd}
 use Rattle.aud_tasks.proofs.Results.{on_ok}
-use Rattle.aud_tasks.proofs.Stepping.{ends_there, no_end_there, task_there}
+use Rattle.aud_tasks.proofs.StepLaws.Stepping.{ends_there, no_end_there, task_there}
 use Rattle.aud_tasks.proofs.act.reach.Goals as goal
 
 pub finish-requires-clause-there : goal.finish-requires-clause-there

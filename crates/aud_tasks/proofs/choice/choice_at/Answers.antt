@@ -4,8 +4,8 @@ use Rattle.aud_code.specs.Flat.{EndLine}
 use Rattle.aud_tasks.specs.Choices.{ComesTo}
 use Rattle.aud_tasks.specs.Moving.{IsSingle}
 use Rattle.aud_tasks.specs.Turning.{coming_in}
-use Rattle.aud_tasks.proofs.Chosen.{comes_so, every, every_none, single_pending, single_so, single_there}
-use Rattle.aud_tasks.proofs.Stepping.{no_end_behind}
+use Rattle.aud_tasks.proofs.MoveLaws.Chosen.{comes_so, every, every_none, single_pending, single_so, single_there}
+use Rattle.aud_tasks.proofs.StepLaws.Stepping.{no_end_behind}
 use Rattle.aud_tasks.proofs.choice.choice_at.Goals as goal
 
 pub returns-then-is_some-clause-none : goal.returns-then-is_some-clause-none

@@ -3,7 +3,7 @@ use Rattle.aud_meaning.specs.Listings.{turn_kind}
 use Rattle.aud_code.specs.Flat.{barrier_at}
 use Rattle.aud_meaning.specs.Parts.{own_of, sight_of}
 use Rattle.aud_tasks.specs.Turning.{coming_in, turned}
-use Rattle.aud_tasks.proofs.Listed.{kind_as}
+use Rattle.aud_tasks.proofs.ViewLaws.Listed.{kind_as}
 use Rattle.aud_tasks.proofs.coming.kind_of.Goals as goal
 
 pub returns-in-Acting : goal.returns-in-Acting

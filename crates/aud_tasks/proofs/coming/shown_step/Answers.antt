@@ -1,7 +1,7 @@
 use Rattle.std.proofs.Common.{refl}
 use Rattle.aud_typed.specs.Ties.View.{plain_program}
 use Rattle.aud_tasks.specs.Turning.{turned}
-use Rattle.aud_tasks.proofs.Shown.{step_is, step_made, turn_is}
+use Rattle.aud_tasks.proofs.ViewLaws.Shown.{step_is, step_made, turn_is}
 use Rattle.aud_tasks.proofs.coming.shown_step.Goals as goal
 
 pub returns : goal.returns

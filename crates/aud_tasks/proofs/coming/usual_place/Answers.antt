@@ -1,7 +1,7 @@
 use Rattle.std.proofs.Common.{None, Some, ⊎_elim, refl, sym, ◌∙◌}
 use Rattle.aud_meaning.specs.declared.state.Status.TheVariants.{Accepting, Activating, Calling, Completed, Created, Delaying, Running, Terminated}
 use Rattle.aud_meaning.specs.Parts.{own_of}
-use Rattle.aud_tasks.proofs.Listed.{place_as}
+use Rattle.aud_tasks.proofs.ViewLaws.Listed.{place_as}
 use Rattle.aud_tasks.proofs.coming.usual_place.Goals as goal
 
 pub returns-in-Some : goal.returns-in-Some

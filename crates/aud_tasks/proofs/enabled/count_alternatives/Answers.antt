@@ -1,6 +1,6 @@
 use Rattle.std.proofs.Common.{length, ap, sym, ◌∙◌}
 use Rattle.aud_tasks.specs.Enabled.{each_or_one}
-use Rattle.aud_tasks.proofs.Alternatives.{many_each, no_number}
+use Rattle.aud_tasks.proofs.MoveLaws.Alternatives.{many_each, no_number}
 use Rattle.aud_tasks.proofs.enabled.count_alternatives.Goals as goal
 
 pub returns-then-is_empty : goal.returns-then-is_empty

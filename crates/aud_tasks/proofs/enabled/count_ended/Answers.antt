@@ -1,5 +1,5 @@
 use Rattle.std.proofs.Common.{length, ap, sym, ◌∙◌, arith}
-use Rattle.aud_tasks.proofs.Delays.{picked_none, picked_one, picked_past}
+use Rattle.aud_tasks.proofs.MoveLaws.Delays.{picked_none, picked_one, picked_past}
 use Rattle.aud_tasks.proofs.enabled.count_ended.Goals as goal
 use Rattle.aud_tasks.proofs.enabled.count_ended.Goals.{then-has_ended, else-has_ended}
 

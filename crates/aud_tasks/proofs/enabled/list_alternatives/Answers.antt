@@ -2,8 +2,8 @@ use Rattle.std.proofs.Common.{[], ◌∷◌, ◌++◌, ◌+◌, append-nil, drop
 use Rattle.std.proofs.lemmas.List.{drop_all}
 use Rattle.aud_meaning.specs.Run.{picks}
 use Rattle.aud_tasks.specs.Enabled.{each_or_one}
-use Rattle.aud_tasks.proofs.Alternatives.{each_picked, no_number, next_picked}
-use Rattle.aud_tasks.proofs.Delays.{listed_one}
+use Rattle.aud_tasks.proofs.MoveLaws.Alternatives.{each_picked, no_number, next_picked}
+use Rattle.aud_tasks.proofs.MoveLaws.Delays.{listed_one}
 use Rattle.aud_tasks.proofs.enabled.list_alternatives.Goals as goal
 
 pub returns-then-is_empty : goal.returns-then-is_empty

@@ -1,7 +1,7 @@
 use Rattle.std.proofs.Common.{[], ◌∷◌, ◌++◌, ◌+◌, append-nil, drop, get_or, ap, sym, ◌∙◌, arith}
 use Rattle.aud_meaning.specs.Run.{picks}
 use Rattle.aud_tasks.specs.Moving.{picked}
-use Rattle.aud_tasks.proofs.Delays.{no_delay, listed_one, picked_none, picked_one, picked_past}
+use Rattle.aud_tasks.proofs.MoveLaws.Delays.{no_delay, listed_one, picked_none, picked_one, picked_past}
 use Rattle.aud_tasks.proofs.enabled.list_ended.Goals as goal
 use Rattle.aud_tasks.proofs.enabled.list_ended.Goals.{then-has_ended+in_ok-push, else-has_ended}
 

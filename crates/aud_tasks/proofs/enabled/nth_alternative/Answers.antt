@@ -1,6 +1,6 @@
 use Rattle.std.proofs.Common.{Some, slice_get, ap, sym, ◌∙◌, arith}
 use Rattle.aud_tasks.specs.Enabled.{each_or_one}
-use Rattle.aud_tasks.proofs.Alternatives.{each_picked, no_number, picked_at, picked_past}
+use Rattle.aud_tasks.proofs.MoveLaws.Alternatives.{each_picked, no_number, picked_at, picked_past}
 use Rattle.aud_tasks.proofs.enabled.nth_alternative.Goals as goal
 
 pub returns-then-is_empty : goal.returns-then-is_empty

@@ -1,7 +1,7 @@
 use Rattle.std.proofs.Common.{◌+◌, ◌-◌, Some, drop, get_or, slice_get, ap, sym, ◌∙◌, arith}
 use Rattle.aud_meaning.specs.Run.{picks}
 use Rattle.aud_tasks.specs.Moving.{picked}
-use Rattle.aud_tasks.proofs.Delays.{no_delay, nth_behind, nth_first, picked_none, picked_one, picked_past}
+use Rattle.aud_tasks.proofs.MoveLaws.Delays.{no_delay, nth_behind, nth_first, picked_none, picked_one, picked_past}
 use Rattle.aud_tasks.proofs.enabled.nth_ended.Goals as goal
 use Rattle.aud_tasks.proofs.enabled.nth_ended.Goals.{then-has_ended+else-left-eq0, else-has_ended}
 

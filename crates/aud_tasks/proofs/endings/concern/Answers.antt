@@ -1,7 +1,7 @@
 use Rattle.aud_typed.specs.Ties.View.{plain_program}
 use Rattle.aud_code.specs.Sound.{counts_of}
 use Rattle.aud_code.specs.View.{plain_kind}
-use Rattle.aud_tasks.proofs.Entering.{as_among, is_named}
+use Rattle.aud_tasks.proofs.StepLaws.Entering.{as_among, is_named}
 use Rattle.aud_tasks.proofs.Results.{on_ok}
 use Rattle.aud_tasks.proofs.endings.concern.Goals as goal
 

@@ -7,7 +7,7 @@ use Rattle.aud_code.specs.Places.{loops_of}
 use Rattle.aud_code.specs.Sound.{counts_of}
 use Rattle.aud_code.specs.View.{exit_of}
 use Rattle.aud_state.specs.Fast.{scene}
-use Rattle.aud_tasks.proofs.Asked.{flow_fine, flows_so, raised_here, raised_in_part}
+use Rattle.aud_tasks.proofs.StepLaws.Asked.{flow_fine, flows_so, raised_here, raised_in_part}
 use Rattle.aud_tasks.proofs.Results.{on_ok}
 use Rattle.aud_tasks.proofs.endings.fail.Goals as goal
 

@@ -2,7 +2,7 @@ use Rattle.std.proofs.Common.{sym, ◌∙◌}
 use Rattle.aud_typed.specs.Ties.View.{plain_program}
 use Rattle.aud_code.specs.Instruction.{Reached}
 use Rattle.aud_state.specs.Fast.{scene}
-use Rattle.aud_tasks.proofs.Asked.{as_last, of_one, too_long_does}
+use Rattle.aud_tasks.proofs.StepLaws.Asked.{as_last, of_one, too_long_does}
 use Rattle.aud_tasks.proofs.Results.{on_ok}
 use Rattle.aud_tasks.proofs.endings.finish.Goals as goal
 

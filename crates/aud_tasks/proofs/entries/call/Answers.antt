@@ -8,7 +8,7 @@ use Rattle.aud_code.specs.Control.{going}
 use Rattle.aud_code.specs.Eval.{form_in}
 use Rattle.aud_code.specs.View.{plain_kind}
 use Rattle.aud_state.specs.Fast.{scene}
-use Rattle.aud_tasks.proofs.Entering.{makes}
+use Rattle.aud_tasks.proofs.StepLaws.Entering.{makes}
 use Rattle.aud_tasks.proofs.Results.{on_ok}
 use Rattle.aud_tasks.proofs.entries.call.Goals as goal
 

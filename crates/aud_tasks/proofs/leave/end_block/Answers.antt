@@ -7,7 +7,7 @@ use Rattle.aud_code.specs.Control.{going}
 use Rattle.aud_code.specs.Places.{Spot}
 use Rattle.aud_store.specs.Ties.Stored.{plain_open}
 use Rattle.aud_tasks.specs.Leaving.{closed_by}
-use Rattle.aud_tasks.proofs.Leaving.{block_end_by}
+use Rattle.aud_tasks.proofs.StepLaws.Leaving.{block_end_by}
 use Rattle.aud_tasks.proofs.Results.{on_ok}
 use Rattle.aud_tasks.proofs.leave.end_block.Goals as goal
 

@@ -1,7 +1,6 @@
 use Rattle.std.proofs.Common.{◌∙◌}
-use Rattle.aud_meaning.specs.Tasks as effect
 use Rattle.aud_code.specs.Control.{going}
-use Rattle.aud_tasks.proofs.Leaving.{at_end_accept, at_end_block, at_end_body, at_end_loop, at_end_procedure}
+use Rattle.aud_tasks.proofs.StepLaws.Leaving.{at_end_accept, at_end_block, at_end_body, at_end_loop, at_end_procedure}
 use Rattle.aud_tasks.proofs.Results.{on_ok}
 use Rattle.aud_tasks.proofs.leave.end_inner.Goals as goal
 

@@ -1,4 +1,4 @@
-use Rattle.std.proofs.Common.{◌≡◌, List, ap, refl, sym, ◌∙◌}
+use Rattle.std.proofs.Common.{List, ap, refl, sym, ◌∙◌}
 use Rattle.aud_meaning.specs.Configuration.{All, Back as BackOf, Own}
 use Rattle.aud_meaning.specs.Effects.{closed, out_of_loops, pends}
 use Rattle.aud_meaning.specs.Parts.{on_own, own_of}
@@ -7,7 +7,7 @@ use Rattle.aud_meaning.specs.Ties.Stack.{returning}
 use Rattle.aud_code.specs.Control.{going}
 use Rattle.aud_code.specs.Places.{Spot}
 use Rattle.aud_store.specs.Ties.Stored.{innermost_backs, plain_open}
-use Rattle.aud_tasks.proofs.Leaving.{own_on}
+use Rattle.aud_tasks.proofs.StepLaws.Leaving.{own_on}
 use Rattle.aud_tasks.proofs.Results.{on_ok}
 use Rattle.aud_tasks.proofs.leave.end_procedure.Goals as goal
 

@@ -1,6 +1,6 @@
 use Rattle.std.proofs.Common.{◌∙◌}
 use Rattle.aud_code.specs.Control.{going}
-use Rattle.aud_tasks.proofs.Leaving.{returned_so}
+use Rattle.aud_tasks.proofs.StepLaws.Leaving.{returned_so}
 use Rattle.aud_tasks.proofs.leave.give_back.Goals as goal
 
 pub returns : goal.returns

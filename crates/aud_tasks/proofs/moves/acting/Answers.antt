@@ -1,7 +1,7 @@
 use Rattle.std.proofs.Common.{ap, ◌∙◌}
 use Rattle.aud_tasks.specs.Moving.{alone_if}
 use Rattle.aud_tasks.specs.Turning.{coming_in}
-use Rattle.aud_tasks.proofs.Moving.{single_moves}
+use Rattle.aud_tasks.proofs.MoveLaws.Moving.{simple_moves, single_moves}
 use Rattle.aud_tasks.proofs.moves.acting.Goals as goal
 
 pub returns-in-None : goal.returns-in-None
@@ -15,3 +15,10 @@ returns-in-None c = λ plan.
 
 pub choose-requires-clause-comes : goal.choose-requires-clause-comes
 choose-requires-clause-comes c = c.in-Some.ensures.some
+
+pub returns-then-is_simple : goal.returns-then-is_simple
+returns-then-is_simple c = λ plan.
+    let code = c.args.code.now in
+    let s = c.args.state.now in
+    let n = c.args.task in
+    simple_moves plan code s (coming_in plan code n s) n (c.is_simple.ensures c.if-is_simple.true plan)

@@ -2,7 +2,7 @@ use Rattle.std.proofs.Common.{Some, None, ap, ◌∙◌}
 use Rattle.aud_meaning.specs.Parts.{sight_of}
 use Rattle.aud_tasks.specs.Moving.{alone_if, has_some}
 use Rattle.aud_tasks.specs.Turning.{coming_in}
-use Rattle.aud_tasks.proofs.Moving.{acting_first, leaves_some, some_only}
+use Rattle.aud_tasks.proofs.MoveLaws.Moving.{acting_first, leaves_some, some_only}
 use Rattle.aud_tasks.proofs.moves.can_act.Goals as goal
 
 pub returns-in-Some : goal.returns-in-Some

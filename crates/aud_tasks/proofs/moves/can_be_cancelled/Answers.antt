@@ -2,7 +2,7 @@ use Rattle.std.proofs.Common.{Some, None, ap, sym, ◌∙◌}
 use Rattle.std.specs.Prelude.{nat_le}
 use Rattle.aud_meaning.specs.Parts.{call_of, own_of}
 use Rattle.aud_tasks.specs.Moving.{alone_if}
-use Rattle.aud_tasks.proofs.Moving.{cancels_at, cancels_by}
+use Rattle.aud_tasks.proofs.MoveLaws.Moving.{cancels_at, cancels_by}
 use Rattle.aud_tasks.proofs.moves.can_be_cancelled.Goals as goal
 
 pub returns-in-Some : goal.returns-in-Some

@@ -5,8 +5,8 @@ use Rattle.aud_meaning.specs.declared.state.OpenAccept.{OpenAccept}
 use Rattle.aud_meaning.specs.Run.{alternatives_of, has_queue, seen}
 use Rattle.aud_code.specs.Flat.{barrier_at, flat_controls}
 use Rattle.aud_tasks.specs.Choices.{marked}
-use Rattle.aud_tasks.proofs.Choosing.{all_called, all_open, begins, is_marked, none_called, not_marked}
-use Rattle.aud_tasks.proofs.Stepping.{task_there}
+use Rattle.aud_tasks.proofs.MoveLaws.Choosing.{all_called, all_open, begins, is_marked, none_called, not_marked}
+use Rattle.aud_tasks.proofs.StepLaws.Stepping.{task_there}
 use Rattle.aud_tasks.proofs.moves.choose.Goals as goal
 
 -- any plan tells where the task stands

@@ -4,7 +4,7 @@ use Rattle.aud_meaning.specs.Run.{seen}
 use Rattle.aud_code.specs.Flat.{flat_controls}
 use Rattle.aud_tasks.specs.declared.turn.Turn.TheVariants.{Acting, Cancelling, Closing, Completing, Expiring, Resting, Serving, Withdrawing}
 use Rattle.aud_tasks.specs.Moving.{alone_if, picked}
-use Rattle.aud_tasks.proofs.Moving.{closes, only_if, serve_one, turn_told}
+use Rattle.aud_tasks.proofs.MoveLaws.Moving.{closes, only_if, serve_one, turn_told}
 use Rattle.aud_tasks.proofs.Results.{if_ok}
 use Rattle.aud_tasks.proofs.moves.enabled_of.Goals as goal
 

@@ -4,7 +4,8 @@ use Rattle.aud_meaning.specs.Run.{seen}
 use Rattle.aud_code.specs.Flat.{flat_controls}
 use Rattle.aud_tasks.specs.declared.turn.Turn.TheVariants.{Acting, Cancelling, Closing, Completing, Expiring, Resting, Serving, Withdrawing}
 use Rattle.aud_tasks.specs.Moving.{alone_if, has_some, picked}
-use Rattle.aud_tasks.proofs.Moving.{closes, only_if, serve_one, some_only, turn_told}
+use Rattle.aud_tasks.proofs.MoveLaws.Moving.{closes, only_if, serve_one, some_only, turn_told}
+use Rattle.aud_tasks.proofs.MoveLaws.Resting.{rests_none}
 use Rattle.aud_tasks.proofs.moves.has_move.Goals as goal
 
 pub returns-in-Resting : goal.returns-in-Resting
@@ -74,3 +75,6 @@ returns-in-Acting c = λ plan none.
     let n = c.args.task in
     c.can_act.ensures plan
     ∙ ap has_some (sym (turn_told plan code s n c.turn_of.result Acting (c.turn_of.ensures plan) c.in-Acting.is))
+
+pub returns-then-rests : goal.returns-then-rests
+returns-then-rests c = λ plan none. sym (ap has_some (rests_none plan c.args.code.now c.args.task c.args.state.now (c.rests.ensures c.if-rests.true)))

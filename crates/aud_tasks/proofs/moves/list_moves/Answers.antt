@@ -1,7 +1,8 @@
 use Rattle.std.proofs.Common.{◌++◌, append-nil, refl, ap, sym, ◌∙◌, arith}
 use Rattle.aud_typed.specs.Ties.View.{plain_program}
 use Rattle.aud_tasks.specs.Enabled.{enabled_moves}
-use Rattle.aud_tasks.proofs.Moving.{from, listed_more, moves_all, moves_none, moves_past}
+use Rattle.aud_tasks.proofs.MoveLaws.Moving.{from, listed_more, moves_all, moves_none, moves_past}
+use Rattle.aud_tasks.proofs.MoveLaws.Resting.{rests_behind}
 use Rattle.aud_tasks.proofs.moves.list_moves.Goals as goal
 
 pub returns-then-not-may_move : goal.returns-then-not-may_move
@@ -31,3 +32,8 @@ returns c =
     ∙ ap (λ ms. items ++ ms) (sym (moves_past plan code s c.loop-task.task (omega arith)))
     ∙ c.loop-task.invariant plan refl
     ∙ sym (moves_all plan code s (sym c.may_move.ensures ∙ c.if-not-may_move.false))
+
+pub loop-task-preserved-then-rests : goal.loop-task-preserved-then-rests
+loop-task-preserved-then-rests c = λ plan none.
+    ap (λ ms. c.loop-task.moves.items ++ ms) (sym (rests_behind plan c.args.compiled.code.now c.loop-task.task c.args.state.now (c.rests.ensures c.if-rests.true) (omega arith)))
+    ∙ c.loop-task.invariant plan none

@@ -1,6 +1,6 @@
 use Rattle.std.proofs.Common.{◌≡◌, ◌++◌, []}
 use Rattle.aud_typed.specs.Tree.{Plan}
-use Rattle.aud_tasks.proofs.Moving.{from}
+use Rattle.aud_tasks.proofs.MoveLaws.Moving.{from}
 use Rattle.aud_tasks.proofs.moves.list_moves.Given as goal
 
 abbrev pub invariant-loop-task : goal.invariant-loop-task

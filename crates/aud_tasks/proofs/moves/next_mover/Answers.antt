@@ -1,6 +1,6 @@
 use Rattle.std.proofs.Common.{◌+◌, ◌++◌, ap, sym, ◌∙◌, arith}
 use Rattle.aud_tasks.specs.Moving.{moves_behind, moves_of}
-use Rattle.aud_tasks.proofs.Moving.{moves_next, moves_past, none_first}
+use Rattle.aud_tasks.proofs.MoveLaws.Moving.{moves_next, moves_past, none_first}
 use Rattle.aud_tasks.proofs.moves.next_mover.Goals as goal
 
 pub returns-then-has_move-clause-some : goal.returns-then-has_move-clause-some

@@ -1,7 +1,9 @@
-use Rattle.std.proofs.Common.{◌-◌, refl, ap, sym, slice_get, ◌∙◌, arith}
+use Rattle.std.proofs.Common.{◌≡◌, ◌-◌, ◌∷◌, [], Some, refl, ap, sym, slice_get, ◌∙◌, arith}
 use Rattle.aud_typed.specs.Ties.View.{plain_program}
+use Rattle.aud_meaning.specs.Run.{own_move}
 use Rattle.aud_tasks.specs.Enabled.{enabled_moves}
-use Rattle.aud_tasks.proofs.Moving.{get_none, moves_all, moves_none, moves_past, nth_behind, nth_here}
+use Rattle.aud_tasks.proofs.MoveLaws.Moving.{get_none, moves_all, moves_none, moves_past, nth_behind, nth_here}
+use Rattle.aud_tasks.proofs.MoveLaws.Resting.{rests_behind}
 use Rattle.aud_tasks.proofs.moves.nth_move.Goals as goal
 
 pub returns-then-not-may_move : goal.returns-then-not-may_move
@@ -46,3 +48,20 @@ loop-task-preserved c = λ plan none.
     let few = get_none (enabled_moves n k e) c.loop-task.left is_none in
     c.loop-task.invariant plan none
     ∙ nth_behind plan code s n c.loop-task.left (c.loop-task.left - c.count-left.result) (enabled_moves n k e) (omega arith) (ap (λ t. enabled_moves n t e) c.clock-clock.ensures.value ∙ c.in_ok-enabled.ensures plan none) is_none (omega (arith, few, c.count-left.ensures))
+
+pub loop-task-preserved-then-rests : goal.loop-task-preserved-then-rests
+loop-task-preserved-then-rests c = λ plan none.
+    c.loop-task.invariant plan none
+    ∙ ap (λ ms. slice_get ms c.loop-task.left) (rests_behind plan c.args.compiled.code.now c.loop-task.task c.args.state.now (c.rests.ensures c.if-rests.true) (omega arith))
+
+pub returns-then-acts_simply : goal.returns-then-acts_simply
+returns-then-acts_simply c =
+    let plan = (plain_program c.args.compiled.program.now).plan in
+    let code = c.args.compiled.code.now in
+    let s = c.args.state.now in
+    let n = c.loop-task.task in
+    let first : c.loop-task.left ≡ 0 = omega (arith, c.if-left-eq0.true) in
+    sym (ap (λ ms. slice_get ms c.args.index) (moves_all plan code s (sym c.may_move.ensures ∙ c.if-not-may_move.false))
+    ∙ c.loop-task.invariant plan refl
+    ∙ nth_here plan code s n c.loop-task.left (own_move n ∷ []) c.only_move.result (omega arith) (sym (c.acts_simply.ensures c.if-acts_simply.true plan))
+    (ap (slice_get (own_move n ∷ [])) first ∙ ap Some (sym c.only_move.ensures)))

@@ -1,6 +1,6 @@
 use Rattle.std.proofs.Common.{◌≡◌, [], slice_get}
 use Rattle.aud_typed.specs.Tree.{Plan}
-use Rattle.aud_tasks.proofs.Moving.{from}
+use Rattle.aud_tasks.proofs.MoveLaws.Moving.{from}
 use Rattle.aud_tasks.proofs.moves.nth_move.Given as goal
 
 abbrev pub invariant-loop-task : goal.invariant-loop-task

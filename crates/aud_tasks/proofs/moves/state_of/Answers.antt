@@ -2,8 +2,8 @@ use Rattle.std.proofs.Common.{false, true, refl, ap, sym, ◌∙◌}
 use Rattle.aud_typed.specs.Ties.View.{plain_program}
 use Rattle.aud_meaning.specs.Run.{moves_at}
 use Rattle.aud_code.specs.Flat.{flat_controls}
-use Rattle.aud_tasks.proofs.Moving.{mover_moves, no_mover, some_there, state_as, state_more, state_waits, times}
-use Rattle.aud_tasks.proofs.Soonest.{waiting_law, waits_for}
+use Rattle.aud_tasks.proofs.MoveLaws.Moving.{mover_moves, no_mover, some_there, state_as, state_more, state_waits, times}
+use Rattle.aud_tasks.proofs.MoveLaws.Soonest.{waiting_law, waits_for}
 use Rattle.aud_tasks.proofs.moves.state_of.Goals as goal
 
 pub returns-then-has_ended : goal.returns-then-has_ended

@@ -1,7 +1,7 @@
 use Rattle.std.proofs.Common.{⊎_elim, ap, sym, ◌∙◌}
 use Rattle.aud_meaning.specs.declared.state.CallState.TheVariants.{Queued, Selected, Done, Cancelled}
 use Rattle.aud_meaning.specs.Parts.{call_of}
-use Rattle.aud_tasks.proofs.Shown.{call_by}
+use Rattle.aud_tasks.proofs.ViewLaws.Shown.{call_by}
 use Rattle.aud_tasks.proofs.status.calling.Goals as goal
 
 pub returns-in-Queued : goal.returns-in-Queued

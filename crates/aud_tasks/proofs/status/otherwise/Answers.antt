@@ -1,6 +1,6 @@
 use Rattle.std.proofs.Common.{false, sym, ◌∙◌}
-use Rattle.aud_meaning.specs.declared.state.Status.TheVariants.{Accepting, Activating, Calling, Completed, Created, Delaying, Running, Terminated}
-use Rattle.aud_tasks.proofs.Shown.{calling_as, running_as, status_as}
+use Rattle.aud_meaning.specs.declared.state.Status.TheVariants.{Accepting, Activating, Completed, Created, Delaying, Terminated}
+use Rattle.aud_tasks.proofs.ViewLaws.Shown.{calling_as, running_as, status_as}
 use Rattle.aud_tasks.proofs.status.otherwise.Goals as goal
 
 pub returns-in-Created : goal.returns-in-Created

@@ -1,7 +1,7 @@
 use Rattle.std.proofs.Common.{sym, ◌∙◌}
 use Rattle.aud_tasks.specs.Moving.{moves_of}
 use Rattle.aud_tasks.specs.Shown.{words_of}
-use Rattle.aud_tasks.proofs.Shown.{ready_as, ready_by}
+use Rattle.aud_tasks.proofs.ViewLaws.Shown.{ready_as, ready_by}
 use Rattle.aud_tasks.proofs.status.ready_or.Goals as goal
 
 pub returns-then-has_move : goal.returns-then-has_move

@@ -1,5 +1,5 @@
 use Rattle.std.proofs.Common.{true, false, sym, ◌∙◌}
-use Rattle.aud_tasks.proofs.Shown.{running_by}
+use Rattle.aud_tasks.proofs.ViewLaws.Shown.{running_by}
 use Rattle.aud_tasks.proofs.status.running.Goals as goal
 
 pub returns-then-leaves : goal.returns-then-leaves

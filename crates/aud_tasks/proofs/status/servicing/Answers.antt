@@ -1,6 +1,6 @@
 use Rattle.std.proofs.Common.{⊎_elim, true, sym, ◌∙◌}
 use Rattle.aud_meaning.specs.declared.state.Status.TheVariants.{Accepting, Activating, Calling, Completed, Created, Delaying, Running, Terminated}
-use Rattle.aud_tasks.proofs.Shown.{status_as}
+use Rattle.aud_tasks.proofs.ViewLaws.Shown.{status_as}
 use Rattle.aud_tasks.proofs.status.servicing.Goals as goal
 
 pub returns-in-Created : goal.returns-in-Created

@@ -1,6 +1,6 @@
 use Rattle.std.proofs.Common.{true, false, sym, ◌∙◌}
 use Rattle.aud_code.specs.Flat.{barrier_at}
-use Rattle.aud_tasks.proofs.Shown.{serves_as}
+use Rattle.aud_tasks.proofs.ViewLaws.Shown.{serves_as}
 use Rattle.aud_tasks.proofs.status.status_of.Goals as goal
 
 pub returns-then-is_servicing : goal.returns-then-is_servicing

@@ -1,4 +1,4 @@
-use Rattle.std.proofs.Common.{◌<◌, length, sym, ap, ◌∙◌, subst, arith}
+use Rattle.std.proofs.Common.{◌<◌, length, sym, ◌∙◌, subst, arith}
 use Rattle.aud_typed.specs.Ties.View.{plain_program}
 use Rattle.aud_meaning.specs.Configuration.{All}
 use Rattle.aud_code.specs.Places.{Spot}
@@ -7,7 +7,7 @@ use Rattle.aud_code.proofs.Starts.{step_kept}
 use Rattle.aud_tasks.specs.Acting.{TakesTurn}
 use Rattle.aud_tasks.specs.Turning.{turned}
 use Rattle.aud_tasks.proofs.Results.{if_ok}
-use Rattle.aud_tasks.proofs.Stepping.{no_step, steps_so, task_there}
+use Rattle.aud_tasks.proofs.StepLaws.Stepping.{no_step, steps_so, task_there}
 use Rattle.aud_tasks.proofs.step.step.Goals as goal
 
 pub take_turn-requires-clause-within : goal.take_turn-requires-clause-within

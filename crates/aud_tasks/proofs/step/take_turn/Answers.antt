@@ -1,5 +1,4 @@
 use Rattle.std.proofs.Common.{ap, sym, ◌∙◌}
-use Rattle.aud_meaning.specs.Configuration.{All}
 use Rattle.aud_meaning.specs.Tasks.{delay_expires}
 use Rattle.aud_typed.specs.Ties.View.{plain_program}
 use Rattle.aud_meaning.specs.Run.{turn_taken}

@@ -1,8 +1,8 @@
 use Rattle.std.proofs.Common.{◌+◌, ap, sym, ◌∙◌, arith}
 use Rattle.aud_tasks.specs.Moving as moving
 use Rattle.aud_tasks.specs.Moving.{times_of}
-use Rattle.aud_tasks.proofs.Moving.{times, times_next, times_past}
-use Rattle.aud_tasks.proofs.Soonest.{soonest_joined}
+use Rattle.aud_tasks.proofs.MoveLaws.Moving.{times, times_next, times_past}
+use Rattle.aud_tasks.proofs.MoveLaws.Soonest.{soonest_joined}
 use Rattle.aud_tasks.proofs.times.soonest.Goals as goal
 
 pub loop-task-preserved : goal.loop-task-preserved

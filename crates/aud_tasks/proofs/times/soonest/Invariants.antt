@@ -1,7 +1,7 @@
 use Rattle.std.proofs.Common.{◌≡◌, None}
 use Rattle.aud_typed.specs.Tree.{Plan}
 use Rattle.aud_tasks.specs.Moving as moving
-use Rattle.aud_tasks.proofs.Moving.{times}
+use Rattle.aud_tasks.proofs.MoveLaws.Moving.{times}
 use Rattle.aud_tasks.proofs.times.soonest.Given as goal
 
 abbrev pub invariant-loop-task : goal.invariant-loop-task

@@ -2,7 +2,7 @@ use Rattle.std.proofs.Common.{Some, map, ◌+◌, drop, ap, sym, ◌∙◌, arit
 use Rattle.std.proofs.lemmas.List.{at_drop_all}
 use Rattle.aud_meaning.specs.declared.state.OpenDelay.{OpenDelay}
 use Rattle.aud_tasks.specs.Moving.{soonest}
-use Rattle.aud_tasks.proofs.Soonest.{delay_more}
+use Rattle.aud_tasks.proofs.MoveLaws.Soonest.{delay_more}
 use Rattle.aud_tasks.proofs.times.soonest_delay.Goals as goal
 
 pub loop-delay-preserved : goal.loop-delay-preserved

@@ -4,8 +4,8 @@ use Rattle.aud_meaning.specs.Parts.{call_of, own_of}
 use Rattle.std.specs.Prelude.{map}
 use Rattle.aud_tasks.specs.declared.turn.Turn.TheVariants.{Cancelling, Expiring}
 use Rattle.aud_tasks.specs.Moving.{soonest}
-use Rattle.aud_tasks.proofs.Moving.{call_times, listed, times_told}
-use Rattle.aud_tasks.proofs.Soonest.{times_none}
+use Rattle.aud_tasks.proofs.MoveLaws.Moving.{call_times, listed, times_told}
+use Rattle.aud_tasks.proofs.MoveLaws.Soonest.{times_none}
 use Rattle.aud_tasks.proofs.times.soonest_of.Goals as goal
 
 pub returns-in-Expiring : goal.returns-in-Expiring

@@ -2,7 +2,7 @@ use Rattle.std.proofs.Common.{⊎_elim, sym, ◌∙◌}
 use Rattle.aud_meaning.specs.declared.state.Status.TheVariants.{Accepting, Activating, Calling, Completed, Created, Delaying, Running, Terminated}
 use Rattle.aud_meaning.specs.Parts.{own_of, sight_of}
 use Rattle.aud_tasks.specs.Turning.{coming_in}
-use Rattle.aud_tasks.proofs.Turning.{bound_as, leaves_is}
+use Rattle.aud_tasks.proofs.StepLaws.Turning.{bound_as, leaves_is}
 use Rattle.aud_tasks.proofs.turn.is_bound.Goals as goal
 
 pub returns-in-Running : goal.returns-in-Running

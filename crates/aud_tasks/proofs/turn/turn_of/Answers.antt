@@ -1,6 +1,6 @@
 use Rattle.std.proofs.Common.{⊎_elim, sym, ◌∙◌}
 use Rattle.aud_meaning.specs.declared.state.Status.TheVariants.{Accepting, Activating, Calling, Completed, Created, Delaying, Running, Terminated}
-use Rattle.aud_tasks.proofs.Turning.{turn_as, turn_plain}
+use Rattle.aud_tasks.proofs.StepLaws.Turning.{turn_as, turn_plain}
 use Rattle.aud_tasks.proofs.turn.turn_of.Goals as goal
 
 pub returns-in-Created : goal.returns-in-Created

@@ -1,5 +1,5 @@
 use Rattle.std.proofs.Common.{sym, ◌∙◌}
-use Rattle.aud_tasks.proofs.Turning.{at_once_as, usual_deferred, usual_normal}
+use Rattle.aud_tasks.proofs.StepLaws.Turning.{at_once_as, usual_deferred, usual_normal}
 use Rattle.aud_tasks.proofs.turn.under_way.Goals as goal
 use Rattle.aud_tasks.proofs.turn.under_way.Goals.{else-is_abnormal-via-then-is_abnormal+else-not-is_deferred, else-is_abnormal-via-else-is_abnormal}
 

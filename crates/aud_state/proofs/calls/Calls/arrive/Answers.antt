@@ -1,9 +1,9 @@
-use Rattle.std.proofs.Common.{List, suc, ap, sym, refl, ◌∙◌}
+use Rattle.std.proofs.Common.{List, suc, ap, refl, ◌∙◌}
 use Rattle.aud_meaning.specs.declared.state.CallState.TheVariants.{Done, Queued}
 use Rattle.aud_meaning.specs.Configuration as meaning
-use Rattle.aud_meaning.specs.Parts.{changed, is_queued, no_call}
+use Rattle.aud_meaning.specs.Parts.{changed}
 use Rattle.aud_state.specs.View.{Kept}
-use Rattle.aud_state.proofs.InLine.{changed_twice, idle_now}
+use Rattle.aud_state.proofs.CallLaws.InLine.{changed_twice, idle_now}
 use Rattle.aud_state.proofs.calls.Calls.arrive.Goals as goal
 
 pub put_last-requires : goal.put_last-requires

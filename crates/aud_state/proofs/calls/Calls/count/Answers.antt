@@ -1,7 +1,7 @@
 use Rattle.std.proofs.Common.{length, ap, ◌∙◌}
 use Rattle.std.proofs.lemmas.List.{length-map}
 use Rattle.aud_meaning.specs.Parts.{Waiting, queue}
-use Rattle.aud_state.specs.View.{Kept, plain_call}
+use Rattle.aud_state.specs.View.{Kept}
 use Rattle.aud_state.proofs.calls.Calls.count.Goals as goal
 
 pub returns : goal.returns

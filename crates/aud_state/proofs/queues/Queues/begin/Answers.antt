@@ -1,7 +1,7 @@
-use Rattle.std.proofs.Common.{List, ℕ, ◌++◌, ◌∷◌, [], ap, ◌∙◌, arith}
+use Rattle.std.proofs.Common.{List, ◌++◌, ◌∷◌, [], ap, ◌∙◌}
 use Rattle.aud_state.specs.Queues.{line}
 use Rattle.aud_state.specs.declared.queues.Queue.{Queue}
-use Rattle.aud_state.proofs.Lines.{line_begun}
+use Rattle.aud_state.proofs.CallLaws.Lines.{line_begun}
 use Rattle.aud_state.proofs.queues.Queues.begin.Goals as goal
 
 pub returns-clause-joined : goal.returns-clause-joined

@@ -1,5 +1,5 @@
 use Rattle.std.proofs.Common.{sym, ◌∙◌, arith}
-use Rattle.aud_state.proofs.Lines.{first_line, first_within, others_line}
+use Rattle.aud_state.proofs.CallLaws.Lines.{first_line, first_within, others_line}
 use Rattle.aud_state.proofs.queues.Queues.calls.Goals as goal
 
 pub index-requires : goal.index-requires

@@ -2,7 +2,7 @@ use Rattle.std.proofs.Common.{List, ap, sym, rules, ◌∙◌}
 use Rattle.std.proofs.lemmas.Fn.{filter_same}
 use Rattle.aud_state.specs.declared.queues.Queue.{Queue}
 use Rattle.aud_state.specs.Queues.{line}
-use Rattle.aud_state.proofs.Lines.{line_closed, no_items}
+use Rattle.aud_state.proofs.CallLaws.Lines.{line_closed, no_items}
 use Rattle.aud_state.proofs.queues.Queues.close.Goals as goal
 
 pub returns-then-is_empty : goal.returns-then-is_empty

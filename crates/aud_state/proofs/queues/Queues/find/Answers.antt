@@ -1,5 +1,5 @@
 use Rattle.std.proofs.Common.{length, ap, sym, ◌∙◌, arith}
-use Rattle.aud_state.proofs.Lines.{first_there, others_all, others_more}
+use Rattle.aud_state.proofs.CallLaws.Lines.{first_there, others_all, others_more}
 use Rattle.aud_state.proofs.queues.Queues.find.Goals as goal
 
 pub returns-then-is_of-clause-found : goal.returns-then-is_of-clause-found

@@ -1,5 +1,5 @@
-use Rattle.std.proofs.Common.{List, ℕ, ◌++◌, ◌∷◌, [], arith}
-use Rattle.aud_state.proofs.Lines.{first_within, line_again, line_set, on_err}
+use Rattle.std.proofs.Common.{◌++◌, ◌∷◌, [], arith}
+use Rattle.aud_state.proofs.CallLaws.Lines.{first_within, line_again, line_set, on_err}
 use Rattle.aud_state.proofs.queues.Queues.join.Goals as goal
 
 pub index_mut-requires : goal.index_mut-requires

@@ -1,7 +1,7 @@
-use Rattle.std.proofs.Common.{List, ℕ, refl, rules, ◌∙◌, arith}
+use Rattle.std.proofs.Common.{refl, rules, ◌∙◌, arith}
 use Rattle.std.proofs.lemmas.Fn.{filter_same}
 use Rattle.aud_state.specs.Queues.{without}
-use Rattle.aud_state.proofs.Lines.{first_within, line_none, line_set}
+use Rattle.aud_state.proofs.CallLaws.Lines.{first_within, line_none, line_set}
 use Rattle.aud_state.proofs.queues.Queues.leave.Goals as goal
 
 pub index_mut-requires : goal.index_mut-requires

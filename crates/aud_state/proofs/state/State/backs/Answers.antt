@@ -2,7 +2,7 @@ use Rattle.std.proofs.Common.{◌++◌, ap, sym, ◌∙◌, arith}
 use Rattle.aud_meaning.specs.Configuration.{Own}
 use Rattle.aud_meaning.specs.Ties.Stack.{Stack}
 use Rattle.aud_store.specs.Ties.Stored.{innermost_backs}
-use Rattle.aud_state.proofs.Changed.{own_at, own_none}
+use Rattle.aud_state.proofs.TaskLaws.Changed.{own_at, own_none}
 use Rattle.aud_state.proofs.state.State.backs.Goals as goal
 
 pub returns-then-n-len : goal.returns-then-n-len

@@ -1,6 +1,6 @@
 use Rattle.std.proofs.Common.{arith, Some}
 use Rattle.aud_meaning.specs.declared.state.Status.TheVariants.{Running}
-use Rattle.aud_state.proofs.Changed.{task_changed, no_task}
+use Rattle.aud_state.proofs.TaskLaws.Changed.{task_changed, no_task}
 use Rattle.aud_state.proofs.state.State.begin.Goals as goal
 
 pub returns-then-n-len : goal.returns-then-n-len

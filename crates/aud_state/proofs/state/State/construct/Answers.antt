@@ -5,7 +5,7 @@ use Rattle.aud_meaning.specs.Ties.Stack as stack
 use Rattle.aud_meaning.proofs.Part.{leaves_loops}
 use Rattle.aud_store.specs.Ties.Stored.{IsInnermost}
 use Rattle.aud_state.specs.View.{plain_own}
-use Rattle.aud_state.proofs.Changed.{own_at, own_none}
+use Rattle.aud_state.proofs.TaskLaws.Changed.{own_at, own_none}
 use Rattle.aud_state.proofs.state.State.construct.Goals as goal
 
 pub returns-then-n-len : goal.returns-then-n-len

@@ -7,7 +7,7 @@ use Rattle.aud_meaning.specs.Tasks as effect
 use Rattle.aud_code.specs.Control.{going}
 use Rattle.aud_code.specs.Places.{Spot}
 use Rattle.aud_state.specs.View.{all_of, plain_task}
-use Rattle.aud_state.proofs.Changed.{own_at}
+use Rattle.aud_state.proofs.TaskLaws.Changed.{own_at}
 use Rattle.aud_state.proofs.state.State.create.Goals as goal
 
 pub returns : goal.returns

@@ -1,7 +1,7 @@
 use Rattle.std.proofs.Common.{arith}
 use Rattle.aud_meaning.specs.Effects.{declares}
 use Rattle.aud_sequential.specs.Parked.{numbers_from}
-use Rattle.aud_state.proofs.Beside.{alone_changed, alone_past}
+use Rattle.aud_state.proofs.TaskLaws.Beside.{alone_changed, alone_past}
 use Rattle.aud_state.proofs.state.State.declare_tasks.Goals as goal
 
 pub returns-in_ok-declare_tasks : goal.returns-in_ok-declare_tasks

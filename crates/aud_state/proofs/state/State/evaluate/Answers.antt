@@ -2,7 +2,7 @@ use Rattle.std.proofs.Common.{ap, sym, ◌∙◌}
 use Rattle.std.proofs.lemmas.Result.{IfOk-weaker}
 use Rattle.aud_meaning.specs.Ties.Stack.{Stack}
 use Rattle.aud_store.specs.Ties.Stored.{Stored}
-use Rattle.aud_state.proofs.Evaluating.{within_all, begins, ends, reaches, fits}
+use Rattle.aud_state.proofs.TaskLaws.Evaluating.{within_all, begins, ends, reaches, fits}
 use Rattle.aud_state.proofs.state.State.evaluate.Goals as goal
 
 pub evaluate-requires : goal.evaluate-requires

@@ -2,7 +2,7 @@ use Rattle.std.proofs.Common.{ap, ◌∙◌}
 use Rattle.std.proofs.lemmas.Result.{IfOk-weaker}
 use Rattle.aud_meaning.specs.Ties.Stack.{Stack}
 use Rattle.aud_store.specs.Ties.Stored.{Stored}
-use Rattle.aud_state.proofs.Evaluating.{within_all, begins, marks}
+use Rattle.aud_state.proofs.TaskLaws.Evaluating.{within_all, begins, marks}
 use Rattle.aud_state.proofs.state.State.evaluate_to_mark.Goals as goal
 
 pub evaluate_to_mark-requires : goal.evaluate_to_mark-requires

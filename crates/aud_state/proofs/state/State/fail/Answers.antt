@@ -1,7 +1,7 @@
 use Rattle.std.proofs.Common.{arith}
 use Rattle.aud_meaning.specs.Effects.{pends}
 use Rattle.aud_meaning.specs.Parts.{runs}
-use Rattle.aud_state.proofs.Changed.{task_changed, no_task}
+use Rattle.aud_state.proofs.TaskLaws.Changed.{task_changed, no_task}
 use Rattle.aud_state.proofs.state.State.fail.Goals as goal
 
 pub returns-then-n-len : goal.returns-then-n-len

@@ -1,6 +1,6 @@
 use Rattle.std.proofs.Common.{ap, sym, ◌∙◌, arith, map}
 use Rattle.aud_meaning.specs.Configuration.{Opened, Own}
-use Rattle.aud_state.proofs.Changed.{own_at, own_none}
+use Rattle.aud_state.proofs.TaskLaws.Changed.{own_at, own_none}
 use Rattle.aud_state.proofs.state.State.frames.Goals as goal
 
 pub returns-then-task-len : goal.returns-then-task-len

@@ -1,7 +1,7 @@
 use Rattle.std.proofs.Common.{ap, sym, ◌∙◌, arith}
 use Rattle.aud_meaning.specs.Configuration.{Own}
 use Rattle.aud_meaning.specs.Tasks as effect
-use Rattle.aud_state.proofs.Changed.{own_at}
+use Rattle.aud_state.proofs.TaskLaws.Changed.{own_at}
 use Rattle.aud_state.proofs.state.State.is_activating.Goals as goal
 
 pub returns-then-task-len : goal.returns-then-task-len

@@ -1,7 +1,7 @@
 use Rattle.std.proofs.Common.{refl, arith}
 use Rattle.aud_meaning.specs.declared.state.StepKind.TheVariants.{Complete}
 use Rattle.aud_state.specs.Reads.{coming_by, IsOfItsKind}
-use Rattle.aud_state.proofs.Reading.{read_at, read_none}
+use Rattle.aud_state.proofs.TaskLaws.Reading.{read_at, read_none}
 use Rattle.aud_state.proofs.state.State.next_kind.Goals as goal
 
 pub returns-then-task-len : goal.returns-then-task-len

@@ -1,5 +1,5 @@
 use Rattle.std.proofs.Common.{arith, None}
-use Rattle.aud_state.proofs.Changed.{task_changed, no_task}
+use Rattle.aud_state.proofs.TaskLaws.Changed.{task_changed, no_task}
 use Rattle.aud_state.proofs.state.State.not_awaited.Goals as goal
 
 pub returns-then-n-len : goal.returns-then-n-len

@@ -1,7 +1,7 @@
 use Rattle.std.proofs.Common.{arith, length}
 use Rattle.aud_meaning.specs.Configuration.{for_accept}
 use Rattle.aud_meaning.specs.Effects.{opens}
-use Rattle.aud_state.proofs.Beside.{alone_changed, alone_past}
+use Rattle.aud_state.proofs.TaskLaws.Beside.{alone_changed, alone_past}
 use Rattle.aud_state.proofs.state.State.open_accept.Goals as goal
 
 pub returns-in_ok-open_accept : goal.returns-in_ok-open_accept

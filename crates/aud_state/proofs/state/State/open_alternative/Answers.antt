@@ -2,7 +2,7 @@ use Rattle.std.proofs.Common.{ap, sym, ◌∙◌, arith}
 use Rattle.aud_meaning.specs.Configuration.{Own}
 use Rattle.aud_meaning.specs.Parts.{open_alternatives}
 use Rattle.aud_state.specs.Chosen.{chosen}
-use Rattle.aud_state.proofs.Changed.{own_at, own_none}
+use Rattle.aud_state.proofs.TaskLaws.Changed.{own_at, own_none}
 use Rattle.aud_state.proofs.state.State.open_alternative.Goals as goal
 
 pub returns-then-task-len : goal.returns-then-task-len

@@ -3,7 +3,7 @@ use Rattle.std.proofs.lemmas.Result.{IfOk-weaker}
 use Rattle.aud_meaning.specs.declared.state.OpenAccept.{OpenAccept}
 use Rattle.aud_meaning.specs.Configuration.{Own}
 use Rattle.aud_meaning.specs.Parts.{open_alternatives}
-use Rattle.aud_state.proofs.Changed.{own_at, own_none}
+use Rattle.aud_state.proofs.TaskLaws.Changed.{own_at, own_none}
 use Rattle.aud_state.proofs.state.State.open_alternatives.Goals as goal
 
 pub returns-then-task-len : goal.returns-then-task-len

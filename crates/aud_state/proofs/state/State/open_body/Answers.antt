@@ -3,7 +3,7 @@ use Rattle.std.specs.Prelude.{pos, ◌∷◌, []}
 use Rattle.aud_meaning.specs.Configuration.{for_body}
 use Rattle.aud_meaning.specs.Effects.{opens}
 use Rattle.aud_sequential.specs.Shown.{plans_of, unit_in}
-use Rattle.aud_state.proofs.Beside.{alone_changed, alone_past}
+use Rattle.aud_state.proofs.TaskLaws.Beside.{alone_changed, alone_past}
 use Rattle.aud_state.proofs.state.State.open_body.Goals as goal
 
 pub returns-in_ok-open_body : goal.returns-in_ok-open_body

@@ -1,6 +1,6 @@
 use Rattle.std.proofs.Common.{arith}
 use Rattle.aud_meaning.specs.Effects.{out_of}
-use Rattle.aud_state.proofs.Changed.{task_changed, no_task}
+use Rattle.aud_state.proofs.TaskLaws.Changed.{task_changed, no_task}
 use Rattle.aud_state.proofs.state.State.out_of.Goals as goal
 
 pub returns-then-n-len : goal.returns-then-n-len

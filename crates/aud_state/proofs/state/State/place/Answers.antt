@@ -1,5 +1,5 @@
 use Rattle.std.proofs.Common.{arith}
-use Rattle.aud_state.proofs.Evaluating.{nowhere, place_of}
+use Rattle.aud_state.proofs.TaskLaws.Evaluating.{nowhere, place_of}
 use Rattle.aud_state.proofs.state.State.place.Goals as goal
 
 pub returns-then-task-len : goal.returns-then-task-len

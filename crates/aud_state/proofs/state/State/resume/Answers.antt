@@ -1,7 +1,7 @@
 use Rattle.std.proofs.Common.{arith}
 use Rattle.aud_code.specs.Control.{going}
 use Rattle.aud_state.specs.View.{resumes}
-use Rattle.aud_state.proofs.Changed.{task_changed, no_task}
+use Rattle.aud_state.proofs.TaskLaws.Changed.{task_changed, no_task}
 use Rattle.aud_state.proofs.state.State.resume.Goals as goal
 
 pub returns-then-n-len : goal.returns-then-n-len

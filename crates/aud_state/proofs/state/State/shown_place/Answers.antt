@@ -1,6 +1,6 @@
 use Rattle.std.proofs.Common.{◌≡◌, refl, arith}
 use Rattle.aud_state.specs.Reads.{place_by}
-use Rattle.aud_state.proofs.Reading.{read_at, read_none}
+use Rattle.aud_state.proofs.TaskLaws.Reading.{read_at, read_none}
 use Rattle.aud_state.proofs.state.State.shown_place.Goals as goal
 
 pub returns-then-task-len : goal.returns-then-task-len

@@ -6,7 +6,7 @@ use Rattle.aud_code.specs.Instruction.{Reached}
 use Rattle.aud_code.specs.Places.{loops_of}
 use Rattle.aud_code.specs.View.{exit_of, plain_last}
 use Rattle.aud_state.specs.View.{plain_task}
-use Rattle.aud_state.proofs.Beside.{alone_changed, alone_past, got}
+use Rattle.aud_state.proofs.TaskLaws.Beside.{alone_changed, alone_past, got}
 use Rattle.aud_state.proofs.state.State.step_alone.Goals as goal
 
 pub returns-in_ok-step_alone : goal.returns-in_ok-step_alone

@@ -3,7 +3,7 @@ use Rattle.aud_meaning.specs.Effects.{declares}
 use Rattle.aud_sequential.specs.Parked.{numbers_from}
 use Rattle.aud_code.specs.Places.{Spot}
 use Rattle.aud_meaning.specs.Ties.Part.{Part, rest_of, within}
-use Rattle.aud_state.proofs.Beside.{between, rest_kept}
+use Rattle.aud_state.proofs.TaskLaws.Beside.{between, rest_kept}
 use Rattle.aud_state.proofs.task.Task.declare_tasks.Goals as goal
 
 pub returns-clause-does : goal.returns-clause-does

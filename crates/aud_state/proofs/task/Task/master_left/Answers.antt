@@ -1,7 +1,7 @@
 use Rattle.aud_sequential.specs.Parked.{acting, no_part}
 use Rattle.aud_code.specs.Flat.{coming_at}
 use Rattle.aud_state.specs.View.{plain_task}
-use Rattle.aud_state.proofs.Reading.{leaves_own}
+use Rattle.aud_state.proofs.TaskLaws.Reading.{leaves_own}
 use Rattle.aud_state.proofs.task.Task.master_left.Goals as goal
 
 pub returns : goal.returns

@@ -1,7 +1,7 @@
 use Rattle.aud_sequential.specs.Parked.{acting, no_part}
 use Rattle.aud_code.specs.Flat.{coming_at}
 use Rattle.aud_state.specs.View.{plain_task}
-use Rattle.aud_state.proofs.Reading.{kind_own}
+use Rattle.aud_state.proofs.TaskLaws.Reading.{kind_own}
 use Rattle.aud_state.proofs.task.Task.next_kind.Goals as goal
 
 pub returns : goal.returns

@@ -5,7 +5,7 @@ use Rattle.aud_meaning.specs.Effects.{opens}
 use Rattle.aud_sequential.specs.Shown.{plans_of, unit_in}
 use Rattle.aud_code.specs.Places.{Spot}
 use Rattle.aud_meaning.specs.Ties.Part.{Part, rest_of, within}
-use Rattle.aud_state.proofs.Beside.{between, rest_kept}
+use Rattle.aud_state.proofs.TaskLaws.Beside.{between, rest_kept}
 use Rattle.aud_state.proofs.task.Task.open_body.Goals as goal
 
 pub returns-clause-does : goal.returns-clause-does

@@ -4,7 +4,7 @@ use Rattle.aud_code.specs.Flat.{asked_last}
 use Rattle.aud_code.specs.Instruction.{Reached}
 use Rattle.aud_code.specs.Places.{loops_of}
 use Rattle.aud_code.specs.View.{exit_of, plain_last}
-use Rattle.aud_state.proofs.Beside.{between, rest_kept}
+use Rattle.aud_state.proofs.TaskLaws.Beside.{between, rest_kept}
 use Rattle.aud_state.proofs.task.Task.step_alone.Goals as goal
 
 pub returns-clause-does : goal.returns-clause-does

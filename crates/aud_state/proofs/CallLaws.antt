@@ -1,0 +1,4 @@
+pub mod GivenBack
+pub mod InLine
+pub mod Lines
+pub mod Queueing

@@ -1,0 +1,6 @@
+pub mod Asked
+pub mod Entering
+pub mod Going
+pub mod Leaving
+pub mod Stepping
+pub mod Turning

@@ -1,0 +1,68 @@
+-- What a task does at its next step, by what is read of it.
+use Rattle.std.proofs.Common.{◌≡◌, ℕ, Option, Some, None, Bool, true, false, if◌then◌else◌, ◌||◌, refl, ap, ◌∙◌}
+use Rattle.std.specs.Prelude.{is_some}
+use Rattle.aud_typed.specs.Tree.{Plan}
+use Rattle.aud_meaning.specs.declared.state.Serving.{Serving}
+use Rattle.aud_meaning.specs.declared.state.Status.{Status}
+use Rattle.aud_meaning.specs.declared.state.Status.TheVariants.{Running}
+use Rattle.aud_meaning.specs.Configuration.{Own, TaskAt, All}
+use Rattle.aud_meaning.specs.Control.{Coming, Seen, simply, ending, selecting, calling, starting}
+use Rattle.aud_meaning.specs.Parts.{own_of}
+use Rattle.aud_meaning.specs.Run.{at_once, construct_left, is_bound, is_leave, master_left_by, seen, turn_by, under_way, usual}
+use Rattle.aud_code.specs.Places.{Spot}
+use Rattle.aud_code.specs.Flat.{Flat, barrier_at, flat_controls}
+use Rattle.aud_state.specs.Reads.{IsPlain, LeavesBy}
+use Rattle.aud_tasks.specs.declared.turn.Turn.TheVariants.{Acting}
+use Rattle.aud_tasks.specs.Turning.{bound_in, deferred_in, seen_in, turn_in, turned, usual_in}
+use Rattle.aud_tasks.proofs.ViewLaws.Seen.{turn_law}
+
+pub or_if : (a b : Bool) → (a || b) ≡ (if a then true else b)
+or_if true b = refl
+or_if false b = refl
+
+leave_is : (o : Own) → is_some (master_left_by (construct_left o)) ≡ is_leave ending o
+leave_is o = by (master_left_by (construct_left o)) refl
+  where
+    by : (m : Option ℕ) → master_left_by (construct_left o) ≡ m → is_some (master_left_by (construct_left o)) ≡ is_leave ending o
+    by None is = rw is refl
+    by (Some master) is = rw is refl
+
+pub leaves_is : (o : Own) (m : Option ℕ) (x : Coming) → LeavesBy o m x → is_some m ≡ is_leave x o
+leaves_is o m (simply w) h = ap is_some h
+leaves_is o m ending h = ap is_some h ∙ leave_is o
+leaves_is o m (selecting ones) h = ap is_some h
+leaves_is o m (calling task entry) h = ap is_some h
+leaves_is o m (starting object reading) h = absurd h
+
+module _ (plan : Plan) (code : Flat) (n : ℕ) (c : All Spot) where
+  abbrev o : Own
+  o = own_of n c
+
+  abbrev t : TaskAt Seen
+  t = seen_in plan code n c
+
+  abbrev d : All Seen
+  d = seen plan (flat_controls plan code) c
+
+  pub turn_as : (s : Status) → o.status ≡ s → turn_in plan code n c ≡ turn_by plan (barrier_at code) s n t d
+  turn_as s is = turn_law plan code n c ∙ ap (λ x. turn_by plan (barrier_at code) x n t d) is
+
+  pub bound_as : (s : Status) → o.status ≡ s → bound_in plan code n c ≡ is_bound plan (barrier_at code) s n t d
+  bound_as s is = ap (λ x. is_bound plan (barrier_at code) x n t d) is
+
+  pub usual_as : (servicing : Option Serving) (s : Status) → o.serving ≡ servicing → o.status ≡ s → usual_in plan code n c ≡ usual plan (barrier_at code) servicing s n t d
+  usual_as servicing s serves is = ap (λ x. usual plan (barrier_at code) x o.status n t d) serves ∙ ap (λ x. usual plan (barrier_at code) servicing x n t d) is
+
+  -- nothing defers an abnormal task, or something does
+  pub at_once_as : o.abnormal ≡ true → deferred_in plan code n c ≡ false → under_way plan (barrier_at code) o.abnormal n t d ≡ at_once plan (barrier_at code) o.withdraw
+  at_once_as abnormal deferred = ap (λ b. under_way plan (barrier_at code) b n t d) abnormal ∙ rw deferred refl
+
+  pub usual_deferred : o.abnormal ≡ true → deferred_in plan code n c ≡ true → under_way plan (barrier_at code) o.abnormal n t d ≡ usual_in plan code n c
+  usual_deferred abnormal deferred = ap (λ b. under_way plan (barrier_at code) b n t d) abnormal ∙ rw deferred refl
+
+  pub usual_normal : o.abnormal ≡ false → under_way plan (barrier_at code) o.abnormal n t d ≡ usual_in plan code n c
+  usual_normal normal = ap (λ b. under_way plan (barrier_at code) b n t d) normal
+
+  -- one that runs, is not abnormal and services nothing acts
+  pub turn_plain : IsPlain o → turn_in plan code n c ≡ turned plan code n c Acting
+  turn_plain plain = turn_as Running plain.runs ∙ usual_normal plain.normal ∙ usual_as None Running plain.free plain.runs

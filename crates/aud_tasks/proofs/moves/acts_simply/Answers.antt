@@ -1,0 +1,6 @@
+use Rattle.aud_tasks.proofs.MoveLaws.Moving.{runs_simply}
+use Rattle.aud_tasks.proofs.moves.acts_simply.Goals as goal
+
+pub returns-then-is_plain : goal.returns-then-is_plain
+returns-then-is_plain c = λ simple plan.
+    runs_simply plan c.args.code.now c.args.state.now c.args.task (c.is_plain.ensures c.if-is_plain.true) (c.is_simple.ensures simple plan)
