@@ -566,7 +566,7 @@ class Frames:
 
 CALLED = "   procedure P is Cells : array (1 .. 1024) of Integer; begin Cells (1) := 1; end P;\n"
 CALLS = "def p():\n    cells = [0] * 1024\n    cells[0] = 1\n"
-FORMALS = ", ".join(f"F{i}" for i in range(200))
+FORMALS = ",\n".join(", ".join(f"F{i}" for i in range(first, first + 50)) for first in range(0, 200, 50))
 FRAMES = (
     Frames("calls", f"procedure M is\n{CALLED}begin loop P; end loop; end M;\n", f"{CALLS}for _ in range(COUNT):\n    p()\n"),
     Frames(

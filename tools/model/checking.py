@@ -309,8 +309,8 @@ class Check:
         known = self.resolved(name, within)
         if not known:
             return
-        if known.kind == "array" and name.arguments:
-            self.element(known, name, within)
+        if known.kind in ("array", "tasks") and name.arguments and not self.element(known, name, within):
+            return
         if known.kind not in ("procedure", "put", "entry"):
             self.fault(32, name.name.place)
             return
