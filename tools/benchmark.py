@@ -593,7 +593,7 @@ ITS_PEAK = "\nimport resource\nprint(resource.getrusage(resource.RUSAGE_SELF).ru
 
 def frames(program):
     """Of all steps of a LOAD, four make one of these frames and leave it, or make a call that is accepted."""
-    print("Memory, at most, where 250,000 frames with 1,024 cells are entered and left, or as many entry calls made:")
+    print("Memory, at most, where all steps of a LOAD enter and leave frames with 1,024 cells, or make entry calls:")
     for it in FRAMES:
         most = max(peak(program, (load_of(it.ada) + "RUN 100000\n" * 10).encode()) for _ in range(TIMES))
         there = max(int(measure([sys.executable, "-c", it.python.replace("COUNT", "250000") + ITS_PEAK])[1]) for _ in range(TIMES))
